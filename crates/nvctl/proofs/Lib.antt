@@ -1,0 +1,3 @@
+pub mod Zeroed
+pub mod Worlds
+pub mod SaveAndRestore

@@ -1,0 +1,137 @@
+-- The machine that a script's replies are a run of. It knows what a restore would find, and in a life the memory that it
+-- began with, the writes that it accepted and how many writes are persistent. It knows nothing of bytes and slots.
+use Rattle.std.specs.Prelude.{◌≡◌, ◌⊎◌, ℕ, ◌+◌, ◌<◌, ◌≤◌, ◌^◌, List, [], ◌∷◌, ◌++◌, length, slice_get, Option, Some, None}
+use Rattle.line_memory.specs.declared.Write.{Write}
+use Rattle.line_memory.specs.Memory.{after}
+use Rattle.save_image.specs.Image.{Image}
+use Rattle.slot_store.specs.declared.restoring.Verdict.{Verdict}
+use Rattle.slot_store.specs.declared.restoring.RestoreError.{RestoreError}
+use Rattle.slot_store.specs.declared.restoring.RestoreError.TheVariants as errors
+use Rattle.slot_store.specs.Outcomes.{Outcome, WrongSize, Damaged, NoImage, Found, first_image, restored, verdict_of}
+use Rattle.nvctl.specs.declared.plain.PlainEvent.{PlainEvent}
+use Rattle.nvctl.specs.declared.plain.PlainEvent.TheVariants as events
+use Rattle.nvctl.specs.declared.plain.Reply.{Reply}
+use Rattle.nvctl.specs.declared.plain.Reply.TheVariants as replies
+use Rattle.nvctl.specs.declared.plain.WriteRefusal.TheVariants as write
+use Rattle.nvctl.specs.declared.plain.ReadRefusal.TheVariants as read
+use Rattle.nvctl.specs.declared.plain.SaveRefusal.TheVariants as save
+use Rattle.nvctl.specs.declared.plain.TheConstants.{LINES, TRAIL}
+
+-- what a restore would find: an image, or why there is none
+pub data Store : Type 0 where
+  Holds : Image → Store
+  Refuses : RestoreError → Store
+
+-- a life: the memory that it began with, the number of writes that this memory is after, the writes accepted since, and
+-- how many writes of all are persistent
+pub record Life : Type 0 where
+  pub base : List (List ℕ)
+  pub start : ℕ
+  pub writes : List Write
+  pub persisted : ℕ
+
+pub record World : Type 0 where
+  pub store : Store
+  pub life : Option Life
+
+-- the number of writes accepted, counted from the first life on
+abbrev pub all_of : Life → ℕ
+all_of life = life.start + length life.writes
+
+-- the memory after all accepted writes
+abbrev pub memory_of : Life → List (List ℕ)
+memory_of life = after life.base life.writes
+
+-- a life that begins with an image
+abbrev pub life_from : Image → Life
+life_from image = record { base = image.memory; start = image.count; writes = []; persisted = image.count }
+
+-- the image that a save makes of a life over the newest image
+abbrev pub saved_image : Image → Life → Image
+saved_image newest life = record { generation = newest.generation + 1; count = all_of life; arm = 0; memory = memory_of life }
+
+-- no further write is accepted
+abbrev pub IsFull : Life → Type 0
+IsFull life = (length life.writes ≡ TRAIL) ⊎ (all_of life ≡ 2 ^ 62)
+
+-- a write is accepted, with its number and the number of persistent writes
+pub record Accepts (old : World) (accepted : Write) (number mark : ℕ) (new : World) : Type 0 where
+  pub life : Life
+  pub runs : old.life ≡ Some life
+  pub there : accepted.line < LINES
+  pub room : ¬ IsFull life
+  pub number_is : number ≡ all_of life
+  pub mark_is : mark ≡ life.persisted
+  pub grows : new ≡ record { store = old.store; life = Some (record { base = life.base; start = life.start; writes = life.writes ++ accepted ∷ []; persisted = life.persisted }) }
+
+-- a read gives its line of the memory after all accepted writes
+pub record Reads (old : World) (line : ℕ) (bytes : List ℕ) (new : World) : Type 0 where
+  pub life : Life
+  pub runs : old.life ≡ Some life
+  pub is : slice_get (memory_of life) line ≡ Some bytes
+  pub same : new ≡ old
+
+-- a save makes the newest image of the memory after all accepted writes, all of which are persistent then
+pub record Saves (old : World) (generation count : ℕ) (new : World) : Type 0 where
+  pub life : Life
+  pub newest : Image
+  pub runs : old.life ≡ Some life
+  pub over : old.store ≡ Holds newest
+  pub unspent : newest.generation < 2 ^ 62
+  pub generation_is : generation ≡ newest.generation + 1
+  pub count_is : count ≡ all_of life
+  pub saved : new ≡ record { store = Holds (saved_image newest life); life = Some (record { base = life.base; start = life.start; writes = life.writes; persisted = all_of life }) }
+
+-- a restore finds the newest image and begins a life with it
+pub record Restores (old : World) (generation count : ℕ) (verdict : Verdict) (new : World) : Type 0 where
+  pub image : Image
+  pub finds : old.store ≡ Holds image
+  pub generation_is : generation ≡ image.generation
+  pub count_is : count ≡ image.count
+  pub verdict_is : verdict ≡ verdict_of image.arm image.count
+  pub begins : new ≡ record { store = old.store; life = Some (life_from image) }
+
+-- the world without a life
+abbrev pub ended : World → World
+ended old = record { store = old.store; life = None }
+
+-- a life runs, and this holds of it
+abbrev pub InLife : World → (Life → Type 0) → Type 0
+InLife old P = (life : Life) × (old.life ≡ Some life) × P life
+
+-- From old, the machine may give this reply to the event and go on to new. No other reply is given.
+abbrev pub MachineStep : World → PlainEvent → Reply → World → Type 0
+MachineStep old events.Format replies.Formatted new = new ≡ record { store = Holds (first_image LINES); life = Some (life_from (first_image LINES)) }
+MachineStep old (events.Write w) (replies.Accepted number mark) new = Accepts old w number mark new
+MachineStep old (events.Write w) (replies.WriteRefused write.NoSuchLine) new = (LINES ≤ w.line) × (new ≡ old)
+MachineStep old (events.Write w) (replies.WriteRefused write.Closed) new = (w.line < LINES) × (old.life ≡ None) × (new ≡ old)
+MachineStep old (events.Write w) (replies.WriteRefused write.TrailFull) new = (w.line < LINES) × InLife old IsFull × (new ≡ old)
+MachineStep old (events.Read line) (replies.Content told bytes) new = (told ≡ line) × Reads old line bytes new
+MachineStep old (events.Read line) (replies.ReadRefused read.NoSuchLine) new = (LINES ≤ line) × (new ≡ old)
+MachineStep old (events.Read line) (replies.ReadRefused read.Closed) new = (line < LINES) × (old.life ≡ None) × (new ≡ old)
+MachineStep old events.Save (replies.Saved generation count) new = Saves old generation count new
+MachineStep old events.Save (replies.SaveRefused save.Closed) new = (old.life ≡ None) × (new ≡ old)
+MachineStep old events.Save (replies.SaveRefused save.Spent) new = (newest : Image) × InLife old (λ life. 2 ^ 62 ≤ newest.generation) × (old.store ≡ Holds newest) × (new ≡ old)
+MachineStep old events.Restore (replies.Restored generation count verdict) new = Restores old generation count verdict new
+MachineStep old events.Restore (replies.RestoreRefused errors.Memory) new = new ≡ ended old
+MachineStep old events.Restore (replies.RestoreRefused errors.Device) new = ⊥
+MachineStep old events.Restore (replies.RestoreRefused error) new = (old.store ≡ Refuses error) × (new ≡ ended old)
+MachineStep old event reply new = ⊥
+
+-- the machine may give these replies to these events, one step after another
+abbrev pub Run : World → List PlainEvent → List Reply → World → Type 0
+Run old [] [] new = new ≡ old
+Run old (event ∷ events) (reply ∷ replies) new = (mid : World) × MachineStep old event reply mid × Run mid events replies new
+Run old [] (reply ∷ replies) new = ⊥
+Run old (event ∷ events) [] new = ⊥
+
+-- what a restore would find of these bytes, but for the slot
+abbrev pub store_of : Outcome → Store
+store_of WrongSize = Refuses errors.WrongSize
+store_of (Damaged slot) = Refuses (errors.Damaged slot)
+store_of NoImage = Refuses errors.NoImage
+store_of (Found slot image) = Holds image
+
+-- before any event no life runs, and the bytes of the device say what a restore finds
+abbrev pub world_on : List ℕ → World
+world_on bytes = record { store = store_of (restored LINES bytes); life = None }

@@ -1,0 +1,362 @@
+// The plain module behind a script: a memory as an array of lines in line order, and its saves on a device.
+ghost use Rattle.std.specs.Prelude.{◌≡◌, ◌+◌, ◌<◌, ◌≤◌, ◌^◌, false, [], vec_capacity, length, Some, None, IfOk, OnOk, OnErr};
+ghost use Rattle.std.specs.Option.{ForSome};
+ghost use Rattle.nvctl.specs.declared.plain.TheConstants.{LINES, TRAIL};
+ghost use Rattle.nvctl.specs.Machine.{World, Run, world_on, store_of};
+ghost use Rattle.save_device.specs.Device.{HasCause};
+ghost use Rattle.line_memory.specs.Memory.{IsMemory, zero_lines};
+ghost use Rattle.slot_store.specs.Slots.{device_size};
+ghost use Rattle.slot_store.specs.Outcomes.{restored};
+ghost use Rattle.slot_store.specs.Steps.{reach_of};
+ghost use Rattle.slot_store.specs.Writes.{GivesPage};
+ghost use Rattle.slot_store.specs.Runs.{plan_of, next_of};
+ghost use Rattle.slot_store.specs.Rest.{Candidates, only, IsAtRest};
+ghost use Rattle.slot_store.specs.Saving.{Saving, image_of};
+ghost use Rattle.save_image.specs.Image.{Image};
+
+use line_memory::{Line, Write};
+use save_device::{DeviceFault, SaveDevice};
+use save_image::page_bytes;
+use slot_store::{Newest, RestoreError, Restored, SaveRun, Slot, Step, Verdict, format, restore};
+use std::alloc::{AllocError, Global};
+use thiserror::Error;
+
+/// The number of lines of the memory.
+pub const LINES: usize = 128;
+
+/// The most writes that a life accepts.
+pub const TRAIL: usize = 1024;
+
+/// The largest count of an image, and so the number of the first write that no image could hold.
+const MOST_WRITES: u64 = 1 << 62;
+
+/// No save is begun over a newest image of this generation or a greater one.
+const SPENT: u64 = 1 << 62;
+
+/// One line of a script.
+#[derive(Clone, Copy, Debug, PartialEq, Eq)]
+pub enum PlainEvent {
+    Format,
+    Write(Write),
+    Read { line: u64 },
+    Save,
+    Restore,
+}
+
+/// Why a write was refused. Each refusal is shown as its number and its name.
+#[derive(Clone, Copy, Debug, PartialEq, Eq, Error)]
+pub enum WriteRefusal {
+    /// No life runs: nothing was formatted or restored yet, or the last restore was refused.
+    #[error("4 Closed")]
+    Closed,
+    /// The life has accepted as many writes as it has room for, or the number would be 2^62.
+    #[error("5 TrailFull")]
+    TrailFull,
+    #[error("6 NoSuchLine")]
+    NoSuchLine,
+}
+
+/// Why a read was refused.
+#[derive(Clone, Copy, Debug, PartialEq, Eq, Error)]
+pub enum ReadRefusal {
+    #[error("4 Closed")]
+    Closed,
+    #[error("6 NoSuchLine")]
+    NoSuchLine,
+}
+
+/// Why a save was refused.
+#[derive(Clone, Copy, Debug, PartialEq, Eq, Error)]
+pub enum SaveRefusal {
+    #[error("5 Closed")]
+    Closed,
+    /// The newest image has generation 2^62 or a greater one.
+    #[error("6 Spent")]
+    Spent,
+}
+
+/// The answer to one line of a script.
+#[derive(Clone, Copy, Debug, PartialEq, Eq)]
+pub enum Reply {
+    Formatted,
+    /// The write's number, its place among the accepted writes, and the number of those that are persistent.
+    Accepted {
+        number: u64,
+        mark: u64,
+    },
+    Content {
+        line: u64,
+        bytes: Line,
+    },
+    Saved {
+        generation: u64,
+        count: u64,
+    },
+    Restored {
+        generation: u64,
+        count: u64,
+        verdict: Verdict,
+    },
+    WriteRefused(WriteRefusal),
+    ReadRefused(ReadRefusal),
+    SaveRefused(SaveRefusal),
+    RestoreRefused(RestoreError),
+    FormatFault,
+    SaveFault,
+}
+
+// A life that runs, but for its memory and its writes.
+#[derive(Clone, Copy, Debug, PartialEq, Eq)]
+struct CurrentLife {
+    // the number of the first write
+    start: u64,
+    persisted: u64,
+    newest: Newest,
+    // the other slot's gate is known closed and settled
+    closed: bool,
+}
+
+/// The memory, the writes accepted in the life, and the life itself where one runs. A `write` and a `read` cost the same
+/// however many writes came before; they and the saves take no memory.
+#[derive(Drop)]
+struct Plain {
+    lines: Vec<Line>,
+    writes: Vec<Write>,
+    life: Option<CurrentLife>,
+    ghost whole: { IsMemory LINES lines.items },
+    ghost room: { TRAIL ≤ vec_capacity writes },
+    ghost kept: { length writes.items ≤ TRAIL },
+    ghost numbers: { ForSome life (λ current. current.start + length writes.items ≤ 2 ^ 62) },
+}
+
+impl Plain {
+    ghost use Rattle.nvctl.specs.declared.plain.PlainEvent.TheVariants as events;
+    ghost use Rattle.nvctl.specs.Machine.{MachineStep};
+    ghost use Rattle.nvctl.specs.Plain.{RunsLife, Moves, life_of};
+
+    // No life runs yet. All the memory that events but a restore need is reserved here.
+    fn new(alloc: Global) -> Result<Plain, AllocError>
+        ensures { IfOk result (λ plain. plain.life ≡ None) }
+    {
+        let mut lines = Vec::from_elem(alloc, [0; 64], LINES)?;
+        zero(&mut lines);
+        let writes = Vec::with_capacity(alloc, TRAIL)?;
+        Ok(Plain {
+            lines,
+            writes,
+            life: None,
+        })
+    }
+
+    fn format<D: SaveDevice>(&mut self, device: &mut D) -> Reply
+        requires { length (D.seen device.old) ≡ device_size LINES }
+        ensures moves { D.fault_count device.new ≡ D.fault_count device.old → Moves events.Format result self.old (D.seen device.old) (D.unsettled device.old) self.new (D.seen device.new) (D.unsettled device.new) }
+        ensures size { length (D.seen device.new) ≡ length (D.seen device.old) }
+        ensures later { D.fault_count device.old ≤ D.fault_count device.new }
+    {
+        self.life = None;
+        let Ok(()) = format(device, LINES) else {
+            return Reply::FormatFault;
+        };
+        zero(&mut self.lines);
+        self.writes.clear();
+        self.life = Some(CurrentLife {
+            start: 0,
+            persisted: 0,
+            newest: Newest {
+                slot: Slot::First,
+                generation: 1,
+            },
+            closed: true,
+        });
+        Reply::Formatted
+    }
+
+    fn write(&mut self, write: Write) -> Reply
+        ensures step { (world : World) → RunsLife self.old.life self.old.lines.items self.old.writes.items world → (next : World) × MachineStep world (events.Write write) result next × RunsLife self.new.life self.new.lines.items self.new.writes.items next × (next.store ≡ world.store) }
+        ensures same { self.new.life ≡ self.old.life }
+    {
+        if write.line >= LINES as u64 {
+            return Reply::WriteRefused(WriteRefusal::NoSuchLine);
+        }
+        let Some(life) = self.life else {
+            return Reply::WriteRefused(WriteRefusal::Closed);
+        };
+        let number = life.start + self.writes.len() as u64;
+        if self.writes.len() == TRAIL || number == MOST_WRITES {
+            return Reply::WriteRefused(WriteRefusal::TrailFull);
+        }
+        let data = write.data;
+        self.lines[write.line as usize] = data;
+        self.writes.push_reserved(write);
+        Reply::Accepted {
+            number,
+            mark: life.persisted,
+        }
+    }
+
+    fn read(&self, line: u64) -> Reply
+        ensures { (world : World) → RunsLife self.now.life self.now.lines.items self.now.writes.items world → MachineStep world (events.Read line) result world }
+    {
+        if line >= LINES as u64 {
+            return Reply::ReadRefused(ReadRefusal::NoSuchLine);
+        }
+        if self.life.is_none() {
+            return Reply::ReadRefused(ReadRefusal::Closed);
+        }
+        Reply::Content {
+            line,
+            bytes: self.lines[line as usize],
+        }
+    }
+
+    fn save<D: SaveDevice>(&mut self, device: &mut D) -> Reply
+        requires { length (D.seen device.old) ≡ device_size LINES }
+        ensures moves { D.fault_count device.new ≡ D.fault_count device.old → Moves events.Save result self.old (D.seen device.old) (D.unsettled device.old) self.new (D.seen device.new) (D.unsettled device.new) }
+        ensures size { length (D.seen device.new) ≡ length (D.seen device.old) }
+        ensures later { D.fault_count device.old ≤ D.fault_count device.new }
+    {
+        let Some(life) = self.life else {
+            return Reply::SaveRefused(SaveRefusal::Closed);
+        };
+        if life.newest.generation >= SPENT {
+            return Reply::SaveRefused(SaveRefusal::Spent);
+        }
+        let count = life.start + self.writes.len() as u64;
+        let mut run = SaveRun::begin(life.newest, life.closed, count, false, LINES);
+        let Ok(()) = save_all(device, &mut run, &self.lines) else {
+            let closed = run.closed_after_fault();
+            self.life = Some(CurrentLife { closed, ..life });
+            return Reply::SaveFault;
+        };
+        let newest = life.newest.next();
+        self.life = Some(CurrentLife {
+            start: life.start,
+            persisted: count,
+            newest,
+            closed: false,
+        });
+        Reply::Saved {
+            generation: newest.generation,
+            count,
+        }
+    }
+
+    fn restore<D: SaveDevice>(&mut self, alloc: Global, device: &mut D) -> Reply
+        requires { length (D.seen device.old) ≡ device_size LINES }
+        ensures moves { D.fault_count device.new ≡ D.fault_count device.old → Moves events.Restore result self.old (D.seen device.old) (D.unsettled device.old) self.new (D.seen device.new) (D.unsettled device.new) }
+        ensures size { length (D.seen device.new) ≡ length (D.seen device.old) }
+        ensures later { D.fault_count device.old ≤ D.fault_count device.new }
+    {
+        self.life = None;
+        let restored = match restore(alloc, device, LINES) {
+            Ok(restored) => restored,
+            Err(error) => return Reply::RestoreRefused(error),
+        };
+        let reply = Reply::Restored {
+            generation: restored.generation,
+            count: restored.count,
+            verdict: restored.verdict,
+        };
+        self.begin(restored);
+        reply
+    }
+
+    // Begins a life from an image.
+    fn begin(&mut self, restored: Restored)
+        requires lines { IsMemory LINES restored.lines.items }
+        requires count { restored.count ≤ 2 ^ 62 }
+        ensures lines { self.new.lines.items ≡ restored.lines.items }
+        ensures writes { self.new.writes.items ≡ [] }
+        ensures life { self.new.life ≡ Some (life_of restored) }
+    {
+        self.writes.clear();
+        self.life = Some(CurrentLife {
+            start: restored.count,
+            persisted: restored.count,
+            newest: restored.newest(),
+            closed: restored.closed,
+        });
+        self.lines = restored.lines;
+    }
+
+    // The answer to one event.
+    fn answer<D: SaveDevice>(&mut self, alloc: Global, device: &mut D, event: PlainEvent) -> Reply
+        requires { length (D.seen device.old) ≡ device_size LINES }
+        ensures moves { D.fault_count device.new ≡ D.fault_count device.old → Moves event result self.old (D.seen device.old) (D.unsettled device.old) self.new (D.seen device.new) (D.unsettled device.new) }
+        ensures size { length (D.seen device.new) ≡ length (D.seen device.old) }
+        ensures later { D.fault_count device.old ≤ D.fault_count device.new }
+    {
+        match event {
+            PlainEvent::Format => self.format(device),
+            PlainEvent::Write(write) => self.write(write),
+            PlainEvent::Read { line } => self.read(line),
+            PlainEvent::Save => self.save(device),
+            PlainEvent::Restore => self.restore(alloc, device),
+        }
+    }
+}
+
+// Gives each line zero bytes.
+fn zero(lines: &mut Vec<Line>)
+    ensures items { lines.new.items ≡ zero_lines (length lines.old.items) }
+    ensures len { length lines.new.items ≡ length lines.old.items }
+{
+    for line in lines.iter_mut() {
+        *line = [0; 64];
+    }
+}
+
+// Makes all steps of a save of these lines.
+fn save_all<D: SaveDevice>(
+    device: &mut D,
+    run: &mut SaveRun,
+    lines: &[Line],
+) -> Result<(), DeviceFault>
+    requires size { length (D.seen device.old) ≡ device_size (plan_of run.old).lines }
+    requires lines { IsMemory (plan_of run.old).lines lines.now }
+    ensures saved { OnOk result ((candidates : Candidates) (newest : Image)
+        → Saving candidates newest (plan_of run.old) lines.now (next_of run.old) (D.seen device.old) (D.unsettled device.old)
+        → IsAtRest (only (plan_of run.old).slot (image_of (plan_of run.old) lines.now)) (image_of (plan_of run.old) lines.now) (plan_of run.old).slot (plan_of run.old).lines false (D.seen device.new) (D.unsettled device.new)) }
+    ensures size { length (D.seen device.new) ≡ length (D.seen device.old) }
+    ensures cause { HasCause (D.fault_count device.old) (D.fault_count device.new) result }
+{
+    for _done in 0..run.steps_left() {
+        run.step(device, page_for(run.next(), lines))?;
+    }
+    Ok(())
+}
+
+// The page that a step writes. A step that writes none is given zeros, and doesn't read them.
+fn page_for(step: Step, lines: &[Line]) -> &[u8; 4096]
+    requires { reach_of step ≤ length lines.now }
+    ensures { GivesPage lines.now step result.now }
+{
+    match step {
+        Step::Page(page) => page_bytes(lines, page),
+        _ => &[0; 4096],
+    }
+}
+
+/// Answers events in order, over the device; the first events find no life. The answer's room and the trail's are reserved
+/// first, so that an `Err` changed nothing. A `restore` whose lines found no memory is answered so, as one of the replies.
+pub fn run_plain<D: SaveDevice>(
+    alloc: Global,
+    events: &[PlainEvent],
+    device: &mut D,
+) -> Result<Vec<Reply>, AllocError>
+    requires { length (D.seen device.old) ≡ device_size LINES }
+
+    // Where the device didn't fail, the replies are a run of the machine, from what a restore finds of the device's bytes to
+    // what one finds of them then.
+    ensures run { IfOk result (λ replies. D.fault_count device.new ≡ D.fault_count device.old
+        → (world : World) × Run (world_on (D.seen device.old)) events.now replies.items world × (world.store ≡ store_of (restored LINES (D.seen device.new)))) }
+    ensures err { OnErr result (device.new ≡ device.old) }
+{
+    let mut replies = Vec::with_capacity(alloc, events.len())?;
+    let mut plain = Plain::new(alloc)?;
+    for event in events {
+        replies.push_reserved(plain.answer(alloc, device, *event));
+    }
+    Ok(replies)
+}

@@ -1,0 +1,5 @@
+pub mod Device
+pub mod Flags
+pub mod Memory
+pub mod Pick
+pub mod Since

@@ -1,0 +1,35 @@
+-- The bytes of an image's header: a page of 4,096 bytes.
+use Rattle.std.specs.Prelude.{ℕ, ◌<◌, ◌≤◌, ◌+◌, ◌^◌, Bool, List, [], ◌∷◌, ◌++◌, replicate, cond, take, drop, length}
+use Rattle.byteorder.specs.Endian.{little_bytes}
+
+-- n zero bytes
+unfoldable pub zeros : ℕ → List ℕ
+zeros n = replicate n 0
+
+-- a number in eight bytes, little endian
+unfoldable pub le8 : ℕ → List ℕ
+le8 n = little_bytes 8 n
+
+-- "NVSAVE01"
+unfoldable pub magic : List ℕ
+magic = 0x4e ∷ 0x56 ∷ 0x53 ∷ 0x41 ∷ 0x56 ∷ 0x45 ∷ 0x30 ∷ 0x31 ∷ []
+
+-- the arm byte of an image that is armed or clear
+abbrev pub arm_byte : Bool → ℕ
+arm_byte armed = cond armed 0x5a 0
+
+-- The header: bytes 0 and 1 are the gate and the arm byte, 2 to 7 are zero, 8 to 15 the magic text, 16 to 23 the
+-- generation, 24 to 31 the count, 32 to 39 the number of lines, and 40 to 4095 are zero.
+unfoldable pub header : ℕ → ℕ → ℕ → ℕ → ℕ → List ℕ
+header gate arm generation count lines =
+    (gate ∷ arm ∷ []) ++ zeros 6 ++ magic ++ le8 generation ++ le8 count ++ le8 lines ++ zeros 4056
+
+-- the numbers that an image may have
+pub record Fits (generation count : ℕ) : Type 0 where
+  pub some : 0 < generation
+  pub generation_fits : generation < 2 ^ 63
+  pub count_fits : count ≤ 2 ^ 62
+
+-- a list with these bytes from this place on
+abbrev pub spliced : ℕ → List ℕ → List ℕ → List ℕ
+spliced at bytes old = take at old ++ (bytes ++ drop (at + length bytes) old)

@@ -1,0 +1,4 @@
+pub mod Header
+pub mod Reading
+pub mod Body
+pub mod Image

@@ -1,0 +1,102 @@
+-- A slot that holds an image has exactly its bytes.
+use Rattle.std.proofs.Common.{◌≡◌, ℕ, zero, suc, ◌+◌, ◌-◌, ◌*◌, ◌≤◌, List, [], ◌++◌, length, take, drop, Bool, true, refl, sym, ◌∙◌, ap, subst, arith, slice_index, length-drop, length-take}
+use Rattle.std.specs.Prelude.{slice_range, All, Option, Some, None, if◌then◌else◌, ◌==◌}
+use Rattle.std.proofs.Math.Seq.{take-add}
+use Rattle.std.proofs.lemmas.List.{drop-drop, take_all, take_at, length-take-le, append_cancel_left, append-nil}
+use Rattle.std.proofs.lemmas.List.Elements.{All-nil, All-cons}
+use Rattle.line_memory.specs.Memory.{IsMemory}
+use Rattle.save_image.specs.declared.reading.Header.{Header}
+use Rattle.save_image.specs.Header.{header, Fits}
+use Rattle.save_image.specs.Body.{bytes_of, lines_in}
+use Rattle.save_image.specs.Image.{Image, IsImage, image_bytes, header_in}
+use Rattle.save_image.proofs.BodyLaws.{bytes_of-lines_in, length-lines_in, lines_in-take, lines_in-bytes_of}
+use Rattle.save_image.proofs.Again.{is_spelled, again_gate, read_again, length-header}
+use Rattle.slot_store.specs.declared.slots.Slot.{Slot}
+use Rattle.slot_store.specs.declared.saving.Plan.{Plan}
+use Rattle.slot_store.specs.Slots.{slot_size, device_size, start_of, page_in, body_in, image_with, opened, slot_state, Closed, Full}
+use Rattle.slot_store.specs.Writes.{gate_of, planned}
+use Rattle.slot_store.specs.Saving.{image_of, IsWritten}
+use Rattle.slot_store.proofs.Gates.{gate_in_page, equal, open_gate, gate_open}
+use Rattle.slot_store.proofs.Stops.{within}
+
+-- a header page, and then the bytes of the lines
+pub slot_split : (start n : ℕ) (c : List ℕ) → slice_range c start (start + (4096 + n)) ≡ slice_range c start (start + 4096) ++ take n (drop (start + 4096) c)
+slot_split start n c =
+    ap (λ (m : ℕ). take m (drop start c)) (let e : start + (4096 + n) - start ≡ 4096 + n = omega arith in e)
+    ∙ take-add 4096 n (drop start c)
+    ∙ ap (λ (m : ℕ). take m (drop start c) ++ take n (drop 4096 (drop start c))) (let e : 4096 ≡ start + 4096 - start = omega arith in e)
+    ∙ ap (λ (rest : List ℕ). slice_range c start (start + 4096) ++ take n rest) (drop-drop 4096 start c)
+
+pub written_bytes : (plan : Plan) (memory : List (List ℕ)) (c : List ℕ) → IsMemory plan.lines memory → IsWritten plan memory c → slice_index c (gate_of plan) ≡ 0xA5 → gate_of plan + slot_size plan.lines ≤ length c
+    → slice_range c (gate_of plan) (gate_of plan + slot_size plan.lines) ≡ image_bytes plan.lines (image_of plan memory)
+unfolding image_bytes
+written_bytes plan memory c lines w is_open fits =
+    let body : lines_in plan.lines (drop (gate_of plan + 4096) c) ≡ memory = w.body ∙ take_all plan.lines memory (omega (arith, lines.size)) in
+    slot_split (gate_of plan) (64 * plan.lines) c
+    ∙ ap (λ (page : List ℕ). page ++ take (64 * plan.lines) (drop (gate_of plan + 4096) c)) (w.header ∙ ap (planned plan) is_open)
+    ∙ ap (λ (bytes : List ℕ). planned plan 0xA5 ++ bytes) (sym (bytes_of-lines_in plan.lines (drop (gate_of plan + 4096) c)) ∙ ap bytes_of body)
+
+lines_in-IsMemory : (n : ℕ) (bytes : List ℕ) → 64 * n ≤ length bytes → IsMemory n (lines_in n bytes)
+lines_in-IsMemory n bytes fits = record { size = length-lines_in n bytes; whole = each_whole n bytes fits }
+  where
+    each_whole : (n : ℕ) (bytes : List ℕ) → 64 * n ≤ length bytes → All (λ line. length line ≡ 64) (lines_in n bytes)
+    each_whole zero bytes fits = All-nil (λ line. length line ≡ 64)
+    each_whole (suc n) bytes fits =
+        All-cons (λ line. length line ≡ 64) (take 64 bytes) (lines_in n (drop 64 bytes)) (length-take-le 64 bytes (omega arith)) (each_whole n (drop 64 bytes) (omega (arith, length-drop 64 bytes)))
+
+-- what a full slot's header and lines are
+record IsFilled (lines : ℕ) (slot : Slot) (bytes : List ℕ) (image : Image) : Type 0 where
+  page : page_in lines slot bytes ≡ header 0xA5 image.arm image.generation image.count lines
+  body : body_in lines slot bytes ≡ image.memory
+  fits : Fits image.generation image.count
+
+opened_full : (lines : ℕ) (slot : Slot) (bytes : List ℕ) (image : Image) (o : Option Header) → slice_index bytes (start_of lines slot) ≡ 0xA5 → header_in lines (page_in lines slot bytes) ≡ o → opened o (body_in lines slot bytes) ≡ Full image → IsFilled lines slot bytes image
+opened_full lines slot bytes image (Some h) gate said full =
+    let same : image_with h (body_in lines slot bytes) ≡ image = cc in
+    let spelled = is_spelled lines (page_in lines slot bytes) h said in
+    let first : h.gate ≡ 0xA5 = sym (again_gate h.gate h.arm h.generation h.count lines (page_in lines slot bytes) spelled.0) ∙ gate_in_page lines slot bytes ∙ gate in
+    subst (λ (i : Image). IsFilled lines slot bytes i) same (record {
+      page = spelled.0 ∙ ap (λ (g : ℕ). header g h.arm h.generation h.count lines) first;
+      body = refl;
+      fits = spelled.1;
+    })
+opened_full lines slot bytes image None gate said full = absurd (let bad : ⊥ = cc in bad)
+
+full_slot : (lines : ℕ) (slot : Slot) (bytes : List ℕ) (image : Image) → slot_state lines slot bytes ≡ Full image → IsFilled lines slot bytes image
+unfolding slot_state
+full_slot lines slot bytes image full =
+    let gate : slice_index bytes (start_of lines slot) ≡ 0xA5 = gate_open lines slot bytes image full in
+    let test : (slice_index (page_in lines slot bytes) 0 == 0xA5) ≡ true = equal (slice_index (page_in lines slot bytes) 0) 0xA5 (gate_in_page lines slot bytes ∙ gate) in
+    opened_full lines slot bytes image (header_in lines (page_in lines slot bytes)) gate refl
+    (sym (ap (λ (b : Bool). if b then opened (header_in lines (page_in lines slot bytes)) (body_in lines slot bytes) else Closed) test) ∙ full)
+
+module _ (lines : ℕ) (slot : Slot) (bytes : List ℕ) (image : Image) (size : length bytes ≡ device_size lines) where
+  rest : List ℕ
+  rest = drop (start_of lines slot + 4096) bytes
+
+  pub image_from_full : slot_state lines slot bytes ≡ Full image → IsImage lines image × (slice_range bytes (start_of lines slot) (start_of lines slot + slot_size lines) ≡ image_bytes lines image)
+  unfolding image_bytes rest
+  image_from_full full =
+      let is = full_slot lines slot bytes image full in
+      let room : 64 * lines ≤ length rest = omega (arith, length-drop (start_of lines slot + 4096) bytes, size, within lines slot) in (
+        record { fits = is.fits; memory = subst (λ (m : List (List ℕ)). IsMemory lines m) is.body (lines_in-IsMemory lines rest room) },
+        slot_split (start_of lines slot) (64 * lines) bytes
+            ∙ ap (λ (page : List ℕ). page ++ take (64 * lines) rest) is.page
+            ∙ ap (λ (b : List ℕ). header 0xA5 image.arm image.generation image.count lines ++ b) (sym (bytes_of-lines_in lines rest) ∙ ap bytes_of is.body),
+      )
+
+  pub full_from_image : IsImage lines image × (slice_range bytes (start_of lines slot) (start_of lines slot + slot_size lines) ≡ image_bytes lines image) → slot_state lines slot bytes ≡ Full image
+  unfolding image_bytes rest
+  full_from_image is =
+      let page : List ℕ = page_in lines slot bytes in
+      let spelled : List ℕ = header 0xA5 image.arm image.generation image.count lines in
+      let long : length page ≡ 4096 = omega (arith, length-take (start_of lines slot + 4096 - start_of lines slot) (drop (start_of lines slot) bytes), length-drop (start_of lines slot) bytes, size, within lines slot) in
+      let parts : page ++ take (64 * lines) rest ≡ spelled ++ bytes_of image.memory = sym (slot_split (start_of lines slot) (64 * lines) bytes) ∙ is.1 in
+      let same_page : page ≡ spelled = sym (take_at page (take (64 * lines) rest) 4096 long) ∙ ap (take 4096) parts ∙ take_at spelled (bytes_of image.memory) 4096 (length-header 0xA5 image.arm image.generation image.count lines) in
+      let same_rest : take (64 * lines) rest ≡ bytes_of image.memory = append_cancel_left spelled (take (64 * lines) rest) (bytes_of image.memory) (ap (λ (p : List ℕ). p ++ take (64 * lines) rest) (sym same_page) ∙ parts) in
+      let body : body_in lines slot bytes ≡ image.memory =
+      sym (lines_in-take lines (64 * lines) rest (omega arith)) ∙ ap (lines_in lines) (same_rest ∙ sym (append-nil (bytes_of image.memory)))
+      ∙ ap (λ (n : ℕ). lines_in n (bytes_of image.memory ++ [])) (sym is.0.memory.size) ∙ lines_in-bytes_of image.memory [] is.0.memory.whole in
+      let h : Header = record { gate = 0xA5; arm = image.arm; generation = image.generation; count = image.count } in
+      let gate : slice_index bytes (start_of lines slot) ≡ 0xA5 = sym (gate_in_page lines slot bytes) ∙ again_gate 0xA5 image.arm image.generation image.count lines page same_page in
+      open_gate lines slot bytes h gate (read_again lines page h same_page is.0.fits) ∙ ap (λ (m : List (List ℕ)). Full (image_with h m)) body

@@ -1,0 +1,10 @@
+pub mod Same
+pub mod Gates
+pub mod Picked
+pub mod Torn
+pub mod Stops
+pub mod Standing
+pub mod Going
+pub mod Resting
+pub mod ImageBytes
+pub mod FirstSave

@@ -1,0 +1,57 @@
+-- Which slot's image two readings pick.
+use Rattle.std.proofs.Common.{◌≡◌, ◌≢◌, ◌≤◌, ℕ, List, length, Result, Ok, Err, IfErr, if◌then◌else◌, refl, sym, ◌∙◌, ap, Bool}
+use Rattle.slot_store.specs.declared.slots.Slot.{Slot}
+use Rattle.slot_store.specs.declared.slots.Slot.TheVariants.{First, Second}
+use Rattle.slot_store.specs.declared.restoring.Choice.{Choice}
+use Rattle.slot_store.specs.declared.restoring.RestoreError.{RestoreError}
+use Rattle.slot_store.specs.declared.restoring.RestoreError.TheVariants as errors
+use Rattle.slot_store.specs.Slots.{SlotState, slot_state, device_size, body_in, image_with, is_closed, other}
+use Rattle.slot_store.specs.Outcomes.{Outcome, Found, WrongSize, chosen, restored}
+use Rattle.slot_store.specs.Told.{IsChosen, IsFailure, ReadsCause, IsPicked, Names, Refuses, memory_in, state_other}
+use Rattle.slot_store.proofs.Gates.{by_states, not_equal}
+
+memory_of : (lines : ℕ) (slot : Slot) (bytes : List ℕ) → memory_in slot (body_in lines First bytes) (body_in lines Second bytes) ≡ body_in lines slot bytes
+memory_of lines First bytes = refl
+memory_of lines Second bytes = refl
+
+other_of : (lines : ℕ) (slot : Slot) (bytes : List ℕ) (s t : SlotState) → slot_state lines First bytes ≡ s → slot_state lines Second bytes ≡ t → state_other slot s t ≡ slot_state lines (other slot) bytes
+other_of lines First bytes s t p q = sym q
+other_of lines Second bytes s t p q = sym p
+
+refuses : (e : RestoreError) (o u : Outcome) → u ≡ o → Names e o → Refuses e u
+refuses errors.NoImage o u same n = same ∙ n
+refuses (errors.Damaged slot) o u same n = same ∙ n
+refuses errors.WrongSize o u same n = same ∙ n
+refuses errors.Device o u same n = tt
+refuses errors.Memory o u same n = tt
+
+pub picked : (r : Result Choice RestoreError) (lines : ℕ) (bytes : List ℕ) (s t : SlotState) → length bytes ≡ device_size lines
+    → slot_state lines First bytes ≡ s → slot_state lines Second bytes ≡ t → IsChosen r (body_in lines First bytes) (body_in lines Second bytes) s t → IsPicked r lines bytes
+picked (Ok p) lines bytes s t size one two c = (
+  by_states lines bytes s t size one two ∙ c.0 ∙ ap (λ (m : List (List ℕ)). Found p.slot (image_with p.header m)) (memory_of lines p.slot bytes),
+  c.1 ∙ ap is_closed (other_of lines p.slot bytes s t one two),
+)
+picked (Err e) lines bytes s t size one two c = refuses e (chosen s t) (restored lines bytes) (by_states lines bytes s t size one two) c
+
+pub cause_of : (r : Result Choice RestoreError) (one two : List (List ℕ)) (s t : SlotState) (before now : ℕ) → IsChosen r one two s t → before ≤ now → ReadsCause before now r
+cause_of (Ok p) one two s t before now c le = le
+cause_of (Err errors.NoImage) one two s t before now c le = le
+cause_of (Err (errors.Damaged slot)) one two s t before now c le = le
+cause_of (Err errors.WrongSize) one two s t before now c le = le
+cause_of (Err errors.Device) one two s t before now c le = absurd c
+cause_of (Err errors.Memory) one two s t before now c le = le
+
+pub wrong_size : (lines : ℕ) (bytes : List ℕ) → length bytes ≢ device_size lines → restored lines bytes ≡ WrongSize
+unfolding restored
+wrong_size lines bytes differ = ap (λ (b : Bool). if b then chosen (slot_state lines First bytes) (slot_state lines Second bytes) else WrongSize) (not_equal (length bytes) (device_size lines) differ)
+
+failed : (e : RestoreError) (o : Outcome) → IsFailure e → Refuses e o
+failed errors.NoImage o f = absurd f
+failed (errors.Damaged slot) o f = absurd f
+failed errors.WrongSize o f = absurd f
+failed errors.Device o f = tt
+failed errors.Memory o f = tt
+
+pub err_failed : {T : Type 0} (r : Result T RestoreError) (o : Outcome) → IfErr r IsFailure → IfErr r (λ e. Refuses e o)
+err_failed (Ok v) o f = tt
+err_failed (Err e) o f = failed e o f

@@ -1,0 +1,5 @@
+use Rattle.slot_store.proofs.ImageBytes.{image_from_full, full_from_image}
+use Rattle.slot_store.proofs.laws.full_slots.Goals as goal
+
+pub returns : goal.returns
+returns c = λ lines slot bytes image size. (image_from_full lines slot bytes image size, full_from_image lines slot bytes image size)

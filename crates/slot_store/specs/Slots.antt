@@ -1,0 +1,66 @@
+-- Where the two slots of a device lie, and what each one holds.
+use Rattle.std.specs.Prelude.{◌≡◌, ◌==◌, ℕ, ◌+◌, ◌*◌, ◌%◌, ◌≤◌, Bool, true, false, List, drop, slice_index, slice_range, Option, Some, None, if◌then◌else◌}
+use Rattle.save_image.specs.declared.reading.Header.{Header}
+use Rattle.save_image.specs.Body.{lines_in}
+use Rattle.save_image.specs.Image.{Image, header_in}
+use Rattle.slot_store.specs.declared.slots.Slot.{Slot}
+use Rattle.slot_store.specs.declared.slots.Slot.TheVariants.{First, Second}
+
+-- a number of lines that a memory may have: whole pages, 1,024 of them at most
+pub record IsCapacity (lines : ℕ) : Type 0 where
+  pub some : 64 ≤ lines
+  pub most : lines ≤ 65536
+  pub whole : lines % 64 ≡ 0
+
+-- the bytes of a slot: a header and the lines
+abbrev pub slot_size : ℕ → ℕ
+slot_size lines = 4096 + 64 * lines
+
+-- the bytes of a device: two slots
+abbrev pub device_size : ℕ → ℕ
+device_size lines = 2 * slot_size lines
+
+abbrev pub start_of : ℕ → Slot → ℕ
+start_of lines First = 0
+start_of lines Second = slot_size lines
+
+abbrev pub other : Slot → Slot
+other First = Second
+other Second = First
+
+-- What a slot holds: nothing behind a gate that isn't open, an image, or bytes that are no image behind an open gate.
+pub data SlotState : Type 0 where
+  Closed : SlotState
+  Broken : SlotState
+  Full : Image → SlotState
+
+-- the header page of a slot
+abbrev pub page_in : ℕ → Slot → List ℕ → List ℕ
+page_in lines slot bytes = slice_range bytes (start_of lines slot) (start_of lines slot + 4096)
+
+-- the lines that stand in a slot
+abbrev pub body_in : ℕ → Slot → List ℕ → List (List ℕ)
+body_in lines slot bytes = lines_in lines (drop (start_of lines slot + 4096) bytes)
+
+-- the image with this header and these lines
+abbrev pub image_with : Header → List (List ℕ) → Image
+image_with h memory = record { generation = h.generation; count = h.count; arm = h.arm; memory = memory }
+
+-- an open slot with this header, if it is one, and these lines
+abbrev pub opened : Option Header → List (List ℕ) → SlotState
+opened (Some h) memory = Full (image_with h memory)
+opened None memory = Broken
+
+-- a slot with this header page and these lines: the gate, byte 0, is open where it is 0xA5
+abbrev pub state_of : ℕ → List ℕ → List (List ℕ) → SlotState
+state_of lines page memory = if slice_index page 0 == 0xA5 then opened (header_in lines page) memory else Closed
+
+-- what a slot holds, of the bytes of the device
+unfoldable pub slot_state : ℕ → Slot → List ℕ → SlotState
+slot_state lines slot bytes = state_of lines (page_in lines slot bytes) (body_in lines slot bytes)
+
+-- its gate isn't open
+abbrev pub is_closed : SlotState → Bool
+is_closed Closed = true
+is_closed Broken = false
+is_closed (Full image) = false

@@ -1,0 +1,282 @@
+// What a device restores to.
+ghost use Rattle.std.specs.Prelude.{◌≡◌, ◌+◌, ◌*◌, ◌<◌, ◌≤◌, ◌++◌, List, ℕ, drop, length, slice_range, vec_len, vec_capacity, OnOk, IfOk, IfErr};
+ghost use Rattle.save_device.specs.Device.{NoMore, HasCause, IsSettled};
+ghost use Rattle.save_image.specs.Body.{lines_in};
+ghost use Rattle.slot_store.specs.Slots.{IsCapacity, device_size, slot_state, state_of, body_in};
+ghost use Rattle.line_memory.specs.Memory.{IsMemory};
+ghost use Rattle.save_image.specs.Header.{Fits};
+ghost use Rattle.save_image.specs.Image.{Image};
+ghost use Rattle.slot_store.specs.Outcomes.{restored, verdict_of, Found};
+ghost use Rattle.slot_store.specs.Rest.{only, IsAtRest};
+ghost use Rattle.slot_store.specs.Told.{told, IsChosen, IsFailure, ReadsCause, IsPicked, Refuses, IsRestored};
+
+use crate::slots::device_size;
+use crate::{Newest, Slot};
+use line_memory::Line;
+use save_device::{DeviceFault, SaveDevice};
+use save_image::{Header, page_lines, read_header};
+use std::alloc::Global;
+use std::fmt;
+use thiserror::Error;
+
+/// Whether a write that was acknowledged persistent may be missing.
+#[derive(Clone, Copy, Debug, PartialEq, Eq)]
+pub enum Verdict {
+    Complete,
+    /// The image holds the first `after` writes, and was made while later ones could be acknowledged.
+    PossibleLoss { after: u64 },
+}
+
+impl fmt::Display for Verdict {
+    fn fmt<W: fmt::Write>(&self, f: &mut fmt::Formatter<W>) -> fmt::Result {
+        match self {
+            Verdict::Complete => f.write_str("Complete"),
+            Verdict::PossibleLoss { .. } => f.write_str("PossibleLoss"),
+        }
+    }
+}
+
+/// The newest image, as it was restored.
+#[derive(Drop)]
+pub struct Restored {
+    pub lines: Vec<Line>,
+    /// The number of writes that the lines are after.
+    pub count: u64,
+    pub generation: u64,
+    pub slot: Slot,
+    /// The other slot's gate isn't open.
+    pub closed: bool,
+    pub verdict: Verdict,
+}
+
+/// Why nothing was restored. It is shown as its number, its name and the slot.
+#[derive(Clone, Copy, Debug, PartialEq, Eq, Error)]
+pub enum RestoreError {
+    /// No slot is open.
+    #[error("1 NoImage")]
+    NoImage,
+    /// The first slot that is open and no image, or the second where both hold one generation.
+    #[error("2 Damaged {slot}")]
+    Damaged { slot: Slot },
+    /// The device is no store of so many lines.
+    #[error("3 WrongSize")]
+    WrongSize,
+    /// A read or the first sync failed.
+    #[error("4 Device")]
+    Device,
+    /// There was no memory for the lines.
+    #[error("5 Memory")]
+    Memory,
+}
+
+// What the header page of a slot says.
+#[derive(Clone, Copy, Debug, PartialEq, Eq)]
+enum Reading {
+    Shut,
+    Broken,
+    Image(Header),
+}
+
+// The slot of the newest image.
+#[derive(Clone, Copy, Debug, PartialEq, Eq)]
+struct Choice {
+    slot: Slot,
+    header: Header,
+    closed: bool,
+}
+
+fn read_page<D: SaveDevice>(device: &mut D, at: usize) -> Result<[u8; 4096], DeviceFault>
+    requires { at + 4096 ≤ length (D.seen device.old) }
+    ensures page { IfOk result (λ page. page ≡ slice_range (D.seen device.old) at (at + 4096)) }
+    ensures same { D.seen device.new ≡ D.seen device.old }
+    ensures unsettled { NoMore (D.unsettled device.old) (D.unsettled device.new) }
+    ensures cause { HasCause (D.fault_count device.old) (D.fault_count device.new) result }
+{
+    let mut page = [0; 4096];
+    device.read(at, &mut page)?;
+    Ok(page)
+}
+
+fn reading_of(page: &[u8; 4096], lines: usize) -> Reading
+    ensures { (memory : List (List ℕ)) → state_of lines page.now memory ≡ told result memory }
+{
+    if page[0] != 0xA5 {
+        return Reading::Shut;
+    }
+    match read_header(page, lines as u64) {
+        Ok(header) => Reading::Image(header),
+        Err(_) => Reading::Broken,
+    }
+}
+
+fn read_slot<D: SaveDevice>(
+    device: &mut D,
+    slot: Slot,
+    lines: usize,
+) -> Result<Reading, DeviceFault>
+    requires lines { lines ≤ 65536 }
+    requires size { length (D.seen device.old) ≡ device_size lines }
+    ensures state { IfOk result (λ reading. slot_state lines slot (D.seen device.old) ≡ told reading (body_in lines slot (D.seen device.old))) }
+    ensures same { D.seen device.new ≡ D.seen device.old }
+    ensures unsettled { NoMore (D.unsettled device.old) (D.unsettled device.new) }
+    ensures cause { HasCause (D.fault_count device.old) (D.fault_count device.new) result }
+{
+    let page = read_page(device, slot.start(lines))?;
+    Ok(reading_of(&page, lines))
+}
+
+fn choose(first: Reading, second: Reading) -> Result<Choice, RestoreError>
+    ensures { (one two : List (List ℕ)) → IsChosen result one two (told first one) (told second two) }
+{
+    match (first, second) {
+        (Reading::Broken, _) => Err(RestoreError::Damaged { slot: Slot::First }),
+        (_, Reading::Broken) => Err(RestoreError::Damaged { slot: Slot::Second }),
+        (Reading::Shut, Reading::Shut) => Err(RestoreError::NoImage),
+        (Reading::Shut, Reading::Image(header)) => Ok(Choice {
+            slot: Slot::Second,
+            header,
+            closed: true,
+        }),
+        (Reading::Image(header), Reading::Shut) => Ok(Choice {
+            slot: Slot::First,
+            header,
+            closed: true,
+        }),
+        (Reading::Image(one), Reading::Image(two)) => newer(one, two),
+    }
+}
+
+fn newer(first: Header, second: Header) -> Result<Choice, RestoreError>
+    ensures { (one two : List (List ℕ)) → IsChosen result one two (told (Reading.Image first) one) (told (Reading.Image second) two) }
+{
+    if first.generation == second.generation {
+        return Err(RestoreError::Damaged { slot: Slot::Second });
+    }
+    let (slot, header) = if first.generation < second.generation {
+        (Slot::Second, second)
+    } else {
+        (Slot::First, first)
+    };
+    Ok(Choice {
+        slot,
+        header,
+        closed: false,
+    })
+}
+
+// Both headers, and which image is the newest.
+fn read_both<D: SaveDevice>(device: &mut D, lines: usize) -> Result<Choice, RestoreError>
+    requires lines { lines ≤ 65536 }
+    requires size { length (D.seen device.old) ≡ device_size lines }
+    ensures picked { IsPicked result lines (D.seen device.old) }
+    ensures same { D.seen device.new ≡ D.seen device.old }
+    ensures unsettled { NoMore (D.unsettled device.old) (D.unsettled device.new) }
+    ensures cause { ReadsCause (D.fault_count device.old) (D.fault_count device.new) result }
+{
+    let Ok(first) = read_slot(device, Slot::First, lines) else {
+        return Err(RestoreError::Device);
+    };
+    let Ok(second) = read_slot(device, Slot::Second, lines) else {
+        return Err(RestoreError::Device);
+    };
+    choose(first, second)
+}
+
+// Adds the lines of a page, for which there is room.
+fn push_page(memory: &mut Vec<Line>, page: &[u8; 4096])
+    requires { vec_len memory.old + 64 ≤ vec_capacity memory.old }
+    ensures items { memory.new.items ≡ memory.old.items ++ lines_in 64 page.now }
+    ensures capacity { vec_capacity memory.new ≡ vec_capacity memory.old }
+{
+    for line in page_lines(page) {
+        memory.push_reserved(*line);
+    }
+}
+
+// The lines of a body, page by page.
+fn read_pages<D: SaveDevice>(
+    alloc: Global,
+    device: &mut D,
+    at: usize,
+    pages: usize,
+) -> Result<Vec<Line>, RestoreError>
+    requires { at + 4096 * pages ≤ length (D.seen device.old) }
+    ensures failed { IfErr result IsFailure }
+    ensures lines { IfOk result (λ memory. memory.items ≡ lines_in (64 * pages) (drop at (D.seen device.old))) }
+    ensures same { D.seen device.new ≡ D.seen device.old }
+    ensures unsettled { NoMore (D.unsettled device.old) (D.unsettled device.new) }
+    ensures cause { ReadsCause (D.fault_count device.old) (D.fault_count device.new) result }
+{
+    let Ok(mut memory) = Vec::with_capacity(alloc, 64 * pages) else {
+        return Err(RestoreError::Memory);
+    };
+    for page in 0..pages {
+        let Ok(bytes) = read_page(device, at + 4096 * page) else {
+            return Err(RestoreError::Device);
+        };
+        push_page(&mut memory, &bytes);
+    }
+    Ok(memory)
+}
+
+fn judged(arm: u8, count: u64) -> Verdict
+    ensures { result ≡ verdict_of arm count }
+{
+    if arm == 0 {
+        Verdict::Complete
+    } else {
+        Verdict::PossibleLoss { after: count }
+    }
+}
+
+impl Restored {
+    /// The newest image, for the next save.
+    pub fn newest(&self) -> Newest
+        ensures slot { result.slot ≡ self.now.slot }
+        ensures generation { result.generation ≡ self.now.generation }
+    {
+        Newest {
+            slot: self.slot,
+            generation: self.generation,
+        }
+    }
+}
+
+/// Reads the newest image of a device that holds memories of so many lines. After the length it syncs once and then only
+/// reads, one page at a time; it costs one pass over an image. `Memory` comes only where the lines' memory was refused,
+/// `Device` only where a read or the sync failed.
+pub fn restore<D: SaveDevice>(
+    alloc: Global,
+    device: &mut D,
+    lines: usize,
+) -> Result<Restored, RestoreError>
+    requires { IsCapacity lines }
+    ensures found { IfOk result (λ r. IsRestored r lines (D.seen device.old)) }
+    ensures sound { IfOk result (λ r. IsMemory lines r.lines.items × Fits r.generation r.count) }
+    ensures refused { IfErr result (λ e. Refuses e (restored lines (D.seen device.old))) }
+    ensures same { D.seen device.new ≡ D.seen device.old }
+    ensures settled { OnOk result (IsSettled (D.unsettled device.new)) }
+    ensures unsettled { NoMore (D.unsettled device.old) (D.unsettled device.new) }
+    ensures cause { ReadsCause (D.fault_count device.old) (D.fault_count device.new) result }
+
+    // From then on a save may begin over it.
+    ensures at_rest { IfOk result (λ r. (image : Image) → restored lines (D.seen device.old) ≡ Found r.slot image
+        → IsAtRest (only r.slot image) image r.slot lines r.closed (D.seen device.new) (D.unsettled device.new)) }
+{
+    if device.len() != device_size(lines) {
+        return Err(RestoreError::WrongSize);
+    }
+    let Ok(()) = device.sync() else {
+        return Err(RestoreError::Device);
+    };
+    let choice = read_both(device, lines)?;
+    let memory = read_pages(alloc, device, choice.slot.start(lines) + 4096, lines / 64)?;
+    Ok(Restored {
+        lines: memory,
+        count: choice.header.count,
+        generation: choice.header.generation,
+        slot: choice.slot,
+        closed: choice.closed,
+        verdict: judged(choice.header.arm, choice.header.count),
+    })
+}
