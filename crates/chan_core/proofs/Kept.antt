@@ -1,0 +1,57 @@
+-- What `filter_map` keeps of a list from which an element is taken, or in which one changes.
+use Rattle.std.proofs.Common.{◌≡◌, ℕ, zero, suc, ◌+◌, ◌<◌, List, [], ◌∷◌, length, take, set, slice_get, slice_set, remove, Option, Some, None, refl, sym, ap, ◌∙◌, arith}
+use Rattle.std.specs.List.{filter_map, cons_option}
+
+module _ {X Y : Type 0} (h : X → Option Y) where
+  -- how many of the first i are kept
+  abbrev pub kept : ℕ → List X → ℕ
+  kept i xs = length (filter_map h (take i xs))
+
+  pub filter_map-without : (xs : List X) (i : ℕ) (x : X) → slice_get xs i ≡ Some x → h x ≡ None → filter_map h (remove xs i) ≡ filter_map h xs
+  filter_map-without [] i x at none = absurd cc
+  filter_map-without (y ∷ ys) zero x at none = let same : y ≡ x = cc in rw (same, none) refl
+  filter_map-without (y ∷ ys) (suc i) x at none = ap (cons_option (h y)) (filter_map-without ys i x at none)
+
+  cons-remove : (o : Option Y) (xs : List X) (i : ℕ) (ys : List Y) → ys ≡ remove (filter_map h xs) (kept i xs)
+      → cons_option o ys ≡ remove (cons_option o (filter_map h xs)) (length (cons_option o (filter_map h (take i xs))))
+  cons-remove None xs i ys e = e
+  cons-remove (Some y) xs i ys e = ap (λ (rest : List Y). y ∷ rest) e
+
+  pub filter_map-taken : (xs : List X) (i : ℕ) (x : X) (y : Y) → slice_get xs i ≡ Some x → h x ≡ Some y → filter_map h (remove xs i) ≡ remove (filter_map h xs) (kept i xs)
+  filter_map-taken [] i x y at some = absurd cc
+  filter_map-taken (z ∷ zs) zero x y at some = let same : z ≡ x = cc in rw (same, some) refl
+  filter_map-taken (z ∷ zs) (suc i) x y at some = cons-remove (h z) zs i (filter_map h (remove zs i)) (filter_map-taken zs i x y at some)
+
+  pub filter_map-changed : (xs : List X) (i : ℕ) (x x' : X) (y : Y) → slice_get xs i ≡ Some x → h x ≡ Some y → h x' ≡ None → filter_map h (slice_set xs i x') ≡ remove (filter_map h xs) (kept i xs)
+  filter_map-changed [] i x x' y at some none = absurd cc
+  filter_map-changed (z ∷ zs) zero x x' y at some none = let same : z ≡ x = cc in rw (same, some, none) refl
+  filter_map-changed (z ∷ zs) (suc i) x x' y at some none = cons-remove (h z) zs i (filter_map h (slice_set zs i x')) (filter_map-changed zs i x x' y at some none)
+
+  cons-get : (o : Option Y) (xs : List X) (i : ℕ) (y : Y) → slice_get (filter_map h xs) (kept i xs) ≡ Some y
+      → slice_get (cons_option o (filter_map h xs)) (length (cons_option o (filter_map h (take i xs)))) ≡ Some y
+  cons-get None xs i y e = e
+  cons-get (Some z) xs i y e = e
+
+  -- a kept element stands behind those that are kept of the ones before it
+  pub filter_map-at : (xs : List X) (i : ℕ) (x : X) (y : Y) → slice_get xs i ≡ Some x → h x ≡ Some y → slice_get (filter_map h xs) (kept i xs) ≡ Some y
+  filter_map-at [] i x y at some = absurd cc
+  filter_map-at (z ∷ zs) zero x y at some = let same : z ≡ x = cc in rw (same, some) refl
+  filter_map-at (z ∷ zs) (suc i) x y at some = cons-get (h z) zs i y (filter_map-at zs i x y at some)
+
+  -- where a kept element comes from
+  pub record Origin (xs : List X) (k : ℕ) (y : Y) : Type 0 where
+    pub place : ℕ
+    pub element : X
+    pub at : slice_get xs place ≡ Some element
+    pub gives : h element ≡ Some y
+    pub before : kept place xs ≡ k
+
+  origin-head : (x : X) (xs : List X) (o : Option Y) → h x ≡ o → (k : ℕ) (y : Y) → ((k : ℕ) → slice_get (filter_map h xs) k ≡ Some y → Origin xs k y)
+      → slice_get (cons_option o (filter_map h xs)) k ≡ Some y → Origin (x ∷ xs) k y
+  origin-head x xs None e k y rest at = let o = rest k at in record { place = suc o.place; element = o.element; at = o.at; gives = o.gives; before = rw e o.before }
+  origin-head x xs (Some z) e zero y rest at = record { place = zero; element = x; at = refl; gives = e ∙ at; before = refl }
+  origin-head x xs (Some z) e (suc k) y rest at = let o = rest k at in record { place = suc o.place; element = o.element; at = o.at; gives = o.gives; before = rw e (ap suc o.before) }
+
+  pub filter_map-origin : (xs : List X) (k : ℕ) (y : Y) → slice_get (filter_map h xs) k ≡ Some y → Origin xs k y
+  filter_map-origin [] k y at = absurd cc
+  filter_map-origin (x ∷ xs) k y at = origin-head x xs (h x) refl k y (λ k. filter_map-origin xs k y) at

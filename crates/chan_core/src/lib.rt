@@ -1,0 +1,5 @@
+//! One channel.
+#![tactic(auto)]
+
+mod reads;
+mod requests;

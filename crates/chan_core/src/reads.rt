@@ -1,0 +1,36 @@
+// Reads that were accepted and not collected yet.
+ghost use Rattle.std.specs.Prelude.{◌≡◌};
+ghost use Rattle.chan_core.specs.Reads.{IsPlaceOf, Answers};
+
+use line_memory::Line;
+
+/// A read that was accepted and not collected yet.
+#[derive(Clone, Copy, Debug, PartialEq, Eq)]
+pub struct OpenRead {
+    /// Its number among the reads of the channel that waited, from 0.
+    pub serial: u64,
+    /// The line, as the host names it.
+    pub line: u64,
+    /// The line's place in the array of the channel.
+    pub index: u64,
+    /// How many writes were accepted before the read.
+    pub at: u64,
+    /// The line's bytes, once the RD was issued.
+    pub bytes: Option<Line>,
+}
+
+/// Where the read of a serial stands.
+pub fn place_of(reads: &[OpenRead], serial: u64) -> Option<usize>
+    ensures { IsPlaceOf serial reads.now result }
+{
+    reads.iter().position(|read| read.serial == serial)
+}
+
+/// Gives the read of a serial its bytes.
+pub fn answer(reads: &mut [OpenRead], serial: u64, bytes: Line)
+    ensures { Answers serial bytes reads.old reads.new }
+{
+    if let Some(place) = place_of(reads, serial) {
+        reads[place].bytes = Some(bytes);
+    }
+}
