@@ -1,5 +1,5 @@
 -- What `filter_map` keeps of a list from which an element is taken, or in which one changes.
-use Rattle.std.proofs.Common.{◌≡◌, ℕ, zero, suc, ◌+◌, ◌<◌, List, [], ◌∷◌, length, take, set, slice_get, slice_set, remove, Option, Some, None, refl, sym, ap, ◌∙◌, arith}
+use Rattle.std.proofs.Common.{◌≡◌, ℕ, zero, suc, ◌+◌, ◌<◌, List, [], ◌∷◌, ◌≤◌, ◌↔◌, Bool, true, false, IsTrue, subst, length, map, take, set, slice_get, slice_set, remove, Option, Some, None, refl, sym, ap, ◌∙◌, arith}
 use Rattle.std.specs.List.{filter_map, cons_option}
 
 module _ {X Y : Type 0} (h : X → Option Y) where
@@ -55,3 +55,46 @@ module _ {X Y : Type 0} (h : X → Option Y) where
   pub filter_map-origin : (xs : List X) (k : ℕ) (y : Y) → slice_get (filter_map h xs) k ≡ Some y → Origin xs k y
   filter_map-origin [] k y at = absurd cc
   filter_map-origin (x ∷ xs) k y at = origin-head x xs (h x) refl k y (λ k. filter_map-origin xs k y) at
+
+  cons-length : (o : Option Y) (ys : List Y) → length (cons_option o ys) ≤ suc (length ys)
+  cons-length None ys = omega arith
+  cons-length (Some y) ys = omega arith
+
+  cons-less : (o : Option Y) (xs ys : List Y) → length xs ≤ length ys → length (cons_option o xs) ≤ length (cons_option o ys)
+  cons-less None xs ys less = less
+  cons-less (Some y) xs ys less = omega (arith, less)
+
+  pub length-filter_map : (xs : List X) → length (filter_map h xs) ≤ length xs
+  length-filter_map [] = omega arith
+  length-filter_map (x ∷ xs) = omega (arith, cons-length (h x) (filter_map h xs), length-filter_map xs)
+
+  none-kept : (i : ℕ) → kept i [] ≡ 0
+  none-kept zero = refl
+  none-kept (suc i) = refl
+
+  -- no fewer are kept of more
+  pub kept-more : (xs : List X) (i j : ℕ) → i ≤ j → kept i xs ≤ kept j xs
+  kept-more [] i j less = let a : kept i [] ≡ 0 = none-kept i in let b : kept j [] ≡ 0 = none-kept j in omega (arith, a, b)
+  kept-more (x ∷ xs) zero j less = omega arith
+  kept-more (x ∷ xs) (suc i) zero less = absurd (omega (arith, less))
+  kept-more (x ∷ xs) (suc i) (suc j) less = cons-less (h x) (filter_map h (take i xs)) (filter_map h (take j xs)) (kept-more xs i j (omega (arith, less)))
+
+-- f and g do the same to each element
+pub map_alike : {X Y : Type 0} (f g : X → Y) (xs : List X) → ((k : ℕ) (x : X) → slice_get xs k ≡ Some x → f x ≡ g x) → map f xs ≡ map g xs
+map_alike f g [] alike = refl
+map_alike f g (x ∷ xs) alike = let head : f x ≡ g x = alike zero x refl in rw head (ap (λ rest. g x ∷ rest) (map_alike f g xs (λ k y at. alike (suc k) y at)))
+
+-- what stands at a place of a mapped list
+pub map-at : {X Y : Type 0} (f : X → Y) (xs : List X) (k : ℕ) (x : X) → slice_get xs k ≡ Some x → slice_get (map f xs) k ≡ Some (f x)
+map-at f [] k x at = absurd cc
+map-at f (y ∷ ys) zero x at = let same : y ≡ x = cc in rw same refl
+map-at f (y ∷ ys) (suc k) x at = map-at f ys k x at
+
+pub map-from : {X Y : Type 0} (f : X → Y) (xs : List X) (k : ℕ) (y : Y) → slice_get (map f xs) k ≡ Some y → (x : X) × (slice_get xs k ≡ Some x) × (f x ≡ y)
+map-from f [] k y at = absurd cc
+map-from f (x ∷ xs) zero y at = (x, refl, cc)
+map-from f (x ∷ xs) (suc k) y at = map-from f xs k y at
+
+-- what a test that answers no says
+pub refuted : {A : Type 0} (b : Bool) → (IsTrue b ↔ A) → b ≡ false → ¬ A
+refuted b tells is a = let t : b ≡ true = tells.1 a in absurd cc

@@ -20,7 +20,7 @@ pub struct OpenRead {
 }
 
 /// Where the read of a serial stands.
-pub fn place_of(reads: &[OpenRead], serial: u64) -> Option<usize>
+pub fn place_of_serial(reads: &[OpenRead], serial: u64) -> Option<usize>
     ensures { IsPlaceOf serial reads.now result }
 {
     reads.iter().position(|read| read.serial == serial)
@@ -30,7 +30,7 @@ pub fn place_of(reads: &[OpenRead], serial: u64) -> Option<usize>
 pub fn answer(reads: &mut [OpenRead], serial: u64, bytes: Line)
     ensures { Answers serial bytes reads.old reads.new }
 {
-    if let Some(place) = place_of(reads, serial) {
+    if let Some(place) = place_of_serial(reads, serial) {
         reads[place].bytes = Some(bytes);
     }
 }

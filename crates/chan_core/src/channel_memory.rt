@@ -1,0 +1,155 @@
+// What a channel holds: its array, its pending writes and its open reads.
+ghost use Rattle.std.specs.Prelude.{◌≡◌, ◌≢◌, ℕ, ◌+◌, ◌<◌, ◌≤◌, ◌↔◌, [], None, Some, IfOk, IfErr, IsOk, IsTrue, OnOk, OnErr, length, slice_get, vec_capacity};
+ghost use Rattle.line_memory.specs.Memory.{zero_lines};
+ghost use Rattle.ddr4_timing.specs.Limits.{lines_of};
+ghost use Rattle.frfcfs.specs.declared.pending.Pending.{Pending};
+ghost use Rattle.frfcfs.specs.declared.pending.Kind.TheVariants as kinds;
+ghost use Rattle.frfcfs.specs.Requests.{IsEligible, IsQueue};
+ghost use Rattle.wpq_core.specs.Writes.{ComeBefore, IsNewest, NoneNames};
+ghost use Rattle.chan_core.specs.Lines.{place_of, cells_of};
+ghost use Rattle.frfcfs.specs.Places.{LiesIn};
+ghost use Rattle.chan_core.specs.ChannelMemory.{MemoryState, IsChannelMemory, Puts, Gets, Asks, IsFullOfReads, Writes, Reads, memory_of, tickets_of, cell_of, holds};
+
+use crate::answers::{Got, ReadsFull, Ticket};
+use crate::lines::{cells, index_of, place_of};
+use crate::reads::{OpenRead, answer, place_of_serial};
+use crate::requests::{push, take};
+use ddr4_timing::timing::Checked;
+use frfcfs::pending::{Kind, Pending};
+use frfcfs::place::Place;
+use line_memory::{Line, zero};
+use std::alloc::{AllocError, Global};
+use std::marker::Model;
+use wpq_core::{Full, Wpq};
+
+#[derive(Drop)]
+pub struct ChannelMemory {
+    checked: Checked,
+    channel: u64,
+    array: Vec<Line>,
+    queue: Wpq,
+    pending: Vec<Pending>,
+    reads: Vec<OpenRead>,
+    most_reads: usize,
+    serial: u64,
+    hold: Option<u64>,
+}
+
+impl Model for ChannelMemory {
+    ghost Value = { MemoryState };
+
+    ghost view = { λ m. record { checked = m.checked; channel = m.channel; array = m.array.items; queue = m.queue; pending = m.pending.items; reads = m.reads.items; most_reads = m.most_reads; serial = m.serial; hold = m.hold } };
+
+    ghost invariant = { λ m. IsChannelMemory (record { checked = m.checked; channel = m.channel; array = m.array.items; queue = m.queue; pending = m.pending.items; reads = m.reads.items; most_reads = m.most_reads; serial = m.serial; hold = m.hold })
+        × (m.queue.depth + m.most_reads ≤ vec_capacity m.pending) × (m.most_reads ≤ vec_capacity m.reads) };
+}
+
+impl ChannelMemory {
+    pub fn new(
+        alloc: Global,
+        checked: &Checked,
+        channel: u64,
+        depth: usize,
+        reads: usize,
+    ) -> Result<ChannelMemory, AllocError>
+        requires depth { (1 ≤ depth) × (depth ≤ 64) }
+        requires reads { reads ≤ 64 }
+        ensures { IfOk result (λ memory. memory ≡ record { checked = checked.now; channel = channel; array = zero_lines (cells_of checked.now.geometry); queue = record { depth = depth; writes = [] }; pending = []; reads = []; most_reads = reads; serial = 0; hold = None }) }
+    {
+        let mut array = Vec::from_elem(alloc, [0; 64], cells(checked))?;
+        zero(&mut array);
+        Ok(ChannelMemory {
+            checked: *checked,
+            channel,
+            array,
+            queue: Wpq::with_depth(alloc, depth)?,
+            pending: Vec::with_capacity(alloc, depth + reads)?,
+            reads: Vec::with_capacity(alloc, reads)?,
+            most_reads: reads,
+            serial: 0,
+            hold: None,
+        })
+    }
+
+    /// The pending requests, in order of arrival.
+    pub fn pending(&self) -> &[Pending]
+        ensures pending { result.now ≡ self.now.pending }
+        ensures queue { IsQueue self.now.checked.geometry result.now }
+    {
+        &self.pending
+    }
+
+    /// Adds a write behind the others. Refused, `Full`, exactly where the queue holds its depth: nothing changes then.
+    pub fn put(&mut self, number: u64, line: u64, bytes: Line) -> Result<(), Full>
+        requires line { line < lines_of self.old.checked.geometry }
+        requires above { ComeBefore number self.old.queue.writes }
+        ensures puts { OnOk result (Puts self.old number line bytes self.new) }
+        ensures room { IsOk result ↔ (length self.old.queue.writes < self.old.queue.depth) }
+        ensures same { OnErr result (self.new ≡ self.old) }
+    {
+        let place = place_of(&self.checked, line);
+        let index = index_of(&self.checked, &place) as u64;
+        self.queue.try_push(number, index, bytes)?;
+        let held = holds(self.hold, number);
+        push(&mut self.pending, place, index, Kind::Write, number, held);
+        Ok(())
+    }
+
+    // May no further read be open?
+    fn is_full_of_reads(&self) -> bool
+        ensures { IsTrue result ↔ IsFullOfReads self.now }
+    {
+        self.reads.len() == self.most_reads || self.serial == u64::MAX
+    }
+
+    /// Reads a line, after all accepted writes, of which there are `at`. Refused where no further read may be open: nothing
+    /// changes then.
+    pub fn get(&mut self, line: u64, at: u64) -> Result<Got, ReadsFull>
+        requires { line < lines_of self.old.checked.geometry }
+        ensures { Gets self.old line at result self.new }
+    {
+        if self.is_full_of_reads() {
+            return Err(ReadsFull);
+        }
+        let place = place_of(&self.checked, line);
+        let index = index_of(&self.checked, &place) as u64;
+        match self.queue.newest_for(index) {
+            Some(bytes) => Ok(Got::Now(bytes)),
+            None => Ok(Got::Later(self.wait(place, index, line, at))),
+        }
+    }
+
+    // Adds a read behind the others, which waits for its RD.
+    fn wait(&mut self, place: Place, index: u64, line: u64, at: u64) -> Ticket
+        requires room { ¬ IsFullOfReads self.old }
+        requires place { LiesIn self.old.checked.geometry place }
+        requires at_place { place ≡ place_of self.old.checked.geometry line }
+        requires at_index { index ≡ cell_of self.old line }
+        requires within { index < cells_of self.old.checked.geometry }
+        requires none { NoneNames index self.old.queue.writes }
+        ensures ticket { result ≡ record { channel = self.old.channel; serial = self.old.serial } }
+        ensures asks { Asks self.old line at self.new }
+    {
+        let serial = self.serial;
+        push(&mut self.pending, place, index, Kind::Read, serial, false);
+        self.reads.push_reserved(OpenRead {
+            serial,
+            line,
+            index,
+            at,
+            bytes: None,
+        });
+        self.serial += 1;
+        Ticket {
+            channel: self.channel,
+            serial,
+        }
+    }
+}
+
+// Whether a write is held, where those from a number on are.
+fn holds(hold: Option<u64>, number: u64) -> bool
+    ensures { result ≡ holds hold number }
+{
+    hold.is_some_and(|from| number >= from)
+}
