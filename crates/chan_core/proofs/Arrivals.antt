@@ -7,8 +7,9 @@ use Rattle.std.proofs.lemmas.List.Edits.{get_or-remove_below, get_or-remove_abov
 use Rattle.circular_buffer.proofs.Places.{slice_get-append_left, slice_get-last, slice_get-set_same, slice_get-set_other}
 use Rattle.ddr4_timing.specs.declared.timing.Geometry.{Geometry}
 use Rattle.frfcfs.specs.declared.pending.Pending.{Pending}
-use Rattle.frfcfs.specs.declared.pending.Place.{Place}
-use Rattle.frfcfs.specs.Requests.{IsQueue, IsFirst, LiesIn}
+use Rattle.frfcfs.specs.declared.place.Place.{Place}
+use Rattle.frfcfs.specs.Places.{LiesIn}
+use Rattle.frfcfs.specs.Requests.{IsQueue, IsFirst}
 use Rattle.chan_core.specs.Requests.{Request, IsArrivals, IsNumbered, IsOldest, MarksAt, MarksNext, Renumbers, ClosesUp, asked, marked, numbered}
 
 -- an element of a longer list is one of the list, or the last

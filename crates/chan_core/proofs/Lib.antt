@@ -1,2 +1,4 @@
 pub mod Kept
 pub mod Arrivals
+pub mod Digits
+pub mod Geometry

@@ -3,7 +3,7 @@ use Rattle.std.specs.Prelude.{◌≡◌, ◌≢◌, ℕ, ◌<◌, Bool, true, Li
 use Rattle.ddr4_timing.specs.declared.timing.Geometry.{Geometry}
 use Rattle.frfcfs.specs.declared.pending.Kind.{Kind}
 use Rattle.frfcfs.specs.declared.pending.Pending.{Pending}
-use Rattle.frfcfs.specs.declared.pending.Place.{Place}
+use Rattle.frfcfs.specs.declared.place.Place.{Place}
 use Rattle.frfcfs.specs.Requests.{IsQueue}
 
 -- What a request asks for. Its seq and its mark `first` follow from where it stands.

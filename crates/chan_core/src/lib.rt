@@ -1,5 +1,13 @@
 //! One channel.
 #![tactic(auto)]
 
+mod lines;
 mod reads;
 mod requests;
+#[cfg(test)]
+mod tests;
+
+pub use lines::{
+    cells, cells_make_lines, channel_comes_first, each_place_has_a_line, index_of,
+    index_tells_place, indices_are_apart, lines_lie_in, place_of, places_are_apart,
+};

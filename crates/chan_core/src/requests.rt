@@ -3,9 +3,10 @@ ghost use Rattle.std.specs.Prelude.{◌≡◌, ℕ, ◌<◌, ◌↔◌, ◌∷�
 ghost use Rattle.frfcfs.specs.declared.pending.Pending.{Pending};
 ghost use Rattle.ddr4_timing.specs.declared.timing.Geometry.{Geometry};
 ghost use Rattle.chan_core.specs.Requests.{IsArrivals, ClosesUp, MarksNext, NoneNames, Renumbers, asked, request};
-ghost use Rattle.frfcfs.specs.Requests.{LiesIn};
+ghost use Rattle.frfcfs.specs.Places.{LiesIn};
 
-use frfcfs::pending::{Kind, Pending, Place};
+use frfcfs::pending::{Kind, Pending};
+use frfcfs::place::Place;
 
 /// Adds a request behind the others.
 pub fn push(pending: &mut Vec<Pending>, place: Place, line: u64, kind: Kind, number: u64, held: bool)
