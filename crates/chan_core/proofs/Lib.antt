@@ -1,3 +1,5 @@
+pub mod Digits
+pub mod Geometry
 pub mod Kept
 pub mod Arrivals
 pub mod Holding
