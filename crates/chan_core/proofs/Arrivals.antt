@@ -53,7 +53,7 @@ abbrev pub NoneBefore : List Pending → ℕ → ℕ → Type 0
 NoneBefore pending k line = (j : ℕ) (q : Pending) → j < k → slice_get pending j ≡ Some q → q.line ≢ line
 
 -- among numbered requests, the first of its line is the one with none before it
-IsFirst-none : (pending : List Pending) (k : ℕ) (p : Pending) → IsNumbered pending → p.seq ≡ k → IsFirst pending p → NoneBefore pending k p.line
+pub IsFirst-none : (pending : List Pending) (k : ℕ) (p : Pending) → IsNumbered pending → p.seq ≡ k → IsFirst pending p → NoneBefore pending k p.line
 IsFirst-none pending k p numbered seq first j q less at = first j q at (omega (arith, less, seq, numbered j q at))
 
 none-IsFirst : (pending : List Pending) (k : ℕ) (p : Pending) → IsNumbered pending → p.seq ≡ k → NoneBefore pending k p.line → IsFirst pending p

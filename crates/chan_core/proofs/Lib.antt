@@ -3,3 +3,5 @@ pub mod Geometry
 pub mod Kept
 pub mod Arrivals
 pub mod Holding
+pub mod Serving
+pub mod Answering

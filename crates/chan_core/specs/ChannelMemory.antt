@@ -15,8 +15,14 @@ use Rattle.chan_core.specs.declared.reads.OpenRead.{OpenRead}
 use Rattle.chan_core.specs.declared.answers.Got.{Got}
 use Rattle.chan_core.specs.declared.answers.Got.TheVariants.{Now, Later}
 use Rattle.chan_core.specs.declared.answers.ReadsFull.{ReadsFull}
+use Rattle.chan_core.specs.declared.answers.Ticket.{Ticket}
+use Rattle.chan_core.specs.declared.answers.Served.{Served}
+use Rattle.chan_core.specs.declared.answers.Served.TheVariants as served
+use Rattle.chan_core.specs.declared.answers.Collected.{Collected}
+use Rattle.chan_core.specs.declared.answers.Collected.TheVariants as collected
+use Rattle.frfcfs.specs.Requests.{IsEligible}
 use Rattle.chan_core.specs.Lines.{place_of, cells_of, index_of}
-use Rattle.chan_core.specs.Reads.{OpenTicket, ticket_of, Answers}
+use Rattle.chan_core.specs.Reads.{OpenTicket, ticket_of, Answers, IsPlaceOf}
 use Rattle.chan_core.specs.Requests.{Request, IsArrivals, asked, request}
 
 pub record MemoryState : Type 0 where
@@ -143,3 +149,36 @@ pub record Reads (old : MemoryState) (place : ℕ) (p : Pending) (new : MemorySt
   pub same : new ≡ record old { reads = new.reads; pending = new.pending }
   pub answers : Answers p.number (slice_index_or old.array p.line []) old.reads new.reads
   pub pending : requests_of new ≡ remove (requests_of old) place
+
+-- an open read is answered now, and nothing else changes of the open reads
+abbrev pub IsAnswered : ℕ → List OpenTicket → List OpenTicket → Type 0
+IsAnswered serial old new = (i : ℕ) × (t : OpenTicket) × (slice_get old i ≡ Some t) × (t.serial ≡ serial) × (t.answered ≡ false) × (new ≡ slice_set old i (record t { answered = true }))
+
+-- what a service changes of the open reads
+abbrev pub TellsTickets : Served → List OpenTicket → List OpenTicket → Type 0
+TellsTickets (served.Write number) old new = new ≡ old
+TellsTickets (served.Read ticket) old new = IsAnswered ticket.serial old new
+
+-- the request at a place is served, as it is said
+abbrev pub Serves : MemoryState → ℕ → Served → MemoryState → Type 0
+Serves old place (served.Write number) new = (p : Pending) × IsEligible old.pending place p × (p.kind ≡ Write) × (p.number ≡ number) × Writes old place p new
+Serves old place (served.Read ticket) new =
+    (p : Pending) × IsEligible old.pending place p × (p.kind ≡ Read) × (ticket ≡ record { channel = old.channel; serial = p.number }) × Reads old place p new
+
+-- What a ticket gives: the data of an answered read, which goes; nothing yet where the read waits; and else it is unknown.
+abbrev pub Collects : MemoryState → Ticket → Collected → MemoryState → Type 0
+Collects old ticket (collected.Data line bytes at) new =
+    (ticket.channel ≡ old.channel) × (i : ℕ) × (r : OpenRead) × (slice_get old.reads i ≡ Some r) × (r.serial ≡ ticket.serial)
+    × (r.line ≡ line) × (r.at ≡ at) × (r.bytes ≡ Some bytes) × (new ≡ record old { reads = remove old.reads i })
+Collects old ticket collected.Pending new =
+    (ticket.channel ≡ old.channel) × (i : ℕ) × (r : OpenRead) × (slice_get old.reads i ≡ Some r) × (r.serial ≡ ticket.serial) × (r.bytes ≡ None) × (new ≡ old)
+Collects old ticket collected.Unknown new = (ticket.channel ≡ old.channel → IsPlaceOf ticket.serial old.reads None) × (new ≡ old)
+
+-- the request with the mark that a hold gives it
+abbrev pub held_by : Option ℕ → Request → Request
+held_by hold r = record { place = r.place; line = r.line; kind = r.kind; number = r.number; held = is_held hold r.kind r.number }
+
+-- another hold, or none
+pub record HoldsBy (old : MemoryState) (hold : Option ℕ) (new : MemoryState) : Type 0 where
+  pub same : new ≡ record old { pending = new.pending; hold = hold }
+  pub pending : requests_of new ≡ map (held_by hold) (requests_of old)

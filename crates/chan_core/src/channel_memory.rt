@@ -5,12 +5,14 @@ ghost use Rattle.ddr4_timing.specs.Limits.{lines_of};
 ghost use Rattle.frfcfs.specs.declared.pending.Pending.{Pending};
 ghost use Rattle.frfcfs.specs.declared.pending.Kind.TheVariants as kinds;
 ghost use Rattle.frfcfs.specs.Requests.{IsEligible, IsQueue};
-ghost use Rattle.wpq_core.specs.Writes.{ComeBefore, IsNewest, NoneNames};
+ghost use Rattle.wpq_core.specs.Writes.{ComeBefore, IsNewest, NoneNames, Takes};
+ghost use Rattle.wpq_core.specs.declared.queue.PendingWrite.{PendingWrite};
+ghost use Rattle.wpq_core.specs.Queue as queues;
 ghost use Rattle.chan_core.specs.Lines.{place_of, cells_of};
 ghost use Rattle.frfcfs.specs.Places.{LiesIn};
-ghost use Rattle.chan_core.specs.ChannelMemory.{MemoryState, IsChannelMemory, Puts, Gets, Asks, IsFullOfReads, Writes, Reads, memory_of, tickets_of, cell_of, holds};
+ghost use Rattle.chan_core.specs.ChannelMemory.{MemoryState, IsChannelMemory, Puts, Gets, Asks, IsFullOfReads, Collects, IsAnswered, Reads, Serves, TellsTickets, HoldsBy, Writes, memory_of, tickets_of, cell_of, holds};
 
-use crate::answers::{Got, ReadsFull, Ticket};
+use crate::answers::{Collected, Got, ReadsFull, Served, Ticket};
 use crate::lines::{cells, index_of, place_of};
 use crate::reads::{OpenRead, answer, place_of_serial};
 use crate::requests::{push, take};
@@ -119,6 +121,80 @@ impl ChannelMemory {
         }
     }
 
+    /// What there is for a ticket.
+    pub fn collect(&mut self, ticket: Ticket) -> Collected
+        ensures { Collects self.old ticket result self.new }
+    {
+        if ticket.channel != self.channel {
+            return Collected::Unknown;
+        }
+        let Some(place) = place_of_serial(&self.reads, ticket.serial) else {
+            return Collected::Unknown;
+        };
+        let read = self.reads[place];
+        match read.bytes {
+            Some(bytes) => {
+                self.reads.remove(place);
+                Collected::Data {
+                    line: read.line,
+                    bytes,
+                    at: read.at,
+                }
+            }
+            None => Collected::Pending,
+        }
+    }
+
+    /// Serves an eligible request: a write goes into the array, a read gets the bytes of its line there. The memory stays,
+    /// and an open read gets no other bytes than it was to have.
+    pub fn serve(&mut self, place: usize) -> Served
+        requires { (p : Pending) × IsEligible self.old.pending place p }
+        ensures serves { Serves self.old place result self.new }
+        ensures memory { memory_of self.new ≡ memory_of self.old }
+        ensures tickets { TellsTickets result (tickets_of self.old) (tickets_of self.new) }
+    {
+        let request = self.pending[place];
+        match request.kind {
+            Kind::Write => {
+                self.serve_write(place, request);
+                Served::Write {
+                    number: request.number,
+                }
+            }
+            Kind::Read => {
+                self.serve_read(place, request);
+                Served::Read(Ticket {
+                    channel: self.channel,
+                    serial: request.number,
+                })
+            }
+        }
+    }
+
+    fn serve_write(&mut self, place: usize, request: Pending)
+        requires eligible { IsEligible self.old.pending place request }
+        requires kind { request.kind ≡ kinds.Write }
+        ensures writes { Writes self.old place request self.new }
+        ensures memory { memory_of self.new ≡ memory_of self.old }
+        ensures tickets { tickets_of self.new ≡ tickets_of self.old }
+    {
+        take(&mut self.pending, place);
+        let bytes = take_write(&mut self.queue, request.number);
+        self.array[request.line as usize] = bytes;
+    }
+
+    fn serve_read(&mut self, place: usize, request: Pending)
+        requires eligible { IsEligible self.old.pending place request }
+        requires kind { request.kind ≡ kinds.Read }
+        ensures reads { Reads self.old place request self.new }
+        ensures memory { memory_of self.new ≡ memory_of self.old }
+        ensures tickets { IsAnswered request.number (tickets_of self.old) (tickets_of self.new) }
+    {
+        take(&mut self.pending, place);
+        let bytes = self.array[request.line as usize];
+        answer(&mut self.reads, request.number, bytes);
+    }
+
     // Adds a read behind the others, which waits for its RD.
     fn wait(&mut self, place: Place, index: u64, line: u64, at: u64) -> Ticket
         requires room { ¬ IsFullOfReads self.old }
@@ -144,6 +220,20 @@ impl ChannelMemory {
             channel: self.channel,
             serial,
         }
+    }
+}
+
+// Takes a write out that is there.
+fn take_write(queue: &mut Wpq, number: u64) -> Line
+    requires { (i : ℕ) × (w : PendingWrite) × (slice_get queue.old.writes i ≡ Some w) × (w.number ≡ number) }
+    ensures depth { queue.new.depth ≡ queue.old.depth }
+    ensures takes { Takes number queue.old.writes (Some result) queue.new.writes }
+    ensures size { length result ≡ 64 }
+    ensures queue { queues.IsQueue queue.new }
+{
+    match queue.take(number) {
+        Some(bytes) => bytes,
+        None => [0; 64],
     }
 }
 

@@ -1,5 +1,5 @@
 // Reads that were accepted and not collected yet.
-ghost use Rattle.std.specs.Prelude.{◌≡◌};
+ghost use Rattle.std.specs.Prelude.{◌≡◌, vec_capacity};
 ghost use Rattle.chan_core.specs.Reads.{IsPlaceOf, Answers};
 
 use line_memory::Line;
@@ -27,8 +27,9 @@ pub fn place_of_serial(reads: &[OpenRead], serial: u64) -> Option<usize>
 }
 
 /// Gives the read of a serial its bytes.
-pub fn answer(reads: &mut [OpenRead], serial: u64, bytes: Line)
-    ensures { Answers serial bytes reads.old reads.new }
+pub fn answer(reads: &mut Vec<OpenRead>, serial: u64, bytes: Line)
+    ensures answers { Answers serial bytes reads.old.items reads.new.items }
+    ensures capacity { vec_capacity reads.new ≡ vec_capacity reads.old }
 {
     if let Some(place) = place_of_serial(reads, serial) {
         reads[place].bytes = Some(bytes);
