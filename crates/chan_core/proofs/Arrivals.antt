@@ -10,7 +10,8 @@ use Rattle.frfcfs.specs.declared.pending.Pending.{Pending}
 use Rattle.frfcfs.specs.declared.place.Place.{Place}
 use Rattle.frfcfs.specs.Places.{LiesIn}
 use Rattle.frfcfs.specs.Requests.{IsQueue, IsFirst}
-use Rattle.chan_core.specs.Requests.{Request, IsArrivals, IsNumbered, IsOldest, MarksAt, MarksNext, Renumbers, ClosesUp, asked, marked, numbered}
+use Rattle.chan_core.specs.Requests.{Request, IsArrivals, IsNumbered, IsOldest, MarksAt, MarksNext, Reholds, Renumbers, ClosesUp, asked, held_by, marked, marked_held, numbered}
+use Rattle.chan_core.proofs.Kept.{map_both, map_twice}
 
 -- an element of a longer list is one of the list, or the last
 pub record Appended {X : Type 0} (xs : List X) (x : X) (i : ℕ) (y : X) : Type 0 where
@@ -267,3 +268,37 @@ asked-taken pending new i named closes =
     map_same asked new (remove pending i) (length-closed named (remove pending i) new closes)
         (λ k p q s t. let d = closed named (remove pending i) new closes k p s in d.kept ∙ ap asked (one_at (remove pending i) k k d.was q d.at t refl))
     ∙ map-remove asked pending i
+
+held-at : (hold : Option ℕ) (old new : List Pending) → Reholds hold old new → (k : ℕ) (p : Pending) → slice_get new k ≡ Some p → (q : Pending) × (slice_get old k ≡ Some q) × (p ≡ marked_held hold q)
+held-at hold old new r k p at =
+    let within : k < length old = omega (arith, slice_get_within new k p at, r.size) in
+    (get_or old k p, slice_get-get_or old k p within, sym (get_or_from_slice_get new k p p at) ∙ r.each k p within)
+
+held-none : (hold : Option ℕ) (old new : List Pending) → Reholds hold old new → (k line : ℕ) → NoneBefore old k line → NoneBefore new k line
+held-none hold old new r k line none j q less at = let o = held-at hold old new r j q at in subst (λ (n : ℕ). n ≢ line) (sym (ap (λ (x : Pending). x.line) o.2)) (none j o.0 less o.1)
+
+none-held : (hold : Option ℕ) (old new : List Pending) → Reholds hold old new → (k line : ℕ) → NoneBefore new k line → NoneBefore old k line
+none-held hold old new r k line none j q less at =
+    let within : j < length new = omega (arith, slice_get_within old j q at, r.size) in
+    let here = slice_get-get_or new j q within in
+    let o = held-at hold old new r j (get_or new j q) here in
+    subst (λ (n : ℕ). n ≢ line) (ap (λ (x : Pending). x.line) (o.2 ∙ ap (marked_held hold) (one_at old j j o.0 q o.1 at refl))) (none j (get_or new j q) less here)
+
+pub arrivals-hold : (g : Geometry) (hold : Option ℕ) (old new : List Pending) → Reholds hold old new → IsArrivals g old → IsArrivals g new
+arrivals-hold g hold old new r is = arrivals g new
+    (λ k p at. let o = held-at hold old new r k p at in ap (λ (x : Pending). x.seq) o.2 ∙ is.numbered k o.0 o.1)
+    (λ k p at. let o = held-at hold old new r k p at in subst (λ (x : Place). LiesIn g x) (sym (ap (λ (x : Pending). x.place) o.2)) (is.queue.places k o.0 o.1))
+    (λ k p at.
+        let o = held-at hold old new r k p at in
+        let was = right g old is k o.0 o.1 in
+        let line : p.line ≡ o.0.line = ap (λ (x : Pending). x.line) o.2 in
+        let first : p.first ≡ o.0.first = ap (λ (x : Pending). x.first) o.2 in
+        record {
+          only = λ f. subst (λ (n : ℕ). NoneBefore new k n) (sym line) (held-none hold old new r k o.0.line (was.only (subst (λ (b : Bool). IsTrue b) first f)));
+          all = λ n. subst (λ (b : Bool). IsTrue b) (sym first) (was.all (none-held hold old new r k o.0.line (subst (λ (m : ℕ). NoneBefore new k m) line n)));
+        })
+
+pub asked-hold : (hold : Option ℕ) (old new : List Pending) → Reholds hold old new → map asked new ≡ map (held_by hold) (map asked old)
+asked-hold hold old new r =
+    map_both asked (λ (q : Pending). held_by hold (asked q)) new old r.size (λ k p q s t. let o = held-at hold old new r k p s in ap asked (o.2 ∙ ap (marked_held hold) (one_at old k k o.0 q o.1 t refl)))
+    ∙ map_twice (held_by hold) asked old

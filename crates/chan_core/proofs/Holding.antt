@@ -13,9 +13,9 @@ use Rattle.wpq_core.specs.Queue.{Queue, IsQueue}
 use Rattle.wpq_core.specs.Writes.{NoneNames, pending_write}
 use Rattle.chan_core.specs.declared.reads.OpenRead.{OpenRead}
 use Rattle.chan_core.specs.Lines.{cells_of, index_of}
-use Rattle.chan_core.specs.Requests.{Request, IsArrivals, asked, request}
-use Rattle.chan_core.specs.ChannelMemory.{MemoryState, IsChannelMemory, IsFullOfReads, Sound, Serials, requests_of, write_of, read_of, write_key, read_key, queued_key, waiting_key, holds}
-use Rattle.chan_core.proofs.Kept.{filter_map-at, filter_map-origin, length-filter_map, map-at, map-from}
+use Rattle.chan_core.specs.Requests.{Request, IsArrivals, asked, held_by, holds, is_held, request}
+use Rattle.chan_core.specs.ChannelMemory.{MemoryState, IsChannelMemory, IsFullOfReads, Sound, Serials, requests_of, write_of, read_of, write_key, read_key, queued_key, waiting_key}
+use Rattle.chan_core.proofs.Kept.{filter_map-at, filter_map-origin, filter_map-unseen, length-filter_map, map-at, map-from}
 use Rattle.chan_core.proofs.Arrivals.{appended, arrivals}
 use Rattle.line_memory.specs.Memory.{IsMemory}
 
@@ -144,3 +144,25 @@ get-holds s pending reads line at place index is arrivals pending-is reads-is no
 
 pub room : (s : MemoryState) → IsChannelMemory s → ¬ IsFullOfReads s → length s.reads < s.most_reads
 room s is free = let apart : length s.reads ≢ s.most_reads = λ e. free (inl e) in omega (arith, is.few_reads, apart)
+
+pub hold-holds : (s : MemoryState) (hold : Option ℕ) (pending : List Pending) → IsChannelMemory s → IsArrivals s.checked.geometry pending → map asked pending ≡ map (held_by hold) (requests_of s)
+    → IsChannelMemory (record s { pending = pending; hold = hold })
+hold-holds s hold pending is arrivals pending-is = record {
+  array = is.array;
+  queue = is.queue;
+  arrivals = arrivals;
+  sound = λ i r at.
+      let from = map-from (held_by hold) (requests_of s) i r (subst (λ (rs : List Request). slice_get rs i ≡ Some r) pending-is at) in
+      let was = is.sound i from.0 from.1 in
+      subst (λ (x : Request). Sound s.checked.geometry hold x) from.2 (record { line = was.line; place = was.place; held = refl });
+  writes = ap (filter_map write_key) pending-is ∙ filter_map-unseen write_key (held_by hold) (λ r. refl) (requests_of s) ∙ is.writes;
+  waiting = ap (filter_map read_key) pending-is ∙ filter_map-unseen read_key (held_by hold) (λ r. refl) (requests_of s) ∙ is.waiting;
+  serials = is.serials;
+  few_reads = is.few_reads;
+  most = is.most;
+  clear = λ i j w r less at at' kind kind'.
+      let a = map-from (held_by hold) (requests_of s) i w (subst (λ (rs : List Request). slice_get rs i ≡ Some w) pending-is at) in
+      let b = map-from (held_by hold) (requests_of s) j r (subst (λ (rs : List Request). slice_get rs j ≡ Some r) pending-is at') in
+      let apart = is.clear i j a.0 b.0 less a.1 b.1 (ap (λ (x : Request). x.kind) a.2 ∙ kind) (ap (λ (x : Request). x.kind) b.2 ∙ kind') in
+      λ same. apart (ap (λ (x : Request). x.line) a.2 ∙ same ∙ sym (ap (λ (x : Request). x.line) b.2));
+}

@@ -23,7 +23,7 @@ use Rattle.chan_core.specs.declared.answers.Collected.TheVariants as collected
 use Rattle.frfcfs.specs.Requests.{IsEligible}
 use Rattle.chan_core.specs.Lines.{place_of, cells_of, index_of}
 use Rattle.chan_core.specs.Reads.{OpenTicket, ticket_of, Answers, IsPlaceOf}
-use Rattle.chan_core.specs.Requests.{Request, IsArrivals, asked, request}
+use Rattle.chan_core.specs.Requests.{Request, IsArrivals, asked, held_by, holds, is_held, request}
 
 pub record MemoryState : Type 0 where
   pub checked : Checked
@@ -51,11 +51,6 @@ requests_of s = map asked s.pending
 -- the place of a line in the array
 abbrev pub cell_of : MemoryState → ℕ → ℕ
 cell_of s line = index_of s.checked.geometry (place_of s.checked.geometry line)
-
--- writes from a number on are held
-abbrev pub holds : Option ℕ → ℕ → Bool
-holds None number = false
-holds (Some from) number = not (nat_lt number from)
 
 -- a request's number and the place of its line in the array, where it is of this kind
 abbrev pub write_of : Kind → ℕ → ℕ → Option (ℕ × ℕ)
@@ -87,11 +82,6 @@ waiting_key read = waits_for read.bytes read.serial read.index
 pub record Serials (next : ℕ) (reads : List OpenRead) : Type 0 where
   pub rise : (i j : ℕ) (r s : OpenRead) → i < j → slice_get reads i ≡ Some r → slice_get reads j ≡ Some s → r.serial < s.serial
   pub below : (i : ℕ) (r : OpenRead) → slice_get reads i ≡ Some r → r.serial < next
-
--- whether a request is held: a write where writes from its number on are
-abbrev pub is_held : Option ℕ → Kind → ℕ → Bool
-is_held hold Write number = holds hold number
-is_held hold Read number = false
 
 -- what is right of each request
 pub record Sound (g : Geometry) (hold : Option ℕ) (r : Request) : Type 0 where
@@ -173,10 +163,6 @@ Collects old ticket (collected.Data line bytes at) new =
 Collects old ticket collected.Pending new =
     (ticket.channel ≡ old.channel) × (i : ℕ) × (r : OpenRead) × (slice_get old.reads i ≡ Some r) × (r.serial ≡ ticket.serial) × (r.bytes ≡ None) × (new ≡ old)
 Collects old ticket collected.Unknown new = (ticket.channel ≡ old.channel → IsPlaceOf ticket.serial old.reads None) × (new ≡ old)
-
--- the request with the mark that a hold gives it
-abbrev pub held_by : Option ℕ → Request → Request
-held_by hold r = record { place = r.place; line = r.line; kind = r.kind; number = r.number; held = is_held hold r.kind r.number }
 
 -- another hold, or none
 pub record HoldsBy (old : MemoryState) (hold : Option ℕ) (new : MemoryState) : Type 0 where

@@ -1,7 +1,8 @@
 -- The pending requests of a channel, in order of arrival.
-use Rattle.std.specs.Prelude.{◌≡◌, ◌≢◌, ℕ, ◌<◌, Bool, true, List, length, slice_get, slice_set, slice_index_or, Option, Some, None}
+use Rattle.std.specs.Prelude.{◌≡◌, ◌≢◌, ℕ, ◌<◌, Bool, true, false, not, nat_lt, List, length, slice_get, slice_set, slice_index_or, Option, Some, None}
 use Rattle.ddr4_timing.specs.declared.timing.Geometry.{Geometry}
 use Rattle.frfcfs.specs.declared.pending.Kind.{Kind}
+use Rattle.frfcfs.specs.declared.pending.Kind.TheVariants.{Read, Write}
 use Rattle.frfcfs.specs.declared.pending.Pending.{Pending}
 use Rattle.frfcfs.specs.declared.place.Place.{Place}
 use Rattle.frfcfs.specs.Requests.{IsQueue}
@@ -60,3 +61,25 @@ pub record Renumbers (old new : List Pending) : Type 0 where
 -- the oldest request of a line is marked, and all are numbered
 abbrev pub ClosesUp : ℕ → List Pending → List Pending → Type 0
 ClosesUp line old new = (marks : List Pending) × MarksNext line old marks × Renumbers marks new
+
+-- writes from a number on are held
+abbrev pub holds : Option ℕ → ℕ → Bool
+holds None number = false
+holds (Some from) number = not (nat_lt number from)
+
+-- whether a request is held: a write where writes from its number on are
+abbrev pub is_held : Option ℕ → Kind → ℕ → Bool
+is_held hold Write number = holds hold number
+is_held hold Read number = false
+
+-- the request with the mark that a hold gives it
+abbrev pub held_by : Option ℕ → Request → Request
+held_by hold r = record { place = r.place; line = r.line; kind = r.kind; number = r.number; held = is_held hold r.kind r.number }
+
+abbrev pub marked_held : Option ℕ → Pending → Pending
+marked_held hold p = record p { held = is_held hold p.kind p.number }
+
+-- each request has the mark that a hold gives it, and the rest of it is as it was
+pub record Reholds (hold : Option ℕ) (old new : List Pending) : Type 0 where
+  pub size : length new ≡ length old
+  pub each : (k : ℕ) (none : Pending) → k < length old → slice_index_or new k none ≡ marked_held hold (slice_index_or old k none)

@@ -10,12 +10,12 @@ ghost use Rattle.wpq_core.specs.declared.queue.PendingWrite.{PendingWrite};
 ghost use Rattle.wpq_core.specs.Queue as queues;
 ghost use Rattle.chan_core.specs.Lines.{place_of, cells_of};
 ghost use Rattle.frfcfs.specs.Places.{LiesIn};
-ghost use Rattle.chan_core.specs.ChannelMemory.{MemoryState, IsChannelMemory, Puts, Gets, Asks, IsFullOfReads, Collects, IsAnswered, Reads, Serves, TellsTickets, HoldsBy, Writes, memory_of, tickets_of, cell_of, holds};
+ghost use Rattle.chan_core.specs.ChannelMemory.{MemoryState, IsChannelMemory, Puts, Gets, Asks, IsFullOfReads, Collects, IsAnswered, Reads, Serves, TellsTickets, HoldsBy, Writes, memory_of, tickets_of, cell_of};
 
 use crate::answers::{Collected, Got, ReadsFull, Served, Ticket};
 use crate::lines::{cells, index_of, place_of};
 use crate::reads::{OpenRead, answer, place_of_serial};
-use crate::requests::{push, take};
+use crate::requests::{hold, is_held, push, take};
 use ddr4_timing::timing::Checked;
 use frfcfs::pending::{Kind, Pending};
 use frfcfs::place::Place;
@@ -92,7 +92,7 @@ impl ChannelMemory {
         let place = place_of(&self.checked, line);
         let index = index_of(&self.checked, &place) as u64;
         self.queue.try_push(number, index, bytes)?;
-        let held = holds(self.hold, number);
+        let held = is_held(self.hold, Kind::Write, number);
         push(&mut self.pending, place, index, Kind::Write, number, held);
         Ok(())
     }
@@ -195,6 +195,14 @@ impl ChannelMemory {
         answer(&mut self.reads, request.number, bytes);
     }
 
+    /// Holds the writes from a number on, those that come later too; or none.
+    pub fn set_hold(&mut self, from: Option<u64>)
+        ensures { HoldsBy self.old from self.new }
+    {
+        hold(&mut self.pending, from);
+        self.hold = from;
+    }
+
     // Adds a read behind the others, which waits for its RD.
     fn wait(&mut self, place: Place, index: u64, line: u64, at: u64) -> Ticket
         requires room { ¬ IsFullOfReads self.old }
@@ -235,11 +243,4 @@ fn take_write(queue: &mut Wpq, number: u64) -> Line
         Some(bytes) => bytes,
         None => [0; 64],
     }
-}
-
-// Whether a write is held, where those from a number on are.
-fn holds(hold: Option<u64>, number: u64) -> bool
-    ensures { result ≡ holds hold number }
-{
-    hold.is_some_and(|from| number >= from)
 }

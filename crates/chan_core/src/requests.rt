@@ -2,7 +2,7 @@
 ghost use Rattle.std.specs.Prelude.{◌≡◌, ℕ, ◌<◌, ◌↔◌, ◌∷◌, ◌++◌, [], IsTrue, length, map, not, remove, slice_index_or, vec_capacity};
 ghost use Rattle.frfcfs.specs.declared.pending.Pending.{Pending};
 ghost use Rattle.ddr4_timing.specs.declared.timing.Geometry.{Geometry};
-ghost use Rattle.chan_core.specs.Requests.{IsArrivals, ClosesUp, MarksNext, NoneNames, Renumbers, asked, request};
+ghost use Rattle.chan_core.specs.Requests.{IsArrivals, ClosesUp, MarksNext, NoneNames, Reholds, Renumbers, asked, held_by, is_held, request};
 ghost use Rattle.frfcfs.specs.Places.{LiesIn};
 
 use frfcfs::pending::{Kind, Pending};
@@ -72,5 +72,32 @@ fn renumber(pending: &mut [Pending])
 {
     for (seq, p) in pending.iter_mut().enumerate() {
         p.seq = seq as u64;
+    }
+}
+
+/// Whether a request is held, where writes from a number on are.
+pub fn is_held(hold: Option<u64>, kind: Kind, number: u64) -> bool
+    ensures { result ≡ is_held hold kind number }
+{
+    match kind {
+        Kind::Read => false,
+        Kind::Write => hold.is_some_and(|from| number >= from),
+    }
+}
+
+/// Gives each request the mark of a hold.
+pub fn hold(pending: &mut Vec<Pending>, from: Option<u64>)
+    ensures items { map asked pending.new.items ≡ map (held_by from) (map asked pending.old.items) }
+    ensures arrivals { (g : Geometry) → IsArrivals g pending.old.items → IsArrivals g pending.new.items }
+    ensures capacity { vec_capacity pending.new ≡ vec_capacity pending.old }
+{
+    hold_each(pending, from);
+}
+
+fn hold_each(pending: &mut [Pending], from: Option<u64>)
+    ensures { Reholds from pending.old pending.new }
+{
+    for p in pending.iter_mut() {
+        p.held = is_held(from, p.kind, p.number);
     }
 }

@@ -24,7 +24,7 @@ invariant_of-self-2 c =
     let index = c.index_of-index.ensures in (
       put-holds _ c.try_push.new.self c.push.new.pending.items c.args.number c.args.bytes c.place_of-place.result c.index_of-index.result is (c.push.ensures.arrivals _ c.place_of-place.ensures.lies is.arrivals)
           c.try_push.ensures.queue pushed
-          (c.push.ensures.items ∙ ap (λ (held : Bool). map asked c.self.inside.pending.items ++ request c.place_of-place.result c.index_of-index.result Write c.args.number held ∷ []) c.holds-held.ensures) index.within (sym index.is),
+          (c.push.ensures.items ∙ ap (λ (held : Bool). map asked c.self.inside.pending.items ++ request c.place_of-place.result c.index_of-index.result Write c.args.number held ∷ []) c.is_held-held.ensures) index.within (sym index.is),
       omega (arith, c.self.invariant.1, c.push.ensures.capacity, ap (λ (q : Queue). q.depth) pushed),
       c.self.invariant.2,
     )
