@@ -1,0 +1,5 @@
+pub mod GapsTo
+pub mod Profile
+pub mod Ready
+pub mod Rows
+pub mod Turns

@@ -1,0 +1,49 @@
+-- How much time a rank's refresh has left.
+use Rattle.std.specs.Prelude.{ℕ, zero, suc, ◌+◌, ◌*◌, ◌≤◌, ◌<◌, max, ltb, if◌then◌else◌, List, IsTrue}
+use Rattle.ddr4_timing.specs.declared.command.Command.TheVariants.{PreAll, Ref}
+use Rattle.ddr4_timing.specs.declared.command.Stamped.{Stamped}
+use Rattle.ddr4_timing.specs.declared.timing.Timing.{Timing}
+use Rattle.ddr4_timing.specs.declared.timing.Checked.{Checked}
+use Rattle.ddr4_timing.specs.Floors.{floor}
+use Rattle.ddr4_timing.specs.Lawful.{AllClosed, last_ref, ref_count, is_asleep}
+
+-- the most clocks that a PREA waits for the ACT, RD or WR before it
+abbrev pub row_time : Timing → ℕ
+row_time t = max t.t_ras (max t.t_rtp (t.cwl + 4 + t.t_wr))
+
+-- the clock from which eight REF of the rank are owed
+abbrev pub lead_clock : Timing → List Stamped → ℕ → ℕ
+lead_clock t list rank = (ref_count rank list + 8) * t.t_refi
+
+-- at how many places below n a row of numbers is above this one
+unfoldable pub above : (ℕ → ℕ) → ℕ → ℕ → ℕ
+above f most zero = 0
+above f most (suc n) = above f most n + (if ltb most (f n) then 1 else 0)
+
+-- the clocks that other ranks may take before this one: its own number, and one for each rank that had more REF
+abbrev pub turns : Checked → List Stamped → ℕ → ℕ
+turns c list rank = rank + above (λ other. ref_count other list) (ref_count rank list) c.geometry.ranks
+
+-- a rank with an open bank is closed by this clock
+abbrev pub close_clock : Checked → List Stamped → ℕ → ℕ
+close_clock c list rank = lead_clock c.timing list rank + row_time c.timing + turns c list rank
+
+-- and refreshed by this one
+abbrev pub refresh_clock : Checked → List Stamped → ℕ → ℕ
+refresh_clock c list rank = close_clock c list rank + c.timing.t_rp
+
+-- The rank's next REF, with the PREA that it needs, still has its time, where the last command went at the clock now.
+pub record HasTime (c : Checked) (list : List Stamped) (now rank : ℕ) : Type 0 where
+  -- no REF was pulled in, and none is to come
+  pub refreshed : ref_count rank list * c.timing.t_refi ≤ last_ref rank list
+  pub past : last_ref rank list ≤ now
+  -- a REF may go by its clock
+  pub next : now + 1 ≤ refresh_clock c list rank
+  pub refresh : floor c.timing list (Ref rank) ≤ refresh_clock c list rank
+  -- so may a PREA by its own, where a bank is open
+  pub close : floor c.timing list (PreAll rank) ≤ max (now + 1) (lead_clock c.timing list rank + row_time c.timing)
+  pub opened : ¬ AllClosed c.geometry rank list → now + 1 ≤ close_clock c list rank
+
+-- Each rank that is awake has its time.
+abbrev pub KeepsMargin : Checked → List Stamped → ℕ → Type 0
+KeepsMargin c list now = (rank : ℕ) → rank < c.geometry.ranks → ¬ IsTrue (is_asleep rank list) → HasTime c list now rank
