@@ -1,0 +1,10 @@
+use Rattle.std.proofs.Common.{ℕ, ◌<◌, List}
+use Rattle.bank_core.specs.Stands.{Stands}
+use Rattle.ddr4_timing.specs.declared.command.Command.{Command}
+use Rattle.ddr4_timing.specs.declared.command.Stamped.{Stamped}
+use Rattle.frfcfs.specs.Candidates.{OffersRow}
+use Rattle.frfcfs.specs.declared.pending.Pending.{Pending}
+use Rattle.frfcfs.proofs.choose.first_row.Given as goal
+
+abbrev pub invariant-loop-i : goal.invariant-loop-i
+invariant-loop-i l = (list : List Stamped) → Stands l.banks list → (k : ℕ) (p : Pending) (cmd : Command) → k < l.i → ¬ OffersRow l.banks.checked list l.pending l.clock k p cmd

@@ -1,0 +1,5 @@
+pub mod Places
+pub mod Requests
+pub mod Candidates
+pub mod Next
+pub mod Parts
