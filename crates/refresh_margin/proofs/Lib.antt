@@ -1,3 +1,5 @@
+pub mod Calm
+pub mod Counts
 pub mod GapsTo
 pub mod Profile
 pub mod Ready
