@@ -1,5 +1,6 @@
 pub mod Calm
 pub mod Counts
+pub mod Due
 pub mod GapsTo
 pub mod Profile
 pub mod Ready
