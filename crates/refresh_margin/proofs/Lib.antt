@@ -5,4 +5,5 @@ pub mod GapsTo
 pub mod Profile
 pub mod Ready
 pub mod Rows
+pub mod Steps
 pub mod Turns
