@@ -2,6 +2,7 @@ pub mod Calm
 pub mod Counts
 pub mod Due
 pub mod GapsTo
+pub mod Others
 pub mod Profile
 pub mod Ready
 pub mod Rows
