@@ -8,3 +8,4 @@ pub mod Ready
 pub mod Rows
 pub mod Steps
 pub mod Turns
+pub mod Whole

@@ -101,7 +101,7 @@ pub record IsLate (c : Checked) (list : List Stamped) (now k rank : ℕ) (x : Co
   pub other : rank_of x ≢ rank
   pub lead : lead_clock c.timing list rank ≤ k
 
-rank_of_offer : (c : Checked) (list : List Stamped) (k first : ℕ) (x : Command) → OffersRank c list k first x → rank_of x ≡ first
+pub rank_of_offer : (c : Checked) (list : List Stamped) (k first : ℕ) (x : Command) → OffersRank c list k first x → rank_of x ≡ first
 rank_of_offer c list k first x o = elim o.kind [ inl e ↦ ap (λ (y : Command). rank_of y) e | inr e ↦ ap (λ (y : Command). rank_of y) e ]
 
 taken_by : (c : Checked) (list : List Stamped) (now k rank : ℕ) (x cmd : Command) → IsLate c list now k rank x → k ≤ refresh_clock c list rank → OffersRank c list k rank cmd → IsServed c list now k rank x
@@ -154,3 +154,40 @@ late_open c list now k rank x h some =
         | inr t ↦ omega (arith, t, more)
       ]
     ]
+
+more_turns_closed : (k lead g s s' lead' p : ℕ) → k ≤ lead + g + s + p → s + 1 ≤ s' → lead' ≡ lead → k + 1 ≤ lead' + g + s' + p
+more_turns_closed k lead g s s' lead' p h l e = omega arith
+
+late_next : (c : Checked) (list : List Stamped) (now k rank : ℕ) (x : Command) → IsLate c list now k rank x → k + 1 ≤ refresh_clock c (with_command list k x) rank
+late_next c list now k rank x h =
+    let e = ref_of_other rank x h.other in
+    let more = close_more c list k rank x e in
+    elim (closed_or c.geometry rank list) [
+      | inr some ↦ let l = late_open c list now k rank x h some in omega (arith, l)
+      | inl closed ↦ elim (late_closed c list now k rank x h closed) [
+        | inl l ↦ omega (arith, l, more)
+        | inr s ↦ elim (taken c list now k rank s.0 x s.1) [
+          | inl t ↦ more_turns_closed k (lead_clock c.timing list rank) (row_time c.timing) (turns c list rank) (turns c (with_command list k x) rank) (lead_clock c.timing (with_command list k x) rank) c.timing.t_rp s.1.clock t (lead_same c.timing rank k list x e)
+          | inr t ↦ omega (arith, t, more)
+        ]
+      ]
+    ]
+
+wait : (k gap most : ℕ) → gap ≤ 1 → k + 1 ≤ most → k + gap ≤ most
+wait k gap most h l = omega arith
+
+wait_close : (k gap lead : ℕ) → gap ≤ 1 → k + gap ≤ max (k + 1) lead
+wait_close k gap lead h = omega arith
+
+pub late : (c : Checked) (list : List Stamped) (now k rank : ℕ) (x : Command) → IsLate c list now k rank x → HasTime c (with_command list k x) k rank
+late c list now k rank x h =
+    let next = late_next c list now k rank x h in
+    calm_time c list now k rank x (record {
+      time = h.up.time;
+      from = h.step.from;
+      other = ref_of_other rank x h.other;
+      next = next;
+      refresh = wait k (most_gap c.timing x (Ref rank)) _ (most_gap-Ref_other c.timing x rank h.other) next;
+      close = wait_close k (most_gap c.timing x (PreAll rank)) _ (most_gap-PreAll_other c.timing x rank h.other);
+      opened = λ some. late_open c list now k rank x h (λ closed. some (closed_push c.geometry rank list (record { clock = k; cmd = x }) (act_of_other rank x h.other) closed));
+    })

@@ -1,0 +1,143 @@
+-- A whole step of the scheduler keeps the margin.
+use Rattle.std.proofs.Common.{◌≡◌, ◌≢◌, ℕ, ◌+◌, ◌*◌, ◌≤◌, ◌<◌, ◌⊎◌, ◌^◌, Bool, true, false, List, [], ◌∷◌, ◌++◌, length, take, IsTrue, Option, Some, None, inl, inr, arith, refl, sym, subst, ap, ◌∙◌}
+use Rattle.std.specs.Prelude.{max, ◌||◌}
+use Rattle.std.proofs.lemmas.Bool.{cases_lt, cases_eq}
+use Rattle.std.proofs.Math.Seq.{take-append_seam}
+use Rattle.ddr4_timing.specs.declared.command.Command.{Command}
+use Rattle.ddr4_timing.specs.declared.command.Command.TheVariants.{Act, Rd, Wr, Pre, PreAll, Ref, Sre}
+use Rattle.ddr4_timing.specs.declared.command.Stamped.{Stamped}
+use Rattle.ddr4_timing.specs.declared.timing.Checked.{Checked}
+use Rattle.ddr4_timing.specs.Command.{rank_of, is_ref, is_ref_of, is_sre_of}
+use Rattle.ddr4_timing.specs.Gaps.{most_gap}
+use Rattle.ddr4_timing.specs.Lawful.{AllClosed, IsLawful, ref_count, is_asleep}
+use Rattle.ddr4_timing.proofs.FloorLemmas.{is_asleep_push}
+use Rattle.ddr4_timing.proofs.Ready.{ready_lawful, IsLawful-take}
+use Rattle.bank_core.specs.Stands.{with_command}
+use Rattle.frfcfs.specs.declared.pending.Kind.{Kind}
+use Rattle.frfcfs.specs.declared.pending.Kind.TheVariants.{Read, Write}
+use Rattle.frfcfs.specs.declared.pending.Pending.{Pending}
+use Rattle.frfcfs.specs.declared.place.Place.{Place}
+use Rattle.frfcfs.specs.declared.choice.Turn.{Turn}
+use Rattle.frfcfs.specs.declared.choice.Turn.TheVariants.{Rank, Column, Row}
+use Rattle.frfcfs.specs.declared.choice.Choice.{Choice}
+use Rattle.frfcfs.specs.declared.choice.Next.{Next}
+use Rattle.frfcfs.specs.Requests.{column_of, act_of, pre_of}
+use Rattle.frfcfs.specs.Candidates.{IsInLead, OffersRank, OffersColumn, OffersRow, IsCandidate, IsNotAfter, IsLeast}
+use Rattle.frfcfs.specs.Next.{IsFirstFrom, HasCandidate, IsNext}
+use Rattle.refresh_margin.specs.Margin.{lead_clock, HasTime, KeepsMargin}
+use Rattle.refresh_margin.proofs.Counts.{ref_of_calm, ref_of_other}
+use Rattle.refresh_margin.proofs.Due.{IsUp, in_lead}
+use Rattle.refresh_margin.proofs.GapsTo.{most_gap-Ref_calm, most_gap-Ref_other}
+use Rattle.refresh_margin.proofs.Others.{IsLate, late, rank_of_offer}
+use Rattle.refresh_margin.proofs.Steps.{IsStep, early, own_close, own_ref}
+
+-- the next command of the scheduler, as far as refreshes go
+
+rank_of_column : (kind : Kind) (p : Place) → rank_of (column_of kind p) ≡ p.rank
+rank_of_column Read p = refl
+rank_of_column Write p = refl
+
+ref_of_column : (kind : Kind) (p : Place) → is_ref (column_of kind p) ≡ false
+ref_of_column Read p = refl
+ref_of_column Write p = refl
+
+-- a command of a request whose rank isn't in lead
+abbrev pub IsCalm : Checked → List Stamped → ℕ → Command → Type 0
+IsCalm c list k x = (¬ IsInLead c.timing list k (rank_of x)) × (is_ref x ≡ false)
+
+calm_as : (c : Checked) (list : List Stamped) (k rank : ℕ) (x y : Command) → x ≡ y → rank_of y ≡ rank → is_ref y ≡ false → (¬ IsInLead c.timing list k rank) → IsCalm c list k x
+calm_as c list k rank x y e r n h =
+    (subst (λ (q : ℕ). ¬ IsInLead c.timing list k q) (sym (ap (λ (z : Command). rank_of z) e ∙ r)) h, ap (λ (z : Command). is_ref z) e ∙ n)
+
+source : (c : Checked) (list : List Stamped) (pending : List Pending) (k : ℕ) (turn : Turn) (x : Command) → IsCandidate c list pending k turn x → ((rank : ℕ) × OffersRank c list k rank x) ⊎ IsCalm c list k x
+source c list pending k (Rank rank) x o = inl (rank, o)
+source c list pending k (Column i) x o = let h = o.1.hits in inr (calm_as c list k o.0.place.rank x (column_of o.0.kind o.0.place) h.kind (rank_of_column o.0.kind o.0.place) (ref_of_column o.0.kind o.0.place) h.rests)
+source c list pending k (Row i) x o =
+    let h = o.1.opens in
+    inr (elim h.kind [
+      | inl e ↦ calm_as c list k o.0.place.rank x (act_of o.0.place) e refl refl h.rests
+      | inr e ↦ calm_as c list k o.0.place.rank x (pre_of o.0.place) e.0 refl refl h.rests
+    ])
+
+lawful_of : (c : Checked) (list : List Stamped) (pending : List Pending) (k : ℕ) (turn : Turn) (x : Command) → IsCandidate c list pending k turn x → IsLawful c (with_command list k x)
+lawful_of c list pending k (Rank rank) x o = o.lawful
+lawful_of c list pending k (Column i) x o = o.1.hits.lawful
+lawful_of c list pending k (Row i) x o = o.1.opens.lawful
+
+first_of_ranks : (c : Checked) (list : List Stamped) (pending : List Pending) (k rank : ℕ) (turn : Turn) (x : Command) → IsCandidate c list pending k turn x → IsNotAfter pending turn (Rank rank) → (first : ℕ) × (first ≤ rank) × OffersRank c list k first x
+first_of_ranks c list pending k rank (Rank first) x o l = (first, l, o)
+first_of_ranks c list pending k rank (Column i) x o l = absurd l
+first_of_ranks c list pending k rank (Row i) x o l = absurd l
+
+pub step_of : (c : Checked) (list : List Stamped) (pending : List Pending) (now : ℕ) (next : Next) → IsNext c list pending now (Some next) → IsStep c list now next.clock next.choice.cmd
+step_of c list pending now next h =
+    let k = next.clock in
+    let turn = next.choice.turn in
+    let x = next.choice.cmd in
+    let o = h.1.candidate in
+    record {
+      lawful = lawful_of c list pending k turn x o;
+      from = h.0.0;
+      sooner = λ rank j cmd a b r. h.0.3 j a b (Rank rank, cmd, r);
+      least = λ rank cmd r. first_of_ranks c list pending k rank turn x o (h.1.least (Rank rank) cmd r);
+      source = source c list pending k turn x o;
+    }
+
+-- each rank that is awake afterwards was awake before
+
+asleep_push : (b d : Bool) → IsTrue b → IsTrue (b || d)
+asleep_push true d h = h
+asleep_push false d h = absurd cc
+
+awake_before : (list : List Stamped) (k rank : ℕ) (x : Command) → (¬ IsTrue (is_asleep rank (with_command list k x))) → ¬ IsTrue (is_asleep rank list)
+awake_before list k rank x h a = h (rw (is_asleep_push rank list (record { clock = k; cmd = x })) (asleep_push (is_asleep rank list) (is_sre_of rank x) a))
+
+lawful_before : (c : Checked) (list : List Stamped) (x : Stamped) → IsLawful c (list ++ x ∷ []) → IsLawful c list
+lawful_before c list x h = subst (λ (l : List Stamped). IsLawful c l) (take-append_seam list (x ∷ [])) (IsLawful-take c (list ++ x ∷ []) (length list) h)
+
+up_of : (c : Checked) (list : List Stamped) (now rank : ℕ) → KeepsMargin c list now → IsLawful c list → rank < c.geometry.ranks → (¬ IsTrue (is_asleep rank list)) → IsUp c list now rank
+up_of c list now rank m h l a = record { lawful = h; within = l; awake = a; time = m rank l a }
+
+up_from_offer : (c : Checked) (list : List Stamped) (now k rank : ℕ) (x : Command) → KeepsMargin c list now → IsLawful c list → OffersRank c list k rank x → IsUp c list now rank
+up_from_offer c list now k rank x m h o =
+    let e : rank_of x ≡ rank = elim o.kind [ inl e ↦ ap (λ (y : Command). rank_of y) e | inr e ↦ ap (λ (y : Command). rank_of y) e ] in
+    up_of c list now rank m h o.within (subst (λ (r : ℕ). ¬ IsTrue (is_asleep r list)) e (ready_lawful c list (record { clock = k; cmd = x }) o.lawful).rows.awake)
+
+own_turn : (c : Checked) (list : List Stamped) (now k rank : ℕ) (x : Command) → IsUp c list now rank → IsStep c list now k x → OffersRank c list k rank x → HasTime c (with_command list k x) k rank
+own_turn c list now k rank x u s o =
+    elim o.kind [
+      | inl e ↦ subst (λ (y : Command). HasTime c (with_command list k y) k rank) (sym e) (own_ref c list now k rank u (subst (λ (y : Command). IsStep c list now k y) e s))
+      | inr e ↦ subst (λ (y : Command). HasTime c (with_command list k y) k rank) (sym e) (own_close c list now k rank u (subst (λ (y : Command). IsStep c list now k y) e s))
+    ]
+
+small_gap : (gap p : ℕ) → gap ≤ 1 → gap ≤ max 1 p
+small_gap gap p h = omega arith
+
+step_rank : (c : Checked) (list : List Stamped) (now k rank : ℕ) (x : Command) → KeepsMargin c list now → IsLawful c list → IsStep c list now k x → IsUp c list now rank → HasTime c (with_command list k x) k rank
+step_rank c list now k rank x m lawful s u =
+    elim (cases_eq (rank_of x) rank) [
+      | inl same ↦ elim s.source [
+        | inl o ↦ own_turn c list now k rank x u s (subst (λ (r : ℕ). OffersRank c list k r x) (sym (rank_of_offer c list k o.0 x o.1) ∙ same) o.1)
+        | inr calm ↦ elim (cases_lt k (lead_clock c.timing list rank)) [
+          | inl l ↦ early c list now k rank x u.time s.from (ref_of_calm rank x calm.1) (most_gap-Ref_calm c.timing x rank calm.1) l
+          | inr g ↦ absurd (calm.0 (subst (λ (r : ℕ). IsInLead c.timing list k r) (sym same) (in_lead c list rank k g)))
+        ]
+      ]
+      | inr other ↦ elim (cases_lt k (lead_clock c.timing list rank)) [
+        | inl l ↦ early c list now k rank x u.time s.from (ref_of_other rank x other) (small_gap (most_gap c.timing x (Ref rank)) c.timing.t_rp (most_gap-Ref_other c.timing x rank other)) l
+        | inr g ↦ late c list now k rank x (record { up = u; others = λ first o. up_from_offer c list now k first x m lawful o; step = s; other = other; lead = g })
+      ]
+    ]
+
+pub step_keeps : (c : Checked) (list : List Stamped) (pending : List Pending) (now : ℕ) (next : Next) → KeepsMargin c list now → IsNext c list pending now (Some next) → KeepsMargin c (with_command list next.clock next.choice.cmd) next.clock
+step_keeps c list pending now next m h rank within awake =
+    let s = step_of c list pending now next h in
+    let k = next.clock in
+    let x = next.choice.cmd in
+    let lawful = lawful_before c list (record { clock = k; cmd = x }) s.lawful in
+    step_rank c list now k rank x m lawful s (up_of c list now rank m lawful within (awake_before list k rank x awake))
+
+-- where a rank is awake, a candidate comes
+
+early_enough : (n t g p r rank a now last : ℕ) → n * t ≤ last → last ≤ now → now < 2 ^ 62 → t ≤ 1000000 → g + p + 2 * r ≤ t → rank < r → a ≤ r → (n + 8) * t + g + (rank + a) + p < 2 ^ 63
+early_enough n t g p r rank a now last h l m s f w b = omega arith
