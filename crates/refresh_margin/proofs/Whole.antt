@@ -1,15 +1,17 @@
 -- A whole step of the scheduler keeps the margin.
-use Rattle.std.proofs.Common.{◌≡◌, ◌≢◌, ℕ, ◌+◌, ◌*◌, ◌≤◌, ◌<◌, ◌⊎◌, ◌^◌, Bool, true, false, List, [], ◌∷◌, ◌++◌, length, take, IsTrue, Option, Some, None, inl, inr, arith, refl, sym, subst, ap, ◌∙◌}
+use Rattle.std.proofs.Common.{◌≡◌, ◌≢◌, ℕ, ◌+◌, ◌*◌, ◌≤◌, ◌<◌, ◌⊎◌, ◌^◌, ◌↔◌, Bool, true, false, List, [], ◌∷◌, ◌++◌, length, take, IsTrue, Option, Some, None, inl, inr, arith, refl, sym, subst, ap, ◌∙◌}
 use Rattle.std.specs.Prelude.{max, ◌||◌}
 use Rattle.std.proofs.lemmas.Bool.{cases_lt, cases_eq}
 use Rattle.std.proofs.Math.Seq.{take-append_seam}
 use Rattle.ddr4_timing.specs.declared.command.Command.{Command}
 use Rattle.ddr4_timing.specs.declared.command.Command.TheVariants.{Act, Rd, Wr, Pre, PreAll, Ref, Sre}
 use Rattle.ddr4_timing.specs.declared.command.Stamped.{Stamped}
+use Rattle.ddr4_timing.specs.declared.timing.Geometry.{Geometry}
 use Rattle.ddr4_timing.specs.declared.timing.Checked.{Checked}
 use Rattle.ddr4_timing.specs.Command.{rank_of, is_ref, is_ref_of, is_sre_of}
+use Rattle.ddr4_timing.specs.Floors.{floor}
 use Rattle.ddr4_timing.specs.Gaps.{most_gap}
-use Rattle.ddr4_timing.specs.Lawful.{AllClosed, IsLawful, ref_count, is_asleep}
+use Rattle.ddr4_timing.specs.Lawful.{AllClosed, IsInGeometry, IsLawful, last_ref, ref_count, is_asleep}
 use Rattle.ddr4_timing.proofs.FloorLemmas.{is_asleep_push}
 use Rattle.ddr4_timing.proofs.Ready.{ready_lawful, IsLawful-take}
 use Rattle.bank_core.specs.Stands.{with_command}
@@ -24,11 +26,14 @@ use Rattle.frfcfs.specs.declared.choice.Next.{Next}
 use Rattle.frfcfs.specs.Requests.{column_of, act_of, pre_of}
 use Rattle.frfcfs.specs.Candidates.{IsInLead, OffersRank, OffersColumn, OffersRow, IsCandidate, IsNotAfter, IsLeast}
 use Rattle.frfcfs.specs.Next.{IsFirstFrom, HasCandidate, IsNext}
-use Rattle.refresh_margin.specs.Margin.{lead_clock, HasTime, KeepsMargin}
+use Rattle.refresh_margin.specs.Margin.{row_time, lead_clock, above, refresh_clock, HasTime, KeepsMargin, AllAsleep}
 use Rattle.refresh_margin.proofs.Counts.{ref_of_calm, ref_of_other}
-use Rattle.refresh_margin.proofs.Due.{IsUp, in_lead}
+use Rattle.refresh_margin.proofs.Due.{IsUp, in_lead, ref_from, close_from, ref_from-le, close_from-le, ref_due, close_due}
 use Rattle.refresh_margin.proofs.GapsTo.{most_gap-Ref_calm, most_gap-Ref_other}
 use Rattle.refresh_margin.proofs.Others.{IsLate, late, rank_of_offer}
+use Rattle.refresh_margin.proofs.Profile.{Fits, fits}
+use Rattle.refresh_margin.proofs.Rows.{closed_or}
+use Rattle.refresh_margin.proofs.Turns.{above-le}
 use Rattle.refresh_margin.proofs.Steps.{IsStep, early, own_close, own_ref}
 
 -- the next command of the scheduler, as far as refreshes go
@@ -141,3 +146,62 @@ step_keeps c list pending now next m h rank within awake =
 
 early_enough : (n t g p r rank a now last : ℕ) → n * t ≤ last → last ≤ now → now < 2 ^ 62 → t ≤ 1000000 → g + p + 2 * r ≤ t → rank < r → a ≤ r → (n + 8) * t + g + (rank + a) + p < 2 ^ 63
 early_enough n t g p r rank a now last h l m s f w b = omega arith
+
+refresh_early : (c : Checked) (list : List Stamped) (now rank : ℕ) → IsUp c list now rank → now < 2 ^ 62 → refresh_clock c list rank < 2 ^ 63
+refresh_early c list now rank u h =
+    let f = fits c in
+    let others = λ (other : ℕ). ref_count other list in
+    early_enough (ref_count rank list) c.timing.t_refi (row_time c.timing) c.timing.t_rp c.geometry.ranks rank (above others (ref_count rank list) c.geometry.ranks) now (last_ref rank list)
+        u.time.refreshed u.time.past h c.in_limits.t_refi.1 f.row u.within (above-le others (ref_count rank list) c.geometry.ranks)
+
+-- a candidate at a clock from now on, below 2^63
+abbrev pub Comes : Checked → List Stamped → List Pending → ℕ → Type 0
+Comes c list pending now = (k : ℕ) × (now ≤ k) × (k < 2 ^ 63) × HasCandidate c list pending k
+
+left-max : (a b d : ℕ) → a ≤ max a (max b d)
+left-max a b d = omega arith
+
+candidate_comes : (c : Checked) (list : List Stamped) (pending : List Pending) (now rank : ℕ) → IsUp c list now rank → now < 2 ^ 62 → Comes c list pending now
+candidate_comes c list pending now rank u h =
+    let early = refresh_early c list now rank u h in
+    elim (closed_or c.geometry rank list) [
+      | inl closed ↦
+          let l = ref_from-le c list now rank u.time in
+          (ref_from c list now rank, left-max now (floor c.timing list (Ref rank)) (lead_clock c.timing list rank), omega (arith, l, early), (Rank rank, Ref rank, ref_due c list now rank u closed))
+      | inr some ↦
+          let l = close_from-le c list now rank u.time some in
+          (close_from c list now rank, left-max now (floor c.timing list (PreAll rank)) (lead_clock c.timing list rank), omega (arith, l, early), (Rank rank, PreAll rank, close_due c list now rank u some))
+    ]
+
+-- each candidate goes to a rank that is awake
+rank_within : (g : Geometry) (x : Command) → IsInGeometry g x → rank_of x < g.ranks
+rank_within g (Act r group b w) h = h.0
+rank_within g (Rd r group b w) h = h.0
+rank_within g (Wr r group b w) h = h.0
+rank_within g (Pre r group b) h = h.0
+rank_within g (PreAll r) h = h
+rank_within g (Ref r) h = h
+rank_within g (Sre r) h = h
+
+candidate_awake : (c : Checked) (list : List Stamped) (k : ℕ) (x : Command) → IsLawful c (with_command list k x) → ¬ AllAsleep c list
+candidate_awake c list k x h all =
+    let rows = (ready_lawful c list (record { clock = k; cmd = x }) h).rows in
+    rows.awake (all (rank_of x) (rank_within c.geometry x rows.place))
+
+true_or_not : (b : Bool) → IsTrue b ⊎ (¬ IsTrue b)
+true_or_not true = inl refl
+true_or_not false = inr (λ e. absurd cc)
+
+pub none_asleep : (c : Checked) (list : List Stamped) (pending : List Pending) (now : ℕ) → KeepsMargin c list now → IsLawful c list → now < 2 ^ 62 → IsNext c list pending now None → AllAsleep c list
+none_asleep c list pending now m lawful h idle rank within =
+    elim (true_or_not (is_asleep rank list)) [
+      | inl asleep ↦ asleep
+      | inr awake ↦ let e = candidate_comes c list pending now rank (up_of c list now rank m lawful within awake) h in absurd (idle e.0 e.1 e.2 e.3)
+    ]
+
+pub some_awake : (c : Checked) (list : List Stamped) (pending : List Pending) (now : ℕ) (next : Next) → IsNext c list pending now (Some next) → ¬ AllAsleep c list
+some_awake c list pending now next h = candidate_awake c list next.clock next.choice.cmd (lawful_of c list pending next.clock next.choice.turn next.choice.cmd h.1.candidate)
+
+pub none_exactly : (c : Checked) (list : List Stamped) (pending : List Pending) (now : ℕ) (next : Option Next) → KeepsMargin c list now → IsLawful c list → now < 2 ^ 62 → IsNext c list pending now next → ((next ≡ None) ↔ AllAsleep c list)
+none_exactly c list pending now None m lawful h n = (λ _. none_asleep c list pending now m lawful h n, λ _. refl)
+none_exactly c list pending now (Some next) m lawful h n = (λ e. absurd cc, λ all. absurd (some_awake c list pending now next n all))

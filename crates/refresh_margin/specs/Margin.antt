@@ -47,3 +47,7 @@ pub record HasTime (c : Checked) (list : List Stamped) (now rank : ℕ) : Type 0
 -- Each rank that is awake has its time.
 abbrev pub KeepsMargin : Checked → List Stamped → ℕ → Type 0
 KeepsMargin c list now = (rank : ℕ) → rank < c.geometry.ranks → ¬ IsTrue (is_asleep rank list) → HasTime c list now rank
+
+-- Every rank had its SRE.
+abbrev pub AllAsleep : Checked → List Stamped → Type 0
+AllAsleep c list = (rank : ℕ) → rank < c.geometry.ranks → IsTrue (is_asleep rank list)
