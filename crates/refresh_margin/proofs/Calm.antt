@@ -1,17 +1,16 @@
 -- The time of a rank that another command than its own REF leaves.
-use Rattle.std.proofs.Common.{◌≡◌, ◌≢◌, ℕ, ◌+◌, ◌*◌, ◌≤◌, ◌<◌, Bool, true, false, List, arith}
+use Rattle.std.proofs.Common.{◌≡◌, ℕ, ◌+◌, ◌*◌, ◌≤◌, false, List, arith}
 use Rattle.std.specs.Prelude.{max}
 use Rattle.ddr4_timing.specs.declared.command.Command.{Command}
 use Rattle.ddr4_timing.specs.declared.command.Command.TheVariants.{PreAll, Ref}
 use Rattle.ddr4_timing.specs.declared.command.Stamped.{Stamped}
 use Rattle.ddr4_timing.specs.declared.timing.Checked.{Checked}
 use Rattle.ddr4_timing.specs.Command.{is_ref_of}
-use Rattle.ddr4_timing.specs.Floors.{floor}
 use Rattle.ddr4_timing.specs.Gaps.{most_gap}
-use Rattle.ddr4_timing.specs.Lawful.{AllClosed, last_ref, ref_count}
+use Rattle.ddr4_timing.specs.Lawful.{AllClosed}
 use Rattle.ddr4_timing.proofs.FloorLemmas.{floor_push}
 use Rattle.bank_core.specs.Stands.{with_command}
-use Rattle.refresh_margin.specs.Margin.{lead_clock, row_time, turns, close_clock, refresh_clock, HasTime}
+use Rattle.refresh_margin.specs.Margin.{lead_clock, row_time, close_clock, refresh_clock, HasTime}
 use Rattle.refresh_margin.proofs.Counts.{count_same, last_same, lead_same, turns_more}
 
 pub record Calm (c : Checked) (list : List Stamped) (now k rank : ℕ) (x : Command) : Type 0 where

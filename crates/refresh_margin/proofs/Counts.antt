@@ -1,5 +1,5 @@
 -- What one more command does to the counts of refreshes and to the clocks by which a rank is due.
-use Rattle.std.proofs.Common.{◌≡◌, ◌≢◌, ℕ, ◌+◌, ◌*◌, ◌≤◌, ◌<◌, Bool, true, false, cond, eqb, List, [], ◌∷◌, ◌++◌, arith, ap, sym, ◌∙◌, refl, add-zero, subst}
+use Rattle.std.proofs.Common.{◌≡◌, ◌≢◌, ℕ, ◌+◌, ◌*◌, ◌≤◌, ◌<◌, Bool, true, false, cond, eqb, List, arith, ap, ◌∙◌, refl, add-zero}
 use Rattle.std.proofs.lemmas.Bool.{ne_eqb}
 use Rattle.std.proofs.lemmas.Bool.Decides.{nat_tests}
 use Rattle.ddr4_timing.specs.declared.command.Command.{Command}
@@ -11,7 +11,7 @@ use Rattle.ddr4_timing.specs.Command.{rank_of, is_ref, is_ref_of, is_act_of}
 use Rattle.ddr4_timing.specs.Lawful.{last_ref, ref_count}
 use Rattle.ddr4_timing.proofs.FloorLemmas.{last_ref_push, ref_count_push}
 use Rattle.bank_core.specs.Stands.{with_command}
-use Rattle.refresh_margin.specs.Margin.{lead_clock, row_time, above, turns, close_clock, refresh_clock}
+use Rattle.refresh_margin.specs.Margin.{lead_clock, above, turns}
 use Rattle.refresh_margin.proofs.Turns.{above_more, above_new}
 
 eqb-same : (n : ℕ) → eqb n n ≡ true

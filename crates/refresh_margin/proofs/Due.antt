@@ -1,5 +1,5 @@
 -- A rank that has its time offers its REF, or the PREA before it, at the first clock from now that allows it.
-use Rattle.std.proofs.Common.{◌≡◌, ◌≢◌, ℕ, ◌+◌, ◌-◌, ◌*◌, ◌/◌, ◌≤◌, ◌<◌, ◌⊎◌, ◌↔◌, List, IsTrue, inl, inr, arith, refl}
+use Rattle.std.proofs.Common.{ℕ, ◌+◌, ◌*◌, ◌≤◌, ◌<◌, ◌↔◌, List, IsTrue, inl, inr, arith, refl}
 use Rattle.std.specs.Prelude.{max}
 use Rattle.ddr4_timing.specs.declared.command.Command.TheVariants.{PreAll, Ref}
 use Rattle.ddr4_timing.specs.declared.command.Stamped.{Stamped}
@@ -8,7 +8,7 @@ use Rattle.ddr4_timing.specs.Floors.{floor}
 use Rattle.ddr4_timing.specs.Lawful.{AllClosed, IsLawful, last_ref, ref_count, is_asleep}
 use Rattle.frfcfs.specs.Candidates.{IsInLead, OffersRank}
 use Rattle.refresh_margin.specs.Margin.{row_time, lead_clock, above, turns, close_clock, refresh_clock, HasTime}
-use Rattle.refresh_margin.proofs.Profile.{Fits, fits, lead_iff}
+use Rattle.refresh_margin.proofs.Profile.{fits, lead_iff}
 use Rattle.refresh_margin.proofs.Ready.{MayStill, ref_lawful, close_lawful}
 use Rattle.refresh_margin.proofs.Turns.{above-le}
 
@@ -27,7 +27,7 @@ pub refresh-lt : (c : Checked) (list : List Stamped) (rank : ℕ) → rank < c.g
 refresh-lt c list rank l =
     let f = fits c in
     let e = before_next (ref_count rank list) c.timing.t_refi (row_time c.timing) c.timing.t_rp c.geometry.ranks rank
-        (above (λ other. ref_count other list) (ref_count rank list) c.geometry.ranks) f.row l (above-le (λ other. ref_count other list) (ref_count rank list) c.geometry.ranks) in
+    (above (λ other. ref_count other list) (ref_count rank list) c.geometry.ranks) f.row l (above-le (λ other. ref_count other list) (ref_count rank list) c.geometry.ranks) in
     omega (arith, e)
 
 late : (n t k last : ℕ) → n * t ≤ last → k < (n + 9) * t → k ≤ last + 9 * t

@@ -1,5 +1,5 @@
 -- A command to another rank, at a clock at which this one is in lead, leaves it its time.
-use Rattle.std.proofs.Common.{◌≡◌, ◌≢◌, ℕ, ◌+◌, ◌*◌, ◌≤◌, ◌<◌, ◌⊎◌, Bool, true, false, List, [], ◌∷◌, ◌++◌, IsTrue, inl, inr, arith, refl, sym, subst, ap, ◌∙◌}
+use Rattle.std.proofs.Common.{◌≡◌, ◌≢◌, ℕ, ◌+◌, ◌*◌, ◌≤◌, ◌<◌, ◌⊎◌, List, inl, inr, arith, sym, subst, ap, ◌∙◌}
 use Rattle.std.specs.Prelude.{max}
 use Rattle.std.proofs.lemmas.Bool.{cases_lt}
 use Rattle.std.proofs.Math.Nat.{mul-le-mul_right}
@@ -10,15 +10,14 @@ use Rattle.ddr4_timing.specs.declared.timing.Checked.{Checked}
 use Rattle.ddr4_timing.specs.Command.{rank_of}
 use Rattle.ddr4_timing.specs.Floors.{floor}
 use Rattle.ddr4_timing.specs.Gaps.{most_gap}
-use Rattle.ddr4_timing.specs.Lawful.{AllClosed, IsLawful, ref_count}
+use Rattle.ddr4_timing.specs.Lawful.{AllClosed, ref_count}
 use Rattle.bank_core.specs.Stands.{with_command}
 use Rattle.frfcfs.specs.Candidates.{OffersRank}
 use Rattle.refresh_margin.specs.Margin.{row_time, lead_clock, above, turns, close_clock, refresh_clock, HasTime}
 use Rattle.refresh_margin.proofs.Calm.{calm_time, close_more}
 use Rattle.refresh_margin.proofs.Counts.{ref_of_other, act_of_other, lead_same, turns_next}
-use Rattle.refresh_margin.proofs.Due.{IsUp, refresh-lt, from_lead, offers_ref, offers_close, ref_from, close_from, ref_from-le, close_from-le}
+use Rattle.refresh_margin.proofs.Due.{IsUp, refresh-lt, from_lead, offers_ref, offers_close, ref_from-le, close_from-le}
 use Rattle.refresh_margin.proofs.GapsTo.{most_gap-Ref_other, most_gap-PreAll_other}
-use Rattle.refresh_margin.proofs.Profile.{Fits, fits}
 use Rattle.refresh_margin.proofs.Rows.{closed_or, closed_push}
 use Rattle.refresh_margin.proofs.Steps.{IsStep, by_ref_from, by_close_from, own_ref_clock, own_close_clock}
 
@@ -73,7 +72,7 @@ close_taken c list now k rank first h =
     let e = counts c list now k rank first (PreAll first) h in
     let f = λ (other : ℕ). ref_count other list in
     closes_first k (lead_clock c.timing list first) (row_time c.timing) first rank (above f (ref_count first list) c.geometry.ranks) (lead_clock c.timing list rank) (above f (ref_count rank list) c.geometry.ranks)
-        (own_close_clock c list now k first h.first_up h.step) h.below (ap (λ (n : ℕ). (n + 8) * c.timing.t_refi) e) (ap (λ (n : ℕ). above f n c.geometry.ranks) e)
+    (own_close_clock c list now k first h.first_up h.step) h.below (ap (λ (n : ℕ). (n + 8) * c.timing.t_refi) e) (ap (λ (n : ℕ). above f n c.geometry.ranks) e)
 
 lower_ne : (a b : ℕ) → a < b → a ≢ b
 lower_ne a b h e = absurd (omega (arith, h, e))

@@ -1,11 +1,9 @@
 -- What the checks of a profile say of the clocks between two refreshes.
-use Rattle.std.proofs.Common.{◌≡◌, ℕ, zero, suc, ◌+◌, ◌-◌, ◌*◌, ◌/◌, ◌≤◌, ◌<◌, ◌↔◌, arith}
+use Rattle.std.proofs.Common.{ℕ, ◌+◌, ◌-◌, ◌*◌, ◌/◌, ◌≤◌, ◌↔◌, arith}
 use Rattle.std.proofs.Math.Nat.{le-div_iff_mul-le, le-max_left}
 use Rattle.std.specs.Prelude.{max}
-use Rattle.ddr4_timing.specs.declared.timing.Timing.{Timing}
-use Rattle.ddr4_timing.specs.declared.timing.Geometry.{Geometry}
 use Rattle.ddr4_timing.specs.declared.timing.Checked.{Checked}
-use Rattle.ddr4_timing.specs.Limits.{entry_of, close_of}
+use Rattle.ddr4_timing.specs.Limits.{entry_of}
 use Rattle.refresh_margin.specs.Margin.{row_time}
 
 -- what a refresh needs, and more than an interval is left

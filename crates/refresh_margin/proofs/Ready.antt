@@ -1,5 +1,5 @@
 -- When a rank's REF and PREA are lawful.
-use Rattle.std.proofs.Common.{◌≡◌, ◌≢◌, ℕ, zero, suc, ◌+◌, ◌*◌, ◌≤◌, ◌<◌, List, IsTrue, arith}
+use Rattle.std.proofs.Common.{ℕ, ◌+◌, ◌*◌, ◌≤◌, ◌<◌, List, IsTrue, arith}
 use Rattle.std.specs.Prelude.{max}
 use Rattle.ddr4_timing.specs.declared.command.Command.TheVariants.{PreAll, Ref}
 use Rattle.ddr4_timing.specs.declared.command.Stamped.{Stamped}

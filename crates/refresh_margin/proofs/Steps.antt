@@ -1,28 +1,26 @@
 -- One step of the scheduler leaves each rank its time.
-use Rattle.std.proofs.Common.{◌≡◌, ◌≢◌, ℕ, ◌+◌, ◌*◌, ◌≤◌, ◌<◌, ◌⊎◌, Bool, true, false, List, [], ◌∷◌, ◌++◌, IsTrue, inl, inr, arith, refl, sym, subst}
+use Rattle.std.proofs.Common.{◌≡◌, ℕ, ◌+◌, ◌*◌, ◌≤◌, ◌<◌, ◌⊎◌, false, List, inl, inr, arith, refl}
 use Rattle.std.specs.Prelude.{max}
-use Rattle.std.proofs.lemmas.Bool.{cases_lt, cases_eq}
-use Rattle.std.proofs.Math.Nat.{mul-le-mul_right}
+use Rattle.std.proofs.lemmas.Bool.{cases_lt}
 use Rattle.ddr4_timing.specs.declared.command.Command.{Command}
 use Rattle.ddr4_timing.specs.declared.command.Command.TheVariants.{PreAll, Ref}
 use Rattle.ddr4_timing.specs.declared.command.Stamped.{Stamped}
 use Rattle.ddr4_timing.specs.declared.timing.Checked.{Checked}
 use Rattle.ddr4_timing.specs.Command.{rank_of, is_ref, is_ref_of}
-use Rattle.ddr4_timing.specs.Floors.{floor}
 use Rattle.ddr4_timing.specs.Gaps.{most_gap}
-use Rattle.ddr4_timing.specs.Lawful.{AllClosed, IsLawful, KeepsRefresh, last_ref, ref_count, is_asleep}
+use Rattle.ddr4_timing.specs.Lawful.{AllClosed, IsLawful, ref_count}
 use Rattle.ddr4_timing.proofs.Bounds.{most_gap-PreAll}
 use Rattle.ddr4_timing.proofs.FloorLemmas.{floor_push}
 use Rattle.ddr4_timing.proofs.Ready.{ready_lawful, refresh_lawful}
 use Rattle.bank_core.specs.Stands.{with_command}
 use Rattle.frfcfs.specs.Candidates.{IsInLead, OffersRank}
-use Rattle.refresh_margin.specs.Margin.{row_time, lead_clock, above, turns, close_clock, refresh_clock, HasTime}
-use Rattle.refresh_margin.proofs.Calm.{Calm, calm_time, close_more}
-use Rattle.refresh_margin.proofs.Counts.{ref_of_other, ref_of_calm, act_of_other, count_next, last_next, turns_next}
-use Rattle.refresh_margin.proofs.Due.{IsUp, refresh-lt, in_lead, from_lead, offers_ref, offers_close, ref_from, close_from, ref_from-le, close_from-le, ref_due, close_due}
-use Rattle.refresh_margin.proofs.GapsTo.{most_gap-Ref, most_gap-Ref_calm, most_gap-close, most_gap-Ref_other, most_gap-PreAll_other}
-use Rattle.refresh_margin.proofs.Profile.{Fits, fits}
-use Rattle.refresh_margin.proofs.Rows.{closed_or, closed_push, closed_after}
+use Rattle.refresh_margin.specs.Margin.{row_time, lead_clock, turns, close_clock, refresh_clock, HasTime}
+use Rattle.refresh_margin.proofs.Calm.{calm_time, close_more}
+use Rattle.refresh_margin.proofs.Counts.{count_next, last_next}
+use Rattle.refresh_margin.proofs.Due.{IsUp, refresh-lt, ref_from, close_from, ref_from-le, close_from-le, ref_due, close_due}
+use Rattle.refresh_margin.proofs.GapsTo.{most_gap-Ref, most_gap-Ref_calm, most_gap-close}
+use Rattle.refresh_margin.proofs.Profile.{fits}
+use Rattle.refresh_margin.proofs.Rows.{closed_push, closed_after}
 use Rattle.refresh_margin.proofs.Turns.{above-le}
 
 -- The command goes at the first clock from now at which a rank offers one, or sooner, and where a rank offers one then, it is that of a rank no greater.

@@ -1,5 +1,5 @@
 -- A whole step of the scheduler keeps the margin.
-use Rattle.std.proofs.Common.{◌≡◌, ◌≢◌, ℕ, ◌+◌, ◌*◌, ◌≤◌, ◌<◌, ◌⊎◌, ◌^◌, ◌↔◌, Bool, true, false, List, [], ◌∷◌, ◌++◌, length, take, IsTrue, Option, Some, None, inl, inr, arith, refl, sym, subst, ap, ◌∙◌}
+use Rattle.std.proofs.Common.{◌≡◌, ℕ, ◌+◌, ◌*◌, ◌≤◌, ◌<◌, ◌⊎◌, ◌^◌, ◌↔◌, Bool, true, false, List, [], ◌∷◌, ◌++◌, length, IsTrue, Option, Some, None, inl, inr, arith, refl, sym, subst, ap, ◌∙◌}
 use Rattle.std.specs.Prelude.{max, ◌||◌}
 use Rattle.std.proofs.lemmas.Bool.{cases_lt, cases_eq}
 use Rattle.std.proofs.Math.Seq.{take-append_seam}
@@ -8,10 +8,10 @@ use Rattle.ddr4_timing.specs.declared.command.Command.TheVariants.{Act, Rd, Wr, 
 use Rattle.ddr4_timing.specs.declared.command.Stamped.{Stamped}
 use Rattle.ddr4_timing.specs.declared.timing.Geometry.{Geometry}
 use Rattle.ddr4_timing.specs.declared.timing.Checked.{Checked}
-use Rattle.ddr4_timing.specs.Command.{rank_of, is_ref, is_ref_of, is_sre_of}
+use Rattle.ddr4_timing.specs.Command.{rank_of, is_ref, is_sre_of}
 use Rattle.ddr4_timing.specs.Floors.{floor}
 use Rattle.ddr4_timing.specs.Gaps.{most_gap}
-use Rattle.ddr4_timing.specs.Lawful.{AllClosed, IsInGeometry, IsLawful, last_ref, ref_count, is_asleep}
+use Rattle.ddr4_timing.specs.Lawful.{IsInGeometry, IsLawful, last_ref, ref_count, is_asleep}
 use Rattle.ddr4_timing.proofs.FloorLemmas.{is_asleep_push}
 use Rattle.ddr4_timing.proofs.Ready.{ready_lawful, IsLawful-take}
 use Rattle.bank_core.specs.Stands.{with_command}
@@ -21,17 +21,16 @@ use Rattle.frfcfs.specs.declared.pending.Pending.{Pending}
 use Rattle.frfcfs.specs.declared.place.Place.{Place}
 use Rattle.frfcfs.specs.declared.choice.Turn.{Turn}
 use Rattle.frfcfs.specs.declared.choice.Turn.TheVariants.{Rank, Column, Row}
-use Rattle.frfcfs.specs.declared.choice.Choice.{Choice}
 use Rattle.frfcfs.specs.declared.choice.Next.{Next}
 use Rattle.frfcfs.specs.Requests.{column_of, act_of, pre_of}
-use Rattle.frfcfs.specs.Candidates.{IsInLead, OffersRank, OffersColumn, OffersRow, IsCandidate, IsNotAfter, IsLeast}
-use Rattle.frfcfs.specs.Next.{IsFirstFrom, HasCandidate, IsNext}
+use Rattle.frfcfs.specs.Candidates.{IsInLead, OffersRank, IsCandidate, IsNotAfter}
+use Rattle.frfcfs.specs.Next.{HasCandidate, IsNext}
 use Rattle.refresh_margin.specs.Margin.{row_time, lead_clock, above, refresh_clock, HasTime, KeepsMargin, AllAsleep}
 use Rattle.refresh_margin.proofs.Counts.{ref_of_calm, ref_of_other}
 use Rattle.refresh_margin.proofs.Due.{IsUp, in_lead, ref_from, close_from, ref_from-le, close_from-le, ref_due, close_due}
 use Rattle.refresh_margin.proofs.GapsTo.{most_gap-Ref_calm, most_gap-Ref_other}
-use Rattle.refresh_margin.proofs.Others.{IsLate, late, rank_of_offer}
-use Rattle.refresh_margin.proofs.Profile.{Fits, fits}
+use Rattle.refresh_margin.proofs.Others.{late, rank_of_offer}
+use Rattle.refresh_margin.proofs.Profile.{fits}
 use Rattle.refresh_margin.proofs.Rows.{closed_or}
 use Rattle.refresh_margin.proofs.Turns.{above-le}
 use Rattle.refresh_margin.proofs.Steps.{IsStep, early, own_close, own_ref}
@@ -152,7 +151,7 @@ refresh_early c list now rank u h =
     let f = fits c in
     let others = λ (other : ℕ). ref_count other list in
     early_enough (ref_count rank list) c.timing.t_refi (row_time c.timing) c.timing.t_rp c.geometry.ranks rank (above others (ref_count rank list) c.geometry.ranks) now (last_ref rank list)
-        u.time.refreshed u.time.past h c.in_limits.t_refi.1 f.row u.within (above-le others (ref_count rank list) c.geometry.ranks)
+    u.time.refreshed u.time.past h c.in_limits.t_refi.1 f.row u.within (above-le others (ref_count rank list) c.geometry.ranks)
 
 -- a candidate at a clock from now on, below 2^63
 abbrev pub Comes : Checked → List Stamped → List Pending → ℕ → Type 0

@@ -1,7 +1,39 @@
-// What the margin says.
-ghost use Rattle.std.specs.Prelude.{◌≡◌, ℕ};
+// What the margin says of a channel's runs.
+ghost use Rattle.std.specs.Prelude.{◌≡◌, ℕ, ◌+◌, ◌*◌, ◌<◌, ◌≤◌, ◌^◌, ◌↔◌, List, [], Option, Some, None, IsTrue};
+ghost use Rattle.ddr4_timing.specs.Lawful.{IsLawful, is_asleep, last_ref};
+ghost use Rattle.ddr4_timing.specs.Limits.{entry_of, close_of};
+ghost use Rattle.ddr4_timing.specs.declared.command.Stamped.{Stamped};
+ghost use Rattle.ddr4_timing.specs.declared.timing.Checked.{Checked};
+ghost use Rattle.bank_core.specs.Stands.{with_command};
+ghost use Rattle.frfcfs.specs.declared.choice.Next.{Next};
+ghost use Rattle.frfcfs.specs.declared.pending.Pending.{Pending};
+ghost use Rattle.frfcfs.specs.Next.{IsNext};
+ghost use Rattle.refresh_margin.specs.Margin.{KeepsMargin, AllAsleep};
 
-/// A trial.
-pub fn trial()
-    ensures { (a : ℕ) → a ≡ a }
+/// A channel without a command keeps the margin.
+pub fn new_keeps()
+    ensures { (c : Checked) → KeepsMargin c [] 0 }
+{}
+
+/// So does one with the scheduler's next command, whatever the requests are.
+pub fn next_keeps()
+    ensures { (c : Checked) (list : List Stamped) (pending : List Pending) (now : ℕ) (next : Next) → KeepsMargin c list now →
+        IsNext c list pending now (Some next) → KeepsMargin c (with_command list next.clock next.choice.cmd) next.clock }
+{}
+
+/// So does one whose ranks all had their SRE, whatever commands came before: a whole drain.
+pub fn asleep_keeps()
+    ensures { (c : Checked) (list : List Stamped) (now : ℕ) → AllAsleep c list → KeepsMargin c list now }
+{}
+
+/// Where the margin is kept and the clock is below 2^62, there is a next command exactly where a rank is awake.
+pub fn none_exactly()
+    ensures { (c : Checked) (list : List Stamped) (pending : List Pending) (now : ℕ) (next : Option Next) → KeepsMargin c list now →
+        IsLawful c list → now < 2 ^ 62 → IsNext c list pending now next → ((next ≡ None) ↔ AllAsleep c list) }
+{}
+
+/// Where the margin is kept, a drain's close step and two of its entries end before each awake rank's deadline.
+pub fn drain_has_time()
+    ensures { (c : Checked) (list : List Stamped) (now rank : ℕ) → KeepsMargin c list now → rank < c.geometry.ranks → ¬ IsTrue (is_asleep rank list) →
+        now + 1 + close_of c.timing c.geometry + 2 * entry_of c.timing c.geometry + 4 * c.geometry.ranks ≤ last_ref rank list + 9 * c.timing.t_refi }
 {}
