@@ -90,6 +90,9 @@ ref_from-le c list now rank h = by_refresh now (floor c.timing list (Ref rank)) 
 pub close_from-le : (c : Checked) (list : List Stamped) (now rank : ℕ) → HasTime c list now rank → (¬ AllClosed c.geometry rank list) → close_from c list now rank ≤ close_clock c list rank
 close_from-le c list now rank h some = by_close now (floor c.timing list (PreAll rank)) (lead_clock c.timing list rank) (row_time c.timing) (turns c list rank) (h.opened some) h.close
 
+pub from-le : (now f lead : ℕ) → now ≤ max now (max f lead)
+from-le now f lead = omega arith
+
 max_parts : (a b d : ℕ) → (a ≤ max a (max b d)) × (b ≤ max a (max b d)) × (d ≤ max a (max b d))
 max_parts a b d = omega arith
 

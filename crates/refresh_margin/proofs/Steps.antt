@@ -106,22 +106,24 @@ close_gap k gap clock p h l m = omega arith
 one_gap : (k gap lead : ℕ) → gap ≤ 1 → k + gap ≤ max (k + 1) lead
 one_gap k gap lead h = omega arith
 
-pub own_close : (c : Checked) (list : List Stamped) (now k rank : ℕ) → IsUp c list now rank → IsStep c list now k (PreAll rank) → HasTime c (with_command list k (PreAll rank)) k rank
-own_close c list now k rank u s =
+pub after_close : (c : Checked) (list : List Stamped) (now k rank : ℕ) → HasTime c list now rank → now ≤ k → k ≤ close_clock c list rank → HasTime c (with_command list k (PreAll rank)) k rank
+after_close c list now k rank h from clock =
     let more = close_more c list k rank (PreAll rank) refl in
-    let clock = own_close_clock c list now k rank u s in
     let p = (fits c).precharge in
     let gap = most_gap-Ref_calm c.timing (PreAll rank) rank refl in
     let refresh : k + most_gap c.timing (PreAll rank) (Ref rank) ≤ refresh_clock c list rank = close_gap k (most_gap c.timing (PreAll rank) (Ref rank)) (close_clock c list rank) c.timing.t_rp clock gap p in
     calm_time c list now k rank (PreAll rank) (record {
-      time = u.time;
-      from = s.from;
+      time = h;
+      from = from;
       other = refl;
       next = omega (arith, more, clock, p);
       refresh = omega (arith, more, refresh);
       close = one_gap k (most_gap c.timing (PreAll rank) (PreAll rank)) _ (most_gap-close c.timing rank rank);
       opened = λ some. absurd (some (closed_after c.geometry rank k list));
     })
+
+pub own_close : (c : Checked) (list : List Stamped) (now k rank : ℕ) → IsUp c list now rank → IsStep c list now k (PreAll rank) → HasTime c (with_command list k (PreAll rank)) k rank
+own_close c list now k rank u s = after_close c list now k rank u.time s.from (own_close_clock c list now k rank u s)
 
 -- the clocks after a REF, in the new interval: b is the old clock by which it was due
 new_refresh : (f old gap k n t g s p w r b new : ℕ) → f ≡ max old (k + gap) → old ≤ b → k ≤ b → b ≡ (n + 8) * t + g + s + p → gap ≤ max 1 (max p w) → w + p + 2 * r ≤ t → g + p + 2 * r ≤ t → s ≤ 2 * r → 1 ≤ g → (n + 9) * t + g + p ≤ new → f ≤ new

@@ -27,7 +27,7 @@ use Rattle.frfcfs.specs.Candidates.{IsInLead, OffersRank, IsCandidate, IsNotAfte
 use Rattle.frfcfs.specs.Next.{HasCandidate, IsNext}
 use Rattle.refresh_margin.specs.Margin.{row_time, lead_clock, above, refresh_clock, HasTime, KeepsMargin, AllAsleep}
 use Rattle.refresh_margin.proofs.Counts.{ref_of_calm, ref_of_other}
-use Rattle.refresh_margin.proofs.Due.{IsUp, in_lead, ref_from, close_from, ref_from-le, close_from-le, ref_due, close_due}
+use Rattle.refresh_margin.proofs.Due.{IsUp, in_lead, ref_from, close_from, ref_from-le, close_from-le, ref_due, close_due, from-le}
 use Rattle.refresh_margin.proofs.GapsTo.{most_gap-Ref_calm, most_gap-Ref_other}
 use Rattle.refresh_margin.proofs.Others.{late, rank_of_offer}
 use Rattle.refresh_margin.proofs.Profile.{fits}
@@ -157,19 +157,16 @@ refresh_early c list now rank u h =
 abbrev pub Comes : Checked → List Stamped → List Pending → ℕ → Type 0
 Comes c list pending now = (k : ℕ) × (now ≤ k) × (k < 2 ^ 63) × HasCandidate c list pending k
 
-left-max : (a b d : ℕ) → a ≤ max a (max b d)
-left-max a b d = omega arith
-
 candidate_comes : (c : Checked) (list : List Stamped) (pending : List Pending) (now rank : ℕ) → IsUp c list now rank → now < 2 ^ 62 → Comes c list pending now
 candidate_comes c list pending now rank u h =
     let early = refresh_early c list now rank u h in
     elim (closed_or c.geometry rank list) [
       | inl closed ↦
           let l = ref_from-le c list now rank u.time in
-          (ref_from c list now rank, left-max now (floor c.timing list (Ref rank)) (lead_clock c.timing list rank), omega (arith, l, early), (Rank rank, Ref rank, ref_due c list now rank u closed))
+          (ref_from c list now rank, from-le now (floor c.timing list (Ref rank)) (lead_clock c.timing list rank), omega (arith, l, early), (Rank rank, Ref rank, ref_due c list now rank u closed))
       | inr some ↦
           let l = close_from-le c list now rank u.time some in
-          (close_from c list now rank, left-max now (floor c.timing list (PreAll rank)) (lead_clock c.timing list rank), omega (arith, l, early), (Rank rank, PreAll rank, close_due c list now rank u some))
+          (close_from c list now rank, from-le now (floor c.timing list (PreAll rank)) (lead_clock c.timing list rank), omega (arith, l, early), (Rank rank, PreAll rank, close_due c list now rank u some))
     ]
 
 -- each candidate goes to a rank that is awake

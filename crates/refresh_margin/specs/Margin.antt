@@ -5,7 +5,8 @@ use Rattle.ddr4_timing.specs.declared.command.Stamped.{Stamped}
 use Rattle.ddr4_timing.specs.declared.timing.Timing.{Timing}
 use Rattle.ddr4_timing.specs.declared.timing.Checked.{Checked}
 use Rattle.ddr4_timing.specs.Floors.{floor}
-use Rattle.ddr4_timing.specs.Lawful.{AllClosed, last_ref, ref_count, is_asleep}
+use Rattle.ddr4_timing.specs.Lawful.{AllClosed, IsLawful, last_ref, ref_count, is_asleep}
+use Rattle.bank_core.specs.Stands.{with_command}
 
 -- the most clocks that a PREA waits for the ACT, RD or WR before it
 abbrev pub row_time : Timing → ℕ
@@ -47,6 +48,14 @@ pub record HasTime (c : Checked) (list : List Stamped) (now rank : ℕ) : Type 0
 -- Each rank that is awake has its time.
 abbrev pub KeepsMargin : Checked → List Stamped → ℕ → Type 0
 KeepsMargin c list now = (rank : ℕ) → rank < c.geometry.ranks → ¬ IsTrue (is_asleep rank list) → HasTime c list now rank
+
+-- The rank's REF is lawful at some clock from now on; the rules on refresh let it be none past its deadline.
+abbrev pub MayRefresh : Checked → List Stamped → ℕ → ℕ → Type 0
+MayRefresh c list now rank = (k : ℕ) × (now ≤ k) × (k ≤ last_ref rank list + 9 * c.timing.t_refi) × IsLawful c (with_command list k (Ref rank))
+
+-- So is the rank's PREA, and its REF after that.
+abbrev pub MayClose : Checked → List Stamped → ℕ → ℕ → Type 0
+MayClose c list now rank = (k : ℕ) × (now ≤ k) × IsLawful c (with_command list k (PreAll rank)) × MayRefresh c (with_command list k (PreAll rank)) k rank
 
 -- Every rank had its SRE.
 abbrev pub AllAsleep : Checked → List Stamped → Type 0

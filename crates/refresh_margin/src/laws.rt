@@ -1,5 +1,5 @@
 // What the margin says of a channel's runs.
-ghost use Rattle.std.specs.Prelude.{◌≡◌, ℕ, ◌+◌, ◌*◌, ◌<◌, ◌≤◌, ◌^◌, ◌↔◌, List, [], Option, Some, None, IsTrue};
+ghost use Rattle.std.specs.Prelude.{◌≡◌, ℕ, ◌+◌, ◌*◌, ◌<◌, ◌≤◌, ◌^◌, ◌↔◌, ◌⊎◌, List, [], Option, Some, None, IsTrue};
 ghost use Rattle.ddr4_timing.specs.Lawful.{IsLawful, is_asleep, last_ref};
 ghost use Rattle.ddr4_timing.specs.Limits.{entry_of, close_of};
 ghost use Rattle.ddr4_timing.specs.declared.command.Stamped.{Stamped};
@@ -8,7 +8,7 @@ ghost use Rattle.bank_core.specs.Stands.{with_command};
 ghost use Rattle.frfcfs.specs.declared.choice.Next.{Next};
 ghost use Rattle.frfcfs.specs.declared.pending.Pending.{Pending};
 ghost use Rattle.frfcfs.specs.Next.{IsNext};
-ghost use Rattle.refresh_margin.specs.Margin.{KeepsMargin, AllAsleep};
+ghost use Rattle.refresh_margin.specs.Margin.{KeepsMargin, MayRefresh, MayClose, AllAsleep};
 
 /// A channel without a command keeps the margin.
 pub fn new_keeps()
@@ -30,6 +30,12 @@ pub fn asleep_keeps()
 pub fn none_exactly()
     ensures { (c : Checked) (list : List Stamped) (pending : List Pending) (now : ℕ) (next : Option Next) → KeepsMargin c list now →
         IsLawful c list → now < 2 ^ 62 → IsNext c list pending now next → ((next ≡ None) ↔ AllAsleep c list) }
+{}
+
+/// Where the margin is kept, the REF of each awake rank is still to be had before its deadline: at once or after a PREA.
+pub fn refresh_in_time()
+    ensures { (c : Checked) (list : List Stamped) (now rank : ℕ) → KeepsMargin c list now → IsLawful c list → rank < c.geometry.ranks →
+        ¬ IsTrue (is_asleep rank list) → MayRefresh c list now rank ⊎ MayClose c list now rank }
 {}
 
 /// Where the margin is kept, a drain's close step and two of its entries end before each awake rank's deadline.
