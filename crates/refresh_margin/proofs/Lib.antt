@@ -1,7 +1,9 @@
 pub mod Calm
 pub mod Counts
 pub mod Due
+pub mod Ends
 pub mod GapsTo
+pub mod InTime
 pub mod Others
 pub mod Profile
 pub mod Ready

@@ -133,8 +133,8 @@ step_rank c list now k rank x m lawful s u =
       ]
     ]
 
-pub step_keeps : (c : Checked) (list : List Stamped) (pending : List Pending) (now : ℕ) (next : Next) → KeepsMargin c list now → IsNext c list pending now (Some next) → KeepsMargin c (with_command list next.clock next.choice.cmd) next.clock
-step_keeps c list pending now next m h rank within awake =
+pub next_keeps : (c : Checked) (list : List Stamped) (pending : List Pending) (now : ℕ) (next : Next) → KeepsMargin c list now → IsNext c list pending now (Some next) → KeepsMargin c (with_command list next.clock next.choice.cmd) next.clock
+next_keeps c list pending now next m h rank within awake =
     let s = step_of c list pending now next h in
     let k = next.clock in
     let x = next.choice.cmd in
