@@ -55,18 +55,20 @@ calm_as c list k rank x y e r n h =
 
 source : (c : Checked) (list : List Stamped) (pending : List Pending) (k : ℕ) (turn : Turn) (x : Command) → IsCandidate c list pending k turn x → ((rank : ℕ) × OffersRank c list k rank x) ⊎ IsCalm c list k x
 source c list pending k (Rank rank) x o = inl (rank, o)
-source c list pending k (Column i) x o = let h = o.1.hits in inr (calm_as c list k o.0.place.rank x (column_of o.0.kind o.0.place) h.kind (rank_of_column o.0.kind o.0.place) (ref_of_column o.0.kind o.0.place) h.rests)
+source c list pending k (Column i) x o =
+    let p = o.0 in
+    inr (calm_as c list k p.place.rank x (column_of p.kind p.place) o.3.1 (rank_of_column p.kind p.place) (ref_of_column p.kind p.place) o.2.rests)
 source c list pending k (Row i) x o =
-    let h = o.1.opens in
-    inr (elim h.kind [
-      | inl e ↦ calm_as c list k o.0.place.rank x (act_of o.0.place) e refl refl h.rests
-      | inr e ↦ calm_as c list k o.0.place.rank x (pre_of o.0.place) e.0 refl refl h.rests
+    let p = o.0 in
+    inr (elim o.3 [
+      | inl e ↦ calm_as c list k p.place.rank x (act_of p.place) e.1 refl refl o.2.rests
+      | inr e ↦ calm_as c list k p.place.rank x (pre_of p.place) e.2 refl refl o.2.rests
     ])
 
 lawful_of : (c : Checked) (list : List Stamped) (pending : List Pending) (k : ℕ) (turn : Turn) (x : Command) → IsCandidate c list pending k turn x → IsLawful c (with_command list k x)
 lawful_of c list pending k (Rank rank) x o = o.lawful
-lawful_of c list pending k (Column i) x o = o.1.hits.lawful
-lawful_of c list pending k (Row i) x o = o.1.opens.lawful
+lawful_of c list pending k (Column i) x o = o.2.lawful
+lawful_of c list pending k (Row i) x o = o.2.lawful
 
 first_of_ranks : (c : Checked) (list : List Stamped) (pending : List Pending) (k rank : ℕ) (turn : Turn) (x : Command) → IsCandidate c list pending k turn x → IsNotAfter pending turn (Rank rank) → (first : ℕ) × (first ≤ rank) × OffersRank c list k first x
 first_of_ranks c list pending k rank (Rank first) x o l = (first, l, o)
