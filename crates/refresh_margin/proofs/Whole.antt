@@ -24,8 +24,8 @@ use Rattle.frfcfs.specs.declared.choice.Turn.TheVariants.{Rank, Column, Row}
 use Rattle.frfcfs.specs.declared.choice.Next.{Next}
 use Rattle.frfcfs.specs.Requests.{column_of, act_of, pre_of}
 use Rattle.frfcfs.specs.Candidates.{IsInLead, OffersRank, IsCandidate, IsNotAfter}
-use Rattle.frfcfs.specs.Next.{HasCandidate, IsNext}
-use Rattle.refresh_margin.specs.Margin.{row_time, lead_clock, above, refresh_clock, HasTime, KeepsMargin, AllAsleep}
+use Rattle.frfcfs.specs.Next.{HasCandidate, HasWork, IsNext}
+use Rattle.refresh_margin.specs.Margin.{row_time, lead_clock, above, refresh_clock, HasTime, KeepsMargin, AllAsleep, IsIdle}
 use Rattle.refresh_margin.proofs.Counts.{ref_of_calm, ref_of_other}
 use Rattle.refresh_margin.proofs.Due.{IsUp, in_lead, ref_from, close_from, ref_from-le, close_from-le, ref_due, close_due, from-le}
 use Rattle.refresh_margin.proofs.GapsTo.{most_gap-Ref_calm, most_gap-Ref_other}
@@ -203,3 +203,18 @@ some_awake c list pending now next h = candidate_awake c list next.clock next.ch
 pub none_exactly : (c : Checked) (list : List Stamped) (pending : List Pending) (now : ℕ) (next : Option Next) → KeepsMargin c list now → IsLawful c list → now < 2 ^ 62 → IsNext c list pending now next → ((next ≡ None) ↔ AllAsleep c list)
 none_exactly c list pending now None m lawful h n = (λ _. none_asleep c list pending now m lawful h n, λ _. refl)
 none_exactly c list pending now (Some next) m lawful h n = (λ e. absurd cc, λ all. absurd (some_awake c list pending now next n all))
+
+-- where there is work, a next command is missing exactly where every rank is asleep
+pub idle_exactly : (c : Checked) (list : List Stamped) (pending : List Pending) (now : ℕ) (next : Option Next) → KeepsMargin c list now → IsLawful c list → now < 2 ^ 62 → HasWork c list pending now → IsNext c list pending now next →
+    ((next ≡ None) ↔ (IsIdle c list pending now ⊎ (2 ^ 62 ≤ now)))
+idle_exactly c list pending now next m lawful h work n =
+    let e = none_exactly c list pending now next m lawful h n in (
+      λ none. inl (inr (e.0 none)),
+      λ idle. elim idle [
+        | inl rest ↦ elim rest [
+          | inl some ↦ absurd (some work)
+          | inr all ↦ e.1 all
+        ]
+        | inr late ↦ absurd (omega (arith, h, late))
+      ],
+    )

@@ -1,5 +1,5 @@
 -- How much time a rank's refresh has left.
-use Rattle.std.specs.Prelude.{ℕ, zero, suc, ◌+◌, ◌*◌, ◌≤◌, ◌<◌, max, ltb, if◌then◌else◌, List, IsTrue}
+use Rattle.std.specs.Prelude.{ℕ, zero, suc, ◌+◌, ◌*◌, ◌≤◌, ◌<◌, ◌⊎◌, max, ltb, if◌then◌else◌, List, IsTrue}
 use Rattle.ddr4_timing.specs.declared.command.Command.TheVariants.{PreAll, Ref}
 use Rattle.ddr4_timing.specs.declared.command.Stamped.{Stamped}
 use Rattle.ddr4_timing.specs.declared.timing.Timing.{Timing}
@@ -7,6 +7,8 @@ use Rattle.ddr4_timing.specs.declared.timing.Checked.{Checked}
 use Rattle.ddr4_timing.specs.Floors.{floor}
 use Rattle.ddr4_timing.specs.Lawful.{AllClosed, IsLawful, last_ref, ref_count, is_asleep}
 use Rattle.bank_core.specs.Stands.{with_command}
+use Rattle.frfcfs.specs.declared.pending.Pending.{Pending}
+use Rattle.frfcfs.specs.Next.{HasWork}
 
 -- the most clocks that a PREA waits for an ACT, RD or WR of its rank
 abbrev pub row_time : Timing → ℕ
@@ -63,3 +65,7 @@ MayClose c list now rank = (k : ℕ) × (now ≤ k) × IsLawful c (with_command 
 -- Every rank had its SRE.
 abbrev pub AllAsleep : Checked → List Stamped → Type 0
 AllAsleep c list = (rank : ℕ) → rank < c.geometry.ranks → IsTrue (is_asleep rank list)
+
+-- A channel has nothing to send: no request is eligible and no rank is in lead now, or every rank had its SRE.
+abbrev pub IsIdle : Checked → List Stamped → List Pending → ℕ → Type 0
+IsIdle c list pending now = (¬ HasWork c list pending now) ⊎ AllAsleep c list
