@@ -1,3 +1,6 @@
 pub mod Order
-pub mod Turns
+pub mod Wishes
+pub mod Hits
+pub mod Firsts
 pub mod Clocks
+pub mod Nexts

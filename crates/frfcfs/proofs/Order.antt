@@ -49,3 +49,6 @@ eligible_at g pending i d q h f = free_eligible g pending i (get_or pending i d)
 -- a request that its marks don't let be served isn't eligible
 pub never_at : (g : Geometry) (pending : List Pending) (i : ℕ) (p d : Pending) → IsQueue g pending → ¬ IsFree (get_or pending i d) → ¬ IsEligible pending i p
 never_at g pending i p d q n e = n (at_place IsFree pending i p d e.here (eligible_free g pending i p q e))
+
+pub self_no_younger : (pending : List Pending) (i : ℕ) → IsNoYounger pending i i
+self_no_younger pending i p q a b = let n : p.seq ≡ q.seq = ap (λ (x : Pending). x.seq) (same_Some p q (sym a ∙ b)) in omega (arith, n)

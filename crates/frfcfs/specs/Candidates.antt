@@ -28,6 +28,10 @@ pub record SameBank (p q : Place) : Type 0 where
   pub group : p.group ≡ q.group
   pub bank : p.bank ≡ q.bank
 
+-- Another row than the place's is open in its bank.
+abbrev pub IsOtherOpen : List Stamped → Place → Type 0
+IsOtherOpen list place = (row : ℕ) × (row_at list place ≡ Some row) × (row ≢ place.row)
+
 -- No eligible request of the place's bank has the row that is open there.
 abbrev pub IsUnhit : List Stamped → List Pending → Place → Type 0
 IsUnhit list pending place =
@@ -40,35 +44,25 @@ pub record OffersRank (c : Checked) (list : List Stamped) (clock rank : ℕ) (cm
   pub kind : (cmd ≡ Ref rank) ⊎ (cmd ≡ PreAll rank)
   pub lawful : IsLawful c (with_command list clock cmd)
 
--- RD or WR of a request whose row is open and whose rank isn't in lead.
-pub record Hits (c : Checked) (list : List Stamped) (clock : ℕ) (p : Pending) (cmd : Command) : Type 0 where
+-- The request isn't of a rank in lead, and the command is lawful at the clock.
+pub record MayHave (c : Checked) (list : List Stamped) (clock : ℕ) (p : Pending) (cmd : Command) : Type 0 where
   pub rests : ¬ IsInLead c.timing list clock p.place.rank
-  pub hit : row_at list p.place ≡ Some p.place.row
-  pub kind : cmd ≡ column_of p.kind p.place
   pub lawful : IsLawful c (with_command list clock cmd)
 
--- ACT of a request whose bank is closed, or PRE where another row is open that no eligible request hits.
-pub record Opens (c : Checked) (list : List Stamped) (pending : List Pending) (clock : ℕ) (p : Pending) (cmd : Command) : Type 0 where
-  pub rests : ¬ IsInLead c.timing list clock p.place.rank
-  pub miss : row_at list p.place ≢ Some p.place.row
-  pub kind : (cmd ≡ act_of p.place) ⊎ ((cmd ≡ pre_of p.place) × IsUnhit list pending p.place)
-  pub lawful : IsLawful c (with_command list clock cmd)
+-- RD or WR of a request whose row is open.
+abbrev pub WantsColumn : List Stamped → Pending → Command → Type 0
+WantsColumn list p cmd = (row_at list p.place ≡ Some p.place.row) × (cmd ≡ column_of p.kind p.place)
 
--- The column command of the eligible request p at the place i.
-pub record OffersColumn (c : Checked) (list : List Stamped) (pending : List Pending) (clock i : ℕ) (p : Pending) (cmd : Command) : Type 0 where
-  pub eligible : IsEligible pending i p
-  pub hits : Hits c list clock p cmd
-
--- The row command of the eligible request p at the place i.
-pub record OffersRow (c : Checked) (list : List Stamped) (pending : List Pending) (clock i : ℕ) (p : Pending) (cmd : Command) : Type 0 where
-  pub eligible : IsEligible pending i p
-  pub opens : Opens c list pending clock p cmd
+-- ACT of a request whose bank is closed, or PRE where another row is open and no eligible request hits that row.
+abbrev pub WantsRow : List Stamped → List Pending → Pending → Command → Type 0
+WantsRow list pending p cmd =
+    ((row_at list p.place ≡ None) × (cmd ≡ act_of p.place)) ⊎ (IsOtherOpen list p.place × IsUnhit list pending p.place × (cmd ≡ pre_of p.place))
 
 -- The command is a candidate at the clock, in this turn.
 abbrev pub IsCandidate : Checked → List Stamped → List Pending → ℕ → Turn → Command → Type 0
 IsCandidate c list pending clock (Rank rank) cmd = OffersRank c list clock rank cmd
-IsCandidate c list pending clock (Column i) cmd = (p : Pending) × OffersColumn c list pending clock i p cmd
-IsCandidate c list pending clock (Row i) cmd = (p : Pending) × OffersRow c list pending clock i p cmd
+IsCandidate c list pending clock (Column i) cmd = (p : Pending) × IsEligible pending i p × MayHave c list clock p cmd × WantsColumn list p cmd
+IsCandidate c list pending clock (Row i) cmd = (p : Pending) × IsEligible pending i p × MayHave c list clock p cmd × WantsRow list pending p cmd
 
 -- The request at one place isn't younger than the one at another.
 abbrev pub IsNoYounger : List Pending → ℕ → ℕ → Type 0

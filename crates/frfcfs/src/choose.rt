@@ -1,55 +1,24 @@
 // The least candidate at a clock.
-ghost use Rattle.std.specs.Prelude.{◌≡◌, ◌≢◌, ℕ, ◌<◌, ◌≤◌, ◌⊎◌, ◌↔◌, List, Some, IsTrue, IfNone, IfSome};
+ghost use Rattle.std.specs.Prelude.{◌≡◌, ℕ, ◌<◌, ◌⊎◌, List, IfNone, IfSome, length};
 ghost use Rattle.ddr4_timing.specs.declared.command.Stamped.{Stamped};
 ghost use Rattle.ddr4_timing.specs.declared.command.Command.{Command};
 ghost use Rattle.ddr4_timing.specs.declared.command.Command.TheVariants.{Ref, PreAll};
 ghost use Rattle.bank_core.specs.Stands.{Stands, Allows};
+ghost use Rattle.frfcfs.specs.declared.pending.Pending.{Pending};
+ghost use Rattle.frfcfs.specs.declared.choice.Turn.TheVariants.{Rank};
 ghost use Rattle.frfcfs.specs.Places.{LiesIn};
-ghost use Rattle.frfcfs.specs.Requests.{IsQueue, column_of, act_of, pre_of};
-ghost use Rattle.frfcfs.specs.Candidates.{IsUnhit, SameBank, OffersRank, Hits, Opens, IsChoice, Serves, row_at};
-ghost use Rattle.frfcfs.specs.Parts.{IsFirstOf, RankCandidate, ColumnCandidate, RowCandidate};
+ghost use Rattle.frfcfs.specs.Requests.{IsQueue};
+ghost use Rattle.frfcfs.specs.Candidates.{OffersRank, IsChoice, Serves};
+ghost use Rattle.frfcfs.specs.Parts.{AreHits, Names, Takes, OffersAt, Below, IsFirstOf, turn_of};
 
 use crate::choice::{Choice, Turn};
 use crate::pending::Pending;
-use crate::place::Place;
+use crate::wish::{Stage, hit_banks, wish};
 use crate::work::is_in_lead;
 use bank_core::banks::Banks;
 use ddr4_timing::command::Command;
 
-/// Is this row open in the bank of the place?
-pub(crate) fn is_open(banks: &Banks, place: &Place, row: u64) -> bool
-    requires { LiesIn banks.now.checked.geometry place.now }
-    ensures { (list : List Stamped) → Stands banks.now list → (IsTrue result ↔ (row_at list place.now ≡ Some row)) }
-{
-    match banks.open_row(place.rank, place.group, place.bank) {
-        Some(open) => open == row,
-        None => false,
-    }
-}
-
-fn is_same_bank(p: &Place, q: &Place) -> bool
-    ensures { IsTrue result ↔ SameBank p.now q.now }
-{
-    p.rank == q.rank && p.group == q.group && p.bank == q.bank
-}
-
-/// Does no eligible request of the place's bank want the row that is open there?
-pub(crate) fn is_unhit(banks: &Banks, pending: &[Pending], place: &Place) -> bool
-    requires queue { IsQueue banks.now.checked.geometry pending.now }
-    requires place { LiesIn banks.now.checked.geometry place.now }
-    ensures { (list : List Stamped) → Stands banks.now list → (IsTrue result ↔ IsUnhit list pending.now place.now) }
-{
-    for i in 0..pending.len() {
-        if pending[i].is_eligible()
-            && is_same_bank(&pending[i].place, place)
-            && is_open(banks, place, pending[i].place.row)
-        {
-            return false;
-        }
-    }
-    true
-}
-
+// The REF or PREA of a rank in lead.
 fn rank_command(banks: &Banks, rank: u64, clock: u64) -> Option<Command>
     requires { rank < banks.now.checked.geometry.ranks }
     ensures kind { IfSome result (λ cmd. (cmd ≡ Ref rank) ⊎ (cmd ≡ PreAll rank)) }
@@ -71,20 +40,28 @@ fn rank_command(banks: &Banks, rank: u64, clock: u64) -> Option<Command>
     None
 }
 
-fn column_command(banks: &Banks, p: &Pending, clock: u64) -> Option<Command>
+// The command of a request in a stage.
+fn request_command(
+    stage: Stage,
+    banks: &Banks,
+    hits: &[bool; 64],
+    p: &Pending,
+    clock: u64,
+) -> Option<Command>
     requires { LiesIn banks.now.checked.geometry p.now.place }
-    ensures kind { IfSome result (λ cmd. cmd ≡ column_of p.now.kind p.now.place) }
+    ensures names { IfSome result (λ cmd. Names stage p.now cmd) }
     ensures allows { IfSome result (λ cmd. Allows banks.now cmd clock) }
-    ensures some { IfSome result (λ cmd. (list : List Stamped) → Stands banks.now list → Hits banks.now.checked list clock p.now cmd) }
-    ensures none { IfNone result ((list : List Stamped) → Stands banks.now list → (cmd : Command) → ¬ Hits banks.now.checked list clock p.now cmd) }
+    ensures some { IfSome result (λ cmd. (list : List Stamped) (pending : List Pending) → Stands banks.now list
+        → AreHits banks.now.checked.geometry list pending (length pending) hits.now → Takes stage banks.now.checked list pending clock p.now cmd) }
+    ensures none { IfNone result ((list : List Stamped) (pending : List Pending) → Stands banks.now list
+        → AreHits banks.now.checked.geometry list pending (length pending) hits.now → (cmd : Command) → ¬ Takes stage banks.now.checked list pending clock p.now cmd) }
 {
     if is_in_lead(banks, p.place.rank, clock) {
         return None;
     }
-    if !is_open(banks, &p.place, p.place.row) {
+    let Some(cmd) = wish(stage, banks, hits, p) else {
         return None;
-    }
-    let cmd = p.column();
+    };
     if banks.ready(cmd, clock) {
         Some(cmd)
     } else {
@@ -92,39 +69,11 @@ fn column_command(banks: &Banks, p: &Pending, clock: u64) -> Option<Command>
     }
 }
 
-fn row_command(banks: &Banks, pending: &[Pending], p: &Pending, clock: u64) -> Option<Command>
-    requires queue { IsQueue banks.now.checked.geometry pending.now }
-    requires place { LiesIn banks.now.checked.geometry p.now.place }
-    ensures kind { IfSome result (λ cmd. (cmd ≡ act_of p.now.place) ⊎ (cmd ≡ pre_of p.now.place)) }
-    ensures allows { IfSome result (λ cmd. Allows banks.now cmd clock) }
-    ensures some { IfSome result (λ cmd. (list : List Stamped) → Stands banks.now list → Opens banks.now.checked list pending.now clock p.now cmd) }
-    ensures none { IfNone result ((list : List Stamped) → Stands banks.now list → (cmd : Command) → ¬ Opens banks.now.checked list pending.now clock p.now cmd) }
-{
-    if is_in_lead(banks, p.place.rank, clock) {
-        return None;
-    }
-    if is_open(banks, &p.place, p.place.row) {
-        return None;
-    }
-    let act = p.act();
-    if banks.ready(act, clock) {
-        return Some(act);
-    }
-    let pre = p.pre();
-    if !banks.ready(pre, clock) {
-        return None;
-    }
-    if is_unhit(banks, pending, &p.place) {
-        Some(pre)
-    } else {
-        None
-    }
-}
-
-fn first_rank(banks: &Banks, pending: &[Pending], clock: u64) -> Option<Choice>
-    ensures serves { IfSome result (λ x. Serves pending.now x.turn x.cmd) }
+fn first_rank(banks: &Banks, clock: u64) -> Option<Choice>
+    ensures serves { IfSome result (λ x. (pending : List Pending) → Serves pending x.turn x.cmd) }
     ensures allows { IfSome result (λ x. Allows banks.now x.cmd clock) }
-    ensures first { (list : List Stamped) → Stands banks.now list → IsFirstOf pending.now (RankCandidate banks.now.checked list clock) result }
+    ensures first { (list : List Stamped) (pending : List Pending) → Stands banks.now list
+        → IsFirstOf pending (Below Rank (OffersRank banks.now.checked list clock) banks.now.checked.geometry.ranks) result }
 {
     let ranks = banks.checked().geometry.ranks;
     for rank in 0..ranks {
@@ -138,36 +87,25 @@ fn first_rank(banks: &Banks, pending: &[Pending], clock: u64) -> Option<Choice>
     None
 }
 
-fn first_column(banks: &Banks, pending: &[Pending], clock: u64) -> Option<Choice>
+fn first_request(
+    stage: Stage,
+    banks: &Banks,
+    pending: &[Pending],
+    hits: &[bool; 64],
+    clock: u64,
+) -> Option<Choice>
     requires queue { IsQueue banks.now.checked.geometry pending.now }
+    requires hits { (list : List Stamped) → Stands banks.now list → AreHits banks.now.checked.geometry list pending.now (length pending.now) hits.now }
     ensures serves { IfSome result (λ x. Serves pending.now x.turn x.cmd) }
     ensures allows { IfSome result (λ x. Allows banks.now x.cmd clock) }
-    ensures first { (list : List Stamped) → Stands banks.now list → IsFirstOf pending.now (ColumnCandidate banks.now.checked list pending.now clock) result }
+    ensures first { (list : List Stamped) → Stands banks.now list
+        → IsFirstOf pending.now (Below (turn_of stage) (OffersAt stage banks.now.checked list pending.now clock) (length pending.now)) result }
 {
-    for i in 0..pending.len() {
-        if pending[i].is_eligible() {
-            if let Some(cmd) = column_command(banks, &pending[i], clock) {
+    for (i, p) in pending.iter().enumerate() {
+        if p.is_eligible() {
+            if let Some(cmd) = request_command(stage, banks, hits, p, clock) {
                 return Some(Choice {
-                    turn: Turn::Column(i),
-                    cmd,
-                });
-            }
-        }
-    }
-    None
-}
-
-fn first_row(banks: &Banks, pending: &[Pending], clock: u64) -> Option<Choice>
-    requires queue { IsQueue banks.now.checked.geometry pending.now }
-    ensures serves { IfSome result (λ x. Serves pending.now x.turn x.cmd) }
-    ensures allows { IfSome result (λ x. Allows banks.now x.cmd clock) }
-    ensures first { (list : List Stamped) → Stands banks.now list → IsFirstOf pending.now (RowCandidate banks.now.checked list pending.now clock) result }
-{
-    for i in 0..pending.len() {
-        if pending[i].is_eligible() {
-            if let Some(cmd) = row_command(banks, pending, &pending[i], clock) {
-                return Some(Choice {
-                    turn: Turn::Row(i),
+                    turn: stage.turn(i),
                     cmd,
                 });
             }
@@ -183,11 +121,12 @@ pub fn choose(banks: &Banks, pending: &[Pending], clock: u64) -> Option<Choice>
     ensures allows { IfSome result (λ x. Allows banks.now x.cmd clock) }
     ensures choice { (list : List Stamped) → Stands banks.now list → IsChoice banks.now.checked list pending.now clock result }
 {
-    if let Some(choice) = first_rank(banks, pending, clock) {
+    if let Some(choice) = first_rank(banks, clock) {
         return Some(choice);
     }
-    if let Some(choice) = first_column(banks, pending, clock) {
+    let hits = hit_banks(banks, pending);
+    if let Some(choice) = first_request(Stage::Transfer, banks, pending, &hits, clock) {
         return Some(choice);
     }
-    first_row(banks, pending, clock)
+    first_request(Stage::Prepare, banks, pending, &hits, clock)
 }

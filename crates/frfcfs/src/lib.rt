@@ -10,4 +10,5 @@ pub mod choose;
 pub mod next;
 pub mod pending;
 pub mod place;
+mod wish;
 pub mod work;
