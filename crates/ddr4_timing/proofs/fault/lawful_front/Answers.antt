@@ -1,6 +1,5 @@
-use Rattle.std.proofs.Common.{ℕ, ◌+◌, ◌<◌, List, length, take, get_or, ap, ◌∙◌, ◌≡◌, sym, subst, arith, refl}
+use Rattle.std.proofs.Common.{ℕ, ◌+◌, ◌<◌, List, length, take, get_or, ap, ◌≡◌, sym, subst, arith, refl}
 use Rattle.std.proofs.lemmas.List.{take_more}
-use Rattle.std.proofs.Math.Seq.{take-length}
 use Rattle.ddr4_timing.specs.Lawful.{IsLawful}
 use Rattle.ddr4_timing.specs.declared.command.Stamped.{Stamped}
 use Rattle.ddr4_timing.specs.declared.timing.Checked.{Checked}
