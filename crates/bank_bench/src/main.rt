@@ -101,7 +101,12 @@ fn run(banks: &mut Banks, commands: &[Command], rounds: u64) -> u64 {
 }
 
 // A lawful list of at least so many commands.
-fn lawful(alloc: Global, checked: &Checked, commands: &[Command], length: usize) -> anyhow::Result<Vec<Stamped>> {
+fn lawful(
+    alloc: Global,
+    checked: &Checked,
+    commands: &[Command],
+    length: usize,
+) -> anyhow::Result<Vec<Stamped>> {
     let mut banks = Banks::new(checked);
     let mut list = Vec::new(alloc);
     for _ in 0..length {
@@ -117,36 +122,38 @@ fn lawful(alloc: Global, checked: &Checked, commands: &[Command], length: usize)
     Ok(list)
 }
 
+// Prints how long lists of a thousand to a hundred thousand lawful commands take to check.
+fn time_lists(rt: &HostRuntime, checked: &Checked, commands: &[Command]) -> anyhow::Result<()> {
+    for length in [1_000, 10_000, 100_000] {
+        let list = lawful(rt.alloc(), checked, commands, length)?;
+        let start = Instant::now(rt)?;
+        let fault = first_fault(checked, &list);
+        let micros = start.elapsed(rt)?.as_micros();
+        println!(rt;
+            "{} commands, fault {}: {micros} microseconds",
+            list.len(),
+            fault.is_some()
+        )?;
+    }
+    Ok(())
+}
+
 fn main(rt: HostRuntime) -> anyhow::Result<()> {
     let timed = env::args(&rt)?.len() > 1;
     for (ranks, groups) in [(1, 2), (2, 4), (4, 4)] {
         let g = geometry(ranks, groups);
-        let Ok(checked) = TIMING.check(&g) else {
-            continue;
-        };
+        let checked = TIMING.check(&g)?;
         let commands = round(rt.alloc(), &g)?;
         let mut banks = Banks::new(&checked);
         let rounds = if timed { 10_000 } else { 10 };
         let start = Instant::now(&rt)?;
         let last = run(&mut banks, &commands, rounds);
         let nanos = start.elapsed(&rt)?.as_nanos();
-        println!(rt; "{ranks} ranks of {groups} groups: last clock {last}")?;
+        println!(rt; "ranks {ranks}, groups {groups}: last clock {last}")?;
         if timed {
             let each = nanos / (rounds as u128 * commands.len().max(1) as u128);
-            println!(rt; "  {each} nanoseconds a command")?;
-        }
-    }
-    if timed {
-        let g = geometry(1, 2);
-        if let Ok(checked) = TIMING.check(&g) {
-            let commands = round(rt.alloc(), &g)?;
-            for length in [1_000, 10_000, 100_000] {
-                let list = lawful(rt.alloc(), &checked, &commands, length)?;
-                let start = Instant::now(&rt)?;
-                let fault = first_fault(&checked, &list);
-                let micros = start.elapsed(&rt)?.as_micros();
-                println!(rt; "{} commands, fault {}: {micros} microseconds", list.len(), fault.is_some())?;
-            }
+            println!(rt; "{each} nanoseconds a command")?;
+            time_lists(&rt, &checked, commands.as_slice())?;
         }
     }
     Ok(())
