@@ -10,5 +10,8 @@ pub mod choose;
 pub mod next;
 pub mod pending;
 pub mod place;
+pub mod queue;
+#[cfg(test)]
+mod tests;
 mod wish;
 pub mod work;
