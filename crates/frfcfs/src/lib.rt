@@ -7,6 +7,7 @@
 
 pub mod choice;
 pub mod choose;
+pub mod laws;
 pub mod next;
 pub mod pending;
 pub mod place;
