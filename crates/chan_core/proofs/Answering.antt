@@ -1,5 +1,5 @@
 -- What stays right of a channel's memory when a read is answered or collected.
-use Rattle.std.proofs.Common.{◌≡◌, ◌≢◌, ℕ, zero, suc, ◌+◌, ◌<◌, ◌≤◌, ◌⊎◌, inl, inr, Bool, true, false, List, [], ◌∷◌, map, length, get_or, take, remove, slice_get, slice_set, Option, Some, None, refl, sym, ap, subst, ◌∙◌, arith, length-set}
+use Rattle.std.proofs.Common.{◌≡◌, ℕ, suc, ◌<◌, ◌⊎◌, inl, inr, true, List, [], map, length, get_or, remove, slice_get, slice_set, Option, Some, None, refl, sym, ap, subst, ◌∙◌, arith, length-set}
 use Rattle.std.specs.List.{filter_map}
 use Rattle.std.proofs.lemmas.Bool.{cases_order, cases_eq}
 use Rattle.std.proofs.lemmas.List.{map-set}
@@ -7,14 +7,14 @@ use Rattle.std.proofs.lemmas.List.Edits.{length-remove}
 use Rattle.std.proofs.lemmas.Option.{slice_get_within, slice_get_read, get_or_from_slice_get}
 use Rattle.circular_buffer.proofs.Places.{slice_get-set_same, slice_get-set_other}
 use Rattle.frfcfs.specs.declared.pending.Kind.{Kind}
-use Rattle.frfcfs.specs.declared.pending.Kind.TheVariants.{Read, Write}
+use Rattle.frfcfs.specs.declared.pending.Kind.TheVariants.{Read}
 use Rattle.frfcfs.specs.declared.pending.Pending.{Pending}
 use Rattle.chan_core.specs.declared.reads.OpenRead.{OpenRead}
-use Rattle.chan_core.specs.Reads.{OpenTicket, ticket_with, ticket_of, IsPlaceOf, Answers, AnswersAt, answered_with}
+use Rattle.chan_core.specs.Reads.{OpenTicket, ticket_with, ticket_of, Answers, answered_with}
 use Rattle.chan_core.specs.Requests.{Request, IsArrivals, asked}
 use Rattle.chan_core.specs.ChannelMemory.{MemoryState, IsChannelMemory, Serials, IsAnswered, requests_of, tickets_of, write_of, read_of, waits_for, write_key, read_key, waiting_key}
-use Rattle.chan_core.proofs.Kept.{kept, filter_map-without, filter_map-taken, filter_map-changed, filter_map-at, filter_map-origin, Origin, map-at, map-from}
-use Rattle.chan_core.proofs.Arrivals.{before_removal, map-remove}
+use Rattle.chan_core.proofs.Kept.{kept, filter_map-without, filter_map-taken, filter_map-changed, filter_map-at, filter_map-origin, map-at}
+use Rattle.chan_core.proofs.Arrivals.{before_removal}
 use Rattle.chan_core.proofs.Serving.{sound-taken, clear-taken}
 
 -- two open reads of one serial are one
@@ -47,7 +47,7 @@ opened s is i p at kind =
     let here = map-at asked s.pending i p at in
     let k = kept read_key i (requests_of s) in
     let there : slice_get (filter_map waiting_key s.reads) k ≡ Some (p.number, p.line) =
-        subst (λ (ks : List (ℕ × ℕ)). slice_get ks k ≡ Some (p.number, p.line)) is.waiting (filter_map-at read_key (requests_of s) i (asked p) (p.number, p.line) here key) in
+    subst (λ (ks : List (ℕ × ℕ)). slice_get ks k ≡ Some (p.number, p.line)) is.waiting (filter_map-at read_key (requests_of s) i (asked p) (p.number, p.line) here key) in
     let o = filter_map-origin waiting_key s.reads k (p.number, p.line) there in
     let facts = waits-of o.element.bytes o.element.serial o.element.index p.number p.line o.gives in
     record { place = o.place; read = o.element; at = o.at; serial = facts.1; index = facts.2; waits = facts.0; before = o.before; key = key; here = here }
@@ -132,7 +132,7 @@ remove-serials next reads n within is = record {
       | inr b ↦ is.rise (suc i) (suc j) r t (omega (arith, less)) a.1 b.1
     ]
   ];
-  below = λ i r at. elim (before_removal reads n i r within at) [ | inl a ↦ is.below i r a.1 | inr a ↦ is.below (suc i) r a.1 ];
+  below = λ i r at. elim (before_removal reads n i r within at) [ inl a ↦ is.below i r a.1 | inr a ↦ is.below (suc i) r a.1 ];
 }
 
 pub collect-holds : (s : MemoryState) (reads : List OpenRead) (k : ℕ) (r : OpenRead) (bytes : List ℕ) → IsChannelMemory s → slice_get s.reads k ≡ Some r → r.bytes ≡ Some bytes → reads ≡ remove s.reads k → IsChannelMemory (record s { reads = reads })
@@ -166,7 +166,7 @@ read-tickets s reads i p is at kind answers =
       ap (λ (t : OpenTicket). t.serial) was ∙ o.serial,
       ap (λ (t : OpenTicket). t.answered) was,
       ap (map (ticket_of s.array)) new ∙ map-set (ticket_of s.array) s.reads o.place (answered_with bytes o.read)
-      ∙ ap (slice_set (tickets_of s) o.place) (told o.read (ticket_of s.array o.read) was (ap (λ (n : ℕ). get_or s.array n []) o.index)),
+          ∙ ap (slice_set (tickets_of s) o.place) (told o.read (ticket_of s.array o.read) was (ap (λ (n : ℕ). get_or s.array n []) o.index)),
     )
   where
     told : (r : OpenRead) (t : OpenTicket) → t ≡ ticket_with s.array r None → get_or s.array r.index [] ≡ get_or s.array p.line [] → ticket_of s.array (answered_with (get_or s.array p.line []) r) ≡ record t { answered = true }

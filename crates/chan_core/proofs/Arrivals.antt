@@ -1,16 +1,15 @@
 -- Requests that come and go, and what stays right of those that wait.
-use Rattle.std.proofs.Common.{◌≡◌, ◌≢◌, ℕ, zero, suc, ◌+◌, ◌-◌, ◌<◌, ◌≤◌, ◌⊎◌, ◌↔◌, inl, inr, Bool, true, IsTrue, List, [], ◌∷◌, ◌++◌, map, length, get_or, set, slice_get, slice_set, remove, Option, Some, None, refl, sym, ap, subst, ◌∙◌, arith}
-use Rattle.std.proofs.lemmas.Bool.{cases_lt, cases_eq, cases_order}
-use Rattle.std.proofs.lemmas.Option.{slice_get_within, slice_get-get_or, get_or_from_slice_get, slice_get_cases, same_Some}
-use Rattle.std.proofs.lemmas.List.{length-append, ext_get_or, length-map, length-set}
-use Rattle.std.proofs.lemmas.List.Edits.{get_or-remove_below, get_or-remove_above, length-remove}
-use Rattle.circular_buffer.proofs.Places.{slice_get-append_left, slice_get-last, slice_get-set_same, slice_get-set_other}
+use Rattle.std.proofs.Common.{◌≡◌, ◌≢◌, ℕ, zero, suc, ◌<◌, ◌≤◌, ◌⊎◌, inl, inr, Bool, IsTrue, List, [], ◌∷◌, ◌++◌, map, length, get_or, slice_get, slice_set, remove, Option, Some, None, refl, sym, ap, subst, ◌∙◌, arith}
+use Rattle.std.proofs.lemmas.Bool.{cases_eq, cases_order}
+use Rattle.std.proofs.lemmas.Option.{slice_get_within, slice_get-get_or, get_or_from_slice_get}
+use Rattle.std.proofs.lemmas.List.{length-set}
+use Rattle.circular_buffer.proofs.Places.{slice_get-append_left, slice_get-set_same, slice_get-set_other}
 use Rattle.ddr4_timing.specs.declared.timing.Geometry.{Geometry}
 use Rattle.frfcfs.specs.declared.pending.Pending.{Pending}
-use Rattle.frfcfs.specs.declared.place.Place.{Place}
-use Rattle.frfcfs.specs.Places.{LiesIn}
-use Rattle.frfcfs.specs.Requests.{IsQueue, IsFirst}
-use Rattle.chan_core.specs.Requests.{Request, IsArrivals, IsNumbered, IsOldest, MarksAt, MarksNext, Reholds, Renumbers, ClosesUp, asked, held_by, marked, marked_held, numbered}
+use Rattle.ddr4_timing.specs.declared.place.Place.{Place}
+use Rattle.ddr4_timing.specs.Places.{LiesIn}
+use Rattle.frfcfs.specs.Requests.{IsFirst}
+use Rattle.chan_core.specs.Requests.{Request, IsArrivals, IsNumbered, IsOldest, MarksAt, Reholds, Renumbers, ClosesUp, asked, held_by, marked, marked_held, numbered}
 use Rattle.chan_core.proofs.Kept.{map_both, map_twice}
 
 -- an element of a longer list is one of the list, or the last
@@ -24,7 +23,7 @@ appended [] x (suc i) y at = absurd cc
 appended (z ∷ zs) x zero y at = record { within = omega arith; is = inl at }
 appended (z ∷ zs) x (suc i) y at =
     let rest = appended zs x i y at in
-    record { within = (let w = rest.within in omega (arith, w)); is = elim rest.is [ | inl old ↦ inl old | inr last ↦ inr (ap suc last.0, last.1) ] }
+    record { within = (let w = rest.within in omega (arith, w)); is = elim rest.is [ inl old ↦ inl old | inr last ↦ inr (ap suc last.0, last.1) ] }
 
 -- where an element of a shorter list stood
 pub before_removal : {X : Type 0} (xs : List X) (i k : ℕ) (y : X) → i < length xs → slice_get (remove xs i) k ≡ Some y → ((k < i) × (slice_get xs k ≡ Some y)) ⊎ ((i ≤ k) × (slice_get xs (suc k) ≡ Some y))
@@ -124,7 +123,7 @@ one_at pending i j p q s t e = let same : slice_get pending i ≡ Some q = subst
 none-wider : (pending : List Pending) (i from k line : ℕ) (p : Pending) → slice_get pending i ≡ Some p → p.line ≢ line → Moved i from k → NoneBefore (remove pending i) k line → NoneBefore pending from line
 none-wider pending i from k line p at other moved none j q less s = elim (cases_order j i) [
   | inl e ↦ subst (λ (x : Pending). x.line ≢ line) (one_at pending i j p q at s (sym e)) other
-  | inr (inl below) ↦ none j q (elim moved [ | inl m ↦ omega (arith, m.1, less) | inr m ↦ omega (arith, m.0, below) ]) (after_removal_below pending i j q below s)
+  | inr (inl below) ↦ none j q (elim moved [ inl m ↦ omega (arith, m.1, less) | inr m ↦ omega (arith, m.0, below) ]) (after_removal_below pending i j q below s)
   | inr (inr above) ↦ elim moved [
     | inl m ↦ absurd (omega (arith, m.0, m.1, less, above))
     | inr m ↦ none-above pending i k line none j q above (omega (arith, m.1, less)) s
@@ -137,8 +136,8 @@ none-wider pending i from k line p at other moved none j q less s = elim (cases_
 
 none-narrower : (pending : List Pending) (i from k line : ℕ) → i < length pending → Moved i from k → NoneBefore pending from line → NoneBefore (remove pending i) k line
 none-narrower pending i from k line within moved none j q less s = elim (before_removal pending i j q within s) [
-  | inl b ↦ none j q (elim moved [ | inl m ↦ omega (arith, m.1, less) | inr m ↦ omega (arith, m.1, less) ]) b.1
-  | inr b ↦ none (suc j) q (elim moved [ | inl m ↦ absurd (omega (arith, m.0, less, b.0)) | inr m ↦ omega (arith, m.1, less) ]) b.1
+  | inl b ↦ none j q (elim moved [ inl m ↦ omega (arith, m.1, less) | inr m ↦ omega (arith, m.1, less) ]) b.1
+  | inr b ↦ none (suc j) q (elim moved [ inl m ↦ absurd (omega (arith, m.0, less, b.0)) | inr m ↦ omega (arith, m.1, less) ]) b.1
 ]
 
 -- a request behind the closing up of those that were left
@@ -230,24 +229,24 @@ right-taken g pending new i p at is closes k r here =
     elim d.mark [
       | inl m ↦ record { only = λ f. subst (λ (n : ℕ). NoneBefore new k n) (sym (line ∙ m.0)) (still-none p.line (remove pending i) new closes k p.line m.2); all = λ n. m.1 }
       | inr m ↦ record {
-          only = λ f. subst (λ (n : ℕ). NoneBefore new k n) (sym line)
-              (still-none p.line (remove pending i) new closes k d.was.line (none-narrower pending i w.from k d.was.line within w.moved (mark.only (subst (λ (b : Bool). IsTrue b) m.0 f))));
-          all = λ n.
-              let none : NoneBefore (remove pending i) k d.was.line = were-none p.line (remove pending i) new closes k d.was.line (subst (λ (n : ℕ). NoneBefore new k n) line n) in
-              subst (λ (b : Bool). IsTrue b) (sym m.0) (mark.all (elim (cases_eq d.was.line p.line) [
-                | inl named ↦ let e = m.1 named in absurd (none e.0 e.1 e.2 e.3 (e.4 ∙ sym named))
-                | inr other ↦ none-wider pending i w.from k d.was.line p at (λ e. other (sym e)) w.moved none
-              ]));
-        }
+        only = λ f. subst (λ (n : ℕ). NoneBefore new k n) (sym line)
+            (still-none p.line (remove pending i) new closes k d.was.line (none-narrower pending i w.from k d.was.line within w.moved (mark.only (subst (λ (b : Bool). IsTrue b) m.0 f))));
+        all = λ n.
+            let none : NoneBefore (remove pending i) k d.was.line = were-none p.line (remove pending i) new closes k d.was.line (subst (λ (n : ℕ). NoneBefore new k n) line n) in
+            subst (λ (b : Bool). IsTrue b) (sym m.0) (mark.all (elim (cases_eq d.was.line p.line) [
+              | inl named ↦ let e = m.1 named in absurd (none e.0 e.1 e.2 e.3 (e.4 ∙ sym named))
+              | inr other ↦ none-wider pending i w.from k d.was.line p at (λ e. other (sym e)) w.moved none
+            ]));
+      }
     ]
 
 pub arrivals-taken : (g : Geometry) (pending new : List Pending) (i : ℕ) (p : Pending) → slice_get pending i ≡ Some p → IsArrivals g pending → ClosesUp p.line (remove pending i) new → IsArrivals g new
 arrivals-taken g pending new i p at is closes = arrivals g new
     (λ k r here. (closed p.line (remove pending i) new closes k r here).seq)
     (λ k r here.
-        let d = closed p.line (remove pending i) new closes k r here in
-        let w = stood pending i k d.was (slice_get_within pending i p at) d.at in
-        subst (λ (x : Place). LiesIn g x) (sym (ap (λ (x : Request). x.place) d.kept)) (is.queue.places w.from d.was w.at))
+    let d = closed p.line (remove pending i) new closes k r here in
+    let w = stood pending i k d.was (slice_get_within pending i p at) d.at in
+    subst (λ (x : Place). LiesIn g x) (sym (ap (λ (x : Request). x.place) d.kept)) (is.queue.places w.from d.was w.at))
     (right-taken g pending new i p at is closes)
 
 map_same : {X Y : Type 0} (f : X → Y) (xs ys : List X) → length xs ≡ length ys → ((k : ℕ) (x y : X) → slice_get xs k ≡ Some x → slice_get ys k ≡ Some y → f x ≡ f y) → map f xs ≡ map f ys
@@ -266,7 +265,7 @@ map-remove f (x ∷ xs) (suc i) = ap (λ rest. f x ∷ rest) (map-remove f xs i)
 pub asked-taken : (pending new : List Pending) (i : ℕ) (named : ℕ) → ClosesUp named (remove pending i) new → map asked new ≡ remove (map asked pending) i
 asked-taken pending new i named closes =
     map_same asked new (remove pending i) (length-closed named (remove pending i) new closes)
-        (λ k p q s t. let d = closed named (remove pending i) new closes k p s in d.kept ∙ ap asked (one_at (remove pending i) k k d.was q d.at t refl))
+    (λ k p q s t. let d = closed named (remove pending i) new closes k p s in d.kept ∙ ap asked (one_at (remove pending i) k k d.was q d.at t refl))
     ∙ map-remove asked pending i
 
 held-at : (hold : Option ℕ) (old new : List Pending) → Reholds hold old new → (k : ℕ) (p : Pending) → slice_get new k ≡ Some p → (q : Pending) × (slice_get old k ≡ Some q) × (p ≡ marked_held hold q)
@@ -289,14 +288,14 @@ arrivals-hold g hold old new r is = arrivals g new
     (λ k p at. let o = held-at hold old new r k p at in ap (λ (x : Pending). x.seq) o.2 ∙ is.numbered k o.0 o.1)
     (λ k p at. let o = held-at hold old new r k p at in subst (λ (x : Place). LiesIn g x) (sym (ap (λ (x : Pending). x.place) o.2)) (is.queue.places k o.0 o.1))
     (λ k p at.
-        let o = held-at hold old new r k p at in
-        let was = right g old is k o.0 o.1 in
-        let line : p.line ≡ o.0.line = ap (λ (x : Pending). x.line) o.2 in
-        let first : p.first ≡ o.0.first = ap (λ (x : Pending). x.first) o.2 in
-        record {
-          only = λ f. subst (λ (n : ℕ). NoneBefore new k n) (sym line) (held-none hold old new r k o.0.line (was.only (subst (λ (b : Bool). IsTrue b) first f)));
-          all = λ n. subst (λ (b : Bool). IsTrue b) (sym first) (was.all (none-held hold old new r k o.0.line (subst (λ (m : ℕ). NoneBefore new k m) line n)));
-        })
+    let o = held-at hold old new r k p at in
+    let was = right g old is k o.0 o.1 in
+    let line : p.line ≡ o.0.line = ap (λ (x : Pending). x.line) o.2 in
+    let first : p.first ≡ o.0.first = ap (λ (x : Pending). x.first) o.2 in
+    record {
+      only = λ f. subst (λ (n : ℕ). NoneBefore new k n) (sym line) (held-none hold old new r k o.0.line (was.only (subst (λ (b : Bool). IsTrue b) first f)));
+      all = λ n. subst (λ (b : Bool). IsTrue b) (sym first) (was.all (none-held hold old new r k o.0.line (subst (λ (m : ℕ). NoneBefore new k m) line n)));
+    })
 
 pub asked-hold : (hold : Option ℕ) (old new : List Pending) → Reholds hold old new → map asked new ≡ map (held_by hold) (map asked old)
 asked-hold hold old new r =

@@ -4,8 +4,8 @@ use Rattle.std.proofs.lemmas.Nat.{mul-add-lt, div-add-mod', div-mul-add, mod-mul
 use Rattle.std.proofs.Math.Nat.{mod-lt, div-lt_iff_lt-mul, mul-le-mul_left, le_trans, le_of_lt}
 use Rattle.ddr4_timing.specs.declared.timing.Geometry.{Geometry}
 use Rattle.ddr4_timing.specs.Limits.{lines_of, IsSmall}
-use Rattle.frfcfs.specs.declared.place.Place.{Place}
-use Rattle.frfcfs.specs.Places.{LiesIn}
+use Rattle.ddr4_timing.specs.declared.place.Place.{Place}
+use Rattle.ddr4_timing.specs.Places.{LiesIn}
 use Rattle.chan_core.specs.Lines.{place_of, cells_of, index_of}
 use Rattle.chan_core.proofs.Digits.{left_factor, right_factor, le_with_digit, same_digits}
 

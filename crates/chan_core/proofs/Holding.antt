@@ -1,5 +1,5 @@
 -- What stays right of a channel's memory when a request comes.
-use Rattle.std.proofs.Common.{◌≡◌, ◌≢◌, ℕ, zero, suc, ◌+◌, ◌<◌, ◌≤◌, inl, inr, Bool, true, false, List, [], ◌∷◌, ◌++◌, map, length, take, slice_get, Option, Some, None, refl, sym, ap, subst, ◌∙◌, arith}
+use Rattle.std.proofs.Common.{◌≡◌, ◌≢◌, ℕ, suc, ◌+◌, ◌<◌, ◌≤◌, inl, inr, false, List, [], ◌∷◌, ◌++◌, map, length, take, slice_get, Option, Some, None, refl, sym, ap, subst, ◌∙◌, arith}
 use Rattle.std.specs.List.{filter_map, cons_option}
 use Rattle.std.proofs.lemmas.List.{map-append, append-nil, length-append, length-map}
 use Rattle.std.proofs.lemmas.List.Elements.{filter_map-append}
@@ -7,15 +7,15 @@ use Rattle.std.proofs.lemmas.Option.{slice_get_within}
 use Rattle.frfcfs.specs.declared.pending.Kind.{Kind}
 use Rattle.frfcfs.specs.declared.pending.Kind.TheVariants.{Read, Write}
 use Rattle.frfcfs.specs.declared.pending.Pending.{Pending}
-use Rattle.frfcfs.specs.declared.place.Place.{Place}
+use Rattle.ddr4_timing.specs.declared.place.Place.{Place}
 use Rattle.wpq_core.specs.declared.queue.PendingWrite.{PendingWrite}
 use Rattle.wpq_core.specs.Queue.{Queue, IsQueue}
 use Rattle.wpq_core.specs.Writes.{NoneNames, pending_write}
 use Rattle.chan_core.specs.declared.reads.OpenRead.{OpenRead}
 use Rattle.chan_core.specs.Lines.{cells_of, index_of}
-use Rattle.chan_core.specs.Requests.{Request, IsArrivals, asked, held_by, holds, is_held, request}
+use Rattle.chan_core.specs.Requests.{Request, IsArrivals, asked, held_by, holds, request}
 use Rattle.chan_core.specs.ChannelMemory.{MemoryState, IsChannelMemory, IsFullOfReads, Sound, Serials, requests_of, write_of, read_of, write_key, read_key, queued_key, waiting_key}
-use Rattle.chan_core.proofs.Kept.{filter_map-at, filter_map-origin, filter_map-unseen, length-filter_map, map-at, map-from}
+use Rattle.chan_core.proofs.Kept.{filter_map-at, filter_map-unseen, length-filter_map, map-from}
 use Rattle.chan_core.proofs.Arrivals.{appended, arrivals}
 use Rattle.line_memory.specs.Memory.{IsMemory}
 

@@ -1,5 +1,5 @@
 -- What `filter_map` keeps of a list from which an element is taken, or in which one changes.
-use Rattle.std.proofs.Common.{◌≡◌, ℕ, zero, suc, ◌+◌, ◌<◌, List, [], ◌∷◌, ◌≤◌, ◌↔◌, Bool, true, false, IsTrue, subst, length, map, take, set, slice_get, slice_set, remove, Option, Some, None, refl, sym, ap, ◌∙◌, arith}
+use Rattle.std.proofs.Common.{◌≡◌, ℕ, zero, suc, List, [], ◌∷◌, ◌≤◌, ◌↔◌, Bool, true, false, IsTrue, length, map, take, slice_get, slice_set, remove, Option, Some, None, refl, ap, ◌∙◌, arith}
 use Rattle.std.specs.List.{filter_map, cons_option}
 
 module _ {X Y : Type 0} (h : X → Option Y) where

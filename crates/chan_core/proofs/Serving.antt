@@ -1,29 +1,24 @@
 -- What stays right of a channel's memory when a request is served.
-use Rattle.std.proofs.Common.{◌≡◌, ◌≢◌, ℕ, zero, suc, ◌+◌, ◌<◌, ◌≤◌, inl, inr, Bool, true, false, List, [], ◌∷◌, ◌++◌, map, length, get_or, set, take, remove, slice_get, slice_set, Option, Some, None, refl, sym, ap, subst, ◌∙◌, arith, length-set, get_or-set_other}
-use Rattle.std.specs.Prelude.{All}
-use Rattle.std.specs.List.{filter_map, cons_option}
+use Rattle.std.proofs.Common.{◌≡◌, ◌≢◌, ℕ, suc, ◌<◌, inl, inr, false, List, [], map, length, remove, slice_get, slice_set, Option, Some, None, refl, sym, ap, subst, ◌∙◌, arith, length-set, get_or-set_other}
+use Rattle.std.specs.List.{filter_map}
 use Rattle.std.proofs.lemmas.Bool.{cases_order}
-use Rattle.std.proofs.lemmas.List.{length-map, map-set}
 use Rattle.std.proofs.lemmas.List.Elements.{All-set}
-use Rattle.circular_buffer.proofs.Places.{slice_get-set_same, slice_get-set_other}
 use Rattle.std.proofs.lemmas.Option.{slice_get_within}
-use Rattle.line_memory.specs.Memory.{IsMemory, after_write}
 use Rattle.frfcfs.specs.declared.pending.Kind.{Kind}
 use Rattle.frfcfs.specs.declared.pending.Kind.TheVariants.{Read, Write}
 use Rattle.frfcfs.specs.declared.pending.Pending.{Pending}
 use Rattle.frfcfs.specs.Requests.{IsEligible}
 use Rattle.wpq_core.specs.declared.queue.PendingWrite.{PendingWrite}
 use Rattle.wpq_core.specs.Queue.{Queue, IsQueue}
-use Rattle.wpq_core.specs.Writes.{Takes, IsFirstOfItsLine, Rise}
+use Rattle.wpq_core.specs.Writes.{Takes, IsFirstOfItsLine}
 use Rattle.wpq_core.specs.PendingMemory.{after_pending}
 use Rattle.wpq_core.proofs.Numbers.{Rise-one}
 use Rattle.wpq_core.proofs.PendingLaws.{after_pending-early}
 use Rattle.chan_core.specs.declared.reads.OpenRead.{OpenRead}
-use Rattle.chan_core.specs.Lines.{cells_of, index_of}
-use Rattle.chan_core.specs.Reads.{OpenTicket, ticket_with, ticket_of, IsPlaceOf, Answers, AnswersAt, answered_with}
-use Rattle.chan_core.specs.Requests.{Request, IsArrivals, asked, request}
-use Rattle.chan_core.specs.ChannelMemory.{MemoryState, IsChannelMemory, Sound, Serials, requests_of, memory_of, tickets_of, write_of, read_of, waits_for, write_key, read_key, queued_key, waiting_key}
-use Rattle.chan_core.proofs.Kept.{kept, kept-more, filter_map-without, filter_map-taken, filter_map-changed, filter_map-at, filter_map-origin, Origin, map_alike, map-at, map-from}
+use Rattle.chan_core.specs.Reads.{ticket_with, ticket_of}
+use Rattle.chan_core.specs.Requests.{Request, IsArrivals, asked}
+use Rattle.chan_core.specs.ChannelMemory.{MemoryState, IsChannelMemory, Sound, requests_of, memory_of, tickets_of, write_of, read_of, waits_for, write_key, read_key, queued_key, waiting_key}
+use Rattle.chan_core.proofs.Kept.{kept, kept-more, filter_map-without, filter_map-taken, filter_map-at, filter_map-origin, map_alike, map-at, map-from}
 use Rattle.chan_core.proofs.Arrivals.{before_removal, map-remove, NoneBefore, IsFirst-none}
 
 -- where the write of a request stands in the queue
@@ -50,7 +45,7 @@ pub taken-place : (s : MemoryState) → IsChannelMemory s → (i : ℕ) (p : Pen
 taken-place s is i p q j w at number = Rise-one s.queue.writes j q.place w q.write is.queue.rise at q.at (number ∙ sym q.number)
 
 pub sound-taken : (s : MemoryState) (i : ℕ) → IsChannelMemory s → i < length (requests_of s) → (k : ℕ) (r : Request) → slice_get (remove (requests_of s) i) k ≡ Some r → Sound s.checked.geometry s.hold r
-sound-taken s i is within k r at = elim (before_removal (requests_of s) i k r within at) [ | inl b ↦ is.sound k r b.1 | inr b ↦ is.sound (suc k) r b.1 ]
+sound-taken s i is within k r at = elim (before_removal (requests_of s) i k r within at) [ inl b ↦ is.sound k r b.1 | inr b ↦ is.sound (suc k) r b.1 ]
 
 pub clear-taken : (s : MemoryState) (n : ℕ) → IsChannelMemory s → n < length (requests_of s) → (i j : ℕ) (w r : Request) → i < j → slice_get (remove (requests_of s) n) i ≡ Some w → slice_get (remove (requests_of s) n) j ≡ Some r
     → w.kind ≡ Write → r.kind ≡ Read → w.line ≢ r.line
@@ -92,7 +87,7 @@ write-holds s queue pending i p bytes is at kind size arrivals pending-is whole 
 first-of-line : (s : MemoryState) → IsChannelMemory s → (i : ℕ) (p : Pending) → (q : InQueue s i p) → NoneBefore s.pending i p.line → IsFirstOfItsLine s.queue.writes q.place
 first-of-line s is i p q none j v w less at at' same =
     let key : slice_get (filter_map write_key (requests_of s)) j ≡ Some (v.number, v.write.line) =
-        subst (λ (ks : List (ℕ × ℕ)). slice_get ks j ≡ Some (v.number, v.write.line)) (sym is.writes) (map-at queued_key s.queue.writes j v at) in
+    subst (λ (ks : List (ℕ × ℕ)). slice_get ks j ≡ Some (v.number, v.write.line)) (sym is.writes) (map-at queued_key s.queue.writes j v at) in
     let o = filter_map-origin write_key (requests_of s) j (v.number, v.write.line) key in
     let from = map-from asked s.pending o.place o.element o.at in
     let line : from.0.line ≡ p.line = ap (λ (x : Request). x.line) from.2 ∙ line-of o.element.kind o.element.number o.element.line v.number v.write.line o.gives ∙ same ∙ same-write s.queue.writes q.place w q.write at' q.at ∙ q.line in
@@ -105,6 +100,7 @@ first-of-line s is i p q none j v w less at at' same =
     line-of : (kind : Kind) (number line n l : ℕ) → write_of kind number line ≡ Some (n, l) → line ≡ l
     line-of Write number line n l e = let pair : (number, line) ≡ (n, l) = cc in ap (λ (x : ℕ × ℕ). x.1) pair
     line-of Read number line n l e = absurd cc
+
     same-write : (writes : List PendingWrite) (k : ℕ) (v w : PendingWrite) → slice_get writes k ≡ Some v → slice_get writes k ≡ Some w → v.write.line ≡ w.write.line
     same-write writes k v w s t = let e : v ≡ w = cc in ap (λ (x : PendingWrite). x.write.line) e
 
@@ -131,7 +127,7 @@ waiting-apart s is i p eligible kind k r at waits same =
     let key : waiting_key r ≡ Some (r.serial, r.index) = ap (λ (b : Option (List ℕ)). waits_for b r.serial r.index) waits in
     let n = kept waiting_key k s.reads in
     let there : slice_get (filter_map read_key (requests_of s)) n ≡ Some (r.serial, r.index) =
-        subst (λ (ks : List (ℕ × ℕ)). slice_get ks n ≡ Some (r.serial, r.index)) (sym is.waiting) (filter_map-at waiting_key s.reads k r (r.serial, r.index) at key) in
+    subst (λ (ks : List (ℕ × ℕ)). slice_get ks n ≡ Some (r.serial, r.index)) (sym is.waiting) (filter_map-at waiting_key s.reads k r (r.serial, r.index) at key) in
     let o = filter_map-origin read_key (requests_of s) n (r.serial, r.index) there in
     let from = map-from asked s.pending o.place o.element o.at in
     let facts = read-of o.element.kind o.element.number o.element.line r.serial r.index o.gives in
@@ -145,9 +141,11 @@ waiting-apart s is i p eligible kind k r at waits same =
   where
     apart : Write ≢ Read
     apart e = absurd cc
+
     read-of : (kind : Kind) (number line n l : ℕ) → read_of kind number line ≡ Some (n, l) → (kind ≡ Read) × (line ≡ l)
     read-of Read number line n l e = let pair : (number, line) ≡ (n, l) = cc in (refl, ap (λ (x : ℕ × ℕ). x.1) pair)
     read-of Write number line n l e = absurd cc
+
     same-request : (rs : List Request) (k l : ℕ) (a b : Request) → slice_get rs k ≡ Some a → slice_get rs l ≡ Some b → k ≡ l → a ≡ b
     same-request rs k l a b s t e = let t' : slice_get rs k ≡ Some b = subst (λ (n : ℕ). slice_get rs n ≡ Some b) (sym e) t in cc
 

@@ -1,7 +1,7 @@
 -- What a channel holds: its array, its pending writes and its open reads.
-use Rattle.std.specs.Prelude.{◌≡◌, ◌≢◌, ℕ, ◌+◌, ◌-◌, ◌^◌, ◌<◌, ◌≤◌, ◌⊎◌, Result, Ok, Err, Bool, true, false, not, nat_lt, List, [], ◌∷◌, ◌++◌, length, map, remove, slice_get, slice_set, slice_index_or, Option, Some, None}
+use Rattle.std.specs.Prelude.{◌≡◌, ◌≢◌, ℕ, ◌+◌, ◌-◌, ◌^◌, ◌<◌, ◌≤◌, ◌⊎◌, Result, Ok, Err, true, false, List, [], ◌∷◌, ◌++◌, length, map, remove, slice_get, slice_set, slice_index_or, Option, Some, None}
 use Rattle.std.specs.List.{filter_map}
-use Rattle.line_memory.specs.Memory.{IsMemory, after_write}
+use Rattle.line_memory.specs.Memory.{IsMemory}
 use Rattle.ddr4_timing.specs.declared.timing.Geometry.{Geometry}
 use Rattle.ddr4_timing.specs.declared.timing.Checked.{Checked}
 use Rattle.frfcfs.specs.declared.pending.Kind.{Kind}

@@ -1,7 +1,7 @@
 -- Where a line lies, and where a place stands in the array of its channel.
 use Rattle.std.specs.Prelude.{ℕ, ◌+◌, ◌*◌, ◌/◌, ◌%◌}
 use Rattle.ddr4_timing.specs.declared.timing.Geometry.{Geometry}
-use Rattle.frfcfs.specs.declared.place.Place.{Place}
+use Rattle.ddr4_timing.specs.declared.place.Place.{Place}
 
 -- the place of a line: its low part names the channel, then the column, the group, the bank, the rank and the row
 unfoldable pub place_of : Geometry → ℕ → Place

@@ -4,7 +4,7 @@ use Rattle.ddr4_timing.specs.declared.timing.Geometry.{Geometry}
 use Rattle.frfcfs.specs.declared.pending.Kind.{Kind}
 use Rattle.frfcfs.specs.declared.pending.Kind.TheVariants.{Read, Write}
 use Rattle.frfcfs.specs.declared.pending.Pending.{Pending}
-use Rattle.frfcfs.specs.declared.place.Place.{Place}
+use Rattle.ddr4_timing.specs.declared.place.Place.{Place}
 use Rattle.frfcfs.specs.Requests.{IsQueue}
 
 -- What a request asks for. Its seq and its mark `first` follow from where it stands.

@@ -9,16 +9,16 @@ ghost use Rattle.wpq_core.specs.Writes.{ComeBefore, IsNewest, NoneNames, Takes};
 ghost use Rattle.wpq_core.specs.declared.queue.PendingWrite.{PendingWrite};
 ghost use Rattle.wpq_core.specs.Queue as queues;
 ghost use Rattle.chan_core.specs.Lines.{place_of, cells_of};
-ghost use Rattle.frfcfs.specs.Places.{LiesIn};
+ghost use Rattle.ddr4_timing.specs.Places.{LiesIn};
 ghost use Rattle.chan_core.specs.ChannelMemory.{MemoryState, IsChannelMemory, Puts, Gets, Asks, IsFullOfReads, Collects, IsAnswered, Reads, Serves, TellsTickets, HoldsBy, Writes, memory_of, tickets_of, cell_of};
 
 use crate::answers::{Collected, Got, ReadsFull, Served, Ticket};
 use crate::lines::{cells, index_of, place_of};
 use crate::reads::{OpenRead, answer, place_of_serial};
 use crate::requests::{hold, is_held, push, take};
+use ddr4_timing::place::Place;
 use ddr4_timing::timing::Checked;
 use frfcfs::pending::{Kind, Pending};
-use frfcfs::place::Place;
 use line_memory::{Line, zero};
 use std::alloc::{AllocError, Global};
 use std::marker::Model;

@@ -11,6 +11,6 @@ mod tests;
 
 pub use answers::{Collected, Got, ReadsFull, Served, Ticket};
 pub use lines::{
-    cells, cells_make_lines, channel_comes_first, each_place_has_a_line, index_of, index_tells_place, indices_are_apart,
-    lines_lie_in, place_of, places_are_apart,
+    cells, cells_make_lines, channel_comes_first, each_place_has_a_line, index_of,
+    index_tells_place, indices_are_apart, lines_lie_in, place_of, places_are_apart,
 };

@@ -3,12 +3,12 @@ ghost use Rattle.std.specs.Prelude.{◌≡◌, ℕ, ◌*◌, ◌/◌, ◌%◌, �
 ghost use Rattle.ddr4_timing.specs.Limits.{lines_of};
 ghost use Rattle.ddr4_timing.specs.declared.timing.Checked.{Checked};
 ghost use Rattle.ddr4_timing.specs.declared.timing.Geometry.{Geometry};
-ghost use Rattle.frfcfs.specs.declared.place.Place.{Place};
-ghost use Rattle.frfcfs.specs.Places.{LiesIn};
+ghost use Rattle.ddr4_timing.specs.declared.place.Place.{Place};
+ghost use Rattle.ddr4_timing.specs.Places.{LiesIn};
 ghost use Rattle.chan_core.specs.Lines.{place_of, cells_of, index_of};
 
+use ddr4_timing::place::Place;
 use ddr4_timing::timing::Checked;
-use frfcfs::place::Place;
 
 /// The place of a line, as the host names it, from 0.
 ///

@@ -3,13 +3,20 @@ ghost use Rattle.std.specs.Prelude.{◌≡◌, ℕ, ◌<◌, ◌↔◌, ◌∷�
 ghost use Rattle.frfcfs.specs.declared.pending.Pending.{Pending};
 ghost use Rattle.ddr4_timing.specs.declared.timing.Geometry.{Geometry};
 ghost use Rattle.chan_core.specs.Requests.{IsArrivals, ClosesUp, MarksNext, NoneNames, Reholds, Renumbers, asked, held_by, is_held, request};
-ghost use Rattle.frfcfs.specs.Places.{LiesIn};
+ghost use Rattle.ddr4_timing.specs.Places.{LiesIn};
 
+use ddr4_timing::place::Place;
 use frfcfs::pending::{Kind, Pending};
-use frfcfs::place::Place;
 
 /// Adds a request behind the others.
-pub fn push(pending: &mut Vec<Pending>, place: Place, line: u64, kind: Kind, number: u64, held: bool)
+pub fn push(
+    pending: &mut Vec<Pending>,
+    place: Place,
+    line: u64,
+    kind: Kind,
+    number: u64,
+    held: bool,
+)
     requires room { length pending.old.items < vec_capacity pending.old }
     ensures items { map asked pending.new.items ≡ map asked pending.old.items ++ request place line kind number held ∷ [] }
     ensures arrivals { (g : Geometry) → LiesIn g place → IsArrivals g pending.old.items → IsArrivals g pending.new.items }

@@ -3,8 +3,8 @@ ghost use Rattle.std.specs.Prelude.{◌≡◌, IfSome};
 ghost use Rattle.ddr4_timing.specs.Limits.{lines_of};
 
 use crate::lines::{cells, index_of, place_of};
+use ddr4_timing::place::Place;
 use ddr4_timing::timing::{Checked, Geometry, Timing};
-use frfcfs::place::Place;
 use std::test::Fail;
 
 fn tiny() -> Timing {

@@ -1,11 +1,11 @@
 // Whether a list of requests is one that a choice can be made of.
 ghost use Rattle.std.specs.Prelude.{◌≡◌, ℕ, ◌<◌, ◌≤◌, ◌↔◌, Some, IsTrue, length, slice_get};
 ghost use Rattle.frfcfs.specs.declared.pending.Pending.{Pending};
-ghost use Rattle.frfcfs.specs.Places.{LiesIn};
+ghost use Rattle.ddr4_timing.specs.Places.{LiesIn};
 ghost use Rattle.frfcfs.specs.Requests.{IsFirst, IsQueue};
 
 use crate::pending::Pending;
-use crate::place::Place;
+use ddr4_timing::place::Place;
 use ddr4_timing::timing::Geometry;
 
 /// Whether the place lies in the geometry.

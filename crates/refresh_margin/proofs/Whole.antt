@@ -18,7 +18,7 @@ use Rattle.bank_core.specs.Stands.{with_command}
 use Rattle.frfcfs.specs.declared.pending.Kind.{Kind}
 use Rattle.frfcfs.specs.declared.pending.Kind.TheVariants.{Read, Write}
 use Rattle.frfcfs.specs.declared.pending.Pending.{Pending}
-use Rattle.frfcfs.specs.declared.place.Place.{Place}
+use Rattle.ddr4_timing.specs.declared.place.Place.{Place}
 use Rattle.frfcfs.specs.declared.choice.Turn.{Turn}
 use Rattle.frfcfs.specs.declared.choice.Turn.TheVariants.{Rank, Column, Row}
 use Rattle.frfcfs.specs.declared.choice.Next.{Next}

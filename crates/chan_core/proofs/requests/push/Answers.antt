@@ -1,7 +1,7 @@
-use Rattle.std.proofs.Common.{◌≡◌, ℕ, List, length, slice_get, Some, ap, subst, sym, ◌∙◌, arith}
+use Rattle.std.proofs.Common.{◌≡◌, List, length, slice_get, Some, ap, subst, sym, ◌∙◌}
 use Rattle.frfcfs.specs.declared.pending.Pending.{Pending}
 use Rattle.std.proofs.lemmas.Option.{slice_get_within}
-use Rattle.chan_core.specs.Requests.{IsArrivals, NoneNames}
+use Rattle.chan_core.specs.Requests.{IsArrivals}
 use Rattle.chan_core.proofs.Arrivals.{arrivals-push}
 use Rattle.chan_core.proofs.requests.push.Goals as goal
 

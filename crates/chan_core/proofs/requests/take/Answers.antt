@@ -1,8 +1,8 @@
-use Rattle.std.proofs.Common.{◌≡◌, ℕ, List, length, take, drop, ◌++◌, remove, Some, slice_get, refl, subst, sym, ap, ◌∙◌, arith}
+use Rattle.std.proofs.Common.{◌≡◌, ℕ, List, length, take, drop, ◌++◌, remove, refl, subst, ap, ◌∙◌, arith}
 use Rattle.std.proofs.Math.Seq.{take-append_seam}
 use Rattle.std.proofs.lemmas.Option.{slice_get_read}
 use Rattle.frfcfs.specs.declared.pending.Pending.{Pending}
-use Rattle.chan_core.specs.Requests.{IsArrivals, ClosesUp, asked}
+use Rattle.chan_core.specs.Requests.{ClosesUp}
 use Rattle.chan_core.proofs.Arrivals.{arrivals-taken, asked-taken, length-closed}
 use Rattle.chan_core.proofs.requests.take.Goals as goal
 
@@ -20,5 +20,5 @@ returns-clause-items c = rw (new-is c) (asked-taken c.args.pending.now.items c.c
 pub returns-clause-arrivals : goal.returns-clause-arrivals
 returns-clause-arrivals c g is =
     rw (new-is c)
-        (arrivals-taken g c.args.pending.now.items c.close_up.new.pending c.args.place c.remove-taken.result
-            (slice_get_read c.args.pending.now.items (length c.args.pending.now.items) c.args.place c.remove-taken.result refl c.requires.within c.remove-taken.ensures.value) is (closes c))
+    (arrivals-taken g c.args.pending.now.items c.close_up.new.pending c.args.place c.remove-taken.result
+    (slice_get_read c.args.pending.now.items (length c.args.pending.now.items) c.args.place c.remove-taken.result refl c.requires.within c.remove-taken.ensures.value) is (closes c))

@@ -1,5 +1,5 @@
-use Rattle.std.proofs.Common.{◌≡◌, ◌+◌, ◌<◌, ◌≤◌, ℕ, List, Some, None, length, get_or, remove, slice_get, refl, ap, sym, subst, ◌∙◌, arith}
-use Rattle.std.proofs.lemmas.Option.{slice_get_within, slice_get_read, get_or_from_slice_get}
+use Rattle.std.proofs.Common.{◌≡◌, ℕ, List, Some, get_or, slice_get, refl, ap, sym, subst, ◌∙◌, arith}
+use Rattle.std.proofs.lemmas.Option.{get_or_from_slice_get}
 use Rattle.chan_core.specs.declared.reads.OpenRead.{OpenRead}
 use Rattle.chan_core.specs.declared.answers.Collected.TheVariants as collected
 use Rattle.chan_core.specs.ChannelMemory.{MemoryState, Collects}
@@ -27,17 +27,17 @@ returns-in-Some-bytes c =
     let place = subst (λ (xs : List OpenRead). IsPlaceOf c.args.ticket.serial xs (Some c.in-Some.place)) c.deref.ensures.value c.in-Some.ensures in
     let f = found c.self.inside.reads.items c.in-Some.place c.args.ticket.serial c.index-read.result.now place c.index-read.ensures in
     let new : MemoryState =
-        record {
-          checked = c.self.inside.checked;
-          channel = c.self.inside.channel;
-          array = c.self.inside.array.items;
-          queue = c.self.inside.queue;
-          pending = c.self.inside.pending.items;
-          reads = c.remove.new.self.items;
-          most_reads = c.self.inside.most_reads;
-          serial = c.self.inside.serial;
-          hold = c.self.inside.hold;
-        } in
+    record {
+      checked = c.self.inside.checked;
+      channel = c.self.inside.channel;
+      array = c.self.inside.array.items;
+      queue = c.self.inside.queue;
+      pending = c.self.inside.pending.items;
+      reads = c.remove.new.self.items;
+      most_reads = c.self.inside.most_reads;
+      serial = c.self.inside.serial;
+      hold = c.self.inside.hold;
+    } in
     subst (λ (s : MemoryState). Collects s c.args.ticket (collected.Data c.index-read.result.now.line c.in-Some-bytes.bytes c.index-read.result.now.at) new) c.self.view_is (
       c.if-ticket-self.false,
       c.in-Some.place,

@@ -1,5 +1,5 @@
-use Rattle.std.proofs.Common.{◌≡◌, ℕ, ◌∙◌, Ok, Some, None, ap, refl, sym, subst}
-use Rattle.frfcfs.specs.declared.place.Place.{Place}
+use Rattle.std.proofs.Common.{ℕ, ◌∙◌, Ok, Some, ap, refl, subst}
+use Rattle.ddr4_timing.specs.declared.place.Place.{Place}
 use Rattle.wpq_core.specs.Writes.{IsNewest, NoneNames}
 use Rattle.chan_core.specs.Lines.{index_of}
 use Rattle.chan_core.specs.declared.answers.Got.TheVariants.{Now}
@@ -15,7 +15,7 @@ returns-in-Some c =
     let free = refuted _ c.is_full_of_reads.ensures c.if-is_full_of_reads.false in
     let index = c.index_of-index.ensures.is ∙ ap (λ (p : Place). index_of c.self.inside.checked.geometry p) c.place_of-place.ensures.is in
     subst (λ (s : MemoryState). Gets s c.args.line c.args.at (Ok (Now c.in-Some.bytes)) s) c.self.view_is
-        (λ full. free (subst IsFullOfReads c.self.view_is full), subst (λ (n : ℕ). IsNewest n c.self.inside.queue.writes (Some c.in-Some.bytes)) index c.in-Some.ensures, refl)
+    (λ full. free (subst IsFullOfReads c.self.view_is full), subst (λ (n : ℕ). IsNewest n c.self.inside.queue.writes (Some c.in-Some.bytes)) index c.in-Some.ensures, refl)
 
 pub returns-in-None : goal.returns-in-None
 returns-in-None c =

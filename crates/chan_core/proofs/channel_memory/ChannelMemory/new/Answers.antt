@@ -1,4 +1,4 @@
-use Rattle.std.proofs.Common.{◌+◌, ◌∙◌, ap, refl, arith}
+use Rattle.std.proofs.Common.{ap, arith}
 use Rattle.line_memory.proofs.Zeroed.{zeroed}
 use Rattle.wpq_core.specs.Queue.{Queue}
 use Rattle.chan_core.proofs.Holding.{new-holds}

@@ -1,7 +1,7 @@
-use Rattle.std.proofs.Common.{◌≡◌, ◌+◌, ◌<◌, ◌≤◌, ℕ, List, length, map, slice_set, refl, ap, sym, subst, ◌∙◌, arith}
+use Rattle.std.proofs.Common.{slice_set, refl, ap, sym, subst, ◌∙◌, arith}
 use Rattle.frfcfs.specs.Requests.{IsEligible}
 use Rattle.chan_core.specs.Requests.{asked}
-use Rattle.chan_core.specs.ChannelMemory.{MemoryState, Writes, memory_of, tickets_of, requests_of}
+use Rattle.chan_core.specs.ChannelMemory.{MemoryState, Writes, memory_of, tickets_of}
 use Rattle.chan_core.proofs.Serving.{in-queue, write-holds, write-memory, write-tickets}
 use Rattle.chan_core.proofs.channel_memory.ChannelMemory.serve_write.Goals as goal
 
@@ -31,19 +31,19 @@ invariant_of-self c =
 pub returns-clause-writes : goal.returns-clause-writes
 returns-clause-writes c =
     let new : MemoryState =
-        record {
-          checked = c.self.inside.checked;
-          channel = c.self.inside.channel;
-          array = slice_set c.self.inside.array.items c.args.request.line c.take_write-bytes.result;
-          queue = c.take_write-bytes.new.queue;
-          pending = c.take.new.pending.items;
-          reads = c.self.inside.reads.items;
-          most_reads = c.self.inside.most_reads;
-          serial = c.self.inside.serial;
-          hold = c.self.inside.hold;
-        } in
+    record {
+      checked = c.self.inside.checked;
+      channel = c.self.inside.channel;
+      array = slice_set c.self.inside.array.items c.args.request.line c.take_write-bytes.result;
+      queue = c.take_write-bytes.new.queue;
+      pending = c.take.new.pending.items;
+      reads = c.self.inside.reads.items;
+      most_reads = c.self.inside.most_reads;
+      serial = c.self.inside.serial;
+      hold = c.self.inside.hold;
+    } in
     subst (λ (s : MemoryState). Writes s c.args.place c.args.request new) c.self.view_is
-        (record { bytes = c.take_write-bytes.result; same = refl; depth = c.take_write-bytes.ensures.depth; takes = c.take_write-bytes.ensures.takes; pending = c.take.ensures.items })
+    (record { bytes = c.take_write-bytes.result; same = refl; depth = c.take_write-bytes.ensures.depth; takes = c.take_write-bytes.ensures.takes; pending = c.take.ensures.items })
 
 pub returns-clause-memory : goal.returns-clause-memory
 returns-clause-memory c =

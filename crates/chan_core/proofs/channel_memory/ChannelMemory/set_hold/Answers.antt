@@ -1,4 +1,4 @@
-use Rattle.std.proofs.Common.{◌+◌, ◌≤◌, arith}
+use Rattle.std.proofs.Common.{arith}
 use Rattle.chan_core.proofs.Holding.{hold-holds}
 use Rattle.chan_core.proofs.channel_memory.ChannelMemory.set_hold.Goals as goal
 

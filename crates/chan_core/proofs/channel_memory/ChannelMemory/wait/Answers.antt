@@ -1,9 +1,9 @@
-use Rattle.std.proofs.Common.{◌≡◌, ◌<◌, ℕ, length, sym, subst, arith}
+use Rattle.std.proofs.Common.{◌≡◌, ◌<◌, sym, subst, arith}
 use Rattle.wpq_core.specs.Writes.{NoneNames}
-use Rattle.frfcfs.specs.Places.{LiesIn}
+use Rattle.ddr4_timing.specs.Places.{LiesIn}
 use Rattle.chan_core.specs.Lines.{cells_of, index_of, place_of}
 use Rattle.chan_core.specs.ChannelMemory.{MemoryState, IsFullOfReads, cell_of}
-use Rattle.frfcfs.specs.declared.place.Place.{Place}
+use Rattle.ddr4_timing.specs.declared.place.Place.{Place}
 use Rattle.chan_core.proofs.Holding.{get-holds, few-pending, room}
 use Rattle.chan_core.proofs.channel_memory.ChannelMemory.wait.Goals as goal
 
