@@ -5,3 +5,4 @@ pub mod Arrivals
 pub mod Holding
 pub mod Serving
 pub mod Answering
+pub mod Recent
