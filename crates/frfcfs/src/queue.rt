@@ -20,7 +20,8 @@ pub fn lies_in(geometry: &Geometry, place: &Place) -> bool
         && place.column < geometry.columns
 }
 
-/// Whether no older request of the list names the request's line. It looks at each request of the list.
+/// Whether no older request of the list names the request's line, which is what its mark `first` says. It looks at each
+/// request of the list once at most.
 pub fn is_first(pending: &[Pending], p: &Pending) -> bool
     ensures { IsTrue result ↔ IsFirst pending.now p.now }
 {
