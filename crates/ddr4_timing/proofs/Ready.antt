@@ -11,9 +11,10 @@ use Rattle.ddr4_timing.specs.declared.command.Command.{Command}
 use Rattle.ddr4_timing.specs.declared.command.Stamped.{Stamped}
 use Rattle.ddr4_timing.specs.declared.timing.Timing.{Timing}
 use Rattle.ddr4_timing.specs.declared.timing.Checked.{Checked}
+use Rattle.ddr4_timing.specs.declared.fault.Fault.{Fault}
 use Rattle.ddr4_timing.specs.Command.{is_act, is_act_of, is_ref, rank_of}
 use Rattle.ddr4_timing.specs.Gaps.{gap, pair_gap, faw_gap}
-use Rattle.ddr4_timing.specs.Lawful.{ref_count, last_ref, KeepsGap, KeepsRows, KeepsRefresh, Obeys, Admits, IsLawful}
+use Rattle.ddr4_timing.specs.Lawful.{ref_count, last_ref, KeepsGap, KeepsRows, KeepsRefresh, Obeys, Admits, Holds, IsLawful, IsFirstFault}
 use Rattle.ddr4_timing.specs.Floors.{greatest, floor, window, least_clock}
 use Rattle.ddr4_timing.specs.Gaps.{largest, most_gap}
 
@@ -245,3 +246,31 @@ IsLawful-take c list n h first second rule q x s =
     let within = slice_get_within (take n list) second x s in
     let small : length (take n list) ≤ n = grind (arith, common_steps) in
     subst (λ (before : List Stamped). Obeys c before x rule first) (sym (take_take list n second (omega (arith, within, small)))) (h first second rule q x (slice_get_from_take list n second x s))
+
+-- where the front of a list is lawful, every rule holds of its places in the list
+slice_get_to_take : (xs : List Stamped) (n j : ℕ) (y : Stamped) → j < n → slice_get xs j ≡ Some y → slice_get (take n xs) j ≡ Some y
+slice_get_to_take [] n j y h s = absurd cc
+slice_get_to_take (x ∷ xs) zero j y h s = absurd (omega arith)
+slice_get_to_take (x ∷ xs) (suc n) zero y h s = s
+slice_get_to_take (x ∷ xs) (suc n) (suc j) y h s = slice_get_to_take xs n j y (omega arith) s
+
+pub Holds-front : (c : Checked) (list : List Stamped) (n : ℕ) → IsLawful c (take n list) → (first second rule : ℕ) → second < n → rule ≤ 16 → Holds c list first second rule
+Holds-front c list n h first second rule l q x s =
+    subst (λ (before : List Stamped). Obeys c before x rule first) (take_take list n second (omega arith)) (h first second rule q x (slice_get_to_take list n second x l s))
+
+pub IsLawful-front : (c : Checked) (list : List Stamped) (n : ℕ) → ((first second rule : ℕ) → second < n → rule ≤ 16 → Holds c list first second rule) → IsLawful c (take n list)
+IsLawful-front c list n h first second rule q x s =
+    let within = slice_get_within (take n list) second x s in
+    let small : length (take n list) ≤ n = grind (arith, common_steps) in
+    subst (λ (before : List Stamped). Obeys c before x rule first) (sym (take_take list n second (omega (arith, within, small)))) (h first second rule (omega (arith, within, small)) q x (slice_get_from_take list n second x s))
+
+-- the first fault of a list stands where its lawful front ends
+pub fault_place : (c : Checked) (list : List Stamped) (i : ℕ) (f : Fault) → IsLawful c (take i list) → (IsLawful c (take (i + 1) list) → ⊥) → IsFirstFault c list f → f.second ≡ i
+fault_place c list i f l n r =
+    elim (cases_lt f.second i) [
+      | inl below ↦ absurd (r.broken (Holds-front c list i l f.first f.second f.rule below r.rule))
+      | inr above ↦ elim (cases_lt i f.second) [
+        | inl over ↦ absurd (n (IsLawful-front c list (i + 1) (λ first second rule s q. r.first first second rule q (omega arith, λ e. absurd (omega arith)))))
+        | inr under ↦ omega arith
+      ]
+    ]

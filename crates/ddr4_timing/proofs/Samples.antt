@@ -1,7 +1,7 @@
 -- The gap between two commands is that between two samples of their kinds that are as near.
-use Rattle.std.proofs.Common.{◌≡◌, ℕ, zero, suc, ◌+◌, ◌*◌, ◌/◌, ◌%◌, ◌<◌, ◌≤◌, Bool, true, false, cond, eqb, refl, ap, sym, subst, ◌∙◌, inl, inr, arith}
-use Rattle.std.specs.Prelude.{max, ◌&&◌, ◌||◌}
-use Rattle.std.proofs.lemmas.Bool.{eqb-true, eq-eqb, cases_Bool}
+use Rattle.std.proofs.Common.{◌≡◌, ℕ, zero, suc, ◌/◌, ◌%◌, ◌<◌, Bool, true, false, cond, eqb, refl, ap, sym, ◌∙◌, arith}
+use Rattle.std.specs.Prelude.{◌&&◌}
+use Rattle.std.proofs.lemmas.Bool.{eq-eqb}
 use Rattle.std.proofs.lemmas.Bool.Decides.{nat_tests}
 use Rattle.ddr4_timing.specs.declared.command.Command.{Command}
 use Rattle.ddr4_timing.specs.declared.command.Command.TheVariants.{Act, Rd, Wr, Pre, PreAll, Ref, Sre}
@@ -123,7 +123,7 @@ near : (a b : Command) → AreAsNear a b (first_sample (kind_of a) (near_to a (r
 near a b =
     let n = near_to a (rank_of b) (group_of b) (bank_of b) in
     let s = share (has_bank a) (has_bank b) (eqb (rank_of a) (rank_of b)) (eqb (group_of a) (group_of b)) (eqb (bank_of a) (bank_of b))
-      (λ p q. let x = no_bank a p in let y = no_bank b q in (eq-eqb _ _ (x.0 ∙ sym y.0), eq-eqb _ _ (x.1 ∙ sym y.1))) in
+    (λ p q. let x = no_bank a p in let y = no_bank b q in (eq-eqb _ _ (x.0 ∙ sym y.0), eq-eqb _ _ (x.1 ∙ sym y.1))) in
     let ra = rank_of_sample a 0 (cond (eqb n 1) 1 0) (cond (eqb n 2) 1 0) in
     let ga = group_of_sample a 0 (cond (eqb n 1) 1 0) (cond (eqb n 2) 1 0) in
     let ba = bank_of_sample a 0 (cond (eqb n 1) 1 0) (cond (eqb n 2) 1 0) in

@@ -52,7 +52,6 @@ impl Machine {
         requires bank { bank < checked.now.geometry.banks }
         ensures { (list : List Stamped) → StandsFor checked.now self.now list → StandsIn checked.now list rank group bank result }
     {
-        let _small = *checked;
         self.banks[(rank * 16 + group * 4 + bank) as usize]
     }
 
@@ -61,7 +60,6 @@ impl Machine {
         requires { rank < checked.now.geometry.ranks }
         ensures { (list : List Stamped) → StandsFor checked.now self.now list → StandsInRank checked.now list rank result }
     {
-        let _small = *checked;
         self.ranks[rank as usize]
     }
 

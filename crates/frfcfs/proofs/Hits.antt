@@ -10,8 +10,8 @@ use Rattle.ddr4_timing.specs.declared.timing.Geometry.{Geometry}
 use Rattle.ddr4_timing.specs.Limits.{IsSmall}
 use Rattle.ddr4_timing.specs.Lawful.{open_row}
 use Rattle.frfcfs.specs.declared.pending.Pending.{Pending}
-use Rattle.frfcfs.specs.declared.place.Place.{Place}
-use Rattle.frfcfs.specs.Places.{LiesIn}
+use Rattle.ddr4_timing.specs.declared.place.Place.{Place}
+use Rattle.ddr4_timing.specs.Places.{LiesIn}
 use Rattle.frfcfs.specs.Requests.{IsEligible}
 use Rattle.frfcfs.specs.Candidates.{SameBank, row_at, IsUnhit}
 use Rattle.frfcfs.specs.Parts.{HasHit, AreHits, bank_index}

@@ -7,7 +7,7 @@ use Rattle.std.proofs.lemmas.Option.{slice_get_within, slice_get-get_or, get_or_
 use Rattle.std.specs.List.{slice_get}
 use Rattle.ddr4_timing.specs.declared.timing.Geometry.{Geometry}
 use Rattle.frfcfs.specs.declared.pending.Pending.{Pending}
-use Rattle.frfcfs.specs.Places.{LiesIn}
+use Rattle.ddr4_timing.specs.Places.{LiesIn}
 use Rattle.frfcfs.specs.Requests.{IsEligible, IsFirst, IsQueue}
 
 pub eligible_is_first : (g : Geometry) (pending : List Pending) (i j : ℕ) (p q : Pending) → IsQueue g pending → IsEligible pending i p → j < i → slice_get pending j ≡ Some q → q.line ≢ p.line

@@ -8,7 +8,7 @@ use Rattle.ddr4_timing.specs.declared.timing.Checked.{Checked}
 use Rattle.ddr4_timing.specs.Lawful.{open_row, ref_count, IsLawful}
 use Rattle.bank_core.specs.Stands.{with_command}
 use Rattle.frfcfs.specs.declared.pending.Pending.{Pending}
-use Rattle.frfcfs.specs.declared.place.Place.{Place}
+use Rattle.ddr4_timing.specs.declared.place.Place.{Place}
 use Rattle.frfcfs.specs.declared.choice.Turn.{Turn}
 use Rattle.frfcfs.specs.declared.choice.Turn.TheVariants.{Rank, Column, Row}
 use Rattle.frfcfs.specs.declared.choice.Choice.{Choice}

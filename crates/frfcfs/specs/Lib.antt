@@ -1,4 +1,3 @@
-pub mod Places
 pub mod Requests
 pub mod Candidates
 pub mod Next

@@ -7,14 +7,14 @@ use Rattle.ddr4_timing.specs.declared.timing.Geometry.{Geometry}
 use Rattle.ddr4_timing.specs.Lawful.{IsLawful}
 use Rattle.bank_core.specs.Stands.{with_command}
 use Rattle.frfcfs.specs.declared.pending.Pending.{Pending}
-use Rattle.frfcfs.specs.declared.place.Place.{Place}
+use Rattle.ddr4_timing.specs.declared.place.Place.{Place}
 use Rattle.frfcfs.specs.declared.choice.Turn.{Turn}
 use Rattle.frfcfs.specs.declared.choice.Turn.TheVariants.{Column, Row}
 use Rattle.frfcfs.specs.declared.choice.Choice.{Choice}
 use Rattle.frfcfs.specs.declared.choice.Next.{Next}
 use Rattle.frfcfs.specs.declared.wish.Stage.{Stage}
 use Rattle.frfcfs.specs.declared.wish.Stage.TheVariants.{Transfer, Prepare}
-use Rattle.frfcfs.specs.Places.{LiesIn}
+use Rattle.ddr4_timing.specs.Places.{LiesIn}
 use Rattle.frfcfs.specs.Requests.{IsEligible, column_of, act_of, pre_of}
 use Rattle.frfcfs.specs.Candidates.{OffersRank, SameBank, row_at, MayHave, WantsColumn, WantsRow, IsNotAfter}
 

@@ -6,8 +6,8 @@ use Rattle.ddr4_timing.specs.declared.timing.Geometry.{Geometry}
 use Rattle.frfcfs.specs.declared.pending.Kind.{Kind}
 use Rattle.frfcfs.specs.declared.pending.Kind.TheVariants.{Read, Write}
 use Rattle.frfcfs.specs.declared.pending.Pending.{Pending}
-use Rattle.frfcfs.specs.declared.place.Place.{Place}
-use Rattle.frfcfs.specs.Places.{LiesIn}
+use Rattle.ddr4_timing.specs.declared.place.Place.{Place}
+use Rattle.ddr4_timing.specs.Places.{LiesIn}
 
 -- The requests stand in order of arrival.
 abbrev pub Rise : List Pending → Type 0

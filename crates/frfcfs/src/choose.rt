@@ -6,7 +6,7 @@ ghost use Rattle.ddr4_timing.specs.declared.command.Command.TheVariants.{Ref, Pr
 ghost use Rattle.bank_core.specs.Stands.{Stands, Allows};
 ghost use Rattle.frfcfs.specs.declared.pending.Pending.{Pending};
 ghost use Rattle.frfcfs.specs.declared.choice.Turn.TheVariants.{Rank};
-ghost use Rattle.frfcfs.specs.Places.{LiesIn};
+ghost use Rattle.ddr4_timing.specs.Places.{LiesIn};
 ghost use Rattle.frfcfs.specs.Requests.{IsQueue};
 ghost use Rattle.frfcfs.specs.Candidates.{OffersRank, IsChoice, Serves};
 ghost use Rattle.frfcfs.specs.Parts.{AreHits, Names, Takes, OffersAt, Below, IsFirstOf, turn_of};

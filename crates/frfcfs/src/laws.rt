@@ -5,7 +5,7 @@ ghost use Rattle.ddr4_timing.specs.declared.timing.Checked.{Checked};
 ghost use Rattle.ddr4_timing.specs.declared.timing.Geometry.{Geometry};
 ghost use Rattle.frfcfs.specs.declared.choice.Choice.{Choice};
 ghost use Rattle.frfcfs.specs.declared.pending.Pending.{Pending};
-ghost use Rattle.frfcfs.specs.Places.{LiesIn};
+ghost use Rattle.ddr4_timing.specs.Places.{LiesIn};
 ghost use Rattle.frfcfs.specs.Requests.{IsEligible, IsFirst, IsQueue, Rise};
 ghost use Rattle.frfcfs.specs.Candidates.{IsLeast};
 

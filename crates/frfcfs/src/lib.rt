@@ -10,7 +10,6 @@ pub mod choose;
 pub mod laws;
 pub mod next;
 pub mod pending;
-pub mod place;
 pub mod queue;
 #[cfg(test)]
 mod tests;

@@ -5,7 +5,7 @@ ghost use Rattle.ddr4_timing.specs.declared.command.Stamped.{Stamped};
 ghost use Rattle.bank_core.specs.Stands.{Stands, Allows};
 ghost use Rattle.frfcfs.specs.declared.pending.Pending.{Pending};
 ghost use Rattle.frfcfs.specs.declared.choice.Turn.TheVariants.{Rank};
-ghost use Rattle.frfcfs.specs.Places.{LiesIn};
+ghost use Rattle.ddr4_timing.specs.Places.{LiesIn};
 ghost use Rattle.frfcfs.specs.Requests.{IsQueue};
 ghost use Rattle.frfcfs.specs.Candidates.{Serves};
 ghost use Rattle.frfcfs.specs.Next.{IsFirstFrom, HasCandidate, IsNext};

@@ -2,8 +2,8 @@
 ghost use Rattle.std.specs.Prelude.{◌≡◌, ◌↔◌, false, true, IsTrue};
 ghost use Rattle.frfcfs.specs.Requests.{column_of, act_of, pre_of, IsFree};
 
-use crate::place::Place;
 use ddr4_timing::command::Command;
+use ddr4_timing::place::Place;
 
 /// What a request wants of its line.
 #[derive(Clone, Copy, Debug, PartialEq, Eq)]

@@ -5,11 +5,11 @@ use crate::choice::{Choice, Next, Turn};
 use crate::choose::choose;
 use crate::next::{choose_next, next_clock};
 use crate::pending::{Kind, Pending};
-use crate::place::Place;
 use crate::queue::is_queue;
 use crate::work::has_work;
 use bank_core::banks::Banks;
 use ddr4_timing::command::Command;
+use ddr4_timing::place::Place;
 use ddr4_timing::timing::{Geometry, Timing};
 use std::test::Fail;
 

@@ -5,16 +5,16 @@ ghost use Rattle.ddr4_timing.specs.declared.command.Command.{Command};
 ghost use Rattle.bank_core.specs.Stands.{Stands};
 ghost use Rattle.frfcfs.specs.declared.pending.Pending.{Pending};
 ghost use Rattle.frfcfs.specs.declared.wish.Stage.TheVariants.{Transfer, Prepare};
-ghost use Rattle.frfcfs.specs.Places.{LiesIn};
+ghost use Rattle.ddr4_timing.specs.Places.{LiesIn};
 ghost use Rattle.frfcfs.specs.Requests.{IsQueue};
 ghost use Rattle.frfcfs.specs.Candidates.{WantsColumn, WantsRow, row_at};
 ghost use Rattle.frfcfs.specs.Parts.{AreHits, Names, Wants, bank_index, turn_of};
 
 use crate::choice::Turn;
 use crate::pending::Pending;
-use crate::place::Place;
 use bank_core::banks::Banks;
 use ddr4_timing::command::Command;
+use ddr4_timing::place::Place;
 
 /// How far a request is: its row is open, or is yet to be opened.
 #[derive(Clone, Copy, Debug, PartialEq, Eq)]

@@ -18,5 +18,5 @@ loop-rank-preserved c list s rank cmd h =
 pub returns-clause-first : goal.returns-clause-first
 returns-clause-first c list pending s =
     let b = c.args.banks.now.checked in
-    let e = ap (λ x. x.geometry.ranks) c.checked-ranks.ensures in
+    let e = ap (λ x. x.geometry.ranks) c.checked.ensures in
     none_below pending Rank (OffersRank b list c.args.clock) b.geometry.ranks (λ rank cmd l o. c.loop-rank.invariant list s rank cmd (omega (arith, l, e)) o)

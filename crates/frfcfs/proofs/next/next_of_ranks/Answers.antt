@@ -21,7 +21,7 @@ loop-rank-preserved c =
 pub returns-clause-first : goal.returns-clause-first
 returns-clause-first c list pending s =
     let b = c.args.banks.now.checked in
-    let n = ap (λ x. x.geometry.ranks) c.checked-ranks.ensures in
+    let n = ap (λ x. x.geometry.ranks) c.checked.ensures in
     let t = c.loop-rank-test.false in
     let u = c.loop-rank.auto.rank-end in
     let e : c.loop-rank.rank ≡ b.geometry.ranks = omega (arith, n, t, u) in

@@ -1,7 +1,7 @@
 use Rattle.std.proofs.Common.{◌≡◌, ℕ, ◌<◌, ◌↔◌, Some, IsTrue}
 use Rattle.std.specs.List.{slice_get}
 use Rattle.frfcfs.specs.declared.pending.Pending.{Pending}
-use Rattle.frfcfs.specs.Places.{LiesIn}
+use Rattle.ddr4_timing.specs.Places.{LiesIn}
 use Rattle.frfcfs.specs.Requests.{IsFirst}
 use Rattle.frfcfs.proofs.queue.is_queue.Given as goal
 

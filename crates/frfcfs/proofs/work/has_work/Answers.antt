@@ -17,7 +17,7 @@ pub returns : goal.returns
 returns c list s = (
   λ e. absurd cc,
   λ h. elim h [
-    | inl r ↦ let w = r.1 in let n = ap (λ x. x.geometry.ranks) c.checked-rank-end.ensures in absurd (c.loop-rank.invariant list s r.0 (omega (arith, w, n)) r.2)
+    | inl r ↦ let w = r.1 in let n = ap (λ x. x.geometry.ranks) c.checked.ensures in absurd (c.loop-rank.invariant list s r.0 (omega (arith, w, n)) r.2)
     | inr r ↦ let w = slice_get_within c.args.pending.now r.0 r.1 r.2.here in absurd (c.loop-p.invariant r.0 r.1 (omega (arith, w)) r.2)
   ],
 )

@@ -1,9 +1,9 @@
--- Places of the geometry.
+-- The places of a geometry.
 use Rattle.std.specs.Prelude.{◌<◌}
+use Rattle.ddr4_timing.specs.declared.place.Place.{Place}
 use Rattle.ddr4_timing.specs.declared.timing.Geometry.{Geometry}
-use Rattle.frfcfs.specs.declared.place.Place.{Place}
 
--- The place lies in the geometry.
+-- each number of the place is below that of the geometry
 pub record LiesIn (g : Geometry) (p : Place) : Type 0 where
   pub channel : p.channel < g.channels
   pub rank : p.rank < g.ranks
