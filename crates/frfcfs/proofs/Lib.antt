@@ -4,3 +4,5 @@ pub mod Hits
 pub mod Firsts
 pub mod Clocks
 pub mod Nexts
+pub mod QueueLaws
+pub mod One

@@ -23,7 +23,7 @@ use Rattle.frfcfs.proofs.Clocks.{rests_from, until_from}
 use Rattle.frfcfs.proofs.Wishes.{wants_one, serves_at}
 use Rattle.frfcfs.proofs.Firsts.{InOrder, Offers, candidate_offers, offers_candidate, rank_precedes, column_precedes, apart}
 use Rattle.frfcfs.specs.Next.{IsFirstFrom, IsNext}
-use Rattle.frfcfs.specs.Parts.{IsNextOf, IsNextAt, IsSooner, Below, MayGo, Names, Wants, Takes, OffersAt, turn_of}
+use Rattle.frfcfs.specs.Parts.{IsNextOf, IsNextAt, IsSooner, Below, MayGo, Names, Wants, Takes, OffersAt, OffersUntil, past, turn_of}
 
 pub next_same : (pending : List Pending) (P Q : ℕ → Turn → Command → Type 0) (now : ℕ) (a : Option Next) → ((k : ℕ) (turn : Turn) (cmd : Command) → k < 2 ^ 63 → (P k turn cmd ↔ Q k turn cmd)) → IsNextOf pending P now a → IsNextOf pending Q now a
 next_same pending P Q now None h f = λ k n l turn cmd q. f k n l turn cmd ((h k turn cmd l).1 q)
@@ -138,19 +138,24 @@ next_skip pending turn_at O now i a never f =
 along : (c : Checked) (list : List Stamped) (k : ℕ) (a b : Command) → a ≡ b → IsLawful c (with_command list k a) → IsLawful c (with_command list k b)
 along c list k a b e h = subst (λ (x : Command). IsLawful c (with_command list k x)) e h
 
-pub rank_offers : (c : Checked) (list : List Stamped) (rank lead k : ℕ) (turn : Turn) (cmd : Command) → rank < c.geometry.ranks → k < 2 ^ 63 → (IsInLead c.timing list k rank ↔ (lead ≤ k)) →
-    ((((turn ≡ Rank rank) × (cmd ≡ Ref rank) × MayGo c list (Ref rank) lead (2 ^ 63) k) ⊎ ((turn ≡ Rank rank) × (cmd ≡ PreAll rank) × MayGo c list (PreAll rank) lead (2 ^ 63) k))
-    ↔ ((turn ≡ Rank rank) × OffersRank c list k rank cmd))
-rank_offers c list rank lead k turn cmd w h i = (
+pub rank_offers : (c : Checked) (list : List Stamped) (rank lead end k : ℕ) (turn : Turn) (cmd : Command) → rank < c.geometry.ranks → (IsInLead c.timing list k rank ↔ (lead ≤ k)) →
+    ((((turn ≡ Rank rank) × (cmd ≡ Ref rank) × MayGo c list (Ref rank) lead end k) ⊎ ((turn ≡ Rank rank) × (cmd ≡ PreAll rank) × MayGo c list (PreAll rank) lead end k))
+    ↔ ((turn ≡ Rank rank) × OffersUntil c list end k rank cmd))
+rank_offers c list rank lead end k turn cmd w i = (
   λ e. elim e [
-    | inl p ↦ (p.0, record { within = w; lead = i.1 p.2.0; kind = inl p.1; lawful = along c list k (Ref rank) cmd (sym p.1) p.2.2 })
-    | inr p ↦ (p.0, record { within = w; lead = i.1 p.2.0; kind = inr p.1; lawful = along c list k (PreAll rank) cmd (sym p.1) p.2.2 })
+    | inl p ↦ (p.0, (p.2.1, record { within = w; lead = i.1 p.2.0; kind = inl p.1; lawful = along c list k (Ref rank) cmd (sym p.1) p.2.2 }))
+    | inr p ↦ (p.0, (p.2.1, record { within = w; lead = i.1 p.2.0; kind = inr p.1; lawful = along c list k (PreAll rank) cmd (sym p.1) p.2.2 }))
   ],
-  λ o. elim o.1.kind [
-    | inl e ↦ inl (o.0, e, (i.0 o.1.lead, h, along c list k cmd (Ref rank) e o.1.lawful))
-    | inr e ↦ inr (o.0, e, (i.0 o.1.lead, h, along c list k cmd (PreAll rank) e o.1.lawful))
+  λ o. let f = o.1.1 in elim f.kind [
+    | inl e ↦ inl (o.0, e, (i.0 f.lead, o.1.0, along c list k cmd (Ref rank) e f.lawful))
+    | inr e ↦ inr (o.0, e, (i.0 f.lead, o.1.0, along c list k cmd (PreAll rank) e f.lawful))
   ],
 )
+
+-- a rank that comes into lead no sooner than the end offers nothing before it
+pub rank_idle : (pending : List Pending) (c : Checked) (list : List Stamped) (rank lead end now : ℕ) → end ≤ lead → ((k : ℕ) → k < 2 ^ 63 → (IsInLead c.timing list k rank ↔ (lead ≤ k))) →
+    IsNextOf pending (λ k turn cmd. (turn ≡ Rank rank) × OffersUntil c list end k rank cmd) now None
+rank_idle pending c list rank lead end now h i k n l turn cmd o = let b = o.1.0 in let a = (i k l).0 o.1.1.lead in absurd (omega (arith, a, b, h))
 
 pub rank_leads : (pending : List Pending) (rank : ℕ) (P Q : ℕ → Turn → Command → Type 0) → ((k : ℕ) (t : Turn) (x : Command) → P k t x → t ≡ Rank rank) → ((k : ℕ) (t : Turn) (x : Command) → Q k t x → t ≡ Rank rank) → Leads pending P Q
 rank_leads pending rank P Q at at' j k t u x y p q =
@@ -178,20 +183,48 @@ offers_at stage c list pending i k d turn cmd el = (
   λ o. (o.0, at_place (λ x. Takes stage c list pending k x cmd) pending i o.1.0 d o.1.1.here (o.1.2, o.1.3)),
 )
 
+-- a family looked for up to the clock of the other's next
+pub next_until : (pending : List Pending) (R Q : ℕ → Turn → Command → Type 0) (now : ℕ) (a b r : Option Next) → Leads pending R Q → IsSooner a b r → IsNextOf pending (λ k turn cmd. (k < past b) × R k turn cmd) now a →
+    IsNextOf pending Q now b → IsNextOf pending (λ k turn cmd. R k turn cmd ⊎ Q k turn cmd) now r
+next_until pending R Q now a None r leads s f g =
+    next_either pending R Q now a None r leads s (next_same pending (λ k turn cmd. (k < 2 ^ 63) × R k turn cmd) R now a (λ k turn cmd l. (λ p. p.1, λ p. (l, p))) f) g
+next_until pending R Q now None (Some y) r leads s f g =
+    let l = g.early.1 in
+    subst (λ (x : Option Next). IsNextOf pending (λ k turn cmd. R k turn cmd ⊎ Q k turn cmd) now x) (sym s)
+    (right_next pending R Q now y g (λ k n b turn cmd p. f k n (omega (arith, l, b)) turn cmd (omega (arith, b), p)) (λ turn cmd p. f y.clock g.early.0 l turn cmd (omega arith, p)))
+next_until pending R Q now (Some x) (Some y) r leads (inl s) f g = let b = s.0 in let h = f.here.0 in absurd (omega (arith, b, h))
+next_until pending R Q now (Some x) (Some y) r leads (inr s) f g =
+    let b = s.0 in
+    let at : IsNextAt pending R now x = record {
+      here = f.here.1;
+      early = f.early;
+      before = λ k n h turn cmd p. f.before k n h turn cmd (omega (arith, h, b), p);
+      least = λ turn cmd p. f.least turn cmd (omega (arith, b), p);
+    } in
+    subst (λ (z : Option Next). IsNextOf pending (λ k turn cmd. R k turn cmd ⊎ Q k turn cmd) now z) (sym s.1)
+    (left_next pending R Q now x at (λ k n h turn cmd q. g.before k n (omega (arith, h, b)) turn cmd q) (λ turn cmd q. leads x.clock x.clock x.choice.turn turn x.choice.cmd cmd at.here q))
+
+until_below : (c : Checked) (list : List Stamped) (end k : ℕ) (turn : Turn) (cmd : Command) →
+    (Below Rank (OffersUntil c list end k) c.geometry.ranks turn cmd ↔ ((k < end) × Below Rank (OffersRank c list k) c.geometry.ranks turn cmd))
+until_below c list end k turn cmd = (λ b. (b.3.0, (b.0, b.1, b.2, b.3.1)), λ b. (b.1.0, b.1.1, b.1.2, (b.0, b.1.3)))
+
 -- all offers together
-pub next_offer : (c : Checked) (list : List Stamped) (pending : List Pending) (now : ℕ) (ranks columns rows later all : Option Next) → IsSooner columns rows later → IsSooner ranks later all →
-    IsNextOf pending (λ k. Below Rank (OffersRank c list k) c.geometry.ranks) now ranks → IsNextOf pending (λ k. Below (turn_of Transfer) (OffersAt Transfer c list pending k) (length pending)) now columns →
+pub next_offer : (c : Checked) (list : List Stamped) (pending : List Pending) (now end : ℕ) (ranks columns rows requests all : Option Next) → IsSooner columns rows requests → end ≡ past requests → IsSooner ranks requests all →
+    IsNextOf pending (λ k. Below Rank (OffersUntil c list end k) c.geometry.ranks) now ranks → IsNextOf pending (λ k. Below (turn_of Transfer) (OffersAt Transfer c list pending k) (length pending)) now columns →
     IsNextOf pending (λ k. Below (turn_of Prepare) (OffersAt Prepare c list pending k) (length pending)) now rows → IsNextOf pending (IsCandidate c list pending) now all
-next_offer c list pending now ranks columns rows later all s t f g h =
+next_offer c list pending now end ranks columns rows requests all s is t f g h =
+    let R = λ (k : ℕ). Below Rank (OffersRank c list k) c.geometry.ranks in
+    let C = λ (k : ℕ). Below (turn_of Transfer) (OffersAt Transfer c list pending k) (length pending) in
+    let W = λ (k : ℕ). Below (turn_of Prepare) (OffersAt Prepare c list pending k) (length pending) in
+    let until = next_same pending (λ k. Below Rank (OffersUntil c list end k) c.geometry.ranks) (λ k turn cmd. (k < past requests) × R k turn cmd) now ranks
+    (λ k turn cmd _. subst (λ (n : ℕ). Below Rank (OffersUntil c list end k) c.geometry.ranks turn cmd ↔ ((k < n) × R k turn cmd)) is (until_below c list end k turn cmd)) f in
     next_same pending (Offers c list pending) (IsCandidate c list pending) now all (λ k turn cmd _. (offers_candidate c list pending k turn cmd, candidate_offers c list pending k turn cmd))
-    (next_either pending (λ k. Below Rank (OffersRank c list k) c.geometry.ranks)
-    (λ k turn cmd. Below (turn_of Transfer) (OffersAt Transfer c list pending k) (length pending) turn cmd ⊎ Below (turn_of Prepare) (OffersAt Prepare c list pending k) (length pending) turn cmd) now ranks later all
+    (next_until pending R (λ k turn cmd. C k turn cmd ⊎ W k turn cmd) now ranks requests all
     (λ j k a b x y p q. elim q [
       | inl o ↦ apart pending Rank (turn_of Transfer) a b p.0 o.0 (rank_precedes pending Transfer) p.2 o.2
       | inr o ↦ apart pending Rank (turn_of Prepare) a b p.0 o.0 (rank_precedes pending Prepare) p.2 o.2
-    ]) t f
-    (next_either pending (λ k. Below (turn_of Transfer) (OffersAt Transfer c list pending k) (length pending)) (λ k. Below (turn_of Prepare) (OffersAt Prepare c list pending k) (length pending)) now columns rows later
-    (λ j k a b x y p q. apart pending (turn_of Transfer) (turn_of Prepare) a b p.0 q.0 (column_precedes pending) p.2 q.2) s g h))
+    ]) t until
+    (next_either pending C W now columns rows requests (λ j k a b x y p q. apart pending (turn_of Transfer) (turn_of Prepare) a b p.0 q.0 (column_precedes pending) p.2 q.2) s g h))
 
 pub is_next : (c : Checked) (list : List Stamped) (pending : List Pending) (now : ℕ) (r : Option Next) → IsNextOf pending (IsCandidate c list pending) now r → IsNext c list pending now r
 is_next c list pending now None f = λ k n l h. f k n l h.0 h.1 h.2

@@ -16,7 +16,7 @@ use Rattle.frfcfs.specs.declared.wish.Stage.{Stage}
 use Rattle.frfcfs.specs.declared.wish.Stage.TheVariants.{Transfer, Prepare}
 use Rattle.frfcfs.specs.Places.{LiesIn}
 use Rattle.frfcfs.specs.Requests.{IsEligible, column_of, act_of, pre_of}
-use Rattle.frfcfs.specs.Candidates.{SameBank, row_at, MayHave, WantsColumn, WantsRow, IsNotAfter}
+use Rattle.frfcfs.specs.Candidates.{OffersRank, SameBank, row_at, MayHave, WantsColumn, WantsRow, IsNotAfter}
 
 -- Some eligible request before a place of the list hits the row that is open in the bank of a place of the geometry.
 abbrev pub HasHit : List Stamped → List Pending → ℕ → Place → Type 0
@@ -53,6 +53,10 @@ Takes stage c list pending clock p cmd = MayHave c list clock p cmd × Wants sta
 abbrev pub OffersAt : Stage → Checked → List Stamped → List Pending → ℕ → ℕ → Command → Type 0
 OffersAt stage c list pending clock i cmd = (p : Pending) × IsEligible pending i p × MayHave c list clock p cmd × Wants stage list pending p cmd
 
+-- the offers of a rank before a clock
+abbrev pub OffersUntil : Checked → List Stamped → ℕ → ℕ → ℕ → Command → Type 0
+OffersUntil c list end clock rank cmd = (clock < end) × OffersRank c list clock rank cmd
+
 -- an offer of a number below the end, in that number's turn
 abbrev pub Below : (ℕ → Turn) → (ℕ → Command → Type 0) → ℕ → Turn → Command → Type 0
 Below turn_at O end turn cmd = (i : ℕ) × (i < end) × (turn ≡ turn_at i) × O i cmd
@@ -79,6 +83,11 @@ abbrev pub IsSooner : Option Next → Option Next → Option Next → Type 0
 IsSooner None b r = r ≡ b
 IsSooner (Some x) None r = r ≡ Some x
 IsSooner (Some x) (Some y) r = ((y.clock < x.clock) × (r ≡ Some y)) ⊎ ((x.clock ≤ y.clock) × (r ≡ Some x))
+
+-- one past the clock of a choice, 2^63 where there is none
+abbrev pub past : Option Next → ℕ
+past None = 2 ^ 63
+past (Some x) = x.clock + 1
 
 -- The command may go at the clock, which lies in a span.
 abbrev pub MayGo : Checked → List Stamped → Command → ℕ → ℕ → ℕ → Type 0

@@ -7,8 +7,12 @@
 
 pub mod choice;
 pub mod choose;
+pub mod laws;
 pub mod next;
 pub mod pending;
 pub mod place;
+pub mod queue;
+#[cfg(test)]
+mod tests;
 mod wish;
 pub mod work;

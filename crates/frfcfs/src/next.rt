@@ -7,9 +7,9 @@ ghost use Rattle.frfcfs.specs.declared.pending.Pending.{Pending};
 ghost use Rattle.frfcfs.specs.declared.choice.Turn.TheVariants.{Rank};
 ghost use Rattle.frfcfs.specs.Places.{LiesIn};
 ghost use Rattle.frfcfs.specs.Requests.{IsQueue};
-ghost use Rattle.frfcfs.specs.Candidates.{OffersRank, Serves};
+ghost use Rattle.frfcfs.specs.Candidates.{Serves};
 ghost use Rattle.frfcfs.specs.Next.{IsFirstFrom, HasCandidate, IsNext};
-ghost use Rattle.frfcfs.specs.Parts.{AreHits, Names, Takes, OffersAt, Below, IsNextOf, IsSooner, MayGo, turn_of};
+ghost use Rattle.frfcfs.specs.Parts.{AreHits, Names, Takes, OffersAt, Below, IsNextOf, IsSooner, MayGo, OffersUntil, past, turn_of};
 
 use crate::choice::{Choice, Next, Turn};
 use crate::pending::Pending;
@@ -25,6 +25,18 @@ fn sooner(a: Option<Next>, b: Option<Next>) -> Option<Next>
         (None, b) => b,
         (a, None) => a,
         (Some(x), Some(y)) => Some(if y.clock < x.clock { y } else { x }),
+    }
+}
+
+// One past the clock of a choice, 2^63 where there is none.
+fn past(next: Option<Next>) -> u64
+    requires { IfSome next (λ x. x.clock < 2 ^ 63) }
+    ensures value { result ≡ past next }
+    ensures early { result ≤ 2 ^ 63 }
+{
+    match next {
+        Some(next) => next.clock + 1,
+        None => 1 << 63,
     }
 }
 
@@ -64,16 +76,19 @@ fn next_command(banks: &Banks, choice: Choice, from: u64, until: u64, now: u64) 
     Some(Next { clock, choice })
 }
 
-// The next REF or PREA of a rank in lead.
-fn next_of_rank(banks: &Banks, rank: u64, now: u64) -> Option<Next>
-    requires { rank < banks.now.checked.geometry.ranks }
+// The next REF or PREA of a rank in lead, before the clock `end`.
+fn next_of_rank(banks: &Banks, rank: u64, end: u64, now: u64) -> Option<Next>
+    requires rank { rank < banks.now.checked.geometry.ranks }
+    requires end { end ≤ 2 ^ 63 }
     ensures early { IfSome result (λ x. (now ≤ x.clock) × (x.clock < 2 ^ 63)) }
     ensures serves { IfSome result (λ x. (pending : List Pending) → Serves pending x.choice.turn x.choice.cmd) }
     ensures first { (list : List Stamped) (pending : List Pending) → Stands banks.now list
-        → IsNextOf pending (λ k turn cmd. (turn ≡ Rank rank) × OffersRank banks.now.checked list k rank cmd) now result }
+        → IsNextOf pending (λ k turn cmd. (turn ≡ Rank rank) × OffersUntil banks.now.checked list end k rank cmd) now result }
 {
-    let end = 1 << 63;
     let lead = banks.lead_from(rank);
+    if lead >= end {
+        return None;
+    }
     let turn = Turn::Rank(rank);
     let refresh = Choice {
         turn,
@@ -117,16 +132,17 @@ fn next_of_request(
     next_command(banks, choice, 0, end, now)
 }
 
-fn next_of_ranks(banks: &Banks, now: u64) -> Option<Next>
+fn next_of_ranks(banks: &Banks, end: u64, now: u64) -> Option<Next>
+    requires { end ≤ 2 ^ 63 }
     ensures early { IfSome result (λ x. (now ≤ x.clock) × (x.clock < 2 ^ 63)) }
     ensures serves { IfSome result (λ x. (pending : List Pending) → Serves pending x.choice.turn x.choice.cmd) }
     ensures first { (list : List Stamped) (pending : List Pending) → Stands banks.now list
-        → IsNextOf pending (λ k. Below Rank (OffersRank banks.now.checked list k) banks.now.checked.geometry.ranks) now result }
+        → IsNextOf pending (λ k. Below Rank (OffersUntil banks.now.checked list end k) banks.now.checked.geometry.ranks) now result }
 {
     let ranks = banks.checked().geometry.ranks;
     let mut best = None;
     for rank in 0..ranks {
-        best = sooner(best, next_of_rank(banks, rank, now));
+        best = sooner(best, next_of_rank(banks, rank, end, now));
     }
     best
 }
@@ -154,7 +170,11 @@ fn next_of_requests(
     best
 }
 
-/// The least clock from now on at which there is a candidate, and the choice there, if there is one below 2^63.
+/// The least clock from now on at which there is a candidate, and the choice there; None exactly where there is none below
+/// 2^63.
+///
+/// It never walks from clock to clock: the clocks of each request's next command are found once, from its bank's and its
+/// rank's, and the least is taken. It takes no memory, and looks at each request three times.
 pub fn choose_next(banks: &Banks, pending: &[Pending], now: u64) -> Option<Next>
     requires { IsQueue banks.now.checked.geometry pending.now }
     ensures early { IfSome result (λ next. next.clock < 2 ^ 63) }
@@ -164,13 +184,15 @@ pub fn choose_next(banks: &Banks, pending: &[Pending], now: u64) -> Option<Next>
     ensures next { (list : List Stamped) → Stands banks.now list → IsNext banks.now.checked list pending.now now result }
 {
     let hits = hit_banks(banks, pending);
-    let ranks = next_of_ranks(banks, now);
     let columns = next_of_requests(Stage::Transfer, banks, pending, &hits, now);
     let rows = next_of_requests(Stage::Prepare, banks, pending, &hits, now);
-    sooner(ranks, sooner(columns, rows))
+    let requests = sooner(columns, rows);
+    let ranks = next_of_ranks(banks, past(requests), now);
+    sooner(ranks, requests)
 }
 
-/// The least clock from now on at which there is a candidate, if there is one below 2^63.
+/// The clock of `choose_next`, at its cost: the least from now on at which there is a candidate; None exactly where there is
+/// none below 2^63.
 pub fn next_clock(banks: &Banks, pending: &[Pending], now: u64) -> Option<u64>
     requires { IsQueue banks.now.checked.geometry pending.now }
     ensures early { IfSome result (λ clock. clock < 2 ^ 63) }
