@@ -7,7 +7,7 @@ use bank_core::replay::first_unready;
 use ddr4_timing::command::{Command, Stamped};
 use ddr4_timing::timing::{Checked, Geometry, Timing};
 use frfcfs::pending::{Kind, Pending};
-use frfcfs::place::Place;
+use ddr4_timing::place::Place;
 use frfcfs::queue::is_queue;
 use std::alloc::{AllocError, Global};
 use std::test::Fail;
