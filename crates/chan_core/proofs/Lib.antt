@@ -6,3 +6,4 @@ pub mod Holding
 pub mod Serving
 pub mod Answering
 pub mod Recent
+pub mod Running

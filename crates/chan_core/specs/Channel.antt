@@ -1,5 +1,5 @@
 -- One channel: what it holds, and the commands that it has issued.
-use Rattle.std.specs.Prelude.{◌≡◌, ◌≢◌, ℕ, ◌-◌, ◌<◌, ◌≤◌, ◌⊎◌, ◌^◌, List, [], ◌∷◌, length, drop, Option, Some, None}
+use Rattle.std.specs.Prelude.{◌≡◌, ℕ, ◌-◌, ◌≤◌, ◌⊎◌, ◌^◌, List, [], ◌∷◌, length, drop, Some}
 use Rattle.ddr4_timing.specs.declared.command.Stamped.{Stamped}
 use Rattle.bank_core.specs.declared.banks.Banks.{Banks}
 use Rattle.bank_core.specs.Stands.{Stands, with_command}

@@ -1,5 +1,5 @@
 // One channel.
-ghost use Rattle.std.specs.Prelude.{◌≡◌, ℕ, ◌<◌, ◌≤◌, ◌⊎◌, ◌^◌, ◌↔◌, [], List, Some, None, IfOk, IfSome, IfNone, IsOk, OnOk, OnErr, length, slice_get};
+ghost use Rattle.std.specs.Prelude.{◌≡◌, ℕ, ◌<◌, ◌≤◌, ◌⊎◌, ◌^◌, ◌↔◌, ◌++◌, [], List, Some, None, IfOk, IfSome, IfNone, IsOk, OnOk, OnErr, length, slice_get};
 ghost use Rattle.line_memory.specs.Memory.{zero_lines};
 ghost use Rattle.ddr4_timing.specs.Limits.{lines_of};
 ghost use Rattle.ddr4_timing.specs.declared.command.Stamped.{Stamped};
@@ -9,7 +9,7 @@ ghost use Rattle.frfcfs.specs.Next.{IsNext};
 ghost use Rattle.refresh_margin.specs.Margin.{KeepsMargin};
 ghost use Rattle.wpq_core.specs.Writes.{ComeBefore};
 ghost use Rattle.chan_core.specs.Lines.{place_of, cells_of};
-ghost use Rattle.chan_core.specs.ChannelMemory.{Puts, Gets, Collects, HoldsBy};
+ghost use Rattle.chan_core.specs.ChannelMemory.{Puts, Gets, Collects, HoldsBy, memory_of};
 ghost use Rattle.chan_core.specs.Channel.{ChannelState, HasIssued, IsInTime, HasNothing, Works, Runs};
 
 use crate::answers::{Collected, Done, Got, ReadsFull, Ticket};
@@ -129,6 +129,27 @@ impl Channel {
             None => None,
             Some(next) => Some(self.issue(next)),
         }
+    }
+
+    /// Works up to n times, until there is nothing to do: the commands in their order. It refuses only where there is no
+    /// memory for n of them; nothing has changed then.
+    pub fn work_many(&mut self, alloc: Global, n: usize) -> Result<Vec<Stamped>, AllocError>
+        ensures runs { IfOk result (λ commands. Runs self.old commands.items self.new) }
+        ensures issued { IfOk result (λ commands. (list : List Stamped) → HasIssued self.old list → HasIssued self.new (list ++ commands.items)) }
+        ensures in_time { IfOk result (λ commands. (list : List Stamped) → HasIssued self.old list → IsInTime self.old list → IsInTime self.new (list ++ commands.items)) }
+        ensures memory { IfOk result (λ commands. memory_of self.new.memory ≡ memory_of self.old.memory) }
+        ensures most { IfOk result (λ commands. length commands.items ≤ n) }
+        ensures ended { IfOk result (λ commands. length commands.items < n → (list : List Stamped) → HasIssued self.new list → IsInTime self.new list → HasNothing self.new list) }
+        ensures same { OnErr result (self.new ≡ self.old) }
+    {
+        let mut commands = Vec::with_capacity(alloc, n)?;
+        for _turn in 0..n {
+            match self.work() {
+                Some(done) => commands.push_reserved(done.command),
+                None => return Ok(commands),
+            }
+        }
+        Ok(commands)
     }
 
     // Issues the next command.

@@ -6,7 +6,7 @@ use Rattle.bank_core.specs.Stands.{Stands, with_command}
 use Rattle.frfcfs.specs.Next.{IsNext}
 use Rattle.refresh_margin.specs.Margin.{KeepsMargin}
 use Rattle.chan_core.specs.declared.answers.Done.{Done}
-use Rattle.chan_core.specs.Channel.{ChannelState, Works, HasIssued}
+use Rattle.chan_core.specs.Channel.{ChannelState, Works}
 use Rattle.chan_core.proofs.Recent.{last-push}
 use Rattle.chan_core.proofs.channel.Channel.issue.Goals as goal
 
@@ -16,7 +16,7 @@ returns c =
     let done : Done = record { command = record { clock = c.args.next.clock; cmd = c.args.next.choice.cmd }; served = c.serve_turn-served.result } in
     let x : Stamped = done.command in
     let kept : c.push_back.new.self.items ≡ drop (length (c.self.inside.recent.items ++ x ∷ []) - 64) (c.self.inside.recent.items ++ x ∷ []) =
-        ap (λ (b : Buffer Stamped). b.items) c.push_back.ensures.items ∙ ap (λ (n : ℕ). drop (length (c.self.inside.recent.items ++ x ∷ []) - n) (c.self.inside.recent.items ++ x ∷ [])) c.self.invariant.1 in
+    ap (λ (b : Buffer Stamped). b.items) c.push_back.ensures.items ∙ ap (λ (n : ℕ). drop (length (c.self.inside.recent.items ++ x ∷ []) - n) (c.self.inside.recent.items ++ x ∷ [])) c.self.invariant.1 in
     subst (λ (s : ChannelState). Works s done new) c.self.view_is (record {
       turn = c.args.next.choice.turn;
       served = c.serve_turn-served.ensures.served;
@@ -27,8 +27,8 @@ returns c =
       };
       in_time = λ list is in_time. subst (λ (p : Checked). KeepsMargin p (with_command list c.args.next.clock c.args.next.choice.cmd) c.args.next.clock) (sym c.issue.ensures.checked)
           (subst
-            (λ (s : ChannelState). (list : List Stamped) → Stands s.banks list → KeepsMargin s.banks.checked list s.clock → KeepsMargin s.banks.checked (with_command list c.args.next.clock c.args.next.choice.cmd) c.args.next.clock)
-            (sym c.self.view_is) c.requires.keeps list is.stands in_time);
+          (λ (s : ChannelState). (list : List Stamped) → Stands s.banks list → KeepsMargin s.banks.checked list s.clock → KeepsMargin s.banks.checked (with_command list c.args.next.clock c.args.next.choice.cmd) c.args.next.clock)
+          (sym c.self.view_is) c.requires.keeps list is.stands in_time);
       checked = c.issue.ensures.checked;
       clock = refl;
       memory = c.serve_turn-served.ensures.memory;
