@@ -82,12 +82,12 @@ pub all_copied : (low high : ℕ) (row settled copied : List ℕ) (flags : List 
     → ((k : ℕ) → get_or flags k false ≡ false → get_or settled k 0 ≡ get_or row k 0) → CopiedWithin low high row settled copied → copied ≡ row
 all_copied low high row settled copied flags whole within agrees copies =
     same_number_lists copied row (copies.size ∙ whole) (λ k less.
-      let settled_here : (k < low) ⊎ (high ≤ k) → get_or settled k 0 ≡ get_or row k 0 =
-        λ out. agrees k (is_down (get_or flags k false) (λ up. let is = within k up in ⊎_elim (λ (b : k < low). let bad : ⊥ = omega (arith, is.0, b) in bad) (λ (b : high ≤ k). let bad : ⊥ = omega (arith, is.1, b) in bad) out)) in
-      elim (cases_lt k low) [
-        | inl before ↦ copies.outside k (inl before) ∙ settled_here (inl before)
-        | inr least ↦ elim (cases_lt k high) [
-          | inl most ↦ copies.inside k least most
-          | inr after ↦ copies.outside k (inr after) ∙ settled_here (inr after)
-        ]
-      ])
+    let settled_here : (k < low) ⊎ (high ≤ k) → get_or settled k 0 ≡ get_or row k 0 =
+    λ out. agrees k (is_down (get_or flags k false) (λ up. let is = within k up in ⊎_elim (λ (b : k < low). let bad : ⊥ = omega (arith, is.0, b) in bad) (λ (b : high ≤ k). let bad : ⊥ = omega (arith, is.1, b) in bad) out)) in
+    elim (cases_lt k low) [
+      | inl before ↦ copies.outside k (inl before) ∙ settled_here (inl before)
+      | inr least ↦ elim (cases_lt k high) [
+        | inl most ↦ copies.inside k least most
+        | inr after ↦ copies.outside k (inr after) ∙ settled_here (inr after)
+      ]
+    ])
