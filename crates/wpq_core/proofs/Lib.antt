@@ -1,0 +1,3 @@
+pub mod NewestWrite
+pub mod PendingLaws
+pub mod Numbers

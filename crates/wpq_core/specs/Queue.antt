@@ -1,0 +1,16 @@
+-- What contracts see of a queue.
+use Rattle.std.specs.Prelude.{ℕ, ◌≤◌, List, length}
+use Rattle.wpq_core.specs.declared.queue.PendingWrite.{PendingWrite}
+use Rattle.wpq_core.specs.Writes.{Rise}
+
+-- how many writes it may hold, and those that it holds, oldest first
+pub record Queue : Type 0 where
+  pub depth : ℕ
+  pub writes : List PendingWrite
+
+-- what is true of every queue
+pub record IsQueue (queue : Queue) : Type 0 where
+  pub rise : Rise queue.writes
+  pub few : length queue.writes ≤ queue.depth
+  pub least : 1 ≤ queue.depth
+  pub most : queue.depth ≤ 64

@@ -1,0 +1,13 @@
+//! The write pending queue: accepted writes that wait for their WR command, in the order of their numbers.
+//!
+//! Contracts see a queue as its depth and the list of its writes (`specs/Queue.antt`). What the waiting writes mean to a
+//! memory is in `specs/PendingMemory.antt`, with the laws in `src/laws.rt`.
+#![tactic(auto)]
+
+mod laws;
+mod queue;
+#[cfg(test)]
+mod tests;
+
+pub use laws::{early_write, line_of_memory, pushed_write};
+pub use queue::{Full, PendingWrite, Wpq};

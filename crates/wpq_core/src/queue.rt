@@ -1,0 +1,146 @@
+// The queue, with its room reserved once.
+ghost use Rattle.std.specs.Prelude.{◌≡◌, ◌≤◌, ◌<◌, ◌↔◌, [], ◌∷◌, ◌++◌, length, nat_lt, count_by, IfErr, IfOk, IsOk, IsTrue, OnErr, OnOk, vec_capacity};
+ghost use Rattle.wpq_core.specs.Writes.{ComeBefore, IsNewest, IsPlaceOf, Takes, pending_write};
+ghost use Rattle.wpq_core.specs.Queue.{Queue, IsQueue};
+
+use line_memory::{Line, Write};
+use std::alloc::{AllocError, Global};
+use std::marker::Model;
+
+/// A write that waits for its WR.
+#[derive(Clone, Copy, Debug, PartialEq, Eq)]
+pub struct PendingWrite {
+    /// Its place among the accepted writes, from 0.
+    pub number: u64,
+    pub write: Write,
+}
+
+/// The queue has no room. The write comes back.
+#[derive(Clone, Copy, Debug, PartialEq, Eq)]
+pub struct Full {
+    pub refused: PendingWrite,
+}
+
+/// Pending writes in the order of their numbers, oldest first: at most `depth`, which is 1 to 64.
+#[derive(Debug, Drop)]
+pub struct Wpq {
+    depth: usize,
+    writes: Vec<PendingWrite>,
+}
+
+impl Model for Wpq {
+    ghost Value = { Queue };
+
+    ghost view = { λ q. record { depth = q.depth; writes = q.writes.items } };
+
+    ghost invariant = { λ q. IsQueue (record { depth = q.depth; writes = q.writes.items }) × (q.depth ≤ vec_capacity q.writes) };
+}
+
+impl Wpq {
+    /// A queue of no write, with room for `depth` of them, 1 to 64. It refuses only where there is no memory for them; no
+    /// other call of a queue takes memory.
+    pub fn with_depth(alloc: Global, depth: usize) -> Result<Wpq, AllocError>
+        requires least { 1 ≤ depth }
+        requires most { depth ≤ 64 }
+        ensures empty { IfOk result (λ queue. queue ≡ record { depth = depth; writes = [] }) }
+        ensures queue { IfOk result IsQueue }
+    {
+        Ok(Wpq {
+            depth,
+            writes: Vec::with_capacity(alloc, depth)?,
+        })
+    }
+
+    /// How many writes are pending.
+    pub fn len(&self) -> usize
+        ensures { result ≡ length self.now.writes }
+    {
+        self.writes.len()
+    }
+
+    /// Whether none is pending.
+    pub fn is_empty(&self) -> bool
+        ensures { IsTrue result ↔ (self.now.writes ≡ []) }
+    {
+        self.writes.is_empty()
+    }
+
+    /// Whether `try_push` would refuse.
+    pub fn is_full(&self) -> bool
+        ensures { IsTrue result ↔ (length self.now.writes ≡ self.now.depth) }
+    {
+        self.len() == self.depth
+    }
+
+    /// The pending writes, oldest first.
+    pub fn writes(&self) -> &[PendingWrite]
+        ensures writes { result.now ≡ self.now.writes }
+        ensures queue { IsQueue self.now }
+    {
+        &self.writes
+    }
+
+    /// How many pending writes have a number below the limit. It looks at each of them.
+    pub fn below(&self, limit: u64) -> usize
+        ensures { result ≡ count_by (λ pending. nat_lt pending.number limit) self.now.writes }
+    {
+        self.writes
+            .iter()
+            .filter(|pending| pending.number < limit)
+            .count()
+    }
+
+    /// The data of the newest pending write of a line; None exactly where none names the line. It looks at each pending
+    /// write.
+    pub fn newest_for(&self, line: u64) -> Option<Line>
+        ensures { IsNewest line self.now.writes result }
+    {
+        let mut newest = None;
+        for pending in self.writes.iter() {
+            if pending.write.line == line {
+                newest = Some(pending.write.data);
+            }
+        }
+        newest
+    }
+
+    /// Adds a write behind the others. Its number has to be above theirs. Refused, `Full`, exactly where the queue holds
+    /// its depth: the write comes back, and the queue is as it was. It takes no memory.
+    pub fn try_push(&mut self, number: u64, line: u64, data: Line) -> Result<(), Full>
+        requires { ComeBefore number self.old.writes }
+        ensures pushed { OnOk result (self.new ≡ record self.old { writes = self.old.writes ++ pending_write number line «data» ∷ [] }) }
+        ensures room { IsOk result ↔ (length self.old.writes < self.old.depth) }
+        ensures refused { IfErr result (λ full. full.refused ≡ pending_write number line «data») }
+        ensures same { OnErr result (self.new ≡ self.old) }
+        ensures queue { IsQueue self.new }
+    {
+        let pending = PendingWrite {
+            number,
+            write: Write { line, data },
+        };
+        if self.is_full() {
+            return Err(Full { refused: pending });
+        }
+        self.writes.push(pending).map_err(|back| Full {
+            refused: back.value,
+        })
+    }
+
+    /// Takes the pending write of a number out and gives its data; None, and the queue stays, exactly where no pending
+    /// write has the number. It costs the number of pending writes.
+    pub fn take(&mut self, number: u64) -> Option<Line>
+        ensures depth { self.new.depth ≡ self.old.depth }
+        ensures takes { Takes number self.old.writes result self.new.writes }
+        ensures queue { IsQueue self.new }
+    {
+        let place = place_of(&self.writes, number)?;
+        Some(self.writes.remove(place).write.data)
+    }
+}
+
+// Where the write of a number stands.
+fn place_of(writes: &[PendingWrite], number: u64) -> Option<usize>
+    ensures { IsPlaceOf number writes.now result }
+{
+    writes.iter().position(|pending| pending.number == number)
+}
