@@ -1,3 +1,2 @@
-pub mod Zeroed
 pub mod Worlds
 pub mod SaveAndRestore

@@ -4,7 +4,7 @@ ghost use Rattle.std.specs.Option.{ForSome};
 ghost use Rattle.nvctl.specs.declared.plain.TheConstants.{LINES, TRAIL};
 ghost use Rattle.nvctl.specs.Machine.{World, Run, world_on, store_of};
 ghost use Rattle.save_device.specs.Device.{HasCause};
-ghost use Rattle.line_memory.specs.Memory.{IsMemory, zero_lines};
+ghost use Rattle.line_memory.specs.Memory.{IsMemory};
 ghost use Rattle.slot_store.specs.Slots.{device_size};
 ghost use Rattle.slot_store.specs.Outcomes.{restored};
 ghost use Rattle.slot_store.specs.Steps.{reach_of};
@@ -14,7 +14,7 @@ ghost use Rattle.slot_store.specs.Rest.{Candidates, only, IsAtRest};
 ghost use Rattle.slot_store.specs.Saving.{Saving, image_of};
 ghost use Rattle.save_image.specs.Image.{Image};
 
-use line_memory::{Line, Write};
+use line_memory::{Line, Write, zero};
 use save_device::{DeviceFault, SaveDevice};
 use save_image::page_bytes;
 use slot_store::{Newest, RestoreError, Restored, SaveRun, Slot, Step, Verdict, format, restore};
@@ -294,16 +294,6 @@ impl Plain {
             PlainEvent::Save => self.save(device),
             PlainEvent::Restore => self.restore(alloc, device),
         }
-    }
-}
-
-// Gives each line zero bytes.
-fn zero(lines: &mut Vec<Line>)
-    ensures items { lines.new.items ≡ zero_lines (length lines.old.items) }
-    ensures len { length lines.new.items ≡ length lines.old.items }
-{
-    for line in lines.iter_mut() {
-        *line = [0; 64];
     }
 }
 

@@ -4,7 +4,7 @@ use Rattle.slot_store.specs.Outcomes.{first_image}
 use Rattle.slot_store.proofs.Resting.{rest_only}
 use Rattle.nvctl.specs.declared.plain.TheConstants.{LINES}
 use Rattle.nvctl.specs.Machine.{Holds, life_from, store_of}
-use Rattle.nvctl.proofs.Zeroed.{zeroed}
+use Rattle.line_memory.proofs.Zeroed.{zeroed}
 use Rattle.nvctl.proofs.plain.Plain.format.Goals as goal
 
 pub invariant_of-self-2-clause-whole : goal.invariant_of-self-2-clause-whole

@@ -1,6 +1,6 @@
 use Rattle.std.proofs.Common.{arith}
 use Rattle.nvctl.specs.declared.plain.TheConstants.{LINES}
-use Rattle.nvctl.proofs.Zeroed.{zeroed}
+use Rattle.line_memory.proofs.Zeroed.{zeroed}
 use Rattle.nvctl.proofs.plain.Plain.new.Goals as goal
 
 pub invariant_of-result-clause-whole : goal.invariant_of-result-clause-whole

@@ -1,0 +1,160 @@
+//! How long the banks of a channel take for a command, and how long a list of commands takes to check.
+//!
+//! With no word it runs the commands and prints the last clock; `bank_bench time`, run by hand, prints nanoseconds.
+#![tactic(auto)]
+
+use bank_core::banks::Banks;
+use ddr4_timing::command::{Command, Stamped};
+use ddr4_timing::fault::first_fault;
+use ddr4_timing::timing::{Checked, Geometry, Timing};
+use std::alloc::Global;
+use std::env;
+use std::time::Instant;
+
+const TIMING: Timing = Timing {
+    t_rcd: 16,
+    t_rp: 16,
+    t_ras: 39,
+    cl: 16,
+    cwl: 12,
+    t_ccd_s: 4,
+    t_ccd_l: 6,
+    t_rrd_s: 4,
+    t_rrd_l: 6,
+    t_faw: 26,
+    t_wr: 18,
+    t_wtr_s: 3,
+    t_wtr_l: 9,
+    t_rtp: 9,
+    t_rtw: 10,
+    t_cs: 2,
+    t_rfc: 420,
+    t_refi: 9360,
+};
+
+// A geometry of these ranks and bank groups.
+fn geometry(ranks: u64, groups: u64) -> Geometry {
+    Geometry {
+        channels: 2,
+        ranks,
+        groups,
+        banks: 4,
+        rows: 2,
+        columns: 4,
+    }
+}
+
+// Issues a command at its least clock, where there is one.
+fn step(banks: &mut Banks, cmd: Command) -> Option<Stamped> {
+    let clock = banks.earliest(cmd)?;
+    if clock < 1 << 62 && banks.ready(cmd, clock) {
+        banks.issue(cmd, clock);
+        Some(Stamped { clock, cmd })
+    } else {
+        None
+    }
+}
+
+// The commands of one round: each bank is opened, read, written; each rank is closed and refreshed.
+fn round(alloc: Global, g: &Geometry) -> anyhow::Result<Vec<Command>> {
+    let mut commands = Vec::new(alloc);
+    for rank in 0..g.ranks {
+        for group in 0..g.groups {
+            for bank in 0..g.banks {
+                commands.push(Command::Act {
+                    rank,
+                    group,
+                    bank,
+                    row: 0,
+                })?;
+                commands.push(Command::Rd {
+                    rank,
+                    group,
+                    bank,
+                    column: 0,
+                })?;
+                commands.push(Command::Wr {
+                    rank,
+                    group,
+                    bank,
+                    column: 0,
+                })?;
+            }
+        }
+        commands.push(Command::PreAll { rank })?;
+        commands.push(Command::Ref { rank })?;
+    }
+    Ok(commands)
+}
+
+// Runs rounds, and answers the last clock.
+fn run(banks: &mut Banks, commands: &[Command], rounds: u64) -> u64 {
+    let mut last = 0;
+    for _ in 0..rounds {
+        for cmd in commands {
+            if let Some(x) = step(banks, *cmd) {
+                last = x.clock;
+            }
+        }
+    }
+    last
+}
+
+// A lawful list of at least so many commands.
+fn lawful(
+    alloc: Global,
+    checked: &Checked,
+    commands: &[Command],
+    length: usize,
+) -> anyhow::Result<Vec<Stamped>> {
+    let mut banks = Banks::new(checked);
+    let mut list = Vec::new(alloc);
+    for _ in 0..length {
+        if list.len() >= length {
+            break;
+        }
+        for cmd in commands {
+            if let Some(x) = step(&mut banks, *cmd) {
+                list.push(x)?;
+            }
+        }
+    }
+    Ok(list)
+}
+
+// Prints how long lists of a thousand to a hundred thousand lawful commands take to check.
+fn time_lists(rt: &HostRuntime, checked: &Checked, commands: &[Command]) -> anyhow::Result<()> {
+    for length in [1_000, 10_000, 100_000] {
+        let list = lawful(rt.alloc(), checked, commands, length)?;
+        let start = Instant::now(rt)?;
+        let fault = first_fault(checked, &list);
+        let micros = start.elapsed(rt)?.as_micros();
+        println!(rt;
+            "{} commands, fault {}: {micros} microseconds",
+            list.len(),
+            fault.is_some()
+        )?;
+    }
+    Ok(())
+}
+
+fn main(rt: HostRuntime) -> anyhow::Result<()> {
+    let timed = env::args(&rt)?.len() > 1;
+    for (ranks, groups) in [(1, 2), (2, 4), (4, 4)] {
+        let g = geometry(ranks, groups);
+        let checked = TIMING.check(&g)?;
+        let commands = round(rt.alloc(), &g)?;
+        let mut banks = Banks::new(&checked);
+        let rounds = if timed { 10_000 } else { 10 };
+        let start = Instant::now(&rt)?;
+        let last = run(&mut banks, &commands, rounds);
+        let nanos = start.elapsed(&rt)?.as_nanos();
+        println!(rt; "ranks {ranks}, groups {groups}: last clock {last}")?;
+        if timed {
+            let each = nanos / (rounds as u128 * commands.len().max(1) as u128);
+            println!(rt; "{each} nanoseconds a command")?;
+            time_lists(&rt, &checked, commands.as_slice())?;
+        }
+    }
+    Ok(())
+}

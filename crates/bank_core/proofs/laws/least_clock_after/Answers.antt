@@ -1,0 +1,33 @@
+use Rattle.std.proofs.Common.{◌≡◌, ℕ, ◌+◌, ◌*◌, Bool, true, false, cond, List, ◌++◌, ◌∷◌, [], refl, arith}
+use Rattle.std.specs.Prelude.{◌&&◌}
+use Rattle.ddr4_timing.specs.Command.{rank_of, is_act, is_ref, is_ref_of}
+use Rattle.ddr4_timing.specs.Lawful.{ref_count}
+use Rattle.ddr4_timing.specs.Floors.{least_clock}
+use Rattle.ddr4_timing.specs.declared.timing.Timing.{Timing}
+use Rattle.ddr4_timing.specs.declared.command.Stamped.{Stamped}
+use Rattle.ddr4_timing.proofs.FloorLemmas.{floor_push, window-yes, window-no, ref_count_push}
+use Rattle.bank_core.proofs.laws.least_clock_after.Goals as goal
+
+-- a demand under a test stays, where it stays unless a second test holds too
+stays : (p q : Bool) (w v : ℕ) → (p && q) ≡ false → (q ≡ false → w ≡ v) → cond p w 0 ≡ cond p v 0
+stays false q w v e h = refl
+stays true q w v e h = h e
+
+count_stays : (t : Timing) (rank : ℕ) (list : List Stamped) (x : Stamped) → is_ref_of rank x.cmd ≡ false → (ref_count rank (list ++ x ∷ []) + 1) * t.t_refi ≡ (ref_count rank list + 1) * t.t_refi
+count_stays t rank list x e = rw (ref_count_push, e) (omega arith)
+
+pub returns-clause-other : goal.returns-clause-other
+unfolding least_clock
+returns-clause-other _ t list clock cmd next e h =
+    let x : Stamped = record { clock = clock; cmd = cmd } in
+    let w = stays (is_act next) _ _ _ e (window-no t (rank_of next) 3 list x) in
+    let r = stays (is_ref next) _ _ _ h (count_stays t (rank_of next) list x) in
+    rw floor_push (omega (arith, w, r))
+
+pub returns-clause-activate : goal.returns-clause-activate
+unfolding least_clock
+returns-clause-activate _ t list clock cmd next a n e = rw (floor_push, a, n) (let w = window-yes t _ 2 list (record { clock = clock; cmd = cmd }) e in omega (arith, w))
+
+pub returns-clause-refresh : goal.returns-clause-refresh
+unfolding least_clock
+returns-clause-refresh _ t list clock cmd next a n e = rw (floor_push, a, n, ref_count_push, e) (omega arith)

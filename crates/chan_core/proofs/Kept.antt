@@ -1,0 +1,116 @@
+-- What `filter_map` keeps of a list from which an element is taken, or in which one changes.
+use Rattle.std.proofs.Common.{◌≡◌, ℕ, zero, suc, List, [], ◌∷◌, ◌≤◌, ◌↔◌, Bool, true, false, IsTrue, length, map, take, slice_get, slice_set, remove, Option, Some, None, refl, ap, ◌∙◌, arith}
+use Rattle.std.specs.List.{filter_map, cons_option}
+
+module _ {X Y : Type 0} (h : X → Option Y) where
+  -- how many of the first i are kept
+  abbrev pub kept : ℕ → List X → ℕ
+  kept i xs = length (filter_map h (take i xs))
+
+  pub filter_map-without : (xs : List X) (i : ℕ) (x : X) → slice_get xs i ≡ Some x → h x ≡ None → filter_map h (remove xs i) ≡ filter_map h xs
+  filter_map-without [] i x at none = absurd cc
+  filter_map-without (y ∷ ys) zero x at none = let same : y ≡ x = cc in rw (same, none) refl
+  filter_map-without (y ∷ ys) (suc i) x at none = ap (cons_option (h y)) (filter_map-without ys i x at none)
+
+  cons-remove : (o : Option Y) (xs : List X) (i : ℕ) (ys : List Y) → ys ≡ remove (filter_map h xs) (kept i xs)
+      → cons_option o ys ≡ remove (cons_option o (filter_map h xs)) (length (cons_option o (filter_map h (take i xs))))
+  cons-remove None xs i ys e = e
+  cons-remove (Some y) xs i ys e = ap (λ (rest : List Y). y ∷ rest) e
+
+  pub filter_map-taken : (xs : List X) (i : ℕ) (x : X) (y : Y) → slice_get xs i ≡ Some x → h x ≡ Some y → filter_map h (remove xs i) ≡ remove (filter_map h xs) (kept i xs)
+  filter_map-taken [] i x y at some = absurd cc
+  filter_map-taken (z ∷ zs) zero x y at some = let same : z ≡ x = cc in rw (same, some) refl
+  filter_map-taken (z ∷ zs) (suc i) x y at some = cons-remove (h z) zs i (filter_map h (remove zs i)) (filter_map-taken zs i x y at some)
+
+  pub filter_map-changed : (xs : List X) (i : ℕ) (x x' : X) (y : Y) → slice_get xs i ≡ Some x → h x ≡ Some y → h x' ≡ None → filter_map h (slice_set xs i x') ≡ remove (filter_map h xs) (kept i xs)
+  filter_map-changed [] i x x' y at some none = absurd cc
+  filter_map-changed (z ∷ zs) zero x x' y at some none = let same : z ≡ x = cc in rw (same, some, none) refl
+  filter_map-changed (z ∷ zs) (suc i) x x' y at some none = cons-remove (h z) zs i (filter_map h (slice_set zs i x')) (filter_map-changed zs i x x' y at some none)
+
+  cons-get : (o : Option Y) (xs : List X) (i : ℕ) (y : Y) → slice_get (filter_map h xs) (kept i xs) ≡ Some y
+      → slice_get (cons_option o (filter_map h xs)) (length (cons_option o (filter_map h (take i xs)))) ≡ Some y
+  cons-get None xs i y e = e
+  cons-get (Some z) xs i y e = e
+
+  -- a kept element stands behind those that are kept of the ones before it
+  pub filter_map-at : (xs : List X) (i : ℕ) (x : X) (y : Y) → slice_get xs i ≡ Some x → h x ≡ Some y → slice_get (filter_map h xs) (kept i xs) ≡ Some y
+  filter_map-at [] i x y at some = absurd cc
+  filter_map-at (z ∷ zs) zero x y at some = let same : z ≡ x = cc in rw (same, some) refl
+  filter_map-at (z ∷ zs) (suc i) x y at some = cons-get (h z) zs i y (filter_map-at zs i x y at some)
+
+  -- where a kept element comes from
+  pub record Origin (xs : List X) (k : ℕ) (y : Y) : Type 0 where
+    pub place : ℕ
+    pub element : X
+    pub at : slice_get xs place ≡ Some element
+    pub gives : h element ≡ Some y
+    pub before : kept place xs ≡ k
+
+  origin-head : (x : X) (xs : List X) (o : Option Y) → h x ≡ o → (k : ℕ) (y : Y) → ((k : ℕ) → slice_get (filter_map h xs) k ≡ Some y → Origin xs k y)
+      → slice_get (cons_option o (filter_map h xs)) k ≡ Some y → Origin (x ∷ xs) k y
+  origin-head x xs None e k y rest at = let o = rest k at in record { place = suc o.place; element = o.element; at = o.at; gives = o.gives; before = rw e o.before }
+  origin-head x xs (Some z) e zero y rest at = record { place = zero; element = x; at = refl; gives = e ∙ at; before = refl }
+  origin-head x xs (Some z) e (suc k) y rest at = let o = rest k at in record { place = suc o.place; element = o.element; at = o.at; gives = o.gives; before = rw e (ap suc o.before) }
+
+  pub filter_map-origin : (xs : List X) (k : ℕ) (y : Y) → slice_get (filter_map h xs) k ≡ Some y → Origin xs k y
+  filter_map-origin [] k y at = absurd cc
+  filter_map-origin (x ∷ xs) k y at = origin-head x xs (h x) refl k y (λ k. filter_map-origin xs k y) at
+
+  cons-length : (o : Option Y) (ys : List Y) → length (cons_option o ys) ≤ suc (length ys)
+  cons-length None ys = omega arith
+  cons-length (Some y) ys = omega arith
+
+  cons-less : (o : Option Y) (xs ys : List Y) → length xs ≤ length ys → length (cons_option o xs) ≤ length (cons_option o ys)
+  cons-less None xs ys less = less
+  cons-less (Some y) xs ys less = omega (arith, less)
+
+  pub length-filter_map : (xs : List X) → length (filter_map h xs) ≤ length xs
+  length-filter_map [] = omega arith
+  length-filter_map (x ∷ xs) = omega (arith, cons-length (h x) (filter_map h xs), length-filter_map xs)
+
+  none-kept : (i : ℕ) → kept i [] ≡ 0
+  none-kept zero = refl
+  none-kept (suc i) = refl
+
+  -- no fewer are kept of more
+  pub kept-more : (xs : List X) (i j : ℕ) → i ≤ j → kept i xs ≤ kept j xs
+  kept-more [] i j less = let a : kept i [] ≡ 0 = none-kept i in let b : kept j [] ≡ 0 = none-kept j in omega (arith, a, b)
+  kept-more (x ∷ xs) zero j less = omega arith
+  kept-more (x ∷ xs) (suc i) zero less = absurd (omega (arith, less))
+  kept-more (x ∷ xs) (suc i) (suc j) less = cons-less (h x) (filter_map h (take i xs)) (filter_map h (take j xs)) (kept-more xs i j (omega (arith, less)))
+
+-- f and g do the same to each element
+pub map_alike : {X Y : Type 0} (f g : X → Y) (xs : List X) → ((k : ℕ) (x : X) → slice_get xs k ≡ Some x → f x ≡ g x) → map f xs ≡ map g xs
+map_alike f g [] alike = refl
+map_alike f g (x ∷ xs) alike = let head : f x ≡ g x = alike zero x refl in rw head (ap (λ rest. g x ∷ rest) (map_alike f g xs (λ k y at. alike (suc k) y at)))
+
+-- what stands at a place of a mapped list
+pub map-at : {X Y : Type 0} (f : X → Y) (xs : List X) (k : ℕ) (x : X) → slice_get xs k ≡ Some x → slice_get (map f xs) k ≡ Some (f x)
+map-at f [] k x at = absurd cc
+map-at f (y ∷ ys) zero x at = let same : y ≡ x = cc in rw same refl
+map-at f (y ∷ ys) (suc k) x at = map-at f ys k x at
+
+pub map-from : {X Y : Type 0} (f : X → Y) (xs : List X) (k : ℕ) (y : Y) → slice_get (map f xs) k ≡ Some y → (x : X) × (slice_get xs k ≡ Some x) × (f x ≡ y)
+map-from f [] k y at = absurd cc
+map-from f (x ∷ xs) zero y at = (x, refl, cc)
+map-from f (x ∷ xs) (suc k) y at = map-from f xs k y at
+
+-- what a test that answers no says
+pub refuted : {A : Type 0} (b : Bool) → (IsTrue b ↔ A) → b ≡ false → ¬ A
+refuted b tells is a = let t : b ≡ true = tells.1 a in absurd cc
+
+-- f does to each element of one list what g does to that of the other
+pub map_both : {X Y Z : Type 0} (f : X → Z) (g : Y → Z) (xs : List X) (ys : List Y) → length xs ≡ length ys → ((k : ℕ) (x : X) (y : Y) → slice_get xs k ≡ Some x → slice_get ys k ≡ Some y → f x ≡ g y) → map f xs ≡ map g ys
+map_both f g [] [] size same = refl
+map_both f g [] (y ∷ ys) size same = absurd (omega (arith, size))
+map_both f g (x ∷ xs) [] size same = absurd (omega (arith, size))
+map_both f g (x ∷ xs) (y ∷ ys) size same = let head : f x ≡ g y = same zero x y refl refl in rw head (ap (λ rest. g y ∷ rest) (map_both f g xs ys (omega (arith, size)) (λ k a b s t. same (suc k) a b s t)))
+
+pub map_twice : {X Y Z : Type 0} (f : Y → Z) (g : X → Y) (xs : List X) → map (λ x. f (g x)) xs ≡ map f (map g xs)
+map_twice f g [] = refl
+map_twice f g (x ∷ xs) = ap (λ rest. f (g x) ∷ rest) (map_twice f g xs)
+
+-- what is kept doesn't see the change of each element
+pub filter_map-unseen : {X Y : Type 0} (h : X → Option Y) (f : X → X) → ((x : X) → h (f x) ≡ h x) → (xs : List X) → filter_map h (map f xs) ≡ filter_map h xs
+filter_map-unseen h f same [] = refl
+filter_map-unseen h f same (x ∷ xs) = rw (same x) (ap (cons_option (h x)) (filter_map-unseen h f same xs))

@@ -1,0 +1,115 @@
+-- What one more command does to the floors, the windows and the rows.
+use Rattle.std.proofs.Common.{◌≡◌, ℕ, ◌+◌, Bool, true, false, cond, eqb, List, [], ◌∷◌, ◌++◌, None, refl, ap, ◌∙◌, arith, add-zero}
+use Rattle.std.specs.Prelude.{max, count_by, ◌&&◌, ◌||◌}
+use Rattle.std.proofs.lemmas.List.Sums.{fold_push}
+use Rattle.std.proofs.lemmas.Bool.Decides.{nat_tests}
+use Rattle.std.proofs.lemmas.List.Folds.{list_any-append}
+use Rattle.ddr4_timing.specs.declared.command.Command.{Command}
+use Rattle.ddr4_timing.specs.declared.command.Command.TheVariants.{Act, Rd, Wr}
+use Rattle.ddr4_timing.specs.Gaps.{pair_gap, rcd_gap, ras_gap, rp_gap, rc_gap, rtp_gap, wr_gap, rrd_gap, ccd_gap, wtr_gap, rtw_gap, cs_gap, rfc_gap}
+use Rattle.ddr4_timing.specs.declared.command.Stamped.{Stamped}
+use Rattle.ddr4_timing.specs.declared.timing.Timing.{Timing}
+use Rattle.ddr4_timing.specs.Command.{is_act_of, is_ref_of, is_sre_of}
+use Rattle.ddr4_timing.specs.Lawful.{row_after, open_row, last_ref, ref_count, is_asleep}
+use Rattle.ddr4_timing.specs.Floors.{greatest, floor, window}
+use Rattle.ddr4_timing.specs.Gaps.{most_gap}
+
+-- a demand that doesn't look at what is behind
+greatest_push : (f : Stamped → ℕ) (list : List Stamped) (x : Stamped) → greatest (λ a _. f a) (list ++ x ∷ []) ≡ max (greatest (λ a _. f a) list) (f x)
+unfolding greatest
+greatest_push f [] x = omega arith
+greatest_push f (a ∷ list) x = let h = greatest_push f list x in omega (arith, h)
+
+pub floor_push : (t : Timing) (list : List Stamped) (x : Stamped) (b : Command) → floor t (list ++ x ∷ []) b ≡ max (floor t list b) (x.clock + most_gap t x.cmd b)
+unfolding floor
+floor_push t list x b = greatest_push (λ a. a.clock + most_gap t a.cmd b) list x
+
+pub open_row_push : (rank group bank : ℕ) (list : List Stamped) (x : Stamped) → open_row rank group bank (list ++ x ∷ []) ≡ row_after rank group bank (open_row rank group bank list) x.cmd
+unfolding open_row
+open_row_push rank group bank list x = fold_push (λ row x. row_after rank group bank row x.cmd) None list x
+
+-- The window for a test p and a value v.
+abbrev pub window_by : (Stamped → Bool) → (Stamped → ℕ) → ℕ → List Stamped → ℕ
+window_by p v n list = greatest (λ a later. cond (p a && eqb (count_by p later) n) (v a) 0) list
+
+count_push : (p : Stamped → Bool) (list : List Stamped) (x : Stamped) → count_by p (list ++ x ∷ []) ≡ count_by p list + cond (p x) 1 0
+count_push p list x = fold_push (λ n x. n + cond (p x) 1 0) 0 list x
+
+eqb_next : (k n : ℕ) → eqb (k + 1) (n + 1) ≡ eqb k n
+eqb_next k n = grind (arith, nat_tests)
+
+eqb_zero : (k : ℕ) → eqb (k + 1) 0 ≡ false
+eqb_zero k = grind (arith, nat_tests)
+
+eqb_first : (n : ℕ) → eqb 0 (n + 1) ≡ false
+eqb_first n = grind (arith, nat_tests)
+
+window_by-yes : (p : Stamped → Bool) (v : Stamped → ℕ) (n : ℕ) (list : List Stamped) (x : Stamped) → p x ≡ true → window_by p v (n + 1) (list ++ x ∷ []) ≡ window_by p v n list
+unfolding greatest
+window_by-yes p v n [] x e = rw e (rw (eqb_first n) refl)
+window_by-yes p v n (a ∷ list) x e =
+    let h = window_by-yes p v n list x e in
+    let k : count_by p (list ++ x ∷ []) ≡ count_by p list + 1 = count_push p list x ∙ ap (λ b. count_by p list + cond b 1 0) e in
+    ap (λ (m : ℕ). max (cond (p a && eqb m (n + 1)) (v a) 0) (window_by p v (n + 1) (list ++ x ∷ []))) k
+    ∙ ap (λ (b : Bool). max (cond (p a && b) (v a) 0) (window_by p v (n + 1) (list ++ x ∷ []))) (eqb_next (count_by p list) n)
+    ∙ ap (λ (m : ℕ). max (cond (p a && eqb (count_by p list) n) (v a) 0) m) h
+
+window_by-first : (p : Stamped → Bool) (v : Stamped → ℕ) (list : List Stamped) (x : Stamped) → p x ≡ true → window_by p v 0 (list ++ x ∷ []) ≡ v x
+unfolding greatest
+window_by-first p v [] x e = rw e (omega arith)
+window_by-first p v (a ∷ list) x e =
+    let h = window_by-first p v list x e in
+    let k : count_by p (list ++ x ∷ []) ≡ count_by p list + 1 = count_push p list x ∙ ap (λ b. count_by p list + cond b 1 0) e in
+    ap (λ (m : ℕ). max (cond (p a && eqb m 0) (v a) 0) (window_by p v 0 (list ++ x ∷ []))) k
+    ∙ ap (λ (b : Bool). max (cond (p a && b) (v a) 0) (window_by p v 0 (list ++ x ∷ []))) (eqb_zero (count_by p list))
+    ∙ (elim (p a) as (λ b. max (cond (b && false) (v a) 0) (window_by p v 0 (list ++ x ∷ [])) ≡ v x) [ true ↦ omega (arith, h) | false ↦ omega (arith, h) ])
+
+window_by-no : (p : Stamped → Bool) (v : Stamped → ℕ) (n : ℕ) (list : List Stamped) (x : Stamped) → p x ≡ false → window_by p v n (list ++ x ∷ []) ≡ window_by p v n list
+unfolding greatest
+window_by-no p v n [] x e = rw e refl
+window_by-no p v n (a ∷ list) x e =
+    let h = window_by-no p v n list x e in
+    let k : count_by p (list ++ x ∷ []) ≡ count_by p list = count_push p list x ∙ ap (λ b. count_by p list + cond b 1 0) e ∙ add-zero (count_by p list) in
+    ap (λ (m : ℕ). max (cond (p a && eqb m n) (v a) 0) (window_by p v n (list ++ x ∷ []))) k
+    ∙ ap (λ (m : ℕ). max (cond (p a && eqb (count_by p list) n) (v a) 0) m) h
+
+pub window-yes : (t : Timing) (rank n : ℕ) (list : List Stamped) (x : Stamped) → is_act_of rank x.cmd ≡ true → window t rank (n + 1) (list ++ x ∷ []) ≡ window t rank n list
+unfolding window
+window-yes t rank n list x e = window_by-yes (λ a. is_act_of rank a.cmd) (λ a. a.clock + t.t_faw) n list x e
+
+pub window-first : (t : Timing) (rank : ℕ) (list : List Stamped) (x : Stamped) → is_act_of rank x.cmd ≡ true → window t rank 0 (list ++ x ∷ []) ≡ x.clock + t.t_faw
+unfolding window
+window-first t rank list x e = window_by-first (λ a. is_act_of rank a.cmd) (λ a. a.clock + t.t_faw) list x e
+
+pub window-no : (t : Timing) (rank n : ℕ) (list : List Stamped) (x : Stamped) → is_act_of rank x.cmd ≡ false → window t rank n (list ++ x ∷ []) ≡ window t rank n list
+unfolding window
+window-no t rank n list x e = window_by-no (λ a. is_act_of rank a.cmd) (λ a. a.clock + t.t_faw) n list x e
+
+pub last_ref_push : (rank : ℕ) (list : List Stamped) (x : Stamped) → last_ref rank (list ++ x ∷ []) ≡ cond (is_ref_of rank x.cmd) x.clock (last_ref rank list)
+unfolding last_ref
+last_ref_push rank list x = fold_push (λ last x. cond (is_ref_of rank x.cmd) x.clock last) 0 list x
+
+pub ref_count_push : (rank : ℕ) (list : List Stamped) (x : Stamped) → ref_count rank (list ++ x ∷ []) ≡ ref_count rank list + cond (is_ref_of rank x.cmd) 1 0
+unfolding ref_count
+ref_count_push rank list x = count_push (λ x. is_ref_of rank x.cmd) list x
+
+or_false : (b : Bool) → (b || false) ≡ b
+or_false true = refl
+or_false false = refl
+
+pub is_asleep_push : (rank : ℕ) (list : List Stamped) (x : Stamped) → is_asleep rank (list ++ x ∷ []) ≡ (is_asleep rank list || is_sre_of rank x.cmd)
+unfolding is_asleep
+is_asleep_push rank list x = list_any-append (λ x. is_sre_of rank x.cmd) list (x ∷ []) ∙ ap (λ b. is_asleep rank list || b) (or_false _)
+
+-- no rule on two commands looks at a row or a column
+pub floor-Act : (t : Timing) (list : List Stamped) (rank group bank row : ℕ) → floor t list (Act rank group bank row) ≡ floor t list (Act rank group bank 0)
+unfolding floor most_gap pair_gap rcd_gap ras_gap rp_gap rc_gap rtp_gap wr_gap rrd_gap ccd_gap wtr_gap rtw_gap cs_gap rfc_gap
+floor-Act t list rank group bank row = refl
+
+pub floor-Rd : (t : Timing) (list : List Stamped) (rank group bank column : ℕ) → floor t list (Rd rank group bank column) ≡ floor t list (Rd rank group bank 0)
+unfolding floor most_gap pair_gap rcd_gap ras_gap rp_gap rc_gap rtp_gap wr_gap rrd_gap ccd_gap wtr_gap rtw_gap cs_gap rfc_gap
+floor-Rd t list rank group bank column = refl
+
+pub floor-Wr : (t : Timing) (list : List Stamped) (rank group bank column : ℕ) → floor t list (Wr rank group bank column) ≡ floor t list (Wr rank group bank 0)
+unfolding floor most_gap pair_gap rcd_gap ras_gap rp_gap rc_gap rtp_gap wr_gap rrd_gap ccd_gap wtr_gap rtw_gap cs_gap rfc_gap
+floor-Wr t list rank group bank column = refl

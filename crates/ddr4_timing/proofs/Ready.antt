@@ -1,0 +1,276 @@
+-- When a list with one more command is lawful, by what a `Banks` keeps.
+use Rattle.std.proofs.Common.{◌≡◌, ℕ, zero, suc, ◌+◌, ◌-◌, ◌*◌, ◌<◌, ◌≤◌, Bool, true, false, cond, eqb, List, [], ◌∷◌, ◌++◌, length, take, drop, Some, refl, ap, sym, subst, ◌∙◌, inl, inr, arith, add-one, IsTrue}
+use Rattle.std.specs.Prelude.{max, count_by, not, ◌&&◌, ◌↔◌}
+use Rattle.std.specs.List.{slice_get}
+use Rattle.std.proofs.lemmas.Bool.{cases_lt, cases_eq, cases_Bool, ne_eqb, cond-false}
+use Rattle.std.proofs.lemmas.List.{take-append-le, length_push}
+use Rattle.std.proofs.lemmas.Option.{slice_get_within, same_Some}
+use Rattle.std.proofs.lemmas.Grind.{common_steps}
+use Rattle.std.proofs.Math.Seq.{take-append_seam}
+use Rattle.ddr4_timing.specs.declared.command.Command.{Command}
+use Rattle.ddr4_timing.specs.declared.command.Stamped.{Stamped}
+use Rattle.ddr4_timing.specs.declared.timing.Timing.{Timing}
+use Rattle.ddr4_timing.specs.declared.timing.Checked.{Checked}
+use Rattle.ddr4_timing.specs.declared.fault.Fault.{Fault}
+use Rattle.ddr4_timing.specs.Command.{is_act, is_act_of, is_ref, rank_of}
+use Rattle.ddr4_timing.specs.Gaps.{gap, pair_gap, faw_gap}
+use Rattle.ddr4_timing.specs.Lawful.{ref_count, last_ref, KeepsGap, KeepsRows, KeepsRefresh, Obeys, Admits, Holds, IsLawful, IsFirstFault}
+use Rattle.ddr4_timing.specs.Floors.{greatest, floor, window, least_clock}
+use Rattle.ddr4_timing.specs.Gaps.{largest, most_gap}
+
+-- the largest
+
+largest_above : (f : ℕ → ℕ) (n k : ℕ) → k < n → f k ≤ largest f n
+largest_above f zero k h = absurd (omega arith)
+largest_above f (suc n) k h =
+    elim (cases_lt k n) [
+      | inl l ↦ let e = largest_above f n k l in omega (arith, e)
+      | inr g ↦ let e : k ≡ n = omega arith in let s : f k ≡ f n = ap f e in omega (arith, s)
+    ]
+
+largest_below : (f : ℕ → ℕ) (n d : ℕ) → ((k : ℕ) → k < n → f k ≤ d) → largest f n ≤ d
+largest_below f zero d h = omega arith
+largest_below f (suc n) d h =
+    let e = largest_below f n d (λ k l. h k (omega arith)) in
+    let s = h n (omega arith) in
+    omega (arith, e, s)
+
+pair_gap_1 : (t : Timing) (a b : Command) → pair_gap t 1 a b ≡ 1
+unfolding pair_gap
+pair_gap_1 t a b = refl
+
+pair_gap_10 : (t : Timing) (a b : Command) → pair_gap t 10 a b ≡ 0
+unfolding pair_gap
+pair_gap_10 t a b = refl
+
+pair_gap-le : (t : Timing) (rule : ℕ) (a b : Command) → rule ≤ 16 → pair_gap t rule a b ≤ most_gap t a b
+unfolding most_gap
+pair_gap-le t rule a b h = largest_above (λ rule. pair_gap t rule a b) 17 rule (omega arith)
+
+most_gap-le : (t : Timing) (a b : Command) (d : ℕ) → ((rule : ℕ) → rule ≤ 16 → pair_gap t rule a b ≤ d) → most_gap t a b ≤ d
+unfolding most_gap
+most_gap-le t a b d h = largest_below (λ rule. pair_gap t rule a b) 17 d (λ k l. h k (omega arith))
+
+most_gap_some : (t : Timing) (a b : Command) → 1 ≤ most_gap t a b
+most_gap_some t a b = let e = pair_gap-le t 1 a b (omega arith) in let s = pair_gap_1 t a b in omega (arith, e, s)
+
+gap-pair : (t : Timing) (rule : ℕ) (a : Command) (between : List Stamped) (b : Command) → (rule ≡ 10 → ⊥) → gap t rule a between b ≡ pair_gap t rule a b
+unfolding gap
+gap-pair t rule a between b h = cond-false (eqb rule 10) _ _ (ne_eqb rule 10 h)
+
+gap-faw : (t : Timing) (a : Command) (between : List Stamped) (b : Command) → gap t 10 a between b ≡ faw_gap t a between b
+unfolding gap
+gap-faw t a between b = refl
+
+-- the greatest demand
+
+drop_next : (a : Stamped) (list : List Stamped) (i : ℕ) → drop (suc i + 1) (a ∷ list) ≡ drop (i + 1) list
+drop_next a list i = rw (add-one, add-one) refl
+
+greatest_above : (f : Stamped → List Stamped → ℕ) (list : List Stamped) (i : ℕ) (a : Stamped) → slice_get list i ≡ Some a → f a (drop (i + 1) list) ≤ greatest f list
+unfolding greatest
+greatest_above f [] i a s = absurd cc
+greatest_above f (b ∷ list) zero a s = let e : b ≡ a = cc in subst (λ (x : Stamped). f x list ≤ max (f b list) (greatest f list)) e (omega arith)
+greatest_above f (b ∷ list) (suc i) a s =
+    let e = greatest_above f list i a s in
+    rw drop_next (omega (arith, e))
+
+greatest_below : (f : Stamped → List Stamped → ℕ) (list : List Stamped) (d : ℕ) → ((i : ℕ) (a : Stamped) → slice_get list i ≡ Some a → f a (drop (i + 1) list) ≤ d) → greatest f list ≤ d
+unfolding greatest
+greatest_below f [] d h = omega arith
+greatest_below f (b ∷ list) d h =
+    let e = greatest_below f list d (λ i a s. rw (← drop_next b list i) (h (suc i) a s)) in
+    let s = h 0 b refl in
+    omega (arith, e, s)
+
+-- the floor and the window, against the rules on two commands
+
+abbrev pub KeepsGaps : Timing → List Stamped → Stamped → Type 0
+KeepsGaps t list x = (rule i : ℕ) → rule ≤ 16 → KeepsGap t list x rule i
+
+floor_from : (t : Timing) (list : List Stamped) (x : Stamped) → KeepsGaps t list x → floor t list x.cmd ≤ x.clock
+unfolding floor
+floor_from t list x h = greatest_below (λ a _. a.clock + most_gap t a.cmd x.cmd) list x.clock (λ i a s.
+    let each : (rule : ℕ) → rule ≤ 16 → pair_gap t rule a.cmd x.cmd ≤ x.clock - a.clock = λ rule q.
+    elim (cases_eq rule 10) [
+      | inl e ↦ rw e (rw pair_gap_10 (omega arith))
+      | inr n ↦ rw (← gap-pair t rule a.cmd (drop (i + 1) list) x.cmd n) (h rule i q a s)
+    ] in
+    let most = most_gap-le t a.cmd x.cmd (x.clock - a.clock) each in
+    let some = most_gap_some t a.cmd x.cmd in
+    omega (arith, most, some))
+
+-- a demand of at least 1, under a test
+demand_to : (p : Bool) (k f d : ℕ) → cond p (k + f) 0 ≤ d → cond p f 0 ≤ d - k
+demand_to true k f d h = omega arith
+demand_to false k f d h = omega arith
+
+demand_from : (p : Bool) (k f d : ℕ) → 1 ≤ f → cond p f 0 ≤ d - k → cond p (k + f) 0 ≤ d
+demand_from true k f d l h = omega arith
+demand_from false k f d l h = omega arith
+
+faw_gap-act : (t : Timing) (a : Command) (between : List Stamped) (b : Command) → is_act b ≡ true → faw_gap t a between b ≡ cond (is_act_of (rank_of b) a && eqb (count_by (λ x. is_act_of (rank_of b) x.cmd) between) 3) t.t_faw 0
+unfolding faw_gap
+faw_gap-act t a between b e = ap (λ (p : Bool). cond ((p && is_act_of (rank_of b) a) && eqb (count_by (λ x. is_act_of (rank_of b) x.cmd) between) 3) t.t_faw 0) e
+
+faw_gap-other : (t : Timing) (a : Command) (between : List Stamped) (b : Command) → is_act b ≡ false → faw_gap t a between b ≡ 0
+unfolding faw_gap
+faw_gap-other t a between b e = ap (λ (p : Bool). cond ((p && is_act_of (rank_of b) a) && eqb (count_by (λ x. is_act_of (rank_of b) x.cmd) between) 3) t.t_faw 0) e
+
+window_from : (t : Timing) (list : List Stamped) (x : Stamped) → 1 ≤ t.t_faw → KeepsGaps t list x → is_act x.cmd ≡ true → window t (rank_of x.cmd) 3 list ≤ x.clock
+unfolding window
+window_from t list x l h e = greatest_below (λ a later. cond (is_act_of (rank_of x.cmd) a.cmd && eqb (count_by (λ x'. is_act_of (rank_of x.cmd) x'.cmd) later) 3) (a.clock + t.t_faw) 0) list x.clock (λ i a s.
+    let k = gap-faw t a.cmd (drop (i + 1) list) x.cmd ∙ faw_gap-act t a.cmd (drop (i + 1) list) x.cmd e in
+    demand_from _ a.clock t.t_faw x.clock l (rw (← k) (h 10 i (omega arith) a s)))
+
+pub gaps_from : (t : Timing) (list : List Stamped) (x : Stamped) → floor t list x.cmd ≤ x.clock → (is_act x.cmd ≡ true → window t (rank_of x.cmd) 3 list ≤ x.clock) → KeepsGaps t list x
+unfolding floor window
+gaps_from t list x h w rule i q a s =
+    elim (cases_eq rule 10) [
+      | inl e ↦ rw (e, gap-faw) (elim (cases_Bool (is_act x.cmd)) [
+        | inl acts ↦
+            let g = greatest_above (λ a later. cond (is_act_of (rank_of x.cmd) a.cmd && eqb (count_by (λ x'. is_act_of (rank_of x.cmd) x'.cmd) later) 3) (a.clock + t.t_faw) 0) list i a s in
+            rw (faw_gap-act t a.cmd (drop (i + 1) list) x.cmd acts) (demand_to _ a.clock t.t_faw x.clock (let v = w acts in omega (arith, g, v)))
+        | inr rests ↦ rw (faw_gap-other t a.cmd (drop (i + 1) list) x.cmd rests) (omega arith)
+      ])
+      | inr n ↦
+          let g = greatest_above (λ a _. a.clock + most_gap t a.cmd x.cmd) list i a s in
+          let p = pair_gap-le t rule a.cmd x.cmd q in
+          rw (gap-pair t rule a.cmd (drop (i + 1) list) x.cmd n) (omega (arith, g, p))
+    ]
+
+-- one more command
+
+slice_get_front : (xs : List Stamped) (y : Stamped) (j : ℕ) → j < length xs → slice_get (xs ++ y ∷ []) j ≡ slice_get xs j
+slice_get_front [] y j h = absurd (omega arith)
+slice_get_front (x ∷ xs) y zero h = refl
+slice_get_front (x ∷ xs) y (suc j) h = slice_get_front xs y j (omega arith)
+
+slice_get_end : (xs : List Stamped) (y : Stamped) → slice_get (xs ++ y ∷ []) (length xs) ≡ Some y
+slice_get_end [] y = refl
+slice_get_end (x ∷ xs) y = slice_get_end xs y
+
+pub admits_from : (c : Checked) (list : List Stamped) (x : Stamped) → IsLawful c (list ++ x ∷ []) → Admits c list x
+admits_from c list x h rule first q =
+    subst (λ (before : List Stamped). Obeys c before x rule first) (take-append_seam list (x ∷ [])) (h first (length list) rule q x (slice_get_end list x))
+
+pub lawful_from : (c : Checked) (list : List Stamped) (x : Stamped) → IsLawful c list → Admits c list x → IsLawful c (list ++ x ∷ [])
+lawful_from c list x h a first second rule q y s =
+    elim (cases_lt second (length list)) [
+      | inl l ↦
+          subst (λ (before : List Stamped). Obeys c before y rule first) (sym (take-append-le second list (x ∷ []) (omega arith)))
+          (h first second rule q y (sym (slice_get_front list x second l) ∙ s))
+      | inr g ↦
+          let within = slice_get_within (list ++ x ∷ []) second y s in
+          let e : second ≡ length list = grind (arith, length_push) in
+          let same : x ≡ y = same_Some x y (sym (slice_get_end list x) ∙ ap (λ k. slice_get (list ++ x ∷ []) k) (sym e) ∙ s) in
+          subst (λ (z : Stamped). Obeys c (take second (list ++ x ∷ [])) z rule first) same
+          (subst (λ (before : List Stamped). Obeys c before x rule first) (sym (ap (λ k. take k (list ++ x ∷ [])) e ∙ take-append_seam list (x ∷ []))) (a rule first q))
+    ]
+
+-- the whole
+
+cond_below : (b : Bool) (v d : ℕ) → (b ≡ true → v ≤ d) → cond b v 0 ≤ d
+cond_below true v d h = h refl
+cond_below false v d h = omega arith
+
+below_cond : (b : Bool) (v d : ℕ) → cond b v 0 ≤ d → b ≡ true → v ≤ d
+below_cond true v d h e = h
+below_cond false v d h e = absurd cc
+
+-- what a `Banks` can test
+pub record IsReady (c : Checked) (list : List Stamped) (x : Stamped) : Type 0 where
+  pub rows : KeepsRows c.geometry list x.cmd
+  pub clock : least_clock c.timing list x.cmd ≤ x.clock
+  pub in_time : x.clock ≤ last_ref (rank_of x.cmd) list + 9 * c.timing.t_refi
+
+ready_from_admits : (c : Checked) (list : List Stamped) (x : Stamped) → Admits c list x → IsReady c list x
+unfolding least_clock
+ready_from_admits c list x h =
+    let gaps : KeepsGaps c.timing list x = λ rule i q. (h rule i q).pair in
+    let refresh : KeepsRefresh c.timing list x = (h 16 (length list) (omega arith)).refresh refl refl in
+    let floor = floor_from c.timing list x gaps in
+    let acts = cond_below (is_act x.cmd) (window c.timing (rank_of x.cmd) 3 list) x.clock (window_from c.timing list x c.in_limits.t_faw.0 gaps) in
+    let refs = cond_below (is_ref x.cmd) ((ref_count (rank_of x.cmd) list + 1) * c.timing.t_refi) x.clock refresh.not_early in
+    record {
+      rows = (h 2 (length list) (omega arith)).rows refl refl;
+      clock = omega (arith, floor, acts, refs);
+      in_time = omega (arith, refresh.in_time);
+    }
+
+admits_from_ready : (c : Checked) (list : List Stamped) (x : Stamped) → IsReady c list x → Admits c list x
+unfolding least_clock
+admits_from_ready c list x r rule first q = record {
+  pair = gaps_from c.timing list x (omega (arith, r.clock)) (below_cond (is_act x.cmd) (window c.timing (rank_of x.cmd) 3 list) x.clock (omega (arith, r.clock))) rule first q;
+  rows = λ _ _. r.rows;
+  refresh = λ _ _. record {
+    in_time = omega (arith, r.in_time);
+    not_early = below_cond (is_ref x.cmd) ((ref_count (rank_of x.cmd) list + 1) * c.timing.t_refi) x.clock (omega (arith, r.clock));
+  };
+}
+
+-- from a lawful list, with one more command
+pub lawful_ready : (c : Checked) (list : List Stamped) (x : Stamped) → IsLawful c list → IsReady c list x → IsLawful c (list ++ x ∷ [])
+lawful_ready c list x h r = lawful_from c list x h (admits_from_ready c list x r)
+
+pub ready_lawful : (c : Checked) (list : List Stamped) (x : Stamped) → IsLawful c (list ++ x ∷ []) → IsReady c list x
+ready_lawful c list x h = ready_from_admits c list x (admits_from c list x h)
+
+pub refresh_lawful : (c : Checked) (list : List Stamped) (x : Stamped) → IsLawful c (list ++ x ∷ []) → KeepsRefresh c.timing list x
+refresh_lawful c list x h = (admits_from c list x h 16 (length list) (omega arith)).refresh refl refl
+
+pub not_of_iff : (b : Bool) (P : Type 0) → (IsTrue b ↔ P) → (IsTrue (not b) ↔ (¬ P))
+not_of_iff true P h = (λ e. absurd cc, λ n. absurd (n (h.0 refl)))
+not_of_iff false P h = (λ _ p. absurd (let e = h.1 p in cc), λ _. refl)
+
+-- the front of a lawful list is lawful
+slice_get_from_take : (xs : List Stamped) (n j : ℕ) (y : Stamped) → slice_get (take n xs) j ≡ Some y → slice_get xs j ≡ Some y
+slice_get_from_take [] zero j y s = absurd cc
+slice_get_from_take [] (suc n) j y s = absurd cc
+slice_get_from_take (x ∷ xs) zero j y s = absurd cc
+slice_get_from_take (x ∷ xs) (suc n) zero y s = s
+slice_get_from_take (x ∷ xs) (suc n) (suc j) y s = slice_get_from_take xs n j y s
+
+take_take : (xs : List Stamped) (n j : ℕ) → j ≤ n → take j (take n xs) ≡ take j xs
+take_take [] zero zero h = refl
+take_take [] zero (suc j) h = refl
+take_take [] (suc n) zero h = refl
+take_take [] (suc n) (suc j) h = refl
+take_take (x ∷ xs) zero zero h = refl
+take_take (x ∷ xs) zero (suc j) h = absurd (omega arith)
+take_take (x ∷ xs) (suc n) zero h = refl
+take_take (x ∷ xs) (suc n) (suc j) h = ap (λ ys. x ∷ ys) (take_take xs n j (omega arith))
+
+pub IsLawful-take : (c : Checked) (list : List Stamped) (n : ℕ) → IsLawful c list → IsLawful c (take n list)
+IsLawful-take c list n h first second rule q x s =
+    let within = slice_get_within (take n list) second x s in
+    let small : length (take n list) ≤ n = grind (arith, common_steps) in
+    subst (λ (before : List Stamped). Obeys c before x rule first) (sym (take_take list n second (omega (arith, within, small)))) (h first second rule q x (slice_get_from_take list n second x s))
+
+-- where the front of a list is lawful, every rule holds of its places in the list
+slice_get_to_take : (xs : List Stamped) (n j : ℕ) (y : Stamped) → j < n → slice_get xs j ≡ Some y → slice_get (take n xs) j ≡ Some y
+slice_get_to_take [] n j y h s = absurd cc
+slice_get_to_take (x ∷ xs) zero j y h s = absurd (omega arith)
+slice_get_to_take (x ∷ xs) (suc n) zero y h s = s
+slice_get_to_take (x ∷ xs) (suc n) (suc j) y h s = slice_get_to_take xs n j y (omega arith) s
+
+pub Holds-front : (c : Checked) (list : List Stamped) (n : ℕ) → IsLawful c (take n list) → (first second rule : ℕ) → second < n → rule ≤ 16 → Holds c list first second rule
+Holds-front c list n h first second rule l q x s =
+    subst (λ (before : List Stamped). Obeys c before x rule first) (take_take list n second (omega arith)) (h first second rule q x (slice_get_to_take list n second x l s))
+
+pub IsLawful-front : (c : Checked) (list : List Stamped) (n : ℕ) → ((first second rule : ℕ) → second < n → rule ≤ 16 → Holds c list first second rule) → IsLawful c (take n list)
+IsLawful-front c list n h first second rule q x s =
+    let within = slice_get_within (take n list) second x s in
+    let small : length (take n list) ≤ n = grind (arith, common_steps) in
+    subst (λ (before : List Stamped). Obeys c before x rule first) (sym (take_take list n second (omega (arith, within, small)))) (h first second rule (omega (arith, within, small)) q x (slice_get_from_take list n second x s))
+
+-- the first fault of a list stands where its lawful front ends
+pub fault_place : (c : Checked) (list : List Stamped) (i : ℕ) (f : Fault) → IsLawful c (take i list) → (IsLawful c (take (i + 1) list) → ⊥) → IsFirstFault c list f → f.second ≡ i
+fault_place c list i f l n r =
+    elim (cases_lt f.second i) [
+      | inl below ↦ absurd (r.broken (Holds-front c list i l f.first f.second f.rule below r.rule))
+      | inr above ↦ elim (cases_lt i f.second) [
+        | inl over ↦ absurd (n (IsLawful-front c list (i + 1) (λ first second rule s q. r.first first second rule q (omega arith, λ e. absurd (omega arith)))))
+        | inr under ↦ omega arith
+      ]
+    ]

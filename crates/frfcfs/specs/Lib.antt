@@ -1,0 +1,4 @@
+pub mod Requests
+pub mod Candidates
+pub mod Next
+pub mod Parts

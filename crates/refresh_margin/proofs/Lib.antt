@@ -1,0 +1,13 @@
+pub mod Calm
+pub mod Counts
+pub mod Due
+pub mod Ends
+pub mod GapsTo
+pub mod InTime
+pub mod Others
+pub mod Profile
+pub mod Ready
+pub mod Rows
+pub mod Steps
+pub mod Turns
+pub mod Whole
