@@ -5,3 +5,5 @@ pub mod Arrivals
 pub mod Holding
 pub mod Serving
 pub mod Answering
+pub mod Recent
+pub mod Running

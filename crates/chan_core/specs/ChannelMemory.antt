@@ -21,6 +21,8 @@ use Rattle.chan_core.specs.declared.answers.Served.TheVariants as served
 use Rattle.chan_core.specs.declared.answers.Collected.{Collected}
 use Rattle.chan_core.specs.declared.answers.Collected.TheVariants as collected
 use Rattle.frfcfs.specs.Requests.{IsEligible}
+use Rattle.frfcfs.specs.declared.choice.Turn.{Turn}
+use Rattle.frfcfs.specs.declared.choice.Turn.TheVariants.{Rank, Column, Row}
 use Rattle.chan_core.specs.Lines.{place_of, cells_of, index_of}
 use Rattle.chan_core.specs.Reads.{OpenTicket, ticket_of, Answers, IsPlaceOf}
 use Rattle.chan_core.specs.Requests.{Request, IsArrivals, asked, held_by, holds, is_held, request}
@@ -154,6 +156,20 @@ abbrev pub Serves : MemoryState → ℕ → Served → MemoryState → Type 0
 Serves old place (served.Write number) new = (p : Pending) × IsEligible old.pending place p × (p.kind ≡ Write) × (p.number ≡ number) × Writes old place p new
 Serves old place (served.Read ticket) new =
     (p : Pending) × IsEligible old.pending place p × (p.kind ≡ Read) × (ticket ≡ record { channel = old.channel; serial = p.number }) × Reads old place p new
+
+-- what a command does to the memory, in its turn: a RD or WR serves the request of the turn, and any other serves none
+abbrev pub ServedIn : Turn → Option Served → MemoryState → MemoryState → Type 0
+ServedIn (Column place) (Some served) old new = Serves old place served new
+ServedIn (Column place) None old new = ⊥
+ServedIn (Rank rank) (Some served) old new = ⊥
+ServedIn (Rank rank) None old new = new ≡ old
+ServedIn (Row place) (Some served) old new = ⊥
+ServedIn (Row place) None old new = new ≡ old
+
+-- what is told of the open reads
+abbrev pub TellsOpen : Option Served → List OpenTicket → List OpenTicket → Type 0
+TellsOpen None old new = new ≡ old
+TellsOpen (Some served) old new = TellsTickets served old new
 
 -- What a ticket gives: the data of an answered read, which goes; nothing yet where the read waits; and else it is unknown.
 abbrev pub Collects : MemoryState → Ticket → Collected → MemoryState → Type 0

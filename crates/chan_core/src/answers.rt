@@ -1,4 +1,5 @@
 // What a channel answers.
+use ddr4_timing::command::Stamped;
 use line_memory::Line;
 
 /// A read that waits, by its channel and its serial there.
@@ -40,4 +41,12 @@ pub enum Served {
     Write { number: u64 },
     /// The read of this ticket has its bytes now.
     Read(Ticket),
+}
+
+/// One command that was issued.
+#[derive(Clone, Copy, Debug, PartialEq, Eq)]
+pub struct Done {
+    pub command: Stamped,
+    /// The write or read that it served, where it is a RD or WR.
+    pub served: Option<Served>,
 }

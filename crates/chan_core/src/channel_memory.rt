@@ -4,13 +4,14 @@ ghost use Rattle.line_memory.specs.Memory.{zero_lines};
 ghost use Rattle.ddr4_timing.specs.Limits.{lines_of};
 ghost use Rattle.frfcfs.specs.declared.pending.Pending.{Pending};
 ghost use Rattle.frfcfs.specs.declared.pending.Kind.TheVariants as kinds;
+ghost use Rattle.frfcfs.specs.declared.choice.Turn.TheVariants as turns;
 ghost use Rattle.frfcfs.specs.Requests.{IsEligible, IsQueue};
 ghost use Rattle.wpq_core.specs.Writes.{ComeBefore, IsNewest, NoneNames, Takes};
 ghost use Rattle.wpq_core.specs.declared.queue.PendingWrite.{PendingWrite};
 ghost use Rattle.wpq_core.specs.Queue as queues;
 ghost use Rattle.chan_core.specs.Lines.{place_of, cells_of};
 ghost use Rattle.ddr4_timing.specs.Places.{LiesIn};
-ghost use Rattle.chan_core.specs.ChannelMemory.{MemoryState, IsChannelMemory, Puts, Gets, Asks, IsFullOfReads, Collects, IsAnswered, Reads, Serves, TellsTickets, HoldsBy, Writes, memory_of, tickets_of, cell_of};
+ghost use Rattle.chan_core.specs.ChannelMemory.{MemoryState, IsChannelMemory, Puts, Gets, Asks, IsFullOfReads, Collects, IsAnswered, Reads, ServedIn, Serves, TellsOpen, TellsTickets, HoldsBy, Writes, memory_of, tickets_of, cell_of};
 
 use crate::answers::{Collected, Got, ReadsFull, Served, Ticket};
 use crate::lines::{cells, index_of, place_of};
@@ -18,6 +19,7 @@ use crate::reads::{OpenRead, answer, place_of_serial};
 use crate::requests::{hold, is_held, push, take};
 use ddr4_timing::place::Place;
 use ddr4_timing::timing::Checked;
+use frfcfs::choice::Turn;
 use frfcfs::pending::{Kind, Pending};
 use line_memory::{Line, zero};
 use std::alloc::{AllocError, Global};
@@ -168,6 +170,19 @@ impl ChannelMemory {
                     serial: request.number,
                 })
             }
+        }
+    }
+
+    /// Serves the request of a turn, where that is its column command's.
+    pub fn serve_turn(&mut self, turn: Turn) -> Option<Served>
+        requires { (place : ℕ) → turn ≡ turns.Column place → (p : Pending) × IsEligible self.old.pending place p }
+        ensures served { ServedIn turn result self.old self.new }
+        ensures memory { memory_of self.new ≡ memory_of self.old }
+        ensures tickets { TellsOpen result (tickets_of self.old) (tickets_of self.new) }
+    {
+        match turn {
+            Turn::Column(place) => Some(self.serve(place)),
+            _ => None,
         }
     }
 

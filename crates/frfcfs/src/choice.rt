@@ -4,7 +4,7 @@ use ddr4_timing::command::Command;
 /// Whose turn it is.
 #[derive(Clone, Copy, Debug, PartialEq, Eq)]
 pub enum Turn {
-    /// A rank's, for its refresh.
+    /// A rank's, for its REF or the PREA before it.
     Rank(u64),
     /// That of the request at this place of the list, for its RD or WR.
     Column(usize),

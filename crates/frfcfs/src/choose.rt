@@ -114,7 +114,11 @@ fn first_request(
     None
 }
 
-/// The choice at the clock: the least candidate, None exactly where there is none.
+/// The choice at the clock: the least candidate in the order of first-ready, first-come-first-served scheduling (Rixner and
+/// others, "Memory Access Scheduling", ISCA 2000), None exactly where there is no candidate.
+///
+/// Ranks in lead come first; then the RD or WR of an eligible request whose row is open; then ACT and PRE; of two requests
+/// the older before. It takes no memory, and looks at each request three times at most.
 pub fn choose(banks: &Banks, pending: &[Pending], clock: u64) -> Option<Choice>
     requires { IsQueue banks.now.checked.geometry pending.now }
     ensures serves { IfSome result (λ x. Serves pending.now x.turn x.cmd) }

@@ -170,7 +170,11 @@ fn next_of_requests(
     best
 }
 
-/// The least clock from now on at which there is a candidate, and the choice there, if there is one below 2^63.
+/// The least clock from now on at which there is a candidate, and the choice there; None exactly where there is none below
+/// 2^63.
+///
+/// It never walks from clock to clock: the clocks of each request's next command are found once, from its bank's and its
+/// rank's, and the least is taken. It takes no memory, and looks at each request three times.
 pub fn choose_next(banks: &Banks, pending: &[Pending], now: u64) -> Option<Next>
     requires { IsQueue banks.now.checked.geometry pending.now }
     ensures early { IfSome result (λ next. next.clock < 2 ^ 63) }
@@ -187,7 +191,8 @@ pub fn choose_next(banks: &Banks, pending: &[Pending], now: u64) -> Option<Next>
     sooner(ranks, requests)
 }
 
-/// The least clock from now on at which there is a candidate, if there is one below 2^63.
+/// The clock of `choose_next`, at its cost: the least from now on at which there is a candidate; None exactly where there is
+/// none below 2^63.
 pub fn next_clock(banks: &Banks, pending: &[Pending], now: u64) -> Option<u64>
     requires { IsQueue banks.now.checked.geometry pending.now }
     ensures early { IfSome result (λ clock. clock < 2 ^ 63) }

@@ -12,7 +12,8 @@ pub enum Kind {
     Write,
 }
 
-/// A request that waits for its RD or WR.
+/// A request that waits for its RD or WR. A list of them stands in order of arrival; what a choice asks of a list, `is_queue`
+/// tests.
 #[derive(Clone, Copy, Debug, PartialEq, Eq)]
 pub struct Pending {
     /// Its place in the order of arrival on the channel.

@@ -1,26 +1,13 @@
 // Whether a list of requests is one that a choice can be made of.
 ghost use Rattle.std.specs.Prelude.{◌≡◌, ℕ, ◌<◌, ◌≤◌, ◌↔◌, Some, IsTrue, length, slice_get};
 ghost use Rattle.frfcfs.specs.declared.pending.Pending.{Pending};
-ghost use Rattle.ddr4_timing.specs.Places.{LiesIn};
 ghost use Rattle.frfcfs.specs.Requests.{IsFirst, IsQueue};
 
 use crate::pending::Pending;
-use ddr4_timing::place::Place;
 use ddr4_timing::timing::Geometry;
 
-/// Whether the place lies in the geometry.
-pub fn lies_in(geometry: &Geometry, place: &Place) -> bool
-    ensures { IsTrue result ↔ LiesIn geometry.now place.now }
-{
-    place.channel < geometry.channels
-        && place.rank < geometry.ranks
-        && place.group < geometry.groups
-        && place.bank < geometry.banks
-        && place.row < geometry.rows
-        && place.column < geometry.columns
-}
-
-/// Whether no older request of the list names the request's line. It looks at each request of the list.
+/// Whether no older request of the list names the request's line, which is what its mark `first` says. It looks at each
+/// request of the list once at most.
 pub fn is_first(pending: &[Pending], p: &Pending) -> bool
     ensures { IsTrue result ↔ IsFirst pending.now p.now }
 {
@@ -62,7 +49,7 @@ pub fn is_queue(geometry: &Geometry, pending: &[Pending]) -> bool
     ensures { IsTrue result ↔ IsQueue geometry.now pending.now }
 {
     for (i, p) in pending.iter().enumerate() {
-        if !lies_in(geometry, &p.place) {
+        if !p.place.lies_in(geometry) {
             return false;
         }
         if !come_before(pending, i, p.seq) {

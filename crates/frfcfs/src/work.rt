@@ -9,7 +9,7 @@ ghost use Rattle.frfcfs.specs.Next.{HasWork};
 use crate::pending::Pending;
 use bank_core::banks::Banks;
 
-/// Whether the rank owes eight REF or more.
+/// Whether the rank owes eight REF or more at the clock: then it is in lead, and its requests wait for its refresh.
 pub fn is_in_lead(banks: &Banks, rank: u64, clock: u64) -> bool
     requires { rank < banks.now.checked.geometry.ranks }
     ensures { (list : List Stamped) → Stands banks.now list → (IsTrue result ↔ IsInLead banks.now.checked.timing list clock rank) }
@@ -17,7 +17,8 @@ pub fn is_in_lead(banks: &Banks, rank: u64, clock: u64) -> bool
     banks.owed(rank, clock) >= 8
 }
 
-/// Whether some request is eligible, or some rank is in lead at the clock.
+/// Whether some request is eligible, or some rank is in lead at the clock. Where there is no such work, a channel is idle.
+/// It looks at each rank and each request once at most.
 pub fn has_work(banks: &Banks, pending: &[Pending], clock: u64) -> bool
     requires { IsQueue banks.now.checked.geometry pending.now }
     ensures { (list : List Stamped) → Stands banks.now list → (IsTrue result ↔ HasWork banks.now.checked list pending.now clock) }
@@ -27,8 +28,8 @@ pub fn has_work(banks: &Banks, pending: &[Pending], clock: u64) -> bool
             return true;
         }
     }
-    for i in 0..pending.len() {
-        if pending[i].is_eligible() {
+    for p in pending {
+        if p.is_eligible() {
             return true;
         }
     }

@@ -16,8 +16,12 @@ use frfcfs::work::has_work;
 /// The command that a channel sends next, where the last one went at the clock `now`, 0 before there is one.
 ///
 /// None exactly where the channel is idle, and from clock 2^62 on. It is idle where no request is eligible and no rank is in
-/// lead at the clock `now`, and where every rank had its SRE. Otherwise it is the choice at the first clock from `now` on that has a candidate.
-/// Takes no memory; as long as `choose_next`.
+/// lead at the clock `now`, and where every rank had its SRE. Otherwise the answer is the choice at the first clock from
+/// `now` on that has a candidate (first ready, first come: Rixner et al., Memory access scheduling, 2000), and each rank
+/// that is awake keeps the time for its refresh (JESD79-4, which lets a REF be put off by eight intervals).
+///
+/// The clauses on lists are on every list that the banks stand for and in which each rank has its time. Takes no memory,
+/// and as long as `has_work` and `choose_next`.
 pub fn next_command(banks: &Banks, pending: &[Pending], now: u64) -> Option<Next>
     requires { IsQueue banks.now.checked.geometry pending.now }
     ensures early { IfSome result (λ next. next.clock < 2 ^ 63) }

@@ -9,5 +9,5 @@ use Rattle.frfcfs.proofs.work.has_work.Given as goal
 abbrev pub invariant-loop-rank : goal.invariant-loop-rank
 invariant-loop-rank l = (list : List Stamped) → Stands l.banks list → (rank : ℕ) → rank < l.rank → ¬ IsInLead l.banks.checked.timing list l.clock rank
 
-abbrev pub invariant-loop-i : goal.invariant-loop-i
-invariant-loop-i l = (k : ℕ) (p : Pending) → k < l.i → ¬ IsEligible l.pending k p
+abbrev pub invariant-loop-p : goal.invariant-loop-p
+invariant-loop-p l = (k : ℕ) (p : Pending) → k < l.p-index → ¬ IsEligible l.pending k p
