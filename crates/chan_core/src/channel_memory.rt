@@ -1,5 +1,5 @@
 // What a channel holds: its array, its pending writes and its open reads.
-ghost use Rattle.std.specs.Prelude.{◌≡◌, ◌≢◌, ℕ, ◌+◌, ◌<◌, ◌≤◌, ◌↔◌, [], None, Some, IfOk, IfErr, IsOk, IsTrue, OnOk, OnErr, length, slice_get, vec_capacity};
+ghost use Rattle.std.specs.Prelude.{◌≡◌, ◌≢◌, ℕ, ◌+◌, ◌<◌, ◌≤◌, ◌↔◌, ◌++◌, ◌∷◌, [], false, None, Some, IfOk, IfErr, IsOk, IsTrue, OnOk, OnErr, length, slice_get, slice_set, vec_capacity};
 ghost use Rattle.line_memory.specs.Memory.{zero_lines};
 ghost use Rattle.ddr4_timing.specs.Limits.{lines_of};
 ghost use Rattle.frfcfs.specs.declared.pending.Pending.{Pending};
@@ -11,7 +11,7 @@ ghost use Rattle.wpq_core.specs.declared.queue.PendingWrite.{PendingWrite};
 ghost use Rattle.wpq_core.specs.Queue as queues;
 ghost use Rattle.chan_core.specs.Lines.{place_of, cells_of};
 ghost use Rattle.ddr4_timing.specs.Places.{LiesIn};
-ghost use Rattle.chan_core.specs.ChannelMemory.{MemoryState, IsChannelMemory, Puts, Gets, Asks, IsFullOfReads, Collects, IsAnswered, Reads, ServedIn, Serves, TellsOpen, TellsTickets, HoldsBy, Writes, memory_of, tickets_of, cell_of};
+ghost use Rattle.chan_core.specs.ChannelMemory.{MemoryState, IsChannelMemory, Puts, Gets, Asks, IsFullOfReads, Collects, IsAnswered, Reads, ServedIn, Serves, Tells, TellsOpen, TellsTickets, HoldsBy, Writes, memory_of, tickets_of, cell_of, line_in};
 
 use crate::answers::{Collected, Got, ReadsFull, Served, Ticket};
 use crate::lines::{cells, index_of, place_of};
@@ -88,6 +88,8 @@ impl ChannelMemory {
         requires line { line < lines_of self.old.checked.geometry }
         requires above { ComeBefore number self.old.queue.writes }
         ensures puts { OnOk result (Puts self.old number line bytes self.new) }
+        ensures memory { OnOk result (memory_of self.new ≡ slice_set (memory_of self.old) (cell_of self.old line) bytes) }
+        ensures tickets { tickets_of self.new ≡ tickets_of self.old }
         ensures room { IsOk result ↔ (length self.old.queue.writes < self.old.queue.depth) }
         ensures same { OnErr result (self.new ≡ self.old) }
     {
@@ -110,7 +112,9 @@ impl ChannelMemory {
     /// changes then.
     pub fn get(&mut self, line: u64, at: u64) -> Result<Got, ReadsFull>
         requires { line < lines_of self.old.checked.geometry }
-        ensures { Gets self.old line at result self.new }
+        ensures gets { Gets self.old line at result self.new }
+        ensures tells { Tells self.old line at result self.new }
+        ensures memory { memory_of self.new ≡ memory_of self.old }
     {
         if self.is_full_of_reads() {
             return Err(ReadsFull);
@@ -212,7 +216,9 @@ impl ChannelMemory {
 
     /// Holds the writes from a number on, those that come later too; or none.
     pub fn set_hold(&mut self, from: Option<u64>)
-        ensures { HoldsBy self.old from self.new }
+        ensures holds { HoldsBy self.old from self.new }
+        ensures memory { memory_of self.new ≡ memory_of self.old }
+        ensures tickets { tickets_of self.new ≡ tickets_of self.old }
     {
         hold(&mut self.pending, from);
         self.hold = from;
@@ -228,6 +234,8 @@ impl ChannelMemory {
         requires none { NoneNames index self.old.queue.writes }
         ensures ticket { result ≡ record { channel = self.old.channel; serial = self.old.serial } }
         ensures asks { Asks self.old line at self.new }
+        ensures tickets { tickets_of self.new ≡ tickets_of self.old ++ record { serial = self.old.serial; line = line; at = at; bytes = line_in self.old line; answered = false } ∷ [] }
+        ensures memory { memory_of self.new ≡ memory_of self.old }
     {
         let serial = self.serial;
         push(&mut self.pending, place, index, Kind::Read, serial, false);
