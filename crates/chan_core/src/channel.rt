@@ -1,5 +1,5 @@
 // One channel.
-ghost use Rattle.std.specs.Prelude.{◌≡◌, ℕ, ◌<◌, ◌≤◌, ◌⊎◌, ◌^◌, ◌↔◌, ◌++◌, [], List, Some, None, IfOk, IfSome, IfNone, IsOk, OnOk, OnErr, length, slice_get, slice_set};
+ghost use Rattle.std.specs.Prelude.{◌≡◌, ℕ, ◌<◌, ◌≤◌, ◌⊎◌, ◌^◌, ◌↔◌, ◌++◌, [], List, Some, None, IfErr, IfOk, IfSome, IfNone, IsOk, OnOk, OnErr, length, slice_get, slice_set};
 ghost use Rattle.line_memory.specs.Memory.{zero_lines};
 ghost use Rattle.ddr4_timing.specs.Limits.{lines_of};
 ghost use Rattle.ddr4_timing.specs.declared.command.Stamped.{Stamped};
@@ -7,7 +7,7 @@ ghost use Rattle.bank_core.specs.Stands.{Stands, Allows, with_command};
 ghost use Rattle.frfcfs.specs.Candidates.{Serves};
 ghost use Rattle.frfcfs.specs.Next.{IsNext};
 ghost use Rattle.refresh_margin.specs.Margin.{KeepsMargin};
-ghost use Rattle.wpq_core.specs.Writes.{ComeBefore};
+ghost use Rattle.wpq_core.specs.Writes.{ComeBefore, pending_write};
 ghost use Rattle.chan_core.specs.Lines.{place_of, cells_of};
 ghost use Rattle.chan_core.specs.ChannelMemory.{Puts, Gets, Tells, Collects, TellsCollected, HoldsBy, cell_of, memory_of, tickets_of};
 ghost use Rattle.chan_core.specs.Channel.{ChannelState, HasIssued, IsInTime, HasNothing, Works, Runs};
@@ -78,7 +78,7 @@ impl Channel {
 
     /// Accepts a write of a line of this channel, with a number above those of all pending ones. The memory has it from now
     /// on; the array has it once its WR was issued. Refused, `Full`, exactly where the queue holds its depth: the write comes
-    /// back, named by its index in the channel's array, and nothing changes. It costs the number of pending requests.
+    /// back, and nothing changes. It costs the number of pending requests.
     pub fn put(&mut self, number: u64, line: u64, bytes: Line) -> Result<(), Full>
         requires line { line < lines_of self.old.memory.checked.geometry }
         requires channel { (place_of self.old.memory.checked.geometry line).channel ≡ self.old.memory.channel }
@@ -88,6 +88,7 @@ impl Channel {
         ensures tickets { tickets_of self.new.memory ≡ tickets_of self.old.memory }
         ensures room { IsOk result ↔ (length self.old.memory.queue.writes < self.old.memory.queue.depth) }
         ensures rest { self.new ≡ record self.old { memory = self.new.memory } }
+        ensures refused { IfErr result (λ full. full.refused ≡ pending_write number line bytes) }
         ensures same { OnErr result (self.new ≡ self.old) }
     {
         self.memory.put(number, line, bytes)

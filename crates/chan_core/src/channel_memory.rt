@@ -6,7 +6,7 @@ ghost use Rattle.frfcfs.specs.declared.pending.Pending.{Pending};
 ghost use Rattle.frfcfs.specs.declared.pending.Kind.TheVariants as kinds;
 ghost use Rattle.frfcfs.specs.declared.choice.Turn.TheVariants as turns;
 ghost use Rattle.frfcfs.specs.Requests.{IsEligible, IsQueue};
-ghost use Rattle.wpq_core.specs.Writes.{ComeBefore, IsNewest, NoneNames, Takes};
+ghost use Rattle.wpq_core.specs.Writes.{ComeBefore, IsNewest, NoneNames, Takes, pending_write};
 ghost use Rattle.wpq_core.specs.declared.queue.PendingWrite.{PendingWrite};
 ghost use Rattle.wpq_core.specs.Queue as queues;
 ghost use Rattle.chan_core.specs.Lines.{place_of, cells_of};
@@ -21,10 +21,10 @@ use ddr4_timing::place::Place;
 use ddr4_timing::timing::Checked;
 use frfcfs::choice::Turn;
 use frfcfs::pending::{Kind, Pending};
-use line_memory::{Line, zero};
+use line_memory::{Line, Write, zero};
 use std::alloc::{AllocError, Global};
 use std::marker::Model;
-use wpq_core::{Full, Wpq};
+use wpq_core::{Full, PendingWrite, Wpq};
 
 #[derive(Drop)]
 pub struct ChannelMemory {
@@ -91,11 +91,19 @@ impl ChannelMemory {
         ensures memory { OnOk result (memory_of self.new ≡ slice_set (memory_of self.old) (cell_of self.old line) bytes) }
         ensures tickets { tickets_of self.new ≡ tickets_of self.old }
         ensures room { IsOk result ↔ (length self.old.queue.writes < self.old.queue.depth) }
+        ensures refused { IfErr result (λ full. full.refused ≡ pending_write number line bytes) }
         ensures same { OnErr result (self.new ≡ self.old) }
     {
         let place = place_of(&self.checked, line);
         let index = index_of(&self.checked, &place) as u64;
-        self.queue.try_push(number, index, bytes)?;
+        let Ok(()) = self.queue.try_push(number, index, bytes) else {
+            return Err(Full {
+                refused: PendingWrite {
+                    number,
+                    write: Write { line, data: bytes },
+                },
+            });
+        };
         let held = is_held(self.hold, Kind::Write, number);
         push(&mut self.pending, place, index, Kind::Write, number, held);
         Ok(())
