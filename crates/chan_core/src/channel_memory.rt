@@ -49,7 +49,7 @@ impl Model for ChannelMemory {
 }
 
 impl ChannelMemory {
-    pub fn new(
+    pub(crate) fn new(
         alloc: Global,
         checked: &Checked,
         channel: u64,
@@ -76,7 +76,7 @@ impl ChannelMemory {
     }
 
     /// The pending requests, in order of arrival.
-    pub fn pending(&self) -> &[Pending]
+    pub(crate) fn pending(&self) -> &[Pending]
         ensures pending { result.now ≡ self.now.pending }
         ensures queue { IsQueue self.now.checked.geometry result.now }
     {
@@ -84,7 +84,7 @@ impl ChannelMemory {
     }
 
     /// Adds a write behind the others. Refused, `Full`, exactly where the queue holds its depth: nothing changes then.
-    pub fn put(&mut self, number: u64, line: u64, bytes: Line) -> Result<(), Full>
+    pub(crate) fn put(&mut self, number: u64, line: u64, bytes: Line) -> Result<(), Full>
         requires line { line < lines_of self.old.checked.geometry }
         requires above { ComeBefore number self.old.queue.writes }
         ensures puts { OnOk result (Puts self.old number line bytes self.new) }
@@ -118,7 +118,7 @@ impl ChannelMemory {
 
     /// Reads a line, after all accepted writes, of which there are `at`. Refused where no further read may be open: nothing
     /// changes then.
-    pub fn get(&mut self, line: u64, at: u64) -> Result<Got, ReadsFull>
+    pub(crate) fn get(&mut self, line: u64, at: u64) -> Result<Got, ReadsFull>
         requires { line < lines_of self.old.checked.geometry }
         ensures gets { Gets self.old line at result self.new }
         ensures tells { Tells self.old line at result self.new }
@@ -136,7 +136,7 @@ impl ChannelMemory {
     }
 
     /// What there is for a ticket.
-    pub fn collect(&mut self, ticket: Ticket) -> Collected
+    pub(crate) fn collect(&mut self, ticket: Ticket) -> Collected
         ensures { Collects self.old ticket result self.new }
     {
         if ticket.channel != self.channel {
@@ -161,7 +161,7 @@ impl ChannelMemory {
 
     /// Serves an eligible request: a write goes into the array, a read gets the bytes of its line there. The memory stays,
     /// and an open read gets no other bytes than it was to have.
-    pub fn serve(&mut self, place: usize) -> Served
+    pub(crate) fn serve(&mut self, place: usize) -> Served
         requires { (p : Pending) × IsEligible self.old.pending place p }
         ensures serves { Serves self.old place result self.new }
         ensures memory { memory_of self.new ≡ memory_of self.old }
@@ -186,7 +186,7 @@ impl ChannelMemory {
     }
 
     /// Serves the request of a turn, where that is its column command's.
-    pub fn serve_turn(&mut self, turn: Turn) -> Option<Served>
+    pub(crate) fn serve_turn(&mut self, turn: Turn) -> Option<Served>
         requires { (place : ℕ) → turn ≡ turns.Column place → (p : Pending) × IsEligible self.old.pending place p }
         ensures served { ServedIn turn result self.old self.new }
         ensures memory { memory_of self.new ≡ memory_of self.old }
@@ -223,7 +223,7 @@ impl ChannelMemory {
     }
 
     /// Holds the writes from a number on, those that come later too; or none.
-    pub fn set_hold(&mut self, from: Option<u64>)
+    pub(crate) fn set_hold(&mut self, from: Option<u64>)
         ensures holds { HoldsBy self.old from self.new }
         ensures memory { memory_of self.new ≡ memory_of self.old }
         ensures tickets { tickets_of self.new ≡ tickets_of self.old }
