@@ -126,35 +126,27 @@ fn a_life_is_full(rt: HostRuntime) -> Result<(), Fail> {
         Vec::from_elem(rt.alloc(), 0, device_size(128))?,
     )?;
     let replies = run_plain(rt.alloc(), &events, &mut device)?;
-    assert_eq!(rt;
-        replies[1024],
-        Reply::Accepted {
-            number: 1023,
-            mark: 0
-        }
-    );
-    assert_eq!(rt; replies[1025], Reply::WriteRefused(WriteRefusal::TrailFull));
-    assert_eq!(rt;
-        replies[1026],
-        Reply::Saved {
-            generation: 2,
-            count: 1024
-        }
-    );
-    assert_eq!(rt;
-        replies[1027],
-        Reply::Restored {
-            generation: 2,
-            count: 1024,
-            verdict: Verdict::Complete
-        }
-    );
-    assert_eq!(rt;
-        replies[1028],
-        Reply::Accepted {
-            number: 1024,
-            mark: 1024
-        }
+    assert!(rt;
+        replies.ends_with(&[
+            Reply::Accepted {
+                number: 1023,
+                mark: 0,
+            },
+            Reply::WriteRefused(WriteRefusal::TrailFull),
+            Reply::Saved {
+                generation: 2,
+                count: 1024,
+            },
+            Reply::Restored {
+                generation: 2,
+                count: 1024,
+                verdict: Verdict::Complete,
+            },
+            Reply::Accepted {
+                number: 1024,
+                mark: 1024,
+            },
+        ])
     );
     Ok(())
 }

@@ -1,5 +1,5 @@
 -- What a device in memory holds.
-use Rattle.std.specs.Prelude.{◌≡◌, ℕ, List, length, Bool, true, false, slice_index_or}
+use Rattle.std.specs.Prelude.{ℕ, List, length}
 use Rattle.save_device.specs.declared.memory.Content.{Content}
 use Rattle.save_device.specs.declared.memory.MemoryDevice.{MemoryDevice}
 use Rattle.save_device.specs.declared.memory.Pick.{Pick}
