@@ -2,12 +2,16 @@
 ghost use Rattle.std.specs.Prelude.{◌≡◌, IfSome};
 ghost use Rattle.ddr4_timing.specs.Limits.{lines_of};
 
+mod fixture;
+mod refreshes;
+mod requests;
+
 use crate::lines::{cells, index_of, place_of};
 use ddr4_timing::place::Place;
 use ddr4_timing::timing::{Checked, Geometry, Timing};
 use std::test::Fail;
 
-fn tiny() -> Timing {
+pub(crate) fn tiny() -> Timing {
     Timing {
         t_rcd: 16,
         t_rp: 16,
@@ -31,18 +35,23 @@ fn tiny() -> Timing {
 }
 
 #[tactic(auto, unfolding(ddr4_timing::specs::Limits::lines_of))]
-fn checked() -> Option<Checked>
-    ensures { IfSome result (λ c. lines_of c.geometry ≡ 128) }
+pub(crate) fn small() -> Geometry
+    ensures { lines_of result ≡ 128 }
 {
-    let geometry = Geometry {
+    Geometry {
         channels: 2,
         ranks: 1,
         groups: 2,
         banks: 4,
         rows: 2,
         columns: 4,
-    };
-    tiny().check(&geometry).ok()
+    }
+}
+
+fn checked() -> Option<Checked>
+    ensures { IfSome result (λ c. lines_of c.geometry ≡ 128) }
+{
+    tiny().check(&small()).ok()
 }
 
 #[test]

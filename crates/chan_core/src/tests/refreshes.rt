@@ -1,0 +1,177 @@
+// Channels that are busy past many refresh intervals.
+use crate::answers::{Collected, Got, Served, Ticket};
+use crate::tests::fixture::Fixture;
+use crate::tests::{small, tiny};
+use ddr4_timing::command::Stamped;
+use ddr4_timing::timing::{Geometry, Timing};
+use std::alloc::Global;
+use std::test::Fail;
+
+fn four_ranks() -> Geometry {
+    Geometry {
+        ranks: 4,
+        ..small()
+    }
+}
+
+// An entry takes 44 clocks and a close step 40: the interval is 2 * (44 + 40) + 4 * 4.
+fn tight() -> Timing {
+    Timing {
+        t_rcd: 3,
+        t_rp: 3,
+        t_ras: 5,
+        cl: 3,
+        cwl: 2,
+        t_ccd_s: 2,
+        t_ccd_l: 3,
+        t_rrd_s: 2,
+        t_rrd_l: 3,
+        t_faw: 8,
+        t_wr: 4,
+        t_wtr_s: 1,
+        t_wtr_l: 2,
+        t_rtp: 30,
+        t_rtw: 4,
+        t_cs: 1,
+        t_rfc: 7,
+        t_refi: 184,
+    }
+}
+
+// Picks places on a channel, so many columns apart, one after another.
+#[derive(Drop)]
+struct Picks {
+    salt: u64,
+    apart: u64,
+}
+
+impl Picks {
+    fn next(&mut self) -> u64 {
+        self.salt = self
+            .salt
+            .wrapping_mul(6_364_136_223_846_793_005)
+            .wrapping_add(1_442_695_040_888_963_407);
+        (self.salt >> 33).wrapping_mul(self.apart)
+    }
+}
+
+// Writes until the queue is full.
+fn fill_writes(channel: &mut Fixture, picks: &mut Picks) -> Result<(), Fail> {
+    for byte in 0..255 {
+        let line = channel.line(picks.next());
+        if channel.put(line, byte)?.is_err() {
+            return Ok(());
+        }
+    }
+    Err("never full".into())
+}
+
+// Reads until no further read may wait; the tickets are added to the others.
+fn fill_reads(
+    channel: &mut Fixture,
+    picks: &mut Picks,
+    tickets: &mut Vec<Ticket>,
+) -> Result<(), Fail> {
+    for _ in 0..1000 {
+        let line = channel.line(picks.next());
+        match channel.get(line)? {
+            Ok(Got::Now(_)) => {}
+            Ok(Got::Later(ticket)) => tickets.push(ticket)?,
+            Err(_) => return Ok(()),
+        }
+    }
+    Err("never full".into())
+}
+
+// Collects the reads that were answered; the tickets that are left.
+fn waiting(alloc: Global, channel: &mut Fixture, tickets: &[Ticket]) -> Result<Vec<Ticket>, Fail> {
+    let mut left = Vec::new(alloc);
+    for ticket in tickets {
+        match channel.collect(*ticket) {
+            Collected::Data { .. } => {}
+            Collected::Pending => left.push(*ticket)?,
+            Collected::Unknown => return Err("unknown ticket".into()),
+        }
+    }
+    Ok(left)
+}
+
+// The commands of a channel up to a clock, sixteen at a time; both queues are full before each of these.
+fn busy(alloc: Global, channel: &mut Fixture, until: u64) -> Result<Vec<Stamped>, Fail> {
+    let mut list = Vec::new(alloc);
+    let mut tickets = Vec::new(alloc);
+    let mut picks = Picks { salt: 7, apart: 1 };
+    for _ in 0..10_000 {
+        fill_writes(channel, &mut picks)?;
+        fill_reads(channel, &mut picks, &mut tickets)?;
+        let commands = channel.work_many(alloc, 16)?;
+        if commands.len() < 16 {
+            return Err("idle".into());
+        }
+        list.extend_from_slice(&commands)?;
+        if list.last().is_some_and(|last| last.clock > until) {
+            return Ok(list);
+        }
+        tickets = waiting(alloc, channel, &tickets)?;
+    }
+    Err("not there in time".into())
+}
+
+// The commands of a channel up to a clock, whose queues are full of conflicts before each command.
+fn conflicts(
+    alloc: Global,
+    channel: &mut Fixture,
+    salt: u64,
+    until: u64,
+) -> Result<Vec<Stamped>, Fail> {
+    let mut list = Vec::new(alloc);
+    let mut tickets = Vec::new(alloc);
+    let mut picks = Picks { salt: 3, apart: 4 };
+    for _ in 0..until {
+        fill_writes(channel, &mut picks)?;
+        fill_reads(channel, &mut picks, &mut tickets)?;
+        let done = channel.work().ok_or("idle")?;
+        if let Some(Served::Read(ticket)) = done.served {
+            channel.collect(ticket);
+        }
+        list.push(done.command)?;
+        if done.command.clock > until {
+            return Ok(list);
+        }
+    }
+    Err("not there in time".into())
+}
+
+fn refreshes(list: &[Stamped]) -> usize {
+    list.iter().filter(|x| x.cmd.is_ref()).count()
+}
+
+#[test]
+fn a_busy_channel_keeps_every_rule(rt: HostRuntime) -> Result<(), Fail> {
+    for (geometry, least) in [(small(), 12), (four_ranks(), 48)] {
+        let mut channel = Fixture::new(rt.alloc(), &tiny(), &geometry, 8, 8)?;
+        let list = busy(rt.alloc(), &mut channel, 21 * 9360)?;
+        assert_eq!(rt; channel.fault(&list), None);
+        assert!(rt; refreshes(&list) >= least);
+    }
+    Ok(())
+}
+
+#[test]
+fn the_tightest_profile_never_gets_stuck(rt: HostRuntime) -> Result<(), Fail> {
+    let geometry = Geometry {
+        channels: 1,
+        ranks: 4,
+        groups: 2,
+        banks: 4,
+        rows: 16,
+        columns: 4,
+    };
+    for salt in 0..8 {
+        let mut channel = Fixture::new(rt.alloc(), &tight(), &geometry, 64, 64)?;
+        let list = conflicts(rt.alloc(), &mut channel, salt, 50 * 184)?;
+        assert_eq!(rt; channel.fault(&list), None);
+        assert!(rt; refreshes(&list) >= 4 * 41);
+    }
+    Ok(())
+}
