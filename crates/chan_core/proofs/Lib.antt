@@ -5,5 +5,6 @@ pub mod Arrivals
 pub mod Holding
 pub mod Serving
 pub mod Answering
+pub mod Telling
 pub mod Recent
 pub mod Running

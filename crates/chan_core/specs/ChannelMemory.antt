@@ -46,13 +46,17 @@ memory_of s = after_pending s.array s.queue.writes
 abbrev pub tickets_of : MemoryState → List OpenTicket
 tickets_of s = map (ticket_of s.array) s.reads
 
--- the requests that wait, in order of arrival
-abbrev pub requests_of : MemoryState → List Request
-requests_of s = map asked s.pending
-
 -- the place of a line in the array
 abbrev pub cell_of : MemoryState → ℕ → ℕ
 cell_of s line = index_of s.checked.geometry (place_of s.checked.geometry line)
+
+-- a line, as the host names it, after all accepted writes
+abbrev pub line_in : MemoryState → ℕ → List ℕ
+line_in s line = slice_index_or (memory_of s) (cell_of s line) []
+
+-- the requests that wait, in order of arrival
+abbrev pub requests_of : MemoryState → List Request
+requests_of s = map asked s.pending
 
 -- a request's number and the place of its line in the array, where it is of this kind
 abbrev pub write_of : Kind → ℕ → ℕ → Option (ℕ × ℕ)
@@ -128,6 +132,12 @@ Gets old line at (Err full) new = IsFullOfReads old × (new ≡ old)
 Gets old line at (Ok (Now bytes)) new = (¬ IsFullOfReads old) × IsNewest (cell_of old line) old.queue.writes (Some bytes) × (new ≡ old)
 Gets old line at (Ok (Later ticket)) new = (¬ IsFullOfReads old) × NoneNames (cell_of old line) old.queue.writes × (ticket ≡ record { channel = old.channel; serial = old.serial }) × Asks old line at new
 
+-- What a read is told: its line after all writes accepted before it, at once or to be collected.
+abbrev pub Tells : MemoryState → ℕ → ℕ → Result Got ReadsFull → MemoryState → Type 0
+Tells old line at (Err full) new = tickets_of new ≡ tickets_of old
+Tells old line at (Ok (Now bytes)) new = (bytes ≡ line_in old line) × (tickets_of new ≡ tickets_of old)
+Tells old line at (Ok (Later ticket)) new = tickets_of new ≡ tickets_of old ++ record { serial = ticket.serial; line = line; at = at; bytes = line_in old line; answered = false } ∷ []
+
 -- a write reaches the array
 pub record Writes (old : MemoryState) (place : ℕ) (p : Pending) (new : MemoryState) : Type 0 where
   pub bytes : List ℕ
@@ -179,6 +189,15 @@ Collects old ticket (collected.Data line bytes at) new =
 Collects old ticket collected.Pending new =
     (ticket.channel ≡ old.channel) × (i : ℕ) × (r : OpenRead) × (slice_get old.reads i ≡ Some r) × (r.serial ≡ ticket.serial) × (r.bytes ≡ None) × (new ≡ old)
 Collects old ticket collected.Unknown new = (ticket.channel ≡ old.channel → IsPlaceOf ticket.serial old.reads None) × (new ≡ old)
+
+-- What a ticket is told: what its read was to have, once it was answered. Its ticket goes then, and the others stay.
+abbrev pub TellsCollected : MemoryState → Ticket → Collected → MemoryState → Type 0
+TellsCollected old ticket (collected.Data line bytes at) new =
+    (i : ℕ) × (slice_get (tickets_of old) i ≡ Some (record { serial = ticket.serial; line = line; at = at; bytes = bytes; answered = true })) × (tickets_of new ≡ remove (tickets_of old) i)
+TellsCollected old ticket collected.Pending new =
+    (i : ℕ) × (t : OpenTicket) × (slice_get (tickets_of old) i ≡ Some t) × (t.serial ≡ ticket.serial) × (t.answered ≡ false) × (tickets_of new ≡ tickets_of old)
+TellsCollected old ticket collected.Unknown new =
+    (ticket.channel ≡ old.channel → (i : ℕ) (t : OpenTicket) → slice_get (tickets_of old) i ≡ Some t → t.serial ≢ ticket.serial) × (tickets_of new ≡ tickets_of old)
 
 -- another hold, or none
 pub record HoldsBy (old : MemoryState) (hold : Option ℕ) (new : MemoryState) : Type 0 where

@@ -1,17 +1,17 @@
 // What a channel holds: its array, its pending writes and its open reads.
-ghost use Rattle.std.specs.Prelude.{◌≡◌, ◌≢◌, ℕ, ◌+◌, ◌<◌, ◌≤◌, ◌↔◌, [], None, Some, IfOk, IfErr, IsOk, IsTrue, OnOk, OnErr, length, slice_get, vec_capacity};
+ghost use Rattle.std.specs.Prelude.{◌≡◌, ◌≢◌, ℕ, ◌+◌, ◌<◌, ◌≤◌, ◌↔◌, ◌++◌, ◌∷◌, [], false, None, Some, IfOk, IfErr, IsOk, IsTrue, OnOk, OnErr, length, slice_get, slice_set, vec_capacity};
 ghost use Rattle.line_memory.specs.Memory.{zero_lines};
 ghost use Rattle.ddr4_timing.specs.Limits.{lines_of};
 ghost use Rattle.frfcfs.specs.declared.pending.Pending.{Pending};
 ghost use Rattle.frfcfs.specs.declared.pending.Kind.TheVariants as kinds;
 ghost use Rattle.frfcfs.specs.declared.choice.Turn.TheVariants as turns;
 ghost use Rattle.frfcfs.specs.Requests.{IsEligible, IsQueue};
-ghost use Rattle.wpq_core.specs.Writes.{ComeBefore, IsNewest, NoneNames, Takes};
+ghost use Rattle.wpq_core.specs.Writes.{ComeBefore, IsNewest, NoneNames, Takes, pending_write};
 ghost use Rattle.wpq_core.specs.declared.queue.PendingWrite.{PendingWrite};
 ghost use Rattle.wpq_core.specs.Queue as queues;
 ghost use Rattle.chan_core.specs.Lines.{place_of, cells_of};
 ghost use Rattle.ddr4_timing.specs.Places.{LiesIn};
-ghost use Rattle.chan_core.specs.ChannelMemory.{MemoryState, IsChannelMemory, Puts, Gets, Asks, IsFullOfReads, Collects, IsAnswered, Reads, ServedIn, Serves, TellsOpen, TellsTickets, HoldsBy, Writes, memory_of, tickets_of, cell_of};
+ghost use Rattle.chan_core.specs.ChannelMemory.{MemoryState, IsChannelMemory, Puts, Gets, Asks, IsFullOfReads, Collects, IsAnswered, Reads, ServedIn, Serves, Tells, TellsOpen, TellsTickets, HoldsBy, Writes, memory_of, tickets_of, cell_of, line_in};
 
 use crate::answers::{Collected, Got, ReadsFull, Served, Ticket};
 use crate::lines::{cells, index_of, place_of};
@@ -21,10 +21,10 @@ use ddr4_timing::place::Place;
 use ddr4_timing::timing::Checked;
 use frfcfs::choice::Turn;
 use frfcfs::pending::{Kind, Pending};
-use line_memory::{Line, zero};
+use line_memory::{Line, Write, zero};
 use std::alloc::{AllocError, Global};
 use std::marker::Model;
-use wpq_core::{Full, Wpq};
+use wpq_core::{Full, PendingWrite, Wpq};
 
 #[derive(Drop)]
 pub struct ChannelMemory {
@@ -49,7 +49,7 @@ impl Model for ChannelMemory {
 }
 
 impl ChannelMemory {
-    pub fn new(
+    pub(crate) fn new(
         alloc: Global,
         checked: &Checked,
         channel: u64,
@@ -76,7 +76,7 @@ impl ChannelMemory {
     }
 
     /// The pending requests, in order of arrival.
-    pub fn pending(&self) -> &[Pending]
+    pub(crate) fn pending(&self) -> &[Pending]
         ensures pending { result.now ≡ self.now.pending }
         ensures queue { IsQueue self.now.checked.geometry result.now }
     {
@@ -84,16 +84,26 @@ impl ChannelMemory {
     }
 
     /// Adds a write behind the others. Refused, `Full`, exactly where the queue holds its depth: nothing changes then.
-    pub fn put(&mut self, number: u64, line: u64, bytes: Line) -> Result<(), Full>
+    pub(crate) fn put(&mut self, number: u64, line: u64, bytes: Line) -> Result<(), Full>
         requires line { line < lines_of self.old.checked.geometry }
         requires above { ComeBefore number self.old.queue.writes }
         ensures puts { OnOk result (Puts self.old number line bytes self.new) }
+        ensures memory { OnOk result (memory_of self.new ≡ slice_set (memory_of self.old) (cell_of self.old line) bytes) }
+        ensures tickets { tickets_of self.new ≡ tickets_of self.old }
         ensures room { IsOk result ↔ (length self.old.queue.writes < self.old.queue.depth) }
+        ensures refused { IfErr result (λ full. full.refused ≡ pending_write number line bytes) }
         ensures same { OnErr result (self.new ≡ self.old) }
     {
         let place = place_of(&self.checked, line);
         let index = index_of(&self.checked, &place) as u64;
-        self.queue.try_push(number, index, bytes)?;
+        let Ok(()) = self.queue.try_push(number, index, bytes) else {
+            return Err(Full {
+                refused: PendingWrite {
+                    number,
+                    write: Write { line, data: bytes },
+                },
+            });
+        };
         let held = is_held(self.hold, Kind::Write, number);
         push(&mut self.pending, place, index, Kind::Write, number, held);
         Ok(())
@@ -108,9 +118,11 @@ impl ChannelMemory {
 
     /// Reads a line, after all accepted writes, of which there are `at`. Refused where no further read may be open: nothing
     /// changes then.
-    pub fn get(&mut self, line: u64, at: u64) -> Result<Got, ReadsFull>
+    pub(crate) fn get(&mut self, line: u64, at: u64) -> Result<Got, ReadsFull>
         requires { line < lines_of self.old.checked.geometry }
-        ensures { Gets self.old line at result self.new }
+        ensures gets { Gets self.old line at result self.new }
+        ensures tells { Tells self.old line at result self.new }
+        ensures memory { memory_of self.new ≡ memory_of self.old }
     {
         if self.is_full_of_reads() {
             return Err(ReadsFull);
@@ -124,7 +136,7 @@ impl ChannelMemory {
     }
 
     /// What there is for a ticket.
-    pub fn collect(&mut self, ticket: Ticket) -> Collected
+    pub(crate) fn collect(&mut self, ticket: Ticket) -> Collected
         ensures { Collects self.old ticket result self.new }
     {
         if ticket.channel != self.channel {
@@ -149,7 +161,7 @@ impl ChannelMemory {
 
     /// Serves an eligible request: a write goes into the array, a read gets the bytes of its line there. The memory stays,
     /// and an open read gets no other bytes than it was to have.
-    pub fn serve(&mut self, place: usize) -> Served
+    pub(crate) fn serve(&mut self, place: usize) -> Served
         requires { (p : Pending) × IsEligible self.old.pending place p }
         ensures serves { Serves self.old place result self.new }
         ensures memory { memory_of self.new ≡ memory_of self.old }
@@ -174,7 +186,7 @@ impl ChannelMemory {
     }
 
     /// Serves the request of a turn, where that is its column command's.
-    pub fn serve_turn(&mut self, turn: Turn) -> Option<Served>
+    pub(crate) fn serve_turn(&mut self, turn: Turn) -> Option<Served>
         requires { (place : ℕ) → turn ≡ turns.Column place → (p : Pending) × IsEligible self.old.pending place p }
         ensures served { ServedIn turn result self.old self.new }
         ensures memory { memory_of self.new ≡ memory_of self.old }
@@ -211,8 +223,10 @@ impl ChannelMemory {
     }
 
     /// Holds the writes from a number on, those that come later too; or none.
-    pub fn set_hold(&mut self, from: Option<u64>)
-        ensures { HoldsBy self.old from self.new }
+    pub(crate) fn set_hold(&mut self, from: Option<u64>)
+        ensures holds { HoldsBy self.old from self.new }
+        ensures memory { memory_of self.new ≡ memory_of self.old }
+        ensures tickets { tickets_of self.new ≡ tickets_of self.old }
     {
         hold(&mut self.pending, from);
         self.hold = from;
@@ -228,6 +242,8 @@ impl ChannelMemory {
         requires none { NoneNames index self.old.queue.writes }
         ensures ticket { result ≡ record { channel = self.old.channel; serial = self.old.serial } }
         ensures asks { Asks self.old line at self.new }
+        ensures tickets { tickets_of self.new ≡ tickets_of self.old ++ record { serial = self.old.serial; line = line; at = at; bytes = line_in self.old line; answered = false } ∷ [] }
+        ensures memory { memory_of self.new ≡ memory_of self.old }
     {
         let serial = self.serial;
         push(&mut self.pending, place, index, Kind::Read, serial, false);

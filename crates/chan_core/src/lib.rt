@@ -1,4 +1,8 @@
-//! One channel.
+//! One channel: it takes writes and reads, reorders them by first-ready, first-come-first-served scheduling, obeys every
+//! timing rule and its refreshes, and still answers each read with the memory after all writes accepted before it.
+//!
+//! The definitions are in `specs`: where a line lies (`Lines.antt`), the pending requests (`Requests.antt`), the open reads
+//! (`Reads.antt`), what a channel holds (`ChannelMemory.antt`) and the channel itself (`Channel.antt`).
 #![tactic(auto)]
 
 mod answers;

@@ -20,14 +20,14 @@ pub struct OpenRead {
 }
 
 /// Where the read of a serial stands.
-pub fn place_of_serial(reads: &[OpenRead], serial: u64) -> Option<usize>
+pub(crate) fn place_of_serial(reads: &[OpenRead], serial: u64) -> Option<usize>
     ensures { IsPlaceOf serial reads.now result }
 {
     reads.iter().position(|read| read.serial == serial)
 }
 
 /// Gives the read of a serial its bytes.
-pub fn answer(reads: &mut Vec<OpenRead>, serial: u64, bytes: Line)
+pub(crate) fn answer(reads: &mut Vec<OpenRead>, serial: u64, bytes: Line)
     ensures answers { Answers serial bytes reads.old.items reads.new.items }
     ensures capacity { vec_capacity reads.new ≡ vec_capacity reads.old }
 {

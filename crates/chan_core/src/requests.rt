@@ -9,7 +9,7 @@ use ddr4_timing::place::Place;
 use frfcfs::pending::{Kind, Pending};
 
 /// Adds a request behind the others.
-pub fn push(
+pub(crate) fn push(
     pending: &mut Vec<Pending>,
     place: Place,
     line: u64,
@@ -43,7 +43,7 @@ fn names(pending: &[Pending], line: u64) -> bool
 }
 
 /// Takes a request out.
-pub fn take(pending: &mut Vec<Pending>, place: usize) -> Pending
+pub(crate) fn take(pending: &mut Vec<Pending>, place: usize) -> Pending
     requires within { place < length pending.old.items }
     ensures items { map asked pending.new.items ≡ remove (map asked pending.old.items) place }
     ensures taken { (none : Pending) → result ≡ slice_index_or pending.old.items place none }
@@ -83,7 +83,7 @@ fn renumber(pending: &mut [Pending])
 }
 
 /// Whether a request is held, where writes from a number on are.
-pub fn is_held(hold: Option<u64>, kind: Kind, number: u64) -> bool
+pub(crate) fn is_held(hold: Option<u64>, kind: Kind, number: u64) -> bool
     ensures { result ≡ is_held hold kind number }
 {
     match kind {
@@ -93,7 +93,7 @@ pub fn is_held(hold: Option<u64>, kind: Kind, number: u64) -> bool
 }
 
 /// Gives each request the mark of a hold.
-pub fn hold(pending: &mut Vec<Pending>, from: Option<u64>)
+pub(crate) fn hold(pending: &mut Vec<Pending>, from: Option<u64>)
     ensures items { map asked pending.new.items ≡ map (held_by from) (map asked pending.old.items) }
     ensures arrivals { (g : Geometry) → IsArrivals g pending.old.items → IsArrivals g pending.new.items }
     ensures capacity { vec_capacity pending.new ≡ vec_capacity pending.old }

@@ -52,7 +52,7 @@ impl BankState {
     ghost use Rattle.ddr4_timing.specs.declared.timing.Checked.{Checked};
 
     /// A bank before any command.
-    pub fn new(rank: u64, group: u64, bank: u64) -> BankState
+    pub(crate) fn new(rank: u64, group: u64, bank: u64) -> BankState
         ensures rank { result.rank ≡ rank }
         ensures group { result.group ≡ group }
         ensures bank { result.bank ≡ bank }
@@ -71,7 +71,7 @@ impl BankState {
     }
 
     /// The bank after a command, where it lies in the geometry.
-    pub fn after(self, checked: &Checked, cmd: &Command, clock: u64) -> BankState
+    pub(crate) fn after(self, checked: &Checked, cmd: &Command, clock: u64) -> BankState
         requires { clock < 2 ^ 63 }
         ensures { BankFollows checked.now clock cmd.now self result }
     {
@@ -151,7 +151,7 @@ impl RankState {
     ghost use Rattle.ddr4_timing.specs.Machine.{RankFollows, RankStands};
 
     /// A rank before any command.
-    pub fn new(checked: &Checked, rank: u64) -> RankState
+    pub(crate) fn new(checked: &Checked, rank: u64) -> RankState
         ensures rank { result.rank ≡ rank }
         ensures stands { RankStands checked.now [] result }
     {
@@ -175,7 +175,7 @@ impl RankState {
     }
 
     /// The rank after a command, which keeps the rule on refreshes.
-    pub fn after(self, checked: &Checked, cmd: &Command, clock: u64) -> RankState
+    pub(crate) fn after(self, checked: &Checked, cmd: &Command, clock: u64) -> RankState
         requires { clock < 2 ^ 63 }
         ensures { RankFollows checked.now clock cmd.now self result }
     {

@@ -116,7 +116,7 @@ fn second_sample(kind: usize, near: usize) -> Command
 
 impl GapTable {
     /// The table of these timing numbers.
-    pub fn of(t: &Timing) -> GapTable
+    pub(crate) fn of(t: &Timing) -> GapTable
         requires { AreInLimits t.now }
         ensures { IsTable t.now result.cells }
     {
@@ -133,7 +133,7 @@ impl GapTable {
 
 impl Checked {
     /// The gaps from a command to those of a bank, in a time that doesn't depend on the rules.
-    pub fn gaps_to_bank(&self, cmd: &Command, rank: u64, group: u64, bank: u64) -> BankGaps
+    pub(crate) fn gaps_to_bank(&self, cmd: &Command, rank: u64, group: u64, bank: u64) -> BankGaps
         ensures act { result.act ≡ most_gap self.now.timing cmd.now (Act rank group bank 0) }
         ensures rd { result.rd ≡ most_gap self.now.timing cmd.now (Rd rank group bank 0) }
         ensures wr { result.wr ≡ most_gap self.now.timing cmd.now (Wr rank group bank 0) }
@@ -154,7 +154,7 @@ impl Checked {
     }
 
     /// The gaps from a command to those of a rank, in a time that doesn't depend on the rules.
-    pub fn gaps_to_rank(&self, cmd: &Command, rank: u64) -> RankGaps
+    pub(crate) fn gaps_to_rank(&self, cmd: &Command, rank: u64) -> RankGaps
         ensures pre_all { result.pre_all ≡ most_gap self.now.timing cmd.now (PreAll rank) }
         ensures ref_all { result.ref_all ≡ most_gap self.now.timing cmd.now (Ref rank) }
         ensures sre { result.sre ≡ most_gap self.now.timing cmd.now (Sre rank) }

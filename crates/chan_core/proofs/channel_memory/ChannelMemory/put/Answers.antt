@@ -14,13 +14,13 @@ try_push-requires c = subst (λ (s : MemoryState). ComeBefore c.args.number s.qu
 pub push-requires : goal.push-requires
 push-requires c =
     let is = c.self.invariant.0 in
-    let pushed = c.in_ok-try_push.ensures.pushed in
+    let pushed = c.in-Ok.ensures.pushed in
     record { room = omega (arith, c.self.invariant.1, few-pending _ is, is.few_reads, c.try_push.ensures.queue.few, ap (λ (q : Queue). q.depth) pushed, ap (λ (q : Queue). length q.writes) pushed, length-append c.self.inside.queue.writes (pending_write c.args.number c.index_of-index.result c.args.bytes ∷ [])) }
 
 pub invariant_of-self-2 : goal.invariant_of-self-2
 invariant_of-self-2 c =
     let is = c.self.invariant.0 in
-    let pushed = c.in_ok-try_push.ensures.pushed in
+    let pushed = c.in-Ok.ensures.pushed in
     let index = c.index_of-index.ensures in (
       put-holds _ c.try_push.new.self c.push.new.pending.items c.args.number c.args.bytes c.place_of-place.result c.index_of-index.result is (c.push.ensures.arrivals _ c.place_of-place.ensures.lies is.arrivals)
           c.try_push.ensures.queue pushed
