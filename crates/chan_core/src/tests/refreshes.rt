@@ -2,7 +2,7 @@
 use crate::answers::{Collected, Got, Served, Ticket};
 use crate::tests::fixture::Fixture;
 use crate::tests::{small, tiny};
-use ddr4_timing::command::Stamped;
+use ddr4_timing::command::{Command, Stamped};
 use ddr4_timing::timing::{Geometry, Timing};
 use std::alloc::Global;
 use std::test::Fail;
@@ -126,7 +126,7 @@ fn conflicts(
 ) -> Result<Vec<Stamped>, Fail> {
     let mut list = Vec::new(alloc);
     let mut tickets = Vec::new(alloc);
-    let mut picks = Picks { salt: 3, apart: 4 };
+    let mut picks = Picks { salt, apart: 4 };
     for _ in 0..until {
         fill_writes(channel, &mut picks)?;
         fill_reads(channel, &mut picks, &mut tickets)?;
@@ -143,7 +143,9 @@ fn conflicts(
 }
 
 fn refreshes(list: &[Stamped]) -> usize {
-    list.iter().filter(|x| x.cmd.is_ref()).count()
+    list.iter()
+        .filter(|x| matches!(x.cmd, Command::Ref { .. }))
+        .count()
 }
 
 #[test]
