@@ -1,14 +1,12 @@
 // A channel whose queues stay full.
-ghost use Rattle.std.specs.Prelude.{◌≡◌, ℕ, ◌<◌, List, IsTrue};
+ghost use Rattle.std.specs.Prelude.{◌≡◌, ◌<◌, IsTrue};
 ghost use Rattle.ddr4_timing.specs.Limits.{lines_of};
 ghost use Rattle.ddr4_timing.specs.declared.timing.Checked.{Checked};
-ghost use Rattle.ddr4_timing.specs.declared.command.Stamped.{Stamped};
 ghost use Rattle.wpq_core.specs.Writes.{ComeBefore};
 ghost use Rattle.chan_core.specs.Lines.{place_of};
-ghost use Rattle.chan_core.specs.Channel.{ChannelState, Runs};
 
 use crate::stream::Picks;
-use chan_core::{Channel, Done, Got, Served, cells, cells_make_lines, place_of};
+use chan_core::{Channel, Done, Got, Served, cells, cells_make_lines, commands_keep, place_of};
 use ddr4_timing::timing::Checked;
 use std::alloc::Global;
 use std::marker::Model;
@@ -41,13 +39,6 @@ fn is_here(checked: &Checked, line: u64) -> bool
     };
     line < lines && place_of(checked, line).channel == 0
 }
-
-// Commands change neither the profile nor the channel, and bring no later write.
-fn commands_keep()
-    ensures checked { (old new : ChannelState) (commands : List Stamped) → Runs old commands new → new.memory.checked ≡ old.memory.checked }
-    ensures channel { (old new : ChannelState) (commands : List Stamped) → Runs old commands new → new.memory.channel ≡ old.memory.channel }
-    ensures numbers { (old new : ChannelState) (commands : List Stamped) (n : ℕ) → Runs old commands new → ComeBefore n old.memory.queue.writes → ComeBefore n new.memory.queue.writes }
-{}
 
 impl Load {
     /// A channel with so many writes and as many reads pending.

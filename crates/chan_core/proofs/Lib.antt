@@ -8,3 +8,4 @@ pub mod Answering
 pub mod Telling
 pub mod Recent
 pub mod Running
+pub mod Lasting

@@ -1,14 +1,13 @@
 // A channel that tests fill with writes and reads.
-ghost use Rattle.std.specs.Prelude.{◌≡◌, ℕ, ◌<◌, List, IsTrue};
+ghost use Rattle.std.specs.Prelude.{◌≡◌, ◌<◌, IsTrue};
 ghost use Rattle.ddr4_timing.specs.Limits.{lines_of};
 ghost use Rattle.ddr4_timing.specs.declared.timing.Checked.{Checked};
 ghost use Rattle.wpq_core.specs.Writes.{ComeBefore};
-ghost use Rattle.ddr4_timing.specs.declared.command.Stamped.{Stamped};
 ghost use Rattle.chan_core.specs.Lines.{place_of};
-ghost use Rattle.chan_core.specs.Channel.{ChannelState, Runs};
 
 use crate::answers::{Collected, Done, Got, ReadsFull, Ticket};
 use crate::channel::Channel;
+use crate::laws::commands_keep;
 use crate::lines::{cells, cells_make_lines, place_of};
 use ddr4_timing::command::Stamped;
 use ddr4_timing::fault::{Fault, first_fault};
@@ -45,13 +44,6 @@ fn is_here(checked: &Checked, line: u64) -> bool
     };
     line < lines && place_of(checked, line).channel == 0
 }
-
-// Commands change neither the profile nor the channel, and bring no later write.
-fn commands_keep()
-    ensures checked { (old new : ChannelState) (commands : List Stamped) → Runs old commands new → new.memory.checked ≡ old.memory.checked }
-    ensures channel { (old new : ChannelState) (commands : List Stamped) → Runs old commands new → new.memory.channel ≡ old.memory.channel }
-    ensures numbers { (old new : ChannelState) (commands : List Stamped) (n : ℕ) → Runs old commands new → ComeBefore n old.memory.queue.writes → ComeBefore n new.memory.queue.writes }
-{}
 
 impl Fixture {
     pub fn new(

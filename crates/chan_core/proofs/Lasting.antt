@@ -1,3 +1,4 @@
+-- What a run of commands leaves of a channel.
 use Rattle.std.proofs.Common.{◌≡◌, ℕ, suc, ◌<◌, inl, inr, List, [], ◌∷◌, length, remove, Option, Some, None, ap, sym, subst, ◌∙◌}
 use Rattle.std.proofs.lemmas.Option.{slice_get_within}
 use Rattle.wpq_core.specs.declared.queue.PendingWrite.{PendingWrite}
@@ -8,13 +9,15 @@ use Rattle.frfcfs.specs.declared.choice.Turn.TheVariants.{Rank, Column, Row}
 use Rattle.chan_core.specs.declared.answers.Done.{Done}
 use Rattle.chan_core.specs.declared.answers.Served.{Served}
 use Rattle.chan_core.specs.declared.answers.Served.TheVariants as served
-use Rattle.chan_core.specs.ChannelMemory.{MemoryState, Serves, ServedIn}
+use Rattle.chan_core.specs.declared.answers.Ticket.{Ticket}
+use Rattle.chan_core.specs.declared.answers.Collected.{Collected}
+use Rattle.chan_core.specs.declared.answers.Collected.TheVariants as collected
+use Rattle.chan_core.specs.ChannelMemory.{MemoryState, Collects, Serves, ServedIn}
 use Rattle.chan_core.specs.Channel.{ChannelState, Works, Runs}
 use Rattle.chan_core.proofs.Arrivals.{before_removal}
-use Rattle.chan_bench.proofs.load.commands_keep.Goals as goal
 
 -- The profile and the channel stay, and no later write comes.
-record Lasts (old new : MemoryState) : Type 0 where
+pub record Lasts (old new : MemoryState) : Type 0 where
   pub checked : new.checked ≡ old.checked
   pub channel : new.channel ≡ old.channel
   pub numbers : (n : ℕ) → ComeBefore n old.queue.writes → ComeBefore n new.queue.writes
@@ -54,7 +57,7 @@ served-lasts (Rank rank) None old new is = stays-lasts old new is
 served-lasts (Row place) (Some s) old new is = absurd is
 served-lasts (Row place) None old new is = stays-lasts old new is
 
-works-lasts : (old new : ChannelState) (done : Done) → Works old done new → Lasts old.memory new.memory
+pub works-lasts : (old new : ChannelState) (done : Done) → Works old done new → Lasts old.memory new.memory
 works-lasts old new done works = served-lasts works.turn done.served old.memory new.memory works.served
 
 lasts-both : (old mid new : MemoryState) → Lasts old mid → Lasts mid new → Lasts old new
@@ -64,15 +67,15 @@ lasts-both old mid new first rest = record {
   numbers = λ n before. rest.numbers n (first.numbers n before);
 }
 
-runs-lasts : (old : ChannelState) (xs : List Stamped) (new : ChannelState) → Runs old xs new → Lasts old.memory new.memory
+pub runs-lasts : (old : ChannelState) (xs : List Stamped) (new : ChannelState) → Runs old xs new → Lasts old.memory new.memory
 runs-lasts old [] new same = stays-lasts old.memory new.memory (ap (λ (s : ChannelState). s.memory) same)
 runs-lasts old (x ∷ xs) new (done, mid, works, is, rest) = lasts-both old.memory mid.memory new.memory (works-lasts old mid done works) (runs-lasts mid xs new rest)
 
-pub returns-clause-checked : goal.returns-clause-checked
-returns-clause-checked c old new commands runs = (runs-lasts old commands new runs).checked
-
-pub returns-clause-channel : goal.returns-clause-channel
-returns-clause-channel c old new commands runs = (runs-lasts old commands new runs).channel
-
-pub returns-clause-numbers : goal.returns-clause-numbers
-returns-clause-numbers c old new commands n runs = (runs-lasts old commands new runs).numbers n
+pub collect-lasts : (old : MemoryState) (ticket : Ticket) (result : Collected) (new : MemoryState) → Collects old ticket result new → Lasts old new
+collect-lasts old ticket (collected.Data line bytes at) new (channel, i, r, here, serial, line-is, at-is, bytes-is, new-is) = record {
+  checked = ap (λ (m : MemoryState). m.checked) new-is;
+  channel = ap (λ (m : MemoryState). m.channel) new-is;
+  numbers = λ n before. subst (λ (m : MemoryState). ComeBefore n m.queue.writes) (sym new-is) before;
+}
+collect-lasts old ticket collected.Pending new (channel, i, r, here, serial, waits, same) = stays-lasts old new same
+collect-lasts old ticket collected.Unknown new (none, same) = stays-lasts old new same
