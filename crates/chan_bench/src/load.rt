@@ -42,7 +42,7 @@ fn is_here(checked: &Checked, line: u64) -> bool
 
 impl Load {
     /// A channel with so many writes and as many reads pending.
-    pub fn new(
+    pub(crate) fn new(
         alloc: Global,
         checked: &Checked,
         depth: usize,
@@ -103,7 +103,7 @@ impl Load {
     }
 
     /// Issues one command, and replaces the request that it served: the command's clock.
-    pub fn step(&mut self) -> anyhow::Result<u64> {
+    pub(crate) fn step(&mut self) -> anyhow::Result<u64> {
         let Some(done) = self.work() else {
             anyhow::bail!("idle");
         };

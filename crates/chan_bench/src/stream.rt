@@ -37,7 +37,7 @@ pub struct Picks {
 }
 
 impl Picks {
-    pub fn new(stream: Stream, checked: &Checked) -> Picks {
+    pub(crate) fn new(stream: Stream, checked: &Checked) -> Picks {
         let rows = checked.geometry.rows.max(1);
         Picks {
             stream,
@@ -50,7 +50,7 @@ impl Picks {
     }
 
     /// The next place.
-    pub fn next(&mut self) -> u64 {
+    pub(crate) fn next(&mut self) -> u64 {
         self.turn = self.turn.wrapping_add(1);
         self.salt = self
             .salt

@@ -46,7 +46,7 @@ fn is_here(checked: &Checked, line: u64) -> bool
 }
 
 impl Fixture {
-    pub fn new(
+    pub(crate) fn new(
         alloc: Global,
         timing: &Timing,
         geometry: &Geometry,
@@ -66,13 +66,13 @@ impl Fixture {
     }
 
     /// A line of the channel that the number picks.
-    pub fn line(&self, pick: u64) -> u64 {
+    pub(crate) fn line(&self, pick: u64) -> u64 {
         let index = pick % cells(&self.checked) as u64;
         index * self.checked.geometry.channels
     }
 
     /// Writes a line of one byte.
-    pub fn put(&mut self, line: u64, byte: u8) -> Result<Result<(), Full>, Fail> {
+    pub(crate) fn put(&mut self, line: u64, byte: u8) -> Result<Result<(), Full>, Fail> {
         if !is_here(&self.checked, line) {
             return Err("no such line".into());
         }
@@ -88,42 +88,46 @@ impl Fixture {
         }
     }
 
-    pub fn get(&mut self, line: u64) -> Result<Result<Got, ReadsFull>, Fail> {
+    pub(crate) fn get(&mut self, line: u64) -> Result<Result<Got, ReadsFull>, Fail> {
         if !is_here(&self.checked, line) {
             return Err("no such line".into());
         }
         Ok(self.channel.get(line, self.number))
     }
 
-    pub fn collect(&mut self, ticket: Ticket) -> Collected {
+    pub(crate) fn collect(&mut self, ticket: Ticket) -> Collected {
         self.channel.collect(ticket)
     }
 
-    pub fn hold_from(&mut self, number: u64) {
+    pub(crate) fn hold_from(&mut self, number: u64) {
         self.channel.hold_from(number);
     }
 
-    pub fn release(&mut self) {
+    pub(crate) fn release(&mut self) {
         self.channel.release();
     }
 
-    pub fn recent(&self, i: usize) -> Option<Stamped> {
+    pub(crate) fn recent(&self, i: usize) -> Option<Stamped> {
         self.channel.recent(i)
     }
 
-    pub fn work(&mut self) -> Option<Done> {
+    pub(crate) fn work(&mut self) -> Option<Done> {
         commands_keep();
         self.channel.work()
     }
 
-    pub fn work_many(&mut self, alloc: Global, n: usize) -> Result<Vec<Stamped>, AllocError> {
+    pub(crate) fn work_many(
+        &mut self,
+        alloc: Global,
+        n: usize,
+    ) -> Result<Vec<Stamped>, AllocError> {
         commands_keep();
         let commands = self.channel.work_many(alloc, n)?;
         Ok(commands)
     }
 
     /// The first fault of a list of commands, on its profile.
-    pub fn fault(&self, list: &[Stamped]) -> Option<Fault> {
+    pub(crate) fn fault(&self, list: &[Stamped]) -> Option<Fault> {
         first_fault(&self.checked, list)
     }
 }
