@@ -6,53 +6,31 @@
 use bank_core::banks::Banks;
 use ddr4_timing::command::{Command, Stamped};
 use ddr4_timing::fault::first_fault;
-use ddr4_timing::timing::{Checked, Geometry, Timing};
+use ddr4_timing::place::BankAddress;
+use ddr4_timing::profiles::{SMALL, TINY};
+use ddr4_timing::timing::{Checked, Geometry};
 use std::alloc::Global;
 use std::env;
 use std::time::Instant;
 
-const TIMING: Timing = Timing {
-    t_rcd: 16,
-    t_rp: 16,
-    t_ras: 39,
-    cl: 16,
-    cwl: 12,
-    t_ccd_s: 4,
-    t_ccd_l: 6,
-    t_rrd_s: 4,
-    t_rrd_l: 6,
-    t_faw: 26,
-    t_wr: 18,
-    t_wtr_s: 3,
-    t_wtr_l: 9,
-    t_rtp: 9,
-    t_rtw: 10,
-    t_cs: 2,
-    t_rfc: 420,
-    t_refi: 9360,
-};
-
 // A geometry of these ranks and bank groups.
 fn geometry(ranks: u64, groups: u64) -> Geometry {
     Geometry {
-        channels: 2,
         ranks,
         groups,
-        banks: 4,
-        rows: 2,
-        columns: 4,
+        ..SMALL
     }
 }
 
 // Issues a command at its least clock, where there is one.
 fn step(banks: &mut Banks, cmd: Command) -> Option<Stamped> {
     let clock = banks.earliest(cmd)?;
-    if clock < 1 << 62 && banks.ready(cmd, clock) {
-        banks.issue(cmd, clock);
-        Some(Stamped { clock, cmd })
-    } else {
-        None
+    let last = banks.deadline(cmd.rank());
+    if clock > last || clock >= 1 << 63 {
+        return None;
     }
+    banks.issue(cmd, clock);
+    Some(Stamped { clock, cmd })
 }
 
 // The commands of one round: each bank is opened, read, written; each rank is closed and refreshed.
@@ -61,24 +39,10 @@ fn round(alloc: Global, g: &Geometry) -> anyhow::Result<Vec<Command>> {
     for rank in 0..g.ranks {
         for group in 0..g.groups {
             for bank in 0..g.banks {
-                commands.push(Command::Act {
-                    rank,
-                    group,
-                    bank,
-                    row: 0,
-                })?;
-                commands.push(Command::Rd {
-                    rank,
-                    group,
-                    bank,
-                    column: 0,
-                })?;
-                commands.push(Command::Wr {
-                    rank,
-                    group,
-                    bank,
-                    column: 0,
-                })?;
+                let at = BankAddress { rank, group, bank };
+                commands.push(Command::Act { at, row: 0 })?;
+                commands.push(Command::Rd { at, column: 0 })?;
+                commands.push(Command::Wr { at, column: 0 })?;
             }
         }
         commands.push(Command::PreAll { rank })?;
@@ -142,7 +106,7 @@ fn main(rt: HostRuntime) -> anyhow::Result<()> {
     let timed = env::args(&rt)?.len() > 1;
     for (ranks, groups) in [(1, 2), (2, 4), (4, 4)] {
         let g = geometry(ranks, groups);
-        let checked = TIMING.check(&g)?;
+        let checked = TINY.check(&g)?;
         let commands = round(rt.alloc(), &g)?;
         let mut banks = Banks::new(&checked);
         let rounds = if timed { 10_000 } else { 10 };

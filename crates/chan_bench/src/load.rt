@@ -1,57 +1,53 @@
 // A channel whose queues stay full.
-ghost use Rattle.std.specs.Prelude.{◌≡◌, ◌<◌, IsTrue};
-ghost use Rattle.ddr4_timing.specs.Limits.{lines_of};
-ghost use Rattle.ddr4_timing.specs.declared.timing.Checked.{Checked};
-ghost use Rattle.wpq_core.specs.Writes.{ComeBefore};
-ghost use Rattle.chan_core.specs.Lines.{place_of};
+ghost use Rattle.std.specs.Prelude.{◌≡◌};
 
 use crate::stream::Picks;
-use chan_core::{Channel, Done, Got, Served, cells, cells_make_lines, commands_keep, place_of};
+use chan_core::{Channel, Got, Served};
+use ddr4_timing::place::Place;
 use ddr4_timing::timing::Checked;
+use interleave_map::line_map::LineMap;
 use std::alloc::Global;
 use std::marker::Model;
 
 /// Channel 0 of a profile, with the number of its next write and the stream that its requests come from.
 #[derive(Drop)]
-pub struct Load {
+pub struct Load<'m, M: LineMap> {
+    map: &'m M,
     checked: Checked,
     channel: Channel,
     number: u64,
     picks: Picks,
 }
 
-impl Model for Load {
+impl<'m, M: LineMap> Model for Load<'m, M> {
+    ghost use Rattle.std.specs.Prelude.{◌≡◌};
+    ghost use Rattle.ddr4_timing.specs.declared.timing.Checked.{Checked};
+
     ghost Value = { Checked };
 
     ghost view = { λ l. l.checked };
 
-    ghost invariant = { λ l. (l.channel.memory.checked ≡ l.checked) × (l.channel.memory.channel ≡ 0) × ComeBefore l.number l.channel.memory.queue.writes };
+    ghost invariant = { λ l. M.is_lawful l.map.now × (M.geometry_of l.map.now ≡ l.checked.geometry)
+        × (l.channel.checked ≡ l.checked) };
 }
 
-// Does the line lie on channel 0?
-fn is_here(checked: &Checked, line: u64) -> bool
-    ensures within { IsTrue result → line < lines_of checked.now.geometry }
-    ensures channel { IsTrue result → (place_of checked.now.geometry line).channel ≡ 0 }
-{
-    cells_make_lines();
-    let Some(lines) = checked.geometry.channels.checked_mul(cells(checked) as u64) else {
-        return false;
-    };
-    line < lines && place_of(checked, line).channel == 0
-}
-
-impl Load {
+impl<'m, M: LineMap> Load<'m, M> {
     /// A channel with so many writes and as many reads pending.
     pub(crate) fn new(
         alloc: Global,
+        map: &'m M,
         checked: &Checked,
         depth: usize,
         picks: Picks,
-    ) -> anyhow::Result<Load> {
+    ) -> anyhow::Result<Load<'m, M>>
+        requires lawful { M.is_lawful map.now }
+        requires geometry { M.geometry_of map.now ≡ checked.now.geometry }
+    {
         if depth < 1 || depth > 64 {
             anyhow::bail!("no such depth");
         }
         let mut load = Load {
+            map,
             checked: *checked,
             channel: Channel::new(alloc, checked, 0, depth, depth)?,
             number: 0,
@@ -67,44 +63,59 @@ impl Load {
     // Writes the stream's next line, to an even column.
     fn put(&mut self) -> anyhow::Result<()> {
         let pick = self.picks.next() / 2 * 2;
-        let line = self.line(pick);
-        if !is_here(&self.checked, line) || self.number == u64::MAX {
+        let line = self.line(pick)?;
+        if !self.channel.has_line(self.map, line) || !self.channel.may_take(self.number) {
             anyhow::bail!("no such write");
         }
-        match self.channel.put(self.number, line, [1; 64]) {
-            Ok(()) => self.number += 1,
-            Err(_) => anyhow::bail!("no room for a write"),
+        if self
+            .channel
+            .put(self.map, self.number, line, [1; 64])
+            .is_err()
+        {
+            anyhow::bail!("no room for a write");
         }
+        self.number = self.number.wrapping_add(1);
         Ok(())
     }
 
     // Reads the stream's next line, of an odd column, so that no pending write answers it.
     fn get(&mut self) -> anyhow::Result<()> {
         let pick = self.picks.next() / 2 * 2 + 1;
-        let line = self.line(pick);
-        if !is_here(&self.checked, line) {
+        let line = self.line(pick)?;
+        if !self.channel.has_line(self.map, line) {
             anyhow::bail!("no such read");
         }
-        match self.channel.get(line, self.number) {
+        match self.channel.get(self.map, line, self.number) {
             Ok(Got::Later(_)) => Ok(()),
             _ => anyhow::bail!("no room for a read"),
         }
     }
 
-    // The line of the channel at a place.
-    fn line(&self, pick: u64) -> u64 {
-        let index = pick % cells(&self.checked) as u64;
-        index * self.checked.geometry.channels
-    }
-
-    fn work(&mut self) -> Option<Done> {
-        commands_keep();
-        self.channel.work()
+    // A line of the channel: that at the place of a pick, whose low part names the column, then the group, the bank, the
+    // rank and the row.
+    fn line(&self, pick: u64) -> anyhow::Result<u64> {
+        let geometry = self.checked.geometry;
+        let group = pick / geometry.columns.max(1);
+        let bank = group / geometry.groups.max(1);
+        let rank = bank / geometry.banks.max(1);
+        let row = rank / geometry.ranks.max(1);
+        let place = Place {
+            channel: 0,
+            rank: rank % geometry.ranks.max(1),
+            group: group % geometry.groups.max(1),
+            bank: bank % geometry.banks.max(1),
+            row: row % geometry.rows.max(1),
+            column: pick % geometry.columns.max(1),
+        };
+        if !place.lies_in(&geometry) {
+            anyhow::bail!("no such place");
+        }
+        Ok(self.map.line(place))
     }
 
     /// Issues one command, and replaces the request that it served: the command's clock.
     pub(crate) fn step(&mut self) -> anyhow::Result<u64> {
-        let Some(done) = self.work() else {
+        let Some(done) = self.channel.work() else {
             anyhow::bail!("idle");
         };
         match done.served {

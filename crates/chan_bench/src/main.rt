@@ -1,15 +1,27 @@
 //! How long a channel takes for a command, with all that is pending replaced as it is served.
 //!
-//! With no word it runs each stream and prints the last clock; `chan_bench time`, run by hand, prints nanoseconds a command
-//! and commands a second.
+//!     chan_bench                                      the last clock of each stream by each map, after 1,000 commands
+//!     chan_bench GEOMETRY DEPTH STREAM COUNT [MAP]    nanoseconds a command of one stream
+//!
+//! GEOMETRY is tiny or largest, DEPTH how many writes and how many reads are pending, STREAM hits, conflicts or random, and MAP
+//! lines, where none is given, or xor. A stream names places, so both maps give the same commands.
 #![tactic(auto)]
+
+ghost use Rattle.std.specs.Prelude.{◌≡◌, ◌<◌};
+ghost use Rattle.ddr4_timing.specs.Limits.{lines_of};
+ghost use Rattle.ddr4_timing.specs.Places.{LiesIn};
+ghost use Rattle.interleave_map.specs.Interleaving.{place_by_lines, line_by_lines, place_by_xor, line_by_xor};
 
 mod load;
 mod stream;
 
 use crate::load::Load;
 use crate::stream::{Picks, Stream};
-use ddr4_timing::timing::{Geometry, Timing};
+use ddr4_timing::place::Place;
+use ddr4_timing::timing::{Checked, Geometry, Timing};
+use interleave_map::line_map::LineMap;
+use interleave_map::map::Map;
+use interleave_map::{lines, xor};
 use std::env;
 use std::time::Instant;
 
@@ -52,8 +64,16 @@ const LARGEST: Geometry = Geometry {
     columns: 32,
 };
 
+fn geometry_of(word: &str) -> anyhow::Result<Geometry> {
+    match word {
+        "tiny" => Ok(TINY),
+        "largest" => Ok(LARGEST),
+        _ => anyhow::bail!("the geometry is tiny or largest"),
+    }
+}
+
 // Issues so many commands; the last clock.
-fn run(load: &mut Load, commands: u64) -> anyhow::Result<u64> {
+fn run<M: LineMap>(load: &mut Load<'_, M>, commands: u64) -> anyhow::Result<u64> {
     let mut last = 0;
     for _ in 0..commands {
         last = load.step()?;
@@ -61,38 +81,108 @@ fn run(load: &mut Load, commands: u64) -> anyhow::Result<u64> {
     Ok(last)
 }
 
-// Runs one stream on a channel with so many writes and as many reads pending.
-fn measure(
-    rt: &HostRuntime,
-    geometry: &Geometry,
-    stream: Stream,
+/// One stream.
+#[derive(Drop)]
+struct Trial {
     depth: usize,
-    timed: bool,
-) -> anyhow::Result<()> {
-    let checked = TIMING.check(geometry)?;
-    let mut load = Load::new(rt.alloc(), &checked, depth, Picks::new(stream, &checked))?;
-    let commands: u64 = if timed { 400_000 } else { 1_000 };
+    stream: Stream,
+    commands: u64,
+}
+
+// The last clock of a stream, and how many nanoseconds it took.
+fn time<M: LineMap>(
+    rt: &HostRuntime,
+    map: &M,
+    checked: &Checked,
+    trial: &Trial,
+) -> anyhow::Result<(u64, u128)>
+    requires lawful { M.is_lawful map.now }
+    requires geometry { M.geometry_of map.now ≡ checked.now.geometry }
+{
+    let picks = Picks::new(trial.stream, checked);
+    let mut load = Load::new(rt.alloc(), map, checked, trial.depth, picks)?;
     let start = Instant::now(rt)?;
-    let last = run(&mut load, commands)?;
-    let nanos = start.elapsed(rt)?.as_nanos();
-    println!(rt;
-        "ranks {}, {depth} writes and {depth} reads, {stream}: last clock {last}",
-        geometry.ranks
-    )?;
-    if timed {
-        let each = nanos / commands as u128;
-        let second = 1_000_000_000 / each.max(1);
-        println!(rt; "    {each} nanoseconds a command, {second} commands a second")?;
-    }
+    let last = run(&mut load, trial.commands)?;
+    Ok((last, start.elapsed(rt)?.as_nanos()))
+}
+
+fn time_lines(rt: &HostRuntime, checked: Checked, trial: &Trial) -> anyhow::Result<(u64, u128)> {
+    let split = move |line: u64| -> Place
+        requires { line < lines_of checked.geometry }
+        ensures { result ≡ place_by_lines checked.geometry line }
+    { lines::split(&checked, line) };
+    let join = move |place: Place| -> u64
+        requires { LiesIn checked.geometry place }
+        ensures { result ≡ line_by_lines checked.geometry place }
+    { lines::join(&checked, place) };
+    let map = Map::new(split, join, &checked);
+    time(rt, &map, &checked, trial)
+}
+
+fn time_xor(rt: &HostRuntime, checked: Checked, trial: &Trial) -> anyhow::Result<(u64, u128)> {
+    let split = move |line: u64| -> Place
+        requires { line < lines_of checked.geometry }
+        ensures { result ≡ place_by_xor checked.geometry line }
+    { xor::split(&checked, line) };
+    let join = move |place: Place| -> u64
+        requires { LiesIn checked.geometry place }
+        ensures { result ≡ line_by_xor checked.geometry place }
+    { xor::join(&checked, place) };
+    let map = Map::new(split, join, &checked);
+    time(rt, &map, &checked, trial)
+}
+
+// One stream, timed.
+fn measure(rt: &HostRuntime, words: [&str; 4], map: &str) -> anyhow::Result<()> {
+    let [geometry, depth, stream, count] = words;
+    let checked = TIMING.check(&geometry_of(geometry)?)?;
+    let trial = Trial {
+        depth: depth.parse()?,
+        stream: stream.parse()?,
+        commands: count.parse()?,
+    };
+    let (last, nanos) = match map {
+        "lines" => time_lines(rt, checked, &trial)?,
+        "xor" => time_xor(rt, checked, &trial)?,
+        _ => anyhow::bail!("the map is lines or xor"),
+    };
+    let each = nanos / (trial.commands as u128).max(1);
+    println!(rt; "{geometry} {depth} {stream}: {each} nanoseconds a command, last clock {last}")?;
+    Ok(())
+}
+
+// The last clocks of a stream, by each map.
+fn show(rt: &HostRuntime, name: &str, geometry: &Geometry, trial: &Trial) -> anyhow::Result<()> {
+    let checked = TIMING.check(geometry)?;
+    let (lines, _) = time_lines(rt, checked, trial)?;
+    let (xor, _) = time_xor(rt, checked, trial)?;
+    let Trial { depth, stream, .. } = trial;
+    println!(rt; "{name} {depth} {stream}: last clock {lines} by lines, {xor} by xor")?;
     Ok(())
 }
 
 fn main(rt: HostRuntime) -> anyhow::Result<()> {
-    let timed = env::args(&rt)?.len() > 1;
-    for geometry in [TINY, LARGEST] {
+    let words: Vec<String> = env::args(&rt)?.collect(rt.alloc())?;
+    if let [_, geometry, depth, stream, count, rest @ ..] = words.as_slice() {
+        let words = [
+            geometry.as_str(),
+            depth.as_str(),
+            stream.as_str(),
+            count.as_str(),
+        ];
+        let map = rest.first().map_or("lines", |word| word.as_str());
+        return measure(&rt, words, map);
+    }
+    for (name, geometry) in [("tiny", TINY), ("largest", LARGEST)] {
         for depth in [4, 64] {
             for stream in [Stream::Hits, Stream::Conflicts, Stream::Random] {
-                measure(&rt, &geometry, stream, depth, timed)?;
+                let commands = 1_000;
+                let trial = Trial {
+                    depth,
+                    stream,
+                    commands,
+                };
+                show(&rt, name, &geometry, &trial)?;
             }
         }
     }

@@ -1,7 +1,8 @@
 // Where the requests of a stream go.
-use chan_core::cells;
 use ddr4_timing::timing::Checked;
+use interleave_map::cells::cells;
 use std::fmt;
+use std::str::FromStr;
 
 /// A kind of stream.
 #[derive(Clone, Copy, Debug, PartialEq, Eq)]
@@ -17,9 +18,22 @@ pub enum Stream {
 impl fmt::Display for Stream {
     fn fmt<W: fmt::Write>(&self, f: &mut fmt::Formatter<W>) -> fmt::Result {
         match *self {
-            Stream::Hits => write!(f, "row hits"),
-            Stream::Conflicts => write!(f, "bank conflicts"),
-            Stream::Random => write!(f, "random lines"),
+            Stream::Hits => write!(f, "hits"),
+            Stream::Conflicts => write!(f, "conflicts"),
+            Stream::Random => write!(f, "random"),
+        }
+    }
+}
+
+impl FromStr for Stream {
+    type Err = anyhow::Error;
+
+    fn from_str(word: &str) -> anyhow::Result<Stream> {
+        match word {
+            "hits" => Ok(Stream::Hits),
+            "conflicts" => Ok(Stream::Conflicts),
+            "random" => Ok(Stream::Random),
+            _ => anyhow::bail!("the stream is hits, conflicts or random"),
         }
     }
 }

@@ -4,78 +4,61 @@ use Rattle.std.proofs.lemmas.Option.{slice_get_within}
 use Rattle.wpq_core.specs.declared.queue.PendingWrite.{PendingWrite}
 use Rattle.wpq_core.specs.Writes.{ComeBefore}
 use Rattle.ddr4_timing.specs.declared.command.Stamped.{Stamped}
-use Rattle.frfcfs.specs.declared.choice.Turn.{Turn}
-use Rattle.frfcfs.specs.declared.choice.Turn.TheVariants.{Rank, Column, Row}
+use Rattle.frfcfs.specs.declared.pending.Pending.{Pending}
 use Rattle.chan_core.specs.declared.answers.Done.{Done}
 use Rattle.chan_core.specs.declared.answers.Served.{Served}
 use Rattle.chan_core.specs.declared.answers.Served.TheVariants as served
-use Rattle.chan_core.specs.declared.answers.Ticket.{Ticket}
-use Rattle.chan_core.specs.declared.answers.Collected.{Collected}
-use Rattle.chan_core.specs.declared.answers.Collected.TheVariants as collected
-use Rattle.chan_core.specs.ChannelMemory.{MemoryState, Collects, Serves, ServedIn}
-use Rattle.chan_core.specs.Channel.{ChannelState, Works, Runs}
-use Rattle.chan_core.proofs.Arrivals.{before_removal}
+use Rattle.chan_core.specs.State.{ChannelState}
+use Rattle.chan_core.specs.Calls.{IssuesChoice, IssuesChoices, ServesRequest, ServesIndex}
+use Rattle.chan_core.proofs.Taken.{before_removal}
 
 -- The profile and the channel stay, and no later write comes.
-pub record Lasts (old new : MemoryState) : Type 0 where
+pub record Lasts (old new : ChannelState) : Type 0 where
   pub checked : new.checked ≡ old.checked
   pub channel : new.channel ≡ old.channel
-  pub numbers : (n : ℕ) → ComeBefore n old.queue.writes → ComeBefore n new.queue.writes
+  pub numbers : (n : ℕ) → ComeBefore n old.writes → ComeBefore n new.writes
 
 come-before-less : (ws : List PendingWrite) (i n : ℕ) → i < length ws → ComeBefore n ws → ComeBefore n (remove ws i)
-come-before-less ws i n within before k w at = elim (before_removal ws i k w within at) [
-  | inl b ↦ before k w b.1
-  | inr b ↦ before (suc k) w b.1
-]
-
-serves-lasts : (old : MemoryState) (place : ℕ) (s : Served) (new : MemoryState) → Serves old place s new → Lasts old new
-serves-lasts old place (served.Write number) new (p, eligible, kind, named, writes) =
-    let (i, w, at, same, bytes, gone) = writes.takes in
-    record {
-      checked = ap (λ (m : MemoryState). m.checked) writes.same;
-      channel = ap (λ (m : MemoryState). m.channel) writes.same;
-      numbers = λ n before. subst (λ (ws : List PendingWrite). ComeBefore n ws) (sym gone) (come-before-less old.queue.writes i n (slice_get_within old.queue.writes i w at) before);
-    }
-serves-lasts old place (served.Read ticket) new (p, eligible, kind, named, reads) = record {
-  checked = ap (λ (m : MemoryState). m.checked) reads.same;
-  channel = ap (λ (m : MemoryState). m.channel) reads.same;
-  numbers = λ n before. subst (λ (m : MemoryState). ComeBefore n m.queue.writes) (sym reads.same) before;
+come-before-less ws i n within before = record {
+  each = λ k w at. elim (before_removal ws i k w within at) [
+    | inl b ↦ before.each k w b.1
+    | inr b ↦ before.each (suc k) w b.1
+  ];
 }
 
-stays-lasts : (old new : MemoryState) → new ≡ old → Lasts old new
-stays-lasts old new same = record {
-  checked = ap (λ (m : MemoryState). m.checked) same;
-  channel = ap (λ (m : MemoryState). m.channel) same;
-  numbers = λ n before. subst (λ (m : MemoryState). ComeBefore n m.queue.writes) (sym same) before;
+same-numbers : (old new : ChannelState) → new.writes ≡ old.writes → (n : ℕ) → ComeBefore n old.writes → ComeBefore n new.writes
+same-numbers old new same n before = subst (λ (ws : List PendingWrite). ComeBefore n ws) (sym same) before
+
+request-numbers : (old : ChannelState) (p : Pending) (s : Served) (new : ChannelState) → ServesRequest old p s new → (n : ℕ) → ComeBefore n old.writes → ComeBefore n new.writes
+request-numbers old p (served.Write number) new moves n before =
+    let (i, w, at, same, bytes, gone) = moves.writes in
+    subst (λ (ws : List PendingWrite). ComeBefore n ws) (sym gone) (come-before-less old.writes i n (slice_get_within old.writes i w at) before)
+request-numbers old p (served.Read ticket) new reads n before = same-numbers old new reads.writes n before
+
+index-numbers : (index : Option ℕ) (s : Option Served) (old new : ChannelState) → ServesIndex index s old new → (n : ℕ) → ComeBefore n old.writes → ComeBefore n new.writes
+index-numbers (Some index) (Some s) old new is n before = request-numbers old is.p s new is.serves n before
+index-numbers (Some index) None old new is n before = absurd is
+index-numbers None (Some s) old new is n before = absurd is
+index-numbers None None old new is n before = same-numbers old new is.writes n before
+
+pub issue-lasts : (old new : ChannelState) (done : Done) → IssuesChoice old done new → Lasts old new
+issue-lasts old new done issues = record {
+  checked = ap (λ (s : ChannelState). s.checked) issues.same;
+  channel = ap (λ (s : ChannelState). s.channel) issues.same;
+  numbers = index-numbers issues.index done.served old new issues.serves;
 }
 
-served-lasts : (turn : Turn) (s : Option Served) (old new : MemoryState) → ServedIn turn s old new → Lasts old new
-served-lasts (Column place) (Some s) old new is = serves-lasts old place s new is
-served-lasts (Column place) None old new is = absurd is
-served-lasts (Rank rank) (Some s) old new is = absurd is
-served-lasts (Rank rank) None old new is = stays-lasts old new is
-served-lasts (Row place) (Some s) old new is = absurd is
-served-lasts (Row place) None old new is = stays-lasts old new is
-
-pub works-lasts : (old new : ChannelState) (done : Done) → Works old done new → Lasts old.memory new.memory
-works-lasts old new done works = served-lasts works.turn done.served old.memory new.memory works.served
-
-lasts-both : (old mid new : MemoryState) → Lasts old mid → Lasts mid new → Lasts old new
+lasts-both : (old mid new : ChannelState) → Lasts old mid → Lasts mid new → Lasts old new
 lasts-both old mid new first rest = record {
   checked = rest.checked ∙ first.checked;
   channel = rest.channel ∙ first.channel;
   numbers = λ n before. rest.numbers n (first.numbers n before);
 }
 
-pub runs-lasts : (old : ChannelState) (xs : List Stamped) (new : ChannelState) → Runs old xs new → Lasts old.memory new.memory
-runs-lasts old [] new same = stays-lasts old.memory new.memory (ap (λ (s : ChannelState). s.memory) same)
-runs-lasts old (x ∷ xs) new (done, mid, works, is, rest) = lasts-both old.memory mid.memory new.memory (works-lasts old mid done works) (runs-lasts mid xs new rest)
-
-pub collect-lasts : (old : MemoryState) (ticket : Ticket) (result : Collected) (new : MemoryState) → Collects old ticket result new → Lasts old new
-collect-lasts old ticket (collected.Data line bytes at) new (channel, i, r, here, serial, line-is, at-is, bytes-is, new-is) = record {
-  checked = ap (λ (m : MemoryState). m.checked) new-is;
-  channel = ap (λ (m : MemoryState). m.channel) new-is;
-  numbers = λ n before. subst (λ (m : MemoryState). ComeBefore n m.queue.writes) (sym new-is) before;
+pub run-lasts : (old : ChannelState) (xs : List Stamped) (new : ChannelState) → IssuesChoices old xs new → Lasts old new
+run-lasts old [] new same = record {
+  checked = ap (λ (s : ChannelState). s.checked) same;
+  channel = ap (λ (s : ChannelState). s.channel) same;
+  numbers = same-numbers old new (ap (λ (s : ChannelState). s.writes) same);
 }
-collect-lasts old ticket collected.Pending new (channel, i, r, here, serial, waits, same) = stays-lasts old new same
-collect-lasts old ticket collected.Unknown new (none, same) = stays-lasts old new same
+run-lasts old (x ∷ xs) new (done, mid, issues, is, rest) = lasts-both old mid new (issue-lasts old mid done issues) (run-lasts mid xs new rest)

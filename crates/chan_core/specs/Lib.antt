@@ -1,5 +1,10 @@
-pub mod Lines
 pub mod Reads
-pub mod Requests
-pub mod ChannelMemory
-pub mod Channel
+pub mod State
+pub mod Mapped
+pub mod Phases
+pub mod Calls
+pub mod Singles
+pub mod Contents
+pub mod Inside
+pub mod Always
+pub mod Running

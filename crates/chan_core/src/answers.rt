@@ -6,8 +6,9 @@ use line_memory::Line;
 #[derive(Clone, Copy, Debug, PartialEq, Eq)]
 pub struct Ticket {
     pub channel: u64,
-    /// Its number among the reads of the channel that waited, from 0.
-    pub serial: u64,
+    /// Its number among the reads of the channel that waited, from 0. A channel can make 128 requests for each of its
+    /// commands, more than 64 bits count.
+    pub serial: u128,
 }
 
 /// The answer to a read.
@@ -19,7 +20,7 @@ pub enum Got {
     Later(Ticket),
 }
 
-/// As many reads as may be are pending or not collected. (A channel also takes no more than 2^64 - 1 reads that wait.)
+/// As many reads as may be are pending or not collected.
 #[derive(Clone, Copy, Debug, PartialEq, Eq)]
 pub struct ReadsFull;
 

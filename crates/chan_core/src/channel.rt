@@ -1,26 +1,32 @@
 // One channel.
-ghost use Rattle.std.specs.Prelude.{◌≡◌, ℕ, ◌<◌, ◌≤◌, ◌⊎◌, ◌^◌, ◌↔◌, ◌++◌, [], List, Some, None, IfErr, IfOk, IfSome, IfNone, IsOk, OnOk, OnErr, length, slice_get, slice_set};
+ghost use Rattle.std.specs.Prelude.{◌≡◌, ◌≢◌, ℕ, List, ◌-◌, ◌/◌, ◌<◌, ◌≤◌, ◌^◌, ◌↔◌, ◌++◌, [], Some, None, IfErr, IfOk, IfSome, IfNone, IsOk, IsTrue, OnOk, OnErr, count_by, length, nat_lt, slice_get};
 ghost use Rattle.line_memory.specs.Memory.{zero_lines};
-ghost use Rattle.ddr4_timing.specs.Limits.{lines_of};
-ghost use Rattle.ddr4_timing.specs.declared.command.Stamped.{Stamped};
-ghost use Rattle.bank_core.specs.Stands.{Stands, Allows, with_command};
-ghost use Rattle.frfcfs.specs.Candidates.{Serves};
-ghost use Rattle.frfcfs.specs.Next.{IsNext};
-ghost use Rattle.refresh_margin.specs.Margin.{KeepsMargin};
 ghost use Rattle.wpq_core.specs.Writes.{ComeBefore, pending_write};
-ghost use Rattle.chan_core.specs.Lines.{place_of, cells_of};
-ghost use Rattle.chan_core.specs.ChannelMemory.{Puts, Gets, Tells, Collects, TellsCollected, HoldsBy, cell_of, memory_of, tickets_of};
-ghost use Rattle.chan_core.specs.Channel.{ChannelState, HasIssued, IsInTime, HasNothing, Works, Runs};
+ghost use Rattle.interleave_map.specs.Cells.{cells_of};
+ghost use Rattle.chan_core.specs.State.{channel_memory, last_commands, new_channel, placed_writes, stored_at};
+ghost use Rattle.chan_core.specs.Mapped.{LiesOn, OfItsPlace};
+ghost use Rattle.chan_core.specs.Singles.{FitsOldest, IsEarliest, IssuesAlone};
+ghost use Rattle.ddr4_timing.specs.Lawful.{IsLawful, open_row, ref_count, with_command};
+ghost use Rattle.ddr4_timing.specs.Places.{HasBank};
+ghost use Rattle.ddr4_timing.specs.declared.command.Stamped.{Stamped};
+ghost use Rattle.bank_core.specs.Stands.{Stands};
+ghost use Rattle.frfcfs.specs.Margin.{AreAsleep};
+ghost use Rattle.chan_core.specs.Calls.{AddsWrite, AnswersCollect, AnswersGet, HasNothingToSend, KeepsBelow, IssuesChoice, IssuesChoices, WritesAt, after_commands, after_get, after_put, loaded_at, with_hold};
+ghost use Rattle.chan_core.specs.declared.phase.Phase.TheVariants.{Asleep, Running, Stepping};
+ghost use Rattle.chan_core.specs.Always.{IsChannel};
 
 use crate::answers::{Collected, Done, Got, ReadsFull, Ticket};
 use crate::channel_memory::ChannelMemory;
+use crate::phase::Phase;
 use bank_core::banks::Banks;
 use circular_buffer::HeapCircularBuffer;
-use ddr4_timing::command::Stamped;
+use ddr4_timing::command::{Command, Stamped};
+use ddr4_timing::place::{BankAddress, Place};
 use ddr4_timing::timing::Checked;
-use frfcfs::choice::Next;
+use frfcfs::next::next_command;
+use interleave_map::cells::line_count;
+use interleave_map::line_map::LineMap;
 use line_memory::Line;
-use refresh_margin::work::next_command;
 use std::alloc::{AllocError, Global};
 use std::marker::Model;
 use wpq_core::Full;
@@ -30,9 +36,9 @@ pub const RECENT: usize = 64;
 
 /// One channel: its array of lines, its write queue and its reads, its banks and its clock.
 ///
-/// Contracts see it as a `ChannelState` (`specs/Channel.antt`). `memory_of` is its lines after all accepted writes;
-/// `tickets_of` are the reads that were accepted and not collected, with the bytes that each has or is to have. `HasIssued`
-/// says which commands it has issued, and `IsInTime` that each rank still has the time for its next refresh.
+/// Contracts see it as a `ChannelState` (`specs/State.antt`); `channel_memory` of it is its lines after all accepted writes.
+/// What is true of every channel is `IsChannel` (`specs/Always.antt`), which `always` tells. The list of all its commands is
+/// for contracts alone, and takes no bytes.
 #[derive(Drop)]
 pub struct Channel {
     banks: Banks,
@@ -42,11 +48,15 @@ pub struct Channel {
 }
 
 impl Model for Channel {
+    ghost use Rattle.chan_core.specs.State.{ChannelState};
+
     ghost Value = { ChannelState };
 
-    ghost view = { λ c. record { banks = c.banks; clock = c.clock; recent = c.recent.items; memory = c.memory } };
+    ghost use Rattle.chan_core.specs.Running.{IsRunning};
 
-    ghost invariant = { λ c. (c.memory.checked ≡ c.banks.checked) × (c.recent.capacity ≡ 64) };
+    ghost view = { λ c. c.memory };
+
+    ghost invariant = { IsRunning };
 }
 
 impl Channel {
@@ -62,11 +72,8 @@ impl Channel {
     ) -> Result<Channel, AllocError>
         requires depth { (1 ≤ depth) × (depth ≤ 64) }
         requires reads { reads ≤ 64 }
-        ensures issued { IfOk result (λ new. HasIssued new []) }
-        ensures in_time { IfOk result (λ new. IsInTime new []) }
-        ensures memory { IfOk result (λ new. new.memory ≡ record { checked = checked.now; channel = channel; array = zero_lines (cells_of checked.now.geometry); queue = record { depth = depth; writes = [] }; pending = []; reads = []; most_reads = reads; serial = 0; hold = None }) }
-        ensures checked { IfOk result (λ new. new.banks.checked ≡ checked.now) }
-        ensures clock { IfOk result (λ new. new.clock ≡ 0) }
+        ensures { IfOk result (λ new.
+            new ≡ new_channel checked.now channel (zero_lines (cells_of checked.now.geometry)) depth reads) }
     {
         Ok(Channel {
             banks: Banks::new(checked),
@@ -76,48 +83,133 @@ impl Channel {
         })
     }
 
+    /// What is true of every channel. It has no code.
+    pub fn always(&self)
+        ensures { IsChannel self.now }
+    {
+        self.memory.always();
+        let _ = &self.banks;
+    }
+
+    /// Who has issued the channel's commands: what is known of its refreshes.
+    pub fn phase(&self) -> Phase
+        ensures { result ≡ self.now.phase }
+    {
+        self.memory.phase()
+    }
+
+    /// Whether a line lies on this channel. In constant time, as far as the map's own computation is.
+    pub fn has_line<M: LineMap>(&self, map: &M, line: u64) -> bool
+        requires lawful { M.is_lawful map.now }
+        requires geometry { M.geometry_of map.now ≡ self.now.checked.geometry }
+        ensures { IsTrue result ↔ LiesOn (M.lies_at map.now) self.now line }
+    {
+        line < line_count(self.memory.checked()) && map.place(line).channel == self.memory.channel()
+    }
+
+    /// Whether nothing waits: no write is pending, and each read that was accepted has its answer.
+    pub fn is_quiet(&self) -> bool
+        ensures { IsTrue result ↔ (self.now.requests ≡ []) }
+    {
+        self.memory.waiting().requests().is_empty()
+    }
+
+    /// Sets a line of the array; it asks that nothing waits.
+    pub fn load<M: LineMap>(&mut self, map: &M, line: u64, bytes: Line)
+        requires lawful { M.is_lawful map.now }
+        requires geometry { M.geometry_of map.now ≡ self.old.checked.geometry }
+        requires line { LiesOn (M.lies_at map.now) self.old line }
+        requires quiet { self.old.requests ≡ [] }
+        ensures loaded { OfItsPlace (M.lies_at map.now) line (λ place. self.new ≡ loaded_at self.old place bytes) }
+        ensures memory { OfItsPlace (M.lies_at map.now) line (λ place. WritesAt self.old place bytes self.new) }
+    {
+        let place = map.place(line);
+        self.memory.load(place, bytes);
+    }
+
+    /// A line of the array, without the writes that are pending.
+    pub fn stored<M: LineMap>(&self, map: &M, line: u64) -> Line
+        requires lawful { M.is_lawful map.now }
+        requires geometry { M.geometry_of map.now ≡ self.now.checked.geometry }
+        requires line { LiesOn (M.lies_at map.now) self.now line }
+        ensures { OfItsPlace (M.lies_at map.now) line (λ place. result ≡ stored_at self.now place) }
+    {
+        let place = map.place(line);
+        self.memory.stored(place)
+    }
+
+    /// How many pending writes have a number below the limit. It costs the number of pending writes.
+    pub fn below(&self, limit: u64) -> usize
+        ensures { result ≡ count_by (λ w. nat_lt w.number limit) self.now.writes }
+    {
+        self.memory.below(limit)
+    }
+
+    /// The least number that a further write may have; None where a pending write has the greatest number that there is.
+    pub fn next_number(&self) -> Option<u64>
+        ensures free { IfSome result (λ n. (m : ℕ) → (ComeBefore m self.now.writes ↔ (n ≤ m))) }
+        ensures none { IfNone result ((m : ℕ) → ComeBefore m self.now.writes → 2 ^ 64 ≤ m) }
+    {
+        self.memory.next_number()
+    }
+
+    /// Whether a further write may have this number: whether those of all pending ones are smaller.
+    pub fn may_take(&self, number: u64) -> bool
+        ensures { IsTrue result ↔ ComeBefore number self.now.writes }
+    {
+        self.memory.may_take(number)
+    }
+
     /// Accepts a write of a line of this channel, with a number above those of all pending ones. The memory has it from now
     /// on; the array has it once its WR was issued. Refused, `Full`, exactly where the queue holds its depth: the write comes
     /// back, and nothing changes. It costs the number of pending requests.
-    pub fn put(&mut self, number: u64, line: u64, bytes: Line) -> Result<(), Full>
-        requires line { line < lines_of self.old.memory.checked.geometry }
-        requires channel { (place_of self.old.memory.checked.geometry line).channel ≡ self.old.memory.channel }
-        requires above { ComeBefore number self.old.memory.queue.writes }
-        ensures puts { OnOk result (Puts self.old.memory number line bytes self.new.memory) }
-        ensures memory { OnOk result (memory_of self.new.memory ≡ slice_set (memory_of self.old.memory) (cell_of self.old.memory line) bytes) }
-        ensures tickets { tickets_of self.new.memory ≡ tickets_of self.old.memory }
-        ensures room { IsOk result ↔ (length self.old.memory.queue.writes < self.old.memory.queue.depth) }
-        ensures rest { self.new ≡ record self.old { memory = self.new.memory } }
+    pub fn put<M: LineMap>(
+        &mut self,
+        map: &M,
+        number: u64,
+        line: u64,
+        bytes: Line,
+    ) -> Result<(), Full>
+        requires lawful { M.is_lawful map.now }
+        requires geometry { M.geometry_of map.now ≡ self.old.checked.geometry }
+        requires line { LiesOn (M.lies_at map.now) self.old line }
+        requires above { ComeBefore number self.old.writes }
+        ensures adds { OfItsPlace (M.lies_at map.now) line (λ place.
+            OnOk result (AddsWrite self.old number place bytes self.new)) }
+        ensures memory { OfItsPlace (M.lies_at map.now) line (λ place.
+            OnOk result (WritesAt self.old place bytes self.new)) }
+        ensures room { IsOk result ↔ (length self.old.writes < self.old.depth) }
         ensures refused { IfErr result (λ full. full.refused ≡ pending_write number line bytes) }
         ensures same { OnErr result (self.new ≡ self.old) }
+        ensures rest { self.new ≡ after_put self.old self.new }
     {
-        self.memory.put(number, line, bytes)
+        let place = map.place(line);
+        self.memory.put(number, line, place, bytes)
     }
 
     /// Reads a line of this channel; `at` is how many writes were accepted before, and comes back with the data. Where a
     /// pending write names the line, its newest one's data is the answer, `Now`; else the read waits for its RD, `Later`.
     /// Either way it is the line of the memory after all writes accepted so far. Refused exactly where as many reads as may
-    /// be are pending or not collected, whatever writes are pending, or where 2^64 - 1 reads have waited: nothing changes
-    /// then. It costs the number of pending requests.
-    pub fn get(&mut self, line: u64, at: u64) -> Result<Got, ReadsFull>
-        requires line { line < lines_of self.old.memory.checked.geometry }
-        requires channel { (place_of self.old.memory.checked.geometry line).channel ≡ self.old.memory.channel }
-        ensures gets { Gets self.old.memory line at result self.new.memory }
-        ensures tells { Tells self.old.memory line at result self.new.memory }
-        ensures memory { memory_of self.new.memory ≡ memory_of self.old.memory }
-        ensures rest { self.new ≡ record self.old { memory = self.new.memory } }
+    /// be are pending or not collected, whatever writes are pending: nothing changes then. It costs the number of pending
+    /// requests.
+    pub fn get<M: LineMap>(&mut self, map: &M, line: u64, at: u64) -> Result<Got, ReadsFull>
+        requires lawful { M.is_lawful map.now }
+        requires geometry { M.geometry_of map.now ≡ self.old.checked.geometry }
+        requires line { LiesOn (M.lies_at map.now) self.old line }
+        ensures answers { OfItsPlace (M.lies_at map.now) line (λ place.
+            AnswersGet self.old place line at result self.new) }
+        ensures rest { self.new ≡ after_get self.old self.new }
     {
-        self.memory.get(line, at)
+        let place = map.place(line);
+        self.memory.get(line, place, at)
     }
 
     /// What there is for a ticket: the data of its read once it was answered, and the ticket is gone then; `Pending` exactly
     /// where the read waits; `Unknown` exactly for what is no ticket of this channel or was collected. It costs the number of
     /// open reads.
     pub fn collect(&mut self, ticket: Ticket) -> Collected
-        ensures collects { Collects self.old.memory ticket result self.new.memory }
-        ensures tells { TellsCollected self.old.memory ticket result self.new.memory }
-        ensures memory { memory_of self.new.memory ≡ memory_of self.old.memory }
-        ensures rest { self.new ≡ record self.old { memory = self.new.memory } }
+        ensures answers { AnswersCollect self.old ticket result self.new.tickets }
+        ensures rest { self.new ≡ record self.old { tickets = self.new.tickets } }
     {
         self.memory.collect(ticket)
     }
@@ -125,58 +217,118 @@ impl Channel {
     /// From now on no write with this number or a greater one goes to the array, those that come later too. It costs the
     /// number of pending requests.
     pub fn hold_from(&mut self, number: u64)
-        ensures holds { HoldsBy self.old.memory (Some number) self.new.memory }
-        ensures memory { memory_of self.new.memory ≡ memory_of self.old.memory }
-        ensures tickets { tickets_of self.new.memory ≡ tickets_of self.old.memory }
-        ensures rest { self.new ≡ record self.old { memory = self.new.memory } }
+        ensures { self.new ≡ with_hold self.old (Some number) }
     {
         self.memory.set_hold(Some(number));
     }
 
     /// Ends a hold. It costs the number of pending requests.
     pub fn release(&mut self)
-        ensures holds { HoldsBy self.old.memory None self.new.memory }
-        ensures memory { memory_of self.new.memory ≡ memory_of self.old.memory }
-        ensures tickets { tickets_of self.new.memory ≡ tickets_of self.old.memory }
-        ensures rest { self.new ≡ record self.old { memory = self.new.memory } }
+        ensures { self.new ≡ with_hold self.old None }
     {
         self.memory.set_hold(None);
     }
 
     /// The i-th of the last 64 commands, oldest first; None past their end.
     pub fn recent(&self, i: usize) -> Option<Stamped>
-        ensures { result ≡ slice_get self.now.recent i }
+        ensures { result ≡ slice_get (last_commands self.now.commands) i }
     {
         self.recent.get(i).copied()
     }
 
+    /// The number and the place of the oldest pending write; None exactly where none is pending. It costs the number of
+    /// pending requests.
+    pub fn oldest(&self) -> Option<(u64, Place)>
+        ensures { result ≡ slice_get (placed_writes self.now) 0 }
+    {
+        self.memory.oldest()
+    }
+
+    /// The least clock at which a single command may go, if there is one: it may go from then on up to nine intervals after
+    /// the last REF of its rank.
+    pub fn earliest(&self, cmd: Command) -> Option<u64>
+        ensures { IsEarliest self.now.checked self.now.commands cmd result }
+    {
+        self.banks.earliest(cmd)
+    }
+
+    /// The row that is open in a bank, or None where the bank is closed.
+    pub fn open_row(&self, bank: BankAddress) -> Option<u64>
+        requires { HasBank self.now.checked.geometry bank }
+        ensures { result ≡ open_row bank self.now.commands }
+    {
+        self.banks.open_row(bank)
+    }
+
+    /// How many REF the rank owes at the clock: one for each interval that has passed, less those issued.
+    pub fn owed(&self, rank: u64, clock: u64) -> u64
+        requires { rank < self.now.checked.geometry.ranks }
+        ensures { result ≡ clock / self.now.checked.timing.t_refi - ref_count rank self.now.commands }
+    {
+        self.banks.owed(rank, clock)
+    }
+
     /// Goes to the first clock from now on at which the first-ready, first-come-first-served choice has a candidate (Rixner
     /// and others, "Memory Access Scheduling", ISCA 2000), and issues it there. A WR takes its write to the array, a RD
-    /// answers its read.
+    /// answers its read. So the memory stays what it was, that below a hold too, and an open read has the bytes that it was to
+    /// have.
     ///
     /// None, and nothing changes, exactly where no request is eligible and no rank is in lead at the present clock, where
-    /// every rank had its SRE, and from clock 2^62 on. So no refresh is missed and no request is stranded. It takes no memory
-    /// and costs the number of pending requests.
+    /// every rank had its SRE, and from clock 2^62 on; while single commands are issued that isn't promised. It takes no
+    /// memory and costs the number of pending requests.
     pub fn work(&mut self) -> Option<Done>
-        ensures none { (list : List Stamped) → HasIssued self.old list → IsInTime self.old list → ((result ≡ None) ↔ HasNothing self.old list) }
+        ensures none { self.old.phase ≢ Stepping → ((result ≡ None) ↔ HasNothingToSend self.old) }
         ensures stays { IfNone result (self.new ≡ self.old) }
-        ensures works { IfSome result (λ done. Works self.old done self.new) }
+        ensures issues { IfSome result (λ done. IssuesChoice self.old done self.new) }
+        ensures memory { channel_memory self.new ≡ channel_memory self.old }
+        ensures below { KeepsBelow self.old self.new }
+        ensures rest { self.new ≡ after_commands self.old self.new }
     {
-        match next_command(&self.banks, self.memory.pending(), self.clock) {
-            None => None,
-            Some(next) => Some(self.issue(next)),
+        let next = next_command(&self.banks, self.memory.waiting(), self.clock)?;
+        let command = Stamped {
+            clock: next.clock,
+            cmd: next.cmd,
+        };
+        self.banks.issue(command.cmd, command.clock);
+        let served = self.memory.issue(next.serves, command);
+        self.clock = command.clock;
+        self.recent.push_back(command);
+        Some(Done { command, served })
+    }
+
+    /// A single command goes at a clock, as a drain sends them; `earliest` says at which it may. A WR takes the oldest pending
+    /// write to the array, held or not. All reads are lost: their tickets are unknown from now on. From the first single
+    /// command until every rank had its SRE no refresh is promised in its time. It takes no memory and costs the number of
+    /// pending requests and of ranks.
+    pub fn issue(&mut self, cmd: Command, clock: u64)
+        requires lawful { IsLawful self.old.checked (with_command self.old.commands clock cmd) }
+        requires early { clock < 2 ^ 63 }
+        requires oldest { FitsOldest self.old cmd }
+        ensures issues { IssuesAlone self.old (record { clock = clock; cmd = cmd }) self.new }
+        ensures memory { channel_memory self.new ≡ channel_memory self.old }
+    {
+        if !self.banks.ready(cmd, clock) {
+            unreachable!()
         }
+        let command = Stamped { clock, cmd };
+        self.banks.issue(cmd, clock);
+        let phase = phase_alone(&self.banks);
+        self.memory.issue_alone(command, phase);
+        self.clock = clock;
+        self.recent.push_back(command);
     }
 
     /// Works up to n times, until there is nothing to do: the commands in their order. It refuses only where there is no
     /// memory for n of them; nothing has changed then.
     pub fn work_many(&mut self, alloc: Global, n: usize) -> Result<Vec<Stamped>, AllocError>
-        ensures runs { IfOk result (λ commands. Runs self.old commands.items self.new) }
-        ensures issued { IfOk result (λ commands. (list : List Stamped) → HasIssued self.old list → HasIssued self.new (list ++ commands.items)) }
-        ensures in_time { IfOk result (λ commands. (list : List Stamped) → HasIssued self.old list → IsInTime self.old list → IsInTime self.new (list ++ commands.items)) }
-        ensures memory { IfOk result (λ commands. memory_of self.new.memory ≡ memory_of self.old.memory) }
+        ensures issues { IfOk result (λ commands. IssuesChoices self.old commands.items self.new) }
+        ensures commands { IfOk result (λ commands. self.new.commands ≡ self.old.commands ++ commands.items) }
+        ensures memory { channel_memory self.new ≡ channel_memory self.old }
+        ensures below { KeepsBelow self.old self.new }
         ensures most { IfOk result (λ commands. length commands.items ≤ n) }
-        ensures ended { IfOk result (λ commands. length commands.items < n → (list : List Stamped) → HasIssued self.new list → IsInTime self.new list → HasNothing self.new list) }
+        ensures ended { IfOk result (λ commands. length commands.items < n →
+            self.old.phase ≢ Stepping → HasNothingToSend self.new) }
+        ensures rest { self.new ≡ after_commands self.old self.new }
         ensures same { OnErr result (self.new ≡ self.old) }
     {
         let mut commands = Vec::with_capacity(alloc, n)?;
@@ -188,25 +340,18 @@ impl Channel {
         }
         Ok(commands)
     }
+}
 
-    // Issues the next command.
-    fn issue(&mut self, next: Next) -> Done
-        requires early { next.clock < 2 ^ 63 }
-        requires allows { Allows self.old.banks next.choice.cmd next.clock }
-        requires serves { Serves self.old.memory.pending next.choice.turn next.choice.cmd }
-        requires chosen { (list : List Stamped) → Stands self.old.banks list → IsNext self.old.banks.checked list self.old.memory.pending self.old.clock (Some next) }
-        requires keeps { (list : List Stamped) → Stands self.old.banks list → KeepsMargin self.old.banks.checked list self.old.clock →
-            KeepsMargin self.old.banks.checked (with_command list next.clock next.choice.cmd) next.clock }
-        ensures { Works self.old result self.new }
-    {
-        let command = Stamped {
-            clock: next.clock,
-            cmd: next.choice.cmd,
-        };
-        let served = self.memory.serve_turn(next.choice.turn);
-        self.banks.issue(command.cmd, command.clock);
-        self.clock = command.clock;
-        self.recent.push_back(command);
-        Done { command, served }
+// The phase after a single command.
+fn phase_alone(banks: &Banks) -> Phase
+    ensures single { result ≢ Running }
+    ensures asleep { (list : List Stamped) → Stands banks.now list →
+        ((result ≡ Asleep) ↔ AreAsleep banks.now.checked list) }
+{
+    for rank in 0..banks.checked().geometry.ranks {
+        if !banks.is_asleep(rank) {
+            return Phase::Stepping;
+        }
     }
+    Phase::Asleep
 }

@@ -1,27 +1,32 @@
-// What a channel holds: its array, its pending writes and its open reads.
-ghost use Rattle.std.specs.Prelude.{◌≡◌, ◌≢◌, ℕ, ◌+◌, ◌<◌, ◌≤◌, ◌↔◌, ◌++◌, ◌∷◌, [], false, None, Some, IfOk, IfErr, IsOk, IsTrue, OnOk, OnErr, length, slice_get, slice_set, vec_capacity};
+// What a channel holds: its array, its pending writes, its open reads, and the list of its commands, which takes no bytes.
+ghost use Rattle.std.specs.Prelude.{◌≡◌, ◌≢◌, ℕ, ◌+◌, ◌*◌, ◌<◌, ◌≤◌, ◌↔◌, ◌++◌, ◌∷◌, ◌^◌, [], None, Some, All, IfErr, IfNone, IfOk, IfSome, IsOk, IsTrue, OnOk, OnErr, count_by, length, nat_lt, remove, slice_get, slice_set};
+ghost use Rattle.std.specs.List.{filter_map};
 ghost use Rattle.line_memory.specs.Memory.{zero_lines};
-ghost use Rattle.ddr4_timing.specs.Limits.{lines_of};
-ghost use Rattle.frfcfs.specs.declared.pending.Pending.{Pending};
 ghost use Rattle.frfcfs.specs.declared.pending.Kind.TheVariants as kinds;
-ghost use Rattle.frfcfs.specs.declared.choice.Turn.TheVariants as turns;
-ghost use Rattle.frfcfs.specs.Requests.{IsEligible, IsQueue};
-ghost use Rattle.wpq_core.specs.Writes.{ComeBefore, IsNewest, NoneNames, Takes, pending_write};
-ghost use Rattle.wpq_core.specs.declared.queue.PendingWrite.{PendingWrite};
-ghost use Rattle.wpq_core.specs.Queue as queues;
-ghost use Rattle.chan_core.specs.Lines.{place_of, cells_of};
+ghost use Rattle.frfcfs.specs.Requests.{AreInOrder, IsEligible};
+ghost use Rattle.frfcfs.specs.Next.{IsServable};
+ghost use Rattle.wpq_core.specs.Writes.{ComeBefore, NoWriteNames, pending_write};
 ghost use Rattle.ddr4_timing.specs.Places.{LiesIn};
-ghost use Rattle.chan_core.specs.ChannelMemory.{MemoryState, IsChannelMemory, Puts, Gets, Asks, IsFullOfReads, Collects, IsAnswered, Reads, ServedIn, Serves, Tells, TellsOpen, TellsTickets, HoldsBy, Writes, memory_of, tickets_of, cell_of, line_in};
+ghost use Rattle.interleave_map.specs.Cells.{cell_of, cells_of};
+ghost use Rattle.chan_core.specs.State.{channel_memory, cell_in, new_channel, placed_write, placed_writes, stored_at};
+ghost use Rattle.chan_core.specs.Always.{IsHeld};
+ghost use Rattle.chan_core.specs.Singles.{FitsOldest, IssuesAlone};
+ghost use Rattle.chan_core.specs.declared.phase.Phase.TheVariants.{Asleep, Running};
+ghost use Rattle.frfcfs.specs.Margin.{AreAsleep};
+ghost use Rattle.chan_core.specs.Calls.{AddsRead, AddsWrite, AnswersCollect, AnswersGet, AnswersRead, IsFullOfReads, KeepsBelow, MovesWrite, ServesAt, ServesIndex, WritesAt, after_command, after_get, after_put, loaded_at, with_hold};
 
 use crate::answers::{Collected, Got, ReadsFull, Served, Ticket};
-use crate::lines::{cells, index_of, place_of};
-use crate::reads::{OpenRead, answer, place_of_serial};
-use crate::requests::{hold, is_held, push, take};
+use crate::moves::{store_by, take_write};
+use crate::phase::Phase;
+use crate::reads::{OpenRead, answer, index_of_serial};
+use ddr4_timing::command::Stamped;
 use ddr4_timing::place::Place;
 use ddr4_timing::timing::Checked;
-use frfcfs::choice::Turn;
 use frfcfs::pending::{Kind, Pending};
+use frfcfs::queue::{Queue, is_held};
+use interleave_map::cells::{cell_of, cells};
 use line_memory::{Line, Write, zero};
+use past::Past;
 use std::alloc::{AllocError, Global};
 use std::marker::Model;
 use wpq_core::{Full, PendingWrite, Wpq};
@@ -32,20 +37,26 @@ pub struct ChannelMemory {
     channel: u64,
     array: Vec<Line>,
     queue: Wpq,
-    pending: Vec<Pending>,
+    waiting: Queue,
     reads: Vec<OpenRead>,
     most_reads: usize,
-    serial: u64,
+    // that of the next read that waits
+    serial: u128,
     hold: Option<u64>,
+    issued: Past<Stamped>,
+    phase: Phase,
 }
 
 impl Model for ChannelMemory {
-    ghost Value = { MemoryState };
+    ghost use Rattle.chan_core.specs.State.{ChannelState};
 
-    ghost view = { λ m. record { checked = m.checked; channel = m.channel; array = m.array.items; queue = m.queue; pending = m.pending.items; reads = m.reads.items; most_reads = m.most_reads; serial = m.serial; hold = m.hold } };
+    ghost Value = { ChannelState };
 
-    ghost invariant = { λ m. IsChannelMemory (record { checked = m.checked; channel = m.channel; array = m.array.items; queue = m.queue; pending = m.pending.items; reads = m.reads.items; most_reads = m.most_reads; serial = m.serial; hold = m.hold })
-        × (m.queue.depth + m.most_reads ≤ vec_capacity m.pending) × (m.most_reads ≤ vec_capacity m.reads) };
+    ghost use Rattle.chan_core.specs.Inside.{seen_inside, IsInside};
+
+    ghost view = { seen_inside };
+
+    ghost invariant = { IsInside };
 }
 
 impl ChannelMemory {
@@ -58,7 +69,8 @@ impl ChannelMemory {
     ) -> Result<ChannelMemory, AllocError>
         requires depth { (1 ≤ depth) × (depth ≤ 64) }
         requires reads { reads ≤ 64 }
-        ensures { IfOk result (λ memory. memory ≡ record { checked = checked.now; channel = channel; array = zero_lines (cells_of checked.now.geometry); queue = record { depth = depth; writes = [] }; pending = []; reads = []; most_reads = reads; serial = 0; hold = None }) }
+        ensures { IfOk result (λ memory.
+            memory ≡ new_channel checked.now channel (zero_lines (cells_of checked.now.geometry)) depth reads) }
     {
         let mut array = Vec::from_elem(alloc, [0; 64], cells(checked))?;
         zero(&mut array);
@@ -67,36 +79,118 @@ impl ChannelMemory {
             channel,
             array,
             queue: Wpq::with_depth(alloc, depth)?,
-            pending: Vec::with_capacity(alloc, depth + reads)?,
+            waiting: Queue::with_room(alloc, depth + reads)?,
             reads: Vec::with_capacity(alloc, reads)?,
             most_reads: reads,
             serial: 0,
             hold: None,
+            issued: Past::new(),
+            phase: Phase::Running,
         })
     }
 
-    /// The pending requests, in order of arrival.
-    pub(crate) fn pending(&self) -> &[Pending]
-        ensures pending { result.now ≡ self.now.pending }
-        ensures queue { IsQueue self.now.checked.geometry result.now }
+    /// What is true of every channel's contents. It has no code.
+    pub(crate) fn always(&self)
+        ensures { IsHeld self.now }
     {
-        &self.pending
+        let _order = self.waiting.requests();
+    }
+
+    pub(crate) fn checked(&self) -> &Checked
+        ensures { result.now ≡ self.now.checked }
+    {
+        &self.checked
+    }
+
+    pub(crate) fn phase(&self) -> Phase
+        ensures { result ≡ self.now.phase }
+    {
+        self.phase
+    }
+
+    pub(crate) fn channel(&self) -> u64
+        ensures { result ≡ self.now.channel }
+    {
+        self.channel
+    }
+
+    /// The least number that a further write may have.
+    pub(crate) fn next_number(&self) -> Option<u64>
+        ensures free { IfSome result (λ n. (m : ℕ) → (ComeBefore m self.now.writes ↔ (n ≤ m))) }
+        ensures none { IfNone result ((m : ℕ) → ComeBefore m self.now.writes → 2 ^ 64 ≤ m) }
+    {
+        self.queue.next_number()
+    }
+
+    /// The pending requests, in order of arrival.
+    pub(crate) fn waiting(&self) -> &Queue
+        ensures requests { result.now.requests ≡ self.now.requests }
+        ensures places { All (λ p. LiesIn self.now.checked.geometry p.place) result.now.requests }
+    {
+        &self.waiting
+    }
+
+    /// Sets a line of the array; it asks that nothing waits.
+    pub(crate) fn load(&mut self, place: Place, bytes: Line)
+        requires lies { LiesIn self.old.checked.geometry place }
+        requires quiet { self.old.requests ≡ [] }
+        ensures loaded { self.new ≡ loaded_at self.old place bytes }
+        ensures memory { WritesAt self.old place bytes self.new }
+    {
+        let cell = cell_of(&self.checked, &place);
+        self.array[cell] = bytes;
+    }
+
+    /// A line of the array.
+    pub(crate) fn stored(&self, place: Place) -> Line
+        requires { LiesIn self.now.checked.geometry place }
+        ensures { result ≡ stored_at self.now place }
+    {
+        self.array[cell_of(&self.checked, &place)]
+    }
+
+    /// How many pending writes have a number below the limit.
+    pub(crate) fn below(&self, limit: u64) -> usize
+        ensures { result ≡ count_by (λ w. nat_lt w.number limit) self.now.writes }
+    {
+        self.queue.below(limit)
+    }
+
+    /// The number and the place of the oldest pending write.
+    pub(crate) fn oldest(&self) -> Option<(u64, Place)>
+        ensures { result ≡ slice_get (placed_writes self.now) 0 }
+    {
+        oldest_write(self.waiting.requests())
+    }
+
+    /// Whether a further write may have this number.
+    pub(crate) fn may_take(&self, number: u64) -> bool
+        ensures { IsTrue result ↔ ComeBefore number self.now.writes }
+    {
+        self.queue.may_take(number)
     }
 
     /// Adds a write behind the others. Refused, `Full`, exactly where the queue holds its depth: nothing changes then.
-    pub(crate) fn put(&mut self, number: u64, line: u64, bytes: Line) -> Result<(), Full>
-        requires line { line < lines_of self.old.checked.geometry }
-        requires above { ComeBefore number self.old.queue.writes }
-        ensures puts { OnOk result (Puts self.old number line bytes self.new) }
-        ensures memory { OnOk result (memory_of self.new ≡ slice_set (memory_of self.old) (cell_of self.old line) bytes) }
-        ensures tickets { tickets_of self.new ≡ tickets_of self.old }
-        ensures room { IsOk result ↔ (length self.old.queue.writes < self.old.queue.depth) }
+    pub(crate) fn put(
+        &mut self,
+        number: u64,
+        line: u64,
+        place: Place,
+        bytes: Line,
+    ) -> Result<(), Full>
+        requires lies { LiesIn self.old.checked.geometry place }
+        requires channel { place.channel ≡ self.old.channel }
+        requires above { ComeBefore number self.old.writes }
+        requires few { length self.old.commands ≤ 2 ^ 63 }
+        ensures adds { OnOk result (AddsWrite self.old number place bytes self.new) }
+        ensures memory { OnOk result (WritesAt self.old place bytes self.new) }
+        ensures room { IsOk result ↔ (length self.old.writes < self.old.depth) }
         ensures refused { IfErr result (λ full. full.refused ≡ pending_write number line bytes) }
         ensures same { OnErr result (self.new ≡ self.old) }
+        ensures rest { self.new ≡ after_put self.old self.new }
     {
-        let place = place_of(&self.checked, line);
-        let index = index_of(&self.checked, &place) as u64;
-        let Ok(()) = self.queue.try_push(number, index, bytes) else {
+        let cell = cell_of(&self.checked, &place) as u64;
+        let Ok(()) = self.queue.try_push(number, cell, bytes) else {
             return Err(Full {
                 refused: PendingWrite {
                     number,
@@ -105,7 +199,7 @@ impl ChannelMemory {
             });
         };
         let held = is_held(self.hold, Kind::Write, number);
-        push(&mut self.pending, place, index, Kind::Write, number, held);
+        self.waiting.push(place, cell, Kind::Write, number, held);
         Ok(())
     }
 
@@ -113,42 +207,71 @@ impl ChannelMemory {
     fn is_full_of_reads(&self) -> bool
         ensures { IsTrue result ↔ IsFullOfReads self.now }
     {
-        self.reads.len() == self.most_reads || self.serial == u64::MAX
+        self.reads.len() == self.most_reads
     }
 
     /// Reads a line, after all accepted writes, of which there are `at`. Refused where no further read may be open: nothing
     /// changes then.
-    pub(crate) fn get(&mut self, line: u64, at: u64) -> Result<Got, ReadsFull>
-        requires { line < lines_of self.old.checked.geometry }
-        ensures gets { Gets self.old line at result self.new }
-        ensures tells { Tells self.old line at result self.new }
-        ensures memory { memory_of self.new ≡ memory_of self.old }
+    pub(crate) fn get(&mut self, line: u64, place: Place, at: u64) -> Result<Got, ReadsFull>
+        requires lies { LiesIn self.old.checked.geometry place }
+        requires channel { place.channel ≡ self.old.channel }
+        requires few { length self.old.commands ≤ 2 ^ 63 }
+        ensures answers { AnswersGet self.old place line at result self.new }
+        ensures rest { self.new ≡ after_get self.old self.new }
     {
         if self.is_full_of_reads() {
             return Err(ReadsFull);
         }
-        let place = place_of(&self.checked, line);
-        let index = index_of(&self.checked, &place) as u64;
-        match self.queue.newest_for(index) {
+        let cell = cell_of(&self.checked, &place) as u64;
+        match self.queue.newest_for(cell) {
             Some(bytes) => Ok(Got::Now(bytes)),
-            None => Ok(Got::Later(self.wait(place, index, line, at))),
+            None => Ok(Got::Later(self.wait(line, place, cell, at))),
+        }
+    }
+
+    // Adds a read behind the others, which waits for its RD.
+    fn wait(&mut self, line: u64, place: Place, cell: u64, at: u64) -> Ticket
+        requires room { ¬ IsFullOfReads self.old }
+        requires lies { LiesIn self.old.checked.geometry place }
+        requires channel { place.channel ≡ self.old.channel }
+        requires cell { cell ≡ cell_in self.old place }
+        requires none { NoWriteNames cell self.old.writes }
+        requires few { length self.old.commands ≤ 2 ^ 63 }
+        ensures ticket { result ≡ record { channel = self.old.channel; serial = self.old.serial } }
+        ensures adds { AddsRead self.old place line at self.new }
+    {
+        let (serial, seq) = (self.serial, self.waiting.next());
+        self.waiting.push(place, cell, Kind::Read, at, false);
+        self.reads.push_reserved(OpenRead {
+            serial,
+            seq,
+            line,
+            cell,
+            at,
+            bytes: None,
+        });
+        self.serial += 1;
+        Ticket {
+            channel: self.channel,
+            serial,
         }
     }
 
     /// What there is for a ticket.
     pub(crate) fn collect(&mut self, ticket: Ticket) -> Collected
-        ensures { Collects self.old ticket result self.new }
+        ensures answers { AnswersCollect self.old ticket result self.new.tickets }
+        ensures rest { self.new ≡ record self.old { tickets = self.new.tickets } }
     {
         if ticket.channel != self.channel {
             return Collected::Unknown;
         }
-        let Some(place) = place_of_serial(&self.reads, ticket.serial) else {
+        let Some(index) = index_of_serial(&self.reads, ticket.serial) else {
             return Collected::Unknown;
         };
-        let read = self.reads[place];
+        let read = self.reads[index];
         match read.bytes {
             Some(bytes) => {
-                self.reads.remove(place);
+                self.reads.remove(index);
                 Collected::Data {
                     line: read.line,
                     bytes,
@@ -159,102 +282,101 @@ impl ChannelMemory {
         }
     }
 
-    /// Serves an eligible request: a write goes into the array, a read gets the bytes of its line there. The memory stays,
-    /// and an open read gets no other bytes than it was to have.
-    pub(crate) fn serve(&mut self, place: usize) -> Served
-        requires { (p : Pending) × IsEligible self.old.pending place p }
-        ensures serves { Serves self.old place result self.new }
-        ensures memory { memory_of self.new ≡ memory_of self.old }
-        ensures tickets { TellsTickets result (tickets_of self.old) (tickets_of self.new) }
+    /// Holds the writes from a number on, those that come later too; or none.
+    pub(crate) fn set_hold(&mut self, from: Option<u64>)
+        ensures { self.new ≡ with_hold self.old from }
     {
-        let request = self.pending[place];
+        self.waiting.hold(from);
+        self.hold = from;
+    }
+
+    /// A command goes, and serves the request at an index, whose RD or WR it is: a write goes into the array, a read gets
+    /// the bytes of its line there.
+    pub(crate) fn issue(&mut self, index: Option<usize>, command: Stamped) -> Option<Served>
+        requires { IfSome index (IsServable self.old.requests) }
+        ensures same { self.new ≡ after_command self.old command self.new }
+        ensures serves { ServesIndex index result self.old self.new }
+        ensures memory { channel_memory self.new ≡ channel_memory self.old }
+        ensures below { KeepsBelow self.old self.new }
+    {
+        match index {
+            Some(index) => Some(self.serve(index, command)),
+            None => {
+                self.issued.note(&command);
+                None
+            }
+        }
+    }
+
+    /// A single command goes: all reads are lost, and a WR takes the oldest write to the array, held or not.
+    pub(crate) fn issue_alone(&mut self, command: Stamped, phase: Phase)
+        requires oldest { FitsOldest self.old command.cmd }
+        requires single { phase ≢ Running }
+        requires asleep { (phase ≡ Asleep) ↔ AreAsleep self.old.checked (self.old.commands ++ command ∷ []) }
+        ensures issues { IssuesAlone self.old command self.new }
+        ensures memory { channel_memory self.new ≡ channel_memory self.old }
+    {
+        self.reads.clear();
+        self.waiting.keep_writes();
+        store_by(
+            command.cmd,
+            &mut self.array,
+            &mut self.queue,
+            &mut self.waiting,
+        );
+        self.issued.note(&command);
+        self.phase = phase;
+    }
+
+    // The command of an eligible request goes, and serves it.
+    fn serve(&mut self, index: usize, command: Stamped) -> Served
+        requires { IsServable self.old.requests index }
+        ensures same { self.new ≡ after_command self.old command self.new }
+        ensures serves { ServesAt self.old index result self.new }
+        ensures memory { channel_memory self.new ≡ channel_memory self.old }
+        ensures below { KeepsBelow self.old self.new }
+    {
+        let request = self.waiting.requests()[index];
         match request.kind {
             Kind::Write => {
-                self.serve_write(place, request);
+                self.serve_write(index, request, command);
                 Served::Write {
                     number: request.number,
                 }
             }
-            Kind::Read => {
-                self.serve_read(place, request);
-                Served::Read(Ticket {
-                    channel: self.channel,
-                    serial: request.number,
-                })
-            }
+            Kind::Read => Served::Read(self.serve_read(index, request, command)),
         }
     }
 
-    /// Serves the request of a turn, where that is its column command's.
-    pub(crate) fn serve_turn(&mut self, turn: Turn) -> Option<Served>
-        requires { (place : ℕ) → turn ≡ turns.Column place → (p : Pending) × IsEligible self.old.pending place p }
-        ensures served { ServedIn turn result self.old self.new }
-        ensures memory { memory_of self.new ≡ memory_of self.old }
-        ensures tickets { TellsOpen result (tickets_of self.old) (tickets_of self.new) }
-    {
-        match turn {
-            Turn::Column(place) => Some(self.serve(place)),
-            _ => None,
-        }
-    }
-
-    fn serve_write(&mut self, place: usize, request: Pending)
-        requires eligible { IsEligible self.old.pending place request }
+    fn serve_write(&mut self, index: usize, request: Pending, command: Stamped)
+        requires eligible { IsEligible self.old.requests index request }
         requires kind { request.kind ≡ kinds.Write }
-        ensures writes { Writes self.old place request self.new }
-        ensures memory { memory_of self.new ≡ memory_of self.old }
-        ensures tickets { tickets_of self.new ≡ tickets_of self.old }
+        requires order { AreInOrder self.old.requests }
+        ensures same { self.new ≡ after_command self.old command self.new }
+        ensures moves { MovesWrite self.old request request.number self.new }
+        ensures requests { self.new.requests ≡ remove self.old.requests index }
+        ensures memory { channel_memory self.new ≡ channel_memory self.old }
+        ensures below { KeepsBelow self.old self.new }
     {
-        take(&mut self.pending, place);
+        self.waiting.take(index);
         let bytes = take_write(&mut self.queue, request.number);
         self.array[request.line as usize] = bytes;
+        self.issued.note(&command);
     }
 
-    fn serve_read(&mut self, place: usize, request: Pending)
-        requires eligible { IsEligible self.old.pending place request }
+    fn serve_read(&mut self, index: usize, request: Pending, command: Stamped) -> Ticket
+        requires eligible { IsEligible self.old.requests index request }
         requires kind { request.kind ≡ kinds.Read }
-        ensures reads { Reads self.old place request self.new }
-        ensures memory { memory_of self.new ≡ memory_of self.old }
-        ensures tickets { IsAnswered request.number (tickets_of self.old) (tickets_of self.new) }
+        ensures same { self.new ≡ after_command self.old command self.new }
+        ensures answers { AnswersRead self.old request result self.new }
+        ensures requests { self.new.requests ≡ remove self.old.requests index }
+        ensures memory { channel_memory self.new ≡ channel_memory self.old }
+        ensures below { KeepsBelow self.old self.new }
     {
-        take(&mut self.pending, place);
+        self.waiting.take(index);
         let bytes = self.array[request.line as usize];
-        answer(&mut self.reads, request.number, bytes);
-    }
-
-    /// Holds the writes from a number on, those that come later too; or none.
-    pub(crate) fn set_hold(&mut self, from: Option<u64>)
-        ensures holds { HoldsBy self.old from self.new }
-        ensures memory { memory_of self.new ≡ memory_of self.old }
-        ensures tickets { tickets_of self.new ≡ tickets_of self.old }
-    {
-        hold(&mut self.pending, from);
-        self.hold = from;
-    }
-
-    // Adds a read behind the others, which waits for its RD.
-    fn wait(&mut self, place: Place, index: u64, line: u64, at: u64) -> Ticket
-        requires room { ¬ IsFullOfReads self.old }
-        requires place { LiesIn self.old.checked.geometry place }
-        requires at_place { place ≡ place_of self.old.checked.geometry line }
-        requires at_index { index ≡ cell_of self.old line }
-        requires within { index < cells_of self.old.checked.geometry }
-        requires none { NoneNames index self.old.queue.writes }
-        ensures ticket { result ≡ record { channel = self.old.channel; serial = self.old.serial } }
-        ensures asks { Asks self.old line at self.new }
-        ensures tickets { tickets_of self.new ≡ tickets_of self.old ++ record { serial = self.old.serial; line = line; at = at; bytes = line_in self.old line; answered = false } ∷ [] }
-        ensures memory { memory_of self.new ≡ memory_of self.old }
-    {
-        let serial = self.serial;
-        push(&mut self.pending, place, index, Kind::Read, serial, false);
-        self.reads.push_reserved(OpenRead {
-            serial,
-            line,
-            index,
-            at,
-            bytes: None,
-        });
-        self.serial += 1;
+        let serial = answer(&mut self.reads, request.seq, bytes);
+        self.issued.note(&command);
         Ticket {
             channel: self.channel,
             serial,
@@ -262,16 +384,14 @@ impl ChannelMemory {
     }
 }
 
-// Takes a write out that is there.
-fn take_write(queue: &mut Wpq, number: u64) -> Line
-    requires { (i : ℕ) × (w : PendingWrite) × (slice_get queue.old.writes i ≡ Some w) × (w.number ≡ number) }
-    ensures depth { queue.new.depth ≡ queue.old.depth }
-    ensures takes { Takes number queue.old.writes (Some result) queue.new.writes }
-    ensures size { length result ≡ 64 }
-    ensures queue { queues.IsQueue queue.new }
+// The number and the place of the first write among requests.
+fn oldest_write(requests: &[Pending]) -> Option<(u64, Place)>
+    ensures { result ≡ slice_get (filter_map placed_write requests.now) 0 }
 {
-    match queue.take(number) {
-        Some(bytes) => bytes,
-        None => [0; 64],
+    for p in requests {
+        if p.kind == Kind::Write {
+            return Some((p.number, p.place));
+        }
     }
+    None
 }

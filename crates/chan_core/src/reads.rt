@@ -1,6 +1,7 @@
 // Reads that were accepted and not collected yet.
-ghost use Rattle.std.specs.Prelude.{◌≡◌, vec_capacity};
-ghost use Rattle.chan_core.specs.Reads.{IsPlaceOf, Answers};
+ghost use Rattle.std.specs.Prelude.{◌≡◌, ℕ, Some, slice_get, vec_capacity};
+ghost use Rattle.chan_core.specs.declared.reads.OpenRead.{OpenRead};
+ghost use Rattle.chan_core.specs.Reads.{IsIndexOfSerial, AnswersSeq};
 
 use line_memory::Line;
 
@@ -8,11 +9,13 @@ use line_memory::Line;
 #[derive(Clone, Copy, Debug, PartialEq, Eq)]
 pub struct OpenRead {
     /// Its number among the reads of the channel that waited, from 0.
-    pub serial: u64,
+    pub serial: u128,
+    /// The seq of its request.
+    pub seq: u64,
     /// The line, as the host names it.
     pub line: u64,
-    /// The line's place in the array of the channel.
-    pub index: u64,
+    /// The line's cell in the channel.
+    pub cell: u64,
     /// How many writes were accepted before the read.
     pub at: u64,
     /// The line's bytes, once the RD was issued.
@@ -20,18 +23,21 @@ pub struct OpenRead {
 }
 
 /// Where the read of a serial stands.
-pub(crate) fn place_of_serial(reads: &[OpenRead], serial: u64) -> Option<usize>
-    ensures { IsPlaceOf serial reads.now result }
+pub(crate) fn index_of_serial(reads: &[OpenRead], serial: u128) -> Option<usize>
+    ensures { IsIndexOfSerial serial reads.now result }
 {
     reads.iter().position(|read| read.serial == serial)
 }
 
-/// Gives the read of a serial its bytes.
-pub(crate) fn answer(reads: &mut Vec<OpenRead>, serial: u64, bytes: Line)
-    ensures answers { Answers serial bytes reads.old.items reads.new.items }
+/// Gives the read that a request is for its bytes: its serial.
+pub(crate) fn answer(reads: &mut Vec<OpenRead>, seq: u64, bytes: Line) -> u128
+    requires { (i : ℕ) × (read : OpenRead) × (slice_get reads.old.items i ≡ Some read) × (read.seq ≡ seq) }
+    ensures answers { AnswersSeq seq bytes result reads.old.items reads.new.items }
     ensures capacity { vec_capacity reads.new ≡ vec_capacity reads.old }
 {
-    if let Some(place) = place_of_serial(reads, serial) {
-        reads[place].bytes = Some(bytes);
-    }
+    let Some(index) = reads.iter().position(|read| read.seq == seq) else {
+        unreachable!()
+    };
+    reads[index].bytes = Some(bytes);
+    reads[index].serial
 }

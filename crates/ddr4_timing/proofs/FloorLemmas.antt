@@ -5,8 +5,9 @@ use Rattle.std.proofs.lemmas.List.Sums.{fold_push}
 use Rattle.std.proofs.lemmas.Bool.Decides.{nat_tests}
 use Rattle.std.proofs.lemmas.List.Folds.{list_any-append}
 use Rattle.ddr4_timing.specs.declared.command.Command.{Command}
+use Rattle.ddr4_timing.specs.declared.place.BankAddress.{BankAddress}
 use Rattle.ddr4_timing.specs.declared.command.Command.TheVariants.{Act, Rd, Wr}
-use Rattle.ddr4_timing.specs.Gaps.{pair_gap, rcd_gap, ras_gap, rp_gap, rc_gap, rtp_gap, wr_gap, rrd_gap, ccd_gap, wtr_gap, rtw_gap, cs_gap, rfc_gap}
+use Rattle.ddr4_timing.specs.Gaps.{pair_gap}
 use Rattle.ddr4_timing.specs.declared.command.Stamped.{Stamped}
 use Rattle.ddr4_timing.specs.declared.timing.Timing.{Timing}
 use Rattle.ddr4_timing.specs.Command.{is_act_of, is_ref_of, is_sre_of}
@@ -24,9 +25,9 @@ pub floor_push : (t : Timing) (list : List Stamped) (x : Stamped) (b : Command) 
 unfolding floor
 floor_push t list x b = greatest_push (λ a. a.clock + most_gap t a.cmd b) list x
 
-pub open_row_push : (rank group bank : ℕ) (list : List Stamped) (x : Stamped) → open_row rank group bank (list ++ x ∷ []) ≡ row_after rank group bank (open_row rank group bank list) x.cmd
+pub open_row_push : (bank : BankAddress) (list : List Stamped) (x : Stamped) → open_row bank (list ++ x ∷ []) ≡ row_after bank (open_row bank list) x.cmd
 unfolding open_row
-open_row_push rank group bank list x = fold_push (λ row x. row_after rank group bank row x.cmd) None list x
+open_row_push bank list x = fold_push (λ row x. row_after bank row x.cmd) None list x
 
 -- The window for a test p and a value v.
 abbrev pub window_by : (Stamped → Bool) → (Stamped → ℕ) → ℕ → List Stamped → ℕ
@@ -93,7 +94,7 @@ pub ref_count_push : (rank : ℕ) (list : List Stamped) (x : Stamped) → ref_co
 unfolding ref_count
 ref_count_push rank list x = count_push (λ x. is_ref_of rank x.cmd) list x
 
-or_false : (b : Bool) → (b || false) ≡ b
+pub or_false : (b : Bool) → (b || false) ≡ b
 or_false true = refl
 or_false false = refl
 
@@ -102,14 +103,14 @@ unfolding is_asleep
 is_asleep_push rank list x = list_any-append (λ x. is_sre_of rank x.cmd) list (x ∷ []) ∙ ap (λ b. is_asleep rank list || b) (or_false _)
 
 -- no rule on two commands looks at a row or a column
-pub floor-Act : (t : Timing) (list : List Stamped) (rank group bank row : ℕ) → floor t list (Act rank group bank row) ≡ floor t list (Act rank group bank 0)
-unfolding floor most_gap pair_gap rcd_gap ras_gap rp_gap rc_gap rtp_gap wr_gap rrd_gap ccd_gap wtr_gap rtw_gap cs_gap rfc_gap
-floor-Act t list rank group bank row = refl
+pub floor-Act : (t : Timing) (list : List Stamped) (bank : BankAddress) (row : ℕ) → floor t list (Act bank row) ≡ floor t list (Act bank 0)
+unfolding floor most_gap pair_gap
+floor-Act t list bank row = refl
 
-pub floor-Rd : (t : Timing) (list : List Stamped) (rank group bank column : ℕ) → floor t list (Rd rank group bank column) ≡ floor t list (Rd rank group bank 0)
-unfolding floor most_gap pair_gap rcd_gap ras_gap rp_gap rc_gap rtp_gap wr_gap rrd_gap ccd_gap wtr_gap rtw_gap cs_gap rfc_gap
-floor-Rd t list rank group bank column = refl
+pub floor-Rd : (t : Timing) (list : List Stamped) (bank : BankAddress) (column : ℕ) → floor t list (Rd bank column) ≡ floor t list (Rd bank 0)
+unfolding floor most_gap pair_gap
+floor-Rd t list bank column = refl
 
-pub floor-Wr : (t : Timing) (list : List Stamped) (rank group bank column : ℕ) → floor t list (Wr rank group bank column) ≡ floor t list (Wr rank group bank 0)
-unfolding floor most_gap pair_gap rcd_gap ras_gap rp_gap rc_gap rtp_gap wr_gap rrd_gap ccd_gap wtr_gap rtw_gap cs_gap rfc_gap
-floor-Wr t list rank group bank column = refl
+pub floor-Wr : (t : Timing) (list : List Stamped) (bank : BankAddress) (column : ℕ) → floor t list (Wr bank column) ≡ floor t list (Wr bank 0)
+unfolding floor most_gap pair_gap
+floor-Wr t list bank column = refl

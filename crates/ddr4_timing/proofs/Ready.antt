@@ -14,51 +14,52 @@ use Rattle.ddr4_timing.specs.declared.timing.Checked.{Checked}
 use Rattle.ddr4_timing.specs.declared.fault.Fault.{Fault}
 use Rattle.ddr4_timing.specs.Command.{is_act, is_act_of, is_ref, rank_of}
 use Rattle.ddr4_timing.specs.Gaps.{gap, pair_gap, faw_gap}
-use Rattle.ddr4_timing.specs.Lawful.{ref_count, last_ref, KeepsGap, KeepsRows, KeepsRefresh, Obeys, Admits, Holds, IsLawful, IsFirstFault}
+use Rattle.ddr4_timing.specs.Lawful.{ref_count, last_ref, KeepsGap, KeepsRows, KeepsRefresh, ObeysRule, Admits, KeepsRule, IsLawful, IsLeastFault}
 use Rattle.ddr4_timing.specs.Floors.{greatest, floor, window, least_clock}
 use Rattle.ddr4_timing.specs.Gaps.{largest, most_gap}
+use Rattle.ddr4_timing.specs.Rules.{every_rule, number_of}
+use Rattle.ddr4_timing.specs.declared.rules.Rule.{Rule}
+use Rattle.ddr4_timing.specs.declared.rules.Rule.TheVariants.{Order, Rows, Faw, Refi}
+use Rattle.ddr4_timing.proofs.RuleOrder.{rule_at}
 
 -- the largest
 
-largest_above : (f : ℕ → ℕ) (n k : ℕ) → k < n → f k ≤ largest f n
-largest_above f zero k h = absurd (omega arith)
-largest_above f (suc n) k h =
-    elim (cases_lt k n) [
-      | inl l ↦ let e = largest_above f n k l in omega (arith, e)
-      | inr g ↦ let e : k ≡ n = omega arith in let s : f k ≡ f n = ap f e in omega (arith, s)
-    ]
+largest_above : (f : Rule → ℕ) (rules : List Rule) (i : ℕ) (rule : Rule) → slice_get rules i ≡ Some rule → f rule ≤ largest f rules
+largest_above f [] i rule s = absurd cc
+largest_above f (r ∷ rules) zero rule s = let e : f r ≡ f rule = ap f (same_Some r rule s) in omega (arith, e)
+largest_above f (r ∷ rules) (suc i) rule s = let e = largest_above f rules i rule s in omega (arith, e)
 
-largest_below : (f : ℕ → ℕ) (n d : ℕ) → ((k : ℕ) → k < n → f k ≤ d) → largest f n ≤ d
-largest_below f zero d h = omega arith
-largest_below f (suc n) d h =
-    let e = largest_below f n d (λ k l. h k (omega arith)) in
-    let s = h n (omega arith) in
-    omega (arith, e, s)
+largest_below : (f : Rule → ℕ) (rules : List Rule) (d : ℕ) → ((rule : Rule) → f rule ≤ d) → largest f rules ≤ d
+largest_below f [] d h = omega arith
+largest_below f (r ∷ rules) d h = let e = largest_below f rules d h in let s = h r in omega (arith, e, s)
 
-pair_gap_1 : (t : Timing) (a b : Command) → pair_gap t 1 a b ≡ 1
-unfolding pair_gap
-pair_gap_1 t a b = refl
-
-pair_gap_10 : (t : Timing) (a b : Command) → pair_gap t 10 a b ≡ 0
-unfolding pair_gap
-pair_gap_10 t a b = refl
-
-pair_gap-le : (t : Timing) (rule : ℕ) (a b : Command) → rule ≤ 16 → pair_gap t rule a b ≤ most_gap t a b
+pair_gap-le : (t : Timing) (rule : Rule) (a b : Command) → pair_gap t rule a b ≤ most_gap t a b
 unfolding most_gap
-pair_gap-le t rule a b h = largest_above (λ rule. pair_gap t rule a b) 17 rule (omega arith)
+pair_gap-le t rule a b = largest_above (λ r. pair_gap t r a b) every_rule (number_of rule - 1) rule (rule_at rule)
 
-most_gap-le : (t : Timing) (a b : Command) (d : ℕ) → ((rule : ℕ) → rule ≤ 16 → pair_gap t rule a b ≤ d) → most_gap t a b ≤ d
+most_gap-le : (t : Timing) (a b : Command) (d : ℕ) → ((rule : Rule) → pair_gap t rule a b ≤ d) → most_gap t a b ≤ d
 unfolding most_gap
-most_gap-le t a b d h = largest_below (λ rule. pair_gap t rule a b) 17 d (λ k l. h k (omega arith))
+most_gap-le t a b d h = largest_below (λ rule. pair_gap t rule a b) every_rule d h
+
+pair_gap_order : (t : Timing) (a b : Command) → pair_gap t Order a b ≡ 1
+unfolding pair_gap
+pair_gap_order t a b = refl
 
 most_gap_some : (t : Timing) (a b : Command) → 1 ≤ most_gap t a b
-most_gap_some t a b = let e = pair_gap-le t 1 a b (omega arith) in let s = pair_gap_1 t a b in omega (arith, e, s)
+most_gap_some t a b = let e = pair_gap-le t Order a b in rw (← pair_gap_order t a b) e
 
-gap-pair : (t : Timing) (rule : ℕ) (a : Command) (between : List Stamped) (b : Command) → (rule ≡ 10 → ⊥) → gap t rule a between b ≡ pair_gap t rule a b
+-- the window's rule aside, what stands between two commands asks for nothing
+gap_to_pair : (t : Timing) (rule : Rule) (a : Command) (between : List Stamped) (b : Command) (d : ℕ) → gap t rule a between b ≤ d → pair_gap t rule a b ≤ d
+unfolding gap pair_gap
+gap_to_pair t Faw a between b d h = omega arith
+gap_to_pair t rule a between b d h = h
+
+pair_to_gap : (t : Timing) (rule : Rule) (a : Command) (between : List Stamped) (b : Command) (d : ℕ) → pair_gap t rule a b ≤ d → faw_gap t a between b ≤ d → gap t rule a between b ≤ d
 unfolding gap
-gap-pair t rule a between b h = cond-false (eqb rule 10) _ _ (ne_eqb rule 10 h)
+pair_to_gap t Faw a between b d h w = w
+pair_to_gap t rule a between b d h w = h
 
-gap-faw : (t : Timing) (a : Command) (between : List Stamped) (b : Command) → gap t 10 a between b ≡ faw_gap t a between b
+gap-faw : (t : Timing) (a : Command) (between : List Stamped) (b : Command) → gap t Faw a between b ≡ faw_gap t a between b
 unfolding gap
 gap-faw t a between b = refl
 
@@ -86,17 +87,12 @@ greatest_below f (b ∷ list) d h =
 -- the floor and the window, against the rules on two commands
 
 abbrev pub KeepsGaps : Timing → List Stamped → Stamped → Type 0
-KeepsGaps t list x = (rule i : ℕ) → rule ≤ 16 → KeepsGap t list x rule i
+KeepsGaps t list x = (rule : Rule) (i : ℕ) → KeepsGap t list x rule i
 
 floor_from : (t : Timing) (list : List Stamped) (x : Stamped) → KeepsGaps t list x → floor t list x.cmd ≤ x.clock
 unfolding floor
 floor_from t list x h = greatest_below (λ a _. a.clock + most_gap t a.cmd x.cmd) list x.clock (λ i a s.
-    let each : (rule : ℕ) → rule ≤ 16 → pair_gap t rule a.cmd x.cmd ≤ x.clock - a.clock = λ rule q.
-    elim (cases_eq rule 10) [
-      | inl e ↦ rw e (rw pair_gap_10 (omega arith))
-      | inr n ↦ rw (← gap-pair t rule a.cmd (drop (i + 1) list) x.cmd n) (h rule i q a s)
-    ] in
-    let most = most_gap-le t a.cmd x.cmd (x.clock - a.clock) each in
+    let most = most_gap-le t a.cmd x.cmd (x.clock - a.clock) (λ rule. gap_to_pair t rule a.cmd (drop (i + 1) list) x.cmd (x.clock - a.clock) (h rule i a s)) in
     let some = most_gap_some t a.cmd x.cmd in
     omega (arith, most, some))
 
@@ -121,23 +117,24 @@ window_from : (t : Timing) (list : List Stamped) (x : Stamped) → 1 ≤ t.t_faw
 unfolding window
 window_from t list x l h e = greatest_below (λ a later. cond (is_act_of (rank_of x.cmd) a.cmd && eqb (count_by (λ x'. is_act_of (rank_of x.cmd) x'.cmd) later) 3) (a.clock + t.t_faw) 0) list x.clock (λ i a s.
     let k = gap-faw t a.cmd (drop (i + 1) list) x.cmd ∙ faw_gap-act t a.cmd (drop (i + 1) list) x.cmd e in
-    demand_from _ a.clock t.t_faw x.clock l (rw (← k) (h 10 i (omega arith) a s)))
+    demand_from _ a.clock t.t_faw x.clock l (rw (← k) (h Faw i a s)))
 
 pub gaps_from : (t : Timing) (list : List Stamped) (x : Stamped) → floor t list x.cmd ≤ x.clock → (is_act x.cmd ≡ true → window t (rank_of x.cmd) 3 list ≤ x.clock) → KeepsGaps t list x
 unfolding floor window
-gaps_from t list x h w rule i q a s =
-    elim (cases_eq rule 10) [
-      | inl e ↦ rw (e, gap-faw) (elim (cases_Bool (is_act x.cmd)) [
-        | inl acts ↦
-            let g = greatest_above (λ a later. cond (is_act_of (rank_of x.cmd) a.cmd && eqb (count_by (λ x'. is_act_of (rank_of x.cmd) x'.cmd) later) 3) (a.clock + t.t_faw) 0) list i a s in
-            rw (faw_gap-act t a.cmd (drop (i + 1) list) x.cmd acts) (demand_to _ a.clock t.t_faw x.clock (let v = w acts in omega (arith, g, v)))
-        | inr rests ↦ rw (faw_gap-other t a.cmd (drop (i + 1) list) x.cmd rests) (omega arith)
-      ])
-      | inr n ↦
-          let g = greatest_above (λ a _. a.clock + most_gap t a.cmd x.cmd) list i a s in
-          let p = pair_gap-le t rule a.cmd x.cmd q in
-          rw (gap-pair t rule a.cmd (drop (i + 1) list) x.cmd n) (omega (arith, g, p))
-    ]
+gaps_from t list x h w rule i a s =
+    let between = drop (i + 1) list in
+    let pair =
+    let g = greatest_above (λ a _. a.clock + most_gap t a.cmd x.cmd) list i a s in
+    let p = pair_gap-le t rule a.cmd x.cmd in
+    let e : pair_gap t rule a.cmd x.cmd ≤ x.clock - a.clock = omega (arith, h, g, p) in
+    e in
+    let faw : faw_gap t a.cmd between x.cmd ≤ x.clock - a.clock = elim (cases_Bool (is_act x.cmd)) [
+      | inl acts ↦
+          let g = greatest_above (λ a later. cond (is_act_of (rank_of x.cmd) a.cmd && eqb (count_by (λ x'. is_act_of (rank_of x.cmd) x'.cmd) later) 3) (a.clock + t.t_faw) 0) list i a s in
+          rw (faw_gap-act t a.cmd between x.cmd acts) (demand_to _ a.clock t.t_faw x.clock (let v = w acts in omega (arith, g, v)))
+      | inr rests ↦ rw (faw_gap-other t a.cmd between x.cmd rests) (omega arith)
+    ] in
+    pair_to_gap t rule a.cmd between x.cmd (x.clock - a.clock) pair faw
 
 -- one more command
 
@@ -151,21 +148,21 @@ slice_get_end [] y = refl
 slice_get_end (x ∷ xs) y = slice_get_end xs y
 
 pub admits_from : (c : Checked) (list : List Stamped) (x : Stamped) → IsLawful c (list ++ x ∷ []) → Admits c list x
-admits_from c list x h rule first q =
-    subst (λ (before : List Stamped). Obeys c before x rule first) (take-append_seam list (x ∷ [])) (h first (length list) rule q x (slice_get_end list x))
+admits_from c list x h rule first =
+    subst (λ (before : List Stamped). ObeysRule c before x rule first) (take-append_seam list (x ∷ [])) (h rule first (length list) x (slice_get_end list x))
 
 pub lawful_from : (c : Checked) (list : List Stamped) (x : Stamped) → IsLawful c list → Admits c list x → IsLawful c (list ++ x ∷ [])
-lawful_from c list x h a first second rule q y s =
+lawful_from c list x h a rule first second y s =
     elim (cases_lt second (length list)) [
       | inl l ↦
-          subst (λ (before : List Stamped). Obeys c before y rule first) (sym (take-append-le second list (x ∷ []) (omega arith)))
-          (h first second rule q y (sym (slice_get_front list x second l) ∙ s))
+          subst (λ (before : List Stamped). ObeysRule c before y rule first) (sym (take-append-le second list (x ∷ []) (omega arith)))
+          (h rule first second y (sym (slice_get_front list x second l) ∙ s))
       | inr g ↦
           let within = slice_get_within (list ++ x ∷ []) second y s in
           let e : second ≡ length list = grind (arith, length_push) in
           let same : x ≡ y = same_Some x y (sym (slice_get_end list x) ∙ ap (λ k. slice_get (list ++ x ∷ []) k) (sym e) ∙ s) in
-          subst (λ (z : Stamped). Obeys c (take second (list ++ x ∷ [])) z rule first) same
-          (subst (λ (before : List Stamped). Obeys c before x rule first) (sym (ap (λ k. take k (list ++ x ∷ [])) e ∙ take-append_seam list (x ∷ []))) (a rule first q))
+          subst (λ (z : Stamped). ObeysRule c (take second (list ++ x ∷ [])) z rule first) same
+          (subst (λ (before : List Stamped). ObeysRule c before x rule first) (sym (ap (λ k. take k (list ++ x ∷ [])) e ∙ take-append_seam list (x ∷ []))) (a rule first))
     ]
 
 -- the whole
@@ -187,21 +184,21 @@ pub record IsReady (c : Checked) (list : List Stamped) (x : Stamped) : Type 0 wh
 ready_from_admits : (c : Checked) (list : List Stamped) (x : Stamped) → Admits c list x → IsReady c list x
 unfolding least_clock
 ready_from_admits c list x h =
-    let gaps : KeepsGaps c.timing list x = λ rule i q. (h rule i q).pair in
-    let refresh : KeepsRefresh c.timing list x = (h 16 (length list) (omega arith)).refresh refl refl in
+    let gaps : KeepsGaps c.timing list x = λ rule i. (h rule i).pair in
+    let refresh : KeepsRefresh c.timing list x = (h Refi (length list)).refresh refl refl in
     let floor = floor_from c.timing list x gaps in
     let acts = cond_below (is_act x.cmd) (window c.timing (rank_of x.cmd) 3 list) x.clock (window_from c.timing list x c.in_limits.t_faw.0 gaps) in
     let refs = cond_below (is_ref x.cmd) ((ref_count (rank_of x.cmd) list + 1) * c.timing.t_refi) x.clock refresh.not_early in
     record {
-      rows = (h 2 (length list) (omega arith)).rows refl refl;
+      rows = (h Rows (length list)).rows refl refl;
       clock = omega (arith, floor, acts, refs);
       in_time = omega (arith, refresh.in_time);
     }
 
 admits_from_ready : (c : Checked) (list : List Stamped) (x : Stamped) → IsReady c list x → Admits c list x
 unfolding least_clock
-admits_from_ready c list x r rule first q = record {
-  pair = gaps_from c.timing list x (omega (arith, r.clock)) (below_cond (is_act x.cmd) (window c.timing (rank_of x.cmd) 3 list) x.clock (omega (arith, r.clock))) rule first q;
+admits_from_ready c list x r rule first = record {
+  pair = gaps_from c.timing list x (omega (arith, r.clock)) (below_cond (is_act x.cmd) (window c.timing (rank_of x.cmd) 3 list) x.clock (omega (arith, r.clock))) rule first;
   rows = λ _ _. r.rows;
   refresh = λ _ _. record {
     in_time = omega (arith, r.in_time);
@@ -217,7 +214,7 @@ pub ready_lawful : (c : Checked) (list : List Stamped) (x : Stamped) → IsLawfu
 ready_lawful c list x h = ready_from_admits c list x (admits_from c list x h)
 
 pub refresh_lawful : (c : Checked) (list : List Stamped) (x : Stamped) → IsLawful c (list ++ x ∷ []) → KeepsRefresh c.timing list x
-refresh_lawful c list x h = (admits_from c list x h 16 (length list) (omega arith)).refresh refl refl
+refresh_lawful c list x h = (admits_from c list x h Refi (length list)).refresh refl refl
 
 pub not_of_iff : (b : Bool) (P : Type 0) → (IsTrue b ↔ P) → (IsTrue (not b) ↔ (¬ P))
 not_of_iff true P h = (λ e. absurd cc, λ n. absurd (n (h.0 refl)))
@@ -242,10 +239,10 @@ take_take (x ∷ xs) (suc n) zero h = refl
 take_take (x ∷ xs) (suc n) (suc j) h = ap (λ ys. x ∷ ys) (take_take xs n j (omega arith))
 
 pub IsLawful-take : (c : Checked) (list : List Stamped) (n : ℕ) → IsLawful c list → IsLawful c (take n list)
-IsLawful-take c list n h first second rule q x s =
+IsLawful-take c list n h rule first second x s =
     let within = slice_get_within (take n list) second x s in
     let small : length (take n list) ≤ n = grind (arith, common_steps) in
-    subst (λ (before : List Stamped). Obeys c before x rule first) (sym (take_take list n second (omega (arith, within, small)))) (h first second rule q x (slice_get_from_take list n second x s))
+    subst (λ (before : List Stamped). ObeysRule c before x rule first) (sym (take_take list n second (omega (arith, within, small)))) (h rule first second x (slice_get_from_take list n second x s))
 
 -- where the front of a list is lawful, every rule holds of its places in the list
 slice_get_to_take : (xs : List Stamped) (n j : ℕ) (y : Stamped) → j < n → slice_get xs j ≡ Some y → slice_get (take n xs) j ≡ Some y
@@ -254,23 +251,23 @@ slice_get_to_take (x ∷ xs) zero j y h s = absurd (omega arith)
 slice_get_to_take (x ∷ xs) (suc n) zero y h s = s
 slice_get_to_take (x ∷ xs) (suc n) (suc j) y h s = slice_get_to_take xs n j y (omega arith) s
 
-pub Holds-front : (c : Checked) (list : List Stamped) (n : ℕ) → IsLawful c (take n list) → (first second rule : ℕ) → second < n → rule ≤ 16 → Holds c list first second rule
-Holds-front c list n h first second rule l q x s =
-    subst (λ (before : List Stamped). Obeys c before x rule first) (take_take list n second (omega arith)) (h first second rule q x (slice_get_to_take list n second x l s))
+pub KeepsRule-front : (c : Checked) (list : List Stamped) (n : ℕ) → IsLawful c (take n list) → (rule : Rule) (first second : ℕ) → second < n → KeepsRule c list rule first second
+KeepsRule-front c list n h rule first second l x s =
+    subst (λ (before : List Stamped). ObeysRule c before x rule first) (take_take list n second (omega arith)) (h rule first second x (slice_get_to_take list n second x l s))
 
-pub IsLawful-front : (c : Checked) (list : List Stamped) (n : ℕ) → ((first second rule : ℕ) → second < n → rule ≤ 16 → Holds c list first second rule) → IsLawful c (take n list)
-IsLawful-front c list n h first second rule q x s =
+pub IsLawful-front : (c : Checked) (list : List Stamped) (n : ℕ) → ((rule : Rule) (first second : ℕ) → second < n → KeepsRule c list rule first second) → IsLawful c (take n list)
+IsLawful-front c list n h rule first second x s =
     let within = slice_get_within (take n list) second x s in
     let small : length (take n list) ≤ n = grind (arith, common_steps) in
-    subst (λ (before : List Stamped). Obeys c before x rule first) (sym (take_take list n second (omega (arith, within, small)))) (h first second rule (omega (arith, within, small)) q x (slice_get_from_take list n second x s))
+    subst (λ (before : List Stamped). ObeysRule c before x rule first) (sym (take_take list n second (omega (arith, within, small)))) (h rule first second (omega (arith, within, small)) x (slice_get_from_take list n second x s))
 
 -- the first fault of a list stands where its lawful front ends
-pub fault_place : (c : Checked) (list : List Stamped) (i : ℕ) (f : Fault) → IsLawful c (take i list) → (IsLawful c (take (i + 1) list) → ⊥) → IsFirstFault c list f → f.second ≡ i
-fault_place c list i f l n r =
+pub fault_index : (c : Checked) (list : List Stamped) (i : ℕ) (f : Fault) → IsLawful c (take i list) → (IsLawful c (take (i + 1) list) → ⊥) → IsLeastFault c list f → f.second ≡ i
+fault_index c list i f l n r =
     elim (cases_lt f.second i) [
-      | inl below ↦ absurd (r.broken (Holds-front c list i l f.first f.second f.rule below r.rule))
+      | inl below ↦ absurd (r.broken (KeepsRule-front c list i l f.rule f.first f.second below))
       | inr above ↦ elim (cases_lt i f.second) [
-        | inl over ↦ absurd (n (IsLawful-front c list (i + 1) (λ first second rule s q. r.first first second rule q (omega arith, λ e. absurd (omega arith)))))
+        | inl over ↦ absurd (n (IsLawful-front c list (i + 1) (λ rule first second s. r.first rule first second (omega arith, λ e. absurd (omega arith)))))
         | inr under ↦ omega arith
       ]
     ]

@@ -1,32 +1,31 @@
 -- Which lists of commands a `Machine` stands for.
-use Rattle.std.specs.Prelude.{◌≡◌, ℕ, ◌+◌, ◌*◌, ◌<◌, List, [], ◌∷◌, ◌++◌, slice_index_or}
+use Rattle.std.specs.Prelude.{◌≡◌, ℕ, ◌+◌, ◌*◌, ◌<◌, ◌||◌, max, List, length, slice_index_or}
+use Rattle.ddr4_timing.specs.declared.place.BankAddress.{BankAddress}
 use Rattle.ddr4_timing.specs.declared.command.Command.{Command}
 use Rattle.ddr4_timing.specs.declared.command.Command.TheVariants.{Act, Rd, Wr, Pre, PreAll, Ref, Sre}
 use Rattle.ddr4_timing.specs.declared.command.Stamped.{Stamped}
-use Rattle.ddr4_timing.specs.declared.timing.Checked.{Checked}
-use Rattle.ddr4_timing.specs.Lawful.{open_row, last_ref, ref_count, is_asleep, IsLawful, KeepsRefresh}
-use Rattle.ddr4_timing.specs.declared.cells.BankState.{BankState}
-use Rattle.ddr4_timing.specs.declared.cells.RankState.{RankState}
-use Rattle.ddr4_timing.specs.declared.cells.Window.{Window}
-use Rattle.ddr4_timing.specs.declared.cells.Refresh.{Refresh}
 use Rattle.ddr4_timing.specs.declared.timing.Timing.{Timing}
+use Rattle.ddr4_timing.specs.declared.timing.Checked.{Checked}
+use Rattle.ddr4_timing.specs.declared.cells.BankCells.{BankCells}
+use Rattle.ddr4_timing.specs.declared.rank.RankState.{RankState}
+use Rattle.ddr4_timing.specs.declared.rank.Window.{Window}
+use Rattle.ddr4_timing.specs.declared.rank.Refresh.{Refresh}
 use Rattle.ddr4_timing.specs.declared.machine.Machine.{Machine}
+use Rattle.ddr4_timing.specs.Command.{is_sre, rank_of}
+use Rattle.ddr4_timing.specs.Demands.{Demand, beyond_rank, demand_of, in_bank, in_groups}
 use Rattle.ddr4_timing.specs.Floors.{floor, window}
+use Rattle.ddr4_timing.specs.Lawful.{row_after, open_row, last_ref, ref_count, is_asleep, with_command, IsLawful, KeepsRefresh}
+use Rattle.ddr4_timing.specs.Places.{HasBank, HasSlot, slot_of}
+use Rattle.ddr4_timing.specs.Rows.{row_in}
 
--- a bank's row, and the least clock of each command to it
-pub record BankStands (c : Checked) (list : List Stamped) (b : BankState) : Type 0 where
-  pub open_row : b.open_row ≡ open_row b.rank b.group b.bank list
-  pub act : b.act ≡ floor c.timing list (Act b.rank b.group b.bank 0)
-  pub rd : b.rd ≡ floor c.timing list (Rd b.rank b.group b.bank 0)
-  pub wr : b.wr ≡ floor c.timing list (Wr b.rank b.group b.bank 0)
-  pub pre : b.pre ≡ floor c.timing list (Pre b.rank b.group b.bank)
-
--- the state is that of this bank
-pub record StandsIn (c : Checked) (list : List Stamped) (rank group bank : ℕ) (b : BankState) : Type 0 where
-  pub same_rank : b.rank ≡ rank
-  pub same_group : b.group ≡ group
-  pub same_bank : b.bank ≡ bank
-  pub stands : BankStands c list b
+-- The least clock of each command to a bank is the greatest of these: of its bank's, its group's, its rank's and the
+-- channel's. `next` is one past the last command, `write` is behind each RD, `column` behind each RD and WR of another rank.
+pub record BankStands (t : Timing) (list : List Stamped) (next write column : ℕ) (at : BankAddress) (r : RankState) (b : BankCells) (group_act group_rd group_wr : ℕ) : Type 0 where
+  pub row : row_in r.rows at ≡ open_row at list
+  pub act : max next (max b.act (max group_act r.act)) ≡ floor t list (Act at 0)
+  pub rd : max next (max column (max b.column group_rd)) ≡ floor t list (Rd at 0)
+  pub wr : max next (max column (max write (max b.column group_wr))) ≡ floor t list (Wr at 0)
+  pub pre : max next b.pre ≡ floor t list (Pre at)
 
 -- tFAW after each of a rank's last four ACT
 pub record WindowStands (t : Timing) (rank : ℕ) (list : List Stamped) (w : Window) : Type 0 where
@@ -40,46 +39,72 @@ pub record RefreshStands (t : Timing) (rank : ℕ) (list : List Stamped) (r : Re
   pub next : r.next ≡ (ref_count rank list + 1) * t.t_refi
   pub deadline : r.deadline ≡ last_ref rank list + 9 * t.t_refi
 
--- a rank's windows, refreshes and sleep, and the least clock of each command to it
-pub record RankStands (c : Checked) (list : List Stamped) (r : RankState) : Type 0 where
-  pub pre_all : r.pre_all ≡ floor c.timing list (PreAll r.rank)
-  pub ref_all : r.ref_all ≡ floor c.timing list (Ref r.rank)
-  pub sre : r.sre ≡ floor c.timing list (Sre r.rank)
-  pub windows : WindowStands c.timing r.rank list r.window
-  pub refreshes : RefreshStands c.timing r.rank list r.refresh
-  pub asleep : r.is_asleep ≡ is_asleep r.rank list
+-- a rank's banks, windows, refreshes and sleep, and the least clock of each command to it
+pub record RankStands (c : Checked) (list : List Stamped) (next write column rank : ℕ) (r : RankState) : Type 0 where
+  pub banks : (at : BankAddress) (bank : BankCells) (none : ℕ) → HasBank c.geometry at → at.rank ≡ rank →
+      BankStands c.timing list next write column at r (slice_index_or r.banks (slot_of at) bank)
+      (slice_index_or r.group_act at.group none) (slice_index_or r.group_rd at.group none) (slice_index_or r.group_wr at.group none)
+  pub pre_all : max next r.pre_all ≡ floor c.timing list (PreAll rank)
+  pub refresh : max next r.idle ≡ floor c.timing list (Ref rank)
+  pub sleep : max next r.idle ≡ floor c.timing list (Sre rank)
+  pub windows : WindowStands c.timing rank list r.window
+  pub refreshes : RefreshStands c.timing rank list r.refresh
+  pub asleep : r.is_asleep ≡ is_asleep rank list
 
--- the state is that of this rank
-pub record StandsInRank (c : Checked) (list : List Stamped) (rank : ℕ) (r : RankState) : Type 0 where
-  pub same_rank : r.rank ≡ rank
-  pub stands : RankStands c list r
-
--- The list is lawful, and the clocks and rows are those that it leaves. The bank at rank, group and bank has place rank * 16 + group * 4 + bank.
+-- The list is lawful, and the clocks and rows are those that it leaves.
 pub record StandsFor (c : Checked) (m : Machine) (list : List Stamped) : Type 0 where
   pub lawful : IsLawful c list
-  pub banks : (rank group bank : ℕ) (none : BankState) → rank < c.geometry.ranks → group < c.geometry.groups → bank < c.geometry.banks →
-      StandsIn c list rank group bank (slice_index_or m.banks (rank * 16 + group * 4 + bank) none)
-  pub ranks : (rank : ℕ) (none : RankState) → rank < c.geometry.ranks → StandsInRank c list rank (slice_index_or m.ranks rank none)
+  pub ranks : (rank column : ℕ) (none : RankState) → rank < c.geometry.ranks →
+      RankStands c list m.next m.write (slice_index_or m.columns rank column) rank (slice_index_or m.ranks rank none)
 
--- the list with one more command
-abbrev pub with_command : List Stamped → ℕ → Command → List Stamped
-with_command list clock cmd = list ++ record { clock = clock; cmd = cmd } ∷ []
+-- A least clock rises to what a gap leaves behind a clock, as far as that lies past the clock.
+abbrev pub Rises : ℕ → ℕ → ℕ → ℕ → Type 0
+Rises clock gap old new = max (clock + 1) new ≡ max (clock + 1) (max old (clock + gap))
 
--- new is the bank old after one more command, where it lies in the geometry
-pub record BankFollows (c : Checked) (clock : ℕ) (cmd : Command) (old new : BankState) : Type 0 where
-  pub rank : new.rank ≡ old.rank
-  pub group : new.group ≡ old.group
-  pub bank : new.bank ≡ old.bank
-  pub stands : (list : List Stamped) → old.rank < c.geometry.ranks → old.group < c.geometry.groups → BankStands c list old → BankStands c (with_command list clock cmd) new
+pub record BankRises (clock : ℕ) (x : Command) (at : BankAddress) (to_act to_column to_pre : ℕ) (old new : BankCells) : Type 0 where
+  pub act : Rises clock (in_bank x at to_act) old.act new.act
+  pub column : Rises clock (in_bank x at to_column) old.column new.column
+  pub pre : Rises clock (in_bank x at to_pre) old.pre new.pre
 
--- new is the rank old after one more command, which keeps the rule on refreshes
-pub record RankFollows (c : Checked) (clock : ℕ) (cmd : Command) (old new : RankState) : Type 0 where
-  pub rank : new.rank ≡ old.rank
-  pub stands : (list : List Stamped) → RankStands c list old → KeepsRefresh c.timing list (record { clock = clock; cmd = cmd }) → RankStands c (with_command list clock cmd) new
+-- the cells of the banks of a command's rank, by the gaps to the commands of its bank
+abbrev pub BanksRise : ℕ → Command → ℕ → ℕ → ℕ → List BankCells → List BankCells → Type 0
+BanksRise clock x to_act to_column to_pre old new =
+    (at : BankAddress) (none : BankCells) → HasSlot at → at.rank ≡ rank_of x →
+    BankRises clock x at to_act to_column to_pre (slice_index_or old (slot_of at) none) (slice_index_or new (slot_of at) none)
 
--- a bank of this place before any command
-pub record IsNewBank (place : ℕ) (b : BankState) : Type 0 where
-  pub at_place : b.rank * 16 + b.group * 4 + b.bank ≡ place
-  pub group : b.group < 4
-  pub bank : b.bank < 4
-  pub stands : (c : Checked) → BankStands c [] b
+-- the cells of the groups of a command's rank, by the gaps to the commands of its group and of the others
+abbrev pub GroupsRise : ℕ → Command → ℕ → ℕ → List ℕ → List ℕ → Type 0
+GroupsRise clock x near far old new =
+    (at : BankAddress) (none : ℕ) → HasSlot at → at.rank ≡ rank_of x →
+    Rises clock (in_groups x at near far) (slice_index_or old at.group none) (slice_index_or new at.group none)
+
+-- the cells of a rank, behind a command of it
+pub record CellsRise (clock : ℕ) (x : Command) (d : Demand) (old new : RankState) : Type 0 where
+  pub banks : BanksRise clock x d.bank_act d.bank_column d.bank_pre old.banks new.banks
+  pub group_act : GroupsRise clock x d.near_act d.far_act old.group_act new.group_act
+  pub group_rd : GroupsRise clock x d.near_rd d.far_rd old.group_rd new.group_rd
+  pub group_wr : GroupsRise clock x d.near_wr d.far_wr old.group_wr new.group_wr
+  pub act : Rises clock d.rank_act old.act new.act
+  pub pre_all : Rises clock d.rank_pre_all old.pre_all new.pre_all
+  pub idle : Rises clock d.rank_idle old.idle new.idle
+
+-- a rank's windows, refreshes and sleep, behind a command of it
+pub record HistoryFollows (t : Timing) (clock : ℕ) (x : Command) (old new : RankState) : Type 0 where
+  pub windows : (list : List Stamped) → WindowStands t (rank_of x) list old.window → WindowStands t (rank_of x) (with_command list clock x) new.window
+  pub refreshes : (list : List Stamped) → RefreshStands t (rank_of x) list old.refresh → KeepsRefresh t list (record { clock = clock; cmd = x }) →
+      RefreshStands t (rank_of x) (with_command list clock x) new.refresh
+  pub asleep : new.is_asleep ≡ (old.is_asleep || is_sre x)
+
+-- new is the rank old after a command of it
+pub record RankTakes (t : Timing) (clock : ℕ) (x : Command) (old new : RankState) : Type 0 where
+  pub rows : (at : BankAddress) → HasSlot at → at.rank ≡ rank_of x → row_in new.rows at ≡ row_after at (row_in old.rows at) x
+  pub cells : CellsRise clock x (demand_of t x) old new
+  pub history : HistoryFollows t clock x old new
+
+-- what all ranks share, after a command
+pub record ChannelTakes (t : Timing) (clock : ℕ) (x : Command) (old new : Machine) : Type 0 where
+  pub ranks : new.ranks ≡ old.ranks
+  pub next : new.next ≡ max old.next (clock + 1)
+  pub write : Rises clock (demand_of t x).write old.write new.write
+  pub columns : (rank none : ℕ) → rank < length old.columns →
+      Rises clock (beyond_rank x rank (demand_of t x).beyond) (slice_index_or old.columns rank none) (slice_index_or new.columns rank none)

@@ -1,28 +1,32 @@
 // What a list of commands leaves to the next one, in a constant size.
-ghost use Rattle.std.specs.Prelude.{◌≡◌, ℕ, ◌+◌, ◌*◌, ◌<◌, ◌≤◌, ◌^◌, ◌↔◌, List, [], IsTrue, slice_index_or, length};
-ghost use Rattle.ddr4_timing.specs.Machine.{BankFollows, RankFollows, IsNewBank, StandsInRank};
-ghost use Rattle.ddr4_timing.specs.declared.cells.BankState.{BankState};
-ghost use Rattle.ddr4_timing.specs.declared.cells.RankState.{RankState};
-ghost use Rattle.ddr4_timing.specs.Lawful.{AllClosed, IsInGeometry, FitsRows, KeepsRows, IsLawful, open_row, last_ref, ref_count};
+ghost use Rattle.std.specs.Prelude.{◌≡◌, ℕ, ◌+◌, ◌≢◌, ◌<◌, ◌≤◌, ◌==◌, ◌^◌, ◌↔◌, max, List, [], IsTrue, if◌then◌else◌, slice_index_or, length};
+ghost use Rattle.ddr4_timing.specs.declared.rank.RankState.{RankState};
+ghost use Rattle.ddr4_timing.specs.Lawful.{AllClosed, IsInGeometry, FitsRows, KeepsRows, IsLawful, open_row, with_command};
 ghost use Rattle.ddr4_timing.specs.Command.{rank_of};
+ghost use Rattle.ddr4_timing.specs.Places.{HasBank};
 ghost use Rattle.ddr4_timing.specs.declared.command.Stamped.{Stamped};
 
-use crate::cells::{BankState, RankState};
+use crate::cells::{raise, raise_all};
 use crate::command::Command;
 use crate::fault::is_in_geometry;
-use crate::timing::Checked;
+use crate::place::BankAddress;
+use crate::rank::RankState;
+use crate::timing::{Checked, Timing};
 
 /// What is open, and the least clock of each kind of command to each bank and rank.
 ///
 /// Each call is given the profile for which the machine was made.
 #[derive(Clone, Copy, Debug)]
 pub struct Machine {
-    banks: [BankState; 64],
     ranks: [RankState; 4],
+    columns: [u64; 4],
+    next: u64,
+    write: u64,
 }
 
 impl Machine {
-    ghost use Rattle.ddr4_timing.specs.Machine.{StandsFor, StandsIn, with_command};
+    ghost use Rattle.ddr4_timing.specs.Limits.{AreInLimits};
+    ghost use Rattle.ddr4_timing.specs.Machine.{ChannelTakes, RankStands, StandsFor};
     ghost use Rattle.ddr4_timing.specs.Floors.{floor, least_clock};
 
     /// Before any command.
@@ -30,52 +34,67 @@ impl Machine {
         ensures { StandsFor checked.now result [] }
     {
         Machine {
-            banks: new_banks(),
-            ranks: new_ranks(checked),
+            ranks: [RankState::new(checked); 4],
+            columns: [0; 4],
+            next: 0,
+            write: 0,
         }
     }
 
-    /// The command goes at the clock. Takes one maximum for each bank of the geometry and kind.
+    /// The command goes at the clock. Takes a number of steps that doesn't grow with the banks.
     pub fn issue(&mut self, checked: &Checked, cmd: &Command, clock: u64)
-        requires { clock < 2 ^ 63 }
+        requires early { clock < 2 ^ 63 }
+        requires place { IsInGeometry checked.now.geometry cmd.now }
         ensures { (list : List Stamped) → StandsFor checked.now self.old list → IsLawful checked.now (with_command list clock cmd.now)
             → StandsFor checked.now self.new (with_command list clock cmd.now) }
     {
-        step_banks(&mut self.banks, checked, cmd, clock);
-        step_ranks(&mut self.ranks, checked, cmd, clock);
+        let rank = cmd.rank();
+        self.ranks[rank as usize].take(checked, cmd, clock);
+        self.share(&checked.timing, cmd, rank, clock);
     }
 
-    /// What is kept of a bank.
-    pub fn bank(&self, checked: &Checked, rank: u64, group: u64, bank: u64) -> BankState
-        requires rank { rank < checked.now.geometry.ranks }
-        requires group { group < checked.now.geometry.groups }
-        requires bank { bank < checked.now.geometry.banks }
-        ensures { (list : List Stamped) → StandsFor checked.now self.now list → StandsIn checked.now list rank group bank result }
+    /// What all ranks share after a command: its clock, and what a RD or WR leaves to those of other ranks.
+    fn share(&mut self, t: &Timing, cmd: &Command, rank: u64, clock: u64)
+        requires early { clock < 2 ^ 63 }
+        requires limits { AreInLimits t.now }
+        requires rank { rank ≡ rank_of cmd.now }
+        ensures { ChannelTakes t.now clock cmd.now self.old self.new }
     {
-        self.banks[(rank * 16 + group * 4 + bank) as usize]
+        raise(&mut self.next, clock + 1);
+        match *cmd {
+            Command::Rd { .. } => {
+                raise_all(&mut self.columns, rank, 0, clock + (4 + t.t_cs));
+                raise(&mut self.write, clock + t.t_rtw);
+            }
+            Command::Wr { .. } => raise_all(&mut self.columns, rank, 0, clock + (4 + t.t_cs)),
+            _ => {}
+        }
     }
 
     /// What is kept of a rank.
-    pub fn rank(&self, checked: &Checked, rank: u64) -> RankState
+    pub fn rank(&self, checked: &Checked, rank: u64) -> &RankState
         requires { rank < checked.now.geometry.ranks }
-        ensures { (list : List Stamped) → StandsFor checked.now self.now list → StandsInRank checked.now list rank result }
+        ensures { (list : List Stamped) (column : ℕ) → StandsFor checked.now self.now list
+            → RankStands checked.now list self.now.next self.now.write (slice_index_or self.now.columns rank column) rank result.now }
     {
-        self.ranks[rank as usize]
+        &self.ranks[rank as usize]
+    }
+
+    /// The row that is open in a bank.
+    pub fn open_row(&self, checked: &Checked, at: BankAddress) -> Option<u64>
+        requires { HasBank checked.now.geometry at }
+        ensures { (list : List Stamped) → StandsFor checked.now self.now list → result ≡ open_row at list }
+    {
+        self.rank(checked, at.rank).rows.open_row(at)
     }
 
     /// Is every bank of the rank closed?
-    fn all_closed(&self, checked: &Checked, rank: u64) -> bool
+    pub fn all_closed(&self, checked: &Checked, rank: u64) -> bool
         requires { rank < checked.now.geometry.ranks }
         ensures { (list : List Stamped) → StandsFor checked.now self.now list → (IsTrue result ↔ AllClosed checked.now.geometry rank list) }
     {
-        for group in 0..checked.geometry.groups {
-            for bank in 0..checked.geometry.banks {
-                if self.bank(checked, rank, group, bank).open_row.is_some() {
-                    return false;
-                }
-            }
-        }
-        true
+        let banks = checked.geometry.groups * checked.geometry.banks;
+        self.rank(checked, rank).rows.all_closed(banks as usize)
     }
 
     /// Does the place lie in the geometry, is the rank awake, and are the banks as the command wants them?
@@ -98,79 +117,42 @@ impl Machine {
         ensures { (list : List Stamped) → StandsFor checked.now self.now list → (IsTrue result ↔ FitsRows checked.now.geometry list cmd.now) }
     {
         match *cmd {
-            Command::Act {
-                rank,
-                group,
-                bank,
-                ..
-            } => self.bank(checked, rank, group, bank).open_row.is_none(),
-            Command::Rd {
-                rank,
-                group,
-                bank,
-                ..
-            } => self.bank(checked, rank, group, bank).open_row.is_some(),
-            Command::Wr {
-                rank,
-                group,
-                bank,
-                ..
-            } => self.bank(checked, rank, group, bank).open_row.is_some(),
-            Command::Pre { rank, group, bank } => {
-                self.bank(checked, rank, group, bank).open_row.is_some()
-            }
+            Command::Act { at, .. } => self.open_row(checked, at).is_none(),
+            Command::Rd { at, .. } => self.open_row(checked, at).is_some(),
+            Command::Wr { at, .. } => self.open_row(checked, at).is_some(),
+            Command::Pre { at } => self.open_row(checked, at).is_some(),
             Command::PreAll { rank } => !self.all_closed(checked, rank),
             Command::Ref { rank } => self.all_closed(checked, rank),
             Command::Sre { rank } => self.all_closed(checked, rank),
         }
     }
 
-    /// The least clock by the rules on two commands, the window of four activates aside.
-    fn floor(&self, checked: &Checked, cmd: &Command) -> u64
-        requires { IsInGeometry checked.now.geometry cmd.now }
-        ensures { (list : List Stamped) → StandsFor checked.now self.now list → result ≡ floor checked.now.timing list cmd.now }
-    {
-        match *cmd {
-            Command::Act {
-                rank,
-                group,
-                bank,
-                ..
-            } => self.bank(checked, rank, group, bank).act,
-            Command::Rd {
-                rank,
-                group,
-                bank,
-                ..
-            } => self.bank(checked, rank, group, bank).rd,
-            Command::Wr {
-                rank,
-                group,
-                bank,
-                ..
-            } => self.bank(checked, rank, group, bank).wr,
-            Command::Pre { rank, group, bank } => self.bank(checked, rank, group, bank).pre,
-            Command::PreAll { rank } => self.rank(checked, rank).pre_all,
-            Command::Ref { rank } => self.rank(checked, rank).ref_all,
-            Command::Sre { rank } => self.rank(checked, rank).sre,
-        }
-    }
-
     /// The least clock by every rule but the one on rows and the refresh deadline.
+    #[inline]
     #[tactic(auto, unfolding(crate::specs::Floors::least_clock))]
     pub fn least_clock(&self, checked: &Checked, cmd: &Command) -> u64
         requires { IsInGeometry checked.now.geometry cmd.now }
         ensures { (list : List Stamped) → StandsFor checked.now self.now list → result ≡ least_clock checked.now.timing list cmd.now }
     {
-        let rank = self.rank(checked, cmd.rank());
-        let window = if cmd.is_act() { rank.window.fourth } else { 0 };
-        let refresh = if cmd.is_ref() { rank.refresh.next } else { 0 };
-        self.floor(checked, cmd).max(window.max(refresh))
+        let number = cmd.rank();
+        let rank = self.rank(checked, number);
+        let column = self.columns[number as usize];
+        let least = match *cmd {
+            Command::Act { at, .. } => rank.act_clock(at).max(rank.window.fourth),
+            Command::Rd { at, .. } => column.max(rank.rd_clock(at)),
+            Command::Wr { at, .. } => column.max(self.write.max(rank.wr_clock(at))),
+            Command::Pre { at } => rank.banks[at.slot()].pre,
+            Command::PreAll { .. } => rank.pre_all,
+            Command::Ref { .. } => rank.idle.max(rank.refresh.next),
+            Command::Sre { .. } => rank.idle,
+        };
+        self.next.max(least)
     }
 
     /// May the command go at this clock?
     pub fn ready(&self, checked: &Checked, cmd: &Command, clock: u64) -> bool
-        ensures { (list : List Stamped) → StandsFor checked.now self.now list → (IsTrue result ↔ IsLawful checked.now (with_command list clock cmd.now)) }
+        ensures place { IsTrue result → IsInGeometry checked.now.geometry cmd.now }
+        ensures exact { (list : List Stamped) → StandsFor checked.now self.now list → (IsTrue result ↔ IsLawful checked.now (with_command list clock cmd.now)) }
     {
         if !self.keeps_rows(checked, cmd) {
             return false;
@@ -179,43 +161,5 @@ impl Machine {
             return false;
         }
         clock <= self.rank(checked, cmd.rank()).refresh.deadline
-    }
-}
-
-fn new_banks() -> [BankState; 64]
-    ensures { (k : ℕ) (none : BankState) → k < 64 → IsNewBank k (slice_index_or result k none) }
-{
-    let mut banks = [BankState::new(0, 0, 0); 64];
-    for i in 0..64 {
-        banks[i] = BankState::new((i / 16) as u64, (i / 4 % 4) as u64, (i % 4) as u64);
-    }
-    banks
-}
-
-fn new_ranks(checked: &Checked) -> [RankState; 4]
-    ensures { (k : ℕ) (none : RankState) → k < 4 → StandsInRank checked.now [] k (slice_index_or result k none) }
-{
-    let mut ranks = [RankState::new(checked, 0); 4];
-    for i in 0..4 {
-        ranks[i] = RankState::new(checked, i as u64);
-    }
-    ranks
-}
-
-fn step_banks(banks: &mut [BankState], checked: &Checked, cmd: &Command, clock: u64)
-    requires { clock < 2 ^ 63 }
-    ensures { (k : ℕ) (none : BankState) → k < length banks.old → BankFollows checked.now clock cmd.now (slice_index_or banks.old k none) (slice_index_or banks.new k none) }
-{
-    for bank in banks.iter_mut() {
-        *bank = bank.after(checked, cmd, clock);
-    }
-}
-
-fn step_ranks(ranks: &mut [RankState], checked: &Checked, cmd: &Command, clock: u64)
-    requires { clock < 2 ^ 63 }
-    ensures { (k : ℕ) (none : RankState) → k < length ranks.old → RankFollows checked.now clock cmd.now (slice_index_or ranks.old k none) (slice_index_or ranks.new k none) }
-{
-    for rank in ranks.iter_mut() {
-        *rank = rank.after(checked, cmd, clock);
     }
 }

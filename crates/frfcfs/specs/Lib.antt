@@ -1,4 +1,6 @@
 pub mod Requests
+pub mod Queue
 pub mod Candidates
 pub mod Next
-pub mod Parts
+pub mod Search
+pub mod Margin

@@ -1,17 +1,18 @@
-//! First-ready, first-come-first-served: which command of the pending requests goes next.
+//! The scheduler of a channel: first ready, first come, first served.
 //!
 //! The choice is the least candidate in the order of Rixner and others, "Memory Access Scheduling", ISCA 2000, made total:
-//! ranks whose refreshes are due come first, then column commands, then row commands, older requests first. The
-//! definitions are in `specs/`.
+//! ranks whose refreshes are due come first, then column commands, then row commands, older requests first. The next
+//! command is the choice at the first clock that has a candidate, and with it each rank keeps the time for its refresh
+//! (`docs/REFRESH_MARGIN.md` has the arithmetic). The definitions are in `specs/`.
 #![tactic(auto)]
 
-pub mod choice;
-pub mod choose;
+mod best;
+mod hits;
 pub mod laws;
+pub mod margin;
 pub mod next;
 pub mod pending;
 pub mod queue;
+mod search;
 #[cfg(test)]
 mod tests;
-mod wish;
-pub mod work;

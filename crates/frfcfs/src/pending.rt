@@ -1,6 +1,6 @@
 // Requests that wait for their commands.
-ghost use Rattle.std.specs.Prelude.{◌≡◌, ◌↔◌, false, true, IsTrue};
-ghost use Rattle.frfcfs.specs.Requests.{column_of, act_of, pre_of, IsFree};
+ghost use Rattle.std.specs.Prelude.{◌≡◌};
+ghost use Rattle.frfcfs.specs.Requests.{column_of, act_of, pre_of};
 
 use ddr4_timing::command::Command;
 use ddr4_timing::place::Place;
@@ -12,8 +12,7 @@ pub enum Kind {
     Write,
 }
 
-/// A request that waits for its RD or WR. A list of them stands in order of arrival; what a choice asks of a list, `is_queue`
-/// tests.
+/// A request that waits for its RD or WR. A list of them stands in order of arrival.
 #[derive(Clone, Copy, Debug, PartialEq, Eq)]
 pub struct Pending {
     /// Its place in the order of arrival on the channel.
@@ -25,42 +24,17 @@ pub struct Pending {
     pub number: u64,
     /// Whether it is to wait for now.
     pub held: bool,
-    /// Whether no older pending request names its line.
-    pub first: bool,
 }
 
 impl Pending {
-    /// Whether the request may be served: it isn't held, and it is the first of its line.
-    pub fn is_eligible(&self) -> bool
-        ensures { IsTrue result ↔ IsFree self.now }
-    {
-        self.first && !self.held
-    }
-
     /// The RD or WR that serves the request.
     pub fn column(&self) -> Command
         ensures { result ≡ column_of self.now.kind self.now.place }
     {
-        let Place {
-            rank,
-            group,
-            bank,
-            column,
-            ..
-        } = self.place;
+        let (at, column) = (self.place.bank_address(), self.place.column);
         match self.kind {
-            Kind::Read => Command::Rd {
-                rank,
-                group,
-                bank,
-                column,
-            },
-            Kind::Write => Command::Wr {
-                rank,
-                group,
-                bank,
-                column,
-            },
+            Kind::Read => Command::Rd { at, column },
+            Kind::Write => Command::Wr { at, column },
         }
     }
 
@@ -68,18 +42,9 @@ impl Pending {
     pub fn act(&self) -> Command
         ensures { result ≡ act_of self.now.place }
     {
-        let Place {
-            rank,
-            group,
-            bank,
-            row,
-            ..
-        } = self.place;
         Command::Act {
-            rank,
-            group,
-            bank,
-            row,
+            at: self.place.bank_address(),
+            row: self.place.row,
         }
     }
 
@@ -87,12 +52,7 @@ impl Pending {
     pub fn pre(&self) -> Command
         ensures { result ≡ pre_of self.now.place }
     {
-        let Place {
-            rank,
-            group,
-            bank,
-            ..
-        } = self.place;
-        Command::Pre { rank, group, bank }
+        let at = self.place.bank_address();
+        Command::Pre { at }
     }
 }

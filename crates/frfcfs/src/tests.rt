@@ -1,16 +1,16 @@
 // The worked lists, on a channel of one rank.
-ghost use Rattle.std.specs.Prelude.{◌≤◌, ◌^◌, ◌<◌, IfSome};
+ghost use Rattle.std.specs.Prelude.{◌≡◌, ◌<◌, ◌^◌, IfSome};
 
-use crate::choice::{Choice, Next, Turn};
-use crate::choose::choose;
-use crate::next::{choose_next, next_clock};
-use crate::pending::{Kind, Pending};
-use crate::queue::is_queue;
-use crate::work::has_work;
+mod refreshes;
+
+use crate::next::{Next, choose, next_command};
+use crate::pending::Kind;
+use crate::queue::Queue;
 use bank_core::banks::Banks;
 use ddr4_timing::command::Command;
-use ddr4_timing::place::Place;
+use ddr4_timing::place::{BankAddress, Place};
 use ddr4_timing::timing::{Geometry, Timing};
+use std::alloc::Global;
 use std::test::Fail;
 
 const TIMING: Timing = Timing {
@@ -43,207 +43,203 @@ const GEOMETRY: Geometry = Geometry {
     columns: 4,
 };
 
-fn banks() -> Option<Banks> {
-    let checked = TIMING.check(&GEOMETRY).ok()?;
-    Some(Banks::new(&checked))
-}
+const BANK: BankAddress = BankAddress {
+    rank: 0,
+    group: 0,
+    bank: 0,
+};
 
-// A request of the first bank of channel 0.
-fn request(seq: u64, kind: Kind, line: u64, row: u64, column: u64) -> Pending {
-    let place = Place {
+// A line of the first bank of channel 0.
+fn place(row: u64, column: u64) -> Place {
+    Place {
         channel: 0,
         rank: 0,
         group: 0,
         bank: 0,
         row,
         column,
-    };
-    Pending {
-        seq,
-        place,
-        line,
-        kind,
-        number: seq,
-        held: false,
-        first: true,
     }
 }
 
 fn act(row: u64) -> Command {
-    Command::Act {
-        rank: 0,
-        group: 0,
-        bank: 0,
-        row,
-    }
-}
-
-fn write(column: u64) -> Command {
-    Command::Wr {
-        rank: 0,
-        group: 0,
-        bank: 0,
-        column,
-    }
+    Command::Act { at: BANK, row }
 }
 
 fn read(column: u64) -> Command {
-    Command::Rd {
-        rank: 0,
-        group: 0,
-        bank: 0,
-        column,
+    Command::Rd { at: BANK, column }
+}
+
+fn write(column: u64) -> Command {
+    Command::Wr { at: BANK, column }
+}
+
+const PRE: Command = Command::Pre { at: BANK };
+
+// A channel's banks, its requests and its clock.
+#[derive(Drop)]
+struct Bench {
+    banks: Banks,
+    queue: Queue,
+    now: u64,
+}
+
+impl Bench {
+    fn new(alloc: Global) -> Result<Bench, Fail> {
+        let checked = TIMING.check(&GEOMETRY)?;
+        Ok(Bench {
+            banks: Banks::new(&checked),
+            queue: Queue::with_room(alloc, 8)?,
+            now: 0,
+        })
+    }
+
+    fn push(&mut self, kind: Kind, line: u64, place: Place, held: bool) -> Result<(), Fail> {
+        if self.queue.is_full() || self.queue.next() == u64::MAX {
+            return Err("full".into());
+        }
+        self.queue.push(place, line, kind, line, held);
+        Ok(())
+    }
+
+    // Goes to the next command, and takes the request that it serves out.
+    fn step(&mut self) -> Option<Next> {
+        if !self.queue.lies_in(&self.banks.checked().geometry) {
+            return None;
+        }
+        let next = next_command(&self.banks, &self.queue, self.now)?;
+        self.banks.issue(next.cmd, next.clock);
+        self.now = next.clock;
+        if let Some(place) = next.serves {
+            self.queue.take(place);
+        }
+        Some(next)
     }
 }
 
-const PRE: Command = Command::Pre {
-    rank: 0,
-    group: 0,
-    bank: 0,
-};
-
-// Goes to the next clock with a candidate, and issues the choice.
-fn step(banks: &mut Banks, pending: &[Pending], now: u64) -> Option<Next> {
-    if !is_queue(&banks.checked().geometry, pending) {
-        return None;
-    }
-    let next = choose_next(banks, pending, now)?;
-    banks.issue(next.choice.cmd, next.clock);
-    Some(next)
-}
-
-fn at(clock: u64, turn: Turn, cmd: Command) -> Option<Next> {
-    Some(Next {
-        clock,
-        choice: Choice { turn, cmd },
-    })
+fn at(clock: u64, cmd: Command, serves: Option<usize>) -> Option<Next> {
+    Some(Next { clock, cmd, serves })
 }
 
 #[test]
 fn the_youngest_goes_before_the_second(rt: HostRuntime) -> Result<(), Fail> {
-    let mut banks = banks().ok_or("refused")?;
-    let first = request(0, Kind::Write, 0, 0, 0);
-    let second = request(1, Kind::Write, 64, 1, 0);
-    let youngest = request(2, Kind::Write, 2, 0, 1);
-    let all = [first, second, youngest];
-    assert_eq!(rt; step(&mut banks, &all, 0), at(0, Turn::Row(0), act(0)));
-    assert_eq!(rt;
-        step(&mut banks, &all, 1),
-        at(16, Turn::Column(0), write(0))
-    );
-    let two = [second, youngest];
-    assert_eq!(rt;
-        step(&mut banks, &two, 17),
-        at(22, Turn::Column(1), write(1))
-    );
-    let one = [second];
-    assert_eq!(rt; step(&mut banks, &one, 23), at(56, Turn::Row(0), PRE));
-    assert_eq!(rt; step(&mut banks, &one, 57), at(72, Turn::Row(0), act(1)));
-    assert_eq!(rt;
-        step(&mut banks, &one, 73),
-        at(88, Turn::Column(0), write(0))
-    );
+    let mut bench = Bench::new(rt.alloc())?;
+    bench.push(Kind::Write, 0, place(0, 0), false)?;
+    bench.push(Kind::Write, 64, place(1, 0), false)?;
+    bench.push(Kind::Write, 2, place(0, 1), false)?;
+    assert_eq!(rt; bench.step(), at(0, act(0), None));
+    assert_eq!(rt; bench.step(), at(16, write(0), Some(0)));
+    assert_eq!(rt; bench.step(), at(22, write(1), Some(1)));
+    assert_eq!(rt; bench.step(), at(56, PRE, None));
+    assert_eq!(rt; bench.step(), at(72, act(1), None));
+    assert_eq!(rt; bench.step(), at(88, write(0), Some(0)));
+    assert_eq!(rt; bench.step(), None);
     Ok(())
 }
 
 #[test]
 fn a_read_before_a_write(rt: HostRuntime) -> Result<(), Fail> {
-    let mut banks = banks().ok_or("refused")?;
-    let first = request(0, Kind::Read, 2, 0, 1);
-    let second = request(1, Kind::Write, 4, 0, 2);
-    let both = [first, second];
-    assert_eq!(rt; step(&mut banks, &both, 0), at(0, Turn::Row(0), act(0)));
-    assert_eq!(rt;
-        step(&mut banks, &both, 1),
-        at(16, Turn::Column(0), read(1))
-    );
-    assert_eq!(rt;
-        step(&mut banks, &[second], 17),
-        at(26, Turn::Column(0), write(2))
-    );
+    let mut bench = Bench::new(rt.alloc())?;
+    bench.push(Kind::Read, 2, place(0, 1), false)?;
+    bench.push(Kind::Write, 4, place(0, 2), false)?;
+    assert_eq!(rt; bench.step(), at(0, act(0), None));
+    assert_eq!(rt; bench.step(), at(16, read(1), Some(0)));
+    assert_eq!(rt; bench.step(), at(26, write(2), Some(0)));
     Ok(())
 }
 
 #[test]
 fn a_held_request_waits(rt: HostRuntime) -> Result<(), Fail> {
-    let banks = banks().ok_or("refused")?;
-    let free = request(0, Kind::Write, 0, 0, 0);
-    let held = Pending { held: true, ..free };
-    if !is_queue(&banks.checked().geometry, &[held]) {
-        return Err("no queue".into());
-    }
-    if !is_queue(&banks.checked().geometry, &[free]) {
-        return Err("no queue".into());
-    }
-    assert_eq!(rt; has_work(&banks, &[held], 0), false);
-    assert_eq!(rt; choose(&banks, &[held], 0), None);
-    assert_eq!(rt; has_work(&banks, &[free], 0), true);
-    let row = Turn::Row(0);
+    let mut bench = Bench::new(rt.alloc())?;
+    bench.push(Kind::Write, 0, place(0, 0), true)?;
+    assert_eq!(rt; choose(&bench.banks, bench.queue.requests(), 0), None);
+    assert_eq!(rt; bench.step(), None);
+    bench.queue.hold(Some(1));
     assert_eq!(rt;
-        choose(&banks, &[free], 0),
-        Some(Choice {
-            turn: row,
-            cmd: act(0)
-        })
+        choose(&bench.banks, bench.queue.requests(), 0),
+        Some(act(0))
     );
+    bench.queue.hold(Some(0));
+    assert_eq!(rt; bench.step(), None);
+    bench.queue.hold(None);
+    assert_eq!(rt; bench.step(), at(0, act(0), None));
+    Ok(())
+}
+
+#[test]
+fn a_younger_request_of_a_line_waits(rt: HostRuntime) -> Result<(), Fail> {
+    let mut bench = Bench::new(rt.alloc())?;
+    bench.push(Kind::Write, 2, place(0, 1), false)?;
+    bench.push(Kind::Read, 2, place(0, 1), false)?;
+    bench.push(Kind::Read, 4, place(0, 2), false)?;
+    assert_eq!(rt; bench.step(), at(0, act(0), None));
+    assert_eq!(rt;
+        choose(&bench.banks, bench.queue.requests(), 16),
+        Some(write(1))
+    );
+    assert_eq!(rt; bench.step(), at(16, write(1), Some(0)));
+    // the read of the written line is the older of two that may go now
+    assert_eq!(rt; bench.step(), at(41, read(1), Some(0)));
+    assert_eq!(rt; bench.step(), at(47, read(2), Some(0)));
     Ok(())
 }
 
 #[test]
 fn a_choice_at_each_clock(rt: HostRuntime) -> Result<(), Fail> {
-    let mut banks = banks().ok_or("refused")?;
-    let pending = [request(0, Kind::Write, 0, 0, 0)];
-    assert_eq!(rt; step(&mut banks, &pending, 0), at(0, Turn::Row(0), act(0)));
-    if !is_queue(&banks.checked().geometry, &pending) {
-        return Err("no queue".into());
-    }
-    assert_eq!(rt; next_clock(&banks, &pending, 1), Some(16));
-    assert_eq!(rt; choose(&banks, &pending, 15), None);
-    let column = Turn::Column(0);
+    let mut bench = Bench::new(rt.alloc())?;
+    bench.push(Kind::Write, 0, place(0, 0), false)?;
+    assert_eq!(rt; bench.step(), at(0, act(0), None));
+    assert_eq!(rt; choose(&bench.banks, bench.queue.requests(), 15), None);
     assert_eq!(rt;
-        choose(&banks, &pending, 16),
-        Some(Choice {
-            turn: column,
-            cmd: write(0)
-        })
+        choose(&bench.banks, bench.queue.requests(), 16),
+        Some(write(0))
+    );
+    assert_eq!(rt;
+        choose(&bench.banks, bench.queue.requests(), 74_879),
+        Some(write(0))
+    );
+    let close = Command::PreAll { rank: 0 };
+    assert_eq!(rt;
+        choose(&bench.banks, bench.queue.requests(), 74_880),
+        Some(close)
+    );
+    assert_eq!(rt;
+        choose(&bench.banks, bench.queue.requests(), 84_240),
+        Some(close)
+    );
+    assert_eq!(rt; choose(&bench.banks, bench.queue.requests(), 84_241), None);
+    assert_eq!(rt;
+        choose(&bench.banks, bench.queue.requests(), u64::MAX),
+        None
+    );
+    Ok(())
+}
+
+#[test]
+fn a_place_outside_is_never_chosen(rt: HostRuntime) -> Result<(), Fail> {
+    let mut bench = Bench::new(rt.alloc())?;
+    let outside = Place {
+        rank: 1,
+        ..place(0, 0)
+    };
+    bench.push(Kind::Write, 0, outside, false)?;
+    bench.push(Kind::Write, 2, place(2, 0), false)?;
+    assert_eq!(rt; choose(&bench.banks, bench.queue.requests(), 0), None);
+    bench.push(Kind::Write, 4, place(1, 0), false)?;
+    assert_eq!(rt;
+        choose(&bench.banks, bench.queue.requests(), 0),
+        Some(act(1))
     );
     Ok(())
 }
 
 #[test]
 fn a_rank_in_lead_comes_first(rt: HostRuntime) -> Result<(), Fail> {
-    let mut banks = banks().ok_or("refused")?;
-    let pending = [request(0, Kind::Write, 0, 0, 0)];
-    let rank = Turn::Rank(0);
-    assert_eq!(rt;
-        step(&mut banks, &pending, 74_870),
-        at(74_870, Turn::Row(0), act(0))
-    );
-    assert_eq!(rt;
-        step(&mut banks, &pending, 74_871),
-        at(74_909, rank, Command::PreAll { rank: 0 })
-    );
-    assert_eq!(rt;
-        step(&mut banks, &pending, 74_910),
-        at(74_925, rank, Command::Ref { rank: 0 })
-    );
-    assert_eq!(rt;
-        step(&mut banks, &pending, 74_926),
-        at(75_345, Turn::Row(0), act(0))
-    );
-    Ok(())
-}
-
-#[test]
-fn a_younger_request_of_a_line_is_not_the_first(rt: HostRuntime) -> Result<(), Fail> {
-    let older = request(0, Kind::Write, 0, 0, 0);
-    let wrong = request(1, Kind::Read, 0, 0, 0);
-    let right = Pending {
-        first: false,
-        ..wrong
-    };
-    assert_eq!(rt; is_queue(&GEOMETRY, &[older, wrong]), false);
-    assert_eq!(rt; is_queue(&GEOMETRY, &[older, right]), true);
-    assert_eq!(rt; is_queue(&GEOMETRY, &[right, older]), false);
+    let mut bench = Bench::new(rt.alloc())?;
+    bench.push(Kind::Write, 0, place(0, 0), false)?;
+    bench.now = 74_870;
+    assert_eq!(rt; bench.step(), at(74_870, act(0), None));
+    assert_eq!(rt; bench.step(), at(74_909, Command::PreAll { rank: 0 }, None));
+    assert_eq!(rt; bench.step(), at(74_925, Command::Ref { rank: 0 }, None));
+    assert_eq!(rt; bench.step(), at(75_345, act(0), None));
     Ok(())
 }

@@ -1,56 +1,66 @@
 -- How the machine's worlds go on.
-use Rattle.std.proofs.Common.{◌≡◌, ℕ, ◌+◌, ◌<◌, List, [], ◌∷◌, ◌++◌, length, false, refl, sym, ◌∙◌, ap, subst, arith, ⊎_elim}
-use Rattle.std.specs.Prelude.{Option, Some, None, Err, slice_set, take, get_or, ◌^◌}
+use Rattle.std.proofs.Common.{◌≡◌, ℕ, ◌+◌, ◌<◌, List, [], ◌∷◌, ◌++◌, length, Bool, true, false, refl, sym, ◌∙◌, ap, subst, arith, ⊎_elim}
+use Rattle.std.specs.Prelude.{Option, Some, None, Err, if◌then◌else◌, slice_set, take, get_or, ◌^◌}
 use Rattle.std.proofs.lemmas.List.{take_more}
 use Rattle.line_memory.specs.declared.Write.{Write}
 use Rattle.line_memory.proofs.MemoryLaws.{after-push}
+use Rattle.save_device.specs.Device.{DeviceState}
 use Rattle.save_image.specs.Image.{Image}
-use Rattle.slot_store.specs.declared.slots.Slot.{Slot}
+use Rattle.slot_store.specs.declared.plan.Newest.{Newest}
 use Rattle.slot_store.specs.declared.restoring.Restored.{Restored}
 use Rattle.slot_store.specs.declared.restoring.RestoreError.{RestoreError}
 use Rattle.slot_store.specs.declared.restoring.RestoreError.TheVariants as errors
 use Rattle.slot_store.specs.Outcomes.{Outcome}
-use Rattle.slot_store.specs.Told.{Refuses, ReadsCause}
-use Rattle.slot_store.specs.Rest.{only, IsAtRest}
-use Rattle.slot_store.specs.Saving.{image_of}
-use Rattle.slot_store.specs.declared.saving.Plan.{Plan}
-use Rattle.save_image.specs.Header.{arm_byte}
+use Rattle.slot_store.specs.Told.{Refuses, is_fault}
+use Rattle.slot_store.specs.Rest.{Candidates, IsAtRest}
+use Rattle.slot_store.specs.Whole.{IsReady, made_over}
 use Rattle.nvctl.specs.declared.plain.PlainEvent.{PlainEvent}
 use Rattle.nvctl.specs.declared.plain.PlainEvent.TheVariants as events
 use Rattle.nvctl.specs.declared.plain.Reply.{Reply}
 use Rattle.nvctl.specs.declared.plain.Reply.TheVariants as replies
 use Rattle.nvctl.specs.declared.plain.CurrentLife.{CurrentLife}
 use Rattle.nvctl.specs.declared.plain.TheConstants.{LINES, TRAIL}
-use Rattle.nvctl.specs.Machine.{World, Life, MachineStep, Run, Accepts, all_of, memory_of, saved_image, store_of, ended, world_on}
+use Rattle.nvctl.specs.Machine.{World, Life, MachineStep, Run, Accepts, tells_fault, all_of, life_memory, saved_image, store_of, ended, world_on}
 use Rattle.nvctl.specs.declared.plain.Plain.{Plain}
-use Rattle.nvctl.specs.Plain.{RunsLife, RestsInLife, Stands}
-
--- a device at rest, its parts under other names
-pub rest_same : (slot slot' : Slot) (image image' : Image) (lines lines' : ℕ) (bytes : List ℕ) (unsettled : ℕ → Type 0) → slot ≡ slot' → image ≡ image' → lines ≡ lines'
-    → IsAtRest (only slot image) image slot lines false bytes unsettled → IsAtRest (only slot' image') image' slot' lines' false bytes unsettled
-rest_same slot slot' image image' lines lines' bytes unsettled s i l rest =
-    subst (λ (x : Slot). IsAtRest (only x image') image' x lines' false bytes unsettled) s
-    (subst (λ (x : Image). IsAtRest (only slot x) x slot lines' false bytes unsettled) i
-    (subst (λ (x : ℕ). IsAtRest (only slot image) image slot x false bytes unsettled) l rest))
+use Rattle.nvctl.specs.Plain.{RunsAs, RestsInLife, StandsAs}
 
 -- a restore that was refused, with no fault
-pub refused_step : (e : RestoreError) (outcome : Outcome) (world : World) (before now : ℕ) → Refuses e outcome → ReadsCause {T = Restored} before now (Err e) → now ≡ before → world.store ≡ store_of outcome
+pub refused_step : (e : RestoreError) (outcome : Outcome) (world : World) → Refuses e outcome → is_fault {T = Restored} (Err e) ≡ false → world.store ≡ store_of outcome
     → MachineStep world events.Restore (replies.RestoreRefused e) (ended world)
-refused_step errors.NoImage outcome world before now is cause same stored = (stored ∙ ap store_of is, refl)
-refused_step (errors.Damaged slot) outcome world before now is cause same stored = (stored ∙ ap store_of is, refl)
-refused_step errors.WrongSize outcome world before now is cause same stored = (stored ∙ ap store_of is, refl)
-refused_step errors.Device outcome world before now is cause same stored = absurd (omega (arith, cause, same))
-refused_step errors.Memory outcome world before now is cause same stored = refl
+refused_step errors.NoImage outcome world is fine stored = (stored ∙ ap store_of is, refl)
+refused_step (errors.Damaged slot) outcome world is fine stored = (stored ∙ ap store_of is, refl)
+refused_step errors.WrongSize outcome world is fine stored = (stored ∙ ap store_of is, refl)
+refused_step errors.Device outcome world is fine stored = absurd (let bad : ⊥ = cc in bad)
+refused_step errors.Memory outcome world is fine stored = refl
 
--- the image that a plan makes of a life's memory
-pub saved_is : (plan : Plan) (memory : List (List ℕ)) (newest : Image) (life : Life) → plan.generation ≡ newest.generation + 1 → plan.count ≡ all_of life → plan.armed ≡ false → memory ≡ memory_of life
-    → image_of plan memory ≡ saved_image newest life
-saved_is plan memory newest life generation count clear is = let arm : arm_byte plan.armed ≡ 0 = ap arm_byte clear in cc (generation, count, is)
+-- a refused restore tells a fault exactly where it is one
+pub tells_refused : (e : RestoreError) → tells_fault (replies.RestoreRefused e) ≡ is_fault {T = Restored} (Err e)
+tells_refused errors.NoImage = refl
+tells_refused (errors.Damaged slot) = refl
+tells_refused errors.WrongSize = refl
+tells_refused errors.Device = refl
+tells_refused errors.Memory = refl
+
+-- no fault was counted, so none was one
+pub no_fault : (fault : Bool) (before after : ℕ) → after ≡ (if fault then before + 1 else before) → after ≡ before → fault ≡ false
+no_fault true before after counted same = absurd (omega (arith, counted, same))
+no_fault false before after counted same = refl
+
+-- the image that a save makes of a life's memory
+pub saved_is : (newest : Newest) (count : ℕ) (memory : List (List ℕ)) (image : Image) (life : Life) → newest.generation ≡ image.generation → count ≡ all_of life → memory ≡ life_memory life
+    → made_over newest count false memory ≡ saved_image image life
+saved_is newest count memory image life generation counts is = let rises : newest.generation + 1 ≡ image.generation + 1 = ap (λ (n : ℕ). n + 1) generation in cc (rises, counts, is)
+
+-- a device at rest is ready for a save of a memory of its size
+pub ready : (candidates : Candidates) (image : Image) (newest : Newest) (closed : Bool) (memory : List (List ℕ)) (state : DeviceState) → length memory ≡ LINES → image.generation ≡ newest.generation
+    → IsAtRest candidates image newest.slot LINES closed state → IsReady candidates image newest closed memory state
+ready candidates image newest closed memory state size generation rest =
+    record { rest = subst (λ (lines : ℕ). IsAtRest candidates image newest.slot lines closed state) (sym size) rest; generation = generation }
 
 -- a write that is accepted
-pub accepts : (o : Option CurrentLife) (current : CurrentLife) (lines : List (List ℕ)) (writes : List Write) (world : World) (w : Write) (number : ℕ) → o ≡ Some current → RunsLife o lines writes world
+pub accepts : (o : Option CurrentLife) (current : CurrentLife) (lines : List (List ℕ)) (writes : List Write) (world : World) (w : Write) (number : ℕ) → o ≡ Some current → RunsAs o lines writes world
     → w.line < LINES → (length writes ≡ TRAIL → ⊥) → (number ≡ 2 ^ 62 → ⊥) → number ≡ current.start + length writes
-    → (next : World) × Accepts world w number current.persisted next × RunsLife o (slice_set lines w.line w.«data») (writes ++ w ∷ []) next × (next.store ≡ world.store)
+    → (next : World) × Accepts world w number current.persisted next × RunsAs o (slice_set lines w.line w.«data») (writes ++ w ∷ []) next × (next.store ≡ world.store)
 accepts None current lines writes world w number is runs there room below counts = absurd (let bad : ⊥ = cc in bad)
 accepts (Some it) current lines writes world w number is runs there room below counts =
     let same : it ≡ current = cc in
@@ -97,9 +107,9 @@ Run-next old all i replies mid d reply new less run step =
     subst (λ (events : List PlainEvent). Run old events (replies ++ reply ∷ []) new) (sym (take_more all i d less)) (Run-push old (take i all) replies mid (get_or all i d) reply new run step)
 
 -- before any event
-pub opening : (bytes : List ℕ) (unsettled : ℕ → Type 0) (plain : Plain) → plain.life ≡ None → Stands plain bytes unsettled (world_on bytes)
-opening bytes unsettled plain none = record {
+pub opening : (state : DeviceState) (plain : Plain) → plain.life ≡ None → StandsAs plain state (world_on state.bytes)
+opening state plain none = record {
   store = refl;
-  life = subst (λ (o : Option CurrentLife). RunsLife o plain.lines.items plain.writes.items (world_on bytes)) (sym none) refl;
-  rests = subst (λ (o : Option CurrentLife). RestsInLife o bytes unsettled (world_on bytes).store) (sym none) tt;
+  life = subst (λ (o : Option CurrentLife). RunsAs o plain.lines.items plain.writes.items (world_on state.bytes)) (sym none) refl;
+  rests = subst (λ (o : Option CurrentLife). RestsInLife o state (world_on state.bytes).store) (sym none) tt;
 }

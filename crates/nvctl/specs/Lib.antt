@@ -1,2 +1,4 @@
+pub mod Exit
 pub mod Machine
 pub mod Plain
+pub mod Store

@@ -1,8 +1,8 @@
 -- The machine that a script's replies are a run of. It knows what a restore would find, and in a life the memory that it
 -- began with, the writes that it accepted and how many writes are persistent. It knows nothing of bytes and slots.
-use Rattle.std.specs.Prelude.{◌≡◌, ◌⊎◌, ℕ, ◌+◌, ◌<◌, ◌≤◌, ◌^◌, List, [], ◌∷◌, ◌++◌, length, slice_get, Option, Some, None}
+use Rattle.std.specs.Prelude.{◌≡◌, ◌⊎◌, ℕ, ◌+◌, ◌<◌, ◌≤◌, ◌^◌, List, [], ◌∷◌, ◌++◌, length, slice_get, Bool, true, false, Option, Some, None, ⊤}
 use Rattle.line_memory.specs.declared.Write.{Write}
-use Rattle.line_memory.specs.Memory.{after}
+use Rattle.line_memory.specs.Memory.{after, memory_at}
 use Rattle.save_image.specs.Image.{Image}
 use Rattle.slot_store.specs.declared.restoring.Verdict.{Verdict}
 use Rattle.slot_store.specs.declared.restoring.RestoreError.{RestoreError}
@@ -19,8 +19,8 @@ use Rattle.nvctl.specs.declared.plain.TheConstants.{LINES, TRAIL}
 
 -- what a restore would find: an image, or why there is none
 pub data Store : Type 0 where
-  Holds : Image → Store
-  Refuses : RestoreError → Store
+  Restorable : Image → Store
+  Unrestorable : RestoreError → Store
 
 -- a life: the memory that it began with, the number of writes that this memory is after, the writes accepted since, and
 -- how many writes of all are persistent
@@ -39,8 +39,8 @@ abbrev pub all_of : Life → ℕ
 all_of life = life.start + length life.writes
 
 -- the memory after all accepted writes
-abbrev pub memory_of : Life → List (List ℕ)
-memory_of life = after life.base life.writes
+abbrev pub life_memory : Life → List (List ℕ)
+life_memory life = after life.base life.writes
 
 -- a life that begins with an image
 abbrev pub life_from : Image → Life
@@ -48,7 +48,11 @@ life_from image = record { base = image.memory; start = image.count; writes = []
 
 -- the image that a save makes of a life over the newest image
 abbrev pub saved_image : Image → Life → Image
-saved_image newest life = record { generation = newest.generation + 1; count = all_of life; arm = 0; memory = memory_of life }
+saved_image newest life = record { generation = newest.generation + 1; count = all_of life; arm = 0; memory = life_memory life }
+
+-- the life that a restore of the first `count` of its writes begins
+abbrev pub life_saved : Life → ℕ → Life
+life_saved life count = record { base = memory_at life.base life.start life.writes count; start = count; writes = []; persisted = count }
 
 -- no further write is accepted
 abbrev pub IsFull : Life → Type 0
@@ -65,10 +69,10 @@ pub record Accepts (old : World) (accepted : Write) (number mark : ℕ) (new : W
   pub grows : new ≡ record { store = old.store; life = Some (record { base = life.base; start = life.start; writes = life.writes ++ accepted ∷ []; persisted = life.persisted }) }
 
 -- a read gives its line of the memory after all accepted writes
-pub record Reads (old : World) (line : ℕ) (bytes : List ℕ) (new : World) : Type 0 where
+pub record ReadsLine (old : World) (line : ℕ) (bytes : List ℕ) (new : World) : Type 0 where
   pub life : Life
   pub runs : old.life ≡ Some life
-  pub is : slice_get (memory_of life) line ≡ Some bytes
+  pub is : slice_get (life_memory life) line ≡ Some bytes
   pub same : new ≡ old
 
 -- a save makes the newest image of the memory after all accepted writes, all of which are persistent then
@@ -76,16 +80,16 @@ pub record Saves (old : World) (generation count : ℕ) (new : World) : Type 0 w
   pub life : Life
   pub newest : Image
   pub runs : old.life ≡ Some life
-  pub over : old.store ≡ Holds newest
+  pub over : old.store ≡ Restorable newest
   pub unspent : newest.generation < 2 ^ 62
   pub generation_is : generation ≡ newest.generation + 1
   pub count_is : count ≡ all_of life
-  pub saved : new ≡ record { store = Holds (saved_image newest life); life = Some (record { base = life.base; start = life.start; writes = life.writes; persisted = all_of life }) }
+  pub saved : new ≡ record { store = Restorable (saved_image newest life); life = Some (record { base = life.base; start = life.start; writes = life.writes; persisted = all_of life }) }
 
 -- a restore finds the newest image and begins a life with it
 pub record Restores (old : World) (generation count : ℕ) (verdict : Verdict) (new : World) : Type 0 where
   pub image : Image
-  pub finds : old.store ≡ Holds image
+  pub finds : old.store ≡ Restorable image
   pub generation_is : generation ≡ image.generation
   pub count_is : count ≡ image.count
   pub verdict_is : verdict ≡ verdict_of image.arm image.count
@@ -101,22 +105,29 @@ InLife old P = (life : Life) × (old.life ≡ Some life) × P life
 
 -- From old, the machine may give this reply to the event and go on to new. No other reply is given.
 abbrev pub MachineStep : World → PlainEvent → Reply → World → Type 0
-MachineStep old events.Format replies.Formatted new = new ≡ record { store = Holds (first_image LINES); life = Some (life_from (first_image LINES)) }
+MachineStep old events.Format replies.Formatted new = new ≡ record { store = Restorable (first_image LINES); life = Some (life_from (first_image LINES)) }
 MachineStep old (events.Write w) (replies.Accepted number mark) new = Accepts old w number mark new
 MachineStep old (events.Write w) (replies.WriteRefused write.NoSuchLine) new = (LINES ≤ w.line) × (new ≡ old)
 MachineStep old (events.Write w) (replies.WriteRefused write.Closed) new = (w.line < LINES) × (old.life ≡ None) × (new ≡ old)
 MachineStep old (events.Write w) (replies.WriteRefused write.TrailFull) new = (w.line < LINES) × InLife old IsFull × (new ≡ old)
-MachineStep old (events.Read line) (replies.Content told bytes) new = (told ≡ line) × Reads old line bytes new
+MachineStep old (events.Read line) (replies.Content told bytes) new = (told ≡ line) × ReadsLine old line bytes new
 MachineStep old (events.Read line) (replies.ReadRefused read.NoSuchLine) new = (LINES ≤ line) × (new ≡ old)
 MachineStep old (events.Read line) (replies.ReadRefused read.Closed) new = (line < LINES) × (old.life ≡ None) × (new ≡ old)
 MachineStep old events.Save (replies.Saved generation count) new = Saves old generation count new
 MachineStep old events.Save (replies.SaveRefused save.Closed) new = (old.life ≡ None) × (new ≡ old)
-MachineStep old events.Save (replies.SaveRefused save.Spent) new = (newest : Image) × InLife old (λ life. 2 ^ 62 ≤ newest.generation) × (old.store ≡ Holds newest) × (new ≡ old)
+MachineStep old events.Save (replies.SaveRefused save.Spent) new = (newest : Image) × InLife old (λ life. 2 ^ 62 ≤ newest.generation) × (old.store ≡ Restorable newest) × (new ≡ old)
 MachineStep old events.Restore (replies.Restored generation count verdict) new = Restores old generation count verdict new
 MachineStep old events.Restore (replies.RestoreRefused errors.Memory) new = new ≡ ended old
 MachineStep old events.Restore (replies.RestoreRefused errors.Device) new = ⊥
-MachineStep old events.Restore (replies.RestoreRefused error) new = (old.store ≡ Refuses error) × (new ≡ ended old)
+MachineStep old events.Restore (replies.RestoreRefused error) new = (old.store ≡ Unrestorable error) × (new ≡ ended old)
 MachineStep old event reply new = ⊥
+
+-- this reply tells that a call of the device failed
+abbrev pub tells_fault : Reply → Bool
+tells_fault replies.FormatFault = true
+tells_fault replies.SaveFault = true
+tells_fault (replies.RestoreRefused errors.Device) = true
+tells_fault reply = false
 
 -- the machine may give these replies to these events, one step after another
 abbrev pub Run : World → List PlainEvent → List Reply → World → Type 0
@@ -125,12 +136,18 @@ Run old (event ∷ events) (reply ∷ replies) new = (mid : World) × MachineSte
 Run old [] (reply ∷ replies) new = ⊥
 Run old (event ∷ events) [] new = ⊥
 
+-- it makes no image and begins no life
+abbrev pub IsReadOrWrite : PlainEvent → Type 0
+IsReadOrWrite (events.Write write) = ⊤
+IsReadOrWrite (events.Read line) = ⊤
+IsReadOrWrite event = ⊥
+
 -- what a restore would find of these bytes, but for the slot
 abbrev pub store_of : Outcome → Store
-store_of WrongSize = Refuses errors.WrongSize
-store_of (Damaged slot) = Refuses (errors.Damaged slot)
-store_of NoImage = Refuses errors.NoImage
-store_of (Found slot image) = Holds image
+store_of WrongSize = Unrestorable errors.WrongSize
+store_of (Damaged slot) = Unrestorable (errors.Damaged slot)
+store_of NoImage = Unrestorable errors.NoImage
+store_of (Found slot image) = Restorable image
 
 -- before any event no life runs, and the bytes of the device say what a restore finds
 abbrev pub world_on : List ℕ → World

@@ -1,12 +1,18 @@
-// The command line: its words, the script's file, and the exit status.
-use crate::script::{SCRIPT_BYTES, ScriptFault, run_script};
+// The command line: its words, the files that they name, and the exit status.
+ghost use Rattle.std.specs.Prelude.{◌≡◌};
+ghost use Rattle.std.specs.Process.{exit_status};
+
+use crate::script::run_script;
 use clap::error::ErrorKind;
 use clap::{Arg, Command, Error as UsageError};
+use nv_profile::{MOST_BYTES, Profile, ProfileFault, TINY, read_profile};
+use nv_script::{SCRIPT_BYTES, ScriptFault};
 use std::alloc::{AllocError, Global};
-use std::env;
+use std::env::{self, Env};
 use std::fs::File;
-use std::io::{self, BufWriter, Read, Write};
+use std::io::{self, Eprint, Input, Print, Read, Write};
 use std::process::ExitCode;
+use std::rt::Files;
 use thiserror::Error;
 
 /// Why the program fails. Shown as the rest of its one line on standard error.
@@ -26,8 +32,12 @@ pub enum Fault<'a> {
 }
 
 impl Fault<'_> {
+    ghost use Rattle.nvctl.specs.Exit.{status_of};
+
     /// The exit status: 2 for a mistake in the program's words, and else 1.
-    pub fn exit_code(&self) -> ExitCode {
+    pub fn exit_code(&self) -> ExitCode
+        ensures { exit_status result ≡ status_of self.now }
+    {
         match self {
             Fault::Words => ExitCode::from(2),
             _ => ExitCode::FAILURE,
@@ -48,7 +58,7 @@ impl<'a> From<ScriptFault> for Fault<'a> {
 }
 
 /// The words that the program was called with, its name first.
-pub fn words_of(rt: &HostRuntime) -> Result<Vec<String>, Fault<'static>> {
+pub fn words_of<R: Env + AllocGlobal>(rt: &R) -> Result<Vec<String>, Fault<'static>> {
     match env::args(rt) {
         Ok(words) => Ok(words.collect(rt.alloc())?),
         Err(error) if error.kind() == io::ErrorKind::OutOfMemory => Err(Fault::Memory),
@@ -56,9 +66,16 @@ pub fn words_of(rt: &HostRuntime) -> Result<Vec<String>, Fault<'static>> {
     }
 }
 
-/// Does what the words say. Where they aren't the program's usage, clap's text tells it on standard error, and the exit
-/// status is 2; help goes to standard output, and the status is 0.
-pub fn run<'a>(rt: &HostRuntime, words: &'a [String]) -> Result<ExitCode, Fault<'a>> {
+/// Does what the words say, with the answers to `writer`. Where they aren't the program's usage, clap's text tells it on
+/// standard error, and the exit status is 2; help goes to standard output, and the status is 0.
+///
+/// Faults are found in this order: of the words, of the profile, of the script, of its run. Nothing is written before the
+/// last of these.
+pub fn run<'a, R, W>(rt: &R, words: &'a [String], writer: &mut W) -> Result<ExitCode, Fault<'a>>
+where
+    R: Files + Input + Print + Eprint + AllocGlobal,
+    W: Write,
+{
     let matches = match command_line(rt.alloc())?.try_get_matches_from(words) {
         Ok(matches) => matches,
         Err(error) => return usage(rt, &error),
@@ -66,13 +83,14 @@ pub fn run<'a>(rt: &HostRuntime, words: &'a [String]) -> Result<ExitCode, Fault<
     let Some(matches) = matches.subcommand_matches("run") else {
         return Ok(ExitCode::SUCCESS);
     };
-    if matches.get_str("PROFILE") != Some("tiny") {
+    let word = matches.get_str("PROFILE").unwrap_or("tiny");
+    // the plain module is that of one profile
+    if word != "tiny" {
         return Err(Fault::Profile);
     }
-    let name = matches.get_str("SCRIPT").unwrap_or("-");
-    let script = read_bytes(rt, name)?;
-    let mut writer = BufWriter::new(rt.alloc(), io::writer(rt)).map_err(|_| Fault::Memory)?;
-    run_script(rt.alloc(), &script, &mut writer)?;
+    let profile = profile_of(rt, word)?;
+    let script = script_of(rt, matches.get_str("SCRIPT").unwrap_or("-"))?;
+    run_script(rt.alloc(), &profile, &script, writer)?;
     match writer.flush() {
         Ok(()) => Ok(ExitCode::SUCCESS),
         Err(_) => Err(Fault::File("-")),
@@ -97,7 +115,7 @@ fn command_line<'a>(alloc: Global) -> Result<Command<'a>, AllocError> {
 }
 
 // Tells why the words were refused, or gives the help that they ask for.
-fn usage<'a>(rt: &HostRuntime, error: &UsageError) -> Result<ExitCode, Fault<'a>> {
+fn usage<'a, R: Print + Eprint>(rt: &R, error: &UsageError) -> Result<ExitCode, Fault<'a>> {
     if error.kind() == ErrorKind::OutOfMemory {
         return Err(Fault::Memory);
     }
@@ -107,17 +125,63 @@ fn usage<'a>(rt: &HostRuntime, error: &UsageError) -> Result<ExitCode, Fault<'a>
     }
 }
 
-// The file's bytes, as far as a script can need them.
-fn read_bytes<'a>(rt: &HostRuntime, name: &'a str) -> Result<Vec<u8>, Fault<'a>> {
-    let mut bytes = Vec::new(rt.alloc());
-    let read = if name == "-" {
-        rt.reader().take(SCRIPT_BYTES).read_to_end(&mut bytes)
+/// The profile of its word: `tiny`, or a file of TOML.
+pub fn profile_of<'a, R: Files + AllocGlobal>(rt: &R, word: &'a str) -> Result<Profile, Fault<'a>> {
+    let read = if word == "tiny" {
+        read_profile(rt.alloc(), TINY.as_bytes())
     } else {
-        File::open(rt, name).and_then(|file| file.take(SCRIPT_BYTES).read_to_end(&mut bytes))
+        // one byte more than a profile may have
+        read_profile(rt.alloc(), &file_bytes(rt, word, MOST_BYTES as u64 + 1)?)
     };
     match read {
+        Ok(profile) => Ok(profile),
+        Err(ProfileFault::Refused) => Err(Fault::Profile),
+        Err(ProfileFault::Memory) => Err(Fault::Memory),
+    }
+}
+
+// The bytes of a script, as far as a good one can need them: of a file, or for - of standard input.
+fn script_of<'a, R: Files + Input + AllocGlobal>(
+    rt: &R,
+    name: &'a str,
+) -> Result<Vec<u8>, Fault<'a>> {
+    if name == "-" {
+        all_of(rt.alloc(), rt.reader(), SCRIPT_BYTES, name)
+    } else {
+        file_bytes(rt, name, SCRIPT_BYTES)
+    }
+}
+
+// The first bytes of a file.
+fn file_bytes<'a, R: Files + AllocGlobal>(
+    rt: &R,
+    name: &'a str,
+    most: u64,
+) -> Result<Vec<u8>, Fault<'a>> {
+    match File::open(rt, name) {
+        Ok(file) => all_of(rt.alloc(), file, most, name),
+        Err(error) => Err(unreadable(&error, name)),
+    }
+}
+
+// What a reader gives, up to so many bytes.
+fn all_of<'a, S: Read + Drop>(
+    alloc: Global,
+    source: S,
+    most: u64,
+    name: &'a str,
+) -> Result<Vec<u8>, Fault<'a>> {
+    let mut bytes = Vec::new(alloc);
+    match source.take(most).read_to_end(&mut bytes) {
         Ok(_) => Ok(bytes),
-        Err(error) if error.kind() == io::ErrorKind::OutOfMemory => Err(Fault::Memory),
-        Err(_) => Err(Fault::File(name)),
+        Err(error) => Err(unreadable(&error, name)),
+    }
+}
+
+fn unreadable<'a>(error: &io::Error, name: &'a str) -> Fault<'a> {
+    if error.kind() == io::ErrorKind::OutOfMemory {
+        Fault::Memory
+    } else {
+        Fault::File(name)
     }
 }

@@ -4,11 +4,12 @@
 mod command;
 mod plain;
 mod script;
+mod store;
 #[cfg(test)]
 mod tests;
 
 use command::{Fault, run, words_of};
-use std::io;
+use std::io::{self, BufWriter};
 use std::process::ExitCode;
 
 fn main(rt: HostRuntime) -> io::Result<ExitCode> {
@@ -16,7 +17,10 @@ fn main(rt: HostRuntime) -> io::Result<ExitCode> {
         Ok(words) => words,
         Err(fault) => return fails(&rt, fault),
     };
-    match run(&rt, words.as_slice()) {
+    let Ok(mut writer) = BufWriter::new(rt.alloc(), io::writer(&rt)) else {
+        return fails(&rt, Fault::Memory);
+    };
+    match run(&rt, &words, &mut writer) {
         Ok(code) => Ok(code),
         Err(fault) => fails(&rt, fault),
     }

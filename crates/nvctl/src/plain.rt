@@ -1,25 +1,24 @@
 // The plain module behind a script: a memory as an array of lines in line order, and its saves on a device.
-ghost use Rattle.std.specs.Prelude.{◌≡◌, ◌+◌, ◌<◌, ◌≤◌, ◌^◌, false, [], vec_capacity, length, Some, None, IfOk, OnOk, OnErr};
+ghost use Rattle.std.specs.Prelude.{◌≡◌, ◌+◌, ◌<◌, ◌≤◌, ◌^◌, ℕ, List, [], ◌∷◌, ◌++◌, All, false, vec_capacity, length, count_by, Some, None, IfOk, OnErr};
 ghost use Rattle.std.specs.Option.{ForSome};
 ghost use Rattle.nvctl.specs.declared.plain.TheConstants.{LINES, TRAIL};
-ghost use Rattle.nvctl.specs.Machine.{World, Run, world_on, store_of};
-ghost use Rattle.save_device.specs.Device.{HasCause};
+ghost use Rattle.nvctl.specs.Machine.{World, Run, tells_fault, world_on, store_of, life_saved, InLife, IsReadOrWrite};
+ghost use Rattle.slot_store.specs.declared.restoring.Verdict.{Verdict};
+ghost use Rattle.nvctl.specs.declared.plain.PlainEvent.{PlainEvent};
+ghost use Rattle.nvctl.specs.declared.plain.Reply.{Reply};
+ghost use Rattle.save_device.specs.Device.{faults_of};
 ghost use Rattle.line_memory.specs.Memory.{IsMemory};
-ghost use Rattle.slot_store.specs.Slots.{device_size};
+ghost use Rattle.slot_store.specs.Slots.{HasSize};
 ghost use Rattle.slot_store.specs.Outcomes.{restored};
-ghost use Rattle.slot_store.specs.Steps.{reach_of};
-ghost use Rattle.slot_store.specs.Writes.{GivesPage};
-ghost use Rattle.slot_store.specs.Runs.{plan_of, next_of};
-ghost use Rattle.slot_store.specs.Rest.{Candidates, only, IsAtRest};
-ghost use Rattle.slot_store.specs.Saving.{Saving, image_of};
-ghost use Rattle.save_image.specs.Image.{Image};
 
 use line_memory::{Line, Write, zero};
-use save_device::{DeviceFault, SaveDevice};
-use save_image::page_bytes;
-use slot_store::{Newest, RestoreError, Restored, SaveRun, Slot, Step, Verdict, format, restore};
+use save_device::SaveDevice;
+use slot_store::{Newest, RestoreError, Restored, Slot, Verdict, format, restore, save};
 use std::alloc::{AllocError, Global};
 use thiserror::Error;
+
+#[cfg(test)]
+mod tests;
 
 /// The number of lines of the memory.
 pub const LINES: usize = 128;
@@ -132,7 +131,7 @@ struct Plain {
 impl Plain {
     ghost use Rattle.nvctl.specs.declared.plain.PlainEvent.TheVariants as events;
     ghost use Rattle.nvctl.specs.Machine.{MachineStep};
-    ghost use Rattle.nvctl.specs.Plain.{RunsLife, Moves, life_of};
+    ghost use Rattle.nvctl.specs.Plain.{RunsLife, Moves, TellsFaults, IsSafe, life_of};
 
     // No life runs yet. All the memory that events but a restore need is reserved here.
     fn new(alloc: Global) -> Result<Plain, AllocError>
@@ -149,10 +148,13 @@ impl Plain {
     }
 
     fn format<D: SaveDevice>(&mut self, device: &mut D) -> Reply
-        requires { length (D.seen device.old) ≡ device_size LINES }
-        ensures moves { D.fault_count device.new ≡ D.fault_count device.old → Moves events.Format result self.old (D.seen device.old) (D.unsettled device.old) self.new (D.seen device.new) (D.unsettled device.new) }
-        ensures size { length (D.seen device.new) ≡ length (D.seen device.old) }
-        ensures later { D.fault_count device.old ≤ D.fault_count device.new }
+        requires { HasSize LINES (D.state device.old) }
+        ensures moves { Moves events.Format result
+            self.old (D.state device.old) self.new (D.state device.new) }
+        ensures faults { TellsFaults result (D.state device.old) (D.state device.new) }
+        ensures safe { IsSafe self.old.life (D.state device.old)
+            → IsSafe self.new.life (D.state device.new) }
+        ensures size { HasSize LINES (D.state device.new) }
     {
         self.life = None;
         let Ok(()) = format(device, LINES) else {
@@ -173,8 +175,11 @@ impl Plain {
     }
 
     fn write(&mut self, write: Write) -> Reply
-        ensures step { (world : World) → RunsLife self.old.life self.old.lines.items self.old.writes.items world → (next : World) × MachineStep world (events.Write write) result next × RunsLife self.new.life self.new.lines.items self.new.writes.items next × (next.store ≡ world.store) }
+        ensures step { (world : World) → RunsLife self.old world
+            → (next : World) × MachineStep world (events.Write write) result next
+            × RunsLife self.new next × (next.store ≡ world.store) }
         ensures same { self.new.life ≡ self.old.life }
+        ensures fine { tells_fault result ≡ false }
     {
         if write.line >= LINES as u64 {
             return Reply::WriteRefused(WriteRefusal::NoSuchLine);
@@ -196,7 +201,9 @@ impl Plain {
     }
 
     fn read(&self, line: u64) -> Reply
-        ensures { (world : World) → RunsLife self.now.life self.now.lines.items self.now.writes.items world → MachineStep world (events.Read line) result world }
+        ensures step { (world : World) → RunsLife self.now world
+            → MachineStep world (events.Read line) result world }
+        ensures fine { tells_fault result ≡ false }
     {
         if line >= LINES as u64 {
             return Reply::ReadRefused(ReadRefusal::NoSuchLine);
@@ -211,10 +218,13 @@ impl Plain {
     }
 
     fn save<D: SaveDevice>(&mut self, device: &mut D) -> Reply
-        requires { length (D.seen device.old) ≡ device_size LINES }
-        ensures moves { D.fault_count device.new ≡ D.fault_count device.old → Moves events.Save result self.old (D.seen device.old) (D.unsettled device.old) self.new (D.seen device.new) (D.unsettled device.new) }
-        ensures size { length (D.seen device.new) ≡ length (D.seen device.old) }
-        ensures later { D.fault_count device.old ≤ D.fault_count device.new }
+        requires { HasSize LINES (D.state device.old) }
+        ensures moves { Moves events.Save result
+            self.old (D.state device.old) self.new (D.state device.new) }
+        ensures faults { TellsFaults result (D.state device.old) (D.state device.new) }
+        ensures safe { IsSafe self.old.life (D.state device.old)
+            → IsSafe self.new.life (D.state device.new) }
+        ensures size { HasSize LINES (D.state device.new) }
     {
         let Some(life) = self.life else {
             return Reply::SaveRefused(SaveRefusal::Closed);
@@ -223,30 +233,37 @@ impl Plain {
             return Reply::SaveRefused(SaveRefusal::Spent);
         }
         let count = life.start + self.writes.len() as u64;
-        let mut run = SaveRun::begin(life.newest, life.closed, count, false, LINES);
-        let Ok(()) = save_all(device, &mut run, &self.lines) else {
-            let closed = run.closed_after_fault();
-            self.life = Some(CurrentLife { closed, ..life });
-            return Reply::SaveFault;
-        };
-        let newest = life.newest.next();
-        self.life = Some(CurrentLife {
-            start: life.start,
-            persisted: count,
-            newest,
-            closed: false,
-        });
-        Reply::Saved {
-            generation: newest.generation,
-            count,
+        match save(device, life.newest, life.closed, count, false, &self.lines) {
+            Ok(newest) => {
+                self.life = Some(CurrentLife {
+                    start: life.start,
+                    persisted: count,
+                    newest,
+                    closed: false,
+                });
+                Reply::Saved {
+                    generation: newest.generation,
+                    count,
+                }
+            }
+            Err(fault) => {
+                self.life = Some(CurrentLife {
+                    closed: fault.closed,
+                    ..life
+                });
+                Reply::SaveFault
+            }
         }
     }
 
     fn restore<D: SaveDevice>(&mut self, alloc: Global, device: &mut D) -> Reply
-        requires { length (D.seen device.old) ≡ device_size LINES }
-        ensures moves { D.fault_count device.new ≡ D.fault_count device.old → Moves events.Restore result self.old (D.seen device.old) (D.unsettled device.old) self.new (D.seen device.new) (D.unsettled device.new) }
-        ensures size { length (D.seen device.new) ≡ length (D.seen device.old) }
-        ensures later { D.fault_count device.old ≤ D.fault_count device.new }
+        requires { HasSize LINES (D.state device.old) }
+        ensures moves { Moves events.Restore result
+            self.old (D.state device.old) self.new (D.state device.new) }
+        ensures faults { TellsFaults result (D.state device.old) (D.state device.new) }
+        ensures safe { IsSafe self.old.life (D.state device.old)
+            → IsSafe self.new.life (D.state device.new) }
+        ensures size { HasSize LINES (D.state device.new) }
     {
         self.life = None;
         let restored = match restore(alloc, device, LINES) {
@@ -282,10 +299,13 @@ impl Plain {
 
     // The answer to one event.
     fn answer<D: SaveDevice>(&mut self, alloc: Global, device: &mut D, event: PlainEvent) -> Reply
-        requires { length (D.seen device.old) ≡ device_size LINES }
-        ensures moves { D.fault_count device.new ≡ D.fault_count device.old → Moves event result self.old (D.seen device.old) (D.unsettled device.old) self.new (D.seen device.new) (D.unsettled device.new) }
-        ensures size { length (D.seen device.new) ≡ length (D.seen device.old) }
-        ensures later { D.fault_count device.old ≤ D.fault_count device.new }
+        requires { HasSize LINES (D.state device.old) }
+        ensures moves { Moves event result
+            self.old (D.state device.old) self.new (D.state device.new) }
+        ensures faults { TellsFaults result (D.state device.old) (D.state device.new) }
+        ensures safe { IsSafe self.old.life (D.state device.old)
+            → IsSafe self.new.life (D.state device.new) }
+        ensures size { HasSize LINES (D.state device.new) }
     {
         match event {
             PlainEvent::Format => self.format(device),
@@ -297,37 +317,6 @@ impl Plain {
     }
 }
 
-// Makes all steps of a save of these lines.
-fn save_all<D: SaveDevice>(
-    device: &mut D,
-    run: &mut SaveRun,
-    lines: &[Line],
-) -> Result<(), DeviceFault>
-    requires size { length (D.seen device.old) ≡ device_size (plan_of run.old).lines }
-    requires lines { IsMemory (plan_of run.old).lines lines.now }
-    ensures saved { OnOk result ((candidates : Candidates) (newest : Image)
-        → Saving candidates newest (plan_of run.old) lines.now (next_of run.old) (D.seen device.old) (D.unsettled device.old)
-        → IsAtRest (only (plan_of run.old).slot (image_of (plan_of run.old) lines.now)) (image_of (plan_of run.old) lines.now) (plan_of run.old).slot (plan_of run.old).lines false (D.seen device.new) (D.unsettled device.new)) }
-    ensures size { length (D.seen device.new) ≡ length (D.seen device.old) }
-    ensures cause { HasCause (D.fault_count device.old) (D.fault_count device.new) result }
-{
-    for _done in 0..run.steps_left() {
-        run.step(device, page_for(run.next(), lines))?;
-    }
-    Ok(())
-}
-
-// The page that a step writes. A step that writes none is given zeros, and doesn't read them.
-fn page_for(step: Step, lines: &[Line]) -> &[u8; 4096]
-    requires { reach_of step ≤ length lines.now }
-    ensures { GivesPage lines.now step result.now }
-{
-    match step {
-        Step::Page(page) => page_bytes(lines, page),
-        _ => &[0; 4096],
-    }
-}
-
 /// Answers events in order, over the device; the first events find no life. The answer's room and the trail's are reserved
 /// first, so that an `Err` changed nothing. A `restore` whose lines found no memory is answered so, as one of the replies.
 pub fn run_plain<D: SaveDevice>(
@@ -335,12 +324,18 @@ pub fn run_plain<D: SaveDevice>(
     events: &[PlainEvent],
     device: &mut D,
 ) -> Result<Vec<Reply>, AllocError>
-    requires { length (D.seen device.old) ≡ device_size LINES }
+    requires { HasSize LINES (D.state device.old) }
 
-    // Where the device didn't fail, the replies are a run of the machine, from what a restore finds of the device's bytes to
-    // what one finds of them then.
-    ensures run { IfOk result (λ replies. D.fault_count device.new ≡ D.fault_count device.old
-        → (world : World) × Run (world_on (D.seen device.old)) events.now replies.items world × (world.store ≡ store_of (restored LINES (D.seen device.new)))) }
+    // Where no call of the device failed, the replies are a run of the machine, from what a restore finds of the device's
+    // bytes to what one finds of them then.
+    ensures run { IfOk result (λ replies.
+        faults_of (D.state device.new) ≡ faults_of (D.state device.old)
+        → (world : World) × Run (world_on (D.state device.old).bytes) events.now replies.items world
+        × (world.store ≡ store_of (restored LINES (D.state device.new).bytes))) }
+
+    // Each call that failed is told by one reply, and no other reply tells a fault.
+    ensures faults { IfOk result (λ replies. faults_of (D.state device.new)
+        ≡ faults_of (D.state device.old) + count_by tells_fault replies.items) }
     ensures err { OnErr result (device.new ≡ device.old) }
 {
     let mut replies = Vec::with_capacity(alloc, events.len())?;
@@ -350,3 +345,14 @@ pub fn run_plain<D: SaveDevice>(
     }
     Ok(replies)
 }
+
+/// A restore after a save, whatever reads and writes stand between them, is Complete, with the save's generation and its
+/// count n, and the life that it begins has the memory after the first n of all writes.
+pub fn restore_after_save()
+    ensures { (old new : World) (between : List PlainEvent) (replies : List Reply)
+        (generation count found held : ℕ) (verdict : Verdict) → All IsReadOrWrite between
+        → Run old (PlainEvent.Save ∷ between ++ PlainEvent.Restore ∷ [])
+        (Reply.Saved generation count ∷ replies ++ Reply.Restored found held verdict ∷ []) new
+        → (found ≡ generation) × (held ≡ count) × (verdict ≡ Verdict.Complete)
+        × InLife old (λ life. new.life ≡ Some (life_saved life count)) }
+{}

@@ -3,10 +3,10 @@ use Rattle.std.proofs.Common.{◌≡◌, ◌⊎◌, ⊎_elim, min, max, inl, inr
 use Rattle.std.proofs.lemmas.Bool.{cases_lt}
 use Rattle.std.proofs.lemmas.List.{length-take-le, length-replicate, get_or-replicate, get_or-take, get_or-drop, get_or_append_left, get_or-append_right}
 use Rattle.std.proofs.lemmas.Grind.{same_number_lists}
-use Rattle.save_device.specs.Device.{Holds}
-use Rattle.save_device.specs.Flags.{AllUpWithin, CopiedWithin}
+use Rattle.save_device.specs.Rows.{overwritten, IsInRange, DiffersOnlyAt}
+use Rattle.save_device.specs.Flags.{AllUpWithin, CopiedWithin, ClearedWithin}
 
-module _ {X : Type 0} (old new bytes : List X) (at n : ℕ) (long : n ≡ length bytes) (fits : at + n ≤ length old) (holds : Holds old at bytes new) where
+module _ {X : Type 0} (old new bytes : List X) (at n : ℕ) (long : n ≡ length bytes) (fits : at + n ≤ length old) (holds : new ≡ overwritten old at bytes) where
   front : length (take at old) ≡ at
   front = length-take-le at old (omega arith)
 
@@ -37,7 +37,7 @@ module _ {X : Type 0} (old new bytes : List X) (at n : ℕ) (long : n ≡ length
 
 -- Where flags were raised over what was written, the others still stand for settled places.
 pub still_agrees : (settled old new bytes : List ℕ) (flags raised : List Bool) (at : ℕ) → length flags ≡ length old → at + length bytes ≤ length old
-    → Holds old at bytes new → Holds flags at (replicate (length bytes) true) raised
+    → new ≡ overwritten old at bytes → raised ≡ overwritten flags at (replicate (length bytes) true)
     → ((k : ℕ) → get_or flags k false ≡ false → get_or settled k 0 ≡ get_or old k 0)
     → (k : ℕ) → get_or raised k false ≡ false → get_or settled k 0 ≡ get_or new k 0
 still_agrees settled old new bytes flags raised at long fits holds raises agrees k low =
@@ -56,7 +56,7 @@ still_agrees settled old new bytes flags raised at long fits holds raises agrees
     ]
 
 -- Flags that are up after a raise lie in the span that was widened by it.
-pub still_spanned : (flags raised : List Bool) (at n low high low' high' : ℕ) → at + n ≤ length flags → Holds flags at (replicate n true) raised
+pub still_spanned : (flags raised : List Bool) (at n low high low' high' : ℕ) → at + n ≤ length flags → raised ≡ overwritten flags at (replicate n true)
     → low' ≡ min low at → high' ≡ max high (at + n) → AllUpWithin low high flags → AllUpWithin low' high' raised
 still_spanned flags raised at n low high low' high' fits raises least most within k up =
     let trues : List Bool = replicate n true in
@@ -91,3 +91,51 @@ all_copied low high row settled copied flags whole within agrees copies =
         | inr after ↦ copies.outside k (inr after) ∙ settled_here (inr after)
       ]
     ])
+
+-- after a write nothing but its range differs
+pub differs_within : (old new bytes : List ℕ) (at : ℕ) → at + length bytes ≤ length old → new ≡ overwritten old at bytes → DiffersOnlyAt (IsInRange at (length bytes)) old new
+differs_within old new bytes at fits holds = record {
+  size = holds-length old new bytes at (length bytes) refl fits holds;
+  outside = λ place out. elim (cases_lt place at) [
+    | inl before ↦ holds-before old new bytes at (length bytes) refl fits holds place 0 before
+    | inr least ↦ elim (cases_lt place (at + length bytes)) [
+      | inl less ↦ absurd (out (least, less))
+      | inr after ↦ holds-after old new bytes at (length bytes) refl fits holds place 0 after
+    ]
+  ];
+}
+
+-- rows that differ nowhere are the same
+pub same_rows : (old new : List ℕ) → DiffersOnlyAt (λ place. ⊥) old new → new ≡ old
+same_rows old new differs = same_number_lists new old differs.size (λ place less. differs.outside place (λ none. none))
+
+-- the flags after a raise
+pub raised_flags : (flags raised : List Bool) (at n : ℕ) → at + n ≤ length flags → raised ≡ overwritten flags at (replicate n true) → (place : ℕ)
+    → ((get_or raised place false ≡ true) → (get_or flags place false ≡ true) ⊎ IsInRange at n place) × ((get_or flags place false ≡ true) ⊎ IsInRange at n place → get_or raised place false ≡ true)
+raised_flags flags raised at n fits raises place =
+    let trues : List Bool = replicate n true in
+    let ns : n ≡ length trues = sym (length-replicate n true) in
+    elim (cases_lt place at) [
+      | inl before ↦
+          let same = holds-before flags raised trues at n ns fits raises place false before in
+          ((λ up. inl (sym same ∙ up)), (λ either. ⊎_elim (λ up. same ∙ up) (λ (w : IsInRange at n place). let bad : ⊥ = omega (arith, w.0, before) in absurd bad) either))
+      | inr least ↦ elim (cases_lt place (at + n)) [
+        | inl less ↦ ((λ up. inr (least, less)), (λ either. holds-within flags raised trues at n ns fits raises place false least less ∙ get_or-replicate n (place - at) true false (omega arith)))
+        | inr after ↦
+            let same = holds-after flags raised trues at n ns fits raises place false after in
+            ((λ up. inl (sym same ∙ up)), (λ either. ⊎_elim (λ up. same ∙ up) (λ (w : IsInRange at n place). let bad : ⊥ = omega (arith, w.1, after) in absurd bad) either))
+      ]
+    ]
+
+-- where the span is cleared that holds each flag that is up, none is
+pub none_up : (low high : ℕ) (flags cleared : List Bool) → AllUpWithin low high flags → ClearedWithin low high flags cleared → (place : ℕ) → get_or cleared place false ≡ true → ⊥
+none_up low high flags cleared within clears place up =
+    let out : (place < low) ⊎ (high ≤ place) → ⊥ = λ outside.
+    let is = within place (sym (clears.outside place outside) ∙ up) in ⊎_elim (λ (b : place < low). let bad : ⊥ = omega (arith, is.0, b) in bad) (λ (b : high ≤ place). let bad : ⊥ = omega (arith, is.1, b) in bad) outside in
+    elim (cases_lt place low) [
+      | inl before ↦ out (inl before)
+      | inr least ↦ elim (cases_lt place high) [
+        | inl most ↦ let low_now : false ≡ true = sym (clears.inside place least most) ∙ up in cc
+        | inr after ↦ out (inr after)
+      ]
+    ]

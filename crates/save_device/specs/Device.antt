@@ -1,47 +1,62 @@
--- What the calls of a device do to its bytes, and what a stop may leave.
-use Rattle.std.specs.Prelude.{◌<◌, ◌≡◌, ◌⊎◌, ℕ, ◌+◌, ◌≤◌, List, ◌++◌, length, take, drop, slice_index, Result, IsErr}
+-- What contracts know of a device: its states, and what a stop may leave.
+use Rattle.std.specs.Prelude.{◌≡◌, ◌⊎◌, ℕ, Bool, IsTrue, List, [], ◌∷◌, ◌++◌, All, ⊤}
+use Rattle.save_device.specs.declared.calls.Call.{Call}
+use Rattle.save_device.specs.Calls.{faults_in}
+use Rattle.save_device.specs.Rows.{DiffersOnlyAt}
 
--- new is old with these bytes from this place on
-abbrev pub Holds : {X : Type 0} → List X → ℕ → List X → List X → Type 0
-Holds old at bytes new = new ≡ take at old ++ bytes ++ drop (at + length bytes) old
+-- A device at a moment: the bytes that a read gives, and which places are unsettled.
+pub record Moment : Type 0 where
+  pub bytes : List ℕ
+  pub unsettled : ℕ → Bool
 
--- two rows of one length that differ at most in the n places from `at` on
-pub record DiffersOnlyIn (at n : ℕ) (old new : List ℕ) : Type 0 where
-  pub size : length new ≡ length old
-  pub outside : (k : ℕ) → (k < at) ⊎ (at + n ≤ k) → slice_index new k ≡ slice_index old k
+-- What is known of a device: how it is, how it was at the moments before, the oldest first, and the calls so far.
+pub record DeviceState : Type 0 where
+  pub bytes : List ℕ
+  pub unsettled : ℕ → Bool
+  pub past : List Moment
+  pub calls : List Call
 
--- A stop may leave this image of a device whose reads give `seen`: it has the same length, unsettled places may have any
--- byte, and the others stay.
-pub record MayLeave (seen : List ℕ) (unsettled : ℕ → Type 0) (image : List ℕ) : Type 0 where
-  pub size : length image ≡ length seen
-  pub stays : (k : ℕ) → (unsettled k → ⊥) → slice_index image k ≡ slice_index seen k
+-- how it is
+abbrev pub present : DeviceState → Moment
+present state = record { bytes = state.bytes; unsettled = state.unsettled }
+
+-- the same with these calls, as they were made of something around it
+abbrev pub with_calls : DeviceState → List Call → DeviceState
+with_calls state calls = record { bytes = state.bytes; unsettled = state.unsettled; past = state.past; calls = calls }
+
+-- all moments so far, the present one last
+abbrev pub moments_of : DeviceState → List Moment
+moments_of state = state.past ++ present state ∷ []
+
+-- how many calls failed
+abbrev pub faults_of : DeviceState → ℕ
+faults_of state = faults_in state.calls
 
 -- no place is unsettled
-abbrev pub IsSettled : (ℕ → Type 0) → Type 0
-IsSettled unsettled = (k : ℕ) → unsettled k → ⊥
+abbrev pub IsSettled : DeviceState → Type 0
+IsSettled state = (place : ℕ) → ¬ IsTrue (state.unsettled place)
 
--- nothing became unsettled
-abbrev pub NoMore : (ℕ → Type 0) → (ℕ → Type 0) → Type 0
-NoMore old new = (k : ℕ) → new k → old k
+-- A stop at this moment may leave this image: a row of the same length that has any byte at an unsettled place, and at
+-- each other one the byte that a read gives.
+abbrev pub MayLeave : Moment → List ℕ → Type 0
+MayLeave moment image = DiffersOnlyAt (λ place. IsTrue (moment.unsettled place)) moment.bytes image
 
--- nothing but the n places from `at` on became unsettled
-abbrev pub NoMoreBut : ℕ → ℕ → (ℕ → Type 0) → (ℕ → Type 0) → Type 0
-NoMoreBut at n old new = (k : ℕ) → new k → old k ⊎ ((at ≤ k) × (k < at + n))
+-- each image that a stop at this moment may leave has P
+abbrev pub StopsWithin : (List ℕ → Type 0) → Moment → Type 0
+StopsWithin P moment = (image : List ℕ) → MayLeave moment image → P image
 
--- Time goes on: a stop since t might have left what it might have left before, or what it may leave now.
-pub record Elapses (before now : ℕ) (past since : ℕ → List ℕ → Type 0) (seen : List ℕ) (unsettled : ℕ → Type 0) : Type 0 where
-  pub later : before ≤ now
-  pub nothing_else : (t : ℕ) (c : List ℕ) → t ≤ before → since t c → past t c ⊎ MayLeave seen unsettled c
-  pub keeps : (t : ℕ) (c : List ℕ) → t ≤ before → past t c → since t c
+-- A stop at any moment from old to new leaves an image that has P: the moments of new are those of old and some further
+-- ones, at each of which it does, as at the last one of old.
+pub record LeavesOnly (old new : DeviceState) (P : List ℕ → Type 0) : Type 0 where
+  pub since : List Moment
+  pub keeps : moments_of new ≡ moments_of old ++ since
+  pub first : StopsWithin P (present old)
+  pub each : All (StopsWithin P) since
 
--- A stop at any moment since old leaves an image that has P.
-pub record LeavesOnly {D : Type 0} (moment : D → ℕ) (left_since : D → ℕ → List ℕ → Type 0) (old new : D) (P : List ℕ → Type 0) : Type 0 where
-  pub later : moment old ≤ moment new
-  pub each : (c : List ℕ) → left_since new (moment old) c → P c
-  -- for a run that began earlier
-  pub before : (t : ℕ) (c : List ℕ) → t ≤ moment old → left_since new t c → left_since old t c ⊎ P c
+-- moments go on
+abbrev pub GoesOn : DeviceState → DeviceState → Type 0
+GoesOn old new = LeavesOnly old new (λ image. ⊤)
 
--- a fault is answered only where the count of faults rose
-pub record HasCause {T E : Type 0} (before now : ℕ) (result : Result T E) : Type 0 where
-  pub later : before ≤ now
-  pub rose : IsErr result → before < now
+-- Time passes in one call: a stop at any moment of it leaves what one could leave before it, or what one can leave after.
+abbrev pub Elapses : DeviceState → DeviceState → Type 0
+Elapses old new = LeavesOnly old new (λ image. MayLeave (present old) image ⊎ MayLeave (present new) image)

@@ -1,5 +1,8 @@
+pub mod Rows
+pub mod Calls
 pub mod Device
+pub mod Changes
 pub mod Flags
-pub mod Memory
 pub mod Pick
-pub mod Since
+pub mod Memory
+pub mod OneFault

@@ -1,5 +1,5 @@
 -- What a stop of a device in memory is told to leave.
-use Rattle.std.specs.Prelude.{◌≡◌, ℕ, ◌<◌, List, length, Bool, false, if◌then◌else◌, slice_index, slice_index_or}
+use Rattle.std.specs.Prelude.{◌≡◌, ℕ, ◌<◌, List, length, Bool, if◌then◌else◌, slice_index}
 use Rattle.save_device.specs.declared.memory.Pick.{Pick}
 use Rattle.save_device.specs.declared.memory.Pick.TheVariants.{Old, New, Torn}
 
@@ -10,6 +10,8 @@ picked New settled now = now
 picked (Torn byte) settled now = byte
 
 -- the image has the picked byte in each unsettled place, and what stood there in the others
-abbrev pub IsPickedFrom : Pick → List ℕ → List Bool → List ℕ → List ℕ → Type 0
-IsPickedFrom pick settled unsettled row image = (k : ℕ) → k < length row
-    → slice_index image k ≡ (if slice_index_or unsettled k false then picked pick (slice_index settled k) (slice_index row k) else slice_index row k)
+abbrev pub IsPickedFrom : Pick → List ℕ → (ℕ → Bool) → List ℕ → List ℕ → Type 0
+IsPickedFrom pick settled unsettled row image =
+    (place : ℕ) → place < length row
+    → slice_index image place
+    ≡ (if unsettled place then picked pick (slice_index settled place) (slice_index row place) else slice_index row place)

@@ -1,11 +1,14 @@
 // A device in memory, which doesn't fail. It keeps no past contents: only proofs read those.
-ghost use Rattle.std.specs.Prelude.{◌≡◌, ℕ, ◌+◌, ◌<◌, ◌≤◌, ◌^◌, min, max, length, true, false, replicate, slice_index, slice_index_or, IfOk, OnOk, IsOk};
-ghost use Rattle.save_device.specs.Device.{Holds, DiffersOnlyIn, IsSettled, NoMore, NoMoreBut, MayLeave, Elapses, HasCause};
+ghost use Rattle.std.specs.Prelude.{◌≡◌, ◌⊎◌, ◌↔◌, ℕ, ◌+◌, ◌<◌, ◌≤◌, ◌^◌, min, max, length, true, false, replicate, slice_index, slice_index_or, slice_range, is_ok, IsTrue, IfOk, OnOk, IsOk};
+ghost use Rattle.save_device.specs.declared.calls.CallKind.TheVariants.{Read};
+ghost use Rattle.save_device.specs.Rows.{overwritten, IsInRange};
+ghost use Rattle.save_device.specs.Calls.{called};
+ghost use Rattle.save_device.specs.Device.{IsSettled, MayLeave, Elapses, present};
+ghost use Rattle.save_device.specs.Changes.{Put, Settle, IsCall, Makes};
 ghost use Rattle.save_device.specs.Flags.{AllUpWithin, CopiedWithin, ClearedWithin};
 ghost use Rattle.save_device.specs.Pick.{IsPickedFrom};
-ghost use Rattle.std.proofs.Common.{inl};
 
-use crate::{DeviceFault, SaveDevice};
+use crate::{CallKind, CallLog, DeviceFault, SaveDevice};
 use past::Past;
 use std::alloc::{AllocError, Global};
 
@@ -57,10 +60,12 @@ pub struct MemoryDevice {
     settled: Vec<u8>,
     span: Span,
     past: Past<Content>,
+    calls: CallLog,
     ghost small: { length content.bytes.items < 2 ^ 64 },
     ghost flags: { length content.unsettled.items ≡ length content.bytes.items },
     ghost whole: { length settled.items ≡ length content.bytes.items },
-    ghost agrees: { (k : ℕ) → slice_index_or content.unsettled.items k false ≡ false → slice_index settled.items k ≡ slice_index content.bytes.items k },
+    ghost agrees: { (k : ℕ) → slice_index_or content.unsettled.items k false ≡ false
+        → slice_index settled.items k ≡ slice_index content.bytes.items k },
     ghost spanned: { AllUpWithin span.low span.high content.unsettled.items },
     ghost inside: { span.high ≤ length content.bytes.items },
 }
@@ -107,13 +112,13 @@ impl Span {
 }
 
 impl MemoryDevice {
-    ghost use Rattle.save_device.specs.Memory.{row_of, settled_row_of, unsettled_of, moment_of, left_since_of, IsPicked};
+    ghost use Rattle.save_device.specs.Memory.{state_of, settled_row_of, IsPicked};
 
     /// A device with these bytes, settled. It takes twice the memory of the bytes, and refuses only where there is none.
     pub fn new(alloc: Global, bytes: Vec<u8>) -> Result<MemoryDevice, AllocError>
-        ensures row { IfOk result (λ device. row_of device ≡ bytes.items) }
+        ensures row { IfOk result (λ device. (state_of device).bytes ≡ bytes.items) }
         ensures settled_row { IfOk result (λ device. settled_row_of device ≡ bytes.items) }
-        ensures settled { IfOk result (λ device. IsSettled (unsettled_of device)) }
+        ensures settled { IfOk result (λ device. IsSettled (state_of device)) }
     {
         let settled = bytes.to_vec(alloc)?;
         let unsettled = Vec::from_elem(alloc, false, bytes.len())?;
@@ -122,16 +127,18 @@ impl MemoryDevice {
             settled,
             span: Span::NONE,
             past: Past::new(),
+            calls: CallLog::new(),
         })
     }
 
-    /// Power is lost and comes back: the device has one of the images that a stop may leave, and is settled.
+    /// Power is lost and comes back: the device has one of the images that a stop may leave, and is settled. It is no call.
     pub fn stop(&mut self, pick: Pick)
-        ensures left { MayLeave (row_of self.old) (unsettled_of self.old) (row_of self.new) }
-        ensures settled { IsSettled (unsettled_of self.new) }
-        ensures picked { IsPicked pick self.old (row_of self.new) }
-        ensures settled_row { settled_row_of self.new ≡ row_of self.new }
-        ensures time { Elapses (moment_of self.old) (moment_of self.new) (left_since_of self.old) (left_since_of self.new) (row_of self.new) (unsettled_of self.new) }
+        ensures left { MayLeave (present (state_of self.old)) (state_of self.new).bytes }
+        ensures settled { IsSettled (state_of self.new) }
+        ensures picked { IsPicked pick self.old (state_of self.new).bytes }
+        ensures settled_row { settled_row_of self.new ≡ (state_of self.new).bytes }
+        ensures time { Elapses (state_of self.old) (state_of self.new) }
+        ensures calls { (state_of self.new).calls ≡ (state_of self.old).calls }
     {
         self.past.note(&self.content);
         choose(
@@ -151,7 +158,8 @@ fn choose(bytes: &mut Vec<u8>, settled: &[u8], unsettled: &[bool], pick: Pick)
     requires settled { length settled.now ≡ length bytes.old.items }
     requires unsettled { length unsettled.now ≡ length bytes.old.items }
     ensures len { length bytes.new.items ≡ length bytes.old.items }
-    ensures picked { IsPickedFrom pick settled.now unsettled.now bytes.old.items bytes.new.items }
+    ensures picked { IsPickedFrom pick settled.now
+        (λ place. slice_index_or unsettled.now place false) bytes.old.items bytes.new.items }
 {
     for k in 0..settled.len() {
         if unsettled[k] {
@@ -162,81 +170,79 @@ fn choose(bytes: &mut Vec<u8>, settled: &[u8], unsettled: &[bool], pick: Pick)
 
 fn overwrite(row: &mut Vec<u8>, at: usize, bytes: &[u8])
     requires { at + length bytes.now ≤ length row.old.items }
-    ensures { Holds row.old.items at bytes.now row.new.items }
+    ensures { row.new.items ≡ overwritten row.old.items at bytes.now }
 {
     row[at..at + bytes.len()].copy_from_slice(bytes);
 }
 
 fn raise(flags: &mut Vec<bool>, at: usize, n: usize)
     requires { at + n ≤ length flags.old.items }
-    ensures { Holds flags.old.items at (replicate n true) flags.new.items }
+    ensures { flags.new.items ≡ overwritten flags.old.items at (replicate n true) }
 {
     flags[at..at + n].fill(true);
 }
 
 impl SaveDevice for MemoryDevice {
-    ghost use Rattle.save_device.specs.Memory.{row_of, settled_row_of, unsettled_of, moment_of, left_since_of, ContentMayLeave};
-    ghost use Rattle.save_device.specs.Since.{only_now_left};
+    ghost use Rattle.save_device.specs.Memory.{state_of, settled_row_of};
 
-    ghost seen = { row_of };
+    ghost state = { state_of };
 
-    ghost unsettled = { unsettled_of };
-
-    ghost moment = { moment_of };
-
-    ghost left_since = { left_since_of };
-
-    ghost fault_count = { λ _. 0 };
-
-    ghost fits = { λ m. m.small };
-
-    ghost counts_now = { λ m t c le now. inl now };
-
-    ghost only_now = { λ m c left. only_now_left ContentMayLeave m.past.items m.content c left };
+    ghost fits = { λ device. device.small };
 
     fn len(&self) -> usize {
         self.content.bytes.len()
     }
 
-    fn read(&mut self, at: usize, into: &mut [u8]) -> Result<(), DeviceFault> {
+    fn read(&mut self, at: usize, into: &mut [u8]) -> Result<(), DeviceFault>
+        requires { at + length into.old ≤ length (state_of self.old).bytes }
+        ensures call { IsCall Read (is_ok result) (state_of self.old) (state_of self.new) }
+        ensures same { present (state_of self.new) ≡ present (state_of self.old) }
+        ensures bytes { OnOk result
+            (into.new ≡ slice_range (state_of self.old).bytes at (at + length into.old)) }
+        ensures ok { IsOk result }
+
+        // No more than the call is new, in what the next sync and the next stop are to do either.
+        ensures past { (state_of self.new).past ≡ (state_of self.old).past }
+        ensures settled_row { settled_row_of self.new ≡ settled_row_of self.old }
+    {
         into.copy_from_slice(&self.content.bytes[at..at + into.len()]);
+        self.calls.note(CallKind::Read, true);
         Ok(())
     }
 
     fn write_at(&mut self, at: usize, bytes: &[u8]) -> Result<(), DeviceFault>
-        requires { at + length bytes.now ≤ length (row_of self.old) }
-        ensures written { OnOk result (Holds (row_of self.old) at bytes.now (row_of self.new)) }
-        ensures outside { DiffersOnlyIn at (length bytes.now) (row_of self.old) (row_of self.new) }
-        ensures unsettled { NoMoreBut at (length bytes.now) (unsettled_of self.old) (unsettled_of self.new) }
-        ensures time { Elapses (moment_of self.old) (moment_of self.new) (left_since_of self.old) (left_since_of self.new) (row_of self.new) (unsettled_of self.new) }
-        ensures cause { HasCause 0 0 result }
+        requires { at + length bytes.now ≤ length (state_of self.old).bytes }
+        ensures makes { Makes (Put at bytes.now) (is_ok result)
+            (state_of self.old) (state_of self.new) }
         ensures ok { IsOk result }
+
+        // Each place of the range is unsettled then, also one that had its byte before.
+        ensures unsettled { (place : ℕ) → IsTrue ((state_of self.new).unsettled place)
+            ↔ (IsTrue ((state_of self.old).unsettled place) ⊎ IsInRange at (length bytes.now) place) }
         ensures settled_row { settled_row_of self.new ≡ settled_row_of self.old }
     {
         self.past.note(&self.content);
         overwrite(&mut self.content.bytes, at, bytes);
         raise(&mut self.content.unsettled, at, bytes.len());
         self.span = self.span.with(at, bytes.len());
+        self.calls.note(CallKind::Write, true);
         Ok(())
     }
 
     fn sync(&mut self) -> Result<(), DeviceFault>
-        ensures settled { OnOk result (IsSettled (unsettled_of self.new)) }
-        ensures same { row_of self.new ≡ row_of self.old }
-        ensures unsettled { NoMore (unsettled_of self.old) (unsettled_of self.new) }
-        ensures time { Elapses (moment_of self.old) (moment_of self.new) (left_since_of self.old) (left_since_of self.new) (row_of self.new) (unsettled_of self.new) }
-        ensures cause { HasCause 0 0 result }
+        ensures makes { Makes Settle (is_ok result) (state_of self.old) (state_of self.new) }
         ensures ok { IsOk result }
-        ensures settled_row { settled_row_of self.new ≡ row_of self.new }
+        ensures settled_row { settled_row_of self.new ≡ (state_of self.old).bytes }
     {
         self.past.note(&self.content);
         self.span.copy(&self.content.bytes, &mut self.settled);
         self.span.clear(&mut self.content.unsettled);
         self.span = Span::NONE;
+        self.calls.note(CallKind::Sync, true);
         Ok(())
     }
 
     fn faults(&self) -> u64 {
-        0
+        self.calls.faults()
     }
 }

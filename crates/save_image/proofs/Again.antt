@@ -13,7 +13,7 @@ use Rattle.save_image.specs.declared.reading.HeaderFault.{HeaderFault}
 use Rattle.save_image.specs.declared.reading.HeaderFault.TheVariants.{Magic, Lines, Generation, Count, Padding}
 use Rattle.save_image.specs.declared.reading.Header.{Header}
 use Rattle.save_image.specs.Header.{zeros, le8, magic, header, Fits}
-use Rattle.save_image.specs.Reading.{IsSound, IsFirstFault, HasMagic, HasPadding, number_in, part}
+use Rattle.save_image.specs.Reading.{IsSound, IsHeaderFault, HasMagic, HasPadding, number_in, part}
 use Rattle.save_image.specs.Image.{fits, fields_of, header_of, header_in}
 use Rattle.save_image.proofs.Found.{found}
 use Rattle.save_image.proofs.Pages.{length-zeros, length-le8, length-magic, take_front, drop_front}
@@ -148,14 +148,14 @@ is_header lines page is s = yes_in lines page ((said lines page).1 (is, (s.has_g
 false_where : (b : Bool) → (b ≡ true → ⊥) → b ≡ false
 false_where b wrong = elim b as (λ v. (v ≡ true → ⊥) → v ≡ false) [ true ↦ λ n. absurd (n refl) | false ↦ λ n. refl ] wrong
 
-faulty : (page : List ℕ) (lines : ℕ) (fault : HeaderFault) → IsFirstFault page lines fault → IsSound page lines → ⊥
+faulty : (page : List ℕ) (lines : ℕ) (fault : HeaderFault) → IsHeaderFault page lines fault → IsSound page lines → ⊥
 faulty page lines Magic f s = f s.has_magic
 faulty page lines Lines f s = f.1 s.has_lines
 faulty page lines Generation f s = f.2 s.has_generation
 faulty page lines Count f s = omega (arith, f.3, s.has_count)
 faulty page lines Padding f s = f.4 s.has_padding
 
-pub is_no_header : (lines : ℕ) (page : List ℕ) (fault : HeaderFault) → lines < 2 ^ 64 → IsFirstFault page lines fault → header_in lines page ≡ None
+pub is_no_header : (lines : ℕ) (page : List ℕ) (fault : HeaderFault) → lines < 2 ^ 64 → IsHeaderFault page lines fault → header_in lines page ≡ None
 is_no_header lines page fault less f =
     no_in lines page (false_where (test_of lines page) (λ t. faulty page lines fault f (said_sound lines page less ((said lines page).0 t))))
 
@@ -201,12 +201,12 @@ pub ok_header_in : (lines : ℕ) (page : List ℕ) (r : Result Header HeaderFaul
 ok_header_in lines page (Ok h) l b f = is_header lines page (found page lines l b f.0) f.0 ∙ ap (λ (x : Header). Some x) (sym f.1)
 ok_header_in lines page (Err e) l b f = tt
 
-pub err_header_in : (lines : ℕ) (page : List ℕ) (r : Result Header HeaderFault) → lines < 2 ^ 64 → IfErr r (IsFirstFault page lines) → OnErr r (header_in lines page ≡ None)
+pub err_header_in : (lines : ℕ) (page : List ℕ) (r : Result Header HeaderFault) → lines < 2 ^ 64 → IfErr r (IsHeaderFault page lines) → OnErr r (header_in lines page ≡ None)
 err_header_in lines page (Ok h) less f = tt
 err_header_in lines page (Err e) less f = is_no_header lines page e less f
 
 -- what is spelled as a header is read as it
-pub only_header : (lines : ℕ) (page : List ℕ) (r : Result Header HeaderFault) (h : Header) → lines < 2 ^ 64 → IfOk r (λ x. IsSound page lines × (x ≡ fields_of page)) → IfErr r (IsFirstFault page lines)
+pub only_header : (lines : ℕ) (page : List ℕ) (r : Result Header HeaderFault) (h : Header) → lines < 2 ^ 64 → IfOk r (λ x. IsSound page lines × (x ≡ fields_of page)) → IfErr r (IsHeaderFault page lines)
     → page ≡ header_of h lines → Fits h.generation h.count → r ≡ Ok h
 only_header lines page (Ok x) h less f e is fits =
     ap (λ (y : Header). let r : Result Header HeaderFault = Ok y in r) (f.1 ∙ fields_again lines page h is fits)

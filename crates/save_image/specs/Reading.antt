@@ -31,9 +31,9 @@ pub record IsSound (page : List ℕ) (lines : ℕ) : Type 0 where
   pub has_padding : HasPadding page
 
 -- the first thing that is wrong with the page
-abbrev pub IsFirstFault : List ℕ → ℕ → HeaderFault → Type 0
-IsFirstFault page lines Magic = ¬ HasMagic page
-IsFirstFault page lines Lines = HasMagic page × (number_in page 32 ≢ lines)
-IsFirstFault page lines Generation = HasMagic page × (number_in page 32 ≡ lines) × ¬ HasGeneration page
-IsFirstFault page lines Count = HasMagic page × (number_in page 32 ≡ lines) × HasGeneration page × (2 ^ 62 < number_in page 24)
-IsFirstFault page lines Padding = HasMagic page × (number_in page 32 ≡ lines) × HasGeneration page × (number_in page 24 ≤ 2 ^ 62) × ¬ HasPadding page
+abbrev pub IsHeaderFault : List ℕ → ℕ → HeaderFault → Type 0
+IsHeaderFault page lines Magic = ¬ HasMagic page
+IsHeaderFault page lines Lines = HasMagic page × (number_in page 32 ≢ lines)
+IsHeaderFault page lines Generation = HasMagic page × (number_in page 32 ≡ lines) × ¬ HasGeneration page
+IsHeaderFault page lines Count = HasMagic page × (number_in page 32 ≡ lines) × HasGeneration page × (2 ^ 62 < number_in page 24)
+IsHeaderFault page lines Padding = HasMagic page × (number_in page 32 ≡ lines) × HasGeneration page × (number_in page 24 ≤ 2 ^ 62) × ¬ HasPadding page

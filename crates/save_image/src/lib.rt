@@ -10,4 +10,4 @@ mod writing;
 
 pub use body::{page_bytes, page_lines};
 pub use reading::{Header, HeaderFault, read_header};
-pub use writing::header_bytes;
+pub use writing::{ARMED, header_bytes};

@@ -1,7 +1,7 @@
 // How a header is read.
 ghost use Rattle.std.specs.Prelude.{◌≡◌, ◌+◌, ◌<◌, ◌≤◌, ◌^◌, ◌↔◌, length, IsTrue, All, Ok, Some, None, IfOk, IfErr, OnErr};
 ghost use Rattle.save_image.specs.Header.{Fits};
-ghost use Rattle.save_image.specs.Reading.{IsSound, IsFirstFault, HasMagic, HasPadding, number_in};
+ghost use Rattle.save_image.specs.Reading.{IsSound, IsHeaderFault, HasMagic, HasPadding, number_in};
 ghost use Rattle.save_image.specs.Image.{header_in, header_of, fields_of};
 ghost use Rattle.save_image.specs.declared.reading.Header.{Header};
 
@@ -67,8 +67,8 @@ fn has_padding(page: &[u8]) -> bool
 
 // The fields of a header, or the first fault.
 fn fields(page: &[u8; 4096], lines: u64) -> Result<Header, HeaderFault>
-    ensures ok { IfOk result (λ h. IsSound page.now lines × (h ≡ fields_of page.now)) }
-    ensures err { IfErr result (IsFirstFault page.now lines) }
+    ensures ok { IfOk result (λ header. IsSound page.now lines × (header ≡ fields_of page.now)) }
+    ensures err { IfErr result (IsHeaderFault page.now lines) }
 {
     if !has_magic(page) {
         return Err(HeaderFault::Magic);
@@ -99,14 +99,16 @@ fn fields(page: &[u8; 4096], lines: u64) -> Result<Header, HeaderFault>
 /// numbers; the first two bytes may be anything.
 pub fn read_header(page: &[u8; 4096], lines: u64) -> Result<Header, HeaderFault>
     // What is read is spelled so, each byte of it.
-    ensures found { IfOk result (λ h. (page.now ≡ header_of h lines) × Fits h.generation h.count) }
+    ensures found { IfOk result (λ header.
+        (page.now ≡ header_of header lines) × Fits header.generation header.count) }
 
     // What is spelled so is read.
-    ensures only { (h : Header) → page.now ≡ header_of h lines → Fits h.generation h.count → result ≡ Ok h }
-    ensures header { IfOk result (λ h. header_in lines page.now ≡ Some h) }
+    ensures only { (header : Header) → page.now ≡ header_of header lines
+        → Fits header.generation header.count → result ≡ Ok header }
+    ensures header { IfOk result (λ header. header_in lines page.now ≡ Some header) }
     ensures none { OnErr result (header_in lines page.now ≡ None) }
 
-    ensures fault { IfErr result (IsFirstFault page.now lines) }
+    ensures fault { IfErr result (IsHeaderFault page.now lines) }
 {
     fields(page, lines)
 }

@@ -69,7 +69,15 @@ fn the_first_fault_is_named(rt: HostRuntime) -> Result<(), Fail> {
     }
     assert!(rt; changed(0, 0xff).is_ok());
     assert!(rt; changed(1, 0xff).is_ok());
-    assert_eq!(rt; HeaderFault::Padding as u8, 5);
+    for (fault, number) in [
+        (HeaderFault::Magic, 1),
+        (HeaderFault::Lines, 2),
+        (HeaderFault::Generation, 3),
+        (HeaderFault::Count, 4),
+        (HeaderFault::Padding, 5),
+    ] {
+        assert_eq!(rt; fault as u8, number);
+    }
     Ok(())
 }
 

@@ -4,7 +4,8 @@ ghost use Rattle.save_image.specs.Header.{header, arm_byte, zeros, le8, spliced}
 
 use byteorder::{ByteOrder, LittleEndian};
 
-const ARMED: u8 = 0x5a;
+/// The arm byte of an image that is armed; that of a clear one is 0.
+pub const ARMED: u8 = 0x5a;
 
 // Writes a number of eight bytes.
 #[tactic(auto, unfolding(crate::specs::Header::le8))]

@@ -1,8 +1,13 @@
 -- What stands while a store is made.
-use Rattle.std.proofs.Common.{◌≡◌, ℕ, zero, suc, ◌+◌, ◌-◌, ◌*◌, ◌/◌, ◌<◌, ◌≤◌, List, ◌++◌, length, take, slice_index, true, false, Bool, refl, sym, ◌∙◌, ap, arith, inl, inr, subst}
-use Rattle.std.specs.Prelude.{replicate, slice_range, if◌then◌else◌, nat_lt}
+use Rattle.std.proofs.Common.{◌≡◌, ℕ, zero, suc, ◌+◌, ◌-◌, ◌*◌, ◌<◌, ◌≤◌, List, [], ◌∷◌, ◌++◌, length, get_or, take, slice_index, true, false, Bool, Result, Ok, Err, OnOk, OnErr, refl, sym, ◌∙◌, ap, arith, subst}
+use Rattle.std.specs.Prelude.{replicate, slice_range}
 use Rattle.std.specs.List.{concat}
 use Rattle.std.proofs.lemmas.List.{replicate-append-replicate, take-replicate, drop-replicate}
+use Rattle.save_device.specs.Rows.{overwritten, DiffersOnlyAt}
+use Rattle.save_device.specs.Device.{DeviceState, IsSettled, LeavesOnly, Elapses}
+use Rattle.save_device.specs.Changes.{Touches}
+use Rattle.save_device.proofs.Moments.{within_call}
+use Rattle.save_device.proofs.Rows.{differs_within, holds-within}
 use Rattle.line_memory.specs.Memory.{IsMemory, zero_line, zero_lines}
 use Rattle.line_memory.proofs.MemoryLaws.{zero_lines-IsMemory}
 use Rattle.save_image.specs.Header.{arm_byte}
@@ -10,21 +15,19 @@ use Rattle.save_image.specs.Body.{page_of}
 use Rattle.save_image.specs.Image.{Image, image_bytes}
 use Rattle.slot_store.specs.declared.slots.Slot.{Slot}
 use Rattle.slot_store.specs.declared.slots.Slot.TheVariants.{First, Second}
-use Rattle.slot_store.specs.declared.saving.Plan.{Plan}
-use Rattle.slot_store.specs.declared.saving.Step.{Step}
-use Rattle.slot_store.specs.declared.saving.Step.TheVariants.{Close, SyncClosed, Header, Page, SyncBody, Open, SyncOpen, Done}
-use Rattle.slot_store.specs.Slots.{IsCapacity, slot_size, device_size, start_of, slot_state, Full}
+use Rattle.slot_store.specs.declared.plan.Plan.{Plan}
+use Rattle.slot_store.specs.declared.plan.Step.{Step}
+use Rattle.slot_store.specs.declared.plan.Step.TheVariants.{Close, SyncClosed, Header, Page, SyncBody, Open, SyncOpen, Done}
+use Rattle.slot_store.specs.Slots.{slot_size, device_size, HasSize, start_of, slot_state, Full}
 use Rattle.slot_store.specs.Outcomes.{first_image}
-use Rattle.slot_store.specs.Calls.{Writes, DiffersOnlyAt}
-use Rattle.slot_store.specs.Steps.{steps_left, step_after, reach_of}
-use Rattle.slot_store.specs.Writes.{gate_of, write_of, GivesPage}
-use Rattle.slot_store.specs.Rest.{only, IsAtRest}
-use Rattle.slot_store.specs.Saving.{image_of, Stands}
-use Rattle.slot_store.specs.Formatted.{IsFormatted}
+use Rattle.slot_store.specs.Steps.{reach_of}
+use Rattle.slot_store.specs.Changes.{gate_of, change_of, GivesPage}
+use Rattle.slot_store.specs.Rest.{IsAtRestOn}
+use Rattle.slot_store.specs.Saving.{image_of, GateShut, SlotHas}
+use Rattle.slot_store.specs.Formatted.{IsFormatted, HasShutGates}
 use Rattle.slot_store.proofs.Gates.{closed_gate}
 use Rattle.slot_store.proofs.Torn.{holds_new}
 use Rattle.slot_store.proofs.Stops.{writes_here}
-use Rattle.slot_store.proofs.Standing.{below_or_not}
 use Rattle.slot_store.proofs.Resting.{rest_alone, nothing}
 use Rattle.slot_store.proofs.ImageBytes.{written_bytes}
 
@@ -49,42 +52,16 @@ concat_zeros (suc m) =
     ap (λ (bytes : List ℕ). zero_line ++ bytes) (concat_zeros m) ∙ replicate-append-replicate 64 (64 * m) 0
     ∙ ap (λ (n : ℕ). replicate n 0) (let e : 64 + 64 * m ≡ 64 * suc m = omega arith in e)
 
+-- what closing both gates keeps of the second slot
+pub gates_keep : (lines : ℕ) (old new : List ℕ) → HasShutGates lines old new → KeepsSecond lines old new
+gates_keep lines old new gates = record { size = gates.size; shut = gates.second; rest = λ k less. gates.rest k (λ e. omega (arith, e, less)) (λ e. omega (arith, e, less)) }
+
 -- any page of a memory of zero lines
 pub page_of-zero_lines : (k lines : ℕ) → 64 * (k + 1) ≤ lines → page_of k (zero_lines lines) ≡ replicate 4096 0
 unfolding zero_lines
 page_of-zero_lines k lines within =
     ap (λ (rest : List (List ℕ)). concat (take 64 rest)) (drop-replicate (64 * k) lines zero_line)
     ∙ ap concat (take-replicate 64 (lines - 64 * k) zero_line (omega arith)) ∙ concat_zeros 64
-
--- each step leaves one less
-pub steps_left-after : (lines : ℕ) (next : Step) → IsCapacity lines → reach_of next ≤ lines → 0 < steps_left lines next → steps_left lines (step_after lines next) + 1 ≡ steps_left lines next
-steps_left-after lines Close cap reach some = omega arith
-steps_left-after lines SyncClosed cap reach some = omega arith
-steps_left-after lines Header cap reach some = omega arith
-steps_left-after lines (Page k) cap reach some =
-    elim (below_or_not lines (64 * (k + 2))) [
-      | inl last ↦
-          let after : steps_left lines (if nat_lt lines (64 * (k + 2)) then SyncBody else Page (k + 1)) ≡ 3 = ap (λ (b : Bool). steps_left lines (if b then SyncBody else Page (k + 1))) last.0 in
-          omega (arith, after, last.1, cap.whole)
-      | inr further ↦
-          let after : steps_left lines (if nat_lt lines (64 * (k + 2)) then SyncBody else Page (k + 1)) ≡ lines / 64 + 3 - (k + 1) = ap (λ (b : Bool). steps_left lines (if b then SyncBody else Page (k + 1))) further.0 in
-          omega (arith, after, further.1)
-    ]
-steps_left-after lines SyncBody cap reach some = refl
-steps_left-after lines Open cap reach some = refl
-steps_left-after lines SyncOpen cap reach some = refl
-steps_left-after lines Done cap reach some = absurd (omega (arith, some))
-
--- where no step is left, the save is done
-pub no_steps_left : (lines : ℕ) (next : Step) → reach_of next ≤ lines → steps_left lines next ≡ 0 → next ≡ Done
-no_steps_left lines Close reach none = absurd (omega (arith, none))
-no_steps_left lines SyncClosed reach none = absurd (omega (arith, none))
-no_steps_left lines Header reach none = absurd (omega (arith, none))
-no_steps_left lines (Page k) reach none = absurd (omega (arith, none, reach))
-no_steps_left lines SyncBody reach none = absurd (omega (arith, none))
-no_steps_left lines Open reach none = absurd (omega (arith, none))
-no_steps_left lines SyncOpen reach none = absurd (omega (arith, none))
-no_steps_left lines Done reach none = refl
 
 -- what each step is given
 pub gives_zeros : (lines : ℕ) (next : Step) (page : List ℕ) → reach_of next ≤ lines → ((k lines : ℕ) → 64 * (k + 1) ≤ lines → page ≡ page_of k (zero_lines lines)) → GivesPage (zero_lines lines) next page
@@ -102,9 +79,9 @@ module _ (lines : ℕ) (plan : Plan) (is : IsFirstPlan lines plan) where
   gate_is = ap (start_of plan.lines) is.slot
 
   -- a step of the first save leaves the second slot
-  pub keeps_second : (next : Step) (page old mid new : List ℕ) → length page ≡ 4096 → reach_of next ≤ plan.lines → DiffersOnlyAt (Writes (write_of plan next page)) mid new → KeepsSecond lines old mid → KeepsSecond lines old new
+  pub keeps_second : (next : Step) (page old mid new : List ℕ) → length page ≡ 4096 → reach_of next ≤ plan.lines → DiffersOnlyAt (Touches (change_of plan next page)) mid new → KeepsSecond lines old mid → KeepsSecond lines old new
   keeps_second next page old mid new n reach d keeps =
-      let out : (k : ℕ) → slot_size lines ≤ k → Writes (write_of plan next page) k → ⊥ =
+      let out : (k : ℕ) → slot_size lines ≤ k → Touches (change_of plan next page) k → ⊥ =
       λ k least w. let i = writes_here plan next page k n reach w in omega (arith, i.most, gate_is, is.lines_are) in
       record {
         size = d.size ∙ keeps.size;
@@ -112,31 +89,63 @@ module _ (lines : ℕ) (plan : Plan) (is : IsFirstPlan lines plan) where
         rest = λ k less. d.outside k (out k (omega arith)) ∙ keeps.rest k less;
       }
 
+  -- behind gates that are closed and settled it may begin
+  pub shut_first : (state : DeviceState) → slice_index state.bytes 0 ≡ 0 → IsSettled state → GateShut plan state
+  shut_first state zero_at settled = record {
+    shut = λ is_open. let wrong : 0xA5 ≡ 0 = sym is_open ∙ ap (λ (i : ℕ). slice_index state.bytes i) gate_is ∙ zero_at in absurd (omega (arith, wrong));
+    fixed = settled (gate_of plan);
+  }
+
   image_is : image_of plan (zero_lines lines) ≡ first_image lines
   image_is = let arm : arm_byte plan.armed ≡ 0 = ap arm_byte is.clear in let same : image_of plan (zero_lines lines) ≡ first_image lines = cc (is.generation, is.count) in same
 
   memory_is : IsMemory plan.lines (zero_lines lines)
   memory_is = subst (λ (n : ℕ). IsMemory n (zero_lines lines)) (sym is.lines_are) (zero_lines-IsMemory lines)
 
-  module _ (old new : List ℕ) (unsettled : ℕ → Type 0) (size : length old ≡ device_size lines) (done : Stands plan (zero_lines lines) Done new unsettled) (keeps : KeepsSecond lines old new) where
-    is_full : slot_state lines First new ≡ Full (first_image lines)
+  module _ (tried : Bool) (old new : DeviceState) (size : HasSize lines old) (done : SlotHas plan (zero_lines lines) Done tried new) (keeps : KeepsSecond lines old.bytes new.bytes) where
+    is_full : slot_state lines First new.bytes ≡ Full (first_image lines)
     is_full =
-        let full : slot_state plan.lines plan.slot new ≡ Full (image_of plan (zero_lines lines)) = holds_new plan (zero_lines lines) new memory_is done.0 done.1.is_open in
-        ap (λ (s : Slot). slot_state lines s new) (sym is.slot) ∙ ap (λ (n : ℕ). slot_state n plan.slot new) (sym is.lines_are) ∙ full ∙ ap (λ (i : Image). Full i) image_is
+        let full : slot_state plan.lines plan.slot new.bytes ≡ Full (image_of plan (zero_lines lines)) = holds_new plan (zero_lines lines) new.bytes memory_is done.0 done.1.is_open in
+        ap (λ (s : Slot). slot_state lines s new.bytes) (sym is.slot) ∙ ap (λ (n : ℕ). slot_state n plan.slot new.bytes) (sym is.lines_are) ∙ full ∙ ap (λ (i : Image). Full i) image_is
 
-    pub formatted_rest : IsAtRest (only First (first_image lines)) (first_image lines) First lines true new unsettled
+    pub formatted_rest : IsAtRestOn First (first_image lines) lines true new
     formatted_rest =
-        rest_alone lines First (first_image lines) true new unsettled (keeps.size ∙ size) done.2 is_full
-        (nothing refl (closed_gate lines Second new (λ e. let wrong : 0xA5 ≡ 0 = sym e ∙ keeps.shut in absurd (omega (arith, wrong)))))
+        rest_alone lines First (first_image lines) true new (keeps.size ∙ size) done.2 is_full
+        (nothing refl (closed_gate lines Second new.bytes (λ e. let wrong : 0xA5 ≡ 0 = sym e ∙ keeps.shut in absurd (omega (arith, wrong)))))
 
-    pub formatted_bytes : IsFormatted lines old new
+    pub formatted_bytes : IsFormatted lines old.bytes new.bytes
     formatted_bytes = record {
       size = keeps.size;
       first =
-          let bytes : slice_range new (gate_of plan) (gate_of plan + slot_size plan.lines) ≡ image_bytes plan.lines (image_of plan (zero_lines lines)) = written_bytes plan (zero_lines lines) new memory_is done.0 done.1.is_open (omega (arith, keeps.size, size, gate_is, is.lines_are)) in
+          let bytes : slice_range new.bytes (gate_of plan) (gate_of plan + slot_size plan.lines) ≡ image_bytes plan.lines (image_of plan (zero_lines lines)) = written_bytes plan (zero_lines lines) new.bytes memory_is done.0 done.1.is_open (omega (arith, keeps.size, size, gate_is, is.lines_are)) in
           let start : gate_of plan + slot_size plan.lines ≡ slot_size lines = omega (arith, gate_is, is.lines_are) in
-          ap (λ (to : ℕ). slice_range new 0 to) (sym start) ∙ ap (λ (from : ℕ). slice_range new from (gate_of plan + slot_size plan.lines)) (sym gate_is) ∙ bytes
+          ap (λ (to : ℕ). slice_range new.bytes 0 to) (sym start) ∙ ap (λ (from : ℕ). slice_range new.bytes from (gate_of plan + slot_size plan.lines)) (sym gate_is) ∙ bytes
           ∙ ap (λ (n : ℕ). image_bytes n (image_of plan (zero_lines lines))) is.lines_are ∙ ap (image_bytes lines) image_is;
       second = keeps.shut;
       rest = keeps.rest;
     }
+
+-- a call that leaves the size
+pub sized_within : (lines : ℕ) (old new : DeviceState) → Elapses old new → HasSize lines old → HasSize lines new → LeavesOnly old new (λ image. length image ≡ device_size lines)
+sized_within lines old new time before after = within_call old new time (λ image left. left.size ∙ before) (λ image left. left.size ∙ after)
+
+-- both gates after they were closed
+pub both_shut : (lines : ℕ) (old one two : List ℕ) → length old ≡ device_size lines → one ≡ overwritten old 0 (0 ∷ []) → two ≡ overwritten one (slot_size lines) (0 ∷ []) → HasShutGates lines old two
+both_shut lines old one two size first second =
+    let d1 = differs_within old one (0 ∷ []) 0 (omega (arith, size)) first in
+    let d2 = differs_within one two (0 ∷ []) (slot_size lines) (omega (arith, d1.size, size)) second in
+    let gate : slot_size lines - slot_size lines ≡ 0 = omega arith in
+    record {
+      size = d2.size ∙ d1.size;
+      first = d2.outside 0 (λ w. omega (arith, w.0)) ∙ holds-within old one (0 ∷ []) 0 1 refl (omega (arith, size)) first 0 0 (omega arith) (omega arith);
+      second = holds-within one two (0 ∷ []) (slot_size lines) 1 refl (omega (arith, d1.size, size)) second (slot_size lines) 0 (omega arith) (omega arith) ∙ ap (λ (i : ℕ). get_or (0 ∷ []) i 0) gate;
+      rest = λ k other_first other_second. d2.outside k (λ w. other_second (omega (arith, w.0, w.1))) ∙ d1.outside k (λ w. other_first (omega (arith, w.0, w.1)));
+    }
+
+pub on_any_err : {T E : Type 0} (r : Result T E) (P : Type 0) → P → OnErr r P
+on_any_err (Ok v) P p = tt
+on_any_err (Err e) P p = p
+
+pub on_any_ok : {T E : Type 0} (r : Result T E) (P : Type 0) → P → OnOk r P
+on_any_ok (Ok v) P p = p
+on_any_ok (Err e) P p = tt

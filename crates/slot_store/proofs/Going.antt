@@ -1,57 +1,84 @@
--- How a save goes on.
-use Rattle.std.proofs.Common.{◌≡◌, ◌⊎◌, ℕ, ◌+◌, ◌*◌, ◌≤◌, List, length, true, false, ◌∙◌, inl, inr, ⊎_elim}
-use Rattle.std.specs.Prelude.{if◌then◌else◌, nat_lt, Result}
-use Rattle.std.specs.Result.{OnErr}
-use Rattle.std.specs.Prelude.{Ok, Err}
+-- How a save goes on, after a step that went well or one that failed.
+use Rattle.std.proofs.Common.{◌≡◌, ℕ, ◌+◌, ◌*◌, ◌≤◌, Bool, List, length, true, false, ◌∙◌, inl, inr, ⊎_elim}
+use Rattle.std.specs.Prelude.{if◌then◌else◌, nat_lt}
+use Rattle.save_device.specs.Device.{DeviceState, LeavesOnly}
+use Rattle.save_device.specs.Changes.{Touches, Makes}
 use Rattle.save_image.specs.Image.{Image}
-use Rattle.slot_store.specs.declared.saving.Plan.{Plan}
-use Rattle.slot_store.specs.declared.saving.Step.{Step}
-use Rattle.slot_store.specs.declared.saving.Step.TheVariants.{Close, SyncClosed, Header, Page, SyncBody, Open, SyncOpen, Done}
-use Rattle.slot_store.specs.Calls.{Does, Writes, Settles, DiffersOnlyAt}
+use Rattle.slot_store.specs.declared.plan.Plan.{Plan}
+use Rattle.slot_store.specs.declared.plan.Step.{Step}
+use Rattle.slot_store.specs.declared.plan.Step.TheVariants.{Close, SyncClosed, Header, Page, SyncBody, Open, SyncOpen, Done}
 use Rattle.slot_store.specs.Steps.{step_after, reach_of}
-use Rattle.slot_store.specs.Writes.{gate_of, write_of, GivesPage}
+use Rattle.slot_store.specs.Changes.{gate_of, change_of, GivesPage}
 use Rattle.slot_store.specs.Rest.{Candidates, IsHarmless}
-use Rattle.slot_store.specs.Saving.{IsKept, Guards, Saving}
-use Rattle.slot_store.proofs.Stops.{closes_gate, kept_after, newest_after}
-use Rattle.slot_store.proofs.Standing.{stands_next}
+use Rattle.slot_store.specs.Saving.{IsKept, Guards, SavingAt, Leaves}
+use Rattle.save_device.proofs.Moments.{within_call}
+use Rattle.slot_store.proofs.Stops.{closes_gate, kept_after, newest_after, stop_before, stop_leaves, torn_after}
+use Rattle.slot_store.proofs.Standing.{stands_next, stands_again}
 
--- whatever is said of an error, if it holds of every one
-pub on_any_err : {T E : Type 0} (r : Result T E) (P : Type 0) → P → OnErr r P
-on_any_err (Ok v) P p = tt
-on_any_err (Err e) P p = p
+module _ (candidates : Candidates) (old : Image) (plan : Plan) (memory : List (List ℕ)) (page : List ℕ) (before after : DeviceState) (n : length page ≡ 4096) where
+  module _ (next : Step) (good : Bool) (m : Makes (change_of plan next page) good before after) where
+    -- a write of the gate alone leaves what it left while the gate was written
+    harmless_after : ((k : ℕ) → Touches (change_of plan next page) k → (plan.closed ≡ false) × (k ≡ gate_of plan))
+        → IsHarmless candidates plan.lines plan.slot plan.closed before → IsHarmless candidates plan.lines plan.slot plan.closed after
+    harmless_after gate_alone harmless image left =
+        harmless image (record {
+          size = left.size ∙ m.outside.size;
+          outside = λ k none. left.outside k (⊎_elim (λ l. ⊎_elim (λ v. none (inl v)) (λ w. none (inr (gate_alone k w))) (m.unsettled k l)) (λ g. none (inr g))) ∙ m.outside.outside k (λ w. none (inr (gate_alone k w)));
+        })
 
-module _ (candidates : Candidates) (old : Image) (plan : Plan) (memory : List (List ℕ)) (page bytes new : List ℕ) (unsettled later : ℕ → Type 0) (n : length page ≡ 4096) where
-  -- a write of the gate alone leaves what it left while the gate was written
-  pub harmless_after : (W : ℕ → Type 0) → ((k : ℕ) → W k → (plan.closed ≡ false) × (k ≡ gate_of plan)) → DiffersOnlyAt W bytes new → ((k : ℕ) → later k → unsettled k ⊎ W k)
-      → IsHarmless candidates plan.lines plan.slot plan.closed bytes unsettled → IsHarmless candidates plan.lines plan.slot plan.closed new later
-  harmless_after W gate_alone d u harmless c m =
-      harmless c (record {
-        size = m.size ∙ d.size;
-        stays = λ k none. m.stays k (⊎_elim (λ l. ⊎_elim (λ v. none (inl v)) (λ w. none (inr (gate_alone k w))) (u k l)) (λ g. none (inr g))) ∙ d.outside k (λ w. none (inr (gate_alone k w)));
-      })
+    kept : reach_of next ≤ plan.lines → IsKept plan before → IsKept plan after
+    kept r was = kept_after plan page n next before after r was m.unsettled
 
-  guards_next : (next : Step) → reach_of next ≤ plan.lines → Guards candidates plan next bytes unsettled → DiffersOnlyAt (Writes (write_of plan next page)) bytes new
-      → ((k : ℕ) → later k → unsettled k ⊎ Writes (write_of plan next page) k) → Settles (write_of plan next page) later → Guards candidates plan (step_after plan.lines next) new later
-  guards_next Close r guards d u settles = harmless_after (Writes (write_of plan Close page)) (closes_gate plan page) d u guards
-  guards_next SyncClosed r guards d u settles = λ k least most. settles k
-  guards_next Header r guards d u settles = kept_after candidates old plan memory page bytes unsettled n Header r guards later u
-  guards_next (Page i) r guards d u settles =
-      let kept : IsKept plan later = kept_after candidates old plan memory page bytes unsettled n (Page i) r guards later u in
-      elim (nat_lt plan.lines (64 * (i + 2))) as (λ b. Guards candidates plan (if b then SyncBody else Page (i + 1)) new later) [ true ↦ kept | false ↦ kept ]
-  guards_next SyncBody r guards d u settles = λ k least most. settles k
-  guards_next Open r guards d u settles = kept_after candidates old plan memory page bytes unsettled n Open r guards later u
-  guards_next SyncOpen r guards d u settles = λ k least most. settles k
-  guards_next Done r guards d u settles = λ k least most. settles k
+  guards_next : (next : Step) → reach_of next ≤ plan.lines → Guards candidates plan next before → Makes (change_of plan next page) true before after → Guards candidates plan (step_after plan.lines next) after
+  guards_next Close r guards m = harmless_after Close true m (closes_gate plan page) guards
+  guards_next SyncClosed r guards m = λ k here. m.settled k
+  guards_next Header r guards m = kept Header true m r guards
+  guards_next (Page i) r guards m =
+      let still : IsKept plan after = kept (Page i) true m r guards in
+      elim (nat_lt plan.lines (64 * (i + 2))) as (λ b. Guards candidates plan (if b then SyncBody else Page (i + 1)) after) [ true ↦ still | false ↦ still ]
+  guards_next SyncBody r guards m = λ k here. m.settled k
+  guards_next Open r guards m = kept Open true m r guards
+  guards_next SyncOpen r guards m = λ k here. m.settled k
+  guards_next Done r guards m = λ k here. m.settled k
 
-  pub goes_on_saving : (next : Step) → reach_of next ≤ plan.lines → GivesPage memory next page → Saving candidates old plan memory next bytes unsettled
-      → Does (write_of plan next page) bytes new → DiffersOnlyAt (Writes (write_of plan next page)) bytes new → ((k : ℕ) → later k → unsettled k ⊎ Writes (write_of plan next page) k)
-      → Settles (write_of plan next page) later → Saving candidates old plan memory (step_after plan.lines next) new later
-  goes_on_saving next r gives s does d u settles =
-      record {
-        size = d.size ∙ s.size;
-        lines = s.lines;
-        rises = s.rises;
-        newest = newest_after candidates old plan memory page bytes unsettled n next r s new d;
-        guards = guards_next next r s.guards d u settles;
-        stands = stands_next plan memory page bytes new unsettled later n s.size s.lines next r gives s.stands does d u settles;
-      }
+  guards_again : (next : Step) → reach_of next ≤ plan.lines → Guards candidates plan next before → Makes (change_of plan next page) false before after → Guards candidates plan next after
+  guards_again Close r guards m = harmless_after Close false m (closes_gate plan page) guards
+  guards_again SyncClosed r guards m = harmless_after SyncClosed false m (λ k w. absurd w) guards
+  guards_again Header r guards m = kept Header false m r guards
+  guards_again (Page i) r guards m = kept (Page i) false m r guards
+  guards_again SyncBody r guards m = kept SyncBody false m r guards
+  guards_again Open r guards m = kept Open false m r guards
+  guards_again SyncOpen r guards m = kept SyncOpen false m r guards
+  guards_again Done r guards m = kept Done false m r guards
+
+  -- a step went well
+  pub saving_next : (next : Step) (tried : Bool) → reach_of next ≤ plan.lines → GivesPage memory next page → SavingAt candidates old plan memory next tried before → Makes (change_of plan next page) true before after
+      → SavingAt candidates old plan memory (step_after plan.lines next) false after
+  saving_next next tried r gives s m = record {
+    size = m.outside.size ∙ s.size;
+    lines = s.lines;
+    rises = s.rises;
+    newest = newest_after candidates old plan memory tried before page n next r s after.bytes m.outside;
+    guards = guards_next next r s.guards m;
+    has = stands_next plan memory page before after n s.size next tried r s.lines gives s.has m;
+  }
+
+  -- a step failed
+  pub saving_again : (next : Step) (tried : Bool) → reach_of next ≤ plan.lines → SavingAt candidates old plan memory next tried before → Makes (change_of plan next page) false before after
+      → SavingAt candidates old plan memory next true after
+  saving_again next tried r s m = record {
+    size = m.outside.size ∙ s.size;
+    lines = s.lines;
+    rises = s.rises;
+    newest = newest_after candidates old plan memory tried before page n next r s after.bytes m.outside;
+    guards = guards_again next r s.guards m;
+    has = stands_again plan memory page before after n s.size next tried s.has m;
+  }
+
+  -- a stop at any moment of a step
+  pub stop_within : (next : Step) (tried good : Bool) → reach_of next ≤ plan.lines → SavingAt candidates old plan memory next tried before → Makes (change_of plan next page) good before after
+      → LeavesOnly before after (Leaves candidates old plan memory next)
+  stop_within next tried good r s m =
+      within_call before after m.call.time
+      (λ image left. stop_before candidates old plan memory tried before page n next image r s left)
+      (λ image left. stop_leaves candidates old plan memory tried before page n next image r s (torn_after before after image m.outside m.unsettled left))

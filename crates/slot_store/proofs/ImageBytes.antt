@@ -12,9 +12,9 @@ use Rattle.save_image.specs.Image.{Image, IsImage, image_bytes, header_in}
 use Rattle.save_image.proofs.BodyLaws.{bytes_of-lines_in, length-lines_in, lines_in-take, lines_in-bytes_of}
 use Rattle.save_image.proofs.Again.{is_spelled, again_gate, read_again, length-header}
 use Rattle.slot_store.specs.declared.slots.Slot.{Slot}
-use Rattle.slot_store.specs.declared.saving.Plan.{Plan}
+use Rattle.slot_store.specs.declared.plan.Plan.{Plan}
 use Rattle.slot_store.specs.Slots.{slot_size, device_size, start_of, page_in, body_in, image_with, opened, slot_state, Closed, Full}
-use Rattle.slot_store.specs.Writes.{gate_of, planned}
+use Rattle.slot_store.specs.Changes.{gate_of, planned}
 use Rattle.slot_store.specs.Saving.{image_of, IsWritten}
 use Rattle.slot_store.proofs.Gates.{gate_in_page, equal, open_gate, gate_open}
 use Rattle.slot_store.proofs.Stops.{within}

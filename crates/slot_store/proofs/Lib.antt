@@ -1,10 +1,15 @@
 pub mod Same
 pub mod Gates
 pub mod Picked
+pub mod RestoreCalls
 pub mod Torn
 pub mod Stops
 pub mod Standing
 pub mod Going
 pub mod Resting
+pub mod GivenUp
 pub mod ImageBytes
+pub mod StepsLeft
+pub mod Rearmed
 pub mod FirstSave
+pub mod WholeSaves

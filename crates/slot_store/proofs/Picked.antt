@@ -1,5 +1,5 @@
 -- Which slot's image two readings pick.
-use Rattle.std.proofs.Common.{◌≡◌, ◌≢◌, ◌≤◌, ℕ, List, length, Result, Ok, Err, IfErr, if◌then◌else◌, refl, sym, ◌∙◌, ap, Bool}
+use Rattle.std.proofs.Common.{◌≡◌, ◌≢◌, ℕ, List, length, Result, Ok, Err, IfErr, if◌then◌else◌, refl, sym, ◌∙◌, ap, Bool, false}
 use Rattle.slot_store.specs.declared.slots.Slot.{Slot}
 use Rattle.slot_store.specs.declared.slots.Slot.TheVariants.{First, Second}
 use Rattle.slot_store.specs.declared.restoring.Choice.{Choice}
@@ -7,7 +7,7 @@ use Rattle.slot_store.specs.declared.restoring.RestoreError.{RestoreError}
 use Rattle.slot_store.specs.declared.restoring.RestoreError.TheVariants as errors
 use Rattle.slot_store.specs.Slots.{SlotState, slot_state, device_size, body_in, image_with, is_closed, other}
 use Rattle.slot_store.specs.Outcomes.{Outcome, Found, WrongSize, chosen, restored}
-use Rattle.slot_store.specs.Told.{IsChosen, IsFailure, ReadsCause, IsPicked, Names, Refuses, memory_in, state_other}
+use Rattle.slot_store.specs.Told.{IsChosen, IsFailure, IsNewestIn, NamesOutcome, Refuses, is_fault, memory_in, state_other}
 use Rattle.slot_store.proofs.Gates.{by_states, not_equal}
 
 memory_of : (lines : ℕ) (slot : Slot) (bytes : List ℕ) → memory_in slot (body_in lines First bytes) (body_in lines Second bytes) ≡ body_in lines slot bytes
@@ -18,7 +18,7 @@ other_of : (lines : ℕ) (slot : Slot) (bytes : List ℕ) (s t : SlotState) → 
 other_of lines First bytes s t p q = sym q
 other_of lines Second bytes s t p q = sym p
 
-refuses : (e : RestoreError) (o u : Outcome) → u ≡ o → Names e o → Refuses e u
+refuses : (e : RestoreError) (o u : Outcome) → u ≡ o → NamesOutcome e o → Refuses e u
 refuses errors.NoImage o u same n = same ∙ n
 refuses (errors.Damaged slot) o u same n = same ∙ n
 refuses errors.WrongSize o u same n = same ∙ n
@@ -26,20 +26,21 @@ refuses errors.Device o u same n = tt
 refuses errors.Memory o u same n = tt
 
 pub picked : (r : Result Choice RestoreError) (lines : ℕ) (bytes : List ℕ) (s t : SlotState) → length bytes ≡ device_size lines
-    → slot_state lines First bytes ≡ s → slot_state lines Second bytes ≡ t → IsChosen r (body_in lines First bytes) (body_in lines Second bytes) s t → IsPicked r lines bytes
+    → slot_state lines First bytes ≡ s → slot_state lines Second bytes ≡ t → IsChosen r (body_in lines First bytes) (body_in lines Second bytes) s t → IsNewestIn r lines bytes
 picked (Ok p) lines bytes s t size one two c = (
   by_states lines bytes s t size one two ∙ c.0 ∙ ap (λ (m : List (List ℕ)). Found p.slot (image_with p.header m)) (memory_of lines p.slot bytes),
   c.1 ∙ ap is_closed (other_of lines p.slot bytes s t one two),
 )
 picked (Err e) lines bytes s t size one two c = refuses e (chosen s t) (restored lines bytes) (by_states lines bytes s t size one two) c
 
-pub cause_of : (r : Result Choice RestoreError) (one two : List (List ℕ)) (s t : SlotState) (before now : ℕ) → IsChosen r one two s t → before ≤ now → ReadsCause before now r
-cause_of (Ok p) one two s t before now c le = le
-cause_of (Err errors.NoImage) one two s t before now c le = le
-cause_of (Err (errors.Damaged slot)) one two s t before now c le = le
-cause_of (Err errors.WrongSize) one two s t before now c le = le
-cause_of (Err errors.Device) one two s t before now c le = absurd c
-cause_of (Err errors.Memory) one two s t before now c le = le
+-- a choice is no fault
+pub not_fault : (r : Result Choice RestoreError) (one two : List (List ℕ)) (s t : SlotState) → IsChosen r one two s t → is_fault r ≡ false
+not_fault (Ok p) one two s t c = refl
+not_fault (Err errors.NoImage) one two s t c = refl
+not_fault (Err (errors.Damaged slot)) one two s t c = refl
+not_fault (Err errors.WrongSize) one two s t c = refl
+not_fault (Err errors.Device) one two s t c = absurd c
+not_fault (Err errors.Memory) one two s t c = refl
 
 pub wrong_size : (lines : ℕ) (bytes : List ℕ) → length bytes ≢ device_size lines → restored lines bytes ≡ WrongSize
 unfolding restored

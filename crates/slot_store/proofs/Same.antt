@@ -4,7 +4,7 @@ use Rattle.std.proofs.lemmas.Grind.{same_number_lists}
 use Rattle.std.proofs.lemmas.List.{get_or-take, get_or-drop, drop-drop}
 use Rattle.save_image.specs.Body.{lines_in}
 use Rattle.slot_store.specs.declared.slots.Slot.{Slot}
-use Rattle.slot_store.specs.Slots.{start_of, slot_size, state_of, page_in, body_in, slot_state}
+use Rattle.slot_store.specs.Slots.{start_of, slot_size, slot_with, page_in, body_in, slot_state}
 
 -- two rows have the same bytes from here on, n of them
 pub record Agree (from n : ℕ) (xs ys : List ℕ) : Type 0 where
@@ -35,4 +35,4 @@ unfolding slot_state
 state_same lines slot xs ys a =
     let page : page_in lines slot ys ≡ page_in lines slot xs = part_same (start_of lines slot) (slot_size lines) (start_of lines slot + 4096 - start_of lines slot) (start_of lines slot) xs ys a (omega arith) (omega arith) in
     let body : body_in lines slot ys ≡ body_in lines slot xs = lines_same (start_of lines slot) (slot_size lines) lines (start_of lines slot + 4096) xs ys a (omega arith) (omega arith) in
-    ap (λ (p : List ℕ). state_of lines p (body_in lines slot ys)) page ∙ ap (λ (b : List (List ℕ)). state_of lines (page_in lines slot xs) b) body
+    ap (λ (p : List ℕ). slot_with lines p (body_in lines slot ys)) page ∙ ap (λ (b : List (List ℕ)). slot_with lines (page_in lines slot xs) b) body

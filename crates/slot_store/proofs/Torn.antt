@@ -4,17 +4,17 @@ use Rattle.std.specs.Prelude.{slice_range, Some}
 use Rattle.std.proofs.lemmas.Grind.{same_number_lists}
 use Rattle.std.proofs.lemmas.List.{get_or-take, get_or-drop, take_all}
 use Rattle.std.proofs.lemmas.Bool.Decides.{eqb_tells}
-use Rattle.save_device.specs.Device.{Holds}
+use Rattle.save_device.specs.Rows.{IsInRange, overwritten}
 use Rattle.save_device.proofs.Rows.{holds-within}
 use Rattle.line_memory.specs.Memory.{IsMemory}
 use Rattle.save_image.specs.declared.reading.Header.{Header}
 use Rattle.save_image.specs.Image.{Image, header_in}
 use Rattle.save_image.specs.Header.{arm_byte}
 use Rattle.save_image.proofs.Again.{length-header, header-gate, read_again}
-use Rattle.slot_store.specs.declared.saving.Plan.{Plan}
+use Rattle.slot_store.specs.declared.plan.Plan.{Plan}
 use Rattle.slot_store.specs.Slots.{start_of, slot_size, device_size, other, page_in, body_in, image_with, slot_state, Full}
 use Rattle.slot_store.specs.Outcomes.{Found, restored}
-use Rattle.slot_store.specs.Writes.{gate_of, planned}
+use Rattle.slot_store.specs.Changes.{gate_of, planned}
 use Rattle.slot_store.specs.Saving.{image_of, HasHeader, HasLines, IsWritten}
 use Rattle.slot_store.proofs.Same.{Agree, part_same, lines_same, state_same}
 use Rattle.slot_store.proofs.Gates.{closed_gate, open_gate, only_other, the_newer}
@@ -44,7 +44,7 @@ module _ (plan : Plan) where
   header_but_gate bytes c less a has =
       header_from c (omega (arith, a.size)) (part_same (gate_of plan + 1) 4095 4095 (gate_of plan + 1) bytes c a (omega arith) (omega arith) ∙ rest_from bytes less has)
 
-  pub header_written : (bytes c : List ℕ) → gate_of plan + 4096 ≤ length bytes → length c ≡ length bytes → Holds bytes (gate_of plan + 1) (drop 1 (planned plan 0)) c → HasHeader plan c
+  pub header_written : (bytes c : List ℕ) → gate_of plan + 4096 ≤ length bytes → length c ≡ length bytes → c ≡ overwritten bytes (gate_of plan + 1) (drop 1 (planned plan 0)) → HasHeader plan c
   header_written bytes c fits size holds =
       let at = gate_of plan + 1 in
       let n : length (drop 1 (planned plan 0)) ≡ 4095 = length-tail in
@@ -76,9 +76,9 @@ module _ (plan : Plan) where
 
   module _ (old : Image) (bytes c : List ℕ) (size : length bytes ≡ device_size plan.lines) (same : length c ≡ length bytes)
       (newest : slot_state plan.lines (other plan.slot) bytes ≡ Full old)
-      (kept : (k : ℕ) → start_of plan.lines (other plan.slot) ≤ k → k < start_of plan.lines (other plan.slot) + slot_size plan.lines → slice_index c k ≡ slice_index bytes k) where
+      (kept : (k : ℕ) → IsInRange (start_of plan.lines (other plan.slot)) (slot_size plan.lines) k → slice_index c k ≡ slice_index bytes k) where
     newest_still : slot_state plan.lines (other plan.slot) c ≡ Full old
-    newest_still = state_same plan.lines (other plan.slot) bytes c (record { size = same; each = kept }) ∙ newest
+    newest_still = state_same plan.lines (other plan.slot) bytes c (record { size = same; each = λ k least most. kept k (least, most) }) ∙ newest
 
     -- whatever was torn behind a closed gate
     pub old_alone : slice_index c (gate_of plan) ≢ 0xA5 → restored plan.lines c ≡ Found (other plan.slot) old

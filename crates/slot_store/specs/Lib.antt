@@ -1,10 +1,10 @@
 pub mod Slots
 pub mod Outcomes
 pub mod Told
-pub mod Calls
 pub mod Steps
-pub mod Writes
-pub mod Runs
+pub mod Changes
 pub mod Rest
 pub mod Saving
+pub mod Runs
 pub mod Formatted
+pub mod Whole

@@ -1,5 +1,6 @@
 -- Where the two slots of a device lie, and what each one holds.
-use Rattle.std.specs.Prelude.{◌≡◌, ◌==◌, ℕ, ◌+◌, ◌*◌, ◌%◌, ◌≤◌, Bool, true, false, List, drop, slice_index, slice_range, Option, Some, None, if◌then◌else◌}
+use Rattle.std.specs.Prelude.{◌≡◌, ◌==◌, ℕ, ◌+◌, ◌*◌, ◌%◌, ◌≤◌, Bool, true, false, List, drop, length, slice_index, slice_range, Option, Some, None, if◌then◌else◌}
+use Rattle.save_device.specs.Device.{DeviceState}
 use Rattle.save_image.specs.declared.reading.Header.{Header}
 use Rattle.save_image.specs.Body.{lines_in}
 use Rattle.save_image.specs.Image.{Image, header_in}
@@ -19,6 +20,10 @@ slot_size lines = 4096 + 64 * lines
 -- the bytes of a device: two slots
 abbrev pub device_size : ℕ → ℕ
 device_size lines = 2 * slot_size lines
+
+-- a device has that size
+abbrev pub HasSize : ℕ → DeviceState → Type 0
+HasSize lines state = length state.bytes ≡ device_size lines
 
 abbrev pub start_of : ℕ → Slot → ℕ
 start_of lines First = 0
@@ -44,20 +49,20 @@ body_in lines slot bytes = lines_in lines (drop (start_of lines slot + 4096) byt
 
 -- the image with this header and these lines
 abbrev pub image_with : Header → List (List ℕ) → Image
-image_with h memory = record { generation = h.generation; count = h.count; arm = h.arm; memory = memory }
+image_with header memory = record { generation = header.generation; count = header.count; arm = header.arm; memory = memory }
 
 -- an open slot with this header, if it is one, and these lines
 abbrev pub opened : Option Header → List (List ℕ) → SlotState
-opened (Some h) memory = Full (image_with h memory)
+opened (Some header) memory = Full (image_with header memory)
 opened None memory = Broken
 
 -- a slot with this header page and these lines: the gate, byte 0, is open where it is 0xA5
-abbrev pub state_of : ℕ → List ℕ → List (List ℕ) → SlotState
-state_of lines page memory = if slice_index page 0 == 0xA5 then opened (header_in lines page) memory else Closed
+abbrev pub slot_with : ℕ → List ℕ → List (List ℕ) → SlotState
+slot_with lines page memory = if slice_index page 0 == 0xA5 then opened (header_in lines page) memory else Closed
 
 -- what a slot holds, of the bytes of the device
 unfoldable pub slot_state : ℕ → Slot → List ℕ → SlotState
-slot_state lines slot bytes = state_of lines (page_in lines slot bytes) (body_in lines slot bytes)
+slot_state lines slot bytes = slot_with lines (page_in lines slot bytes) (body_in lines slot bytes)
 
 -- its gate isn't open
 abbrev pub is_closed : SlotState → Bool

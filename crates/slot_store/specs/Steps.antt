@@ -1,7 +1,9 @@
 -- The steps of a save, each one call of the device.
-use Rattle.std.specs.Prelude.{ℕ, ◌+◌, ◌-◌, ◌*◌, ◌/◌, if◌then◌else◌, nat_lt}
-use Rattle.slot_store.specs.declared.saving.Step.{Step}
-use Rattle.slot_store.specs.declared.saving.Step.TheVariants.{Close, SyncClosed, Header, Page, SyncBody, Open, SyncOpen, Done}
+use Rattle.std.specs.Prelude.{ℕ, ◌+◌, ◌-◌, ◌*◌, ◌/◌, Bool, if◌then◌else◌, nat_lt, List, [], ◌∷◌, ◌++◌, replicate}
+use Rattle.save_device.specs.declared.calls.CallKind.{CallKind}
+use Rattle.save_device.specs.declared.calls.CallKind.TheVariants.{Write, Sync}
+use Rattle.slot_store.specs.declared.plan.Step.{Step}
+use Rattle.slot_store.specs.declared.plan.Step.TheVariants.{Close, SyncClosed, Header, Page, SyncBody, Open, SyncOpen, Done}
 
 -- how many lines of the body a step ends behind
 abbrev pub reach_of : Step → ℕ
@@ -29,3 +31,22 @@ steps_left lines SyncBody = 3
 steps_left lines Open = 2
 steps_left lines SyncOpen = 1
 steps_left lines Done = 0
+
+-- the calls of the pages from the k-th on, and of the opening
+abbrev pub page_calls : ℕ → ℕ → List CallKind
+page_calls lines k = replicate (lines / 64 - k) Write ++ (Sync ∷ Write ∷ Sync ∷ [])
+
+-- the calls of the steps that are still to come: where the gate is known closed the first one is a sync
+abbrev pub calls_left : Bool → ℕ → Step → List CallKind
+calls_left closed lines Close = (if closed then Sync else Write) ∷ Sync ∷ Write ∷ page_calls lines 0
+calls_left closed lines SyncClosed = Sync ∷ Write ∷ page_calls lines 0
+calls_left closed lines Header = Write ∷ page_calls lines 0
+calls_left closed lines (Page k) = page_calls lines k
+calls_left closed lines SyncBody = Sync ∷ Write ∷ Sync ∷ []
+calls_left closed lines Open = Write ∷ Sync ∷ []
+calls_left closed lines SyncOpen = Sync ∷ []
+calls_left closed lines Done = []
+
+-- the calls of a format: both gates are closed and that is made durable, and then the first image is saved
+abbrev pub format_calls : ℕ → List CallKind
+format_calls lines = Write ∷ Write ∷ Sync ∷ Write ∷ page_calls lines 0

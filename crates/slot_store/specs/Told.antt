@@ -1,5 +1,9 @@
 -- What `restore` answers.
-use Rattle.std.specs.Prelude.{◌≡◌, ℕ, ◌<◌, ◌≤◌, List, Result, Ok, Err, ⊤}
+use Rattle.std.specs.Prelude.{◌≡◌, ℕ, ◌/◌, Bool, true, false, List, [], ◌∷◌, ◌++◌, replicate, Result, Ok, Err, ⊤}
+use Rattle.save_device.specs.declared.calls.CallKind.{CallKind}
+use Rattle.save_device.specs.declared.calls.CallKind.TheVariants.{Read, Sync}
+use Rattle.save_device.specs.Calls.{MakesCalls}
+use Rattle.save_device.specs.Device.{DeviceState, IsSettled}
 use Rattle.save_image.specs.Image.{Image}
 use Rattle.slot_store.specs.declared.slots.Slot.{Slot}
 use Rattle.slot_store.specs.declared.slots.Slot.TheVariants.{First, Second}
@@ -16,21 +20,21 @@ use Rattle.slot_store.specs.Outcomes.{Outcome, WrongSize, Damaged, NoImage, Foun
 abbrev pub told : Reading → List (List ℕ) → SlotState
 told readings.Shut memory = Closed
 told readings.Broken memory = Broken
-told (readings.Image h) memory = Full (image_with h memory)
+told (readings.Image header) memory = Full (image_with header memory)
 
 -- the error for this outcome
-abbrev pub Names : RestoreError → Outcome → Type 0
-Names errors.NoImage outcome = outcome ≡ NoImage
-Names (errors.Damaged slot) outcome = outcome ≡ Damaged slot
-Names errors.WrongSize outcome = outcome ≡ WrongSize
-Names errors.Device outcome = ⊥
-Names errors.Memory outcome = ⊥
+abbrev pub NamesOutcome : RestoreError → Outcome → Type 0
+NamesOutcome errors.NoImage outcome = outcome ≡ NoImage
+NamesOutcome (errors.Damaged slot) outcome = outcome ≡ Damaged slot
+NamesOutcome errors.WrongSize outcome = outcome ≡ WrongSize
+NamesOutcome errors.Device outcome = ⊥
+NamesOutcome errors.Memory outcome = ⊥
 
 -- the same, where the device failed or memory was refused: no outcome is told then
 abbrev pub Refuses : RestoreError → Outcome → Type 0
 Refuses errors.Device outcome = ⊤
 Refuses errors.Memory outcome = ⊤
-Refuses error outcome = Names error outcome
+Refuses error outcome = NamesOutcome error outcome
 
 -- a fault of the device or want of memory
 abbrev pub IsFailure : RestoreError → Type 0
@@ -38,10 +42,21 @@ IsFailure errors.Device = ⊤
 IsFailure errors.Memory = ⊤
 IsFailure error = ⊥
 
--- `Device` is answered only where the count of faults rose
-abbrev pub ReadsCause : {T : Type 0} → ℕ → ℕ → Result T RestoreError → Type 0
-ReadsCause before now (Err errors.Device) = before < now
-ReadsCause before now result = before ≤ now
+-- what two headers that were read may be refused for, or a fault
+abbrev pub IsOfHeaders : RestoreError → Type 0
+IsOfHeaders errors.WrongSize = ⊥
+IsOfHeaders errors.Memory = ⊥
+IsOfHeaders error = ⊤
+
+-- the device failed
+abbrev pub is_fault : {T : Type 0} → Result T RestoreError → Bool
+is_fault (Err errors.Device) = true
+is_fault result = false
+
+-- how many of these pages were read, or one that failed: none where the lines find no memory
+abbrev pub pages_read : {T : Type 0} → ℕ → Result T RestoreError → ℕ
+pages_read pages (Err errors.Memory) = 0
+pages_read pages result = pages
 
 abbrev pub memory_in : Slot → List (List ℕ) → List (List ℕ) → List (List ℕ)
 memory_in First one two = one
@@ -53,21 +68,40 @@ state_other Second first second = first
 
 -- of two slots that were read so, with their lines, the newest image's header or the error
 abbrev pub IsChosen : Result Choice RestoreError → List (List ℕ) → List (List ℕ) → SlotState → SlotState → Type 0
-IsChosen (Ok p) one two s t = (chosen s t ≡ Found p.slot (image_with p.header (memory_in p.slot one two))) × (p.closed ≡ is_closed (state_other p.slot s t))
-IsChosen (Err e) one two s t = Names e (chosen s t)
+IsChosen (Ok choice) one two first second =
+    (chosen first second ≡ Found choice.slot (image_with choice.header (memory_in choice.slot one two)))
+    × (choice.closed ≡ is_closed (state_other choice.slot first second))
+IsChosen (Err error) one two first second = NamesOutcome error (chosen first second)
 
 -- of the bytes of a device, the newest image's header or the error
-abbrev pub IsPicked : Result Choice RestoreError → ℕ → List ℕ → Type 0
-IsPicked (Ok p) lines bytes = (restored lines bytes ≡ Found p.slot (image_with p.header (body_in lines p.slot bytes))) × (p.closed ≡ is_closed (slot_state lines (other p.slot) bytes))
-IsPicked (Err e) lines bytes = Refuses e (restored lines bytes)
+abbrev pub IsNewestIn : Result Choice RestoreError → ℕ → List ℕ → Type 0
+IsNewestIn (Ok choice) lines bytes =
+    (restored lines bytes ≡ Found choice.slot (image_with choice.header (body_in lines choice.slot bytes)))
+    × (choice.closed ≡ is_closed (slot_state lines (other choice.slot) bytes))
+IsNewestIn (Err error) lines bytes = Refuses error (restored lines bytes)
 
 -- the image that was restored, with this arm byte
 abbrev pub image_of_restored : Restored → ℕ → Image
-image_of_restored r arm = record { generation = r.generation; count = r.count; arm = arm; memory = r.lines.items }
+image_of_restored it arm = record { generation = it.generation; count = it.count; arm = arm; memory = it.lines.items }
 
 -- what was restored is the newest image, with the verdict of its arm byte
-pub record IsRestored (r : Restored) (lines : ℕ) (bytes : List ℕ) : Type 0 where
+pub record IsRestored (it : Restored) (lines : ℕ) (bytes : List ℕ) : Type 0 where
   pub arm : ℕ
-  pub newest : restored lines bytes ≡ Found r.slot (image_of_restored r arm)
-  pub judged : r.verdict ≡ verdict_of arm r.count
-  pub shut : r.closed ≡ is_closed (slot_state lines (other r.slot) bytes)
+  pub newest : restored lines bytes ≡ Found it.slot (image_of_restored it arm)
+  pub judged : it.verdict ≡ verdict_of arm it.count
+  pub shut : it.closed ≡ is_closed (slot_state lines (other it.slot) bytes)
+
+-- the calls of a restore: a sync, and then the reads of both headers, and of each page
+abbrev pub header_calls : List CallKind
+header_calls = Sync ∷ Read ∷ Read ∷ []
+
+abbrev pub restore_calls : ℕ → List CallKind
+restore_calls lines = header_calls ++ replicate (lines / 64) Read
+
+-- The calls of a restore with this answer: none where the length is wrong; the sync and both headers where they name no
+-- image, or where the lines find no memory; else all of them, up to a fault. A sync that went well settled all.
+abbrev pub CallsOfRestore : ℕ → Result Restored RestoreError → DeviceState → DeviceState → Type 0
+CallsOfRestore lines (Ok restored) old new = MakesCalls (restore_calls lines) true old.calls new.calls × IsSettled new
+CallsOfRestore lines (Err errors.WrongSize) old new = new ≡ old
+CallsOfRestore lines (Err errors.Device) old new = MakesCalls (restore_calls lines) false old.calls new.calls
+CallsOfRestore lines (Err error) old new = MakesCalls header_calls true old.calls new.calls × IsSettled new

@@ -1,12 +1,15 @@
 // A store from nothing.
-ghost use Rattle.std.specs.Prelude.{◌≡◌, ℕ, ◌+◌, ◌*◌, ◌<◌, ◌≤◌, true, length, slice_index, OnOk};
-ghost use Rattle.save_device.specs.Device.{HasCause, IsSettled};
+ghost use Rattle.std.specs.Prelude.{◌≡◌, ℕ, ◌+◌, ◌*◌, ◌<◌, ◌≤◌, [], ◌∷◌, true, length, is_ok, slice_index, OnOk};
+ghost use Rattle.save_device.specs.declared.calls.CallKind.TheVariants.{Write, Sync};
+ghost use Rattle.save_device.specs.Calls.{MakesCalls};
+ghost use Rattle.save_device.specs.Device.{IsSettled, LeavesOnly};
 ghost use Rattle.line_memory.specs.Memory.{zero_lines};
 ghost use Rattle.save_image.specs.Body.{page_of};
 ghost use Rattle.slot_store.specs.declared.slots.Slot.TheVariants.{First};
-ghost use Rattle.slot_store.specs.Slots.{IsCapacity, slot_size, device_size};
+ghost use Rattle.slot_store.specs.Slots.{IsCapacity, HasSize, slot_size, device_size};
+ghost use Rattle.slot_store.specs.Steps.{format_calls};
 ghost use Rattle.slot_store.specs.Outcomes.{first_image};
-ghost use Rattle.slot_store.specs.Rest.{only, IsAtRest};
+ghost use Rattle.slot_store.specs.Rest.{IsAtRestOn};
 ghost use Rattle.slot_store.specs.Formatted.{IsFormatted, HasShutGates};
 
 use crate::SaveRun;
@@ -23,11 +26,15 @@ fn zero_page() -> [u8; 4096]
 // Closes both gates and makes that durable.
 fn shut_gates<D: SaveDevice>(device: &mut D, lines: usize) -> Result<(), DeviceFault>
     requires lines { lines ≤ 65536 }
-    requires size { length (D.seen device.old) ≡ device_size lines }
-    ensures shut { OnOk result (HasShutGates lines (D.seen device.old) (D.seen device.new)) }
-    ensures settled { OnOk result (IsSettled (D.unsettled device.new)) }
-    ensures size { length (D.seen device.new) ≡ length (D.seen device.old) }
-    ensures cause { HasCause (D.fault_count device.old) (D.fault_count device.new) result }
+    requires size { HasSize lines (D.state device.old) }
+    ensures shut { OnOk result
+        (HasShutGates lines (D.state device.old).bytes (D.state device.new).bytes) }
+    ensures settled { OnOk result (IsSettled (D.state device.new)) }
+    ensures size { HasSize lines (D.state device.new) }
+    ensures calls { MakesCalls (Write ∷ Write ∷ Sync ∷ []) (is_ok result)
+        (D.state device.old).calls (D.state device.new).calls }
+    ensures any_moment { LeavesOnly (D.state device.old) (D.state device.new)
+        (λ image. length image ≡ device_size lines) }
 {
     device.write_at(0, &[0])?;
     device.write_at(slot_size(lines), &[0])?;
@@ -35,16 +42,23 @@ fn shut_gates<D: SaveDevice>(device: &mut D, lines: usize) -> Result<(), DeviceF
 }
 
 /// Makes the device a store of a memory of so many zero lines: generation 1, no write, clear, in the first slot; the gate
-/// of the second one is closed and the rest of that slot stays. It costs one pass over a slot. What a stop during the call
-/// leaves isn't said. After a fault format again.
+/// of the second one is closed and the rest of that slot stays. It costs one pass over a slot. A stop during the call
+/// leaves a device of this size, and no more is said of it. After a fault format again.
 pub fn format<D: SaveDevice>(device: &mut D, lines: usize) -> Result<(), DeviceFault>
     requires capacity { IsCapacity lines }
-    requires size { length (D.seen device.old) ≡ device_size lines }
-    ensures formatted { OnOk result (IsFormatted lines (D.seen device.old) (D.seen device.new)) }
-    ensures settled { OnOk result (IsSettled (D.unsettled device.new)) }
-    ensures at_rest { OnOk result (IsAtRest (only First (first_image lines)) (first_image lines) First lines true (D.seen device.new) (D.unsettled device.new)) }
-    ensures size { length (D.seen device.new) ≡ length (D.seen device.old) }
-    ensures cause { HasCause (D.fault_count device.old) (D.fault_count device.new) result }
+    requires size { HasSize lines (D.state device.old) }
+    ensures formatted { OnOk result
+        (IsFormatted lines (D.state device.old).bytes (D.state device.new).bytes) }
+    ensures settled { OnOk result (IsSettled (D.state device.new)) }
+    ensures at_rest { OnOk result
+        (IsAtRestOn First (first_image lines) lines true (D.state device.new)) }
+
+    // Both gates are closed and that is made durable before anything else is written; no call is made behind a fault.
+    ensures calls { MakesCalls (format_calls lines) (is_ok result)
+        (D.state device.old).calls (D.state device.new).calls }
+    ensures size { HasSize lines (D.state device.new) }
+    ensures any_moment { LeavesOnly (D.state device.old) (D.state device.new)
+        (λ image. length image ≡ device_size lines) }
 {
     shut_gates(device, lines)?;
     let page = zero_page();

@@ -3,19 +3,28 @@
 //! A device has two slots, each a header page and the lines of the memory. A slot counts where its gate, the first byte,
 //! is open, and of two images the one of the greater generation is the newest. A save goes to the other slot: it closes the
 //! gate there, makes that durable, writes header and pages, makes these durable, opens the gate and makes that durable,
-//! so that a stop at any moment leaves the old image or the new one (`specs/Saving.antt`).
+//! so that a stop at any moment leaves the old image or the new one: the clause `old_or_new` of `save`.
 #![tactic(auto)]
 
+mod arming;
 mod formatting;
 mod laws;
+mod plan;
 mod restoring;
 mod saving;
 mod slots;
 #[cfg(test)]
 mod tests;
+mod whole;
 
+pub use arming::mark_armed;
 pub use formatting::format;
-pub use laws::full_slots;
+pub use laws::{
+    full_slots, given_up, newest_at_rest, no_step_left, one_step_less, save_done, stop_at_rest,
+    stop_between_steps,
+};
+pub use plan::{Newest, Plan, Step};
 pub use restoring::{RestoreError, Restored, Verdict, restore};
-pub use saving::{Newest, Plan, SaveRun, Step};
+pub use saving::SaveRun;
 pub use slots::{Slot, device_size};
+pub use whole::{SaveFault, save};

@@ -1,14 +1,15 @@
 // What a device restores to.
-ghost use Rattle.std.specs.Prelude.{◌≡◌, ◌+◌, ◌*◌, ◌<◌, ◌≤◌, ◌++◌, List, ℕ, drop, length, slice_range, vec_len, vec_capacity, OnOk, IfOk, IfErr};
-ghost use Rattle.save_device.specs.Device.{NoMore, HasCause, IsSettled};
+ghost use Rattle.std.specs.Prelude.{◌≡◌, ◌+◌, ◌*◌, ◌<◌, ◌≤◌, ◌++◌, List, ℕ, not, drop, length, is_ok, slice_range, vec_len, vec_capacity, IfOk, IfErr};
+ghost use Rattle.save_device.specs.Device.{LeavesOnly, MayLeave, present};
+ghost use Rattle.save_device.specs.Changes.{OnlyReads};
 ghost use Rattle.save_image.specs.Body.{lines_in};
-ghost use Rattle.slot_store.specs.Slots.{IsCapacity, device_size, slot_state, state_of, body_in};
+ghost use Rattle.slot_store.specs.Slots.{IsCapacity, HasSize, slot_state, slot_with, body_in};
 ghost use Rattle.line_memory.specs.Memory.{IsMemory};
 ghost use Rattle.save_image.specs.Header.{Fits};
 ghost use Rattle.save_image.specs.Image.{Image};
 ghost use Rattle.slot_store.specs.Outcomes.{restored, verdict_of, Found};
-ghost use Rattle.slot_store.specs.Rest.{only, IsAtRest};
-ghost use Rattle.slot_store.specs.Told.{told, IsChosen, IsFailure, ReadsCause, IsPicked, Refuses, IsRestored};
+ghost use Rattle.slot_store.specs.Rest.{IsAtRestOn};
+ghost use Rattle.slot_store.specs.Told.{told, IsChosen, IsFailure, IsOfHeaders, IsNewestIn, Refuses, IsRestored, is_fault, pages_read, CallsOfRestore};
 
 use crate::slots::device_size;
 use crate::{Newest, Slot};
@@ -86,11 +87,10 @@ struct Choice {
 }
 
 fn read_page<D: SaveDevice>(device: &mut D, at: usize) -> Result<[u8; 4096], DeviceFault>
-    requires { at + 4096 ≤ length (D.seen device.old) }
-    ensures page { IfOk result (λ page. page ≡ slice_range (D.seen device.old) at (at + 4096)) }
-    ensures same { D.seen device.new ≡ D.seen device.old }
-    ensures unsettled { NoMore (D.unsettled device.old) (D.unsettled device.new) }
-    ensures cause { HasCause (D.fault_count device.old) (D.fault_count device.new) result }
+    requires { at + 4096 ≤ length (D.state device.old).bytes }
+    ensures page { IfOk result
+        (λ page. page ≡ slice_range (D.state device.old).bytes at (at + 4096)) }
+    ensures reads { OnlyReads 1 (is_ok result) (D.state device.old) (D.state device.new) }
 {
     let mut page = [0; 4096];
     device.read(at, &mut page)?;
@@ -98,7 +98,7 @@ fn read_page<D: SaveDevice>(device: &mut D, at: usize) -> Result<[u8; 4096], Dev
 }
 
 fn reading_of(page: &[u8; 4096], lines: usize) -> Reading
-    ensures { (memory : List (List ℕ)) → state_of lines page.now memory ≡ told result memory }
+    ensures { (memory : List (List ℕ)) → slot_with lines page.now memory ≡ told result memory }
 {
     if page[0] != 0xA5 {
         return Reading::Shut;
@@ -115,18 +115,19 @@ fn read_slot<D: SaveDevice>(
     lines: usize,
 ) -> Result<Reading, DeviceFault>
     requires lines { lines ≤ 65536 }
-    requires size { length (D.seen device.old) ≡ device_size lines }
-    ensures state { IfOk result (λ reading. slot_state lines slot (D.seen device.old) ≡ told reading (body_in lines slot (D.seen device.old))) }
-    ensures same { D.seen device.new ≡ D.seen device.old }
-    ensures unsettled { NoMore (D.unsettled device.old) (D.unsettled device.new) }
-    ensures cause { HasCause (D.fault_count device.old) (D.fault_count device.new) result }
+    requires size { HasSize lines (D.state device.old) }
+    ensures state { IfOk result (λ reading. slot_state lines slot (D.state device.old).bytes
+        ≡ told reading (body_in lines slot (D.state device.old).bytes)) }
+    ensures reads { OnlyReads 1 (is_ok result) (D.state device.old) (D.state device.new) }
 {
     let page = read_page(device, slot.start(lines))?;
     Ok(reading_of(&page, lines))
 }
 
 fn choose(first: Reading, second: Reading) -> Result<Choice, RestoreError>
-    ensures { (one two : List (List ℕ)) → IsChosen result one two (told first one) (told second two) }
+    ensures chosen { (one two : List (List ℕ))
+        → IsChosen result one two (told first one) (told second two) }
+    ensures headers { IfErr result IsOfHeaders }
 {
     match (first, second) {
         (Reading::Broken, _) => Err(RestoreError::Damaged { slot: Slot::First }),
@@ -147,7 +148,9 @@ fn choose(first: Reading, second: Reading) -> Result<Choice, RestoreError>
 }
 
 fn newer(first: Header, second: Header) -> Result<Choice, RestoreError>
-    ensures { (one two : List (List ℕ)) → IsChosen result one two (told (Reading.Image first) one) (told (Reading.Image second) two) }
+    ensures chosen { (one two : List (List ℕ))
+        → IsChosen result one two (told (Reading.Image first) one) (told (Reading.Image second) two) }
+    ensures headers { IfErr result IsOfHeaders }
 {
     if first.generation == second.generation {
         return Err(RestoreError::Damaged { slot: Slot::Second });
@@ -167,11 +170,10 @@ fn newer(first: Header, second: Header) -> Result<Choice, RestoreError>
 // Both headers, and which image is the newest.
 fn read_both<D: SaveDevice>(device: &mut D, lines: usize) -> Result<Choice, RestoreError>
     requires lines { lines ≤ 65536 }
-    requires size { length (D.seen device.old) ≡ device_size lines }
-    ensures picked { IsPicked result lines (D.seen device.old) }
-    ensures same { D.seen device.new ≡ D.seen device.old }
-    ensures unsettled { NoMore (D.unsettled device.old) (D.unsettled device.new) }
-    ensures cause { ReadsCause (D.fault_count device.old) (D.fault_count device.new) result }
+    requires size { HasSize lines (D.state device.old) }
+    ensures newest { IsNewestIn result lines (D.state device.old).bytes }
+    ensures headers { IfErr result IsOfHeaders }
+    ensures reads { OnlyReads 2 (not (is_fault result)) (D.state device.old) (D.state device.new) }
 {
     let Ok(first) = read_slot(device, Slot::First, lines) else {
         return Err(RestoreError::Device);
@@ -200,12 +202,12 @@ fn read_pages<D: SaveDevice>(
     at: usize,
     pages: usize,
 ) -> Result<Vec<Line>, RestoreError>
-    requires { at + 4096 * pages ≤ length (D.seen device.old) }
+    requires { at + 4096 * pages ≤ length (D.state device.old).bytes }
     ensures failed { IfErr result IsFailure }
-    ensures lines { IfOk result (λ memory. memory.items ≡ lines_in (64 * pages) (drop at (D.seen device.old))) }
-    ensures same { D.seen device.new ≡ D.seen device.old }
-    ensures unsettled { NoMore (D.unsettled device.old) (D.unsettled device.new) }
-    ensures cause { ReadsCause (D.fault_count device.old) (D.fault_count device.new) result }
+    ensures lines { IfOk result
+        (λ memory. memory.items ≡ lines_in (64 * pages) (drop at (D.state device.old).bytes)) }
+    ensures reads { OnlyReads (pages_read pages result) (not (is_fault result))
+        (D.state device.old) (D.state device.new) }
 {
     let Ok(mut memory) = Vec::with_capacity(alloc, 64 * pages) else {
         return Err(RestoreError::Memory);
@@ -251,17 +253,24 @@ pub fn restore<D: SaveDevice>(
     lines: usize,
 ) -> Result<Restored, RestoreError>
     requires { IsCapacity lines }
-    ensures found { IfOk result (λ r. IsRestored r lines (D.seen device.old)) }
-    ensures sound { IfOk result (λ r. IsMemory lines r.lines.items × Fits r.generation r.count) }
-    ensures refused { IfErr result (λ e. Refuses e (restored lines (D.seen device.old))) }
-    ensures same { D.seen device.new ≡ D.seen device.old }
-    ensures settled { OnOk result (IsSettled (D.unsettled device.new)) }
-    ensures unsettled { NoMore (D.unsettled device.old) (D.unsettled device.new) }
-    ensures cause { ReadsCause (D.fault_count device.old) (D.fault_count device.new) result }
+    ensures found { IfOk result (λ it. IsRestored it lines (D.state device.old).bytes) }
+    ensures sound { IfOk result
+        (λ it. IsMemory lines it.lines.items × Fits it.generation it.count) }
+    ensures refused { IfErr result
+        (λ error. Refuses error (restored lines (D.state device.old).bytes)) }
+
+    // No call where the length is another; else one sync, and then only reads.
+    ensures calls { CallsOfRestore lines result (D.state device.old) (D.state device.new) }
+    ensures same { (D.state device.new).bytes ≡ (D.state device.old).bytes }
+
+    // A stop within leaves what one before could leave.
+    ensures any_moment { LeavesOnly (D.state device.old) (D.state device.new)
+        (MayLeave (present (D.state device.old))) }
 
     // From then on a save may begin over it.
-    ensures at_rest { IfOk result (λ r. (image : Image) → restored lines (D.seen device.old) ≡ Found r.slot image
-        → IsAtRest (only r.slot image) image r.slot lines r.closed (D.seen device.new) (D.unsettled device.new)) }
+    ensures at_rest { IfOk result (λ it. (image : Image)
+        → restored lines (D.state device.old).bytes ≡ Found it.slot image
+        → IsAtRestOn it.slot image lines it.closed (D.state device.new)) }
 {
     if device.len() != device_size(lines) {
         return Err(RestoreError::WrongSize);

@@ -1,120 +1,31 @@
 // A save, one device call a step.
-ghost use Rattle.std.specs.Prelude.{◌≡◌, ◌⊎◌, ◌↔◌, ℕ, ◌+◌, ◌-◌, ◌*◌, ◌<◌, ◌≤◌, ◌^◌, true, false, List, drop, length, IsTrue, Some, None, OnOk, OnErr, IfOk};
-ghost use Rattle.save_device.specs.Device.{Elapses, HasCause, LeavesOnly};
+ghost use Rattle.std.specs.Prelude.{◌≡◌, ◌⊎◌, ◌↔◌, ℕ, ◌+◌, ◌-◌, ◌*◌, ◌<◌, ◌≤◌, ◌^◌, true, false, List, drop, length, is_ok, IsTrue, OnOk, IfOk};
+ghost use Rattle.save_device.specs.Device.{DeviceState, LeavesOnly};
+ghost use Rattle.save_device.specs.Changes.{Put, Settle, Makes};
 ghost use Rattle.line_memory.specs.Memory.{IsMemory};
-ghost use Rattle.save_image.specs.Header.{Fits};
 ghost use Rattle.save_image.specs.Image.{Image};
-ghost use Rattle.slot_store.specs.Slots.{IsCapacity, device_size, other};
-ghost use Rattle.slot_store.specs.Calls.{Does, Writes, Settles, DiffersOnlyAt};
-ghost use Rattle.slot_store.specs.Rest.{Candidates};
+ghost use Rattle.slot_store.specs.Slots.{IsCapacity, HasSize, other};
 ghost use Rattle.slot_store.specs.Steps.{step_after, steps_left, reach_of};
+ghost use Rattle.slot_store.specs.Changes.{change_of, closed_before, GivesPage};
+ghost use Rattle.slot_store.specs.Rest.{Candidates, IsAtRest};
+ghost use Rattle.slot_store.specs.Saving.{Leaves};
 
-use crate::Slot;
 use crate::slots::device_size;
+use crate::{Newest, Plan, Slot, Step};
 use save_device::{DeviceFault, SaveDevice};
 use save_image::header_bytes;
-use std::fmt;
 
 /// A gate that is open; any other byte is closed, and closing writes 0x00.
 const OPEN: u8 = 0xA5;
 
-/// One device call of a save.
-#[derive(Clone, Copy, Debug, PartialEq, Eq)]
-pub enum Step {
-    /// Closes the gate of the slot, or syncs where it is known closed and settled.
-    Close,
-    SyncClosed,
-    /// Writes the header but for the gate.
-    Header,
-    /// Writes this page of the body, from 0 on.
-    Page(usize),
-    SyncBody,
-    /// Opens the gate.
-    Open,
-    SyncOpen,
-    /// No step is left; a further one only syncs.
-    Done,
-}
-
-impl fmt::Display for Step {
-    fn fmt<W: fmt::Write>(&self, f: &mut fmt::Formatter<W>) -> fmt::Result {
-        match self {
-            Step::Close => write!(f, "close"),
-            Step::SyncClosed | Step::SyncBody | Step::SyncOpen | Step::Done => write!(f, "sync"),
-            Step::Header => write!(f, "header"),
-            Step::Page(page) => write!(f, "page {page}"),
-            Step::Open => write!(f, "open"),
-        }
-    }
-}
-
-/// The newest image: where it lies, and its generation.
-#[derive(Clone, Copy, Debug, PartialEq, Eq)]
-pub struct Newest {
-    pub slot: Slot,
-    pub generation: u64,
-}
-
-impl Newest {
-    /// The image that a save over this one makes the newest: in the other slot, of the next generation.
-    pub fn next(self) -> Newest
-        requires { self.generation < 2 ^ 64 - 1 }
-        ensures slot { result.slot ≡ other self.slot }
-        ensures generation { result.generation ≡ self.generation + 1 }
-    {
-        Newest {
-            slot: self.slot.other(),
-            generation: self.generation + 1,
-        }
-    }
-}
-
-/// What is saved but for its memory, and where.
-#[derive(Clone, Copy, Debug, PartialEq, Eq)]
-pub struct Plan {
-    pub slot: Slot,
-    pub generation: u64,
-    /// The number of writes that the memory is after.
-    pub count: u64,
-    pub armed: bool,
-    /// The slot's gate was known closed and settled when the save began.
-    pub closed: bool,
-    pub lines: usize,
-    pub ghost capacity: { IsCapacity lines },
-    pub ghost numbers: { Fits generation count },
-}
-
-/// A save that runs: what is saved where, and the coming step. Between its steps the caller may do as it likes.
+/// A save that runs: what is saved where, the coming step, and whether that was tried and failed. Between its steps the
+/// caller may do as it likes, and it may give the save up.
 #[derive(Drop)]
 pub struct SaveRun {
     plan: Plan,
     next: Step,
+    tried: bool,
     ghost place: { reach_of next ≤ plan.lines },
-}
-
-// A write as a step makes it.
-fn put<D: SaveDevice>(device: &mut D, at: usize, bytes: &[u8]) -> Result<(), DeviceFault>
-    requires { at + length bytes.now ≤ length (D.seen device.old) }
-    ensures does { OnOk result (Does (Some (at, bytes.now)) (D.seen device.old) (D.seen device.new)) }
-    ensures outside { DiffersOnlyAt (Writes (Some (at, bytes.now))) (D.seen device.old) (D.seen device.new) }
-    ensures unsettled { (k : ℕ) → D.unsettled device.new k → D.unsettled device.old k ⊎ Writes (Some (at, bytes.now)) k }
-    ensures settles { OnOk result (Settles (Some (at, bytes.now)) (D.unsettled device.new)) }
-    ensures time { Elapses (D.moment device.old) (D.moment device.new) (D.left_since device.old) (D.left_since device.new) (D.seen device.new) (D.unsettled device.new) }
-    ensures cause { HasCause (D.fault_count device.old) (D.fault_count device.new) result }
-{
-    device.write_at(at, bytes)
-}
-
-// A sync as a step makes it.
-fn settle<D: SaveDevice>(device: &mut D) -> Result<(), DeviceFault>
-    ensures does { OnOk result (Does None (D.seen device.old) (D.seen device.new)) }
-    ensures outside { DiffersOnlyAt (Writes None) (D.seen device.old) (D.seen device.new) }
-    ensures unsettled { (k : ℕ) → D.unsettled device.new k → D.unsettled device.old k ⊎ Writes None k }
-    ensures settles { OnOk result (Settles None (D.unsettled device.new)) }
-    ensures time { Elapses (D.moment device.old) (D.moment device.new) (D.left_since device.old) (D.left_since device.new) (D.seen device.new) (D.unsettled device.new) }
-    ensures cause { HasCause (D.fault_count device.old) (D.fault_count device.new) result }
-{
-    device.sync()
 }
 
 // All of a header but its gate.
@@ -126,10 +37,7 @@ fn tail_of(header: &[u8; 4096]) -> &[u8]
 }
 
 impl SaveRun {
-    ghost use Rattle.slot_store.specs.Writes.{write_of, closed_after_fault, GivesPage};
-    ghost use Rattle.slot_store.specs.Runs.{plan_of, next_of};
-    ghost use Rattle.slot_store.specs.Rest.{only, IsAtRest};
-    ghost use Rattle.slot_store.specs.Saving.{Stands, Saving, Leaves, Rests, image_of};
+    ghost use Rattle.slot_store.specs.Runs.{plan_of, next_of, tried_of, GoesOnFrom, HasSoFar, Saving};
 
     /// A save of a memory after `count` writes over the newest image, in the other slot, with the next generation; its
     /// arm byte is 0x5A where it is `armed`. `closed` says that the other slot's gate is known closed and settled. It makes
@@ -145,6 +53,14 @@ impl SaveRun {
         ensures closed { (plan_of result).closed ≡ closed }
         ensures lines { (plan_of result).lines ≡ lines }
         ensures next { next_of result ≡ Step.Close }
+        ensures untried { tried_of result ≡ false }
+
+        // Over a device at rest it stands at its first step.
+        ensures begun { (candidates : Candidates) (old : Image) (memory : List (List ℕ))
+            (state : DeviceState)
+            → IsAtRest candidates old newest.slot lines closed state
+            → old.generation ≡ newest.generation → IsMemory lines memory
+            → Saving candidates old memory result state }
     {
         let Newest { slot, generation } = newest.next();
         SaveRun {
@@ -157,6 +73,7 @@ impl SaveRun {
                 lines,
             },
             next: Step::Close,
+            tried: false,
         }
     }
 
@@ -181,6 +98,7 @@ impl SaveRun {
                 lines,
             },
             next: Step::Header,
+            tried: false,
         }
     }
 
@@ -189,6 +107,13 @@ impl SaveRun {
         ensures { result ≡ next_of self.now }
     {
         self.next
+    }
+
+    /// The number of writes that the image holds.
+    pub fn count(&self) -> u64
+        ensures { result ≡ (plan_of self.now).count }
+    {
+        self.plan.count
     }
 
     /// The number of steps, and so of device calls, that are still to come.
@@ -210,20 +135,21 @@ impl SaveRun {
 
     /// Whether the device has the length that this save needs.
     pub fn fits<D: SaveDevice>(&self, device: &D) -> bool
-        ensures { IsTrue result ↔ (length (D.seen device.now) ≡ device_size (plan_of self.now).lines) }
+        ensures { IsTrue result ↔ HasSize (plan_of self.now).lines (D.state device.now) }
     {
         device.len() == device_size(self.plan.lines)
     }
 
-    /// Where the coming step failed and the save is given up: whether the gate of its slot still counts as closed, for the
-    /// save that is made in its place.
-    pub fn closed_after_fault(&self) -> bool
-        ensures { result ≡ closed_after_fault (plan_of self.now) (next_of self.now) }
+    /// Whether the gate of the slot counts as closed where the save is given up now, for the one that is made in its place:
+    /// after a failed step too, and also where a step is still to come that would open it.
+    pub fn is_closed(&self) -> bool
+        ensures { result ≡ closed_before (plan_of self.now) (next_of self.now) (tried_of self.now) }
     {
         match self.next {
             Step::Close | Step::SyncClosed => self.plan.closed,
             Step::Header | Step::Page(_) | Step::SyncBody => true,
-            Step::Open | Step::SyncOpen | Step::Done => false,
+            Step::Open => !self.tried,
+            Step::SyncOpen | Step::Done => false,
         }
     }
 
@@ -252,21 +178,17 @@ impl SaveRun {
 
     // The one device call of the coming step.
     fn call<D: SaveDevice>(&self, device: &mut D, page: &[u8; 4096]) -> Result<(), DeviceFault>
-        requires { length (D.seen device.old) ≡ device_size self.now.plan.lines }
-        ensures does { OnOk result (Does (write_of self.now.plan self.now.next page.now) (D.seen device.old) (D.seen device.new)) }
-        ensures outside { DiffersOnlyAt (Writes (write_of self.now.plan self.now.next page.now)) (D.seen device.old) (D.seen device.new) }
-        ensures unsettled { (k : ℕ) → D.unsettled device.new k → D.unsettled device.old k ⊎ Writes (write_of self.now.plan self.now.next page.now) k }
-        ensures settles { OnOk result (Settles (write_of self.now.plan self.now.next page.now) (D.unsettled device.new)) }
-        ensures time { Elapses (D.moment device.old) (D.moment device.new) (D.left_since device.old) (D.left_since device.new) (D.seen device.new) (D.unsettled device.new) }
-        ensures cause { HasCause (D.fault_count device.old) (D.fault_count device.new) result }
+        requires { HasSize self.now.plan.lines (D.state device.old) }
+        ensures { Makes (change_of self.now.plan self.now.next page.now) (is_ok result)
+            (D.state device.old) (D.state device.new) }
     {
         let start = self.plan.slot.start(self.plan.lines);
         match self.next {
             Step::Close => {
                 if self.plan.closed {
-                    settle(device)
+                    device.sync()
                 } else {
-                    put(device, start, &[0])
+                    device.write_at(start, &[0])
                 }
             }
             Step::Header => {
@@ -276,60 +198,57 @@ impl SaveRun {
                     self.plan.lines as u64,
                     self.plan.armed,
                 );
-                put(device, start + 1, tail_of(&header))
+                device.write_at(start + 1, tail_of(&header))
             }
-            Step::Page(k) => put(device, start + 4096 + 4096 * k, page),
-            Step::Open => put(device, start, &[OPEN]),
-            Step::SyncClosed | Step::SyncBody | Step::SyncOpen | Step::Done => settle(device),
+            Step::Page(k) => device.write_at(start + 4096 + 4096 * k, page),
+            Step::Open => device.write_at(start, &[OPEN]),
+            Step::SyncClosed | Step::SyncBody | Step::SyncOpen | Step::Done => device.sync(),
         }
     }
 
     /// Makes the coming step, one call of the device, and says which it was. A page step writes `page`, the other steps
-    /// don't read it. After a fault the coming step is the same.
+    /// don't read it. After a fault the same step comes again.
     pub fn step<D: SaveDevice>(
         &mut self,
         device: &mut D,
         page: &[u8; 4096],
     ) -> Result<Step, DeviceFault>
-        requires { length (D.seen device.old) ≡ device_size (plan_of self.old).lines }
+        requires { HasSize (plan_of self.old).lines (D.state device.old) }
 
-        // What a read gives afterwards, each byte of it.
-        ensures does { OnOk result (Does (write_of (plan_of self.old) (next_of self.old) page.now) (D.seen device.old) (D.seen device.new)) }
+        // The one call that the plan says, and what it makes of each byte.
+        ensures call { Makes (change_of (plan_of self.old) (next_of self.old) page.now)
+            (is_ok result) (D.state device.old) (D.state device.new) }
         ensures step { IfOk result (λ step. step ≡ next_of self.old) }
-        ensures next { OnOk result ((plan_of self.new ≡ plan_of self.old) × (next_of self.new ≡ step_after (plan_of self.old).lines (next_of self.old))) }
-        ensures err { OnErr result (self.new ≡ self.old) }
-
-        // After a fault too, nothing else has changed.
-        ensures outside { DiffersOnlyAt (Writes (write_of (plan_of self.old) (next_of self.old) page.now)) (D.seen device.old) (D.seen device.new) }
-        ensures unsettled { (k : ℕ) → D.unsettled device.new k → D.unsettled device.old k ⊎ Writes (write_of (plan_of self.old) (next_of self.old) page.now) k }
-        ensures settles { OnOk result (Settles (write_of (plan_of self.old) (next_of self.old) page.now) (D.unsettled device.new)) }
-        ensures cause { HasCause (D.fault_count device.old) (D.fault_count device.new) result }
+        ensures next { GoesOnFrom (is_ok result) self.old self.new }
 
         // What stands in the slot, whatever the other one holds.
-        ensures stands { OnOk result ((memory : List (List ℕ)) → IsMemory (plan_of self.old).lines memory → GivesPage memory (next_of self.old) page.now
-            → Stands (plan_of self.old) memory (next_of self.old) (D.seen device.old) (D.unsettled device.old)
-            → Stands (plan_of self.new) memory (next_of self.new) (D.seen device.new) (D.unsettled device.new)) }
+        ensures has { (memory : List (List ℕ)) → IsMemory (plan_of self.old).lines memory
+            → GivesPage memory (next_of self.old) page.now
+            → HasSoFar memory self.old (D.state device.old) → HasSoFar memory self.new (D.state device.new) }
 
-        // A save over the newest image goes on, and ends with a device at rest on the new one. After a fault the device is
-        // at rest too.
-        ensures saving { OnOk result ((candidates : Candidates) (newest : Image) (memory : List (List ℕ)) → GivesPage memory (next_of self.old) page.now
-            → Saving candidates newest (plan_of self.old) memory (next_of self.old) (D.seen device.old) (D.unsettled device.old)
-            → Saving candidates newest (plan_of self.new) memory (next_of self.new) (D.seen device.new) (D.unsettled device.new)) }
-        ensures finished { OnOk result ((candidates : Candidates) (newest : Image) (memory : List (List ℕ)) → next_of self.old ≡ Step.SyncOpen
-            → Saving candidates newest (plan_of self.old) memory (next_of self.old) (D.seen device.old) (D.unsettled device.old)
-            → IsAtRest (only (plan_of self.old).slot (image_of (plan_of self.old) memory)) (image_of (plan_of self.old) memory) (plan_of self.old).slot (plan_of self.old).lines false (D.seen device.new) (D.unsettled device.new)) }
-        ensures failed { OnErr result ((candidates : Candidates) (newest : Image) (memory : List (List ℕ))
-            → Saving candidates newest (plan_of self.old) memory (next_of self.old) (D.seen device.old) (D.unsettled device.old)
-            → Rests candidates newest (plan_of self.old) memory (next_of self.old) (D.seen device.new) (D.unsettled device.new)) }
+        // A save over the newest image goes on; after a fault it stands at the same step.
+        ensures saving { (candidates : Candidates) (old : Image) (memory : List (List ℕ))
+            → GivesPage memory (next_of self.old) page.now
+            → Saving candidates old memory self.old (D.state device.old)
+            → Saving candidates old memory self.new (D.state device.new) }
 
         // A stop at any moment of the call, whatever its answer.
-        ensures any_moment { (candidates : Candidates) (newest : Image) (memory : List (List ℕ))
-            → Saving candidates newest (plan_of self.old) memory (next_of self.old) (D.seen device.old) (D.unsettled device.old)
-            → LeavesOnly D.moment D.left_since device.old device.new (Leaves candidates newest (plan_of self.old) memory (next_of self.old)) }
+        ensures any_moment { (candidates : Candidates) (old : Image) (memory : List (List ℕ))
+            → Saving candidates old memory self.old (D.state device.old)
+            → LeavesOnly (D.state device.old) (D.state device.new)
+            (Leaves candidates old (plan_of self.old) memory (next_of self.old)) }
     {
-        let done = self.next;
-        self.call(device, page)?;
-        self.next = self.after();
-        Ok(done)
+        let step = self.next;
+        match self.call(device, page) {
+            Ok(()) => {
+                self.next = self.after();
+                self.tried = false;
+                Ok(step)
+            }
+            Err(fault) => {
+                self.tried = true;
+                Err(fault)
+            }
+        }
     }
 }

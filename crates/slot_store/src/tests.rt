@@ -1,6 +1,7 @@
-// What no clause says: that saves succeed, and what a stop leaves at each of their calls, by hand.
+// What no clause says: that calls succeed, the texts and numbers, and what a stop leaves at each call, by hand.
 use super::*;
-use save_device::{DeviceFault, MemoryDevice, Pick, SaveDevice};
+use line_memory::Line;
+use save_device::{Fuse, MemoryDevice, OneFault, Pick, SaveDevice};
 use std::alloc::Global;
 use std::test::Fail;
 
@@ -8,75 +9,147 @@ const LINES: usize = 128;
 
 const SIZE: usize = 24_576;
 
-fn blank(alloc: Global) -> Result<MemoryDevice, Fail> {
-    Ok(MemoryDevice::new(alloc, Vec::from_elem(alloc, 0, SIZE)?)?)
-}
+const CLOSED_FIRST: Newest = Newest {
+    slot: Slot::First,
+    generation: 1,
+};
+
+const PICKS: [Pick; 4] = [Pick::Old, Pick::New, Pick::Torn(0xa5), Pick::Torn(0)];
 
 fn formatted(alloc: Global) -> Result<MemoryDevice, Fail> {
-    let mut device = blank(alloc)?;
+    let mut device = MemoryDevice::new(alloc, Vec::from_elem(alloc, 0, SIZE)?)?;
     if device.len() == SIZE {
         format(&mut device, LINES)?;
     }
     Ok(device)
 }
 
-// A step of a save of a memory that has this first page, and zero lines behind it.
-fn step(
-    run: &mut SaveRun,
-    device: &mut MemoryDevice,
-    first: &[u8; 4096],
-) -> Result<Step, DeviceFault> {
-    if !run.fits(device) {
-        return Err(DeviceFault);
-    }
-    let page = match run.next() {
-        Step::Page(0) => first,
-        _ => &[0; 4096],
-    };
-    run.step(device, page)
+// A memory whose first line has this byte.
+fn memory(byte: u8) -> [Line; LINES] {
+    let mut lines = [[0; 64]; LINES];
+    lines[0] = [byte; 64];
+    lines
 }
 
-// A formatted store, and power lost after so many steps of its first save, of a memory that begins with 0x11: the
-// generation that is restored then, and the first byte; generation 0 where nothing is.
-fn after_steps(alloc: Global, steps: usize, pick: Pick) -> Result<(u64, u8), Fail> {
-    let mut device = formatted(alloc)?;
-    let newest = Newest {
-        slot: Slot::First,
-        generation: 1,
-    };
-    let mut run = SaveRun::begin(newest, true, 1, false, LINES);
-    for _ in 0..steps {
-        step(&mut run, &mut device, &[0x11; 4096])?;
+// A save of such a memory over this image, of which only so many calls of the device are made: the image that is the newest
+// then, and whether the gate of the slot that the next save goes to counts as closed.
+fn save_in_part(
+    device: &mut Fuse<MemoryDevice>,
+    calls: u64,
+    newest: Newest,
+    closed: bool,
+    byte: u8,
+) -> (Newest, bool) {
+    device.left = calls;
+    if device.len() != SIZE || newest.generation > 9 {
+        return (newest, closed);
     }
+    match save(device, newest, closed, 1, byte > 0x7f, &memory(byte)) {
+        Ok(next) => (next, false),
+        Err(fault) => (newest, fault.closed),
+    }
+}
+
+// Power is lost: the generation that is restored then, and the first byte; generation 0 where nothing is.
+fn after_a_stop(alloc: Global, fuse: Fuse<MemoryDevice>, pick: Pick) -> (u64, u8) {
+    let mut device = fuse.device;
     device.stop(pick);
     match restore(alloc, &mut device, LINES) {
         Ok(restored) => {
             let byte = restored.lines.first().map_or(0, |line| line[0]);
-            Ok((restored.generation, byte))
+            (restored.generation, byte)
         }
-        Err(_) => Ok((0, 0)),
+        Err(_) => (0, 0),
     }
 }
 
 #[test]
 fn a_stop_leaves_the_old_image_or_the_new_one(rt: HostRuntime) -> Result<(), Fail> {
-    let old = (1, 0);
-    let new = (2, 0x11);
-    for pick in [Pick::Old, Pick::New, Pick::Torn(0xa5), Pick::Torn(0)] {
-        for steps in 0..7 {
+    for byte in [0x11, 0x91] {
+        for pick in PICKS {
+            for calls in 0..9 {
+                let mut fuse = Fuse::new(formatted(rt.alloc())?, 0);
+                save_in_part(&mut fuse, calls, CLOSED_FIRST, true, byte);
+                let is_new = calls == 8
+                    || calls == 7 && (pick == Pick::New || pick == Pick::Torn(0xa5));
+                let expected = if is_new { (2, byte) } else { (1, 0) };
+                assert_eq!(rt;
+                    after_a_stop(rt.alloc(), fuse, pick),
+                    expected,
+                    "after {calls} calls"
+                );
+            }
+        }
+    }
+    Ok(())
+}
+
+#[test]
+fn a_stop_over_a_gate_that_is_not_known_closed(rt: HostRuntime) -> Result<(), Fail> {
+    for pick in PICKS {
+        for calls in 0..9 {
+            let mut fuse = Fuse::new(formatted(rt.alloc())?, 0);
+            let (newest, closed) = save_in_part(&mut fuse, 8, CLOSED_FIRST, true, 0x11);
+            assert!(rt; !closed);
+            save_in_part(&mut fuse, calls, newest, closed, 0x22);
+            let is_new = calls == 8
+                || calls == 7 && (pick == Pick::New || pick == Pick::Torn(0xa5));
+            let expected = if is_new { (3, 0x22) } else { (2, 0x11) };
             assert_eq!(rt;
-                after_steps(rt.alloc(), steps, pick)?,
-                old,
-                "after {steps} steps"
+                after_a_stop(rt.alloc(), fuse, pick),
+                expected,
+                "after {calls} calls"
             );
         }
-        assert_eq!(rt; after_steps(rt.alloc(), 8, pick)?, new);
     }
-    assert_eq!(rt; after_steps(rt.alloc(), 7, Pick::Old)?, old);
-    assert_eq!(rt; after_steps(rt.alloc(), 7, Pick::New)?, new);
-    assert_eq!(rt; after_steps(rt.alloc(), 7, Pick::Torn(0xa5))?, new);
-    assert_eq!(rt; after_steps(rt.alloc(), 7, Pick::Torn(0))?, old);
     Ok(())
+}
+
+// What a stop may leave in the second save after one that failed: the old image or the second new one, and until its gate
+// is settled closed the first new one too, where its opening was tried.
+#[test]
+fn a_stop_after_a_failed_save(rt: HostRuntime) -> Result<(), Fail> {
+    for pick in PICKS {
+        for first in 0..8 {
+            for second in 0..9 {
+                let mut fuse = Fuse::new(formatted(rt.alloc())?, 0);
+                let (newest, closed) = save_in_part(&mut fuse, first, CLOSED_FIRST, true, 0x11);
+                assert_eq!(rt; newest, CLOSED_FIRST);
+                assert_eq!(rt; closed, first < 6);
+                save_in_part(&mut fuse, second, newest, closed, 0x22);
+                let found = after_a_stop(rt.alloc(), fuse, pick);
+                let is_old = found == (1, 0) && second < 8;
+                let is_first = found == (2, 0x11) && first > 5 && second < 2;
+                let is_second = found == (2, 0x22) && second > 6;
+                assert!(rt;
+                    is_old || is_first || is_second,
+                    "after {first} and {second} calls"
+                );
+            }
+        }
+    }
+    Ok(())
+}
+
+#[test]
+fn a_write_that_fails_may_reach_the_device(rt: HostRuntime) -> Result<(), Fail> {
+    for before in 0..8 {
+        let mut device = OneFault::new(formatted(rt.alloc())?, before);
+        assert_eq!(rt; device.len(), SIZE);
+        let refused = save(&mut device, CLOSED_FIRST, true, 1, false, &memory(0x11));
+        assert_eq!(rt; refused, Err(SaveFault { closed: before < 6 }));
+        let found = after_a_stop(rt.alloc(), Fuse::new(device.device, 0), Pick::New);
+        assert_eq!(rt; found.0, if before < 6 { 1 } else { 2 });
+    }
+    Ok(())
+}
+
+// A step of a save of a memory of zero lines.
+fn step(run: &mut SaveRun, device: &mut Fuse<MemoryDevice>) -> Option<Step> {
+    if !run.fits(device) {
+        return None;
+    }
+    run.step(device, &[0; 4096]).ok()
 }
 
 #[test]
@@ -85,12 +158,13 @@ fn the_steps_of_a_save(rt: HostRuntime) -> Result<(), Fail> {
         slot: Slot::Second,
         generation: 7,
     };
-    let mut device = blank(rt.alloc())?;
+    let mut device = Fuse::new(formatted(rt.alloc())?, 8);
     let mut run = SaveRun::begin(newest, false, 3, true, LINES);
+    assert_eq!(rt; run.count(), 3);
     let mut said = String::new(rt.alloc());
     for left in [8, 7, 6, 5, 4, 3, 2, 1] {
         assert_eq!(rt; run.steps_left(), left);
-        let step = step(&mut run, &mut device, &[0; 4096])?;
+        let step = step(&mut run, &mut device).ok_or("a step failed")?;
         write!(said, "{step}, ")?;
     }
     assert_eq!(rt;
@@ -99,6 +173,64 @@ fn the_steps_of_a_save(rt: HostRuntime) -> Result<(), Fail> {
     );
     assert_eq!(rt; run.next(), Step::Done);
     Ok(())
+}
+
+#[test]
+fn a_failed_step_is_made_again(rt: HostRuntime) -> Result<(), Fail> {
+    let mut device = Fuse::new(formatted(rt.alloc())?, 0);
+    let mut run = SaveRun::begin(CLOSED_FIRST, true, 0, false, LINES);
+    for left in [8, 7, 6, 5, 4, 3, 2, 1] {
+        let coming = run.next();
+        assert_eq!(rt; run.is_closed(), left > 1);
+        device.left = 0;
+        assert_eq!(rt; step(&mut run, &mut device), None);
+        assert_eq!(rt; run.next(), coming);
+        assert_eq!(rt; run.is_closed(), left > 2);
+        device.left = 1;
+        assert_eq!(rt; step(&mut run, &mut device), Some(coming));
+    }
+    assert_eq!(rt; device.faults(), 8);
+    assert_eq!(rt; after_a_stop(rt.alloc(), device, Pick::Old), (2, 0));
+    Ok(())
+}
+
+#[test]
+fn an_arm_that_is_stopped(rt: HostRuntime) -> Result<(), Fail> {
+    let clear = Ok((1, Verdict::Complete));
+    let armed = Ok((1, Verdict::PossibleLoss { after: 0 }));
+    for (calls, pick, expected) in [
+        (0, Pick::New, clear),
+        (1, Pick::Old, clear),
+        (1, Pick::Torn(0), clear),
+        (1, Pick::New, armed),
+        (1, Pick::Torn(0xa5), armed),
+        (2, Pick::Old, armed),
+    ] {
+        let mut fuse = Fuse::new(formatted(rt.alloc())?, calls);
+        assert_eq!(rt; fuse.len(), SIZE);
+        assert_eq!(rt; mark_armed(&mut fuse, Slot::First).is_ok(), calls == 2);
+        let mut device = fuse.device;
+        device.stop(pick);
+        assert_eq!(rt; told(rt.alloc(), &mut device), expected);
+    }
+    Ok(())
+}
+
+#[test]
+fn the_second_slot_is_armed(rt: HostRuntime) -> Result<(), Fail> {
+    let mut fuse = Fuse::new(formatted(rt.alloc())?, 0);
+    let (newest, _closed) = save_in_part(&mut fuse, 8, CLOSED_FIRST, true, 0x11);
+    fuse.left = 2;
+    assert_eq!(rt; fuse.len(), SIZE);
+    mark_armed(&mut fuse, newest.slot)?;
+    let armed = Ok((2, Verdict::PossibleLoss { after: 1 }));
+    assert_eq!(rt; told(rt.alloc(), &mut fuse.device), armed);
+    Ok(())
+}
+
+// What a device restores to.
+fn told(alloc: Global, device: &mut MemoryDevice) -> Result<(u64, Verdict), RestoreError> {
+    restore(alloc, device, LINES).map(|restored| (restored.generation, restored.verdict))
 }
 
 // What a device restores to after these bytes were set in a formatted store.
@@ -112,7 +244,7 @@ fn restored(
             device.write_at(*at, &[*byte])?;
         }
     }
-    Ok(restore(alloc, &mut device, LINES).map(|restored| (restored.generation, restored.verdict)))
+    Ok(told(alloc, &mut device))
 }
 
 #[test]
@@ -147,7 +279,65 @@ fn a_device_of_another_size(rt: HostRuntime) -> Result<(), Fail> {
     let mut device = MemoryDevice::new(rt.alloc(), Vec::from_elem(rt.alloc(), 0, SIZE - 1)?)?;
     let refused = restore(rt.alloc(), &mut device, LINES).err();
     assert_eq!(rt; refused, Some(RestoreError::WrongSize));
-    let error = RestoreError::Damaged { slot: Slot::Second };
-    assert_eq!(rt; error.to_string(rt.alloc())?.as_str(), "2 Damaged 1");
+    Ok(())
+}
+
+#[test]
+fn a_restore_on_a_device_that_fails(rt: HostRuntime) -> Result<(), Fail> {
+    for calls in 0..6 {
+        let mut fuse = Fuse::new(formatted(rt.alloc())?, calls);
+        let answer = restore(rt.alloc(), &mut fuse, LINES).map(|restored| restored.count);
+        let expected = if calls < 5 {
+            Err(RestoreError::Device)
+        } else {
+            Ok(0)
+        };
+        assert_eq!(rt; answer, expected);
+    }
+    Ok(())
+}
+
+#[test]
+fn refusals_and_verdicts_as_texts(rt: HostRuntime) -> Result<(), Fail> {
+    for (error, text) in [
+        (RestoreError::NoImage, "1 NoImage"),
+        (RestoreError::Damaged { slot: Slot::First }, "2 Damaged 0"),
+        (RestoreError::Damaged { slot: Slot::Second }, "2 Damaged 1"),
+        (RestoreError::WrongSize, "3 WrongSize"),
+        (RestoreError::Device, "4 Device"),
+        (RestoreError::Memory, "5 Memory"),
+    ] {
+        assert_eq!(rt; error.to_string(rt.alloc())?.as_str(), text);
+    }
+    let lost = Verdict::PossibleLoss { after: 3 };
+    assert_eq!(rt;
+        Verdict::Complete.to_string(rt.alloc())?.as_str(),
+        "Complete"
+    );
+    assert_eq!(rt; lost.to_string(rt.alloc())?.as_str(), "PossibleLoss");
+    let fault = SaveFault { closed: true };
+    assert_eq!(rt; fault.to_string(rt.alloc())?.as_str(), "the device failed");
+    Ok(())
+}
+
+// A store of the largest memory: it is formatted, a memory is saved, and restored again.
+#[test]
+fn the_largest_memory(rt: HostRuntime) -> Result<(), Fail> {
+    let alloc = rt.alloc();
+    let size = device_size(65_536);
+    let mut device = MemoryDevice::new(alloc, Vec::from_elem(alloc, 0, size)?)?;
+    assert_eq!(rt; device.len(), size);
+    format(&mut device, 65_536)?;
+    let mut lines = Vec::from_elem(alloc, [0; 64], 65_536)?;
+    assert_eq!(rt; lines.len(), 65_536);
+    lines[65_535] = [0x33; 64];
+    let newest = save(&mut device, CLOSED_FIRST, true, 9, false, &lines)?;
+    device.stop(Pick::Old);
+    let Ok(restored) = restore(alloc, &mut device, 65_536) else {
+        return Err("nothing was restored")?;
+    };
+    assert_eq!(rt; restored.newest(), newest);
+    assert_eq!(rt; restored.count, 9);
+    assert_eq!(rt; restored.lines.last(), Some(&[0x33; 64]));
     Ok(())
 }

@@ -1,14 +1,14 @@
 -- A line that is read early, a write that goes into the array early, and one more write.
-use Rattle.std.proofs.Common.{◌≡◌, ◌≢◌, ℕ, zero, suc, ◌<◌, List, [], ◌∷◌, ◌++◌, map, length, get_or, set, slice_get, remove, Option, Some, None, refl, sym, ap, subst, ◌∙◌, arith, length-set, get_or-set_other, get_or-set_same}
+use Rattle.std.proofs.Common.{◌≡◌, ◌≢◌, ℕ, zero, suc, ◌<◌, List, [], ◌∷◌, ◌++◌, Bool, true, false, cond, filter, map, length, get_or, set, slice_get, remove, Option, Some, None, refl, sym, ap, subst, ◌∙◌, arith, length-set, get_or-set_other, get_or-set_same}
 use Rattle.std.proofs.lemmas.List.{map-append, set_comm}
 use Rattle.line_memory.specs.Memory.{after, after_write}
 use Rattle.line_memory.proofs.MemoryLaws.{after-push}
 use Rattle.wpq_core.specs.declared.queue.PendingWrite.{PendingWrite}
-use Rattle.wpq_core.specs.Writes.{NoneNames, IsNewest, IsFirstOfItsLine}
+use Rattle.wpq_core.specs.Writes.{NoWriteNames, IsNewest, IsFirstOfItsLine}
 use Rattle.wpq_core.specs.PendingMemory.{after_pending, data_or}
 
 -- a line that no pending write names
-after_pending-other : (array : List (List ℕ)) (writes : List PendingWrite) (line : ℕ) → NoneNames line writes → get_or (after_pending array writes) line [] ≡ get_or array line []
+after_pending-other : (array : List (List ℕ)) (writes : List PendingWrite) (line : ℕ) → NoWriteNames line writes → get_or (after_pending array writes) line [] ≡ get_or array line []
 after_pending-other array [] line none = refl
 after_pending-other array (x ∷ xs) line none =
     after_pending-other (after_write array x.write) xs line (λ k v s. none (suc k) v s)
@@ -39,6 +39,25 @@ after_pending-early array (x ∷ xs) (suc i) w at first =
     let apart : w.write.line ≢ x.write.line = λ same. first zero x w (omega arith) refl at (sym same) in
     ap (λ (lines : List (List ℕ)). after_pending lines (remove xs i)) (set_comm array w.write.line x.write.line w.write.«data» x.write.«data» apart)
     ∙ after_pending-early (after_write array x.write) xs i w at (λ j v u less s t. first (suc j) v u (omega (arith, less)) s t)
+
+-- the same of those writes that a test picks, where it picks this one
+early-head : (f : PendingWrite → Bool) (array : List (List ℕ)) (x w : PendingWrite) (rest left : List PendingWrite) (b : Bool) → w.write.line ≢ x.write.line → ((lines : List (List ℕ)) → after_pending (after_write lines w.write) left ≡ after_pending lines rest)
+    → after_pending (after_write array w.write) (cond b (x ∷ left) left) ≡ after_pending array (cond b (x ∷ rest) rest)
+early-head f array x w rest left true apart same =
+    ap (λ (lines : List (List ℕ)). after_pending lines left) (set_comm array w.write.line x.write.line w.write.«data» x.write.«data» apart) ∙ same (after_write array x.write)
+early-head f array x w rest left false apart same = same array
+
+pub below-early : (f : PendingWrite → Bool) (array : List (List ℕ)) (writes : List PendingWrite) (i : ℕ) (w : PendingWrite) → slice_get writes i ≡ Some w → f w ≡ true → IsFirstOfItsLine writes i
+    → after_pending (after_write array w.write) (filter f (remove writes i)) ≡ after_pending array (filter f writes)
+below-early f array [] i w at picked first = absurd cc
+below-early f array (x ∷ xs) zero w at picked first =
+    let same : x ≡ w = cc in
+    let test : f x ≡ true = ap f same ∙ picked in
+    ap (λ (y : PendingWrite). after_pending (after_write array y.write) (filter f xs)) (sym same) ∙ sym (ap (λ (b : Bool). after_pending array (cond b (x ∷ filter f xs) (filter f xs))) test)
+below-early f array (x ∷ xs) (suc i) w at picked first =
+    let apart : w.write.line ≢ x.write.line = λ same. first zero x w (omega arith) refl at (sym same) in
+    early-head f array x w (filter f xs) (filter f (remove xs i)) (f x) apart
+    (λ lines. below-early f lines xs i w at picked (λ j v u less s t. first (suc j) v u (omega (arith, less)) s t))
 
 pub after_pending-push : (array : List (List ℕ)) (writes : List PendingWrite) (w : PendingWrite) → after_pending array (writes ++ w ∷ []) ≡ after_write (after_pending array writes) w.write
 after_pending-push array writes w = ap (after array) (map-append (λ (x : PendingWrite). x.write) writes (w ∷ [])) ∙ after-push array (map (λ x. x.write) writes) w.write

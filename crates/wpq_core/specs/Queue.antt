@@ -1,7 +1,7 @@
 -- What contracts see of a queue.
 use Rattle.std.specs.Prelude.{ℕ, ◌≤◌, List, length}
 use Rattle.wpq_core.specs.declared.queue.PendingWrite.{PendingWrite}
-use Rattle.wpq_core.specs.Writes.{Rise}
+use Rattle.wpq_core.specs.Writes.{NumbersRise}
 
 -- how many writes it may hold, and those that it holds, oldest first
 pub record Queue : Type 0 where
@@ -9,8 +9,8 @@ pub record Queue : Type 0 where
   pub writes : List PendingWrite
 
 -- what is true of every queue
-pub record IsQueue (queue : Queue) : Type 0 where
-  pub rise : Rise queue.writes
+pub record IsWriteQueue (queue : Queue) : Type 0 where
+  pub rise : NumbersRise queue.writes
   pub few : length queue.writes ≤ queue.depth
   pub least : 1 ≤ queue.depth
   pub most : queue.depth ≤ 64

@@ -1,7 +1,7 @@
 // The queue, with its room reserved once.
-ghost use Rattle.std.specs.Prelude.{◌≡◌, ◌≤◌, ◌<◌, ◌↔◌, [], ◌∷◌, ◌++◌, length, nat_lt, count_by, IfErr, IfOk, IsOk, IsTrue, OnErr, OnOk, vec_capacity};
-ghost use Rattle.wpq_core.specs.Writes.{ComeBefore, IsNewest, IsPlaceOf, Takes, pending_write};
-ghost use Rattle.wpq_core.specs.Queue.{Queue, IsQueue};
+ghost use Rattle.std.specs.Prelude.{◌≡◌, ℕ, ◌≤◌, ◌<◌, ◌^◌, ◌↔◌, [], ◌∷◌, ◌++◌, length, nat_lt, count_by, IfErr, IfNone, IfOk, IfSome, IsOk, IsTrue, OnErr, OnOk, vec_capacity};
+ghost use Rattle.wpq_core.specs.Writes.{ComeBefore, IsNewest, IsPlaceOfWrite, TakesWrite, pending_write};
+ghost use Rattle.wpq_core.specs.Queue.{Queue, IsWriteQueue};
 
 use line_memory::{Line, Write};
 use std::alloc::{AllocError, Global};
@@ -33,7 +33,7 @@ impl Model for Wpq {
 
     ghost view = { λ q. record { depth = q.depth; writes = q.writes.items } };
 
-    ghost invariant = { λ q. IsQueue (record { depth = q.depth; writes = q.writes.items }) × (q.depth ≤ vec_capacity q.writes) };
+    ghost invariant = { λ q. IsWriteQueue (record { depth = q.depth; writes = q.writes.items }) × (q.depth ≤ vec_capacity q.writes) };
 }
 
 impl Wpq {
@@ -43,7 +43,7 @@ impl Wpq {
         requires least { 1 ≤ depth }
         requires most { depth ≤ 64 }
         ensures empty { IfOk result (λ queue. queue ≡ record { depth = depth; writes = [] }) }
-        ensures queue { IfOk result IsQueue }
+        ensures queue { IfOk result IsWriteQueue }
     {
         Ok(Wpq {
             depth,
@@ -75,9 +75,30 @@ impl Wpq {
     /// The pending writes, oldest first.
     pub fn writes(&self) -> &[PendingWrite]
         ensures writes { result.now ≡ self.now.writes }
-        ensures queue { IsQueue self.now }
+        ensures queue { IsWriteQueue self.now }
     {
         &self.writes
+    }
+
+    /// The least number that a further write may have; None where a pending write has the greatest number that there is.
+    pub fn next_number(&self) -> Option<u64>
+        ensures free { IfSome result (λ n. (m : ℕ) → (ComeBefore m self.now.writes ↔ (n ≤ m))) }
+        ensures none { IfNone result ((m : ℕ) → ComeBefore m self.now.writes → 2 ^ 64 ≤ m) }
+    {
+        match self.writes.last() {
+            Some(newest) => newest.number.checked_add(1),
+            None => Some(0),
+        }
+    }
+
+    /// Whether a further write may have this number: whether those of all pending ones are smaller.
+    pub fn may_take(&self, number: u64) -> bool
+        ensures { IsTrue result ↔ ComeBefore number self.now.writes }
+    {
+        match self.writes.last() {
+            Some(newest) => newest.number < number,
+            None => true,
+        }
     }
 
     /// How many pending writes have a number below the limit. It looks at each of them.
@@ -112,7 +133,7 @@ impl Wpq {
         ensures room { IsOk result ↔ (length self.old.writes < self.old.depth) }
         ensures refused { IfErr result (λ full. full.refused ≡ pending_write number line «data») }
         ensures same { OnErr result (self.new ≡ self.old) }
-        ensures queue { IsQueue self.new }
+        ensures queue { IsWriteQueue self.new }
     {
         let pending = PendingWrite {
             number,
@@ -126,12 +147,12 @@ impl Wpq {
         })
     }
 
-    /// Takes the pending write of a number out and gives its data; None, and the queue stays, exactly where no pending
+    /// TakesWrite the pending write of a number out and gives its data; None, and the queue stays, exactly where no pending
     /// write has the number. It costs the number of pending writes.
     pub fn take(&mut self, number: u64) -> Option<Line>
         ensures depth { self.new.depth ≡ self.old.depth }
-        ensures takes { Takes number self.old.writes result self.new.writes }
-        ensures queue { IsQueue self.new }
+        ensures takes { TakesWrite number self.old.writes result self.new.writes }
+        ensures queue { IsWriteQueue self.new }
     {
         let place = place_of(&self.writes, number)?;
         Some(self.writes.remove(place).write.data)
@@ -140,7 +161,7 @@ impl Wpq {
 
 // Where the write of a number stands.
 fn place_of(writes: &[PendingWrite], number: u64) -> Option<usize>
-    ensures { IsPlaceOf number writes.now result }
+    ensures { IsPlaceOfWrite number writes.now result }
 {
     writes.iter().position(|pending| pending.number == number)
 }

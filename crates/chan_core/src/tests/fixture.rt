@@ -1,48 +1,24 @@
 // A channel that tests fill with writes and reads.
-ghost use Rattle.std.specs.Prelude.{◌≡◌, ◌<◌, IsTrue};
-ghost use Rattle.ddr4_timing.specs.Limits.{lines_of};
-ghost use Rattle.ddr4_timing.specs.declared.timing.Checked.{Checked};
-ghost use Rattle.wpq_core.specs.Writes.{ComeBefore};
-ghost use Rattle.chan_core.specs.Lines.{place_of};
+ghost use Rattle.std.specs.Prelude.{◌≡◌};
 
 use crate::answers::{Collected, Done, Got, ReadsFull, Ticket};
 use crate::channel::Channel;
-use crate::laws::commands_keep;
-use crate::lines::{cells, cells_make_lines, place_of};
+use crate::tests::by_lines::ByLines;
 use ddr4_timing::command::Stamped;
 use ddr4_timing::fault::{Fault, first_fault};
 use ddr4_timing::timing::{Checked, Geometry, Timing};
+use interleave_map::cells::cells;
 use std::alloc::{AllocError, Global};
-use std::marker::Model;
 use std::test::Fail;
 use wpq_core::Full;
 
-/// Channel 0 of a profile, with the number of its next write.
+/// Channel 0 of a profile, with the map `lines` and the number of its next write.
 #[derive(Drop)]
 pub struct Fixture {
-    checked: Checked,
+    map: ByLines,
     channel: Channel,
     number: u64,
-}
-
-impl Model for Fixture {
-    ghost Value = { Checked };
-
-    ghost view = { λ f. f.checked };
-
-    ghost invariant = { λ f. (f.channel.memory.checked ≡ f.checked) × (f.channel.memory.channel ≡ 0) × ComeBefore f.number f.channel.memory.queue.writes };
-}
-
-// Does the line lie on channel 0?
-fn is_here(checked: &Checked, line: u64) -> bool
-    ensures within { IsTrue result → line < lines_of checked.now.geometry }
-    ensures channel { IsTrue result → (place_of checked.now.geometry line).channel ≡ 0 }
-{
-    cells_make_lines();
-    let Some(lines) = checked.geometry.channels.checked_mul(cells(checked) as u64) else {
-        return false;
-    };
-    line < lines && place_of(checked, line).channel == 0
+    ghost profile: { channel.checked ≡ map.checked },
 }
 
 impl Fixture {
@@ -59,7 +35,7 @@ impl Fixture {
         let checked = timing.check(geometry)?;
         let channel = Channel::new(alloc, &checked, 0, depth, reads)?;
         Ok(Fixture {
-            checked,
+            map: ByLines { checked },
             channel,
             number: 0,
         })
@@ -67,19 +43,19 @@ impl Fixture {
 
     /// A line of the channel that the number picks.
     pub(crate) fn line(&self, pick: u64) -> u64 {
-        let index = pick % cells(&self.checked) as u64;
-        index * self.checked.geometry.channels
+        let index = pick % cells(&self.map.checked) as u64;
+        index * self.map.checked.geometry.channels
     }
 
     /// Writes a line of one byte.
     pub(crate) fn put(&mut self, line: u64, byte: u8) -> Result<Result<(), Full>, Fail> {
-        if !is_here(&self.checked, line) {
+        if !self.channel.has_line(&self.map, line) {
             return Err("no such line".into());
         }
-        if self.number == u64::MAX {
-            return Err("no number".into());
+        if !self.channel.may_take(self.number) || self.number == u64::MAX {
+            return Err("no such number".into());
         }
-        match self.channel.put(self.number, line, [byte; 64]) {
+        match self.channel.put(&self.map, self.number, line, [byte; 64]) {
             Ok(()) => {
                 self.number += 1;
                 Ok(Ok(()))
@@ -89,10 +65,10 @@ impl Fixture {
     }
 
     pub(crate) fn get(&mut self, line: u64) -> Result<Result<Got, ReadsFull>, Fail> {
-        if !is_here(&self.checked, line) {
+        if !self.channel.has_line(&self.map, line) {
             return Err("no such line".into());
         }
-        Ok(self.channel.get(line, self.number))
+        Ok(self.channel.get(&self.map, line, self.number))
     }
 
     pub(crate) fn collect(&mut self, ticket: Ticket) -> Collected {
@@ -112,7 +88,6 @@ impl Fixture {
     }
 
     pub(crate) fn work(&mut self) -> Option<Done> {
-        commands_keep();
         self.channel.work()
     }
 
@@ -121,13 +96,11 @@ impl Fixture {
         alloc: Global,
         n: usize,
     ) -> Result<Vec<Stamped>, AllocError> {
-        commands_keep();
-        let commands = self.channel.work_many(alloc, n)?;
-        Ok(commands)
+        self.channel.work_many(alloc, n)
     }
 
     /// The first fault of a list of commands, on its profile.
     pub(crate) fn fault(&self, list: &[Stamped]) -> Option<Fault> {
-        first_fault(&self.checked, list)
+        first_fault(&self.map.checked, list)
     }
 }

@@ -1,27 +1,29 @@
-use Rattle.std.proofs.Common.{arith}
-use Rattle.ddr4_timing.proofs.Bounds.{gap-act_wr, gap-act_rd, gap-act_pre, gap-wr_pre, gap-pre_act, gap-pre_sre, gap-ref_act, gap-ref_sre}
+use Rattle.std.proofs.Common.{◌≡◌, ℕ, true, eqb, refl, arith}
+use Rattle.std.specs.Prelude.{max}
+use Rattle.std.proofs.lemmas.Bool.{eq-eqb}
+use Rattle.ddr4_timing.specs.Gaps.{most_gap, pair_gap}
 use Rattle.bank_core.proofs.laws.gaps_in_a_bank.Goals as goal
 
-pub returns-clause-act_wr : goal.returns-clause-act_wr
-returns-clause-act_wr _ c rank group bank row column = let e = gap-act_wr c.timing rank group bank row column in omega (arith, e, c.in_limits.t_rcd.0)
+eqb_self : (n : ℕ) → eqb n n ≡ true
+eqb_self n = eq-eqb n n refl
 
-pub returns-clause-act_rd : goal.returns-clause-act_rd
-returns-clause-act_rd _ c rank group bank row column = let e = gap-act_rd c.timing rank group bank row column in omega (arith, e, c.in_limits.t_rcd.0)
+max_none : (k : ℕ) → max k 0 ≡ k
+max_none k = omega arith
 
-pub returns-clause-act_pre : goal.returns-clause-act_pre
-returns-clause-act_pre _ c rank group bank row = let e = gap-act_pre c.timing rank group bank row in omega (arith, e, c.in_limits.t_ras.0)
+max_zero : (k : ℕ) → max 0 k ≡ k
+max_zero k = omega arith
 
-pub returns-clause-wr_pre : goal.returns-clause-wr_pre
-returns-clause-wr_pre _ c rank group bank column = let e = gap-wr_pre c.timing rank group bank column in omega (arith, e, c.in_limits.t_wr.0)
-
-pub returns-clause-pre_act : goal.returns-clause-pre_act
-returns-clause-pre_act _ c rank group bank row = let e = gap-pre_act c.timing rank group bank row in omega (arith, e, c.in_limits.t_rp.0)
-
-pub returns-clause-pre_sre : goal.returns-clause-pre_sre
-returns-clause-pre_sre _ c rank group bank = let e = gap-pre_sre c.timing rank group bank in omega (arith, e, c.in_limits.t_rp.0)
-
-pub returns-clause-ref_act : goal.returns-clause-ref_act
-returns-clause-ref_act _ c rank group bank row = let e = gap-ref_act c.timing rank group bank row in omega (arith, e, c.in_limits.t_rfc.0)
-
-pub returns-clause-ref_sre : goal.returns-clause-ref_sre
-returns-clause-ref_sre _ c rank = let e = gap-ref_sre c.timing rank in omega (arith, e, c.in_limits.t_rfc.0)
+pub returns : goal.returns
+unfolding most_gap pair_gap
+returns _ c at =
+    let l = c.in_limits in
+    record {
+      act_wr = λ row column. simp (eqb_self, max_none, max_zero) (omega (arith, l.t_rcd.0));
+      act_rd = λ row column. simp (eqb_self, max_none, max_zero) (omega (arith, l.t_rcd.0));
+      act_pre = λ row. simp (eqb_self, max_none, max_zero) (omega (arith, l.t_ras.0));
+      wr_pre = λ column. simp (eqb_self, max_none, max_zero) (omega (arith, l.t_wr.0));
+      pre_act = λ row. simp (eqb_self, max_none, max_zero) (omega (arith, l.t_rp.0));
+      pre_sre = simp (eqb_self, max_none, max_zero) (omega (arith, l.t_rp.0));
+      ref_act = λ row. simp (eqb_self, max_none, max_zero) (omega (arith, l.t_rfc.0));
+      ref_sre = simp (eqb_self, max_none, max_zero) (omega (arith, l.t_rfc.0));
+    }

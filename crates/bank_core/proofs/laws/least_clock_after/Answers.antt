@@ -16,18 +16,15 @@ stays true q w v e h = h e
 count_stays : (t : Timing) (rank : ℕ) (list : List Stamped) (x : Stamped) → is_ref_of rank x.cmd ≡ false → (ref_count rank (list ++ x ∷ []) + 1) * t.t_refi ≡ (ref_count rank list + 1) * t.t_refi
 count_stays t rank list x e = rw (ref_count_push, e) (omega arith)
 
-pub returns-clause-other : goal.returns-clause-other
+pub returns : goal.returns
 unfolding least_clock
-returns-clause-other _ t list clock cmd next e h =
+returns _ t list clock cmd next =
     let x : Stamped = record { clock = clock; cmd = cmd } in
-    let w = stays (is_act next) _ _ _ e (window-no t (rank_of next) 3 list x) in
-    let r = stays (is_ref next) _ _ _ h (count_stays t (rank_of next) list x) in
-    rw floor_push (omega (arith, w, r))
-
-pub returns-clause-activate : goal.returns-clause-activate
-unfolding least_clock
-returns-clause-activate _ t list clock cmd next a n e = rw (floor_push, a, n) (let w = window-yes t _ 2 list (record { clock = clock; cmd = cmd }) e in omega (arith, w))
-
-pub returns-clause-refresh : goal.returns-clause-refresh
-unfolding least_clock
-returns-clause-refresh _ t list clock cmd next a n e = rw (floor_push, a, n, ref_count_push, e) (omega arith)
+    record {
+      other = λ e h.
+          let w = stays (is_act next) _ _ _ e (window-no t (rank_of next) 3 list x) in
+          let r = stays (is_ref next) _ _ _ h (count_stays t (rank_of next) list x) in
+          rw floor_push (omega (arith, w, r));
+      activate = λ a n e. rw (floor_push, a, n) (let w = window-yes t _ 2 list x e in omega (arith, w));
+      refresh = λ a n e. rw (floor_push, a, n, ref_count_push, e) (omega arith);
+    }

@@ -1,4 +1,4 @@
-use Rattle.frfcfs.proofs.QueueLaws.{eligible_is_first}
+use Rattle.frfcfs.proofs.ChoiceLaws.{eligible_is_first}
 use Rattle.frfcfs.proofs.laws.eligible_is_first.Goals as goal
 
 pub returns : goal.returns

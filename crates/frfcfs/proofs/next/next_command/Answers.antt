@@ -1,13 +1,35 @@
-use Rattle.std.proofs.Common.{◌≡◌, Option, subst, sym}
-use Rattle.frfcfs.specs.declared.choice.Next.{Next}
-use Rattle.frfcfs.specs.Parts.{IsNextOf, MayGo}
-use Rattle.frfcfs.proofs.Nexts.{next_some}
+use Rattle.std.proofs.Common.{inl, refl}
+use Rattle.frfcfs.proofs.WorkLemmas.{allows_of, idle_of, idle_without, keeps_of, marks_of, next_of, work_of}
 use Rattle.frfcfs.proofs.next.next_command.Goals as goal
 
-pub returns-in_err-clock-clause-first : goal.returns-in_err-clock-clause-first
-returns-in_err-clock-clause-first c list pending s =
-    subst (λ (x : Option Next). IsNextOf pending (λ k turn cmd. (turn ≡ c.args.choice.turn) × (cmd ≡ c.args.choice.cmd) × MayGo c.args.banks.now.checked list c.args.choice.cmd c.args.from c.args.until k) c.args.now x)
-    (sym c.from_residual.ensures) (λ k n l turn cmd o. c.in_err-clock.ensures.first list s k n l o.2)
+pub hit_banks-hits-requires : goal.hit_banks-hits-requires
+hit_banks-hits-requires c =
+    marks_of c.args.banks.now.checked.geometry c.requests-pending.result.now c.args.queue.now.requests c.firsts-firsts.result.now c.requests-pending.ensures.value c.requests-pending.ensures.order c.requires c.firsts-firsts.ensures
 
-pub returns-clause-first : goal.returns-clause-first
-returns-clause-first c list pending s = next_some pending (MayGo c.args.banks.now.checked list c.args.choice.cmd c.args.from c.args.until) c.args.now c.in_ok-clock.clock c.args.choice (c.in_ok-clock.ensures.first list s)
+pub search-requires-clause-marks : goal.search-requires-clause-marks
+search-requires-clause-marks c =
+    marks_of c.args.banks.now.checked.geometry c.requests-pending.result.now c.args.queue.now.requests c.firsts-firsts.result.now c.requests-pending.ensures.value c.requests-pending.ensures.order c.requires c.firsts-firsts.ensures
+
+pub returns-then-not-has_work-clause-idle : goal.returns-then-not-has_work-clause-idle
+returns-then-not-has_work-clause-idle c list s m at = (
+  λ _. inl (idle_without c.args.banks.now.checked list c.args.queue.now.requests c.args.now
+      (work_of c.args.banks.now.checked list c.requests-pending.result.now c.args.queue.now.requests c.args.now c.hit_banks-hits.result.any _ c.requests-pending.ensures.value c.requires c.hit_banks-hits.ensures.any (c.if-not-has_work.ensures list s))),
+  λ _. refl,
+)
+
+pub returns-clause-allows : goal.returns-clause-allows
+returns-clause-allows c = allows_of c.args.banks.now c.requests-pending.result.now c.args.now c.search.result c.search.ensures.next
+
+pub returns-clause-next : goal.returns-clause-next
+returns-clause-next c = next_of c.args.banks.now c.requests-pending.result.now c.args.queue.now.requests c.args.now c.search.result c.requests-pending.ensures.value c.search.ensures.next
+
+pub returns-clause-idle : goal.returns-clause-idle
+returns-clause-idle c list s m at =
+    idle_of c.args.banks.now.checked list c.requests-pending.result.now c.args.queue.now.requests c.args.now c.search.result c.requests-pending.ensures.value m s.lawful at c.if-now.false
+    (work_of c.args.banks.now.checked list c.requests-pending.result.now c.args.queue.now.requests c.args.now c.hit_banks-hits.result.any _ c.requests-pending.ensures.value c.requires c.hit_banks-hits.ensures.any (c.if-not-has_work.ensures list s))
+    (c.search.ensures.next list s)
+
+pub returns-clause-keeps : goal.returns-clause-keeps
+returns-clause-keeps c =
+    keeps_of c.args.banks.now c.args.queue.now.requests c.args.now c.search.result
+    (next_of c.args.banks.now c.requests-pending.result.now c.args.queue.now.requests c.args.now c.search.result c.requests-pending.ensures.value c.search.ensures.next)

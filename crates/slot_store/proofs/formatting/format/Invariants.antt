@@ -1,8 +1,10 @@
-use Rattle.std.proofs.Common.{◌≡◌, ◌+◌, ◌≤◌}
+use Rattle.std.proofs.Common.{◌≡◌, ◌+◌, length}
+use Rattle.save_device.specs.Device.{LeavesOnly}
+use Rattle.save_device.proofs.CallLists.{MadeSoFar}
 use Rattle.line_memory.specs.Memory.{zero_lines}
-use Rattle.slot_store.specs.Steps.{steps_left}
-use Rattle.slot_store.specs.Runs.{plan_of, next_of}
-use Rattle.slot_store.specs.Saving.{Stands}
+use Rattle.slot_store.specs.Slots.{device_size}
+use Rattle.slot_store.specs.Steps.{steps_left, calls_left, format_calls}
+use Rattle.slot_store.specs.Runs.{plan_of, next_of, HasSoFar}
 use Rattle.slot_store.proofs.FirstSave.{IsFirstPlan, KeepsSecond}
 use Rattle.slot_store.proofs.formatting.format.Given as goal
 
@@ -11,8 +13,9 @@ invariant-loop-done g l =
     let S = g.D.SaveDevice in
     record {
       plan : IsFirstPlan l.lines (plan_of l.run);
-      left : steps_left l.lines (next_of l.run) + l._done ≡ l._done-end;
-      stands : Stands (plan_of l.run) (zero_lines l.lines) (next_of l.run) (S.seen l.device) (S.unsettled l.device);
-      second : KeepsSecond l.lines (S.seen l.fn.device) (S.seen l.device);
-      later : S.fault_count l.fn.device ≤ S.fault_count l.device;
+      left : steps_left (plan_of l.run).lines (next_of l.run) + l._done ≡ l._done-end;
+      has : HasSoFar (zero_lines l.lines) l.run (S.state l.device);
+      second : KeepsSecond l.lines (S.state l.fn.device).bytes (S.state l.device).bytes;
+      calls : MadeSoFar (format_calls l.lines) (calls_left (plan_of l.run).closed (plan_of l.run).lines (next_of l.run)) (S.state l.fn.device).calls (S.state l.device).calls;
+      time : LeavesOnly (S.state l.fn.device) (S.state l.device) (λ image. length image ≡ device_size l.lines);
     }

@@ -1,23 +1,29 @@
-use Rattle.std.proofs.Common.{ℕ, ◌+◌, ◌*◌, ◌++◌, List, length, drop, ap, sym, ◌∙◌, arith}
+use Rattle.std.proofs.Common.{◌≡◌, ℕ, ◌+◌, ◌*◌, ◌++◌, List, length, drop, true, false, ap, sym, ◌∙◌, arith}
 use Rattle.std.specs.Prelude.{slice_range}
+use Rattle.save_device.specs.Device.{Moment}
+use Rattle.save_device.proofs.ReadRuns.{reads_on, reads_stop}
 use Rattle.save_image.specs.Body.{lines_in}
 use Rattle.save_image.proofs.BodyLaws.{lines_in-page, length-lines_in}
 use Rattle.slot_store.proofs.restoring.read_pages.Goals as goal
 
+pub returns-in_default-read_page-clause-reads : goal.returns-in_default-read_page-clause-reads
+returns-in_default-read_page-clause-reads g c =
+    let S = g.D.SaveDevice in let old = S.state c.args.device.now in let new = S.state c.read_page.new.device in let so_far = c.loop-page.page in
+    reads_stop (so_far + 1) c.args.pages old new (omega arith) (reads_on so_far 1 false old (S.state c.loop-page.device) new c.loop-page.invariant.reads c.in_default-read_page.ensures.reads)
+
 pub push_page-requires : goal.push_page-requires
 push_page-requires g c =
-    let inv = c.loop-page.invariant in let rest : List ℕ = drop c.args.at (g.D.SaveDevice.seen c.args.device.now) in
+    let inv = c.loop-page.invariant in let rest : List ℕ = drop c.args.at (g.D.SaveDevice.state c.args.device.now).bytes in
     omega (arith, inv.capacity, ap length inv.lines, length-lines_in (64 * c.loop-page.page) rest, c.loop-page.memory.ok)
 
 pub loop-page-preserved : goal.loop-page-preserved
 loop-page-preserved g c =
-    let S = g.D.SaveDevice in let seen : List ℕ = S.seen c.args.device.now in let inv = c.loop-page.invariant in let at : ℕ = c.args.at + 4096 * c.loop-page.page in
+    let S = g.D.SaveDevice in let seen : List ℕ = (S.state c.args.device.now).bytes in let inv = c.loop-page.invariant in let at : ℕ = c.args.at + 4096 * c.loop-page.page in
+    let same : (S.state c.loop-page.device).bytes ≡ seen = ap (λ (moment : Moment). moment.bytes) inv.reads.same in
     record {
       lines = c.push_page.ensures.items ∙ ap (λ (m : List (List ℕ)). m ++ lines_in 64 c.in-Ok-read_page.bytes) inv.lines
-          ∙ ap (λ (page : List ℕ). lines_in (64 * c.loop-page.page) (drop c.args.at seen) ++ lines_in 64 page) (c.in-Ok-read_page.ensures.page ∙ ap (λ (row : List ℕ). slice_range row at (at + 4096)) inv.same)
+          ∙ ap (λ (page : List ℕ). lines_in (64 * c.loop-page.page) (drop c.args.at seen) ++ lines_in 64 page) (c.in-Ok-read_page.ensures.page ∙ ap (λ (row : List ℕ). slice_range row at (at + 4096)) same)
           ∙ sym (lines_in-page c.args.at c.loop-page.page seen);
       capacity = c.push_page.ensures.capacity ∙ inv.capacity;
-      same = c.read_page.ensures.same ∙ inv.same;
-      unsettled = λ k u. inv.unsettled k (c.read_page.ensures.unsettled k u);
-      later = omega (arith, inv.later, c.read_page.ensures.cause.later);
+      reads = reads_on c.loop-page.page 1 true (S.state c.args.device.now) (S.state c.loop-page.device) (S.state c.read_page.new.device) inv.reads c.in-Ok-read_page.ensures.reads;
     }

@@ -1,11 +1,11 @@
 use Rattle.std.proofs.Common.{◌≡◌, ℕ, ◌+◌, List, ap, sym, ◌∙◌}
 use Rattle.std.specs.Prelude.{slice_range}
-use Rattle.slot_store.specs.Slots.{slot_state, state_of, page_in, body_in}
+use Rattle.slot_store.specs.Slots.{slot_state, slot_with, page_in, body_in}
 use Rattle.slot_store.proofs.restoring.read_slot.Goals as goal
 
 pub returns-clause-state : goal.returns-clause-state
 unfolding slot_state
 returns-clause-state g c =
-    let seen : List ℕ = g.D.SaveDevice.seen c.args.device.now in
+    let seen : List ℕ = (g.D.SaveDevice.state c.args.device.now).bytes in
     let page : page_in c.args.lines c.args.slot seen ≡ c.in_ok-page.page = ap (λ (i : ℕ). slice_range seen i (i + 4096)) (sym c.start.ensures) ∙ sym c.in_ok-page.ensures.page in
-    ap (λ (p : List ℕ). state_of c.args.lines p (body_in c.args.lines c.args.slot seen)) page ∙ c.reading_of.ensures (body_in c.args.lines c.args.slot seen)
+    ap (λ (p : List ℕ). slot_with c.args.lines p (body_in c.args.lines c.args.slot seen)) page ∙ c.reading_of.ensures (body_in c.args.lines c.args.slot seen)

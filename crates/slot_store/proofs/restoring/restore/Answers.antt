@@ -1,38 +1,89 @@
+use Rattle.std.proofs.Common.{◌≡◌, ◌+◌, ◌*◌, ◌/◌, ℕ, List, length, drop, true, false, subst, ap, sym, ◌∙◌, arith}
+use Rattle.std.proofs.lemmas.Result.{err_from_is_err_and}
+use Rattle.save_device.specs.Device.{Moment, DeviceState}
+use Rattle.save_device.proofs.Rows.{same_rows}
+use Rattle.save_device.proofs.ReadRuns.{settled_same, sync_leaves, reads_on}
 use Rattle.save_image.specs.Body.{lines_in}
-use Rattle.std.proofs.Common.{◌≡◌, ◌+◌, ◌*◌, ◌/◌, ℕ, List, length, drop, subst, ap, sym, ◌∙◌, arith}
+use Rattle.line_memory.specs.Memory.{IsMemory}
 use Rattle.slot_store.specs.Slots.{device_size, slot_state, is_closed, other, body_in, image_with}
 use Rattle.slot_store.specs.Outcomes.{restored}
-use Rattle.line_memory.specs.Memory.{IsMemory}
 use Rattle.slot_store.proofs.Resting.{rest_restored, found_image}
 use Rattle.slot_store.proofs.Picked.{wrong_size}
+use Rattle.slot_store.proofs.RestoreCalls.{calls_of_fault, calls_of_headers, calls_of_pages, calls_of_all, sync_and_reads}
 use Rattle.slot_store.proofs.restoring.restore.Goals as goal
 
 pub returns-then-len-device_size-clause-refused : goal.returns-then-len-device_size-clause-refused
 returns-then-len-device_size-clause-refused g c =
-    wrong_size c.args.lines (g.D.SaveDevice.seen c.args.device.now) (λ e. omega (arith, e, c.len.ensures, c.device_size.ensures, c.if-len-device_size.true))
+    wrong_size c.args.lines (g.D.SaveDevice.state c.args.device.now).bytes (λ e. omega (arith, e, c.len.ensures, c.device_size.ensures, c.if-len-device_size.true))
+
+pub returns-in_default-clause-calls : goal.returns-in_default-clause-calls
+returns-in_default-clause-calls g c =
+    let S = g.D.SaveDevice in calls_of_fault c.args.lines (S.state c.args.device.now) (S.state c.sync.new.self) c.in_default.ensures
+
+pub returns-in_default-clause-same : goal.returns-in_default-clause-same
+returns-in_default-clause-same g c =
+    let S = g.D.SaveDevice in same_rows (S.state c.args.device.now).bytes (S.state c.sync.new.self).bytes c.sync.ensures.outside
+
+pub returns-in_default-clause-any_moment : goal.returns-in_default-clause-any_moment
+returns-in_default-clause-any_moment g c =
+    let S = g.D.SaveDevice in sync_leaves false (S.state c.args.device.now) (S.state c.sync.new.self) c.in_default.ensures
+
+pub returns-in_err-choice-clause-calls : goal.returns-in_err-choice-clause-calls
+returns-in_err-choice-clause-calls g c =
+    let S = g.D.SaveDevice in
+    let p = err_from_is_err_and c.from_residual.result c.from_residual.ensures.1 in
+    rw (p.1, p.2) (calls_of_headers c.in_err-choice.field-0.0 c.args.lines (S.state c.args.device.now) (S.state c.sync.new.self) (S.state c.read_both.new.device) c.in_err-choice.ensures.headers c.in-Ok.ensures c.in_err-choice.ensures.reads)
+
+pub returns-in_err-choice-clause-any_moment : goal.returns-in_err-choice-clause-any_moment
+returns-in_err-choice-clause-any_moment g c =
+    let S = g.D.SaveDevice in
+    sync_and_reads _ (S.state c.args.device.now) (S.state c.sync.new.self) (S.state c.read_both.new.device) 2 c.in-Ok.ensures c.read_both.ensures.reads
+
+pub returns-in_err-memory-clause-calls : goal.returns-in_err-memory-clause-calls
+returns-in_err-memory-clause-calls g c =
+    let S = g.D.SaveDevice in
+    let p = err_from_is_err_and c.from_residual-in_err-memory.result c.from_residual-in_err-memory.ensures.1 in
+    rw (p.1, p.2) (calls_of_pages c.in_err-memory.field-0.0 c.args.lines (S.state c.args.device.now) (S.state c.sync.new.self) (S.state c.read_both.new.device) (S.state c.read_pages.new.device) c.in_err-memory.ensures.failed c.in-Ok.ensures c.in_ok-choice.ensures.reads c.in_err-memory.ensures.reads)
+
+pub returns-in_err-memory-clause-any_moment : goal.returns-in_err-memory-clause-any_moment
+returns-in_err-memory-clause-any_moment g c =
+    let S = g.D.SaveDevice in let old = S.state c.args.device.now in let mid = S.state c.sync.new.self in let two = S.state c.read_both.new.device in let new = S.state c.read_pages.new.device in
+    sync_and_reads _ old mid new _ c.in-Ok.ensures (reads_on 2 _ _ mid two new c.in_ok-choice.ensures.reads c.read_pages.ensures.reads)
+
+-- the bytes of the device after the sync, the headers and the pages
+pub returns-clause-sound : goal.returns-clause-sound
+returns-clause-sound g c =
+    let S = g.D.SaveDevice in let first : List ℕ = (S.state c.args.device.now).bytes in let lines : ℕ = c.args.lines in let choice = c.in_ok-choice.choice in
+    let synced : (S.state c.sync.new.self).bytes ≡ first = c.in-Ok.ensures.done in
+    let last : List ℕ = (S.state c.read_both.new.device).bytes in
+    let same : last ≡ (S.state c.sync.new.self).bytes = ap (λ (moment : Moment). moment.bytes) c.read_both.ensures.reads.same in
+    let size : length first ≡ device_size lines = omega (arith, c.len.ensures, c.device_size.ensures, c.if-len-device_size.false) in
+    let image = found_image lines choice.slot (image_with choice.header (body_in lines choice.slot (S.state c.sync.new.self).bytes)) (S.state c.sync.new.self).bytes (ap length synced ∙ size) c.in_ok-choice.ensures.newest.0 in
+    let lines_are : c.in_ok-memory.memory.items ≡ body_in lines choice.slot (S.state c.sync.new.self).bytes =
+    c.in_ok-memory.ensures.lines
+    ∙ ap (λ (n : ℕ). lines_in n (drop (c.start.result + 4096) last)) (let e : 64 * (lines / 64) ≡ lines = omega (arith, c.requires.whole) in e)
+    ∙ ap (λ (start : ℕ). lines_in lines (drop (start + 4096) last)) c.start.ensures
+    ∙ ap (λ (bytes : List ℕ). body_in lines choice.slot bytes) same in
+    (subst (λ (m : List (List ℕ)). IsMemory lines m) (sym lines_are) image.memory, image.fits)
+
+pub returns-clause-calls : goal.returns-clause-calls
+returns-clause-calls g c =
+    let S = g.D.SaveDevice in
+    calls_of_all c.args.lines (S.state c.args.device.now) (S.state c.sync.new.self) (S.state c.read_both.new.device) (S.state c.read_pages.new.device) c.in-Ok.ensures c.in_ok-choice.ensures.reads c.in_ok-memory.ensures.reads
+
+pub returns-clause-any_moment : goal.returns-clause-any_moment
+returns-clause-any_moment g c =
+    let S = g.D.SaveDevice in let old = S.state c.args.device.now in let mid = S.state c.sync.new.self in let two = S.state c.read_both.new.device in let new = S.state c.read_pages.new.device in
+    sync_and_reads true old mid new (2 + c.args.lines / 64) c.in-Ok.ensures (reads_on 2 (c.args.lines / 64) true mid two new c.in_ok-choice.ensures.reads c.in_ok-memory.ensures.reads)
 
 pub returns-clause-at_rest : goal.returns-clause-at_rest
 returns-clause-at_rest g c = λ image is.
     let S = g.D.SaveDevice in let lines : ℕ = c.args.lines in let choice = c.in_ok-choice.choice in
-    let first : List ℕ = S.seen c.args.device.now in let last : List ℕ = S.seen c.read_pages.new.device in
-    let synced : S.seen c.sync.new.self ≡ first = c.sync.ensures.same in
-    let same : last ≡ first = c.read_pages.ensures.same ∙ c.read_both.ensures.same ∙ synced in
+    let first : List ℕ = (S.state c.args.device.now).bytes in let mid : DeviceState = S.state c.sync.new.self in let two : DeviceState = S.state c.read_both.new.device in let last : DeviceState = S.state c.read_pages.new.device in
+    let synced : mid.bytes ≡ first = c.in-Ok.ensures.done in
+    let since : last.bytes ≡ mid.bytes = ap (λ (moment : Moment). moment.bytes) (c.read_pages.ensures.reads.same ∙ c.read_both.ensures.reads.same) in
     let size : length first ≡ device_size lines = omega (arith, c.len.ensures, c.device_size.ensures, c.if-len-device_size.false) in
-    rest_restored lines choice.slot image choice.closed last (S.unsettled c.read_pages.new.device) (ap length same ∙ size)
-    (λ k u. c.in-Ok.ensures.settled k (c.read_both.ensures.unsettled k (c.read_pages.ensures.unsettled k u)))
-    (ap (restored lines) same ∙ is)
-    (c.in_ok-choice.ensures.picked.1 ∙ ap (λ (bytes : List ℕ). is_closed (slot_state lines (other choice.slot) bytes)) (synced ∙ sym same))
-
-pub returns-clause-sound : goal.returns-clause-sound
-returns-clause-sound g c =
-    let first : List ℕ = g.D.SaveDevice.seen c.args.device.now in let lines : ℕ = c.args.lines in let choice = c.in_ok-choice.choice in
-    let synced : g.D.SaveDevice.seen c.sync.new.self ≡ first = c.sync.ensures.same in
-    let last : List ℕ = g.D.SaveDevice.seen c.read_both.new.device in
-    let size : length first ≡ device_size lines = omega (arith, c.len.ensures, c.device_size.ensures, c.if-len-device_size.false) in
-    let image = found_image lines choice.slot (image_with choice.header (body_in lines choice.slot (g.D.SaveDevice.seen c.sync.new.self))) (g.D.SaveDevice.seen c.sync.new.self) (ap length synced ∙ size) c.in_ok-choice.ensures.picked.0 in
-    let lines_are : c.in_ok-memory.memory.items ≡ body_in lines choice.slot (g.D.SaveDevice.seen c.sync.new.self) =
-    c.in_ok-memory.ensures.lines
-    ∙ ap (λ (n : ℕ). lines_in n (drop (c.start.result + 4096) last)) (let e : 64 * (lines / 64) ≡ lines = omega (arith, c.requires.whole) in e)
-    ∙ ap (λ (start : ℕ). lines_in lines (drop (start + 4096) last)) c.start.ensures
-    ∙ ap (λ (bytes : List ℕ). body_in lines choice.slot bytes) c.read_both.ensures.same in
-    (subst (λ (m : List (List ℕ)). IsMemory lines m) (sym lines_are) image.memory, image.fits)
+    rest_restored lines choice.slot image choice.closed last (ap length (since ∙ synced) ∙ size)
+    (settled_same two last c.read_pages.ensures.reads.same (settled_same mid two c.read_both.ensures.reads.same c.in-Ok.ensures.settled))
+    (ap (restored lines) (since ∙ synced) ∙ is)
+    (c.in_ok-choice.ensures.newest.1 ∙ ap (λ (bytes : List ℕ). is_closed (slot_state lines (other choice.slot) bytes)) (sym since))

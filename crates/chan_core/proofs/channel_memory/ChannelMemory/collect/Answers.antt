@@ -1,57 +1,57 @@
-use Rattle.std.proofs.Common.{◌≡◌, ℕ, List, Some, get_or, slice_get, refl, ap, sym, subst, ◌∙◌, arith}
-use Rattle.std.proofs.lemmas.Option.{get_or_from_slice_get}
+use Rattle.std.proofs.Common.{◌≡◌, ℕ, List, Some, None, length, map, slice_get, get_or, refl, sym, ap, subst, ◌∙◌, arith}
+use Rattle.std.proofs.lemmas.Option.{slice_get_within, slice_get_read}
 use Rattle.chan_core.specs.declared.reads.OpenRead.{OpenRead}
 use Rattle.chan_core.specs.declared.answers.Collected.TheVariants as collected
-use Rattle.chan_core.specs.ChannelMemory.{MemoryState, Collects}
-use Rattle.chan_core.specs.Reads.{IsPlaceOf}
+use Rattle.chan_core.specs.Inside.{contents_of}
+use Rattle.chan_core.specs.Reads.{IsIndexOfSerial, ticket_of}
+use Rattle.chan_core.specs.State.{ChannelState}
+use Rattle.chan_core.specs.Calls.{AnswersCollect}
 use Rattle.chan_core.proofs.Answering.{collect-holds}
+use Rattle.chan_core.proofs.Telling.{collect-data, collect-pending, collect-unknown}
 use Rattle.chan_core.proofs.channel_memory.ChannelMemory.collect.Goals as goal
 
--- the read at the place is the one of the serial
-found : (reads : List OpenRead) (place serial : ℕ) (read : OpenRead) → IsPlaceOf serial reads (Some place) → read ≡ get_or reads place read → (slice_get reads place ≡ Some read) × (read.serial ≡ serial)
-found reads place serial read (r, at, is) e =
-    let same : read ≡ r = e ∙ get_or_from_slice_get reads place r read at in (at ∙ ap (λ (x : OpenRead). Some x) (sym same), ap (λ (x : OpenRead). x.serial) same ∙ is)
+pub returns-in_default-clause-answers : goal.returns-in_default-clause-answers
+returns-in_default-clause-answers c =
+    let none = subst (λ (rs : List OpenRead). IsIndexOfSerial c.args.ticket.serial rs None) c.deref.ensures.value c.in_default.ensures in
+    subst (λ (s : ChannelState). AnswersCollect s c.args.ticket collected.Unknown s.tickets) c.self.view_is (collect-unknown (contents_of c.self.inside) c.args.ticket none)
+
+-- the read that was found
+found : (serial index : ℕ) (reads given : List OpenRead) (read : OpenRead) → given ≡ reads → IsIndexOfSerial serial given (Some index) → read ≡ get_or reads index read → (slice_get reads index ≡ Some read) × (read.serial ≡ serial)
+found serial index reads given read same (r, at, named) is =
+    let here : slice_get reads index ≡ Some r = subst (λ (rs : List OpenRead). slice_get rs index ≡ Some r) same at in
+    let there : slice_get reads index ≡ Some read = slice_get_read reads (length reads) index read refl (slice_get_within reads index r here) is in
+    let one : r ≡ read = cc in
+    (there, sym (ap (λ (x : OpenRead). x.serial) one) ∙ named)
+
+pub index-read-requires : goal.index-read-requires
+index-read-requires c =
+    let h = c.in-Some.ensures in
+    omega (arith, slice_get_within c.self.inside.reads.items c.in-Some.index h.0 (subst (λ (rs : List OpenRead). slice_get rs c.in-Some.index ≡ Some h.0) c.deref.ensures.value h.1), c.self.inside.reads.ok)
+
+pub remove-requires : goal.remove-requires
+remove-requires c =
+    let h = c.in-Some.ensures in
+    omega (arith, slice_get_within c.self.inside.reads.items c.in-Some.index h.0 (subst (λ (rs : List OpenRead). slice_get rs c.in-Some.index ≡ Some h.0) c.deref.ensures.value h.1), c.self.inside.reads.ok)
 
 pub invariant_of-self : goal.invariant_of-self
 invariant_of-self c =
-    let is = c.self.invariant.0 in
-    let place = subst (λ (xs : List OpenRead). IsPlaceOf c.args.ticket.serial xs (Some c.in-Some.place)) c.deref.ensures.value c.in-Some.ensures in
-    let f = found c.self.inside.reads.items c.in-Some.place c.args.ticket.serial c.index-read.result.now place c.index-read.ensures in (
-      collect-holds _ c.remove.new.self.items c.in-Some.place c.index-read.result.now c.in-Some-bytes.bytes is f.0 c.in-Some-bytes.is c.remove.ensures.items,
-      c.self.invariant.1,
-      omega (arith, c.self.invariant.2, c.remove.ensures.capacity),
-    )
-
-pub returns-in-Some-bytes : goal.returns-in-Some-bytes
-returns-in-Some-bytes c =
-    let place = subst (λ (xs : List OpenRead). IsPlaceOf c.args.ticket.serial xs (Some c.in-Some.place)) c.deref.ensures.value c.in-Some.ensures in
-    let f = found c.self.inside.reads.items c.in-Some.place c.args.ticket.serial c.index-read.result.now place c.index-read.ensures in
-    let new : MemoryState =
+    let f = found c.args.ticket.serial c.in-Some.index c.self.inside.reads.items c.deref.result.now c.index-read.result.now c.deref.ensures.value c.in-Some.ensures c.index-read.ensures in
     record {
-      checked = c.self.inside.checked;
-      channel = c.self.inside.channel;
-      array = c.self.inside.array.items;
-      queue = c.self.inside.queue;
-      pending = c.self.inside.pending.items;
-      reads = c.remove.new.self.items;
-      most_reads = c.self.inside.most_reads;
-      serial = c.self.inside.serial;
-      hold = c.self.inside.hold;
-    } in
-    subst (λ (s : MemoryState). Collects s c.args.ticket (collected.Data c.index-read.result.now.line c.in-Some-bytes.bytes c.index-read.result.now.at) new) c.self.view_is (
-      c.if-ticket-self.false,
-      c.in-Some.place,
-      c.index-read.result.now,
-      f.0,
-      f.1,
-      refl,
-      refl,
-      c.in-Some-bytes.is,
-      ap (λ (reads : List OpenRead). record new { reads = reads }) c.remove.ensures.items,
-    )
+      are = collect-holds (contents_of c.self.inside) c.remove.new.self.items c.in-Some.index c.index-read.result.now c.in-Some-bytes.bytes c.self.invariant.are f.0 c.in-Some-bytes.is c.remove.ensures.items;
+      room_for_reads = omega (arith, c.self.invariant.room_for_reads, c.remove.ensures.capacity);
+    }
 
-pub returns-in-None : goal.returns-in-None
-returns-in-None c =
-    let place = subst (λ (xs : List OpenRead). IsPlaceOf c.args.ticket.serial xs (Some c.in-Some.place)) c.deref.ensures.value c.in-Some.ensures in
-    let f = found c.self.inside.reads.items c.in-Some.place c.args.ticket.serial c.index-read.result.now place c.index-read.ensures in
-    subst (λ (s : MemoryState). Collects s c.args.ticket collected.Pending s) c.self.view_is (c.if-ticket-self.false, c.in-Some.place, c.index-read.result.now, f.0, f.1, c.in-None.is, refl)
+pub returns-in-Some-bytes-clause-answers : goal.returns-in-Some-bytes-clause-answers
+returns-in-Some-bytes-clause-answers c =
+    let f = found c.args.ticket.serial c.in-Some.index c.self.inside.reads.items c.deref.result.now c.index-read.result.now c.deref.ensures.value c.in-Some.ensures c.index-read.ensures in
+    let s = contents_of c.self.inside in
+    let r = c.index-read.result.now in
+    subst (λ (x : ChannelState). AnswersCollect x c.args.ticket (collected.Data r.line c.in-Some-bytes.bytes r.at) (map (ticket_of s.array) c.remove.new.self.items)) c.self.view_is
+    (collect-data s c.args.ticket c.in-Some.index r c.in-Some-bytes.bytes c.remove.new.self.items c.if-ticket-self.false (record { at = f.0; named = f.1 }) c.in-Some-bytes.is c.remove.ensures.items)
+
+pub returns-in-None-clause-answers : goal.returns-in-None-clause-answers
+returns-in-None-clause-answers c =
+    let f = found c.args.ticket.serial c.in-Some.index c.self.inside.reads.items c.deref.result.now c.index-read.result.now c.deref.ensures.value c.in-Some.ensures c.index-read.ensures in
+    let s = contents_of c.self.inside in
+    subst (λ (x : ChannelState). AnswersCollect x c.args.ticket collected.Pending x.tickets) c.self.view_is
+    (collect-pending s c.args.ticket c.in-Some.index c.index-read.result.now c.if-ticket-self.false (record { at = f.0; named = f.1 }) c.in-None.is)

@@ -1,30 +1,47 @@
-use Rattle.std.proofs.Common.{◌∙◌, ◌++◌, ◌∷◌, [], Bool, length, map, ap, sym, subst, arith}
+use Rattle.std.proofs.Common.{◌≡◌, ◌<◌, ◌≤◌, ◌-◌, ◌^◌, ◌∙◌, ◌++◌, ◌∷◌, [], Bool, length, ap, sym, subst, arith}
 use Rattle.std.proofs.lemmas.List.{length-append}
+use Rattle.ddr4_timing.specs.Places.{LiesIn}
 use Rattle.frfcfs.specs.declared.pending.Kind.TheVariants.{Write}
 use Rattle.wpq_core.specs.Queue.{Queue}
-use Rattle.wpq_core.specs.Writes.{ComeBefore, pending_write}
-use Rattle.chan_core.specs.Requests.{asked, request}
-use Rattle.chan_core.specs.ChannelMemory.{MemoryState}
+use Rattle.wpq_core.specs.Writes.{pending_write}
+use Rattle.chan_core.specs.Contents.{seen}
+use Rattle.chan_core.specs.Inside.{contents_of}
+use Rattle.chan_core.specs.State.{ChannelState}
+use Rattle.chan_core.specs.Calls.{AddsWrite, request}
 use Rattle.chan_core.proofs.Holding.{put-holds, few-pending}
+use Rattle.chan_core.proofs.Telling.{adds}
 use Rattle.chan_core.proofs.channel_memory.ChannelMemory.put.Goals as goal
-
-pub try_push-requires : goal.try_push-requires
-try_push-requires c = subst (λ (s : MemoryState). ComeBefore c.args.number s.queue.writes) (sym c.self.view_is) c.requires.above
 
 pub push-requires : goal.push-requires
 push-requires c =
-    let is = c.self.invariant.0 in
+    let are = c.self.invariant.are in
     let pushed = c.in-Ok.ensures.pushed in
-    record { room = omega (arith, c.self.invariant.1, few-pending _ is, is.few_reads, c.try_push.ensures.queue.few, ap (λ (q : Queue). q.depth) pushed, ap (λ (q : Queue). length q.writes) pushed, length-append c.self.inside.queue.writes (pending_write c.args.number c.index_of-index.result c.args.bytes ∷ [])) }
+    let few = few-pending (contents_of c.self.inside) are in
+    let commands = subst (λ (s : ChannelState). length s.commands ≤ 2 ^ 63) (sym c.self.view_is) c.requires.few in
+    let room : length c.self.inside.waiting.requests < c.self.inside.waiting.most =
+    omega (arith, are.room, few, are.few_reads, c.try_push.ensures.queue.few, ap (λ (q : Queue). q.depth) pushed, ap (λ (q : Queue). length q.writes) pushed, length-append c.self.inside.queue.writes (pending_write c.args.number c.cell_of-cell.result c.args.bytes ∷ [])) in
+    let next : c.self.inside.waiting.next < 2 ^ 64 - 1 = omega (arith, are.few_seqs, few, are.few_reads, are.most, are.queue.few, are.queue.most, commands) in
+    record { room = room; next = next }
 
 pub invariant_of-self-2 : goal.invariant_of-self-2
 invariant_of-self-2 c =
-    let is = c.self.invariant.0 in
-    let pushed = c.in-Ok.ensures.pushed in
-    let index = c.index_of-index.ensures in (
-      put-holds _ c.try_push.new.self c.push.new.pending.items c.args.number c.args.bytes c.place_of-place.result c.index_of-index.result is (c.push.ensures.arrivals _ c.place_of-place.ensures.lies is.arrivals)
-          c.try_push.ensures.queue pushed
-          (c.push.ensures.items ∙ ap (λ (held : Bool). map asked c.self.inside.pending.items ++ request c.place_of-place.result c.index_of-index.result Write c.args.number held ∷ []) c.is_held-held.ensures) index.within (sym index.is),
-      omega (arith, c.self.invariant.1, c.push.ensures.capacity, ap (λ (q : Queue). q.depth) pushed),
-      c.self.invariant.2,
-    )
+    let s = contents_of c.self.inside in
+    let are = c.self.invariant.are in
+    let back = sym c.self.view_is in
+    let lies = subst (λ (x : ChannelState). LiesIn x.checked.geometry c.args.place) back c.requires.lies in
+    let channel = subst (λ (x : ChannelState). c.args.place.channel ≡ x.channel) back c.requires.channel in
+    let cell = c.cell_of-cell.result in
+    let requests = c.push.ensures.requests ∙ ap (λ (held : Bool). s.waiting.requests ++ request s.waiting.next c.args.place cell Write c.args.number held ∷ []) c.is_held-held.ensures in
+    record {
+      are = put-holds s c.try_push.new.self c.push.new.self c.args.number c.args.bytes c.args.place cell are c.push.ensures.next c.push.ensures.most c.try_push.ensures.queue c.in-Ok.ensures.pushed requests lies channel (sym c.cell_of-cell.ensures.is);
+      room_for_reads = c.self.invariant.room_for_reads;
+    }
+
+pub returns-clause-adds : goal.returns-clause-adds
+returns-clause-adds c =
+    let s = contents_of c.self.inside in
+    let cell = c.cell_of-cell.result in
+    let requests = c.push.ensures.requests ∙ ap (λ (held : Bool). s.waiting.requests ++ request s.waiting.next c.args.place cell Write c.args.number held ∷ []) c.is_held-held.ensures in
+    let new = seen (record s { queue = c.try_push.new.self; waiting = c.push.new.self }) in
+    subst (λ (x : ChannelState). AddsWrite x c.args.number c.args.place c.args.bytes new) c.self.view_is
+    (adds s c.try_push.new.self c.push.new.self c.args.number c.args.bytes c.args.place cell c.cell_of-cell.ensures.is c.in-Ok.ensures.pushed requests)

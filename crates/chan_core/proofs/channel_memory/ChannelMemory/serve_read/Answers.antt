@@ -1,56 +1,47 @@
-use Rattle.std.proofs.Common.{ℕ, List, [], map, get_or, refl, sym, subst, arith}
+use Rattle.std.proofs.Common.{List, [], sym, subst, arith}
+use Rattle.ddr4_timing.specs.declared.command.Stamped.{Stamped}
 use Rattle.frfcfs.specs.Requests.{IsEligible}
-use Rattle.chan_core.specs.Reads.{Answers, ticket_of}
-use Rattle.chan_core.specs.Requests.{asked}
-use Rattle.chan_core.specs.ChannelMemory.{MemoryState, IsAnswered, Reads, tickets_of}
-use Rattle.chan_core.proofs.Answering.{opened, read-holds, read-tickets, read-at}
+use Rattle.chan_core.specs.declared.answers.Ticket.{Ticket}
+use Rattle.chan_core.specs.Contents.{AreContents, seen}
+use Rattle.chan_core.specs.Inside.{contents_of}
+use Rattle.chan_core.specs.Reads.{AnswersSeq}
+use Rattle.chan_core.specs.State.{ChannelState}
+use Rattle.chan_core.specs.Calls.{AnswersRead}
+use Rattle.chan_core.proofs.Answering.{opened, read-holds, read-answers, read-at}
+use Rattle.chan_core.proofs.Serving.{line-within}
 use Rattle.chan_core.proofs.channel_memory.ChannelMemory.serve_read.Goals as goal
 
 pub index-bytes-requires : goal.index-bytes-requires
 index-bytes-requires c =
-    let eligible = subst (λ (s : MemoryState). IsEligible s.pending c.args.place c.args.request) (sym c.self.view_is) c.requires.eligible in
-    let is = c.self.invariant.0 in
-    let o = opened _ is c.args.place c.args.request eligible.here c.requires.kind in
-    let sound = is.sound c.args.place (asked c.args.request) o.here in
-    omega (arith, sound.line, is.array.size, c.self.inside.array.ok)
+    let eligible = subst (λ (s : ChannelState). IsEligible s.requests c.args.index c.args.request) (sym c.self.view_is) c.requires.eligible in
+    omega (arith, line-within (contents_of c.self.inside) c.self.invariant.are c.args.index c.args.request eligible.here, c.self.inside.array.ok)
 
--- the read is answered with its line of the array
-answers : (c : goal.After-answer) → Answers c.args.request.number (get_or c.self.inside.array.items c.args.request.line []) c.self.inside.reads.items c.answer.new.reads.items
-answers c =
-    let eligible = subst (λ (s : MemoryState). IsEligible s.pending c.args.place c.args.request) (sym c.self.view_is) c.requires.eligible in
-    let is = c.self.invariant.0 in
-    let o = opened _ is c.args.place c.args.request eligible.here c.requires.kind in
-    let sound = is.sound c.args.place (asked c.args.request) o.here in
-    subst (λ (b : List ℕ). Answers c.args.request.number b c.self.inside.reads.items c.answer.new.reads.items)
-    (read-at c.self.inside.array.items c.args.request.line c.index-bytes.result.now [] (omega (arith, sound.line, is.array.size)) c.index-bytes.ensures) c.answer.ensures.answers
+pub answer-serial-requires : goal.answer-serial-requires
+answer-serial-requires c =
+    let eligible = subst (λ (s : ChannelState). IsEligible s.requests c.args.index c.args.request) (sym c.self.view_is) c.requires.eligible in
+    let o = opened (contents_of c.self.inside) c.self.invariant.are c.args.index c.args.request eligible.here c.requires.kind in (o.index, o.read, o.at, o.seq)
 
 pub invariant_of-self : goal.invariant_of-self
 invariant_of-self c =
-    let eligible = subst (λ (s : MemoryState). IsEligible s.pending c.args.place c.args.request) (sym c.self.view_is) c.requires.eligible in
-    let is = c.self.invariant.0 in (
-      read-holds _ c.take.new.pending.items c.answer.new.reads.items c.args.place c.args.request _ is eligible.here c.requires.kind (c.take.ensures.arrivals _ is.arrivals) c.take.ensures.items c.answer.ensures.answers,
-      omega (arith, c.self.invariant.1, c.take.ensures.capacity),
-      omega (arith, c.self.invariant.2, c.answer.ensures.capacity),
-    )
-
-pub returns-clause-reads : goal.returns-clause-reads
-returns-clause-reads c =
-    let new : MemoryState =
+    let eligible = subst (λ (s : ChannelState). IsEligible s.requests c.args.index c.args.request) (sym c.self.view_is) c.requires.eligible in
+    let s = contents_of c.self.inside in
+    let are = c.self.invariant.are in
     record {
-      checked = c.self.inside.checked;
-      channel = c.self.inside.channel;
-      array = c.self.inside.array.items;
-      queue = c.self.inside.queue;
-      pending = c.take.new.pending.items;
-      reads = c.answer.new.reads.items;
-      most_reads = c.self.inside.most_reads;
-      serial = c.self.inside.serial;
-      hold = c.self.inside.hold;
-    } in
-    subst (λ (s : MemoryState). Reads s c.args.place c.args.request new) c.self.view_is (record { same = refl; answers = answers c; pending = c.take.ensures.items })
+      are = subst (λ (commands : List Stamped). AreContents (record s { waiting = c.take.new.self; reads = c.answer-serial.new.reads.items; commands = commands })) (sym c.note.ensures)
+          (read-holds s c.take.new.self c.answer-serial.new.reads.items c.args.command c.args.index c.args.request _ c.answer-serial.result are eligible.here c.requires.kind
+          c.take.ensures.left c.answer-serial.ensures.answers);
+      room_for_reads = omega (arith, c.self.invariant.room_for_reads, c.answer-serial.ensures.capacity);
+    }
 
-pub returns-clause-tickets : goal.returns-clause-tickets
-returns-clause-tickets c =
-    let eligible = subst (λ (s : MemoryState). IsEligible s.pending c.args.place c.args.request) (sym c.self.view_is) c.requires.eligible in
-    subst (λ (s : MemoryState). IsAnswered c.args.request.number (tickets_of s) (map (ticket_of c.self.inside.array.items) c.answer.new.reads.items)) c.self.view_is
-    (read-tickets _ c.answer.new.reads.items c.args.place c.args.request c.self.invariant.0 eligible.here c.requires.kind (answers c))
+pub returns-clause-answers : goal.returns-clause-answers
+returns-clause-answers c =
+    let eligible = subst (λ (s : ChannelState). IsEligible s.requests c.args.index c.args.request) (sym c.self.view_is) c.requires.eligible in
+    let s = contents_of c.self.inside in
+    let are = c.self.invariant.are in
+    let whole = read-at s.array c.args.request.line c.index-bytes.result.now [] (line-within s are c.args.index c.args.request eligible.here) c.index-bytes.ensures in
+    let answers = subst (λ (b : List _). AnswersSeq c.args.request.seq b c.answer-serial.result s.reads c.answer-serial.new.reads.items) whole c.answer-serial.ensures.answers in
+    let new : List Stamped → ChannelState = λ commands. seen (record s { waiting = c.take.new.self; reads = c.answer-serial.new.reads.items; commands = commands }) in
+    let ticket : Ticket = record { channel = s.channel; serial = c.answer-serial.result } in
+    subst (λ (x : ChannelState). AnswersRead x c.args.request ticket (new c.note.new.self.items)) c.self.view_is
+    (subst (λ (commands : List Stamped). AnswersRead (seen s) c.args.request ticket (new commands)) (sym c.note.ensures)
+    (read-answers s c.take.new.self c.answer-serial.new.reads.items c.args.command c.args.index c.args.request c.answer-serial.result are eligible.here c.requires.kind answers))

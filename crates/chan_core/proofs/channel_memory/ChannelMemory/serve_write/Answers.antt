@@ -1,56 +1,54 @@
-use Rattle.std.proofs.Common.{slice_set, refl, ap, sym, subst, ◌∙◌, arith}
-use Rattle.frfcfs.specs.Requests.{IsEligible}
-use Rattle.chan_core.specs.Requests.{asked}
-use Rattle.chan_core.specs.ChannelMemory.{MemoryState, Writes, memory_of, tickets_of}
-use Rattle.chan_core.proofs.Serving.{in-queue, write-holds, write-memory, write-tickets}
+use Rattle.std.proofs.Common.{◌≡◌, List, slice_set, Some, refl, ap, sym, subst, ◌∙◌, arith}
+use Rattle.ddr4_timing.specs.declared.command.Stamped.{Stamped}
+use Rattle.frfcfs.specs.Requests.{AreInOrder, IsEligible}
+use Rattle.chan_core.specs.Contents.{AreContents, seen}
+use Rattle.chan_core.specs.Inside.{contents_of}
+use Rattle.chan_core.specs.State.{ChannelState, channel_memory, memory_below}
+use Rattle.chan_core.specs.Calls.{MovesWrite}
+use Rattle.chan_core.proofs.Serving.{in-queue, line-within, write-below, write-holds, write-memory, write-tickets}
 use Rattle.chan_core.proofs.channel_memory.ChannelMemory.serve_write.Goals as goal
 
 pub take_write-bytes-requires : goal.take_write-bytes-requires
 take_write-bytes-requires c =
-    let eligible = subst (λ (s : MemoryState). IsEligible s.pending c.args.place c.args.request) (sym c.self.view_is) c.requires.eligible in
-    let q = in-queue _ c.self.invariant.0 c.args.place c.args.request eligible.here c.requires.kind in (q.place, q.write, q.at, q.number)
+    let eligible = subst (λ (s : ChannelState). IsEligible s.requests c.args.index c.args.request) (sym c.self.view_is) c.requires.eligible in
+    let q = in-queue (contents_of c.self.inside) c.self.invariant.are c.args.index c.args.request eligible.here c.requires.kind in (q.index, q.write, q.at, q.number)
 
 pub index_mut-requires : goal.index_mut-requires
 index_mut-requires c =
-    let eligible = subst (λ (s : MemoryState). IsEligible s.pending c.args.place c.args.request) (sym c.self.view_is) c.requires.eligible in
-    let is = c.self.invariant.0 in
-    let q = in-queue _ is c.args.place c.args.request eligible.here c.requires.kind in
-    let sound = is.sound c.args.place (asked c.args.request) q.here in
-    omega (arith, sound.line, is.array.size, c.self.inside.array.ok)
+    let eligible = subst (λ (s : ChannelState). IsEligible s.requests c.args.index c.args.request) (sym c.self.view_is) c.requires.eligible in
+    omega (arith, line-within (contents_of c.self.inside) c.self.invariant.are c.args.index c.args.request eligible.here, c.self.inside.array.ok)
 
 pub invariant_of-self : goal.invariant_of-self
 invariant_of-self c =
-    let eligible = subst (λ (s : MemoryState). IsEligible s.pending c.args.place c.args.request) (sym c.self.view_is) c.requires.eligible in
-    let is = c.self.invariant.0 in (
-      write-holds _ c.take_write-bytes.new.queue c.take.new.pending.items c.args.place c.args.request c.take_write-bytes.result is eligible.here c.requires.kind c.take_write-bytes.ensures.size (c.take.ensures.arrivals _ is.arrivals)
-          c.take.ensures.items c.take_write-bytes.ensures.queue c.take_write-bytes.ensures.takes,
-      omega (arith, c.self.invariant.1, c.take.ensures.capacity, c.take_write-bytes.ensures.depth),
-      c.self.invariant.2,
-    )
-
-pub returns-clause-writes : goal.returns-clause-writes
-returns-clause-writes c =
-    let new : MemoryState =
+    let eligible = subst (λ (s : ChannelState). IsEligible s.requests c.args.index c.args.request) (sym c.self.view_is) c.requires.eligible in
+    let s = contents_of c.self.inside in
+    let are = c.self.invariant.are in
     record {
-      checked = c.self.inside.checked;
-      channel = c.self.inside.channel;
-      array = slice_set c.self.inside.array.items c.args.request.line c.take_write-bytes.result;
-      queue = c.take_write-bytes.new.queue;
-      pending = c.take.new.pending.items;
-      reads = c.self.inside.reads.items;
-      most_reads = c.self.inside.most_reads;
-      serial = c.self.inside.serial;
-      hold = c.self.inside.hold;
-    } in
-    subst (λ (s : MemoryState). Writes s c.args.place c.args.request new) c.self.view_is
-    (record { bytes = c.take_write-bytes.result; same = refl; depth = c.take_write-bytes.ensures.depth; takes = c.take_write-bytes.ensures.takes; pending = c.take.ensures.items })
+      are = subst (λ (commands : List Stamped). AreContents (record s { queue = c.take_write-bytes.new.queue; waiting = c.take.new.self; array = slice_set s.array c.args.request.line c.take_write-bytes.result; commands = commands })) (sym c.note.ensures)
+          (write-holds s c.take_write-bytes.new.queue c.take.new.self c.args.command c.args.index c.args.request c.take_write-bytes.result are eligible.here c.requires.kind c.take_write-bytes.ensures.size
+          c.take.ensures.left c.take_write-bytes.ensures.queue c.take_write-bytes.ensures.depth c.take_write-bytes.ensures.takes);
+      room_for_reads = c.self.invariant.room_for_reads;
+    }
+
+pub returns-clause-moves : goal.returns-clause-moves
+returns-clause-moves c =
+    let order = subst (λ (s : ChannelState). AreInOrder s.requests) (sym c.self.view_is) c.requires.order in
+    let eligible = subst (λ (s : ChannelState). IsEligible s.requests c.args.index c.args.request) (sym c.self.view_is) c.requires.eligible in
+    let s = contents_of c.self.inside in
+    let bytes = c.take_write-bytes.result in
+    let new = seen (record s { queue = c.take_write-bytes.new.queue; waiting = c.take.new.self; array = slice_set s.array c.args.request.line bytes; commands = c.note.new.self.items }) in
+    subst (λ (x : ChannelState). MovesWrite x c.args.request c.args.request.number new) c.self.view_is
+    (record { kind = c.requires.kind; named = refl; bytes = bytes; array = refl; writes = c.take_write-bytes.ensures.takes; tickets = write-tickets s c.args.index c.args.request bytes c.self.invariant.are order eligible c.requires.kind })
 
 pub returns-clause-memory : goal.returns-clause-memory
 returns-clause-memory c =
-    let eligible = subst (λ (s : MemoryState). IsEligible s.pending c.args.place c.args.request) (sym c.self.view_is) c.requires.eligible in
-    write-memory _ c.take_write-bytes.new.queue c.args.place c.args.request c.take_write-bytes.result c.self.invariant.0 eligible c.requires.kind c.take_write-bytes.ensures.takes ∙ ap memory_of c.self.view_is
+    let order = subst (λ (s : ChannelState). AreInOrder s.requests) (sym c.self.view_is) c.requires.order in
+    let eligible = subst (λ (s : ChannelState). IsEligible s.requests c.args.index c.args.request) (sym c.self.view_is) c.requires.eligible in
+    write-memory (contents_of c.self.inside) c.take_write-bytes.new.queue c.args.index c.args.request c.take_write-bytes.result c.self.invariant.are order eligible c.requires.kind c.take_write-bytes.ensures.takes ∙ ap channel_memory c.self.view_is
 
-pub returns-clause-tickets : goal.returns-clause-tickets
-returns-clause-tickets c =
-    let eligible = subst (λ (s : MemoryState). IsEligible s.pending c.args.place c.args.request) (sym c.self.view_is) c.requires.eligible in
-    write-tickets _ c.args.place c.args.request c.take_write-bytes.result c.self.invariant.0 eligible c.requires.kind ∙ ap tickets_of c.self.view_is
+pub returns-clause-below : goal.returns-clause-below
+returns-clause-below c n hold =
+    let order = subst (λ (s : ChannelState). AreInOrder s.requests) (sym c.self.view_is) c.requires.order in
+    let eligible = subst (λ (s : ChannelState). IsEligible s.requests c.args.index c.args.request) (sym c.self.view_is) c.requires.eligible in
+    let held = subst (λ (s : ChannelState). s.hold ≡ Some n) (sym c.self.view_is) hold in
+    write-below (contents_of c.self.inside) c.take_write-bytes.new.queue n c.args.index c.args.request c.take_write-bytes.result c.self.invariant.are order eligible c.requires.kind held c.take_write-bytes.ensures.takes ∙ ap (memory_below n) c.self.view_is

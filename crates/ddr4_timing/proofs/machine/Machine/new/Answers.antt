@@ -1,12 +1,14 @@
-use Rattle.std.proofs.Common.{◌+◌, ◌*◌, arith}
+use Rattle.std.proofs.Common.{◌≡◌, ℕ, ◌<◌, get_or, arith}
+use Rattle.std.proofs.lemmas.List.{get_or-replicate}
+use Rattle.std.proofs.Math.ListN.{replicate}
 use Rattle.ddr4_timing.proofs.machine.Machine.new.Goals as goal
 
 pub returns : goal.returns
 returns c = record {
-  lawful = λ first second rule q x s. absurd cc;
-  banks = λ rank group bank none r g b.
-      let new = c.new_banks.ensures (rank * 16 + group * 4 + bank) none (omega arith) in
-      let at = new.at_place in let in_group = new.group in let in_bank = new.bank in
-      record { same_rank = omega arith; same_group = omega arith; same_bank = omega arith; stands = new.stands c.args.checked.now };
-  ranks = λ rank none r. c.new_ranks.ensures rank none (omega arith);
+  lawful = λ rule first second x s. absurd cc;
+  ranks = λ rank column none h.
+      let small : rank < 4 = let r = c.args.checked.now.is_small.ranks in omega (arith, h, r) in
+      let clear : get_or (replicate 4 0) rank column ≡ 0 = get_or-replicate 4 rank 0 column small in
+      let state : get_or (replicate 4 c.new.result) rank none ≡ c.new.result = get_or-replicate 4 rank c.new.result none small in
+      rw (clear, state) (c.new.ensures rank);
 }

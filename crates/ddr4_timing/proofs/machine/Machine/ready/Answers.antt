@@ -5,12 +5,12 @@ use Rattle.ddr4_timing.specs.Lawful.{last_ref}
 use Rattle.ddr4_timing.proofs.Ready.{lawful_ready, ready_lawful}
 use Rattle.ddr4_timing.proofs.machine.Machine.ready.Goals as goal
 
-pub returns-then-not-keeps_rows : goal.returns-then-not-keeps_rows
-returns-then-not-keeps_rows c list s =
+pub returns-then-not-keeps_rows-clause-exact : goal.returns-then-not-keeps_rows-clause-exact
+returns-then-not-keeps_rows-clause-exact c list s =
     (λ e. absurd cc, λ h. let r = ready_lawful c.args.checked.now list (record { clock = c.args.clock; cmd = c.args.cmd.now }) h in (c.if-not-keeps_rows.ensures.rows list s).1 r.rows)
 
-pub returns-then-clock-least_clock : goal.returns-then-clock-least_clock
-returns-then-clock-least_clock c list s = (
+pub returns-then-clock-least_clock-clause-exact : goal.returns-then-clock-least_clock-clause-exact
+returns-then-clock-least_clock-clause-exact c list s = (
   λ e. absurd cc,
   λ h.
       let r = ready_lawful c.args.checked.now list (record { clock = c.args.clock; cmd = c.args.cmd.now }) h in
@@ -18,19 +18,19 @@ returns-then-clock-least_clock c list s = (
       absurd (omega (arith, e, r.clock)),
 )
 
-pub returns : goal.returns
-returns c list s =
-    let here = c.rank-2.ensures list s in
+pub returns-clause-exact : goal.returns-clause-exact
+returns-clause-exact c list s =
+    let here = c.rank-2.ensures list 0 s in
     let least = c.least_clock.ensures list s in
     let t = c.args.checked.now.timing.t_refi in
-    let deadline : c.rank-2.result.refresh.deadline ≡ last_ref (rank_of c.args.cmd.now) list + 9 * t =
-    here.stands.refreshes.deadline ∙ ap (λ r. last_ref r list + 9 * t) (here.same_rank ∙ c.rank.ensures) in
+    let deadline : c.rank-2.result.now.refresh.deadline ≡ last_ref (rank_of c.args.cmd.now) list + 9 * t =
+    here.refreshes.deadline ∙ ap (λ r. last_ref r list + 9 * t) c.rank.ensures in
     let b = c.args.checked.now in (
       λ e.
-          let before = leb-true c.args.clock c.rank-2.result.refresh.deadline e in
+          let before = leb-true c.args.clock c.rank-2.result.now.refresh.deadline e in
           lawful_ready b list (record { clock = c.args.clock; cmd = c.args.cmd.now }) s.lawful
           (record { rows = (c.if-not-keeps_rows.ensures.rows list s).0 refl; clock = omega (arith, least); in_time = omega (arith, before, deadline) }),
       λ h.
           let r = ready_lawful b list (record { clock = c.args.clock; cmd = c.args.cmd.now }) h in
-          le-leb c.args.clock c.rank-2.result.refresh.deadline (omega (arith, deadline, r.in_time)),
+          le-leb c.args.clock c.rank-2.result.now.refresh.deadline (omega (arith, deadline, r.in_time)),
     )

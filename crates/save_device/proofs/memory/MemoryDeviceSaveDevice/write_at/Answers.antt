@@ -1,8 +1,8 @@
 use Rattle.std.proofs.Common.{length, true, replicate, refl, sym, ◌∙◌, arith}
 use Rattle.std.proofs.lemmas.List.{length-replicate}
-use Rattle.save_device.specs.Memory.{ContentMayLeave}
-use Rattle.save_device.proofs.Noted.{elapses_noted}
-use Rattle.save_device.proofs.Rows.{holds-length, still_agrees, still_spanned}
+use Rattle.save_device.specs.Memory.{state_of}
+use Rattle.save_device.proofs.Noted.{noted, elapses_noted}
+use Rattle.save_device.proofs.Rows.{holds-length, still_agrees, still_spanned, differs_within, raised_flags}
 use Rattle.save_device.proofs.memory.MemoryDeviceSaveDevice.write_at.Goals as goal
 
 pub invariant_of-self : goal.invariant_of-self
@@ -20,7 +20,17 @@ invariant_of-self c =
       inside = omega (arith, one, c.with-self.ensures.high, m.inside, c.requires);
     }
 
-pub returns-clause-time : goal.returns-clause-time
-returns-clause-time c =
-    elapses_noted ContentMayLeave c.args.self.now.past.items c.note.new.self.items c.args.self.now.content
-    (record { bytes = c.overwrite.new.row; unsettled = c.raise.new.flags }) _ _ c.note.ensures (λ image left. left)
+pub returns-clause-makes : goal.returns-clause-makes
+returns-clause-makes c =
+    let old = state_of c.args.self.now in let m = c.args.self.now in let n = length c.args.bytes.now in
+    record {
+      call = record { counted = c.note-2.ensures; time = elapses_noted old _ (noted m.past.items c.note.new.self.items m.content c.note.ensures) };
+      done = c.overwrite.ensures;
+      settled = tt;
+      outside = differs_within m.content.bytes.items c.overwrite.new.row.items c.args.bytes.now c.args.at c.requires c.overwrite.ensures;
+      unsettled = λ place. (raised_flags m.content.unsettled.items c.raise.new.flags.items c.args.at n (omega (arith, m.flags, c.requires)) c.raise.ensures place).0;
+    }
+
+pub returns-clause-unsettled : goal.returns-clause-unsettled
+returns-clause-unsettled c =
+    raised_flags c.args.self.now.content.unsettled.items c.raise.new.flags.items c.args.at (length c.args.bytes.now) (omega (arith, c.args.self.now.flags, c.requires)) c.raise.ensures

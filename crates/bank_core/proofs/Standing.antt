@@ -1,0 +1,24 @@
+-- What the banks of a channel allow lies in the geometry.
+use Rattle.std.proofs.Common.{ℕ, List}
+use Rattle.std.proofs.Math.Logic.{∥∥₁_elim}
+use Rattle.std.proofs.Props.{props}
+use Rattle.ddr4_timing.specs.declared.command.Command.{Command}
+use Rattle.ddr4_timing.specs.declared.command.Command.TheVariants.{Act, Rd, Wr, Pre, PreAll, Ref, Sre}
+use Rattle.ddr4_timing.specs.declared.command.Stamped.{Stamped}
+use Rattle.ddr4_timing.specs.declared.timing.Geometry.{Geometry}
+use Rattle.ddr4_timing.specs.Lawful.{IsInGeometry}
+use Rattle.ddr4_timing.proofs.Ready.{ready_lawful}
+use Rattle.bank_core.specs.Stands.{BanksState, Stands, Allows}
+
+in_geometry_prop : (g : Geometry) (x : Command) → IsProp (IsInGeometry g x)
+in_geometry_prop g (Act at row) = hlevel props
+in_geometry_prop g (Rd at column) = hlevel props
+in_geometry_prop g (Wr at column) = hlevel props
+in_geometry_prop g (Pre at) = hlevel props
+in_geometry_prop g (PreAll rank) = hlevel props
+in_geometry_prop g (Ref rank) = hlevel props
+in_geometry_prop g (Sre rank) = hlevel props
+
+pub allowed_place : (b : BanksState) (cmd : Command) (clock : ℕ) → ∥ ((list : List Stamped) × Stands b list) ∥₁ → Allows b cmd clock → IsInGeometry b.checked.geometry cmd
+allowed_place b cmd clock some allows =
+    ∥∥₁_elim some (in_geometry_prop b.checked.geometry cmd) (λ s. (ready_lawful b.checked s.0 (record { clock = clock; cmd = cmd }) (allows.lawful s.0 s.1)).rows.place)

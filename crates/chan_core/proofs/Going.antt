@@ -1,0 +1,126 @@
+-- A channel goes on: its banks, clock and last commands stay those of its list of commands.
+use Rattle.std.proofs.Common.{◌≡◌, ◌≢◌, ℕ, ◌-◌, ◌<◌, ◌≤◌, ◌^◌, ◌↔◌, ◌⊎◌, List, [], ◌∷◌, ◌++◌, length, drop, Option, Some, None, refl, sym, ap, subst, ◌∙◌, arith}
+use Rattle.circular_buffer.specs.Buffer.{Buffer}
+use Rattle.ddr4_timing.specs.declared.command.Stamped.{Stamped}
+use Rattle.ddr4_timing.specs.declared.timing.Checked.{Checked}
+use Rattle.bank_core.specs.Stands.{BanksState}
+use Rattle.bank_core.specs.Stands.{Stands, with_command}
+use Rattle.frfcfs.specs.declared.next.Next.{Next}
+use Rattle.frfcfs.specs.declared.pending.Pending.{Pending}
+use Rattle.frfcfs.specs.Next.{IsNext}
+use Rattle.frfcfs.specs.Margin.{AreAsleep, KeepsMargin, IsIdle, last_clock}
+use Rattle.frfcfs.proofs.refreshes.RefreshCounts.{last_clock_push}
+use Rattle.chan_core.specs.declared.channel.Channel.TheInside.{Inside}
+use Rattle.chan_core.specs.Running.{IsRunning, KeepsRun}
+use Rattle.chan_core.specs.State.{ChannelState, clock_of, last_commands}
+use Rattle.chan_core.specs.declared.phase.Phase.{Phase}
+use Rattle.chan_core.specs.declared.phase.Phase.TheVariants.{Asleep, Running, Stepping}
+use Rattle.chan_core.specs.Phases.{AreAwake, IsInPhase}
+use Rattle.chan_core.specs.Calls.{HasNothingToSend, after_command}
+use Rattle.chan_core.specs.Singles.{IssuesAlone}
+use Rattle.chan_core.proofs.Sleeping.{asleep-more, awake-more, chosen-awake}
+use Rattle.chan_core.proofs.Clocks.{few-commands}
+use Rattle.chan_core.proofs.Recent.{last-push}
+
+phase-kept : (old new : ChannelState) → new.checked ≡ old.checked → new.commands ≡ old.commands → new.phase ≡ old.phase → IsInPhase old → IsInPhase new
+phase-kept old new checked commands phase is = record {
+  in_time = λ not. subst (λ (k : Checked). KeepsMargin k new.commands) (sym checked) (subst (λ (xs : List Stamped). KeepsMargin old.checked xs) (sym commands) (is.in_time (λ e. not (phase ∙ e))));
+  awake = λ e. subst (λ (k : Checked). AreAwake k new.commands) (sym checked) (subst (λ (xs : List Stamped). AreAwake old.checked xs) (sym commands) (is.awake (sym phase ∙ e)));
+  asleep = λ e. subst (λ (k : Checked). AreAsleep k new.commands) (sym checked) (subst (λ (xs : List Stamped). AreAsleep old.checked xs) (sym commands) (is.asleep (sym phase ∙ e)));
+}
+
+-- what touches neither profile nor commands leaves it so
+pub running-kept : (c : Inside) (new : ChannelState) → KeepsRun c.memory new → IsRunning c → IsRunning (record { banks = c.banks; clock = c.clock; recent = c.recent; memory = new })
+running-kept c new (checked, commands, phase) is = record {
+  stands = subst (λ (xs : List Stamped). Stands c.banks xs) (sym commands) is.stands;
+  checked = is.checked ∙ sym checked;
+  clock = is.clock ∙ ap last_clock (sym commands);
+  early = is.early;
+  recent = is.recent ∙ ap last_commands (sym commands);
+  capacity = is.capacity;
+  phase = phase-kept c.memory new checked commands phase is.phase;
+}
+
+-- there are at most 2^63 commands
+pub running-few : (c : Inside) → IsRunning c → length c.memory.commands ≤ 2 ^ 63
+running-few c is = omega (arith, few-commands c.banks.checked c.memory.commands is.stands.lawful, is.clock, is.early)
+
+in-time-here : (c : Inside) → IsRunning c → c.memory.phase ≢ Stepping → KeepsMargin c.banks.checked c.memory.commands
+in-time-here c is not = subst (λ (k : Checked). KeepsMargin k c.memory.commands) (sym is.checked) (is.phase.in_time not)
+
+-- one more command
+pub running-more : (c : Inside) (x : Stamped) (banks : BanksState) (recent : Buffer Stamped) (new : ChannelState) → IsRunning c → new.commands ≡ c.memory.commands ++ x ∷ [] → new.checked ≡ c.memory.checked
+    → banks.checked ≡ c.banks.checked → ((list : List Stamped) → Stands c.banks list → Stands banks (with_command list x.clock x.cmd))
+    → recent ≡ record { items = drop (length (c.recent.items ++ x ∷ []) - c.recent.capacity) (c.recent.items ++ x ∷ []); capacity = c.recent.capacity } → x.clock < 2 ^ 63 → IsInPhase new
+    → IsRunning (record { banks = banks; clock = x.clock; recent = recent; memory = new })
+running-more c x banks recent new is commands profile checked stands recent-is early phase =
+    let old = c.memory.commands in
+    record {
+      stands = subst (λ (xs : List Stamped). Stands banks xs) (sym commands) (stands old is.stands);
+      checked = checked ∙ is.checked ∙ sym profile;
+      clock = sym (ap last_clock commands ∙ last_clock_push old x);
+      early = early;
+      recent = ap (λ (b : Buffer Stamped). b.items) recent-is ∙ ap (λ (n : ℕ). drop (length (c.recent.items ++ x ∷ []) - n) (c.recent.items ++ x ∷ [])) is.capacity
+          ∙ ap (λ (xs : List Stamped). drop (length (xs ++ x ∷ []) - 64) (xs ++ x ∷ [])) is.recent ∙ last-push 64 old x ∙ ap last_commands (sym commands);
+      capacity = ap (λ (b : Buffer Stamped). b.capacity) recent-is ∙ is.capacity;
+      phase = phase;
+    }
+
+-- one that the scheduler chose
+pub running-on : (c : Inside) (next : Next) (banks : BanksState) (recent : Buffer Stamped) (new : ChannelState) → IsRunning c
+    → let x : Stamped = record { clock = next.clock; cmd = next.cmd } in
+    new ≡ after_command c.memory x new → banks.checked ≡ c.banks.checked → ((list : List Stamped) → Stands c.banks list → Stands banks (with_command list next.clock next.cmd))
+    → recent ≡ record { items = drop (length (c.recent.items ++ x ∷ []) - c.recent.capacity) (c.recent.items ++ x ∷ []); capacity = c.recent.capacity } → next.clock < 2 ^ 63
+    → ((list : List Stamped) → Stands c.banks list → KeepsMargin c.banks.checked list → c.clock ≡ last_clock list → KeepsMargin c.banks.checked (with_command list next.clock next.cmd))
+    → ((list : List Stamped) → Stands c.banks list → IsNext c.banks.checked list c.memory.requests c.clock (Some next))
+    → IsRunning (record { banks = banks; clock = next.clock; recent = recent; memory = new })
+running-on c next banks recent new is same checked stands recent-is early keeps chosen =
+    let x : Stamped = record { clock = next.clock; cmd = next.cmd } in
+    let old = c.memory.commands in
+    let commands : new.commands ≡ old ++ x ∷ [] = ap (λ (s : ChannelState). s.commands) same in
+    let profile : new.checked ≡ c.memory.checked = ap (λ (s : ChannelState). s.checked) same in
+    let phase : new.phase ≡ c.memory.phase = ap (λ (s : ChannelState). s.phase) same in
+    running-more c x banks recent new is commands profile checked stands recent-is early (record {
+      in_time = λ not. subst (λ (k : Checked). KeepsMargin k new.commands) (is.checked ∙ sym profile)
+          (subst (λ (xs : List Stamped). KeepsMargin c.banks.checked xs) (sym commands) (keeps old is.stands (in-time-here c is (λ e. not (phase ∙ e))) is.clock));
+      awake = λ e. subst (λ (k : Checked). AreAwake k new.commands) (sym profile)
+          (subst (λ (xs : List Stamped). AreAwake c.memory.checked xs) (sym commands) (awake-more c.memory.checked old x (chosen-awake c.banks.checked old c.memory.requests c.clock next (chosen old is.stands)) (is.phase.awake (sym phase ∙ e))));
+      asleep = λ e. subst (λ (k : Checked). AreAsleep k new.commands) (sym profile)
+          (subst (λ (xs : List Stamped). AreAsleep c.memory.checked xs) (sym commands) (asleep-more c.memory.checked old x (is.phase.asleep (sym phase ∙ e))));
+    })
+
+-- a phase of single commands is one of two
+alone-asleep : (phase : Phase) → phase ≢ Running → phase ≢ Stepping → phase ≡ Asleep
+alone-asleep Running single not = absurd (single refl)
+alone-asleep Stepping single not = absurd (not refl)
+alone-asleep Asleep single not = refl
+
+-- a single one
+pub running-alone : (c : Inside) (x : Stamped) (banks : BanksState) (recent : Buffer Stamped) (new : ChannelState) → IsRunning c → IssuesAlone c.memory x new → banks.checked ≡ c.banks.checked
+    → ((list : List Stamped) → Stands c.banks list → Stands banks (with_command list x.clock x.cmd))
+    → recent ≡ record { items = drop (length (c.recent.items ++ x ∷ []) - c.recent.capacity) (c.recent.items ++ x ∷ []); capacity = c.recent.capacity } → x.clock < 2 ^ 63
+    → IsRunning (record { banks = banks; clock = x.clock; recent = recent; memory = new })
+running-alone c x banks recent new is issues checked stands recent-is early =
+    running-more c x banks recent new is (ap (λ (s : ChannelState). s.commands) issues.same) (ap (λ (s : ChannelState). s.checked) issues.same) checked stands recent-is early (record {
+      in_time = λ not rank within awake. absurd (awake (issues.asleep.0 (alone-asleep new.phase issues.single not) rank within));
+      awake = λ e. absurd (issues.single e);
+      asleep = issues.asleep.0;
+    })
+
+-- the next command at the clock of the commands
+pub next-here : (c : Inside) → IsRunning c → (pending : List Pending) (next : Option Next) → pending ≡ c.memory.requests → ((list : List Stamped) → Stands c.banks list → IsNext c.banks.checked list pending c.clock next)
+    → IsNext c.memory.checked c.memory.commands c.memory.requests (clock_of c.memory) next
+next-here c is pending next same next-is =
+    subst (λ (n : ℕ). IsNext c.memory.checked c.memory.commands c.memory.requests n next) is.clock
+    (subst (λ (ps : List Pending). IsNext c.memory.checked c.memory.commands ps c.clock next) same
+    (subst (λ (k : Checked). IsNext k c.memory.commands pending c.clock next) is.checked (next-is c.memory.commands is.stands)))
+
+-- there is none exactly where there is nothing to send
+pub none-here : (c : Inside) → IsRunning c → c.memory.phase ≢ Stepping → (pending : List Pending) (next : Option Next) → pending ≡ c.memory.requests
+    → ((list : List Stamped) → Stands c.banks list → KeepsMargin c.banks.checked list → c.clock ≡ last_clock list → (next ≡ None) ↔ (IsIdle c.banks.checked list pending c.clock ⊎ (2 ^ 62 ≤ c.clock)))
+    → (next ≡ None) ↔ HasNothingToSend c.memory
+none-here c is not pending next same idle =
+    subst (λ (n : ℕ). (next ≡ None) ↔ (IsIdle c.memory.checked c.memory.commands c.memory.requests n ⊎ (2 ^ 62 ≤ n))) is.clock
+    (subst (λ (ps : List Pending). (next ≡ None) ↔ (IsIdle c.memory.checked c.memory.commands ps c.clock ⊎ (2 ^ 62 ≤ c.clock))) same
+    (subst (λ (k : Checked). (next ≡ None) ↔ (IsIdle k c.memory.commands pending c.clock ⊎ (2 ^ 62 ≤ c.clock))) is.checked
+    (idle c.memory.commands is.stands (in-time-here c is not) is.clock)))

@@ -1,0 +1,15 @@
+use Rattle.std.proofs.Common.{subst, ◌<◌, ◌^◌, ℕ}
+use Rattle.ddr4_timing.specs.Lawful.{IsLawful}
+use Rattle.ddr4_timing.specs.declared.timing.Checked.{Checked}
+use Rattle.chan_core.specs.Always.{IsChannel}
+use Rattle.chan_core.proofs.channel.Channel.always.Goals as goal
+
+pub returns : goal.returns
+returns c =
+    let is = c.self.invariant in
+    subst IsChannel c.self.view_is (record {
+      held = c.always.ensures;
+      lawful = subst (λ (checked : Checked). IsLawful checked c.self.inside.memory.commands) is.checked is.stands.lawful;
+      early = subst (λ (n : ℕ). n < 2 ^ 63) is.clock is.early;
+      phase = is.phase;
+    })

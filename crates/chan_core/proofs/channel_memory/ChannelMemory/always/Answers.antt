@@ -1,0 +1,12 @@
+use Rattle.std.proofs.Common.{List, subst}
+use Rattle.frfcfs.specs.declared.pending.Pending.{Pending}
+use Rattle.frfcfs.specs.Requests.{AreInOrder}
+use Rattle.chan_core.specs.Always.{IsHeld}
+use Rattle.chan_core.specs.Inside.{contents_of}
+use Rattle.chan_core.proofs.Held.{held}
+use Rattle.chan_core.proofs.channel_memory.ChannelMemory.always.Goals as goal
+
+pub returns : goal.returns
+returns c =
+    let order = subst (λ (ps : List Pending). AreInOrder ps) c.requests-order.ensures.value c.requests-order.ensures.order in
+    subst IsHeld c.self.view_is (held (contents_of c.self.inside) c.self.invariant.are order)

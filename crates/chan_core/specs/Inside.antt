@@ -1,0 +1,28 @@
+-- The contents of a channel, by its fields.
+use Rattle.std.specs.Prelude.{◌≤◌, vec_capacity}
+use Rattle.chan_core.specs.declared.channel_memory.ChannelMemory.TheInside.{Inside}
+use Rattle.chan_core.specs.Contents.{Contents, AreContents, seen}
+use Rattle.chan_core.specs.State.{ChannelState}
+
+abbrev pub contents_of : Inside → Contents
+contents_of m = record {
+  checked = m.checked;
+  channel = m.channel;
+  array = m.array.items;
+  queue = m.queue;
+  waiting = m.waiting;
+  reads = m.reads.items;
+  most_reads = m.most_reads;
+  serial = m.serial;
+  hold = m.hold;
+  commands = m.issued.items;
+  phase = m.phase;
+}
+
+abbrev pub seen_inside : Inside → ChannelState
+seen_inside m = seen (contents_of m)
+
+-- they are contents, and there is room for all reads
+pub record IsInside (m : Inside) : Type 0 where
+  pub are : AreContents (contents_of m)
+  pub room_for_reads : m.most_reads ≤ vec_capacity m.reads

@@ -1,0 +1,40 @@
+-- Banks are the same where their numbers are.
+use Rattle.std.proofs.Common.{◌≡◌, ℕ, ◌<◌, ap, ◌∙◌, arith}
+use Rattle.ddr4_timing.specs.declared.place.BankAddress.{BankAddress}
+use Rattle.ddr4_timing.specs.declared.timing.Geometry.{Geometry}
+use Rattle.ddr4_timing.specs.declared.command.Command.{Command}
+use Rattle.ddr4_timing.specs.declared.command.Command.TheVariants.{Act, Rd, Wr, Pre, PreAll, Ref, Sre}
+use Rattle.ddr4_timing.specs.Command.{rank_of}
+use Rattle.ddr4_timing.specs.Lawful.{IsInGeometry}
+use Rattle.ddr4_timing.specs.Limits.{IsSmall}
+use Rattle.ddr4_timing.specs.Places.{HasBank, HasSlot, slot_of}
+
+pub same_address : (a b : BankAddress) → a.rank ≡ b.rank → a.group ≡ b.group → a.bank ≡ b.bank → a ≡ b
+same_address a b rank group bank =
+    ap (λ (n : ℕ). record { rank = n; group = a.group; bank = a.bank }) rank
+    ∙ (ap (λ (n : ℕ). record { rank = b.rank; group = n; bank = a.bank }) group
+    ∙ ap (λ (n : ℕ). record { rank = b.rank; group = b.group; bank = n }) bank)
+
+pub has_slot : (g : Geometry) (at : BankAddress) → IsSmall g → HasBank g at → HasSlot at
+has_slot g at small h = record {
+  group = let m = small.groups in let l = h.group in omega arith;
+  bank = let m = small.banks in let l = h.bank in omega arith;
+}
+
+pub slot_small : (at : BankAddress) → HasSlot at → slot_of at < 16
+slot_small at h = let g = h.group in let b = h.bank in omega arith
+
+-- banks of one rank are the same where their slots are
+pub same_slot : (a b : BankAddress) → HasSlot a → HasSlot b → a.rank ≡ b.rank → slot_of a ≡ slot_of b → a ≡ b
+same_slot a b x y rank slot =
+    let ag = x.group in let ab = x.bank in let bg = y.group in let bb = y.bank in
+    same_address a b rank (omega (arith, slot)) (omega (arith, slot))
+
+pub rank_within : (g : Geometry) (x : Command) → IsInGeometry g x → rank_of x < g.ranks
+rank_within g (Act at row) h = h.0.rank
+rank_within g (Rd at column) h = h.0.rank
+rank_within g (Wr at column) h = h.0.rank
+rank_within g (Pre at) h = h.rank
+rank_within g (PreAll rank) h = h
+rank_within g (Ref rank) h = h
+rank_within g (Sre rank) h = h

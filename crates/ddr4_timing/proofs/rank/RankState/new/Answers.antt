@@ -1,0 +1,26 @@
+use Rattle.std.proofs.Common.{◌≡◌, get_or, refl, arith}
+use Rattle.std.proofs.lemmas.List.{get_or-replicate}
+use Rattle.std.proofs.Math.ListN.{replicate}
+use Rattle.ddr4_timing.specs.declared.cells.BankCells.{BankCells}
+use Rattle.ddr4_timing.specs.Lawful.{open_row, last_ref, ref_count, is_asleep}
+use Rattle.ddr4_timing.specs.Floors.{floor, window, greatest}
+use Rattle.ddr4_timing.specs.Places.{slot_of}
+use Rattle.ddr4_timing.proofs.Addresses.{has_slot, slot_small}
+use Rattle.ddr4_timing.proofs.rank.RankState.new.Goals as goal
+
+pub returns : goal.returns
+unfolding floor window greatest open_row last_ref ref_count is_asleep
+returns c rank = record {
+  banks = λ at bank none h e.
+      let slot = has_slot c.args.checked.now.geometry at c.args.checked.now.is_small h in
+      let zeros : BankCells = record { act = 0; column = 0; pre = 0 } in
+      let in_bank : get_or (replicate 16 zeros) (slot_of at) bank ≡ zeros = get_or-replicate 16 (slot_of at) zeros bank (slot_small at slot) in
+      let in_group : get_or (replicate 4 0) at.group none ≡ 0 = get_or-replicate 4 at.group 0 none slot.group in
+      rw (in_bank, in_group) (record { row = c.new.ensures at; act = refl; rd = refl; wr = refl; pre = refl });
+  pre_all = refl;
+  refresh = refl;
+  sleep = refl;
+  windows = record { fourth = refl; third = refl; second = refl; last = refl };
+  refreshes = record { next = omega arith; deadline = omega arith };
+  asleep = refl;
+}

@@ -1,0 +1,16 @@
+use Rattle.std.proofs.Common.{◌+◌, ◌*◌, ◌≤◌, arith}
+use Rattle.std.proofs.Math.Nat.{mul-le-mul_left}
+use Rattle.energy_budget.specs.Sums.{backing_level}
+use Rattle.energy_budget.proofs.laws.honest_readings.Goals as goal
+
+pub returns-clause-backs : goal.returns-clause-backs
+unfolding backing_level
+returns-clause-backs c costs k ticks answer old new reads honest enough =
+    let kept = reads.breach.0 honest.faultless in omega (arith, kept.falls, honest.bounded, enough)
+
+pub returns-clause-reserves : goal.returns-clause-reserves
+unfolding backing_level
+returns-clause-reserves c costs k ticks answer old new reads honest enough =
+    let kept = reads.breach.0 honest.faultless in
+    let one : costs.numbers.leak * 1 ≤ costs.numbers.leak * (ticks + 1) = mul-le-mul_left costs.numbers.leak (omega arith) in
+    omega (arith, kept.falls, honest.bounded, enough, one)

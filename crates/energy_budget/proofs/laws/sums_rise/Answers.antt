@@ -1,0 +1,17 @@
+use Rattle.energy_budget.proofs.Rising.{reserve-le, backing_level-le, backing_level-ticks, floor_level-le, needed_level-le}
+use Rattle.energy_budget.proofs.laws.sums_rise.Goals as goal
+
+pub returns-clause-reserve : goal.returns-clause-reserve
+returns-clause-reserve c = reserve-le
+
+pub returns-clause-backing : goal.returns-clause-backing
+returns-clause-backing c = backing_level-le
+
+pub returns-clause-floor : goal.returns-clause-floor
+returns-clause-floor c = floor_level-le
+
+pub returns-clause-need : goal.returns-clause-need
+returns-clause-need c = needed_level-le
+
+pub returns-clause-ticks : goal.returns-clause-ticks
+returns-clause-ticks c = backing_level-ticks

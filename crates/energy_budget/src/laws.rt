@@ -1,0 +1,113 @@
+// What the sums say in other words.
+ghost use Rattle.std.specs.Prelude.{◌≡◌, ℕ, ◌≤◌, ◌+◌, ◌*◌, List, ◌∷◌, ◌++◌, length, sum, Result, IsOk};
+ghost use Rattle.energy_budget.specs.Gauge.{Gauge, ReadsLevel, PaysCost, IsHonestThrough};
+ghost use Rattle.energy_budget.specs.declared.action.Action.{Action};
+ghost use Rattle.energy_budget.specs.declared.energy.Dark.{Dark};
+ghost use Rattle.energy_budget.specs.declared.costs.Costs.{Costs};
+ghost use Rattle.energy_budget.specs.CostNumbers.{page_cost_of, frame_cost_of};
+ghost use Rattle.energy_budget.specs.Costs.{close_cost, entry_cost};
+ghost use Rattle.energy_budget.specs.Actions.{cost_of, total_cost, drain_actions, page_actions, save_actions, closing_actions};
+ghost use Rattle.energy_budget.specs.Sums.{reserve, steps, backing_level, floor_level, needed_level};
+
+/// The sums in closed form.
+pub fn sums_in_closed_form()
+    ensures reserve { (costs : Costs) (k : ℕ)
+        → reserve costs k ≡ costs.channels * close_cost costs + k * entry_cost costs
+        + costs.pages * page_cost_of costs.numbers + frame_cost_of costs.numbers }
+    ensures steps { (costs : Costs) (k : ℕ)
+        → steps costs k ≡ k + costs.channels + costs.pages + 6 }
+    ensures floor { (costs : Costs) (k : ℕ)
+        → floor_level costs k ≡ reserve costs k + costs.numbers.leak * (steps costs k + 1) }
+    ensures need { (costs : Costs) (k : ℕ)
+        → needed_level costs k ≡ floor_level costs k + costs.numbers.leak }
+{}
+
+/// With one more pending write there is one more entry step to pay, and the leak of one more tick.
+pub fn sums_with_one_more()
+    ensures reserve { (costs : Costs) (k : ℕ)
+        → reserve costs (k + 1) ≡ reserve costs k + entry_cost costs }
+    ensures steps { (costs : Costs) (k : ℕ) → steps costs (k + 1) ≡ steps costs k + 1 }
+    ensures floor { (costs : Costs) (k : ℕ)
+        → floor_level costs (k + 1) ≡ floor_level costs k + entry_cost costs + costs.numbers.leak }
+    ensures need { (costs : Costs) (k : ℕ)
+        → needed_level costs (k + 1) ≡ needed_level costs k + entry_cost costs + costs.numbers.leak }
+{}
+
+/// With no fewer pending writes no sum is smaller, and with no fewer ticks no backing.
+pub fn sums_rise()
+    ensures reserve { (costs : Costs) (j k : ℕ) → j ≤ k → reserve costs j ≤ reserve costs k }
+    ensures backing { (costs : Costs) (j k ticks : ℕ) → j ≤ k
+        → backing_level costs j ticks ≤ backing_level costs k ticks }
+    ensures ticks { (costs : Costs) (k fewer ticks : ℕ) → fewer ≤ ticks
+        → backing_level costs k fewer ≤ backing_level costs k ticks }
+    ensures floor { (costs : Costs) (j k : ℕ) → j ≤ k → floor_level costs j ≤ floor_level costs k }
+    ensures need { (costs : Costs) (j k : ℕ) → j ≤ k → needed_level costs j ≤ needed_level costs k }
+{}
+
+/// Whichever channels the writes are pending on, the reserve is the cost of the closing save's actions, and the steps are
+/// their number.
+pub fn sums_of_each_closing_save()
+    ensures reserve { (costs : Costs) (pending : List ℕ) → length pending ≡ costs.channels
+        → total_cost costs (closing_actions costs.pages pending) ≡ reserve costs (sum pending) }
+    ensures steps { (costs : Costs) (pending : List ℕ) → length pending ≡ costs.channels
+        → length (closing_actions costs.pages pending) ≡ steps costs (sum pending) }
+{}
+
+/// What the actions that are still to come cost: each one that is paid for comes off.
+pub fn cost_of_what_remains()
+    ensures action { (costs : Costs) (action : Action) (rest : List Action)
+        → total_cost costs (action ∷ rest) ≡ cost_of costs action + total_cost costs rest }
+    ensures lists { (costs : Costs) (first rest : List Action)
+        → total_cost costs (first ++ rest) ≡ total_cost costs first + total_cost costs rest }
+    ensures drain { (costs : Costs) (k : ℕ)
+        → total_cost costs (drain_actions k) ≡ close_cost costs + k * entry_cost costs }
+    ensures pages { (costs : Costs) (pages : ℕ)
+        → total_cost costs (page_actions (pages + 1))
+        ≡ page_cost_of costs.numbers + total_cost costs (page_actions pages) }
+    ensures save { (costs : Costs) (pages : ℕ)
+        → total_cost costs (save_actions pages)
+        ≡ pages * page_cost_of costs.numbers + frame_cost_of costs.numbers }
+{}
+
+/// The floor backs a disarming save, of which each step ticks once: a mark and a sync three times, and the pages. A reading
+/// that is enough to acknowledge writes backs it after one more reading too.
+pub fn floor_backs_a_disarming_save()
+    ensures floor { (costs : Costs) (k : ℕ)
+        → backing_level costs k (costs.pages + 6) ≤ floor_level costs k }
+    ensures need { (costs : Costs) (k : ℕ)
+        → backing_level costs k (costs.pages + 7) ≤ needed_level costs k }
+{}
+
+/// An honest reading answers the level, which has fallen by no more than the leak. So it takes one tick from a backing, and
+/// leaves the reserve of any.
+pub fn honest_readings()
+    ensures falls { (leak answer : ℕ) (old new : Gauge)
+        → ReadsLevel old answer new → IsHonestThrough leak old new → old.level ≤ new.level + leak }
+    ensures told { (leak answer : ℕ) (old new : Gauge)
+        → ReadsLevel old answer new → IsHonestThrough leak old new → answer ≡ new.level }
+    ensures backs { (costs : Costs) (k ticks answer : ℕ) (old new : Gauge)
+        → ReadsLevel old answer new → IsHonestThrough costs.numbers.leak old new
+        → backing_level costs k (ticks + 1) ≤ old.level → backing_level costs k ticks ≤ new.level }
+    ensures reserves { (costs : Costs) (k ticks answer : ℕ) (old new : Gauge)
+        → ReadsLevel old answer new → IsHonestThrough costs.numbers.leak old new
+        → backing_level costs k ticks ≤ old.level → reserve costs k ≤ new.level }
+{}
+
+/// An honest gauge that has the cost of an action and of the rest pays it, and then has that of the rest.
+pub fn honest_payments()
+    ensures paid { (leak cost rest : ℕ) (result : Result (Unit {0}) Dark) (old new : Gauge)
+        → PaysCost old cost result new → IsHonestThrough leak old new
+        → cost + rest ≤ old.level → IsOk result }
+    ensures rest { (leak cost rest : ℕ) (result : Result (Unit {0}) Dark) (old new : Gauge)
+        → PaysCost old cost result new → IsHonestThrough leak old new
+        → cost + rest ≤ old.level → rest ≤ new.level }
+{}
+
+/// A gauge that is honest through calls, none of which lowers its count of faults, is honest through the first and the last
+/// of them.
+pub fn honest_by_parts()
+    ensures first { (leak : ℕ) (old mid new : Gauge) → old.faults ≤ mid.faults → mid.faults ≤ new.faults
+        → IsHonestThrough leak old new → IsHonestThrough leak old mid }
+    ensures last { (leak : ℕ) (old mid new : Gauge) → old.faults ≤ mid.faults → mid.faults ≤ new.faults
+        → mid.leak ≡ old.leak → IsHonestThrough leak old new → IsHonestThrough leak mid new }
+{}

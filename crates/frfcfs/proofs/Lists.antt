@@ -1,0 +1,40 @@
+-- Lists of requests, read by their places.
+use Rattle.std.proofs.Common.{◌≡◌, ℕ, zero, suc, ◌<◌, ◌≤◌, List, [], ◌∷◌, Some, refl, inl, inr, arith, ap, ◌∙◌, sym, subst, get_or, length}
+use Rattle.std.proofs.lemmas.Bool.{cases_lt}
+use Rattle.std.proofs.lemmas.Option.{same_Some, slice_get_within, get_or_from_slice_get}
+use Rattle.std.specs.List.{All, slice_get}
+use Rattle.frfcfs.specs.declared.pending.Pending.{Pending}
+use Rattle.frfcfs.specs.Requests.{AreInOrder}
+
+-- what holds of each holds of the one at a place
+pub All-at : {X : Type 0} (P : X → Type 0) (xs : List X) (i : ℕ) (x : X) → All P xs → slice_get xs i ≡ Some x → P x
+All-at P xs i x all at = subst P (get_or_from_slice_get xs i x x at) (all i x (slice_get_within xs i x at))
+
+-- what holds of the one at a place holds of what is read there
+pub read_there : {X : Type 0} (P : X → Type 0) (xs : List X) (i : ℕ) (x d : X) → slice_get xs i ≡ Some x → P x → P (get_or xs i d)
+read_there P xs i x d at h = subst P (sym (get_or_from_slice_get xs i x d at)) h
+
+-- one element stands at a place
+pub one_at : {X : Type 0} (xs : List X) (i j : ℕ) (x y : X) → slice_get xs i ≡ Some x → slice_get xs j ≡ Some y → i ≡ j → x ≡ y
+one_at xs i j x y at there e = same_Some x y (sym at ∙ ap (λ k. slice_get xs k) e ∙ there)
+
+-- the earlier of two requests is the older
+pub order_at : (pending : List Pending) (i j : ℕ) (p q : Pending) → AreInOrder pending → slice_get pending i ≡ Some p → slice_get pending j ≡ Some q → i < j → p.seq < q.seq
+order_at pending i j p q order at there h =
+    let first : get_or pending i p ≡ p = get_or_from_slice_get pending i p p at in
+    let second : get_or pending j p ≡ q = get_or_from_slice_get pending j q p there in
+    let less = order i j p h (slice_get_within pending j q there) in
+    subst (λ (x : Pending). x.seq < q.seq) first (subst (λ (x : Pending). (get_or pending i p).seq < x.seq) second less)
+
+pub order_upto : (pending : List Pending) (i j : ℕ) (p q : Pending) → AreInOrder pending → slice_get pending i ≡ Some p → slice_get pending j ≡ Some q → i ≤ j → p.seq ≤ q.seq
+order_upto pending i j p q order at there h =
+    elim (cases_lt i j) [
+      | inl l ↦ let e = order_at pending i j p q order at there l in omega (arith, e)
+      | inr g ↦ let e = ap (λ (x : Pending). x.seq) (one_at pending i j p q at there (omega arith)) in omega (arith, e)
+    ]
+
+-- there is an element at each place
+pub something_at : {X : Type 0} (xs : List X) (i : ℕ) → i < length xs → (x : X) × (slice_get xs i ≡ Some x)
+something_at [] i within = absurd (omega (arith, within))
+something_at (x ∷ xs) zero within = (x, refl)
+something_at (x ∷ xs) (suc i) within = something_at xs i (omega (arith, within))

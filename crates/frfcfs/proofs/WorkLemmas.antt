@@ -1,0 +1,76 @@
+-- Whether a channel has work.
+use Rattle.std.proofs.Common.{◌≡◌, ℕ, ◌<◌, ◌≤◌, ◌⊎◌, ◌↔◌, ◌^◌, ◌-◌, List, Option, Some, None, Bool, IsTrue, IfSome, All, true, false, inl, inr, arith, refl, sym, subst}
+use Rattle.ddr4_timing.specs.Lawful.{IsLawful}
+use Rattle.ddr4_timing.specs.Places.{HasBank, LiesIn, bank_at}
+use Rattle.ddr4_timing.specs.declared.command.Stamped.{Stamped}
+use Rattle.ddr4_timing.specs.declared.timing.Checked.{Checked}
+use Rattle.ddr4_timing.specs.declared.timing.Geometry.{Geometry}
+use Rattle.bank_core.specs.declared.banks.Banks.{Banks}
+use Rattle.bank_core.specs.Stands.{Allows, Stands, with_command}
+use Rattle.frfcfs.specs.declared.next.Next.{Next}
+use Rattle.frfcfs.specs.declared.pending.Pending.{Pending}
+use Rattle.frfcfs.specs.Requests.{AreInOrder, IsEligible}
+use Rattle.frfcfs.specs.Candidates.{IsInLead}
+use Rattle.frfcfs.specs.Next.{HasWork, IsNext}
+use Rattle.frfcfs.specs.Margin.{IsIdle, KeepsMargin, last_clock}
+use Rattle.frfcfs.specs.Search.{AreMarks}
+use Rattle.frfcfs.specs.Queue.{AreFirsts}
+use Rattle.frfcfs.proofs.Lists.{All-at}
+use Rattle.frfcfs.proofs.NextChoice.{next_lawful}
+use Rattle.frfcfs.proofs.QueueLemmas.{firsts_marks, lines}
+use Rattle.frfcfs.proofs.refreshes.NextKeeps.{idle_exactly, next_keeps}
+
+-- some rank is in lead
+abbrev pub Leads : Checked → List Stamped → ℕ → Type 0
+Leads c list clock = (rank : ℕ) × (rank < c.geometry.ranks) × IsInLead c.timing list clock rank
+
+-- some request is eligible, and the geometry has its bank
+abbrev pub Waits : Geometry → List Pending → Type 0
+Waits g pending = (i : ℕ) × (p : Pending) × IsEligible pending i p × HasBank g (bank_at p.place)
+
+bank_of_place : (g : Geometry) (pending : List Pending) (i : ℕ) (p : Pending) → All (λ q. LiesIn g q.place) pending → IsEligible pending i p → HasBank g (bank_at p.place)
+bank_of_place g pending i p places el = let l = All-at (λ q. LiesIn g q.place) pending i p places el.here in record { rank = l.rank; group = l.group; bank = l.bank }
+
+with_work : (c : Checked) (list : List Stamped) (pending : List Pending) (clock : ℕ) (any work : Bool) → All (λ q. LiesIn c.geometry q.place) pending → (IsTrue any ↔ Waits c.geometry pending) → (IsTrue work ↔ (Leads c list clock ⊎ IsTrue any)) → (IsTrue work ↔ HasWork c list pending clock)
+with_work c list pending clock any work places a w = (
+  λ t. elim (w.0 t) [ inl l ↦ inl l | inr e ↦ let f = a.0 e in inr (f.0, f.1, f.2) ],
+  λ h. elim h [ inl l ↦ w.1 (inl l) | inr e ↦ w.1 (inr (a.1 (e.0, e.1, e.2, bank_of_place c.geometry pending e.0 e.1 places e.2))) ],
+)
+
+-- what is said of a queue's requests by a list of them
+
+pub work_of : (c : Checked) (list : List Stamped) (pending requests : List Pending) (clock : ℕ) (any work : Bool) → pending ≡ requests → All (λ q. LiesIn c.geometry q.place) requests → (IsTrue any ↔ Waits c.geometry pending) →
+    (IsTrue work ↔ (Leads c list clock ⊎ IsTrue any)) → (IsTrue work ↔ HasWork c list requests clock)
+work_of c list pending requests clock any work same places a w = with_work c list requests clock any work places (subst (λ (ps : List Pending). IsTrue any ↔ Waits c.geometry ps) same a) w
+
+pub marks_of : (g : Geometry) (pending requests : List Pending) (firsts : List Bool) → pending ≡ requests → AreInOrder pending → All (λ q. LiesIn g q.place) requests → AreFirsts (lines requests) firsts → AreMarks g pending firsts
+marks_of g pending requests firsts same order places marks =
+    firsts_marks g pending firsts order (subst (λ (ps : List Pending). All (λ q. LiesIn g q.place) ps) (sym same) places) (subst (λ (ps : List Pending). AreFirsts (lines ps) firsts) (sym same) marks)
+
+-- what is said of a search, of its answer
+
+pub next_of : (b : Banks) (pending requests : List Pending) (now : ℕ) (r : Option Next) → pending ≡ requests → ((list : List Stamped) → Stands b list → IsNext b.checked list pending now r) →
+    IfSome r (λ next. (list : List Stamped) → Stands b list → IsNext b.checked list requests now (Some next))
+next_of b pending requests now None same h = tt
+next_of b pending requests now (Some next) same h = λ list s. subst (λ (ps : List Pending). IsNext b.checked list ps now (Some next)) same (h list s)
+
+pub allows_of : (b : Banks) (pending : List Pending) (now : ℕ) (r : Option Next) → ((list : List Stamped) → Stands b list → IsNext b.checked list pending now r) → IfSome r (λ next. Allows b next.cmd next.clock)
+allows_of b pending now None h = tt
+allows_of b pending now (Some next) h = record { lawful = λ list s. next_lawful b.checked list pending now (2 ^ 63 - 1) next (h list s) }
+
+pub keeps_of : (b : Banks) (requests : List Pending) (now : ℕ) (r : Option Next) → IfSome r (λ next. (list : List Stamped) → Stands b list → IsNext b.checked list requests now (Some next)) →
+    IfSome r (λ next. (list : List Stamped) → Stands b list → KeepsMargin b.checked list → now ≡ last_clock list → KeepsMargin b.checked (with_command list next.clock next.cmd))
+keeps_of b requests now None h = tt
+keeps_of b requests now (Some next) h = λ list s m e. next_keeps b.checked list requests next m (subst (λ (k : ℕ). IsNext b.checked list requests k (Some next)) e (h list s))
+
+-- no command exactly where the channel is idle
+
+pub idle_without : (c : Checked) (list : List Stamped) (pending : List Pending) (now : ℕ) → (IsTrue false ↔ HasWork c list pending now) → IsIdle c list pending now
+idle_without c list pending now w = inl (λ work. let e : false ≡ true = w.1 work in absurd cc)
+
+pub idle_of : (c : Checked) (list : List Stamped) (pending requests : List Pending) (now : ℕ) (r : Option Next) → pending ≡ requests → KeepsMargin c list → IsLawful c list → now ≡ last_clock list → now < 2 ^ 62 → (IsTrue true ↔ HasWork c list requests now) → IsNext c list pending now r →
+    ((r ≡ None) ↔ (IsIdle c list requests now ⊎ (2 ^ 62 ≤ now)))
+idle_of c list pending requests now r same m lawful at early work next =
+    subst (λ (k : ℕ). (r ≡ None) ↔ (IsIdle c list requests k ⊎ (2 ^ 62 ≤ k))) (sym at)
+    (idle_exactly c list requests r m lawful (omega (arith, early, at)) (subst (λ (k : ℕ). HasWork c list requests k) at (work.0 refl))
+    (subst (λ (k : ℕ). IsNext c list requests k r) at (subst (λ (ps : List Pending). IsNext c list ps now r) same next)))

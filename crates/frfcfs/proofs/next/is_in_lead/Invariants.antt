@@ -1,0 +1,8 @@
+use Rattle.std.proofs.Common.{ℕ, ◌<◌, List}
+use Rattle.bank_core.specs.Stands.{Stands}
+use Rattle.ddr4_timing.specs.declared.command.Stamped.{Stamped}
+use Rattle.frfcfs.specs.Candidates.{IsInLead}
+use Rattle.frfcfs.proofs.next.is_in_lead.Given as goal
+
+abbrev pub invariant-loop-rank : goal.invariant-loop-rank
+invariant-loop-rank l = (list : List Stamped) → Stands l.banks list → (rank : ℕ) → rank < l.rank → ¬ IsInLead l.banks.checked.timing list l.clock rank

@@ -1,0 +1,6 @@
+use Rattle.std.proofs.Common.{◌≡◌, ◌++◌, take, drop}
+use Rattle.frfcfs.specs.Queue.{numbered_from}
+use Rattle.frfcfs.proofs.queue.number_each.Given as goal
+
+abbrev pub invariant-loop-place : goal.invariant-loop-place
+invariant-loop-place l = l.pending ≡ numbered_from 0 (take l.place l.fn.pending) ++ drop l.place l.fn.pending

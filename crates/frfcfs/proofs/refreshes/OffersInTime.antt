@@ -1,0 +1,106 @@
+-- A rank that has its time offers its REF, or the PREA before it, at the first clock from now that allows it.
+use Rattle.std.proofs.Common.{ℕ, ◌+◌, ◌*◌, ◌≤◌, ◌<◌, List, IsTrue, inl, inr, arith, refl}
+use Rattle.std.specs.Prelude.{max}
+use Rattle.ddr4_timing.specs.declared.command.Command.TheVariants.{PreAll, Ref}
+use Rattle.ddr4_timing.specs.declared.command.Stamped.{Stamped}
+use Rattle.ddr4_timing.specs.declared.timing.Checked.{Checked}
+use Rattle.ddr4_timing.specs.Floors.{floor}
+use Rattle.ddr4_timing.specs.Lawful.{AllClosed, IsLawful, last_ref, ref_count, is_asleep}
+use Rattle.frfcfs.specs.Candidates.{IsInLead, OffersRank}
+use Rattle.frfcfs.specs.Margin.{row_time, lead_clock, above, commands_before, close_clock, refresh_clock, HasTime}
+use Rattle.frfcfs.proofs.refreshes.IntervalFits.{fits}
+use Rattle.frfcfs.proofs.Leads.{lead_at}
+use Rattle.frfcfs.proofs.refreshes.LawfulRefreshes.{MayStill, ref_lawful, close_lawful}
+use Rattle.frfcfs.proofs.refreshes.RanksAhead.{above-le}
+
+-- a rank of the geometry that is awake and has its time
+pub record IsUp (c : Checked) (list : List Stamped) (now rank : ℕ) : Type 0 where
+  pub lawful : IsLawful c list
+  pub within : rank < c.geometry.ranks
+  pub awake : ¬ IsTrue (is_asleep rank list)
+  pub time : HasTime c list now rank
+
+before_next : (n t g p r rank a : ℕ) → g + p + 2 * r ≤ t → rank < r → a ≤ r → (n + 8) * t + g + (rank + a) + p + 1 ≤ (n + 9) * t
+before_next n t g p r rank a h l m = omega arith
+
+-- it is refreshed before the ninth interval begins
+pub refresh-lt : (c : Checked) (list : List Stamped) (rank : ℕ) → rank < c.geometry.ranks → refresh_clock c list rank < (ref_count rank list + 9) * c.timing.t_refi
+refresh-lt c list rank l =
+    let f = fits c in
+    let e = before_next (ref_count rank list) c.timing.t_refi (row_time c.timing) c.timing.t_rp c.geometry.ranks rank
+    (above (λ other. ref_count other list) (ref_count rank list) c.geometry.ranks) f.row l (above-le (λ other. ref_count other list) (ref_count rank list) c.geometry.ranks) in
+    omega (arith, e)
+
+late : (n t k last : ℕ) → n * t ≤ last → k < (n + 9) * t → k ≤ last + 9 * t
+late n t k last h l = omega arith
+
+pub in_time : (c : Checked) (list : List Stamped) (now rank k : ℕ) → IsUp c list now rank → k ≤ refresh_clock c list rank → MayStill c list k rank
+in_time c list now rank k u h = record {
+  lawful = u.lawful;
+  within = u.within;
+  awake = u.awake;
+  in_time = late (ref_count rank list) c.timing.t_refi k (last_ref rank list) u.time.refreshed (let l = refresh-lt c list rank u.within in omega (arith, h, l));
+}
+
+pub in_lead : (c : Checked) (list : List Stamped) (rank k : ℕ) → lead_clock c.timing list rank ≤ k → IsInLead c.timing list k rank
+in_lead c list rank k h = (lead_at c list rank k (lead_clock c.timing list rank) refl).1 h
+
+pub from_lead : (c : Checked) (list : List Stamped) (rank k : ℕ) → IsInLead c.timing list k rank → lead_clock c.timing list rank ≤ k
+from_lead c list rank k h = (lead_at c list rank k (lead_clock c.timing list rank) refl).0 h
+
+seven_sooner : (n t k : ℕ) → (n + 8) * t ≤ k → (n + 1) * t ≤ k
+seven_sooner n t k h = omega arith
+
+pub offers_ref : (c : Checked) (list : List Stamped) (now rank k : ℕ) → IsUp c list now rank → AllClosed c.geometry rank list → floor c.timing list (Ref rank) ≤ k → lead_clock c.timing list rank ≤ k → k ≤ refresh_clock c list rank →
+    OffersRank c list k rank (Ref rank)
+offers_ref c list now rank k u closed f l h = record {
+  within = u.within;
+  lead = in_lead c list rank k l;
+  kind = inl refl;
+  lawful = ref_lawful c list k rank (in_time c list now rank k u h) closed f (seven_sooner (ref_count rank list) c.timing.t_refi k l);
+}
+
+pub offers_close : (c : Checked) (list : List Stamped) (now rank k : ℕ) → IsUp c list now rank → (¬ AllClosed c.geometry rank list) → floor c.timing list (PreAll rank) ≤ k → lead_clock c.timing list rank ≤ k → k ≤ refresh_clock c list rank →
+    OffersRank c list k rank (PreAll rank)
+offers_close c list now rank k u some f l h = record {
+  within = u.within;
+  lead = in_lead c list rank k l;
+  kind = inr refl;
+  lawful = close_lawful c list k rank (in_time c list now rank k u h) some f;
+}
+
+-- the first clock from now for the REF, and for the PREA
+abbrev pub ref_from : Checked → List Stamped → ℕ → ℕ → ℕ
+ref_from c list now rank = max now (max (floor c.timing list (Ref rank)) (lead_clock c.timing list rank))
+
+abbrev pub close_from : Checked → List Stamped → ℕ → ℕ → ℕ
+close_from c list now rank = max now (max (floor c.timing list (PreAll rank)) (lead_clock c.timing list rank))
+
+by_refresh : (now f lead g s p : ℕ) → now + 1 ≤ lead + g + s + p → f ≤ lead + g + s + p → max now (max f lead) ≤ lead + g + s + p
+by_refresh now f lead g s p h l = omega arith
+
+by_close : (now f lead g s : ℕ) → now + 1 ≤ lead + g + s → f ≤ max (now + 1) (lead + g) → max now (max f lead) ≤ lead + g + s
+by_close now f lead g s h l = omega arith
+
+pub ref_from-le : (c : Checked) (list : List Stamped) (now rank : ℕ) → HasTime c list now rank → ref_from c list now rank ≤ refresh_clock c list rank
+ref_from-le c list now rank h = by_refresh now (floor c.timing list (Ref rank)) (lead_clock c.timing list rank) (row_time c.timing) (commands_before c list rank) c.timing.t_rp h.next h.refresh
+
+pub close_from-le : (c : Checked) (list : List Stamped) (now rank : ℕ) → HasTime c list now rank → (¬ AllClosed c.geometry rank list) → close_from c list now rank ≤ close_clock c list rank
+close_from-le c list now rank h some = by_close now (floor c.timing list (PreAll rank)) (lead_clock c.timing list rank) (row_time c.timing) (commands_before c list rank) (h.opened some) h.close
+
+pub from-le : (now f lead : ℕ) → now ≤ max now (max f lead)
+from-le now f lead = omega arith
+
+max_parts : (a b d : ℕ) → (a ≤ max a (max b d)) × (b ≤ max a (max b d)) × (d ≤ max a (max b d))
+max_parts a b d = omega arith
+
+pub ref_due : (c : Checked) (list : List Stamped) (now rank : ℕ) → IsUp c list now rank → AllClosed c.geometry rank list → OffersRank c list (ref_from c list now rank) rank (Ref rank)
+ref_due c list now rank u closed =
+    let m = max_parts now (floor c.timing list (Ref rank)) (lead_clock c.timing list rank) in
+    offers_ref c list now rank (ref_from c list now rank) u closed m.1 m.2 (ref_from-le c list now rank u.time)
+
+pub close_due : (c : Checked) (list : List Stamped) (now rank : ℕ) → IsUp c list now rank → (¬ AllClosed c.geometry rank list) → OffersRank c list (close_from c list now rank) rank (PreAll rank)
+close_due c list now rank u some =
+    let m = max_parts now (floor c.timing list (PreAll rank)) (lead_clock c.timing list rank) in
+    let l = close_from-le c list now rank u.time some in
+    offers_close c list now rank (close_from c list now rank) u some m.1 m.2 (omega (arith, l))

@@ -1,0 +1,12 @@
+use Rattle.std.proofs.Common.{◌≡◌, ◌≤◌, List, None}
+use Rattle.std.specs.Option.{IfSome}
+use Rattle.bank_core.specs.Stands.{Stands}
+use Rattle.ddr4_timing.specs.declared.command.Stamped.{Stamped}
+use Rattle.frfcfs.specs.Search.{IsRankNext}
+use Rattle.frfcfs.proofs.search.soonest_rank.Given as goal
+
+abbrev pub invariant-loop-rank : goal.invariant-loop-rank
+invariant-loop-rank l = record {
+  span : IfSome l.best (λ next. (l.now ≤ next.clock) × (next.clock ≤ l.last) × (next.serves ≡ None));
+  next : (list : List Stamped) → Stands l.banks list → IsRankNext l.banks.checked list l.now l.last 0 l.rank l.best;
+}

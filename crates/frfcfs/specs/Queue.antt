@@ -1,0 +1,67 @@
+-- What contracts see of a queue of requests.
+use Rattle.std.specs.Prelude.{◌≡◌, ◌≢◌, ℕ, ◌+◌, ◌<◌, ◌≤◌, ◌↔◌, Bool, false, true, not, nat_lt, IsTrue, List, [], ◌∷◌, filter, length, slice_index, slice_get, slice_index_or, slice_set, Option, Some, None, All}
+use Rattle.frfcfs.specs.declared.pending.Kind.{Kind}
+use Rattle.frfcfs.specs.declared.pending.Kind.TheVariants.{Read, Write}
+use Rattle.frfcfs.specs.declared.pending.Pending.{Pending}
+use Rattle.frfcfs.specs.Requests.{AreInOrder}
+
+-- how many requests it may hold, the seq of the next one, and those that it holds, in order of arrival
+pub record Waiting : Type 0 where
+  pub most : ℕ
+  pub next : ℕ
+  pub requests : List Pending
+
+-- what is true of every queue
+pub record IsWaiting (queue : Waiting) : Type 0 where
+  pub order : AreInOrder queue.requests
+  pub before : All (λ p. p.seq < queue.next) queue.requests
+  pub few : length queue.requests ≤ queue.most
+
+-- No earlier place of a list of lines has the line of this one.
+abbrev pub IsFirstAt : List ℕ → ℕ → Type 0
+IsFirstAt lines i = (j : ℕ) → j < i → slice_index lines j ≢ slice_index lines i
+
+-- marks that say of each place whether it is the first of its line
+pub record AreFirsts (lines : List ℕ) (firsts : List Bool) : Type 0 where
+  pub size : length firsts ≡ length lines
+  pub each : (i : ℕ) → i < length lines → (IsTrue (slice_index_or firsts i false) ↔ IsFirstAt lines i)
+
+-- writes from a number on are held
+abbrev pub is_held : Option ℕ → Kind → ℕ → Bool
+is_held None kind number = false
+is_held (Some from) Read number = false
+is_held (Some from) Write number = not (nat_lt number from)
+
+-- the request with the mark that a hold gives it
+abbrev pub held_by : Option ℕ → Pending → Pending
+held_by hold p = record p { held = is_held hold p.kind p.number }
+
+-- where the oldest request of a line stands, if there is one
+abbrev pub IsOldestOf : ℕ → List Pending → Option ℕ → Type 0
+IsOldestOf line pending None = All (λ p. p.line ≢ line) pending
+IsOldestOf line pending (Some i) =
+    (p : Pending) × (slice_get pending i ≡ Some p) × (p.line ≡ line)
+    × ((j : ℕ) (q : Pending) → j < i → slice_get pending j ≡ Some q → q.line ≢ line)
+
+-- the marks with the one at a place set, if there is a place
+abbrev pub marked_at : Option ℕ → List Bool → List Bool
+marked_at None firsts = firsts
+marked_at (Some i) firsts = slice_set firsts i true
+
+-- the oldest request of a line is marked, and the other marks stay
+abbrev pub MarksOldest : ℕ → List Pending → List Bool → List Bool → Type 0
+MarksOldest line pending old new = (place : Option ℕ) × IsOldestOf line pending place × (new ≡ marked_at place old)
+
+-- a write among the requests
+abbrev pub is_write : Kind → Bool
+is_write Write = true
+is_write Read = false
+
+-- requests whose seqs are their places, counted from n
+abbrev pub numbered_from : ℕ → List Pending → List Pending
+numbered_from n [] = []
+numbered_from n (p ∷ ps) = record p { seq = n } ∷ numbered_from (n + 1) ps
+
+-- the writes alone
+abbrev pub writes_among : List Pending → List Pending
+writes_among requests = filter (λ p. is_write p.kind) requests

@@ -1,0 +1,6 @@
+pub mod Closures
+pub mod Counting
+pub mod Digits
+pub mod Exchange
+pub mod Numbering
+pub mod Onto

@@ -1,0 +1,4 @@
+pub mod Cells
+pub mod Interleaving
+pub mod Inverse
+pub mod Map

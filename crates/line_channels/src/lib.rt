@@ -1,0 +1,9 @@
+//! What a module asks of its channels: what is put into them waits and reaches their arrays, reads are answered, and the
+//! arrays hold the memory after the writes. A module is proved once, against the trait `Channels`.
+#![tactic(auto)]
+
+mod answers;
+mod channels;
+
+pub use answers::{Collected, Done, Got, Served, Ticket, Waiting};
+pub use channels::Channels;

@@ -1,0 +1,136 @@
+//! How long a line takes to its place and back, by both maps.
+//!
+//! With no word it takes each line there and back, and prints how many lie on channel 0; `map_bench time`, run by hand,
+//! prints nanoseconds a line.
+#![tactic(auto)]
+
+ghost use Rattle.std.specs.Prelude.{◌≡◌, ◌<◌};
+ghost use Rattle.ddr4_timing.specs.Limits.{lines_of};
+ghost use Rattle.ddr4_timing.specs.Places.{LiesIn};
+ghost use Rattle.interleave_map.specs.Interleaving.{place_by_lines, line_by_lines, place_by_xor, line_by_xor};
+
+use ddr4_timing::place::Place;
+use ddr4_timing::timing::{Checked, Geometry, Timing};
+use interleave_map::cells::line_count;
+use interleave_map::line_map::LineMap;
+use interleave_map::map::Map;
+use interleave_map::{lines, xor};
+use std::env;
+use std::time::Instant;
+
+const TIMING: Timing = Timing {
+    t_rcd: 16,
+    t_rp: 16,
+    t_ras: 39,
+    cl: 16,
+    cwl: 12,
+    t_ccd_s: 4,
+    t_ccd_l: 6,
+    t_rrd_s: 4,
+    t_rrd_l: 6,
+    t_faw: 26,
+    t_wr: 18,
+    t_wtr_s: 3,
+    t_wtr_l: 9,
+    t_rtp: 9,
+    t_rtw: 10,
+    t_cs: 2,
+    t_rfc: 420,
+    t_refi: 9360,
+};
+
+const TINY: Geometry = Geometry {
+    channels: 2,
+    ranks: 1,
+    groups: 2,
+    banks: 4,
+    rows: 2,
+    columns: 4,
+};
+
+const LARGEST: Geometry = Geometry {
+    channels: 8,
+    ranks: 4,
+    groups: 4,
+    banks: 4,
+    rows: 2,
+    columns: 64,
+};
+
+// How many lines lie on channel 0 and come back.
+fn walk<M: LineMap>(map: &M, checked: &Checked) -> u64
+    requires lawful { M.is_lawful map.now }
+    requires geometry { M.geometry_of map.now ≡ checked.now.geometry }
+{
+    let mut found: u64 = 0;
+    for line in 0..line_count(checked) {
+        let place = map.place(line);
+        if place.channel == 0 && map.line(place) == line {
+            found += 1;
+        }
+    }
+    found
+}
+
+// Walks a map, so many times where it is timed, and prints what was found.
+fn measure<M: LineMap>(
+    rt: &HostRuntime,
+    name: &str,
+    map: &M,
+    checked: &Checked,
+    timed: bool,
+) -> anyhow::Result<()>
+    requires lawful { M.is_lawful map.now }
+    requires geometry { M.geometry_of map.now ≡ checked.now.geometry }
+{
+    let lines = line_count(checked);
+    let rounds: u64 = if timed { 100 } else { 1 };
+    let start = Instant::now(rt)?;
+    let mut found = 0;
+    for _ in 0..rounds {
+        found = walk(map, checked);
+    }
+    let nanos = start.elapsed(rt)?.as_nanos();
+    println!(rt; "{name}: {found} of {lines} lines on channel 0")?;
+    if timed {
+        let tenths = 10 * nanos / (rounds as u128 * lines as u128);
+        println!(rt; "    {}.{} nanoseconds a line", tenths / 10, tenths % 10)?;
+    }
+    Ok(())
+}
+
+fn measure_lines(rt: &HostRuntime, checked: Checked, timed: bool) -> anyhow::Result<()> {
+    let split = move |line: u64| -> Place
+        requires { line < lines_of checked.geometry }
+        ensures { result ≡ place_by_lines checked.geometry line }
+    { lines::split(&checked, line) };
+    let join = move |place: Place| -> u64
+        requires { LiesIn checked.geometry place }
+        ensures { result ≡ line_by_lines checked.geometry place }
+    { lines::join(&checked, place) };
+    let map = Map::new(split, join, &checked);
+    measure(rt, "lines", &map, &checked, timed)
+}
+
+fn measure_xor(rt: &HostRuntime, checked: Checked, timed: bool) -> anyhow::Result<()> {
+    let split = move |line: u64| -> Place
+        requires { line < lines_of checked.geometry }
+        ensures { result ≡ place_by_xor checked.geometry line }
+    { xor::split(&checked, line) };
+    let join = move |place: Place| -> u64
+        requires { LiesIn checked.geometry place }
+        ensures { result ≡ line_by_xor checked.geometry place }
+    { xor::join(&checked, place) };
+    let map = Map::new(split, join, &checked);
+    measure(rt, "xor", &map, &checked, timed)
+}
+
+fn main(rt: HostRuntime) -> anyhow::Result<()> {
+    let timed = env::args(&rt)?.len() > 1;
+    for geometry in [TINY, LARGEST] {
+        let checked = TIMING.check(&geometry)?;
+        measure_lines(&rt, checked, timed)?;
+        measure_xor(&rt, checked, timed)?;
+    }
+    Ok(())
+}

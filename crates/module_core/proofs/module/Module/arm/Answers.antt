@@ -1,0 +1,154 @@
+use Rattle.std.proofs.Common.{◌≡◌, ◌∙◌, ℕ, ◌+◌, ◌<◌, ◌≤◌, List, length, Bool, true, false, refl, sym, ap, subst, inl, inr, Option, Some, None, arith}
+use Rattle.std.specs.Prelude.{Ok, Err, nat_lt, if◌then◌else◌, ◌||◌}
+use Rattle.std.proofs.lemmas.Bool.{ltb-true, ltb-false}
+use Rattle.save_device.specs.Device.{DeviceState}
+use Rattle.save_device.proofs.Moments.{weaker}
+use Rattle.slot_store.specs.Slots.{HasSize}
+use Rattle.slot_store.specs.Outcomes.{restored}
+use Rattle.slot_store.specs.declared.slots.Slot.{Slot}
+use Rattle.slot_store.specs.Rest.{IsAmong, IsAtRestOn, IsAtRestRearmed, with_any_arm, rearmed}
+use Rattle.arm_state.specs.declared.mode.Mode.{Mode}
+use Rattle.arm_state.specs.declared.refusal.ArmRefusal.{ArmRefusal}
+use Rattle.arm_state.specs.declared.refusal.ArmRefusal.TheVariants as refusals
+use Rattle.arm_state.specs.declared.refusal.ArmReply.TheVariants as arm
+use Rattle.arm_state.specs.Modes.{is_armed, is_backed, has_ended}
+use Rattle.arm_state.specs.Refusals.{arm_refusal, energy_refusal_of}
+use Rattle.energy_budget.specs.Gauge.{Gauge}
+use Rattle.module_core.specs.declared.events.Event.TheVariants as events
+use Rattle.module_core.specs.declared.events.Reply.TheVariants as replies
+use Rattle.module_core.specs.State.{Setup, Store, Machine, World, pending_of, newest_of, all_of}
+use Rattle.module_core.specs.Refusals.{need_for, saves_of}
+use Rattle.module_core.specs.Moves.{read_as, armed, arm_failed}
+use Rattle.module_core.specs.Machine.{MachineStep, ArmStep, MayArm}
+use Rattle.module_core.specs.Device.{Holds, IsResting}
+use Rattle.module_core.specs.Guard.{may_lack, is_cut_short}
+use Rattle.module_core.specs.Headline.{marks}
+use Rattle.module_core.specs.Stands.{setup_of}
+use Rattle.module_core.proofs.ArmSteps.{unmarked, energy_is, energy_enough, arm_refused, rest_alone, rests_armed, rests_rearmed, holds_none, fast_where, calm_disarmed, any_arm_in}
+use Rattle.module_core.proofs.Guarding.{arms_where}
+use Rattle.module_core.proofs.StoreSteps.{at_rest}
+use Rattle.module_core.proofs.Leaving.{left_marking}
+use Rattle.module_core.proofs.Applying.{alone, unmoved, asked}
+use Rattle.module_core.proofs.module.Module.arm.Goals as goal
+
+pub returns-then-is_armed-clause-answers : goal.returns-then-is_armed-clause-answers
+returns-then-is_armed-clause-answers g c =
+    unmoved g.C.Channels events.Arm (replies.Arm (Ok arm.AlreadyArmed)) c.args.self.now (g.D.SaveDevice.state c.args.device.now) (g.E.Energy.gauge c.args.energy.now)
+    (λ m h. (ap is_armed (sym h.mode) ∙ (let e : is_armed c.args.self.now.mode ≡ true = cc in e), refl)) refl (λ m h. tt)
+
+pub returns-in-Some-clause-answers : goal.returns-in-Some-clause-answers
+returns-in-Some-clause-answers g c =
+    let device : DeviceState = g.D.SaveDevice.state c.args.device.now in let gauge : Gauge = g.E.Energy.gauge c.args.energy.now in
+    unmoved g.C.Channels events.Arm (replies.Arm (Err c.in-Some.refusal)) c.args.self.now device gauge
+    (λ m h.
+    arm_refused (setup_of g.C.Channels c.args.self.now) (record { machine = m; device = device; gauge = gauge }) c.in-Some.refusal (ap is_armed (sym h.mode) ∙ (let e : is_armed c.args.self.now.mode ≡ false = cc in e))
+    (ap (λ (x : Mode). arm_refusal x (saves_of m)) (sym h.mode) ∙ ap (arm_refusal c.args.self.now.mode) (sym (c.save_state.ensures.state m h)) ∙ sym c.arm_refusal.ensures ∙ c.in-Some.is)) (unmarked c.args.self.now.mode c.save_state.result c.in-Some.refusal (sym c.arm_refusal.ensures ∙ c.in-Some.is)) (λ m h. tt)
+
+pub returns-in-Some-energy_refusal-clause-answers : goal.returns-in-Some-energy_refusal-clause-answers
+returns-in-Some-energy_refusal-clause-answers g c =
+    let L = g.C.Channels in let old = c.args.self.now in let device : DeviceState = g.D.SaveDevice.state c.args.device.now in let before : Gauge = g.E.Energy.gauge c.args.energy.now in let later : Gauge = g.E.Energy.gauge c.sense-self.new.self in
+    let setup : Setup = setup_of L old in let reading : ℕ = c.sense-self.result in let r : ArmRefusal = c.in-Some-energy_refusal.refusal in let need : ℕ = c.need_for-need.result in
+    let is : (reading < need) × (r ≡ refusals.NeedEnergy need reading) = energy_is need reading r (sym c.energy_refusal.ensures ∙ c.in-Some-energy_refusal.is) in
+    alone L events.Arm (replies.Arm (Err r))
+    (λ m n. MachineStep setup events.Arm (replies.Arm (Err r)) (record { machine = m; device = device; gauge = before }) (record { machine = n; device = device; gauge = later }))
+    old _ device before later refl (λ m h.
+    let off : is_armed m.mode ≡ false = ap is_armed (sym h.mode) ∙ (let e : is_armed old.mode ≡ false = cc in e) in
+    let free : arm_refusal m.mode (saves_of m) ≡ None =
+    ap (λ (x : Mode). arm_refusal x (saves_of m)) (sym h.mode) ∙ ap (arm_refusal old.mode) (sym (c.save_state.ensures.state m h)) ∙ sym c.arm_refusal.ensures ∙ c.in_default.is in
+    let asks : need ≡ need_for setup (pending_of m) = c.need_for-need.ensures.value ∙ ap (need_for setup) (c.pending.ensures.is ∙ ap length h.carried.writes) in (
+      read_as reading m,
+      subst (λ (x : ArmRefusal). ArmStep setup (Err x) (record { machine = m; device = device; gauge = before }) (record { machine = read_as reading m; device = device; gauge = later })) (sym is.1)
+          (off, free, c.sense-self.ensures, asks, is.0, refl),
+      record {
+        mode = h.mode;
+        reading = refl;
+        start = h.start;
+        accepted = h.accepted;
+        persisted = h.persisted;
+        knows = h.knows;
+        saving = h.saving;
+        memory = h.memory;
+        carried = record { carries = h.carried.carries; waits = h.carried.waits; writes = h.carried.writes; lost = h.carried.lost; hold = h.carried.hold; held = h.carried.held };
+      },
+      inl (refl, refl),
+    )) (λ m n x. x) (subst (λ (x : ArmRefusal). marks (replies.Arm (Err x)) ≡ false) (sym is.1) refl) (λ m h. tt)
+
+pub returns-in_default-mark_armed-clause-answers : goal.returns-in_default-mark_armed-clause-answers
+returns-in_default-mark_armed-clause-answers g c = λ m stands.
+    let L = g.C.Channels in let old = c.args.self.now in let h = stands.matches in let device : DeviceState = g.D.SaveDevice.state c.args.device.now in let device' : DeviceState = g.D.SaveDevice.state c.mark_armed.new.device in
+    let before : Gauge = g.E.Energy.gauge c.args.energy.now in let later : Gauge = g.E.Energy.gauge c.sense-self.new.self in
+    let setup : Setup = setup_of L old in let reading : ℕ = c.sense-self.result in let need : ℕ = c.need_for-need.result in let lines : ℕ = old.lines in
+    let off : is_armed m.mode ≡ false = ap is_armed (sym h.mode) ∙ (let e : is_armed old.mode ≡ false = cc in e) in
+    let free : arm_refusal m.mode (saves_of m) ≡ None =
+    ap (λ (x : Mode). arm_refusal x (saves_of m)) (sym h.mode) ∙ ap (arm_refusal old.mode) (sym (c.save_state.ensures.state m h)) ∙ sym c.arm_refusal.ensures ∙ c.in_default.is in
+    let a = arms_where m off free in let running : has_ended m.mode ≡ false = ap has_ended a.disarmed in
+    let asks : need ≡ need_for setup (pending_of m) = c.need_for-need.ensures.value ∙ ap (need_for setup) (c.pending.ensures.is ∙ ap length h.carried.writes) in
+    let enough : need ≤ reading = energy_enough need reading (sym c.energy_refusal.ensures ∙ c.in_default-energy_refusal.is) in
+    let fast : m.store.maybe.any_arm ≡ false = fast_where m stands.guarded a.settled in
+    let alone_there : IsAtRestOn old.saves.newest.slot (newest_of m) lines m.store.closed device =
+    subst (λ (x : Slot). IsAtRestOn x (newest_of m) lines m.store.closed device) (sym h.knows.slot)
+    (rest_alone lines m.store device (at_rest lines m.store device m.store.saving old.saves.saving stands.holds) (stands.guarded.single running a.settled a.idle) fast) in
+    let n : Machine = arm_failed (read_as reading m) in
+    let later_rest : IsResting lines n.store device' = rests_rearmed lines (read_as reading m) device'
+    (subst (λ (x : Slot). IsAtRestRearmed x (newest_of m) lines m.store.closed device') h.knows.slot (c.in_default-mark_armed.ensures.failed (newest_of m) lines m.store.closed alone_there)) in
+    asked L events.Arm (replies.Arm (Err refusals.Device)) old _ device device' before later refl m stands n
+    (record { unarmed = off; unrefused = free; reads = c.sense-self.ensures; enough = subst (λ (k : ℕ). k ≤ reading) asks enough }, c.in_default-mark_armed.ensures.calls, refl)
+    (record {
+      mode = h.mode;
+      reading = refl;
+      start = h.start;
+      accepted = h.accepted;
+      persisted = h.persisted;
+      knows = record { slot = h.knows.slot; generation = h.knows.generation; shut = h.knows.shut; open_end = refl };
+      saving = h.saving;
+      memory = h.memory;
+      carried = record { carries = h.carried.carries; waits = h.carried.waits; writes = h.carried.writes; lost = h.carried.lost; hold = h.carried.hold; held = h.carried.held };
+    })
+    (holds_none lines n.store device' n.store.saving old.saves.saving a.idle h.saving later_rest) tt
+    (weaker device device' (λ image left guarded.
+        left_marking (replies.Arm (Err refusals.Device)) m n refl (calm_disarmed m a.disarmed (stands.guarded.running running)) stands.guarded (restored lines image)
+        (any_arm_in m (restored lines image) (subst (λ (x : Slot). IsAmong (with_any_arm x (newest_of m)) (restored lines image)) h.knows.slot left)))
+    (c.mark_armed.ensures.any_moment (newest_of m) lines m.store.closed alone_there))
+
+pub returns-in_default-mark_armed-clause-size : goal.returns-in_default-mark_armed-clause-size
+returns-in_default-mark_armed-clause-size g c = (c.mark_armed.ensures.outside c.args.self.now.lines c.requires).size ∙ c.requires
+
+pub returns-clause-size : goal.returns-clause-size
+returns-clause-size g c = (c.mark_armed.ensures.outside c.args.self.now.lines c.requires).size ∙ c.requires
+
+pub returns-clause-answers : goal.returns-clause-answers
+returns-clause-answers g c = λ m stands.
+    let L = g.C.Channels in let old = c.args.self.now in let h = stands.matches in let device : DeviceState = g.D.SaveDevice.state c.args.device.now in let device' : DeviceState = g.D.SaveDevice.state c.mark_armed.new.device in
+    let before : Gauge = g.E.Energy.gauge c.args.energy.now in let later : Gauge = g.E.Energy.gauge c.sense-self.new.self in
+    let setup : Setup = setup_of L old in let reading : ℕ = c.sense-self.result in let need : ℕ = c.need_for-need.result in let lines : ℕ = old.lines in
+    let off : is_armed m.mode ≡ false = ap is_armed (sym h.mode) ∙ (let e : is_armed old.mode ≡ false = cc in e) in
+    let free : arm_refusal m.mode (saves_of m) ≡ None =
+    ap (λ (x : Mode). arm_refusal x (saves_of m)) (sym h.mode) ∙ ap (arm_refusal old.mode) (sym (c.save_state.ensures.state m h)) ∙ sym c.arm_refusal.ensures ∙ c.in_default.is in
+    let a = arms_where m off free in let running : has_ended m.mode ≡ false = ap has_ended a.disarmed in
+    let asks : need ≡ need_for setup (pending_of m) = c.need_for-need.ensures.value ∙ ap (need_for setup) (c.pending.ensures.is ∙ ap length h.carried.writes) in
+    let enough : need ≤ reading = energy_enough need reading (sym c.energy_refusal.ensures ∙ c.in_default-energy_refusal.is) in
+    let fast : m.store.maybe.any_arm ≡ false = fast_where m stands.guarded a.settled in
+    let alone_there : IsAtRestOn old.saves.newest.slot (newest_of m) lines m.store.closed device =
+    subst (λ (x : Slot). IsAtRestOn x (newest_of m) lines m.store.closed device) (sym h.knows.slot)
+    (rest_alone lines m.store device (at_rest lines m.store device m.store.saving old.saves.saving stands.holds) (stands.guarded.single running a.settled a.idle) fast) in
+    let n : Machine = armed (read_as reading m) in
+    let later_rest : IsResting lines n.store device' = rests_armed lines (read_as reading m) device'
+    (subst (λ (x : Slot). IsAtRestOn x (rearmed (newest_of m) 0x5A) lines m.store.closed device') h.knows.slot (c.in-Ok.ensures.armed (newest_of m) lines m.store.closed alone_there)) in
+    asked L events.Arm (replies.Arm (Ok arm.Armed)) old _ device device' before later refl m stands n
+    (record { unarmed = off; unrefused = free; reads = c.sense-self.ensures; enough = subst (λ (k : ℕ). k ≤ reading) asks enough }, c.in-Ok.ensures.calls, refl)
+    (record {
+      mode = refl;
+      reading = refl;
+      start = h.start;
+      accepted = h.accepted;
+      persisted = h.accepted;
+      knows = record { slot = h.knows.slot; generation = h.knows.generation; shut = h.knows.shut; open_end = h.knows.open_end };
+      saving = h.saving;
+      memory = h.memory;
+      carried = record { carries = h.carried.carries; waits = λ runs. h.carried.waits running; writes = h.carried.writes; lost = λ ended. absurd (let bad : ⊥ = cc in bad); hold = h.carried.hold; held = h.carried.held };
+    })
+    (holds_none lines n.store device' n.store.saving old.saves.saving a.idle h.saving later_rest) tt
+    (weaker device device' (λ image left guarded.
+        left_marking (replies.Arm (Ok arm.Armed)) m n refl (calm_disarmed m a.disarmed (stands.guarded.running running)) stands.guarded (restored lines image)
+        (any_arm_in m (restored lines image) (subst (λ (x : Slot). IsAmong (with_any_arm x (newest_of m)) (restored lines image)) h.knows.slot left)))
+    (c.mark_armed.ensures.any_moment (newest_of m) lines m.store.closed alone_there))

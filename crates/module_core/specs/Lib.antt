@@ -1,0 +1,12 @@
+pub mod State
+pub mod Refusals
+pub mod Moves
+pub mod Losses
+pub mod Machine
+pub mod Guard
+pub mod Headline
+pub mod Device
+pub mod Saving
+pub mod Begins
+pub mod Stands
+pub mod Closing

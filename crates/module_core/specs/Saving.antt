@@ -1,0 +1,78 @@
+-- What the module knows of its device and of a save, and what a step of the save makes of it.
+use Rattle.std.specs.Prelude.{◌≡◌, ◌≢◌, ◌⊎◌, ℕ, ◌+◌, Bool, true, false, List, Result, Ok, Err, Option, Some, None}
+use Rattle.slot_store.specs.declared.plan.Newest.{Newest}
+use Rattle.slot_store.specs.declared.plan.Step.{Step}
+use Rattle.slot_store.specs.declared.plan.Step.TheVariants.{Close, SyncClosed, Open, SyncOpen}
+use Rattle.slot_store.specs.declared.saving.SaveRun.{SaveRun}
+use Rattle.slot_store.specs.Slots.{other}
+use Rattle.slot_store.specs.Outcomes.{restored}
+use Rattle.slot_store.specs.Rest.{IsAmong}
+use Rattle.slot_store.specs.Runs.{plan_of, next_of, tried_of}
+use Rattle.module_core.specs.State.{RunningSave, Store}
+use Rattle.module_core.specs.Moves.{stepped, step_failed, saved_in, with_next}
+
+-- the store after a step that went well
+abbrev pub after_step : ℕ → Store → RunningSave → Step → Store
+after_step lines s save SyncOpen = saved_in s save.made
+after_step lines s save step = with_next lines save (stepped s save.made step)
+
+abbrev pub store_after : {T E : Type 0} → ℕ → Store → RunningSave → Result T E → Store
+store_after lines s save (Ok done) = after_step lines s save save.next
+store_after lines s save (Err fault) = step_failed s save.made save.next
+
+-- the newest image and what is known of the other slot, as the module keeps them
+pub record Knows (newest : Newest) (closed unsettled : Bool) (s : Store) : Type 0 where
+  pub slot : newest.slot ≡ s.maybe.slot
+  pub generation : newest.generation ≡ s.maybe.newest.generation
+  pub shut : closed ≡ s.closed
+  pub open_end : unsettled ≡ s.unsettled
+
+-- how many writes a save has in its image
+abbrev pub count_of : SaveRun → ℕ
+count_of run = (plan_of run).count
+
+-- the save that runs, by its next step, and the number of writes that it holds
+abbrev pub RunsAs : Option RunningSave → Option SaveRun → Type 0
+RunsAs None None = Unit {0}
+RunsAs (Some save) (Some run) = (next_of run ≡ save.next) × ((plan_of run).count ≡ save.made.count)
+RunsAs None (Some run) = ⊥
+RunsAs (Some save) None = ⊥
+
+-- a save was begun over this image
+pub record IsBegun (newest : Newest) (closed : Bool) (count : ℕ) (armed : Bool) (lines : ℕ) (run : SaveRun) : Type 0 where
+  pub slot : (plan_of run).slot ≡ other newest.slot
+  pub generation : (plan_of run).generation ≡ newest.generation + 1
+  pub count_is : (plan_of run).count ≡ count
+  pub arm : (plan_of run).armed ≡ armed
+  pub shut : (plan_of run).closed ≡ closed
+  pub lines_are : (plan_of run).lines ≡ lines
+  pub next : next_of run ≡ Close
+  pub untried : tried_of run ≡ false
+
+-- a stop leaves an image that was possible before the step, or is after it
+abbrev pub IsAmongEither : ℕ → Store → Store → List ℕ → Type 0
+IsAmongEither lines old new bytes = IsAmong old.maybe (restored lines bytes) ⊎ IsAmong new.maybe (restored lines bytes)
+
+-- what a step that went well makes of what the module knows
+abbrev pub saving_after : Step → SaveRun → Option SaveRun
+saving_after SyncOpen run = None
+saving_after step run = Some run
+
+abbrev pub closed_after : Step → Bool → Bool
+closed_after SyncClosed closed = true
+closed_after Open closed = false
+closed_after SyncOpen closed = false
+closed_after step closed = closed
+
+abbrev pub unsettled_after : Step → Bool → Bool
+unsettled_after SyncOpen unsettled = false
+unsettled_after step unsettled = unsettled
+
+abbrev pub newest_after : Step → Newest → Newest → Type 0
+newest_after SyncOpen old new = (new.slot ≡ other old.slot) × (new.generation ≡ old.generation + 1)
+newest_after step old new = new ≡ old
+
+-- what is told of a step: which it was, or none where it was the last one
+abbrev pub IsDone : Step → Option Step → Type 0
+IsDone next (Some step) = (step ≡ next) × (step ≢ SyncOpen)
+IsDone next None = next ≡ SyncOpen

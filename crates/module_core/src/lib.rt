@@ -1,0 +1,13 @@
+//! A module: a memory whose writes are accepted at once, saved on a device, and persistent where it is armed.
+#![tactic(auto)]
+
+mod arming;
+mod closing;
+mod events;
+mod module;
+mod saves;
+mod stepping;
+
+pub use events::{Accepted, Event, Loss, ReadRefusal, Reply, StepReply, WriteRefusal};
+pub use module::Module;
+pub use saves::Saves;

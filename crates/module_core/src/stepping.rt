@@ -1,0 +1,132 @@
+// The steps of a save on mains.
+ghost use Rattle.std.specs.Prelude.{◌≡◌, ◌≤◌, ℕ, [], ◌∷◌, true, false, Some, IsSome};
+ghost use Rattle.save_device.specs.Calls.{MakesCalls};
+ghost use Rattle.slot_store.specs.declared.saving.SaveRun.{SaveRun};
+ghost use Rattle.slot_store.specs.Steps.{reach_of};
+ghost use Rattle.slot_store.specs.Changes.{GivesPage};
+ghost use Rattle.slot_store.specs.Runs.{plan_of, next_of};
+ghost use Rattle.module_core.specs.State.{Machine, RunningSave};
+ghost use Rattle.module_core.specs.Moves.{persisted_at_end};
+ghost use Rattle.module_core.specs.Machine.{MadeStep, must_wait, step_call, is_made};
+
+use crate::{Event, Module, Reply, StepReply};
+use arm_state::{Mode, Move};
+use energy_budget::Energy;
+use line_channels::Channels;
+use save_device::SaveDevice;
+use slot_store::Step;
+
+// How many writes are persistent after the end of a save of so many.
+fn persisted_after_save(mode: Mode, persisted: u64, count: u64) -> u64
+    ensures { result ≡ persisted_at_end mode persisted count }
+{
+    if mode.is_armed() { persisted } else { count }
+}
+
+// The page that a step writes.
+pub(crate) fn page_for<C: Channels>(channels: &C, step: Step) -> [u8; 4096]
+    requires reaches { C.reaches }
+    requires place { reach_of step ≤ (C.view channels.now).shape.lines }
+    ensures { GivesPage (C.view channels.now).array step result }
+{
+    match step {
+        Step::Page(page) => channels.page(page),
+        _ => [0; 4096],
+    }
+}
+
+impl<C: Channels> Module<C> {
+    ghost use Rattle.module_core.specs.Begins.{IsReadyFor, Makes};
+    ghost use Rattle.module_core.specs.Stands.{Matches, Answers, HasDevice, SameButHold, setup_of};
+
+    // A write that the page of the coming step is to have waits for its array.
+    fn must_wait(&self, step: Step) -> bool
+        ensures { (m : Machine) (save : RunningSave) → Matches C.Channels self.now m
+            → m.store.saving ≡ Some save → save.next ≡ step → result ≡ must_wait m save }
+    {
+        let Some(count) = self.saves.count() else {
+            return false;
+        };
+        match step {
+            Step::Page(_) => self.channels.has_below(count),
+            _ => false,
+        }
+    }
+
+    // Ends the hold once the last page is written.
+    fn release_behind_pages(&mut self)
+        ensures { SameButHold C.Channels self.old self.new }
+    {
+        if matches!(self.saves.next(), Some(Step::SyncBody)) {
+            self.channels.release();
+        }
+    }
+
+    // Makes the coming step of the save that runs.
+    fn make_step<D: SaveDevice>(&mut self, device: &mut D, page: &[u8; 4096]) -> StepReply
+        requires runs { IsSome self.old.saves.saving }
+        requires size { HasDevice C.Channels self.old (D.state device.old) }
+        ensures made { (m : Machine) (save : RunningSave)
+            → IsReadyFor self.old.lines m.store save self.old.saves page.now (D.state device.old)
+            → Matches C.Channels self.old m
+            → (n : Machine) × MadeStep self.old.lines save result m n × Matches C.Channels self.new n
+            × Makes self.old.lines m.store n.store (D.state device.old) self.new.saves (D.state device.new) }
+        ensures call { (run : SaveRun) → self.old.saves.saving ≡ Some run
+            → MakesCalls (step_call (plan_of run).closed (next_of run) ∷ []) (is_made result)
+            (D.state device.old).calls (D.state device.new).calls }
+        ensures setup { setup_of C.Channels self.new ≡ setup_of C.Channels self.old }
+        ensures size { HasDevice C.Channels self.new (D.state device.new) }
+    {
+        let Some(count) = self.saves.count() else {
+            unreachable!();
+        };
+        match self.saves.step(device, page) {
+            Err(_) => {
+                self.channels.release();
+                self.mode = self.mode.after(Move::FailSave);
+                StepReply::Fault
+            }
+            Ok(None) => {
+                self.persisted = persisted_after_save(self.mode, self.persisted, count);
+                self.mode = self.mode.after(Move::EndSave);
+                StepReply::Saved {
+                    generation: self.saves.newest.generation,
+                    count,
+                }
+            }
+            Ok(Some(step)) => {
+                self.release_behind_pages();
+                StepReply::Did(step)
+            }
+        }
+    }
+
+    /// Makes the coming step of the save that runs, one call of the device, after a reading of the gauge. While armed a low
+    /// reading begins the disarming in its place. `Waiting` says that a write which the page is to have isn't in its array.
+    pub fn save_step<D: SaveDevice, E: Energy>(
+        &mut self,
+        device: &mut D,
+        energy: &mut E,
+    ) -> StepReply
+        requires reaches { C.reaches }
+        requires size { HasDevice C.Channels self.old (D.state device.old) }
+        ensures answers { Answers C.Channels Event.SaveStep (Reply.SaveStep result)
+            self.old (D.state device.old) (E.gauge energy.old)
+            self.new (D.state device.new) (E.gauge energy.new) }
+        ensures setup { setup_of C.Channels self.new ≡ setup_of C.Channels self.old }
+        ensures size { HasDevice C.Channels self.new (D.state device.new) }
+    {
+        let Some(step) = self.saves.next() else {
+            return StepReply::NoSave;
+        };
+        if self.must_wait(step) {
+            return StepReply::Waiting;
+        }
+        let reading = energy.tick();
+        if self.take_reading(reading) {
+            return StepReply::Turned;
+        }
+        let page = page_for(&self.channels, step);
+        self.make_step(device, &page)
+    }
+}

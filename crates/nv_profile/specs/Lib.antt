@@ -1,0 +1,4 @@
+pub mod Nothing
+pub mod Tables
+pub mod Limits
+pub mod Profile

@@ -1,0 +1,29 @@
+-- What a TOML table has under a key.
+use Rattle.std.specs.Prelude.{◌≡◌, ℕ, ◌+◌, ◌≤◌, List, ℤ, pos, negsuc, Option, Some, None, option_and_then}
+use Rattle.toml.specs.Data.{Members, no_members, member, get_member, as_str, as_table, as_integer}
+
+-- how many keys it has
+abbrev pub size_of : Members → ℕ
+size_of no_members = 0
+size_of (member key value rest) = size_of rest + 1
+
+-- a whole number that isn't negative
+abbrev pub natural : ℤ → Option ℕ
+natural (pos n) = Some n
+natural (negsuc n) = None
+
+-- the whole number under the key, where that is what stands there
+abbrev pub number_at : List ℕ → Members → Option ℕ
+number_at key table = option_and_then natural (option_and_then as_integer (get_member key table))
+
+-- a whole number from the least to the most stands under the key
+abbrev pub HasNumber : List ℕ → Members → ℕ → ℕ → ℕ → Type 0
+HasNumber key table least most n = (number_at key table ≡ Some n) × (least ≤ n) × (n ≤ most)
+
+-- the text under the key
+abbrev pub word_at : List ℕ → Members → Option (List ℕ)
+word_at key table = option_and_then as_str (get_member key table)
+
+-- the table under the key
+abbrev pub table_at : List ℕ → Members → Option Members
+table_at key table = option_and_then as_table (get_member key table)

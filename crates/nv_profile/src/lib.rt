@@ -1,0 +1,18 @@
+//! Profiles: the numbers that a module is made of, read from TOML.
+//!
+//! A profile is a TOML table with the tables `timing`, `geometry`, `costs` and `module`, each with exactly its keys
+//! (`specs/Profile.antt`). `read_profile` accepts a text exactly where it is one.
+#![tactic(auto)]
+
+mod costs;
+mod profile;
+mod reading;
+mod sizes;
+mod table;
+#[cfg(test)]
+mod tests;
+mod timing;
+
+pub use profile::{MapWord, Profile};
+pub use reading::{MOST_BYTES, ProfileFault, TINY, read_profile};
+pub use sizes::ModuleSizes;

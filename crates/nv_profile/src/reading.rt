@@ -1,0 +1,120 @@
+// Profiles from TOML.
+ghost use Rattle.std.specs.Prelude.{◌≡◌, ◌<◌, length, Err, IfOk, IfSome, IsNone};
+ghost use Rattle.toml.specs.View.{table_view};
+ghost use Rattle.nv_profile.specs.Nothing.{HoldsOfNone};
+ghost use Rattle.nv_profile.specs.Profile.{SaysProfile, IsProfileText, IsNoProfile};
+
+use crate::costs::read_costs;
+use crate::profile::Profile;
+use crate::sizes::read_module;
+use crate::table::{inner, size};
+use crate::timing::{read_geometry, read_timing};
+use std::alloc::Global;
+use thiserror::Error;
+use toml::{Table, table_from_slice};
+
+/// The most bytes of a profile.
+pub const MOST_BYTES: usize = 65_536;
+
+/// Why a text gave no profile.
+#[derive(Clone, Copy, Debug, PartialEq, Eq, Error)]
+pub enum ProfileFault {
+    /// It isn't a profile: it is too long, not UTF-8 or not TOML, lacks a key or has a further one, or a value isn't of its
+    /// kind or within its limits.
+    #[error("1 Refused")]
+    Refused = 1,
+    /// There was no memory to read it.
+    #[error("2 Memory")]
+    Memory = 2,
+}
+
+/// The profile of the word `tiny`: 128 lines on two channels.
+pub const TINY: &str = "[timing]
+tRCD = 16
+tRP = 16
+tRAS = 39
+CL = 16
+CWL = 12
+tCCD_S = 4
+tCCD_L = 6
+tRRD_S = 4
+tRRD_L = 6
+tFAW = 26
+tWR = 18
+tWTR_S = 3
+tWTR_L = 9
+tRTP = 9
+tRTW = 10
+tCS = 2
+tRFC = 420
+tREFI = 9360
+[geometry]
+channels = 2
+ranks = 1
+groups = 2
+banks = 4
+rows = 2
+columns = 4
+[costs]
+e_act = 4
+e_col = 2
+e_pre = 1
+e_ref = 20
+e_sre = 1
+e_clk = 1
+e_mark = 50
+e_sync = 100
+e_page = 1000
+leak = 1
+[module]
+depth = 8
+reads = 8
+trail = 1024
+notices = 64
+map = \"lines\"
+";
+
+/// Reads a profile: bytes that are at most 65,536, UTF-8, and TOML with exactly the keys of a profile, each with a whole
+/// number within its limits, and `map` with one of its two words. Timing and geometry have to pass `Timing::check`.
+///
+/// `Refused` where the bytes are no such text, `Memory` where the reader of TOML was refused memory. It costs what reading
+/// the text costs.
+pub fn read_profile(alloc: Global, bytes: &[u8]) -> Result<Profile, ProfileFault>
+    ensures ok { IfOk result (IsProfileText bytes.now) }
+    ensures refused { result ≡ Err ProfileFault.Refused → IsNoProfile bytes.now }
+
+    // A text that is too long isn't read, and so asks for no memory.
+    ensures too_long { MOST_BYTES < length bytes.now → result ≡ Err ProfileFault.Refused }
+{
+    if bytes.len() > MOST_BYTES {
+        return Err(ProfileFault::Refused);
+    }
+    match table_from_slice(alloc, bytes) {
+        Ok(table) => profile_of(&table).ok_or(ProfileFault::Refused),
+        Err(error) if error.is_memory() => Err(ProfileFault::Memory),
+        Err(_) => Err(ProfileFault::Refused),
+    }
+}
+
+/// The profile that a table says.
+fn profile_of(table: &Table) -> Option<Profile>
+    ensures some { IfSome result (SaysProfile (table_view table.now)) }
+    ensures none { IsNone result → HoldsOfNone (SaysProfile (table_view table.now)) }
+{
+    if size(table) != 4 {
+        return None;
+    }
+    let timing = read_timing(inner(table, "timing")?)?;
+    let geometry = read_geometry(inner(table, "geometry")?)?;
+    let costs = read_costs(inner(table, "costs")?)?;
+    let (sizes, map) = read_module(inner(table, "module")?)?;
+    match timing.check(&geometry) {
+        Ok(checked) => Some(Profile {
+            checked,
+            costs,
+            sizes,
+            map,
+        }),
+        Err(_) => None,
+    }
+}

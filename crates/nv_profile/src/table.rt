@@ -1,0 +1,55 @@
+// What a table of a profile has under a key.
+ghost use Rattle.std.specs.Prelude.{◌≡◌, option_map, IfSome, IsNone};
+ghost use Rattle.toml.specs.Data.{get_member};
+ghost use Rattle.toml.specs.View.{view, table_view};
+ghost use Rattle.nv_profile.specs.Nothing.{HoldsOfNone};
+ghost use Rattle.nv_profile.specs.Tables.{size_of, number_at, HasNumber, word_at, table_at};
+
+use toml::{Table, Value};
+
+/// How many keys the table has.
+pub(crate) fn size(table: &Table) -> usize
+    ensures { result ≡ size_of (table_view table.now) }
+{
+    table.len()
+}
+
+// The value under the key.
+fn at<'a>(table: &'a Table, key: &str) -> Option<&'a Value>
+    ensures { option_map (λ v. view v.now) result ≡ get_member key.now (table_view table.now) }
+{
+    table.get(key)
+}
+
+/// The number under the key, where a whole number stands there.
+pub(crate) fn number(table: &Table, key: &str) -> Option<u64>
+    ensures { result ≡ number_at key.now (table_view table.now) }
+{
+    let number = at(table, key)?.as_integer()?;
+    u64::try_from(number).ok()
+}
+
+/// The number under the key, where a whole number from `least` to `most` stands there.
+pub(crate) fn number_within(table: &Table, key: &str, least: u64, most: u64) -> Option<u64>
+    ensures some { IfSome result (HasNumber key.now (table_view table.now) least most) }
+    ensures none { IsNone result → HoldsOfNone (HasNumber key.now (table_view table.now) least most) }
+{
+    match number(table, key) {
+        Some(number) if least <= number && number <= most => Some(number),
+        _ => None,
+    }
+}
+
+/// The text under the key, where a text stands there.
+pub(crate) fn word<'a>(table: &'a Table, key: &str) -> Option<&'a str>
+    ensures { option_map (λ w. w.now) result ≡ word_at key.now (table_view table.now) }
+{
+    at(table, key)?.as_str()
+}
+
+/// The table under the key, where a table stands there.
+pub(crate) fn inner<'a>(table: &'a Table, key: &str) -> Option<&'a Table>
+    ensures { option_map (λ t. table_view t.now) result ≡ table_at key.now (table_view table.now) }
+{
+    at(table, key)?.as_table()
+}

@@ -1,0 +1,18 @@
+//! The language of scripts: the lines that the program reads, and the lines that it answers.
+//!
+//! A script has up to 4,096 lines of up to 256 bytes of UTF-8, each with a newline behind it, which the last may lack. Words
+//! are separated by spaces. `read_script` gives its lines as values, an `Answer` is shown as the line that it is answered by.
+#![tactic(auto)]
+
+mod answer;
+mod line;
+mod reading;
+mod refusal;
+#[cfg(test)]
+mod tests;
+mod word;
+
+pub use answer::{Answer, Loss};
+pub use line::{ScriptLine, Verb};
+pub use reading::{SCRIPT_BYTES, ScriptFault, read_script};
+pub use refusal::{ReadRefusal, WriteRefusal};

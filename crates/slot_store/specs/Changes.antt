@@ -1,0 +1,44 @@
+-- What the steps of a save change.
+use Rattle.std.specs.Prelude.{◌≡◌, Bool, true, false, not, ℕ, ◌+◌, ◌*◌, if◌then◌else◌, List, [], ◌∷◌, drop}
+use Rattle.save_device.specs.Changes.{Change, Put, Settle}
+use Rattle.save_image.specs.Header.{header, arm_byte}
+use Rattle.save_image.specs.Body.{page_of}
+use Rattle.slot_store.specs.declared.plan.Plan.{Plan}
+use Rattle.slot_store.specs.declared.plan.Step.{Step}
+use Rattle.slot_store.specs.declared.plan.Step.TheVariants.{Close, SyncClosed, Header, Page, SyncBody, Open, SyncOpen, Done}
+use Rattle.slot_store.specs.Slots.{start_of}
+
+-- where the gate of the slot lies
+abbrev pub gate_of : Plan → ℕ
+gate_of plan = start_of plan.lines plan.slot
+
+-- the header of the image that is saved, with this byte as its gate
+abbrev pub planned : Plan → ℕ → List ℕ
+planned plan gate = header gate (arm_byte plan.armed) plan.generation plan.count plan.lines
+
+-- What a step changes. The gate is closed, in place of a write by a sync where it is known closed and settled; then come
+-- the header but for the gate, the pages, and the open gate.
+abbrev pub change_of : Plan → Step → List ℕ → Change
+change_of plan Close page = if plan.closed then Settle else Put (gate_of plan) (0 ∷ [])
+change_of plan SyncClosed page = Settle
+change_of plan Header page = Put (gate_of plan + 1) (drop 1 (planned plan 0))
+change_of plan (Page k) page = Put (gate_of plan + 4096 + 4096 * k) page
+change_of plan SyncBody page = Settle
+change_of plan Open page = Put (gate_of plan) (0xA5 ∷ [])
+change_of plan SyncOpen page = Settle
+change_of plan Done page = Settle
+
+-- Whether the gate of the slot counts as closed where the save is given up before this step, which was tried and failed or
+-- wasn't: at first where it did before, and then until the gate's opening was tried.
+abbrev pub closed_before : Plan → Step → Bool → Bool
+closed_before plan Close tried = plan.closed
+closed_before plan SyncClosed tried = plan.closed
+closed_before plan Open tried = not tried
+closed_before plan SyncOpen tried = false
+closed_before plan Done tried = false
+closed_before plan step tried = true
+
+-- a page step is given its page of this memory
+abbrev pub GivesPage : List (List ℕ) → Step → List ℕ → Type 0
+GivesPage memory (Page k) page = page ≡ page_of k memory
+GivesPage memory step page = Unit {0}
