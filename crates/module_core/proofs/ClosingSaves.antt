@@ -199,7 +199,7 @@ module _ (lines : ℕ) (costs : Costs) (s : Store) (made : Image) (before : Devi
     call_is good old new told =
         let run : SaveRun = the_run_is.0 in let v = the_run_is.2 in
         let kind : step_call (plan_of run).closed (next_of run) ≡ step_call s.closed step_is =
-            ap (step_call (plan_of run).closed) v.next ∙ same_call (plan_of run) (store_at i).closed step_is v.shut ∙ same_gate s made step_is (store_at i) (stage_at lines s made i) in
+        ap (step_call (plan_of run).closed) v.next ∙ same_call (plan_of run) (store_at i).closed step_is v.shut ∙ same_gate s made step_is (store_at i) (stage_at lines s made i) in
         subst (λ (k : CallKind). MakesCalls (k ∷ []) good old new) kind (told run the_run_is.1)
 
     -- a payment was refused

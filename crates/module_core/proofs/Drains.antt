@@ -101,9 +101,9 @@ module _ (i : ℕ) (old mid new : ChannelsView) (before at later : Gauge) (so_fa
   pays_next result next =
       let paid : List Action = flat_map drain_actions (pending_each old.shape.channel_of i old.waits.writes) in
       let these : PaysInTurn old.shape.costs (drain_actions (writes_on old.shape.channel_of i old.waits.writes)) at result later =
-          subst (λ (n : ℕ). PaysInTurn old.shape.costs (drain_actions n) at result later) due next.pays in
+      subst (λ (n : ℕ). PaysInTurn old.shape.costs (drain_actions n) at result later) due next.pays in
       subst (λ (xs : List Action). PaysInTurn old.shape.costs xs before result later) (sym (paid_next old.shape.channel_of i old.waits.writes))
-          (pays_append old.shape.costs paid (drain_actions (writes_on old.shape.channel_of i old.waits.writes)) before at result later so_far.pays these)
+      (pays_append old.shape.costs paid (drain_actions (writes_on old.shape.channel_of i old.waits.writes)) before at result later so_far.pays these)
 
   pub drained_next : DrainsNext old.shape.costs i (Ok tt) mid at new later → new.drained ≡ Some (i + 1) → DrainedTo old.shape.costs (i + 1) old before new later
   drained_next next turn = record {
@@ -125,9 +125,9 @@ module _ (i : ℕ) (old mid new : ChannelsView) (before at later : Gauge) (so_fa
         let left : old.shape.channels ≡ old.shape.channels - (i + 1) + (i + 1) = omega (arith, below) in
         let further = more_each channel_of (old.shape.channels - (i + 1)) (i + 1) old.shape.channels writes left in
         let all : flat_map drain_actions (pending_each channel_of old.shape.channels writes) ≡ first ++ flat_map drain_actions further.0 =
-            ap (flat_map drain_actions) further.1 ∙ flat_map-append drain_actions (pending_each channel_of (i + 1) writes) further.0 in
+        ap (flat_map drain_actions) further.1 ∙ flat_map-append drain_actions (pending_each channel_of (i + 1) writes) further.0 in
         subst (λ (xs : List Action). PaysInTurn old.shape.costs xs before (Err dark) later) (sym all)
-            (pays_front old.shape.costs first (flat_map drain_actions further.0) before later dark (pays_next (Err dark) next));
+        (pays_front old.shape.costs first (flat_map drain_actions further.0) before later dark (pays_next (Err dark) next));
     rest = rest_next (Err dark) next;
     remain = remain_next (Err dark) next;
     dry = tt;

@@ -120,9 +120,9 @@ is_disarmed modes.Saved a b c = absurd (let bad : ⊥ = cc in bad)
 pub arms_where : (m : Machine) → is_armed m.mode ≡ false → arm_refusal m.mode (saves_of m) ≡ None → Arms m
 arms_where m off is =
     let chain : (if has_ended m.mode then Some refusals.Closed else if is_disarming m.mode then Some refusals.Disarming else if (saves_of m).is_running then Some refusals.SaveRunning
-      else if (saves_of m).is_unsettled then Some refusals.Unsettled else if (saves_of m).is_spent then Some refusals.Spent else None) ≡ None =
+    else if (saves_of m).is_unsettled then Some refusals.Unsettled else if (saves_of m).is_spent then Some refusals.Spent else None) ≡ None =
     subst (λ (b : Bool). (if b then None else if has_ended m.mode then Some refusals.Closed else if is_disarming m.mode then Some refusals.Disarming else if (saves_of m).is_running then Some refusals.SaveRunning
-      else if (saves_of m).is_unsettled then Some refusals.Unsettled else if (saves_of m).is_spent then Some refusals.Spent else None) ≡ None) off is in
+    else if (saves_of m).is_unsettled then Some refusals.Unsettled else if (saves_of m).is_spent then Some refusals.Spent else None) ≡ None) off is in
     let second = rest_of (has_ended m.mode) _ _ chain in let third = rest_of (is_disarming m.mode) _ _ second in let fourth = rest_of ((saves_of m).is_running) _ _ third in
     record {
       disarmed = is_disarmed m.mode off (unless (has_ended m.mode) _ _ chain) (unless (is_disarming m.mode) _ _ second);

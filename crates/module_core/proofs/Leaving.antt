@@ -92,7 +92,7 @@ left_within reply old new unmarked guarded later c outcome either =
     ⊎_elim
     (λ was. left_before reply old new guarded outcome was among)
     (λ is. let later_found : Recovers new (HasCause new) outcome = recovers new later outcome is in
-      let r : LeftWithin reply old new outcome = record { among = among; recovers = earlier reply old new c outcome later_found } in r)
+    let r : LeftWithin reply old new outcome = record { among = among; recovers = earlier reply old new c outcome later_found } in r)
     either
 
 -- a stop within an arm call: the newest image has any arm byte

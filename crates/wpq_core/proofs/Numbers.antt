@@ -17,12 +17,14 @@ NumbersRise-one writes i j v w rise s t same = elim (cases_order i j) [
 pub above-last : (writes : List PendingWrite) (last : PendingWrite) → NumbersRise writes → slice_get writes (length writes - 1) ≡ Some last → (m : ℕ) → ComeBefore m writes ↔ (last.number + 1 ≤ m)
 above-last writes last rise at m = (
   λ before. omega (arith, before.each (length writes - 1) last at),
-  λ above. record { each = λ i v here. elim (cases_order i (length writes - 1)) [
-    | inl e ↦
-        let there : slice_get writes (length writes - 1) ≡ Some v = subst (λ (n : ℕ). slice_get writes n ≡ Some v) e here in
-        let same : v ≡ last = cc in
-        omega (arith, above, ap (λ (w : PendingWrite). w.number) same)
-    | inr (inl less) ↦ omega (arith, above, rise i (length writes - 1) v last less here at)
-    | inr (inr more) ↦ absurd (omega (arith, more, slice_get_within writes i v here))
-  ] },
+  λ above. record {
+    each = λ i v here. elim (cases_order i (length writes - 1)) [
+      | inl e ↦
+          let there : slice_get writes (length writes - 1) ≡ Some v = subst (λ (n : ℕ). slice_get writes n ≡ Some v) e here in
+          let same : v ≡ last = cc in
+          omega (arith, above, ap (λ (w : PendingWrite). w.number) same)
+      | inr (inl less) ↦ omega (arith, above, rise i (length writes - 1) v last less here at)
+      | inr (inr more) ↦ absurd (omega (arith, more, slice_get_within writes i v here))
+    ];
+  },
 )

@@ -36,10 +36,10 @@ returns-in_err-drain-clause-drains g c =
     let old = C.view c.args.channels.now in let mid = C.view c.loop-channel.channels in let new = C.view c.drain.new.self in
     let before = E.gauge c.args.energy.now in let at = E.gauge c.loop-channel.energy in let later = E.gauge c.drain.new.energy in
     let next : DrainsNext old.shape.costs i (Err c.in_err-drain.field-0.0) mid at new later =
-        subst (λ (costs : Costs). DrainsNext costs i (Err c.in_err-drain.field-0.0) mid at new later) c.requires.costs (record { pays = told.pays; drains = told.drains; rest = told.rest }) in
+    subst (λ (costs : Costs). DrainsNext costs i (Err c.in_err-drain.field-0.0) mid at new later) c.requires.costs (record { pays = told.pays; drains = told.drains; rest = told.rest }) in
     let below : i < old.shape.channels = omega (arith, inv.end, c.loop-channel-test.true) in
     on_dark c.from_residual.result (λ (result : Paid). DrainsAll old before result new later) c.in_err-drain.field-0.0 c.from_residual.ensures.0
-        (drain_refused i old mid new before at later inv.drained c.in_err-drain.field-0.0 below next)
+    (drain_refused i old mid new before at later inv.drained c.in_err-drain.field-0.0 below next)
 
 pub returns-in_err-drain-clause-keeps : goal.returns-in_err-drain-clause-keeps
 returns-in_err-drain-clause-keeps g c = λ base start writes carries. c.drain.ensures.keeps base start writes (c.loop-channel.invariant.keeps base start writes carries)
@@ -50,7 +50,7 @@ loop-channel-preserved g c =
     let old = C.view c.args.channels.now in let mid = C.view c.loop-channel.channels in let new = C.view c.drain.new.self in
     let before = E.gauge c.args.energy.now in let at = E.gauge c.loop-channel.energy in let later = E.gauge c.drain.new.energy in
     let next : DrainsNext old.shape.costs i (Ok tt) mid at new later =
-        subst (λ (costs : Costs). DrainsNext costs i (Ok tt) mid at new later) c.requires.costs (record { pays = told.pays; drains = told.drains; rest = told.rest }) in
+    subst (λ (costs : Costs). DrainsNext costs i (Ok tt) mid at new later) c.requires.costs (record { pays = told.pays; drains = told.drains; rest = told.rest }) in
     record {
       drained = drained_next i old mid new before at later inv.drained next told.drained;
       end = inv.end;

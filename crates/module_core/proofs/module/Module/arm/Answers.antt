@@ -106,8 +106,8 @@ returns-in_default-mark_armed-clause-answers g c = λ m stands.
     })
     (holds_none lines n.store device' n.store.saving old.saves.saving a.idle h.saving later_rest) tt
     (weaker device device' (λ image left guarded.
-        left_marking (replies.Arm (Err refusals.Device)) m n refl (calm_disarmed m a.disarmed (stands.guarded.running running)) stands.guarded (restored lines image)
-        (any_arm_in m (restored lines image) (subst (λ (x : Slot). IsAmong (with_any_arm x (newest_of m)) (restored lines image)) h.knows.slot left)))
+    left_marking (replies.Arm (Err refusals.Device)) m n refl (calm_disarmed m a.disarmed (stands.guarded.running running)) stands.guarded (restored lines image)
+    (any_arm_in m (restored lines image) (subst (λ (x : Slot). IsAmong (with_any_arm x (newest_of m)) (restored lines image)) h.knows.slot left)))
     (c.mark_armed.ensures.any_moment (newest_of m) lines m.store.closed alone_there))
 
 pub returns-in_default-mark_armed-clause-size : goal.returns-in_default-mark_armed-clause-size
@@ -149,6 +149,6 @@ returns-clause-answers g c = λ m stands.
     })
     (holds_none lines n.store device' n.store.saving old.saves.saving a.idle h.saving later_rest) tt
     (weaker device device' (λ image left guarded.
-        left_marking (replies.Arm (Ok arm.Armed)) m n refl (calm_disarmed m a.disarmed (stands.guarded.running running)) stands.guarded (restored lines image)
-        (any_arm_in m (restored lines image) (subst (λ (x : Slot). IsAmong (with_any_arm x (newest_of m)) (restored lines image)) h.knows.slot left)))
+    left_marking (replies.Arm (Ok arm.Armed)) m n refl (calm_disarmed m a.disarmed (stands.guarded.running running)) stands.guarded (restored lines image)
+    (any_arm_in m (restored lines image) (subst (λ (x : Slot). IsAmong (with_any_arm x (newest_of m)) (restored lines image)) h.knows.slot left)))
     (c.mark_armed.ensures.any_moment (newest_of m) lines m.store.closed alone_there))

@@ -95,6 +95,6 @@ returns-clause-answers g c = λ m stands.
     asked L events.SaveStep (replies.SaveStep c.make_step.result) old c.make_step.new.self device device' before later (c.make_step.ensures.setup ∙ c.take_reading.ensures.setup) m stands n step made.2
     (subst (λ (k : ℕ). Holds k n.store c.make_step.new.self.saves.saving device') same made.3.holds) tt
     (weaker device device' (λ image either guarded.
-        left_within (replies.SaveStep c.make_step.result) m n refl stands.guarded guarded (continues_save_step setup c.make_step.result oldw neww step stands.guarded) (restored old.lines image)
-        (subst (λ (k : ℕ). IsAmong m.store.maybe (restored k image) ⊎ IsAmong n.store.maybe (restored k image)) same either))
+    left_within (replies.SaveStep c.make_step.result) m n refl stands.guarded guarded (continues_save_step setup c.make_step.result oldw neww step stands.guarded) (restored old.lines image)
+    (subst (λ (k : ℕ). IsAmong m.store.maybe (restored k image) ⊎ IsAmong n.store.maybe (restored k image)) same either))
     made.3.moments)

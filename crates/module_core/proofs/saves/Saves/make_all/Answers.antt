@@ -71,9 +71,9 @@ returns-in_default-step-clause-saves g c = λ s made ready same.
     let cost : c.cost.result ≡ cost_of costs (action_of (step_is lines costs s made old first some pages i saves device at r)) = c.cost.ensures.value ∙ ap (cost_of costs) c.action_of.ensures ∙ ap (λ (x : Step). cost_of costs (action_of x)) told in
     let later : Gauge = E.gauge c.pay.new.self in let device' : DeviceState = S.state c.step.new.device in
     ends_fault lines costs s made old first some pages i saves device at r later (subst (λ (k : ℕ). PaysCost at k (Ok tt) later) cost c.in-Ok.ensures) c.step.new.self device'
-        (c.in_default-step.ensures.makes lines (running (Some (save_at lines costs s made old first i)) (store_at lines costs s made old first i)) (save_at lines costs s made old first i)
-        (ready_step lines costs s made old first some pages i saves device at r (g.C.Channels.view c.args.channels.now).array c.in-Some.step c.page_for-page.result same told c.page_for-page.ensures))
-        (call_is lines costs s made old first some pages i saves device at r false device.calls device'.calls c.in_default-step.ensures.call)
+    (c.in_default-step.ensures.makes lines (running (Some (save_at lines costs s made old first i)) (store_at lines costs s made old first i)) (save_at lines costs s made old first i)
+    (ready_step lines costs s made old first some pages i saves device at r (g.C.Channels.view c.args.channels.now).array c.in-Some.step c.page_for-page.result same told c.page_for-page.ensures))
+    (call_is lines costs s made old first some pages i saves device at r false device.calls device'.calls c.in_default-step.ensures.call)
 
 pub returns-in_default-step-clause-size : goal.returns-in_default-step-clause-size
 returns-in_default-step-clause-size g c = c.step.ensures.size (g.C.Channels.view c.args.channels.now).shape.lines c.loop-done.invariant.size
@@ -82,19 +82,19 @@ pub loop-done-preserved : goal.loop-done-preserved
 loop-done-preserved g c =
     record {
       closed = λ s made ready same.
-    let S = g.D.SaveDevice in let E = g.E.Energy in let lines : ℕ = (g.C.Channels.view c.args.channels.now).shape.lines in let costs : Costs = c.args.costs.now in let i : ℕ = c.loop-done._done in
-    let old : DeviceState = S.state c.args.device.now in let device : DeviceState = S.state c.loop-done.device in let first : Gauge = E.gauge c.args.energy.now in let at : Gauge = E.gauge c.loop-done.energy in
-    let saves : Saves = c.loop-done.self in
-    let pages : lines ≡ 64 * costs.pages = c.requires.shape.pages ∙ ap (λ (x : Costs). 64 * x.pages) (sym c.requires.costs) in
-    let some : 1 ≤ costs.pages = omega (arith, pages, c.requires.shape.some) in
-    let r : Running lines costs s made old first i saves device at = runs_on lines costs s made old first i saves device at c.in-Some.step (c.loop-done.invariant.closed s made ready same) (sym c.next.ensures.is ∙ c.in-Some.is) in
-    let told : c.in-Some.step ≡ step_is lines costs s made old first some pages i saves device at r = comes lines costs s made old first some pages i saves device at r c.in-Some.step (sym c.next.ensures.is ∙ c.in-Some.is) in
-    let cost : c.cost.result ≡ cost_of costs (action_of (step_is lines costs s made old first some pages i saves device at r)) = c.cost.ensures.value ∙ ap (cost_of costs) c.action_of.ensures ∙ ap (λ (x : Step). cost_of costs (action_of x)) told in
-    let later : Gauge = E.gauge c.pay.new.self in let device' : DeviceState = S.state c.step.new.device in
-    goes_on lines costs s made old first some pages i saves device at r later (subst (λ (k : ℕ). PaysCost at k (Ok tt) later) cost c.in-Ok.ensures) c.step.new.self device'
-        (c.in-Ok-step.ensures.makes lines (running (Some (save_at lines costs s made old first i)) (store_at lines costs s made old first i)) (save_at lines costs s made old first i)
-        (ready_step lines costs s made old first some pages i saves device at r (g.C.Channels.view c.args.channels.now).array c.in-Some.step c.page_for-page.result same told c.page_for-page.ensures))
-        (call_is lines costs s made old first some pages i saves device at r true device.calls device'.calls c.in-Ok-step.ensures.call);
+          let S = g.D.SaveDevice in let E = g.E.Energy in let lines : ℕ = (g.C.Channels.view c.args.channels.now).shape.lines in let costs : Costs = c.args.costs.now in let i : ℕ = c.loop-done._done in
+          let old : DeviceState = S.state c.args.device.now in let device : DeviceState = S.state c.loop-done.device in let first : Gauge = E.gauge c.args.energy.now in let at : Gauge = E.gauge c.loop-done.energy in
+          let saves : Saves = c.loop-done.self in
+          let pages : lines ≡ 64 * costs.pages = c.requires.shape.pages ∙ ap (λ (x : Costs). 64 * x.pages) (sym c.requires.costs) in
+          let some : 1 ≤ costs.pages = omega (arith, pages, c.requires.shape.some) in
+          let r : Running lines costs s made old first i saves device at = runs_on lines costs s made old first i saves device at c.in-Some.step (c.loop-done.invariant.closed s made ready same) (sym c.next.ensures.is ∙ c.in-Some.is) in
+          let told : c.in-Some.step ≡ step_is lines costs s made old first some pages i saves device at r = comes lines costs s made old first some pages i saves device at r c.in-Some.step (sym c.next.ensures.is ∙ c.in-Some.is) in
+          let cost : c.cost.result ≡ cost_of costs (action_of (step_is lines costs s made old first some pages i saves device at r)) = c.cost.ensures.value ∙ ap (cost_of costs) c.action_of.ensures ∙ ap (λ (x : Step). cost_of costs (action_of x)) told in
+          let later : Gauge = E.gauge c.pay.new.self in let device' : DeviceState = S.state c.step.new.device in
+          goes_on lines costs s made old first some pages i saves device at r later (subst (λ (k : ℕ). PaysCost at k (Ok tt) later) cost c.in-Ok.ensures) c.step.new.self device'
+          (c.in-Ok-step.ensures.makes lines (running (Some (save_at lines costs s made old first i)) (store_at lines costs s made old first i)) (save_at lines costs s made old first i)
+          (ready_step lines costs s made old first some pages i saves device at r (g.C.Channels.view c.args.channels.now).array c.in-Some.step c.page_for-page.result same told c.page_for-page.ensures))
+          (call_is lines costs s made old first some pages i saves device at r true device.calls device'.calls c.in-Ok-step.ensures.call);
       plan = c.step.ensures.lines (g.C.Channels.view c.args.channels.now).shape.lines c.loop-done.invariant.plan;
       size = c.step.ensures.size (g.C.Channels.view c.args.channels.now).shape.lines c.loop-done.invariant.size;
     }
