@@ -11,10 +11,9 @@ use Rattle.ddr4_timing.specs.Floors.{floor, least_clock}
 use Rattle.ddr4_timing.specs.Gaps.{most_gap}
 use Rattle.ddr4_timing.specs.Lawful.{AllClosed, IsLawful, last_ref}
 use Rattle.ddr4_timing.specs.Limits.{close_of}
-use Rattle.ddr4_timing.proofs.Bounds.{most_gap-PreAll}
+use Rattle.ddr4_timing.proofs.Bounds.{most_gap-PreAll, most_gap-close}
 use Rattle.ddr4_timing.proofs.FloorLemmas.{floor_push}
 use Rattle.frfcfs.specs.Margin.{row_time}
-use Rattle.frfcfs.proofs.refreshes.GapsToRefreshes.{most_gap-close}
 use Rattle.frfcfs.proofs.refreshes.RowsClosed.{closed_push, closed_after}
 use Rattle.drain_core.specs.Drain.{Progress, drain_start, with_next, next_clock, for_each_rank, rest_gap, rest_clock, after_rest, has_open_bank, close_rank, close_step_of}
 use Rattle.drain_core.specs.Standing.{Closes, AreAwake, CanDrain, IsBetweenSteps}
@@ -47,7 +46,7 @@ unfolding floor
 waits_at_first c list rank lawful =
     let row = row_time c.timing in
     let some = row_some c in
-    let each = greatest_above (λ a _. a.clock + most_gap c.timing a.cmd (PreAll rank)) (λ a. a.clock + 1) (row - 1) list (λ a _. wait_one a.clock (most_gap c.timing a.cmd (PreAll rank)) row some (most_gap-PreAll c.timing a.cmd rank)) in
+    let each = greatest_above (λ a _. a.clock + most_gap c.timing a.cmd (PreAll rank)) (λ a. a.clock + 1) (row - 1) list (λ a _. wait_one a.clock (most_gap c.timing a.cmd (PreAll rank)) row some (most_gap-PreAll c.timing a.cmd rank c.fits_faw)) in
     let latest = latest-le c list lawful in
     omega (arith, each, latest, some)
 

@@ -11,11 +11,10 @@ use Rattle.ddr4_timing.specs.Floors.{floor, least_clock}
 use Rattle.ddr4_timing.specs.Lawful.{IsLawful, row_after, open_row, last_ref}
 use Rattle.ddr4_timing.specs.Limits.{entry_of}
 use Rattle.ddr4_timing.specs.Places.{HasBank, LiesIn, bank_at}
-use Rattle.ddr4_timing.proofs.Bounds.{gap-act_wr, gap-act_pre, gap-wr_pre}
 use Rattle.ddr4_timing.proofs.FloorLemmas.{floor_push, open_row_push}
 use Rattle.drain_core.specs.Drain.{Progress, drain_start, with_next, next_clock, rest_clock, after_rest, entry_step_of, after_refreshes}
 use Rattle.drain_core.specs.Standing.{Enters, AreAwake, AreClosed, IsBetweenSteps}
-use Rattle.drain_core.proofs.Gaps.{eqb-same}
+use Rattle.drain_core.proofs.Gaps.{eqb-same, gap-act_wr, gap-act_pre, gap-wr_pre}
 use Rattle.drain_core.proofs.LawfulLists.{drain_start_push}
 use Rattle.drain_core.proofs.Settling.{settle_clock, settle_clock-le, rest_clock_push}
 use Rattle.drain_core.proofs.Rested.{least-Act, floor-Wr, floor-Pre}

@@ -10,9 +10,9 @@ use Rattle.ddr4_timing.specs.declared.timing.Checked.{Checked}
 use Rattle.ddr4_timing.specs.Floors.{floor, least_clock}
 use Rattle.ddr4_timing.specs.Lawful.{IsLawful, last_ref, ref_count}
 use Rattle.ddr4_timing.specs.Limits.{entry_of, close_of}
+use Rattle.ddr4_timing.proofs.Bounds.{most_gap-Ref_other}
 use Rattle.ddr4_timing.proofs.FloorLemmas.{floor_push}
 use Rattle.bank_core.proofs.Refreshes.{refreshes_keep_pace}
-use Rattle.frfcfs.proofs.refreshes.GapsToRefreshes.{most_gap-Ref_other}
 use Rattle.frfcfs.proofs.refreshes.RefreshCounts.{ref_of_other, count_same, last_same, last_next}
 use Rattle.frfcfs.proofs.refreshes.RowsClosed.{closed_push}
 use Rattle.drain_core.specs.Drain.{Progress, drain_start, with_next, next_clock, for_each_rank, rest_clock, after_rest, owes_refresh, refresh_rank, after_refreshes}
