@@ -41,6 +41,10 @@ pub record PaysCost (old : Gauge) (cost : ℕ) (result : Result (Unit {0}) Dark)
   pub dark : OnErr result (new.darks ≡ old.darks + 1)
   pub called : new.calls ≡ old.calls + 1
 
+-- no fault that was counted is forgotten
+abbrev pub KeepsFaults : Gauge → Gauge → Type 0
+KeepsFaults old new = old.faults ≤ new.faults
+
 -- Through a call, or through several of them, the gauge is honest: it counts no fault, and its own leak isn't above the one that
 -- costs are reckoned with.
 pub record IsHonestThrough (leak : ℕ) (old new : Gauge) : Type 0 where

@@ -1,6 +1,6 @@
 // What the sums say in other words.
 ghost use Rattle.std.specs.Prelude.{◌≡◌, ℕ, ◌≤◌, ◌+◌, ◌*◌, List, ◌∷◌, ◌++◌, length, sum, Result, IsOk};
-ghost use Rattle.energy_budget.specs.Gauge.{Gauge, ReadsLevel, PaysCost, IsHonestThrough};
+ghost use Rattle.energy_budget.specs.Gauge.{Gauge, ReadsLevel, PaysCost, KeepsFaults, IsHonestThrough};
 ghost use Rattle.energy_budget.specs.declared.action.Action.{Action};
 ghost use Rattle.energy_budget.specs.declared.energy.Dark.{Dark};
 ghost use Rattle.energy_budget.specs.declared.costs.Costs.{Costs};
@@ -106,8 +106,8 @@ pub fn honest_payments()
 /// A gauge that is honest through calls, none of which lowers its count of faults, is honest through the first and the last
 /// of them.
 pub fn honest_by_parts()
-    ensures first { (leak : ℕ) (old mid new : Gauge) → old.faults ≤ mid.faults → mid.faults ≤ new.faults
+    ensures first { (leak : ℕ) (old mid new : Gauge) → KeepsFaults old mid → KeepsFaults mid new
         → IsHonestThrough leak old new → IsHonestThrough leak old mid }
-    ensures last { (leak : ℕ) (old mid new : Gauge) → old.faults ≤ mid.faults → mid.faults ≤ new.faults
+    ensures last { (leak : ℕ) (old mid new : Gauge) → KeepsFaults old mid → KeepsFaults mid new
         → mid.leak ≡ old.leak → IsHonestThrough leak old new → IsHonestThrough leak mid new }
 {}

@@ -1,6 +1,7 @@
 -- What a TOML table has under a key.
 use Rattle.std.specs.Prelude.{◌≡◌, ℕ, ◌+◌, ◌≤◌, List, ℤ, pos, negsuc, Option, Some, None, option_and_then}
 use Rattle.toml.specs.Data.{Members, no_members, member, get_member, as_str, as_table, as_integer}
+use Rattle.nv_profile.specs.Nothing.{HoldsOfNone}
 
 -- how many keys it has
 abbrev pub size_of : Members → ℕ
@@ -19,6 +20,10 @@ number_at key table = option_and_then natural (option_and_then as_integer (get_m
 -- a whole number from the least to the most stands under the key
 abbrev pub HasNumber : List ℕ → Members → ℕ → ℕ → ℕ → Type 0
 HasNumber key table least most n = (number_at key table ≡ Some n) × (least ≤ n) × (n ≤ most)
+
+-- none does
+abbrev pub HasNoNumber : List ℕ → Members → ℕ → ℕ → Type 0
+HasNoNumber key table least most = HoldsOfNone (HasNumber key table least most)
 
 -- the text under the key
 abbrev pub word_at : List ℕ → Members → Option (List ℕ)

@@ -2,7 +2,7 @@
 ghost use Rattle.std.specs.Prelude.{IfSome, IsNone};
 ghost use Rattle.toml.specs.View.{table_view};
 ghost use Rattle.nv_profile.specs.Nothing.{HoldsOfNone};
-ghost use Rattle.nv_profile.specs.Tables.{HasNumber};
+ghost use Rattle.nv_profile.specs.Tables.{HasNumber, HasNoNumber};
 ghost use Rattle.nv_profile.specs.Profile.{SaysCosts};
 
 use crate::table::{number_within, size};
@@ -15,7 +15,7 @@ const MOST_COST: u64 = 1_000_000;
 /// The cost under a key.
 fn cost(table: &Table, key: &str) -> Option<u64>
     ensures some { IfSome result (HasNumber key.now (table_view table.now) 0 MOST_COST) }
-    ensures none { IsNone result → HoldsOfNone (HasNumber key.now (table_view table.now) 0 MOST_COST) }
+    ensures none { IsNone result → HasNoNumber key.now (table_view table.now) 0 MOST_COST }
 {
     number_within(table, key, 0, MOST_COST)
 }

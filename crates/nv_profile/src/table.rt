@@ -2,8 +2,7 @@
 ghost use Rattle.std.specs.Prelude.{◌≡◌, option_map, IfSome, IsNone};
 ghost use Rattle.toml.specs.Data.{get_member};
 ghost use Rattle.toml.specs.View.{view, table_view};
-ghost use Rattle.nv_profile.specs.Nothing.{HoldsOfNone};
-ghost use Rattle.nv_profile.specs.Tables.{size_of, number_at, HasNumber, word_at, table_at};
+ghost use Rattle.nv_profile.specs.Tables.{size_of, number_at, HasNumber, HasNoNumber, word_at, table_at};
 
 use toml::{Table, Value};
 
@@ -32,7 +31,7 @@ pub(crate) fn number(table: &Table, key: &str) -> Option<u64>
 /// The number under the key, where a whole number from `least` to `most` stands there.
 pub(crate) fn number_within(table: &Table, key: &str, least: u64, most: u64) -> Option<u64>
     ensures some { IfSome result (HasNumber key.now (table_view table.now) least most) }
-    ensures none { IsNone result → HoldsOfNone (HasNumber key.now (table_view table.now) least most) }
+    ensures none { IsNone result → HasNoNumber key.now (table_view table.now) least most }
 {
     match number(table, key) {
         Some(number) if least <= number && number <= most => Some(number),

@@ -2,6 +2,7 @@
 ghost use Rattle.std.specs.Prelude.{◌≡◌, ◌≢◌, ◌<◌, Err, All, IfOk};
 ghost use Rattle.std.specs.Option.{ForSome};
 ghost use Rattle.nv_script.specs.declared.reading.ScriptFault.TheVariants.{Memory};
+ghost use Rattle.ddr4_timing.specs.declared.timing.Geometry.{Geometry};
 ghost use Rattle.nv_script.specs.Line.{NamesChannelOf, IsLineFor};
 
 use crate::line::{ScriptLine, Verb};
@@ -136,7 +137,7 @@ fn line_of(words: &[&str], geometry: &Geometry) -> Result<ScriptLine, BadWord>
     ensures { IfOk result (NamesChannelOf geometry.now) }
 {
     let line = match words {
-        ["format"] => ScriptLine::Format,
+        [verb] => bare_line(verb)?,
         ["write", line, data] => ScriptLine::Write(Write {
             line: number(line)?,
             data: [byte(data)?; 64],
@@ -151,21 +152,12 @@ fn line_of(words: &[&str], geometry: &Geometry) -> Result<ScriptLine, BadWord>
         ["sense", level] => ScriptLine::Sense {
             level: number(level)?,
         },
-        ["arm"] => ScriptLine::Arm,
-        ["disarm"] => ScriptLine::Disarm,
-        ["save"] => ScriptLine::Save,
-        ["step"] => ScriptLine::Step,
-        ["lose"] => ScriptLine::Lose,
         ["lie", units] => ScriptLine::Lie {
             units: number(units)?,
         },
         ["fuse", "off"] => ScriptLine::Fuse { calls: None },
         ["fuse", calls] => ScriptLine::Fuse {
             calls: Some(number(calls)?),
-        },
-        ["restore"] => ScriptLine::Restore {
-            pick: None,
-            map: None,
         },
         ["restore", word] => ScriptLine::Restore {
             pick: Some(pick(word)?),
@@ -175,10 +167,29 @@ fn line_of(words: &[&str], geometry: &Geometry) -> Result<ScriptLine, BadWord>
             pick: Some(pick(word)?),
             map: Some(MapWord::named(map).ok_or(BadWord)?),
         },
-        ["mark"] => ScriptLine::Mark,
         _ => return Err(BadWord),
     };
     Ok(line)
+}
+
+// The value of a line of one word.
+fn bare_line(verb: &str) -> Result<ScriptLine, BadWord>
+    ensures { (geometry : Geometry) → IfOk result (NamesChannelOf geometry) }
+{
+    match verb {
+        "format" => Ok(ScriptLine::Format),
+        "arm" => Ok(ScriptLine::Arm),
+        "disarm" => Ok(ScriptLine::Disarm),
+        "save" => Ok(ScriptLine::Save),
+        "step" => Ok(ScriptLine::Step),
+        "lose" => Ok(ScriptLine::Lose),
+        "restore" => Ok(ScriptLine::Restore {
+            pick: None,
+            map: None,
+        }),
+        "mark" => Ok(ScriptLine::Mark),
+        _ => Err(BadWord),
+    }
 }
 
 // A channel that is there.
