@@ -15,11 +15,12 @@ use Rattle.ddr4_timing.proofs.Bounds.{most_gap-PreAll, most_gap-close}
 use Rattle.ddr4_timing.proofs.FloorLemmas.{floor_push}
 use Rattle.frfcfs.specs.Margin.{row_time}
 use Rattle.frfcfs.proofs.refreshes.RowsClosed.{closed_push, closed_after}
-use Rattle.drain_core.specs.Drain.{Progress, drain_start, with_next, next_clock, for_each_rank, rest_gap, rest_clock, after_rest, has_open_bank, close_rank, close_step_of}
-use Rattle.drain_core.specs.Standing.{Closes, AreAwake, CanDrain, IsBetweenSteps}
+use Rattle.drain_core.specs.Drain.{Progress, drain_start, with_earliest, next_clock, for_each_rank, rest_gap, rest_clock, after_rest, has_open_bank, close_rank, close_step_of}
+use Rattle.chan_core.specs.Phases.{AreAwake}
+use Rattle.drain_core.specs.Standing.{AfterClose, CanDrain, IsBetweenSteps}
 use Rattle.drain_core.proofs.LawfulLists.{greatest_above, drain_start_push, latest-le}
 use Rattle.drain_core.proofs.Settling.{rest_clock_push}
-use Rattle.drain_core.proofs.OneCommand.{MayGo, with_next-lawful, awake_next, last_ref-calm, has_open_bank-false, has_open_bank-true}
+use Rattle.drain_core.proofs.OneCommand.{MayGo, with_earliest-lawful, awake_next, last_ref-calm, has_open_bank-false, has_open_bank-true}
 
 -- So many ranks were seen to.
 pub record IsClosing (c : Checked) (first : List Stamped) (ranks : ℕ) (p : Progress) : Type 0 where
@@ -136,14 +137,14 @@ next_waits floor k gap s row j h l g = omega arith
 left_of_max : (a b : ℕ) → a ≤ max a b
 left_of_max a b = omega arith
 
-closing_open : (c : Checked) (first : List Stamped) (rank : ℕ) (p : Progress) → MayGo c p (PreAll rank) → IsClosing c first rank p → IsClosing c first (rank + 1) (with_next c.timing (PreAll rank) p)
-unfolding with_next
+closing_open : (c : Checked) (first : List Stamped) (rank : ℕ) (p : Progress) → MayGo c p (PreAll rank) → IsClosing c first rank p → IsClosing c first (rank + 1) (with_earliest c.timing (PreAll rank) p)
+unfolding with_earliest
 closing_open c first rank p may i =
     let t = c.timing in
     let k = next_clock t (PreAll rank) p in
     let x : Stamped = record { clock = k; cmd = PreAll rank } in
     let at = close_clock-le c first rank p i in record {
-      lawful = with_next-lawful c p (PreAll rank) i.lawful may;
+      lawful = with_earliest-lawful c p (PreAll rank) i.lawful may;
       awake = awake_next c p.list x refl i.awake;
       closed = below_more (λ r. AllClosed c.geometry r (p.list ++ x ∷ [])) rank (λ r l. closed_push c.geometry r p.list x refl (i.closed r l)) (closed_after c.geometry rank k p.list);
       refreshes = λ r. last_ref-calm r p.list x refl ∙ i.refreshes r;
@@ -192,7 +193,7 @@ closed_between c first p can i =
       in_time = λ rank within. rw (i.refreshes rank) (closed_in_time k c.geometry.ranks (drain_start first) (close_of c.timing c.geometry) _ clocks (can.in_time rank within));
     }
 
-pub close_step : (c : Checked) (first : List Stamped) → CanDrain c first → Closes c first (close_step_of c.timing c.geometry (record { list = first; clock = drain_start first }))
+pub close_step : (c : Checked) (first : List Stamped) → CanDrain c first → AfterClose c first (close_step_of c.timing c.geometry (record { list = first; clock = drain_start first }))
 unfolding close_step_of
 close_step c first can =
     let p = for_each_rank (close_rank c.timing c.geometry) c.geometry.ranks (record { list = first; clock = drain_start first }) in

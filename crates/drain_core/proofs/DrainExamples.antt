@@ -11,7 +11,7 @@ use Rattle.ddr4_timing.specs.Lawful.{open_row, ref_count}
 use Rattle.ddr4_timing.specs.Floors.{greatest, floor, window, least_clock}
 use Rattle.ddr4_timing.specs.Gaps.{most_gap, pair_gap}
 use Rattle.energy_budget.specs.declared.costs.CostNumbers.{CostNumbers}
-use Rattle.drain_core.specs.Drain.{drain_start, with_next, rest_clock, after_rest, has_open_bank, owes_refresh, close_step_of, after_refreshes, entry_step_of, after_self_refresh, drain_of, drain_commands, drain_clocks, drain_spent}
+use Rattle.drain_core.specs.Drain.{drain_start, with_earliest, rest_clock, after_rest, has_open_bank, owes_refresh, close_step_of, after_refreshes, entry_step_of, after_self_refresh, drain_of, drain_commands, drain_clocks, drain_spent}
 
 abbrev tiny : Timing
 tiny = record {
@@ -91,7 +91,7 @@ record WorkedDrains : Type 0 where
       58 66
 
 worked : WorkedDrains
-unfolding drain_start with_next rest_clock after_rest has_open_bank owes_refresh close_step_of after_refreshes entry_step_of after_self_refresh drain_of drain_commands drain_clocks drain_spent open_row ref_count greatest floor window least_clock most_gap pair_gap
+unfolding drain_start with_earliest rest_clock after_rest has_open_bank owes_refresh close_step_of after_refreshes entry_step_of after_self_refresh drain_of drain_commands drain_clocks drain_spent open_row ref_count greatest floor window least_clock most_gap pair_gap
 worked = record {
   none = record { issues = refl; takes = refl; spends = refl };
   one_write = record { issues = refl; takes = refl; spends = refl };

@@ -12,24 +12,25 @@ use Rattle.ddr4_timing.specs.Lawful.{IsLawful, row_after, open_row, last_ref}
 use Rattle.ddr4_timing.specs.Limits.{entry_of}
 use Rattle.ddr4_timing.specs.Places.{HasBank, LiesIn, bank_at}
 use Rattle.ddr4_timing.proofs.FloorLemmas.{floor_push, open_row_push}
-use Rattle.drain_core.specs.Drain.{Progress, drain_start, with_next, next_clock, rest_clock, after_rest, entry_step_of, after_refreshes}
-use Rattle.drain_core.specs.Standing.{Enters, AreAwake, AreClosed, IsBetweenSteps}
+use Rattle.drain_core.specs.Drain.{Progress, drain_start, with_earliest, next_clock, rest_clock, after_rest, entry_step_of, after_refreshes}
+use Rattle.chan_core.specs.Phases.{AreAwake}
+use Rattle.drain_core.specs.Standing.{AfterEntries, AreClosed, IsBetweenSteps}
 use Rattle.drain_core.proofs.Gaps.{eqb-same, gap-act_wr, gap-act_pre, gap-wr_pre}
 use Rattle.drain_core.proofs.LawfulLists.{drain_start_push}
 use Rattle.drain_core.proofs.Settling.{settle_clock, settle_clock-le, rest_clock_push}
 use Rattle.drain_core.proofs.Rested.{least-Act, floor-Wr, floor-Pre}
-use Rattle.drain_core.proofs.OneCommand.{MayGo, with_next-lawful, awake_next, last_ref-calm}
+use Rattle.drain_core.proofs.OneCommand.{MayGo, with_earliest-lawful, awake_next, last_ref-calm}
 use Rattle.drain_core.proofs.Refreshing.{IsRefreshed, refreshed}
 
 -- behind the ACT, the WR and the PRE of a write at a place
 abbrev pub after_act : Timing → Place → Progress → Progress
-after_act t place p = with_next t (Act (bank_at place) place.row) p
+after_act t place p = with_earliest t (Act (bank_at place) place.row) p
 
 abbrev pub after_wr : Timing → Place → Progress → Progress
-after_wr t place p = with_next t (Wr (bank_at place) place.column) (after_act t place p)
+after_wr t place p = with_earliest t (Wr (bank_at place) place.column) (after_act t place p)
 
 abbrev pub after_pre : Timing → Place → Progress → Progress
-after_pre t place p = with_next t (Pre (bank_at place)) (after_wr t place p)
+after_pre t place p = with_earliest t (Pre (bank_at place)) (after_wr t place p)
 
 -- how long behind the ACT its PRE goes
 abbrev row_open : Timing → ℕ
@@ -44,11 +45,11 @@ module _ (c : Checked) (start p : Progress) (place : Place) (r : IsRefreshed c s
   act_clock = let l = least-Act c p.list (bank_at place) place.row in let s = settled in omega (arith, l, s)
 
   act_list : (after_act c.timing place p).list ≡ p.list ++ record { clock = p.clock; cmd = Act (bank_at place) place.row } ∷ []
-  unfolding with_next
+  unfolding with_earliest
   act_list = ap (λ (k : ℕ). p.list ++ record { clock = k; cmd = Act (bank_at place) place.row } ∷ []) act_clock
 
   act_next : (after_act c.timing place p).clock ≡ p.clock + 1
-  unfolding with_next
+  unfolding with_earliest
   act_next = ap (λ (k : ℕ). k + 1) act_clock
 
   wr_at : (next floor a w rcd settle : ℕ) → next ≡ a + 1 → floor ≡ max w (a + max 1 rcd) → w ≤ settle + rcd → settle ≤ a → 1 ≤ rcd → max next (max floor (max 0 0)) ≡ a + rcd
@@ -65,11 +66,11 @@ module _ (c : Checked) (start p : Progress) (place : Place) (r : IsRefreshed c s
   wr_clock = wr_at _ _ p.clock _ c.timing.t_rcd _ act_next wr_floor (floor-Wr c p.list (bank_at place) place.column) settled c.in_limits.t_rcd.0
 
   wr_list : (after_wr c.timing place p).list ≡ (after_act c.timing place p).list ++ record { clock = p.clock + c.timing.t_rcd; cmd = Wr (bank_at place) place.column } ∷ []
-  unfolding with_next
+  unfolding with_earliest
   wr_list = ap (λ (k : ℕ). (after_act c.timing place p).list ++ record { clock = k; cmd = Wr (bank_at place) place.column } ∷ []) wr_clock
 
   wr_next : (after_wr c.timing place p).clock ≡ p.clock + c.timing.t_rcd + 1
-  unfolding with_next
+  unfolding with_earliest
   wr_next = ap (λ (k : ℕ). k + 1) wr_clock
 
   pre_floor : floor c.timing (after_wr c.timing place p).list (Pre (bank_at place)) ≡
@@ -97,11 +98,11 @@ module _ (c : Checked) (start p : Progress) (place : Place) (r : IsRefreshed c s
       omega (arith, e)
 
   pre_list : (after_pre c.timing place p).list ≡ (after_wr c.timing place p).list ++ record { clock = p.clock + row_open c.timing; cmd = Pre (bank_at place) } ∷ []
-  unfolding with_next
+  unfolding with_earliest
   pre_list = ap (λ (k : ℕ). (after_wr c.timing place p).list ++ record { clock = k; cmd = Pre (bank_at place) } ∷ []) pre_clock
 
   pre_next : (after_pre c.timing place p).clock ≡ p.clock + row_open c.timing + 1
-  unfolding with_next
+  unfolding with_earliest
   pre_next = ap (λ (k : ℕ). k + 1) pre_clock
 
 sum_of_entry : (n ras rcd cwl wr rp : ℕ) → n + max ras (rcd + (cwl + 4 + wr)) + rp ≡ n + max ras (rcd + cwl + 4 + wr) + rp
@@ -137,7 +138,7 @@ module _ (c : Checked) (start p : Progress) (place : Place) (lies : LiesIn c.geo
       }
 
   act_lawful : IsLawful c (after_act c.timing place p).list
-  act_lawful = with_next-lawful c p (Act (bank_at place) place.row) r.lawful may_act
+  act_lawful = with_earliest-lawful c p (Act (bank_at place) place.row) r.lawful may_act
 
   act_awake : AreAwake c (after_act c.timing place p).list
   act_awake = rw (act_list c start p place r) (awake_next c p.list (record { clock = p.clock; cmd = Act (bank_at place) place.row }) refl r.awake)
@@ -160,7 +161,7 @@ module _ (c : Checked) (start p : Progress) (place : Place) (lies : LiesIn c.geo
       }
 
   wr_lawful : IsLawful c (after_wr c.timing place p).list
-  wr_lawful = with_next-lawful c (after_act c.timing place p) (Wr (bank_at place) place.column) act_lawful may_wr
+  wr_lawful = with_earliest-lawful c (after_act c.timing place p) (Wr (bank_at place) place.column) act_lawful may_wr
 
   wr_awake : AreAwake c (after_wr c.timing place p).list
   wr_awake = rw (wr_list c start p place r) (awake_next c (after_act c.timing place p).list (record { clock = p.clock + c.timing.t_rcd; cmd = Wr (bank_at place) place.column }) refl act_awake)
@@ -179,7 +180,7 @@ module _ (c : Checked) (start p : Progress) (place : Place) (lies : LiesIn c.geo
       }
 
   pre_lawful : IsLawful c (after_pre c.timing place p).list
-  pre_lawful = with_next-lawful c (after_wr c.timing place p) (Pre (bank_at place)) wr_lawful may_pre
+  pre_lawful = with_earliest-lawful c (after_wr c.timing place p) (Pre (bank_at place)) wr_lawful may_pre
 
   pre_awake : AreAwake c (after_pre c.timing place p).list
   pre_awake = rw (pre_list c start p place r) (awake_next c (after_wr c.timing place p).list (record { clock = p.clock + row_open c.timing; cmd = Pre (bank_at place) }) refl wr_awake)
@@ -211,7 +212,7 @@ end_of_entry a e n o rp sum next rest h s l f g = omega (arith, h, s, l, f, g)
 time_left : (k e sum room dead : ℕ) → k ≤ e + sum → e + (sum + room) ≤ dead → k + room ≤ dead
 time_left k e sum room dead h l = omega arith
 
-pub entered : (c : Checked) (start p : Progress) (place : Place) → LiesIn c.geometry place → IsRefreshed c start p → Enters c start 1 (after_rest c.timing (after_pre c.timing place p))
+pub entered : (c : Checked) (start p : Progress) (place : Place) → LiesIn c.geometry place → IsRefreshed c start p → AfterEntries c start 1 (after_rest c.timing (after_pre c.timing place p))
 unfolding after_rest
 entered c start p place lies r =
     let t = c.timing in
@@ -227,6 +228,6 @@ entered c start p place lies r =
       clocks = omega (arith, clocks);
     }
 
-pub entry_step : (c : Checked) (start : Progress) (place : Place) → LiesIn c.geometry place → IsBetweenSteps c start → Enters c start 1 (entry_step_of c.timing c.geometry place start)
+pub entry_step : (c : Checked) (start : Progress) (place : Place) → LiesIn c.geometry place → IsBetweenSteps c start → AfterEntries c start 1 (entry_step_of c.timing c.geometry place start)
 unfolding entry_step_of
 entry_step c start place lies b = entered c start (after_refreshes c.timing c.geometry start) place lies (refreshed c start b)

@@ -10,8 +10,8 @@ use Rattle.ddr4_timing.specs.declared.timing.Checked.{Checked}
 use Rattle.ddr4_timing.specs.Command.{is_sre, is_sre_of, is_ref, is_ref_of, rank_of}
 use Rattle.ddr4_timing.specs.Lawful.{AllClosed, IsLawful, KeepsRows, open_row, is_asleep, last_ref}
 use Rattle.ddr4_timing.proofs.FloorLemmas.{is_asleep_push, last_ref_push}
-use Rattle.drain_core.specs.Drain.{Progress, next_clock, with_next, any_below, has_open_bank}
-use Rattle.drain_core.specs.Standing.{AreAwake}
+use Rattle.drain_core.specs.Drain.{Progress, next_clock, with_earliest, any_below, has_open_bank}
+use Rattle.chan_core.specs.Phases.{AreAwake}
 use Rattle.drain_core.proofs.LawfulLists.{lawful_next}
 
 -- The command may go next: the banks are as it wants them, and its rank's deadline is to come.
@@ -19,9 +19,9 @@ pub record MayGo (c : Checked) (p : Progress) (cmd : Command) : Type 0 where
   pub rows : KeepsRows c.geometry p.list cmd
   pub in_time : next_clock c.timing cmd p ≤ last_ref (rank_of cmd) p.list + 9 * c.timing.t_refi
 
-pub with_next-lawful : (c : Checked) (p : Progress) (cmd : Command) → IsLawful c p.list → MayGo c p cmd → IsLawful c (with_next c.timing cmd p).list
-unfolding with_next
-with_next-lawful c p cmd lawful m = lawful_next c p.list (next_clock c.timing cmd p) cmd lawful m.rows (omega arith) m.in_time
+pub with_earliest-lawful : (c : Checked) (p : Progress) (cmd : Command) → IsLawful c p.list → MayGo c p cmd → IsLawful c (with_earliest c.timing cmd p).list
+unfolding with_earliest
+with_earliest-lawful c p cmd lawful m = lawful_next c p.list (next_clock c.timing cmd p) cmd lawful m.rows (omega arith) m.in_time
 
 -- no command but SRE puts a rank to sleep
 

@@ -15,12 +15,13 @@ use Rattle.ddr4_timing.proofs.FloorLemmas.{floor_push}
 use Rattle.bank_core.proofs.Refreshes.{refreshes_keep_pace}
 use Rattle.frfcfs.proofs.refreshes.RefreshCounts.{ref_of_other, count_same, last_same, last_next}
 use Rattle.frfcfs.proofs.refreshes.RowsClosed.{closed_push}
-use Rattle.drain_core.specs.Drain.{Progress, drain_start, with_next, next_clock, for_each_rank, rest_clock, after_rest, owes_refresh, refresh_rank, after_refreshes}
-use Rattle.drain_core.specs.Standing.{AreAwake, AreClosed, HaveClocks, IsBetweenSteps}
+use Rattle.drain_core.specs.Drain.{Progress, drain_start, with_earliest, next_clock, for_each_rank, rest_clock, after_rest, owes_refresh, refresh_rank, after_refreshes}
+use Rattle.chan_core.specs.Phases.{AreAwake}
+use Rattle.drain_core.specs.Standing.{AreClosed, HaveClocks, IsBetweenSteps}
 use Rattle.drain_core.proofs.LawfulLists.{drain_start_push}
 use Rattle.drain_core.proofs.Settling.{settle_clock, settle_clock-le, rest_clock_push}
 use Rattle.drain_core.proofs.Rested.{floor-Ref}
-use Rattle.drain_core.proofs.OneCommand.{MayGo, with_next-lawful, awake_next}
+use Rattle.drain_core.proofs.OneCommand.{MayGo, with_earliest-lawful, awake_next}
 
 -- So many ranks were seen to, from the start of an entry on.
 pub record IsRefreshing (c : Checked) (start : Progress) (ranks : ℕ) (p : Progress) : Type 0 where
@@ -151,15 +152,15 @@ rest_next rest clock e j f h l s m = omega (arith, h, l, s, m)
 own_time : (e k room t : ℕ) → e ≤ k → room ≤ t → e + room ≤ k + 9 * t
 own_time e k room t h l = omega arith
 
-refreshing_goes : (c : Checked) (start : Progress) (rank : ℕ) (p : Progress) → MayGo c p (Ref rank) → next_clock c.timing (Ref rank) p ≡ p.clock → IsRefreshing c start rank p → IsRefreshing c start (rank + 1) (with_next c.timing (Ref rank) p)
-unfolding with_next
+refreshing_goes : (c : Checked) (start : Progress) (rank : ℕ) (p : Progress) → MayGo c p (Ref rank) → next_clock c.timing (Ref rank) p ≡ p.clock → IsRefreshing c start rank p → IsRefreshing c start (rank + 1) (with_earliest c.timing (Ref rank) p)
+unfolding with_earliest
 refreshing_goes c start rank p may at i =
     let t = c.timing in
     let g = c.geometry in
     let k = next_clock t (Ref rank) p in
     let x : Stamped = record { clock = k; cmd = Ref rank } in
     let room = entry_of t g + 2 * g.ranks in record {
-      lawful = with_next-lawful c p (Ref rank) i.lawful may;
+      lawful = with_earliest-lawful c p (Ref rank) i.lawful may;
       awake = awake_next c p.list x refl i.awake;
       closed = λ r within. closed_push g r p.list x refl (i.closed r within);
       counts = λ r l. count_same r k p.list (Ref rank) (ref_of_other r (Ref rank) (other_rank rank r (omega arith))) ∙ i.counts r (omega arith);

@@ -10,11 +10,11 @@ use Rattle.ddr4_timing.specs.Floors.{floor, least_clock}
 use Rattle.ddr4_timing.specs.Lawful.{IsLawful, is_asleep, last_ref}
 use Rattle.ddr4_timing.proofs.FloorLemmas.{floor_push, is_asleep_push}
 use Rattle.frfcfs.proofs.refreshes.RowsClosed.{closed_push}
-use Rattle.drain_core.specs.Drain.{Progress, with_next, next_clock, for_each_rank, after_self_refresh}
-use Rattle.drain_core.specs.Standing.{Sleeps, AreClosed, IsBetweenSteps}
+use Rattle.drain_core.specs.Drain.{Progress, with_earliest, next_clock, for_each_rank, after_self_refresh}
+use Rattle.drain_core.specs.Standing.{AfterSleep, AreClosed, IsBetweenSteps}
 use Rattle.drain_core.proofs.Gaps.{eqb-same, gap-Sre}
 use Rattle.drain_core.proofs.Rested.{floor-Sre}
-use Rattle.drain_core.proofs.OneCommand.{MayGo, with_next-lawful, last_ref-calm}
+use Rattle.drain_core.proofs.OneCommand.{MayGo, with_earliest-lawful, last_ref-calm}
 use Rattle.drain_core.proofs.Refreshing.{settled_between}
 
 -- So many ranks had their SRE.
@@ -61,14 +61,14 @@ stays_awake false b e h s = absurd cc
 other_rank : (a b : ℕ) → a < b → a ≢ b
 other_rank a b h e = absurd (omega arith)
 
-pub sleeping_next : (c : Checked) (start : Progress) (rank : ℕ) (p : Progress) → IsBetweenSteps c start → rank < c.geometry.ranks → IsSleeping c start rank p → IsSleeping c start (rank + 1) (with_next c.timing (Sre rank) p)
-unfolding with_next
+pub sleeping_next : (c : Checked) (start : Progress) (rank : ℕ) (p : Progress) → IsBetweenSteps c start → rank < c.geometry.ranks → IsSleeping c start rank p → IsSleeping c start (rank + 1) (with_earliest c.timing (Sre rank) p)
+unfolding with_earliest
 sleeping_next c start rank p b within i =
     let t = c.timing in
     let k = next_clock t (Sre rank) p in
     let x : Stamped = record { clock = k; cmd = Sre rank } in
     let at = sre_clock c start rank p i in record {
-      lawful = with_next-lawful c p (Sre rank) i.lawful (may_sleep c start rank p b within i);
+      lawful = with_earliest-lawful c p (Sre rank) i.lawful (may_sleep c start rank p b within i);
       asleep = below_more (λ r. IsTrue (is_asleep r (p.list ++ x ∷ []))) rank
           (λ r l. rw (is_asleep_push r p.list x) (or_left (is_asleep r p.list) (is_sre_of r (Sre rank)) (i.asleep r l)))
           (rw (is_asleep_push rank p.list x) (or_right (is_asleep rank p.list) (is_sre_of rank (Sre rank)) (eqb-same rank)));
@@ -79,14 +79,14 @@ sleeping_next c start rank p b within i =
       clock = let l = i.clock in omega (arith, l, at);
     }
 
-pub sleeping_all : (c : Checked) (start : Progress) (ranks : ℕ) → IsBetweenSteps c start → ranks ≤ c.geometry.ranks → IsSleeping c start ranks (for_each_rank (λ rank. with_next c.timing (Sre rank)) ranks start)
+pub sleeping_all : (c : Checked) (start : Progress) (ranks : ℕ) → IsBetweenSteps c start → ranks ≤ c.geometry.ranks → IsSleeping c start ranks (for_each_rank (λ rank. with_earliest c.timing (Sre rank)) ranks start)
 sleeping_all c start zero b within = none_sleeping c start b
 sleeping_all c start (suc ranks) b within =
-    let p = for_each_rank (λ rank. with_next c.timing (Sre rank)) ranks start in
-    subst (λ (n : ℕ). IsSleeping c start n (with_next c.timing (Sre ranks) p)) (add-one ranks)
+    let p = for_each_rank (λ rank. with_earliest c.timing (Sre rank)) ranks start in
+    subst (λ (n : ℕ). IsSleeping c start n (with_earliest c.timing (Sre ranks) p)) (add-one ranks)
     (sleeping_next c start ranks p b (omega arith) (sleeping_all c start ranks b (omega arith)))
 
-pub self_refresh : (c : Checked) (start : Progress) → IsBetweenSteps c start → Sleeps c start (after_self_refresh c.timing c.geometry start)
+pub self_refresh : (c : Checked) (start : Progress) → IsBetweenSteps c start → AfterSleep c start (after_self_refresh c.timing c.geometry start)
 unfolding after_self_refresh
 self_refresh c start b =
     let i = sleeping_all c start c.geometry.ranks b (omega arith) in

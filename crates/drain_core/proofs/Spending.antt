@@ -13,7 +13,7 @@ use Rattle.ddr4_timing.specs.declared.timing.Geometry.{Geometry}
 use Rattle.ddr4_timing.specs.Places.{bank_at}
 use Rattle.energy_budget.specs.declared.costs.CostNumbers.{CostNumbers}
 use Rattle.energy_budget.specs.CostNumbers.{command_cost}
-use Rattle.drain_core.specs.Drain.{Progress, with_next, for_each_rank, after_rest, has_open_bank, owes_refresh, close_rank, close_step_of, refresh_rank, after_refreshes, entry_step_of, entry_steps_of, after_self_refresh}
+use Rattle.drain_core.specs.Drain.{Progress, with_earliest, for_each_rank, after_rest, has_open_bank, owes_refresh, close_rank, close_step_of, refresh_rank, after_refreshes, entry_step_of, entry_steps_of, after_self_refresh}
 
 -- what these commands cost
 abbrev pub commands_cost : CostNumbers → List Stamped → ℕ
@@ -39,8 +39,8 @@ module _ (n : CostNumbers) where
     cost = let e = sum_by-append (λ x. command_cost n x.cmd) i.commands j.commands in let l = i.cost in let m = j.cost in omega (arith, e, l, m);
   }
 
-  issues_next : (t : Timing) (cmd : Command) (p : Progress) → Issues n (command_cost n cmd) p (with_next t cmd p)
-  unfolding with_next
+  issues_next : (t : Timing) (cmd : Command) (p : Progress) → Issues n (command_cost n cmd) p (with_earliest t cmd p)
+  unfolding with_earliest
   issues_next t cmd p = record { commands = _; list = refl; cost = omega arith }
 
   rest_issues : (most : ℕ) (t : Timing) (old new : Progress) → Issues n most old new → Issues n most old (after_rest t new)
@@ -55,7 +55,7 @@ module _ (n : CostNumbers) where
       (issues_both (ranks * most) most p q (step ranks q) (issues_each most step each ranks p) (each ranks q))
 
   -- a command under a test
-  issues_if : (test : Bool) (t : Timing) (cmd : Command) (p : Progress) → Issues n (command_cost n cmd) p (cond test (with_next t cmd p) p)
+  issues_if : (test : Bool) (t : Timing) (cmd : Command) (p : Progress) → Issues n (command_cost n cmd) p (cond test (with_earliest t cmd p) p)
   issues_if true t cmd p = issues_next t cmd p
   issues_if false t cmd p = issues_more 0 (command_cost n cmd) p p (omega arith) (issues_none p)
 
@@ -78,9 +78,9 @@ module _ (n : CostNumbers) where
       let open_at = Act (bank_at place) place.row in
       let write_at = Wr (bank_at place) place.column in
       let refreshes = g.ranks * n.e_ref in
-      let opened = with_next t open_at q in
-      let written = with_next t write_at opened in
-      let closed = with_next t (Pre (bank_at place)) written in
+      let opened = with_earliest t open_at q in
+      let written = with_earliest t write_at opened in
+      let closed = with_earliest t (Pre (bank_at place)) written in
       rest_issues (refreshes + n.e_act + n.e_col + n.e_pre) t p closed
       (issues_both (refreshes + n.e_act + n.e_col) n.e_pre p written closed
       (issues_both (refreshes + n.e_act) n.e_col p opened written
@@ -98,7 +98,7 @@ module _ (n : CostNumbers) where
 
   pub sleep_issues : (t : Timing) (g : Geometry) (p : Progress) → Issues n (g.ranks * n.e_sre) p (after_self_refresh t g p)
   unfolding after_self_refresh
-  sleep_issues t g p = issues_each n.e_sre (λ rank. with_next t (Sre rank)) (λ rank q. issues_next t (Sre rank) q) g.ranks p
+  sleep_issues t g p = issues_each n.e_sre (λ rank. with_earliest t (Sre rank)) (λ rank q. issues_next t (Sre rank) q) g.ranks p
 
 -- the commands behind those of a first moment
 pub commands_behind : (n : CostNumbers) (most : ℕ) (old new : Progress) → Issues n most old new → commands_cost n (drop (length old.list) new.list) ≤ most

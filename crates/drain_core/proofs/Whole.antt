@@ -15,7 +15,8 @@ use Rattle.energy_budget.specs.Costs.{AreReckonedFor, close_cost, entry_cost}
 use Rattle.frfcfs.specs.Margin.{KeepsMargin, last_clock}
 use Rattle.frfcfs.proofs.refreshes.MarginEnds.{drain_has_time}
 use Rattle.drain_core.specs.Drain.{Progress, drain_start, close_step_of, entry_step_of, entry_steps_of, after_self_refresh, drain_of, drain_commands, drain_clocks, drain_spent}
-use Rattle.drain_core.specs.Standing.{AreAwake, CanDrain, IsBetweenSteps, Enters, Drains}
+use Rattle.chan_core.specs.Phases.{AreAwake}
+use Rattle.drain_core.specs.Standing.{CanDrain, IsBetweenSteps, AfterEntries, AfterDrain}
 use Rattle.drain_core.proofs.Closing.{close_step}
 use Rattle.drain_core.proofs.Entering.{entry_step}
 use Rattle.drain_core.proofs.Sleeping.{self_refresh}
@@ -26,7 +27,7 @@ use Rattle.drain_core.proofs.Spending.{Issues, issues_both, close_issues, entrie
 one_entry : (k s e n m : ℕ) → k ≤ s + 1 * e → m ≤ k + n * e → m ≤ s + suc n * e
 one_entry k s e n m h l = omega (arith, h, l)
 
-pub entry_steps : (c : Checked) (start : Progress) (places : List Place) → All (LiesIn c.geometry) places → IsBetweenSteps c start → Enters c start (length places) (entry_steps_of c.timing c.geometry places start)
+pub entry_steps : (c : Checked) (start : Progress) (places : List Place) → All (LiesIn c.geometry) places → IsBetweenSteps c start → AfterEntries c start (length places) (entry_steps_of c.timing c.geometry places start)
 entry_steps c start [] lie b = record { between = b; clocks = omega arith }
 entry_steps c start (place ∷ places) lie b =
     let p = entry_step_of c.timing c.geometry place start in
@@ -37,7 +38,7 @@ entry_steps c start (place ∷ places) lie b =
 whole_clock : (a b d s cl r sum : ℕ) → a + r ≤ s + cl → b ≤ a + sum → d ≡ b + r → d ≤ s + cl + sum
 whole_clock a b d s cl r sum h l e = omega arith
 
-pub drains : (c : Checked) (list : List Stamped) (places : List Place) → CanDrain c list → All (LiesIn c.geometry) places → Drains c list (length places) (drain_of c.timing c.geometry list places)
+pub drains : (c : Checked) (list : List Stamped) (places : List Place) → CanDrain c list → All (LiesIn c.geometry) places → AfterDrain c list (length places) (drain_of c.timing c.geometry list places)
 unfolding drain_of
 drains c list places can lie =
     let t = c.timing in

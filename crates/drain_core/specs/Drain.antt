@@ -28,8 +28,8 @@ abbrev pub next_clock : Timing → Command → Progress → ℕ
 next_clock t cmd p = max p.clock (least_clock t p.list cmd)
 
 -- the command goes then
-unfoldable pub with_next : Timing → Command → Progress → Progress
-with_next t cmd p =
+unfoldable pub with_earliest : Timing → Command → Progress → Progress
+with_earliest t cmd p =
     record { list = p.list ++ record { clock = next_clock t cmd p; cmd = cmd } ∷ []; clock = next_clock t cmd p + 1 }
 
 -- a step of each rank, in rising order
@@ -65,7 +65,7 @@ owes_refresh t list clock rank = nat_lt 0 (clock / t.t_refi - ref_count rank lis
 
 -- a PREA, where the rank has an open bank
 abbrev pub close_rank : Timing → Geometry → ℕ → Progress → Progress
-close_rank t g rank p = if has_open_bank g rank p.list then with_next t (PreAll rank) p else p
+close_rank t g rank p = if has_open_bank g rank p.list then with_earliest t (PreAll rank) p else p
 
 -- The close step: a PREA of each rank with an open bank, and the wait until every bank and rank has rested.
 unfoldable pub close_step_of : Timing → Geometry → Progress → Progress
@@ -73,7 +73,7 @@ close_step_of t g p = after_rest t (for_each_rank (close_rank t g) g.ranks p)
 
 -- a REF, where the rank owes one at the start
 abbrev pub refresh_rank : Timing → Progress → ℕ → Progress → Progress
-refresh_rank t start rank p = if owes_refresh t start.list start.clock rank then with_next t (Ref rank) p else p
+refresh_rank t start rank p = if owes_refresh t start.list start.clock rank then with_earliest t (Ref rank) p else p
 
 -- a REF of each rank that owes any where the entry starts, and the wait until each has tRFC passed
 unfoldable pub after_refreshes : Timing → Geometry → Progress → Progress
@@ -83,9 +83,9 @@ after_refreshes t g p = after_rest t (for_each_rank (refresh_rank t p) g.ranks p
 unfoldable pub entry_step_of : Timing → Geometry → Place → Progress → Progress
 entry_step_of t g place p =
     after_rest t
-    (with_next t (Pre (bank_at place))
-    (with_next t (Wr (bank_at place) place.column)
-    (with_next t (Act (bank_at place) place.row) (after_refreshes t g p))))
+    (with_earliest t (Pre (bank_at place))
+    (with_earliest t (Wr (bank_at place) place.column)
+    (with_earliest t (Act (bank_at place) place.row) (after_refreshes t g p))))
 
 abbrev pub entry_steps_of : Timing → Geometry → List Place → Progress → Progress
 entry_steps_of t g [] p = p
@@ -93,7 +93,7 @@ entry_steps_of t g (place ∷ places) p = entry_steps_of t g places (entry_step_
 
 -- the end of a drain: an SRE of each rank
 unfoldable pub after_self_refresh : Timing → Geometry → Progress → Progress
-after_self_refresh t g p = for_each_rank (λ rank. with_next t (Sre rank)) g.ranks p
+after_self_refresh t g p = for_each_rank (λ rank. with_earliest t (Sre rank)) g.ranks p
 
 -- A whole drain, after these commands and of writes at these places: each step starts where the one before ended.
 unfoldable pub drain_of : Timing → Geometry → List Stamped → List Place → Progress

@@ -1,15 +1,12 @@
 -- Where a drain may begin, where it stands between its steps, and what they come to.
-use Rattle.std.specs.Prelude.{◌≡◌, ℕ, ◌+◌, ◌-◌, ◌*◌, ◌^◌, ◌<◌, ◌≤◌, max, List, IsTrue}
+use Rattle.std.specs.Prelude.{◌≡◌, ℕ, ◌+◌, ◌-◌, ◌*◌, ◌^◌, ◌<◌, ◌≤◌, max, List}
 use Rattle.ddr4_timing.specs.declared.command.Stamped.{Stamped}
 use Rattle.ddr4_timing.specs.declared.timing.Checked.{Checked}
-use Rattle.ddr4_timing.specs.Lawful.{AllClosed, IsLawful, is_asleep, last_ref}
+use Rattle.ddr4_timing.specs.Lawful.{AllClosed, IsLawful, last_ref}
 use Rattle.ddr4_timing.specs.Limits.{entry_of, close_of}
 use Rattle.frfcfs.specs.Margin.{AreAsleep}
+use Rattle.chan_core.specs.Phases.{AreAwake}
 use Rattle.drain_core.specs.Drain.{Progress, drain_start, rest_clock}
-
--- no rank had its SRE
-abbrev pub AreAwake : Checked → List Stamped → Type 0
-AreAwake c list = (rank : ℕ) → rank < c.geometry.ranks → ¬ IsTrue (is_asleep rank list)
 
 -- every bank is closed
 abbrev pub AreClosed : Checked → List Stamped → Type 0
@@ -36,23 +33,23 @@ pub record IsBetweenSteps (c : Checked) (p : Progress) : Type 0 where
   pub in_time : HaveClocks c p.list p.clock (2 * c.geometry.ranks)
 
 -- What a close step comes to: it leaves clocks for the SRE of each rank.
-pub record Closes (c : Checked) (list : List Stamped) (p : Progress) : Type 0 where
+pub record AfterClose (c : Checked) (list : List Stamped) (p : Progress) : Type 0 where
   pub between : IsBetweenSteps c p
   pub clocks : p.clock + c.geometry.ranks ≤ drain_start list + close_of c.timing c.geometry
 
 -- What so many entry steps come to.
-pub record Enters (c : Checked) (start : Progress) (writes : ℕ) (p : Progress) : Type 0 where
+pub record AfterEntries (c : Checked) (start : Progress) (writes : ℕ) (p : Progress) : Type 0 where
   pub between : IsBetweenSteps c p
   pub clocks : p.clock ≤ start.clock + writes * entry_of c.timing c.geometry
 
 -- What the SREs come to: one goes a clock.
-pub record Sleeps (c : Checked) (start p : Progress) : Type 0 where
+pub record AfterSleep (c : Checked) (start p : Progress) : Type 0 where
   pub lawful : IsLawful c p.list
   pub asleep : AreAsleep c p.list
   pub clock : p.clock ≡ start.clock + c.geometry.ranks
 
 -- What a whole drain comes to.
-pub record Drains (c : Checked) (list : List Stamped) (writes : ℕ) (p : Progress) : Type 0 where
+pub record AfterDrain (c : Checked) (list : List Stamped) (writes : ℕ) (p : Progress) : Type 0 where
   pub lawful : IsLawful c p.list
   pub asleep : AreAsleep c p.list
   pub clock : p.clock ≤ drain_start list + close_of c.timing c.geometry + writes * entry_of c.timing c.geometry

@@ -10,7 +10,8 @@ ghost use Rattle.energy_budget.specs.Costs.{AreReckonedFor, close_cost, entry_co
 ghost use Rattle.energy_budget.specs.declared.costs.Costs.{Costs};
 ghost use Rattle.frfcfs.specs.Margin.{KeepsMargin, last_clock};
 ghost use Rattle.drain_core.specs.Drain.{Progress, drain_start, close_step_of, entry_step_of, entry_steps_of, after_self_refresh, drain_of, drain_clocks, drain_spent};
-ghost use Rattle.drain_core.specs.Standing.{AreAwake, CanDrain, Closes, Drains, Enters, IsBetweenSteps, Sleeps};
+ghost use Rattle.chan_core.specs.Phases.{AreAwake};
+ghost use Rattle.drain_core.specs.Standing.{CanDrain, AfterClose, AfterDrain, AfterEntries, IsBetweenSteps, AfterSleep};
 
 /// A channel whose refreshes have their time, as every one has that its scheduler alone gave commands, may be drained as
 /// long as its clock is below 2^62 and no rank had its SRE.
@@ -21,15 +22,15 @@ pub fn margin_lets_drain()
 
 /// The steps of a drain, one by one: each ends where the next may begin. All their commands are lawful where they go.
 pub fn steps_of_a_drain()
-    ensures close { (c : Checked) (list : List Stamped) → CanDrain c list → Closes c list
+    ensures close { (c : Checked) (list : List Stamped) → CanDrain c list → AfterClose c list
         (close_step_of c.timing c.geometry (record { list = list; clock = drain_start list })) }
     ensures entry { (c : Checked) (p : Progress) (place : Place) → IsBetweenSteps c p
-        → LiesIn c.geometry place → Enters c p 1 (entry_step_of c.timing c.geometry place p) }
+        → LiesIn c.geometry place → AfterEntries c p 1 (entry_step_of c.timing c.geometry place p) }
     ensures entries { (c : Checked) (p : Progress) (places : List Place) → IsBetweenSteps c p
         → All (LiesIn c.geometry) places
-        → Enters c p (length places) (entry_steps_of c.timing c.geometry places p) }
+        → AfterEntries c p (length places) (entry_steps_of c.timing c.geometry places p) }
     ensures sleep { (c : Checked) (p : Progress) → IsBetweenSteps c p
-        → Sleeps c p (after_self_refresh c.timing c.geometry p) }
+        → AfterSleep c p (after_self_refresh c.timing c.geometry p) }
 {}
 
 /// A whole drain of writes at places of the geometry is lawful, takes no longer than a close step and an entry for each of
@@ -37,7 +38,7 @@ pub fn steps_of_a_drain()
 pub fn whole_drain()
     ensures { (c : Checked) (list : List Stamped) (places : List Place) → CanDrain c list
         → All (LiesIn c.geometry) places
-        → Drains c list (length places) (drain_of c.timing c.geometry list places) }
+        → AfterDrain c list (length places) (drain_of c.timing c.geometry list places) }
 {}
 
 /// Its clocks, from its start to one past its last command; of at most 64 writes they don't run past 2^63.
