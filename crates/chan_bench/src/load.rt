@@ -9,6 +9,13 @@ use interleave_map::line_map::LineMap;
 use std::alloc::Global;
 use std::marker::Model;
 
+// Takes the low part, which counts up to a power of two, off a number.
+fn low_part(rest: &mut u64, size: u64) -> u64 {
+    let part = *rest & size.wrapping_sub(1);
+    *rest = rest.checked_shr(size.trailing_zeros()).unwrap_or(0);
+    part
+}
+
 /// Channel 0 of a profile, with the number of its next write and the stream that its requests come from.
 #[derive(Drop)]
 pub struct Load<'m, M: LineMap> {
@@ -94,20 +101,17 @@ impl<'m, M: LineMap> Load<'m, M> {
     // A line of the channel: that at the place of a pick, whose low part names the column, then the group, the bank, the
     // rank and the row.
     fn line(&self, pick: u64) -> anyhow::Result<u64> {
-        let geometry = self.checked.geometry;
-        let group = pick / geometry.columns.max(1);
-        let bank = group / geometry.groups.max(1);
-        let rank = bank / geometry.banks.max(1);
-        let row = rank / geometry.ranks.max(1);
+        let geometry = &self.checked.geometry;
+        let mut rest = pick;
         let place = Place {
             channel: 0,
-            rank: rank % geometry.ranks.max(1),
-            group: group % geometry.groups.max(1),
-            bank: bank % geometry.banks.max(1),
-            row: row % geometry.rows.max(1),
-            column: pick % geometry.columns.max(1),
+            column: low_part(&mut rest, geometry.columns),
+            group: low_part(&mut rest, geometry.groups),
+            bank: low_part(&mut rest, geometry.banks),
+            rank: low_part(&mut rest, geometry.ranks),
+            row: low_part(&mut rest, geometry.rows),
         };
-        if !place.lies_in(&geometry) {
+        if !place.lies_in(geometry) {
             anyhow::bail!("no such place");
         }
         Ok(self.map.line(place))
