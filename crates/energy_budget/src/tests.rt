@@ -3,38 +3,12 @@ ghost use Rattle.std.specs.Prelude.{◌≡◌};
 
 use super::*;
 use ddr4_timing::command::Command;
-use ddr4_timing::timing::{Checked, Geometry, ProfileError, Timing};
+use ddr4_timing::profiles::{SMALL, TINY};
+use ddr4_timing::timing::{Checked, ProfileError};
 use std::test::Fail;
 
 fn tiny() -> Result<Checked, ProfileError> {
-    let timing = Timing {
-        t_rcd: 16,
-        t_rp: 16,
-        t_ras: 39,
-        cl: 16,
-        cwl: 12,
-        t_ccd_s: 4,
-        t_ccd_l: 6,
-        t_rrd_s: 4,
-        t_rrd_l: 6,
-        t_faw: 26,
-        t_wr: 18,
-        t_wtr_s: 3,
-        t_wtr_l: 9,
-        t_rtp: 9,
-        t_rtw: 10,
-        t_cs: 2,
-        t_rfc: 420,
-        t_refi: 9360,
-    };
-    timing.check(&Geometry {
-        channels: 2,
-        ranks: 1,
-        groups: 2,
-        banks: 4,
-        rows: 2,
-        columns: 4,
-    })
+    TINY.check(&SMALL)
 }
 
 const NUMBERS: CostNumbers = CostNumbers {

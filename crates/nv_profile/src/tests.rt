@@ -1,6 +1,6 @@
 // Profiles at their limits and one past them, and texts that are none.
 use crate::{MapWord, ModuleSizes, Profile, ProfileFault, TINY, read_profile};
-use ddr4_timing::timing::{Geometry, Timing};
+use ddr4_timing::profiles;
 use energy_budget::CostNumbers;
 use std::alloc::Global;
 use std::test::Fail;
@@ -36,37 +36,9 @@ fn tiny(alloc: Global) -> Result<Profile, Fail> {
 
 #[test]
 fn timing_of_tiny(rt: HostRuntime) -> Result<(), Fail> {
-    let timing = Timing {
-        t_rcd: 16,
-        t_rp: 16,
-        t_ras: 39,
-        cl: 16,
-        cwl: 12,
-        t_ccd_s: 4,
-        t_ccd_l: 6,
-        t_rrd_s: 4,
-        t_rrd_l: 6,
-        t_faw: 26,
-        t_wr: 18,
-        t_wtr_s: 3,
-        t_wtr_l: 9,
-        t_rtp: 9,
-        t_rtw: 10,
-        t_cs: 2,
-        t_rfc: 420,
-        t_refi: 9360,
-    };
-    let geometry = Geometry {
-        channels: 2,
-        ranks: 1,
-        groups: 2,
-        banks: 4,
-        rows: 2,
-        columns: 4,
-    };
     let profile = tiny(rt.alloc())?;
-    assert_eq!(rt; profile.checked.timing, timing);
-    assert_eq!(rt; profile.checked.geometry, geometry);
+    assert_eq!(rt; profile.checked.timing, profiles::TINY);
+    assert_eq!(rt; profile.checked.geometry, profiles::SMALL);
     Ok(())
 }
 
