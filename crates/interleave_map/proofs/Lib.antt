@@ -4,3 +4,4 @@ pub mod Digits
 pub mod Exchange
 pub mod Numbering
 pub mod Onto
+pub mod PowersOfTwo

@@ -1,5 +1,6 @@
 // The map `lines`.
-ghost use Rattle.std.specs.Prelude.{◌≡◌, ◌<◌};
+ghost use Rattle.std.specs.Prelude.{◌≡◌, ◌<◌, ◌/◌, ◌%◌, IsTrue};
+ghost use Rattle.std.specs.Int.{is_power_of_two};
 ghost use Rattle.ddr4_timing.specs.Limits.{lines_of};
 ghost use Rattle.ddr4_timing.specs.Places.{LiesIn};
 ghost use Rattle.interleave_map.specs.Interleaving.{place_by_lines, line_by_lines};
@@ -7,6 +8,14 @@ ghost use Rattle.interleave_map.specs.Interleaving.{place_by_lines, line_by_line
 use crate::cells::cell_of;
 use ddr4_timing::place::Place;
 use ddr4_timing::timing::Checked;
+
+// A number's quotient and its remainder by a power of two: a division would take longer than all else that a map does.
+fn parts_by(number: u64, size: u64) -> (u64, u64)
+    requires { IsTrue (is_power_of_two size) }
+    ensures { result ≡ (number / size, number % size) }
+{
+    (number >> size.trailing_zeros(), number & (size - 1))
+}
 
 /// The place of a line by the map `lines`.
 ///
@@ -18,17 +27,18 @@ pub fn split(checked: &Checked, line: u64) -> Place
     ensures { result ≡ place_by_lines checked.now.geometry line }
 {
     let geometry = checked.geometry;
-    let cell = line / geometry.channels;
-    let groups = cell / geometry.columns;
-    let banks = groups / geometry.groups;
-    let ranks = banks / geometry.banks;
+    let (cell, channel) = parts_by(line, geometry.channels);
+    let (groups, column) = parts_by(cell, geometry.columns);
+    let (banks, group) = parts_by(groups, geometry.groups);
+    let (ranks, bank) = parts_by(banks, geometry.banks);
+    let (row, rank) = parts_by(ranks, geometry.ranks);
     Place {
-        channel: line % geometry.channels,
-        rank: ranks % geometry.ranks,
-        group: groups % geometry.groups,
-        bank: banks % geometry.banks,
-        row: ranks / geometry.ranks,
-        column: cell % geometry.columns,
+        channel,
+        rank,
+        group,
+        bank,
+        row,
+        column,
     }
 }
 
