@@ -10,12 +10,14 @@ ghost use Rattle.bank_core.specs.Stands.{BanksState, Stands};
 
 /// What one more command does to the least clock of the next one.
 pub fn least_clock_after()
-    ensures { (t : Timing) (list : List Stamped) (clock : ℕ) (cmd next : Command) → RaisesLeastClock t list clock cmd next }
+    ensures { (t : Timing) (list : List Stamped) (clock : ℕ) (cmd next : Command)
+        → RaisesLeastClock t list clock cmd next }
 {}
 
 /// What one more command does to a rank's window.
 pub fn window_after()
-    ensures { (t : Timing) (rank : ℕ) (list : List Stamped) (clock : ℕ) (cmd : Command) → ShiftsWindow t rank list clock cmd }
+    ensures { (t : Timing) (rank : ℕ) (list : List Stamped) (clock : ℕ) (cmd : Command)
+        → ShiftsWindow t rank list clock cmd }
 {}
 
 /// What one more command does to rows, refreshes and sleep.
@@ -41,5 +43,6 @@ pub fn sums_of_a_drain()
 /// Two lists for which one `Banks` stands leave the same to the next command: what is open, the refreshes and sleep of each
 /// rank, each least clock, and which command may go when.
 pub fn lists_agree()
-    ensures { (b : BanksState) (one two : List Stamped) → Stands b one → Stands b two → LeaveTheSame b.checked one two }
+    ensures { (b : BanksState) (one two : List Stamped) → Stands b one → Stands b two
+        → LeaveTheSame b.checked one two }
 {}

@@ -1,5 +1,5 @@
 -- How long a command may have to wait, by its kind.
-use Rattle.std.proofs.Common.{◌≡◌, ◌≢◌, ℕ, ◌+◌, ◌≤◌, Bool, true, false, cond, eqb, refl, sym, rules, arith}
+use Rattle.std.proofs.Common.{◌≡◌, ◌≢◌, ℕ, ◌+◌, ◌≤◌, Bool, true, false, cond, eqb, rules, arith}
 use Rattle.std.specs.Prelude.{max}
 use Rattle.std.proofs.lemmas.Bool.{ne_eqb}
 use Rattle.ddr4_timing.specs.declared.place.BankAddress.{BankAddress}
@@ -7,7 +7,7 @@ use Rattle.ddr4_timing.specs.declared.command.Command.{Command}
 use Rattle.ddr4_timing.specs.declared.command.Command.TheVariants.{Act, Rd, Wr, Pre, PreAll, Ref, Sre}
 use Rattle.ddr4_timing.specs.declared.timing.Timing.{Timing}
 use Rattle.ddr4_timing.specs.Command.{rank_of, is_ref}
-use Rattle.ddr4_timing.specs.Demands.{Demand, demand_of, in_groups}
+use Rattle.ddr4_timing.specs.Demands.{Demand, demand_of}
 use Rattle.ddr4_timing.specs.Gaps.{most_gap}
 use Rattle.ddr4_timing.specs.Limits.{FitsFaw}
 use Rattle.ddr4_timing.specs.Places.{is_bank, is_group}

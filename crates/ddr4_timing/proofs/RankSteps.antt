@@ -15,10 +15,10 @@ use Rattle.ddr4_timing.specs.declared.machine.Machine.{Machine}
 use Rattle.ddr4_timing.specs.declared.rank.RankState.{RankState}
 use Rattle.ddr4_timing.specs.declared.rank.Window.{Window}
 use Rattle.ddr4_timing.specs.declared.rank.Refresh.{Refresh}
-use Rattle.ddr4_timing.specs.Command.{bank_of, rank_of, is_act, is_ref, is_sre, is_act_of, is_ref_of, is_sre_of}
-use Rattle.ddr4_timing.specs.Demands.{demand_of, in_bank, in_groups, in_rank, beyond_rank}
+use Rattle.ddr4_timing.specs.Command.{bank_of, rank_of, is_act, is_ref, is_sre, is_act_of, is_ref_of}
+use Rattle.ddr4_timing.specs.Demands.{demand_of, in_groups, in_rank, beyond_rank}
 use Rattle.ddr4_timing.specs.Lawful.{row_after, is_asleep, with_command, KeepsRefresh}
-use Rattle.ddr4_timing.specs.Machine.{BankStands, RankStands, WindowStands, RefreshStands, Rises, BankRises, BanksRise, GroupsRise, RankTakes, ChannelTakes}
+use Rattle.ddr4_timing.specs.Machine.{BankStands, RankStands, WindowStands, RefreshStands, ClockRises, BankRises, BanksRise, GroupsRise, RankTakes, ChannelTakes}
 use Rattle.ddr4_timing.specs.Places.{HasSlot, is_bank, is_group, slot_of}
 use Rattle.ddr4_timing.specs.Rows.{row_in}
 use Rattle.ddr4_timing.proofs.Addresses.{has_slot, same_slot, slot_small}
@@ -27,37 +27,37 @@ use Rattle.ddr4_timing.proofs.GapParts.{tells_gaps}
 
 -- cells
 
-rises_both : (k x y a b a' b' : ℕ) → Rises k x a a' → Rises k y b b' → Rises k (max x y) (max a b) (max a' b')
+rises_both : (k x y a b a' b' : ℕ) → ClockRises k x a a' → ClockRises k y b b' → ClockRises k (max x y) (max a b) (max a' b')
 rises_both k x y a b a' b' h e = omega (arith, h, e)
 
 -- then the least clock rises to what the gaps leave
-least_rises : (k next x b b' f gap f' : ℕ) → Rises k x b b' → max next b ≡ f → gap ≡ max 1 x → f' ≡ max f (k + gap) → max (max next (k + 1)) b' ≡ f'
+least_rises : (k next x b b' f gap f' : ℕ) → ClockRises k x b b' → max next b ≡ f → gap ≡ max 1 x → f' ≡ max f (k + gap) → max (max next (k + 1)) b' ≡ f'
 least_rises k next x b b' f gap f' h e g p = omega (arith, h, e, g, p)
 
-pub raised : (k x a a' : ℕ) → a' ≡ max a (k + x) → Rises k x a a'
+pub raised : (k x a a' : ℕ) → a' ≡ max a (k + x) → ClockRises k x a a'
 raised k x a a' e = omega (arith, e)
 
-pub kept : (k a : ℕ) → Rises k 0 a a
+pub kept : (k a : ℕ) → ClockRises k 0 a a
 kept k a = omega arith
 
-kept_under : (b : Bool) (k a : ℕ) → Rises k (cond b 0 0) a a
+kept_under : (b : Bool) (k a : ℕ) → ClockRises k (cond b 0 0) a a
 kept_under true k a = kept k a
 kept_under false k a = kept k a
 
-kept_in_rank : (b c : Bool) (k a : ℕ) → Rises k (cond b (cond c 0 0) 0) a a
+kept_in_rank : (b c : Bool) (k a : ℕ) → ClockRises k (cond b (cond c 0 0) 0) a a
 kept_in_rank true c k a = kept_under c k a
 kept_in_rank false c k a = kept k a
 
 -- the clocks of the commands to a bank rise by what the command asks
 record Rise (k : ℕ) (x : Command) (at : BankAddress) (b b' : BankCells) (ga ga' gr gr' gw gw' ra ra' : ℕ) (t : Timing) : Type 0 where
   bank : BankRises k x at (demand_of t x).bank_act (demand_of t x).bank_column (demand_of t x).bank_pre b b'
-  group_act : Rises k (in_groups x at (demand_of t x).near_act (demand_of t x).far_act) ga ga'
-  group_rd : Rises k (in_groups x at (demand_of t x).near_rd (demand_of t x).far_rd) gr gr'
-  group_wr : Rises k (in_groups x at (demand_of t x).near_wr (demand_of t x).far_wr) gw gw'
-  rank_act : Rises k (in_rank x at.rank (demand_of t x).rank_act) ra ra'
+  group_act : ClockRises k (in_groups x at (demand_of t x).near_act (demand_of t x).far_act) ga ga'
+  group_rd : ClockRises k (in_groups x at (demand_of t x).near_rd (demand_of t x).far_rd) gr gr'
+  group_wr : ClockRises k (in_groups x at (demand_of t x).near_wr (demand_of t x).far_wr) gw gw'
+  rank_act : ClockRises k (in_rank x at.rank (demand_of t x).rank_act) ra ra'
 
 bank_stands : (t : Timing) (list : List Stamped) (k next write write' column column' : ℕ) (x : Command) (at : BankAddress) (old new : RankState) (b b' : BankCells) (ga ga' gr gr' gw gw' : ℕ) →
-    Rise k x at b b' ga ga' gr gr' gw gw' old.act new.act t → Rises k (beyond_rank x at.rank (demand_of t x).beyond) column column' → Rises k (demand_of t x).write write write' → row_in new.rows at ≡ row_after at (row_in old.rows at) x →
+    Rise k x at b b' ga ga' gr gr' gw gw' old.act new.act t → ClockRises k (beyond_rank x at.rank (demand_of t x).beyond) column column' → ClockRises k (demand_of t x).write write write' → row_in new.rows at ≡ row_after at (row_in old.rows at) x →
     BankStands t list next write column at old b ga gr gw → BankStands t (with_command list k x) (max next (k + 1)) write' column' at new b' ga' gr' gw'
 bank_stands t list k next write write' column column' x at old new b b' ga ga' gr gr' gw gw' h beyond writes row s =
     let y : Stamped = record { clock = k; cmd = x } in
@@ -98,7 +98,7 @@ banks_kept k x banks at none slot own =
 
 -- one bank's cells are raised
 pub banks_raised : (k : ℕ) (x : Command) (act column pre n : ℕ) (banks : List BankCells) (y d : BankCells) → length banks ≡ 16 → HasSlot (bank_of x) → n ≡ slot_of (bank_of x) →
-    Rises k act (get_or banks n d).act y.act → Rises k column (get_or banks n d).column y.column → Rises k pre (get_or banks n d).pre y.pre → BanksRise k x act column pre banks (set banks n y)
+    ClockRises k act (get_or banks n d).act y.act → ClockRises k column (get_or banks n d).column y.column → ClockRises k pre (get_or banks n d).pre y.pre → BanksRise k x act column pre banks (set banks n y)
 banks_raised k x act column pre n banks y d size own slot to_act to_column to_pre at none there rank =
     let small = slot_small at there in
     elim (cases_eq n (slot_of at)) [
@@ -173,7 +173,7 @@ and_true true = refl
 and_true false = refl
 
 pub own_rank : (c : Checked) (list : List Stamped) (k next write write' column column' : ℕ) (x : Command) (old new : RankState) → RankTakes c.timing k x old new → KeepsRefresh c.timing list (record { clock = k; cmd = x }) →
-    Rises k (beyond_rank x (rank_of x) (demand_of c.timing x).beyond) column column' → Rises k (demand_of c.timing x).write write write' →
+    ClockRises k (beyond_rank x (rank_of x) (demand_of c.timing x).beyond) column column' → ClockRises k (demand_of c.timing x).write write write' →
     RankStands c list next write column (rank_of x) old → RankStands c (with_command list k x) (max next (k + 1)) write' column' (rank_of x) new
 own_rank c list k next write write' column column' x old new h keeps beyond writes s =
     let demand = tells_gaps c.timing x in
@@ -190,7 +190,7 @@ own_rank c list k next write write' column column' x old new h keeps beyond writ
             group_wr = h.cells.group_wr at none slot own;
             rank_act = rw same h.cells.act;
           })
-          (subst (λ (r : ℕ). Rises k (beyond_rank x r (demand_of c.timing x).beyond) column column') (sym own) beyond) writes (h.rows at slot own) (s.banks at bank none there own);
+          (subst (λ (r : ℕ). ClockRises k (beyond_rank x r (demand_of c.timing x).beyond) column column') (sym own) beyond) writes (h.rows at slot own) (s.banks at bank none there own);
       pre_all = least_rises k next _ _ _ _ _ _ (rw here h.cells.pre_all) s.pre_all (demand.pre_all (rank_of x)) (floor_push _ list _ (PreAll (rank_of x)));
       refresh = least_rises k next _ _ _ _ _ _ (rw here h.cells.idle) s.refresh (demand.refresh (rank_of x)) (floor_push _ list _ (Ref (rank_of x)));
       sleep = least_rises k next _ _ _ _ _ _ (rw here h.cells.idle) s.sleep (demand.sleep (rank_of x)) (floor_push _ list _ (Sre (rank_of x)));
@@ -215,7 +215,7 @@ row_elsewhere at row (Ref r) e = refl
 row_elsewhere at row (Sre r) e = refl
 
 other_rank : (c : Checked) (list : List Stamped) (k next write write' column column' : ℕ) (x : Command) (rank : ℕ) (r : RankState) → rank_of x ≢ rank →
-    Rises k (beyond_rank x rank (demand_of c.timing x).beyond) column column' → Rises k (demand_of c.timing x).write write write' →
+    ClockRises k (beyond_rank x rank (demand_of c.timing x).beyond) column column' → ClockRises k (demand_of c.timing x).write write write' →
     RankStands c list next write column rank r → RankStands c (with_command list k x) (max next (k + 1)) write' column' rank r
 other_rank c list k next write write' column column' x rank r n beyond writes s =
     let demand = tells_gaps c.timing x in
@@ -231,7 +231,7 @@ other_rank c list k next write write' column column' x rank r n beyond writes s 
             group_wr = rw other (kept k _);
             rank_act = rw other (kept k _);
           })
-          (subst (λ (m : ℕ). Rises k (beyond_rank x m (demand_of c.timing x).beyond) column column') (sym own) beyond) writes (sym (row_elsewhere at _ x other)) (s.banks at bank none h own);
+          (subst (λ (m : ℕ). ClockRises k (beyond_rank x m (demand_of c.timing x).beyond) column column') (sym own) beyond) writes (sym (row_elsewhere at _ x other)) (s.banks at bank none h own);
       pre_all = least_rises k next _ _ _ _ _ _ (rw elsewhere (kept k _)) s.pre_all (demand.pre_all rank) (floor_push _ list _ (PreAll rank));
       refresh = least_rises k next _ _ _ _ _ _ (rw elsewhere (kept k _)) s.refresh (demand.refresh rank) (floor_push _ list _ (Ref rank));
       sleep = least_rises k next _ _ _ _ _ _ (rw elsewhere (kept k _)) s.sleep (demand.sleep rank) (floor_push _ list _ (Sre rank));
@@ -242,11 +242,11 @@ other_rank c list k next write write' column column' x rank r n beyond writes s 
 
 -- what all ranks share
 
-pub column_raised : (b : Bool) (k gap old new : ℕ) → new ≡ max old (cond b 0 (k + gap)) → Rises k (cond b 0 gap) old new
+pub column_raised : (b : Bool) (k gap old new : ℕ) → new ≡ max old (cond b 0 (k + gap)) → ClockRises k (cond b 0 gap) old new
 column_raised true k gap old new e = omega (arith, e)
 column_raised false k gap old new e = omega (arith, e)
 
-pub column_kept : (b : Bool) (k gap a : ℕ) → gap ≡ 0 → Rises k (cond b 0 gap) a a
+pub column_kept : (b : Bool) (k gap a : ℕ) → gap ≡ 0 → ClockRises k (cond b 0 gap) a a
 column_kept true k gap a e = kept k a
 column_kept false k gap a e = rw e (kept k a)
 
@@ -275,7 +275,7 @@ each_rank c list k x old new taken d i size wide at keeps takes shares stands ra
           rw (shares.ranks, get_or-set_at old.ranks i rank taken none (sym same) (omega (arith, h, four, size, same)), shares.next)
           (subst (λ (r : ℕ). RankStands c (with_command list k x) (max old.next (k + 1)) new.write (get_or new.columns rank column) r taken) own
           (own_rank c list k old.next old.write new.write (get_or old.columns rank column) (get_or new.columns rank column) x (get_or old.ranks i d) taken takes keeps
-          (subst (λ (r : ℕ). Rises k (beyond_rank x r (demand_of c.timing x).beyond) (get_or old.columns rank column) (get_or new.columns rank column)) (sym own) beyond) shares.write
+          (subst (λ (r : ℕ). ClockRises k (beyond_rank x r (demand_of c.timing x).beyond) (get_or old.columns rank column) (get_or new.columns rank column)) (sym own) beyond) shares.write
           (subst (λ (r : ℕ). RankStands c list old.next old.write (get_or old.columns rank column) r (get_or old.ranks i d)) (sym own) (subst (λ (r : RankState). RankStands c list old.next old.write (get_or old.columns rank column) rank r) (sym here) (stands rank column none h)))))
       | inr n ↦
           rw (shares.ranks, get_or-set_other old.ranks i rank taken none (λ e. n (sym e)), shares.next)

@@ -2,7 +2,7 @@
 use Rattle.std.proofs.Common.{◌≡◌, ℕ, zero, suc, ◌+◌, ◌-◌, ◌*◌, ◌<◌, ◌≤◌, Bool, true, false, cond, eqb, List, [], ◌∷◌, ◌++◌, length, take, drop, Some, refl, ap, sym, subst, ◌∙◌, inl, inr, arith, add-one, IsTrue}
 use Rattle.std.specs.Prelude.{max, count_by, not, ◌&&◌, ◌↔◌}
 use Rattle.std.specs.List.{slice_get}
-use Rattle.std.proofs.lemmas.Bool.{cases_lt, cases_eq, cases_Bool, ne_eqb, cond-false}
+use Rattle.std.proofs.lemmas.Bool.{cases_lt, cases_Bool}
 use Rattle.std.proofs.lemmas.List.{take-append-le, length_push}
 use Rattle.std.proofs.lemmas.Option.{slice_get_within, same_Some}
 use Rattle.std.proofs.lemmas.Grind.{common_steps}
@@ -14,10 +14,10 @@ use Rattle.ddr4_timing.specs.declared.timing.Checked.{Checked}
 use Rattle.ddr4_timing.specs.declared.fault.Fault.{Fault}
 use Rattle.ddr4_timing.specs.Command.{is_act, is_act_of, is_ref, rank_of}
 use Rattle.ddr4_timing.specs.Gaps.{gap, pair_gap, faw_gap}
-use Rattle.ddr4_timing.specs.Lawful.{ref_count, last_ref, KeepsGap, KeepsRows, KeepsRefresh, ObeysRule, Admits, KeepsRule, IsLawful, IsLeastFault}
+use Rattle.ddr4_timing.specs.Lawful.{ref_count, last_ref, KeepsGap, KeepsRows, KeepsRefresh, ObeysRule, MayComeNext, KeepsRule, IsLawful, IsLeastFault}
 use Rattle.ddr4_timing.specs.Floors.{greatest, floor, window, least_clock}
 use Rattle.ddr4_timing.specs.Gaps.{largest, most_gap}
-use Rattle.ddr4_timing.specs.Rules.{every_rule, number_of}
+use Rattle.ddr4_timing.specs.Rules.{every_rule, rule_number}
 use Rattle.ddr4_timing.specs.declared.rules.Rule.{Rule}
 use Rattle.ddr4_timing.specs.declared.rules.Rule.TheVariants.{Order, Rows, Faw, Refi}
 use Rattle.ddr4_timing.proofs.RuleOrder.{rule_at}
@@ -35,7 +35,7 @@ largest_below f (r ∷ rules) d h = let e = largest_below f rules d h in let s =
 
 pair_gap-le : (t : Timing) (rule : Rule) (a b : Command) → pair_gap t rule a b ≤ most_gap t a b
 unfolding most_gap
-pair_gap-le t rule a b = largest_above (λ r. pair_gap t r a b) every_rule (number_of rule - 1) rule (rule_at rule)
+pair_gap-le t rule a b = largest_above (λ r. pair_gap t r a b) every_rule (rule_number rule - 1) rule (rule_at rule)
 
 most_gap-le : (t : Timing) (a b : Command) (d : ℕ) → ((rule : Rule) → pair_gap t rule a b ≤ d) → most_gap t a b ≤ d
 unfolding most_gap
@@ -147,11 +147,11 @@ slice_get_end : (xs : List Stamped) (y : Stamped) → slice_get (xs ++ y ∷ [])
 slice_get_end [] y = refl
 slice_get_end (x ∷ xs) y = slice_get_end xs y
 
-pub admits_from : (c : Checked) (list : List Stamped) (x : Stamped) → IsLawful c (list ++ x ∷ []) → Admits c list x
+pub admits_from : (c : Checked) (list : List Stamped) (x : Stamped) → IsLawful c (list ++ x ∷ []) → MayComeNext c list x
 admits_from c list x h rule first =
     subst (λ (before : List Stamped). ObeysRule c before x rule first) (take-append_seam list (x ∷ [])) (h rule first (length list) x (slice_get_end list x))
 
-pub lawful_from : (c : Checked) (list : List Stamped) (x : Stamped) → IsLawful c list → Admits c list x → IsLawful c (list ++ x ∷ [])
+pub lawful_from : (c : Checked) (list : List Stamped) (x : Stamped) → IsLawful c list → MayComeNext c list x → IsLawful c (list ++ x ∷ [])
 lawful_from c list x h a rule first second y s =
     elim (cases_lt second (length list)) [
       | inl l ↦
@@ -181,7 +181,7 @@ pub record IsReady (c : Checked) (list : List Stamped) (x : Stamped) : Type 0 wh
   pub clock : least_clock c.timing list x.cmd ≤ x.clock
   pub in_time : x.clock ≤ last_ref (rank_of x.cmd) list + 9 * c.timing.t_refi
 
-ready_from_admits : (c : Checked) (list : List Stamped) (x : Stamped) → Admits c list x → IsReady c list x
+ready_from_admits : (c : Checked) (list : List Stamped) (x : Stamped) → MayComeNext c list x → IsReady c list x
 unfolding least_clock
 ready_from_admits c list x h =
     let gaps : KeepsGaps c.timing list x = λ rule i. (h rule i).pair in
@@ -195,7 +195,7 @@ ready_from_admits c list x h =
       in_time = omega (arith, refresh.in_time);
     }
 
-admits_from_ready : (c : Checked) (list : List Stamped) (x : Stamped) → IsReady c list x → Admits c list x
+admits_from_ready : (c : Checked) (list : List Stamped) (x : Stamped) → IsReady c list x → MayComeNext c list x
 unfolding least_clock
 admits_from_ready c list x r rule first = record {
   pair = gaps_from c.timing list x (omega (arith, r.clock)) (below_cond (is_act x.cmd) (window c.timing (rank_of x.cmd) 3 list) x.clock (omega (arith, r.clock))) rule first;

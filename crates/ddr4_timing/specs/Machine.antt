@@ -1,5 +1,5 @@
 -- Which lists of commands a `Machine` stands for.
-use Rattle.std.specs.Prelude.{◌≡◌, ℕ, ◌+◌, ◌*◌, ◌<◌, ◌||◌, max, List, length, slice_index_or}
+use Rattle.std.specs.Prelude.{◌≡◌, ◌↔◌, ℕ, ◌+◌, ◌*◌, ◌<◌, Bool, ◌||◌, max, List, length, slice_index_or, IsTrue}
 use Rattle.ddr4_timing.specs.declared.place.BankAddress.{BankAddress}
 use Rattle.ddr4_timing.specs.declared.command.Command.{Command}
 use Rattle.ddr4_timing.specs.declared.command.Command.TheVariants.{Act, Rd, Wr, Pre, PreAll, Ref, Sre}
@@ -13,8 +13,8 @@ use Rattle.ddr4_timing.specs.declared.rank.Refresh.{Refresh}
 use Rattle.ddr4_timing.specs.declared.machine.Machine.{Machine}
 use Rattle.ddr4_timing.specs.Command.{is_sre, rank_of}
 use Rattle.ddr4_timing.specs.Demands.{Demand, beyond_rank, demand_of, in_bank, in_groups}
-use Rattle.ddr4_timing.specs.Floors.{floor, window}
-use Rattle.ddr4_timing.specs.Lawful.{row_after, open_row, last_ref, ref_count, is_asleep, with_command, IsLawful, KeepsRefresh}
+use Rattle.ddr4_timing.specs.Floors.{floor, least_clock, window}
+use Rattle.ddr4_timing.specs.Lawful.{row_after, open_row, last_ref, ref_count, is_asleep, with_command, AllClosed, FitsRows, IsLawful, KeepsRefresh, KeepsRows}
 use Rattle.ddr4_timing.specs.Places.{HasBank, HasSlot, slot_of}
 use Rattle.ddr4_timing.specs.Rows.{row_in}
 
@@ -57,14 +57,66 @@ pub record StandsFor (c : Checked) (m : Machine) (list : List Stamped) : Type 0 
   pub ranks : (rank column : ℕ) (none : RankState) → rank < c.geometry.ranks →
       RankStands c list m.next m.write (slice_index_or m.columns rank column) rank (slice_index_or m.ranks rank none)
 
+-- new is the machine old after a command, for each list that the command leaves lawful
+abbrev pub IsMachineAfter : Checked → ℕ → Command → Machine → Machine → Type 0
+IsMachineAfter c clock x old new =
+    (list : List Stamped) → StandsFor c old list → IsLawful c (with_command list clock x) →
+    StandsFor c new (with_command list clock x)
+
+-- r is what the machine keeps of a rank
+abbrev pub IsRankOf : Checked → Machine → ℕ → RankState → Type 0
+IsRankOf c m rank r =
+    (list : List Stamped) (column : ℕ) → StandsFor c m list →
+    RankStands c list m.next m.write (slice_index_or m.columns rank column) rank r
+
+-- The answers of a machine, of each list that it stands for: whether a rank's banks are all closed,
+abbrev pub TellsClosed : Checked → Machine → ℕ → Bool → Type 0
+TellsClosed c m rank answer =
+    (list : List Stamped) → StandsFor c m list → (IsTrue answer ↔ AllClosed c.geometry rank list)
+
+-- whether the banks are as a command wants them,
+abbrev pub TellsFit : Checked → Machine → Command → Bool → Type 0
+TellsFit c m x answer = (list : List Stamped) → StandsFor c m list → (IsTrue answer ↔ FitsRows c.geometry list x)
+
+-- whether it keeps the rule on rows,
+abbrev pub TellsRows : Checked → Machine → Command → Bool → Type 0
+TellsRows c m x answer = (list : List Stamped) → StandsFor c m list → (IsTrue answer ↔ KeepsRows c.geometry list x)
+
+-- its least clock,
+abbrev pub TellsLeastClock : Checked → Machine → Command → ℕ → Type 0
+TellsLeastClock c m x answer = (list : List Stamped) → StandsFor c m list → answer ≡ least_clock c.timing list x
+
+-- and whether the list with it is lawful
+abbrev pub TellsLawful : Checked → Machine → Command → ℕ → Bool → Type 0
+TellsLawful c m x clock answer =
+    (list : List Stamped) → StandsFor c m list → (IsTrue answer ↔ IsLawful c (with_command list clock x))
+
+-- the least clock that a rank's own commands leave to an ACT,
+abbrev pub LeavesToAct : RankState → BankAddress → ℕ → Type 0
+LeavesToAct r at clock =
+    (bank : BankCells) (none : ℕ) → clock ≡
+    max (slice_index_or r.banks (slot_of at) bank).act (max (slice_index_or r.group_act at.group none) r.act)
+
+-- to a RD,
+abbrev pub LeavesToRd : RankState → BankAddress → ℕ → Type 0
+LeavesToRd r at clock =
+    (bank : BankCells) (none : ℕ) → clock ≡
+    max (slice_index_or r.banks (slot_of at) bank).column (slice_index_or r.group_rd at.group none)
+
+-- and to a WR, those of RD aside
+abbrev pub LeavesToWr : RankState → BankAddress → ℕ → Type 0
+LeavesToWr r at clock =
+    (bank : BankCells) (none : ℕ) → clock ≡
+    max (slice_index_or r.banks (slot_of at) bank).column (slice_index_or r.group_wr at.group none)
+
 -- A least clock rises to what a gap leaves behind a clock, as far as that lies past the clock.
-abbrev pub Rises : ℕ → ℕ → ℕ → ℕ → Type 0
-Rises clock gap old new = max (clock + 1) new ≡ max (clock + 1) (max old (clock + gap))
+abbrev pub ClockRises : ℕ → ℕ → ℕ → ℕ → Type 0
+ClockRises clock gap old new = max (clock + 1) new ≡ max (clock + 1) (max old (clock + gap))
 
 pub record BankRises (clock : ℕ) (x : Command) (at : BankAddress) (to_act to_column to_pre : ℕ) (old new : BankCells) : Type 0 where
-  pub act : Rises clock (in_bank x at to_act) old.act new.act
-  pub column : Rises clock (in_bank x at to_column) old.column new.column
-  pub pre : Rises clock (in_bank x at to_pre) old.pre new.pre
+  pub act : ClockRises clock (in_bank x at to_act) old.act new.act
+  pub column : ClockRises clock (in_bank x at to_column) old.column new.column
+  pub pre : ClockRises clock (in_bank x at to_pre) old.pre new.pre
 
 -- the cells of the banks of a command's rank, by the gaps to the commands of its bank
 abbrev pub BanksRise : ℕ → Command → ℕ → ℕ → ℕ → List BankCells → List BankCells → Type 0
@@ -76,7 +128,7 @@ BanksRise clock x to_act to_column to_pre old new =
 abbrev pub GroupsRise : ℕ → Command → ℕ → ℕ → List ℕ → List ℕ → Type 0
 GroupsRise clock x near far old new =
     (at : BankAddress) (none : ℕ) → HasSlot at → at.rank ≡ rank_of x →
-    Rises clock (in_groups x at near far) (slice_index_or old at.group none) (slice_index_or new at.group none)
+    ClockRises clock (in_groups x at near far) (slice_index_or old at.group none) (slice_index_or new at.group none)
 
 -- the cells of a rank, behind a command of it
 pub record CellsRise (clock : ℕ) (x : Command) (d : Demand) (old new : RankState) : Type 0 where
@@ -84,9 +136,9 @@ pub record CellsRise (clock : ℕ) (x : Command) (d : Demand) (old new : RankSta
   pub group_act : GroupsRise clock x d.near_act d.far_act old.group_act new.group_act
   pub group_rd : GroupsRise clock x d.near_rd d.far_rd old.group_rd new.group_rd
   pub group_wr : GroupsRise clock x d.near_wr d.far_wr old.group_wr new.group_wr
-  pub act : Rises clock d.rank_act old.act new.act
-  pub pre_all : Rises clock d.rank_pre_all old.pre_all new.pre_all
-  pub idle : Rises clock d.rank_idle old.idle new.idle
+  pub act : ClockRises clock d.rank_act old.act new.act
+  pub pre_all : ClockRises clock d.rank_pre_all old.pre_all new.pre_all
+  pub idle : ClockRises clock d.rank_idle old.idle new.idle
 
 -- a rank's windows, refreshes and sleep, behind a command of it
 pub record HistoryFollows (t : Timing) (clock : ℕ) (x : Command) (old new : RankState) : Type 0 where
@@ -105,6 +157,6 @@ pub record RankTakes (t : Timing) (clock : ℕ) (x : Command) (old new : RankSta
 pub record ChannelTakes (t : Timing) (clock : ℕ) (x : Command) (old new : Machine) : Type 0 where
   pub ranks : new.ranks ≡ old.ranks
   pub next : new.next ≡ max old.next (clock + 1)
-  pub write : Rises clock (demand_of t x).write old.write new.write
+  pub write : ClockRises clock (demand_of t x).write old.write new.write
   pub columns : (rank none : ℕ) → rank < length old.columns →
-      Rises clock (beyond_rank x rank (demand_of t x).beyond) (slice_index_or old.columns rank none) (slice_index_or new.columns rank none)
+      ClockRises clock (beyond_rank x rank (demand_of t x).beyond) (slice_index_or old.columns rank none) (slice_index_or new.columns rank none)

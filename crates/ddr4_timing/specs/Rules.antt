@@ -8,20 +8,20 @@ every_rule =
     Order ∷ Rows ∷ Rcd ∷ Ras ∷ Rp ∷ Rc ∷ Rtp ∷ Wr ∷
     Rrd ∷ Faw ∷ Ccd ∷ Wtr ∷ Rtw ∷ Cs ∷ Rfc ∷ Refi ∷ []
 
-abbrev pub number_of : Rule → ℕ
-number_of Order = 1
-number_of Rows = 2
-number_of Rcd = 3
-number_of Ras = 4
-number_of Rp = 5
-number_of Rc = 6
-number_of Rtp = 7
-number_of Wr = 8
-number_of Rrd = 9
-number_of Faw = 10
-number_of Ccd = 11
-number_of Wtr = 12
-number_of Rtw = 13
-number_of Cs = 14
-number_of Rfc = 15
-number_of Refi = 16
+abbrev pub rule_number : Rule → ℕ
+rule_number Order = 1
+rule_number Rows = 2
+rule_number Rcd = 3
+rule_number Ras = 4
+rule_number Rp = 5
+rule_number Rc = 6
+rule_number Rtp = 7
+rule_number Wr = 8
+rule_number Rrd = 9
+rule_number Faw = 10
+rule_number Ccd = 11
+rule_number Wtr = 12
+rule_number Rtw = 13
+rule_number Cs = 14
+rule_number Rfc = 15
+rule_number Refi = 16

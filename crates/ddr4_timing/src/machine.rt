@@ -1,7 +1,6 @@
 // What a list of commands leaves to the next one, in a constant size.
-ghost use Rattle.std.specs.Prelude.{◌≡◌, ℕ, ◌+◌, ◌≢◌, ◌<◌, ◌≤◌, ◌==◌, ◌^◌, ◌↔◌, max, List, [], IsTrue, if◌then◌else◌, slice_index_or, length};
-ghost use Rattle.ddr4_timing.specs.declared.rank.RankState.{RankState};
-ghost use Rattle.ddr4_timing.specs.Lawful.{AllClosed, IsInGeometry, FitsRows, KeepsRows, IsLawful, open_row, with_command};
+ghost use Rattle.std.specs.Prelude.{◌≡◌, ◌<◌, ◌^◌, List, [], IsTrue};
+ghost use Rattle.ddr4_timing.specs.Lawful.{IsInGeometry, open_row};
 ghost use Rattle.ddr4_timing.specs.Command.{rank_of};
 ghost use Rattle.ddr4_timing.specs.Places.{HasBank};
 ghost use Rattle.ddr4_timing.specs.declared.command.Stamped.{Stamped};
@@ -26,8 +25,7 @@ pub struct Machine {
 
 impl Machine {
     ghost use Rattle.ddr4_timing.specs.Limits.{AreInLimits};
-    ghost use Rattle.ddr4_timing.specs.Machine.{ChannelTakes, RankStands, StandsFor};
-    ghost use Rattle.ddr4_timing.specs.Floors.{floor, least_clock};
+    ghost use Rattle.ddr4_timing.specs.Machine.{ChannelTakes, IsMachineAfter, IsRankOf, StandsFor, TellsClosed, TellsFit, TellsLawful, TellsLeastClock, TellsRows};
 
     /// Before any command.
     pub fn new(checked: &Checked) -> Machine
@@ -45,8 +43,7 @@ impl Machine {
     pub fn issue(&mut self, checked: &Checked, cmd: &Command, clock: u64)
         requires early { clock < 2 ^ 63 }
         requires place { IsInGeometry checked.now.geometry cmd.now }
-        ensures { (list : List Stamped) → StandsFor checked.now self.old list → IsLawful checked.now (with_command list clock cmd.now)
-            → StandsFor checked.now self.new (with_command list clock cmd.now) }
+        ensures { IsMachineAfter checked.now clock cmd.now self.old self.new }
     {
         let rank = cmd.rank();
         self.ranks[rank as usize].take(checked, cmd, clock);
@@ -74,8 +71,7 @@ impl Machine {
     /// What is kept of a rank.
     pub fn rank(&self, checked: &Checked, rank: u64) -> &RankState
         requires { rank < checked.now.geometry.ranks }
-        ensures { (list : List Stamped) (column : ℕ) → StandsFor checked.now self.now list
-            → RankStands checked.now list self.now.next self.now.write (slice_index_or self.now.columns rank column) rank result.now }
+        ensures { IsRankOf checked.now self.now rank result.now }
     {
         &self.ranks[rank as usize]
     }
@@ -91,7 +87,7 @@ impl Machine {
     /// Is every bank of the rank closed?
     pub fn all_closed(&self, checked: &Checked, rank: u64) -> bool
         requires { rank < checked.now.geometry.ranks }
-        ensures { (list : List Stamped) → StandsFor checked.now self.now list → (IsTrue result ↔ AllClosed checked.now.geometry rank list) }
+        ensures { TellsClosed checked.now self.now rank result }
     {
         let banks = checked.geometry.groups * checked.geometry.banks;
         self.rank(checked, rank).rows.all_closed(banks as usize)
@@ -100,7 +96,7 @@ impl Machine {
     /// Does the place lie in the geometry, is the rank awake, and are the banks as the command wants them?
     pub fn keeps_rows(&self, checked: &Checked, cmd: &Command) -> bool
         ensures place { IsTrue result → IsInGeometry checked.now.geometry cmd.now }
-        ensures rows { (list : List Stamped) → StandsFor checked.now self.now list → (IsTrue result ↔ KeepsRows checked.now.geometry list cmd.now) }
+        ensures rows { TellsRows checked.now self.now cmd.now result }
     {
         if !is_in_geometry(&checked.geometry, cmd) {
             return false;
@@ -114,7 +110,7 @@ impl Machine {
     /// Are the banks as the command wants them?
     fn fits_rows(&self, checked: &Checked, cmd: &Command) -> bool
         requires { IsInGeometry checked.now.geometry cmd.now }
-        ensures { (list : List Stamped) → StandsFor checked.now self.now list → (IsTrue result ↔ FitsRows checked.now.geometry list cmd.now) }
+        ensures { TellsFit checked.now self.now cmd.now result }
     {
         match *cmd {
             Command::Act { at, .. } => self.open_row(checked, at).is_none(),
@@ -132,7 +128,7 @@ impl Machine {
     #[tactic(auto, unfolding(crate::specs::Floors::least_clock))]
     pub fn least_clock(&self, checked: &Checked, cmd: &Command) -> u64
         requires { IsInGeometry checked.now.geometry cmd.now }
-        ensures { (list : List Stamped) → StandsFor checked.now self.now list → result ≡ least_clock checked.now.timing list cmd.now }
+        ensures { TellsLeastClock checked.now self.now cmd.now result }
     {
         let number = cmd.rank();
         let rank = self.rank(checked, number);
@@ -152,7 +148,7 @@ impl Machine {
     /// May the command go at this clock?
     pub fn ready(&self, checked: &Checked, cmd: &Command, clock: u64) -> bool
         ensures place { IsTrue result → IsInGeometry checked.now.geometry cmd.now }
-        ensures exact { (list : List Stamped) → StandsFor checked.now self.now list → (IsTrue result ↔ IsLawful checked.now (with_command list clock cmd.now)) }
+        ensures exact { TellsLawful checked.now self.now cmd.now clock result }
     {
         if !self.keeps_rows(checked, cmd) {
             return false;

@@ -42,3 +42,13 @@ pub const LARGEST: Geometry = Geometry {
     rows: 32,
     columns: 32,
 };
+
+/// Eight channels of four ranks, of 65,536 lines in fewer rows than channels.
+pub const WIDEST: Geometry = Geometry {
+    channels: 8,
+    ranks: 4,
+    groups: 4,
+    banks: 4,
+    rows: 2,
+    columns: 64,
+};

@@ -1,17 +1,14 @@
 // What the commands of a rank leave to its later ones.
-ghost use Rattle.std.specs.Prelude.{◌≡◌, ℕ, ◌*◌, ◌<◌, ◌≤◌, ◌^◌, ◌+◌, max, List, [], slice_index_or};
-ghost use Rattle.ddr4_timing.specs.Command.{bank_of, rank_of};
-ghost use Rattle.ddr4_timing.specs.Lawful.{KeepsRefresh, with_command};
-ghost use Rattle.ddr4_timing.specs.Places.{HasSlot, slot_of};
-ghost use Rattle.ddr4_timing.specs.declared.cells.BankCells.{BankCells};
+ghost use Rattle.std.specs.Prelude.{ℕ, ◌<◌, ◌^◌, []};
+ghost use Rattle.ddr4_timing.specs.Command.{bank_of};
+ghost use Rattle.ddr4_timing.specs.Places.{HasSlot};
 ghost use Rattle.ddr4_timing.specs.declared.command.Command.TheVariants.{Act, Rd, Wr, Pre, PreAll, Ref, Sre};
-ghost use Rattle.ddr4_timing.specs.declared.command.Stamped.{Stamped};
 
 use crate::cells::{BankCells, raise, raise_all};
 use crate::command::Command;
 use crate::place::BankAddress;
 use crate::rows::Rows;
-use crate::timing::{Checked, Timing};
+use crate::timing::Checked;
 
 /// tFAW after each of a rank's last four ACT, 0 where it had fewer.
 #[derive(Clone, Copy, Debug)]
@@ -47,7 +44,7 @@ pub struct RankState {
 }
 
 impl RankState {
-    ghost use Rattle.ddr4_timing.specs.Machine.{RankStands, RankTakes};
+    ghost use Rattle.ddr4_timing.specs.Machine.{LeavesToAct, LeavesToRd, LeavesToWr, RankStands, RankTakes};
 
     /// A rank before any command.
     pub(crate) fn new(checked: &Checked) -> RankState
@@ -208,8 +205,7 @@ impl RankState {
     /// The least clock that the rank's own commands leave to an ACT.
     pub(crate) fn act_clock(&self, at: BankAddress) -> u64
         requires { HasSlot at }
-        ensures { (bank : BankCells) (none : ℕ) → result ≡ max (slice_index_or self.now.banks (slot_of at) bank).act
-            (max (slice_index_or self.now.group_act at.group none) self.now.act) }
+        ensures { LeavesToAct self.now at result }
     {
         let group = self.group_act[at.group as usize];
         self.banks[at.slot()].act.max(group.max(self.act))
@@ -218,8 +214,7 @@ impl RankState {
     /// The least clock that the rank's own commands leave to a RD.
     pub(crate) fn rd_clock(&self, at: BankAddress) -> u64
         requires { HasSlot at }
-        ensures { (bank : BankCells) (none : ℕ) → result ≡ max (slice_index_or self.now.banks (slot_of at) bank).column
-            (slice_index_or self.now.group_rd at.group none) }
+        ensures { LeavesToRd self.now at result }
     {
         let group = self.group_rd[at.group as usize];
         self.banks[at.slot()].column.max(group)
@@ -228,8 +223,7 @@ impl RankState {
     /// The least clock that the rank's own commands leave to a WR, those of RD aside.
     pub(crate) fn wr_clock(&self, at: BankAddress) -> u64
         requires { HasSlot at }
-        ensures { (bank : BankCells) (none : ℕ) → result ≡ max (slice_index_or self.now.banks (slot_of at) bank).column
-            (slice_index_or self.now.group_wr at.group none) }
+        ensures { LeavesToWr self.now at result }
     {
         let group = self.group_wr[at.group as usize];
         self.banks[at.slot()].column.max(group)

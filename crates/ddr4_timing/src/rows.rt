@@ -1,5 +1,5 @@
 // The open rows of a rank.
-ghost use Rattle.std.specs.Prelude.{◌≡◌, ◌<◌, ◌≤◌, ◌↔◌, ℕ, IsTrue, Some, None, false, if◌then◌else◌, slice_index_or};
+ghost use Rattle.std.specs.Prelude.{◌≡◌, ◌≤◌, ◌↔◌, IsTrue, Some, None, if◌then◌else◌};
 ghost use Rattle.ddr4_timing.specs.Places.{HasSlot, is_bank};
 ghost use Rattle.ddr4_timing.specs.declared.place.BankAddress.{BankAddress};
 
@@ -13,7 +13,7 @@ pub struct Rows {
 }
 
 impl Rows {
-    ghost use Rattle.ddr4_timing.specs.Rows.{row_in};
+    ghost use Rattle.ddr4_timing.specs.Rows.{AreFirstClosed, row_in};
 
     /// All banks closed.
     pub(crate) fn new() -> Rows
@@ -41,7 +41,7 @@ impl Rows {
     /// Are the rank's first banks all closed?
     pub(crate) fn all_closed(&self, banks: usize) -> bool
         requires { banks ≤ 16 }
-        ensures { IsTrue result ↔ ((k : ℕ) → k < banks → slice_index_or self.now.is_open k false ≡ false) }
+        ensures { IsTrue result ↔ AreFirstClosed banks self.now }
     {
         for i in 0..banks {
             if self.is_open[i] {

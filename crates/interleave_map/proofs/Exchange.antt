@@ -9,13 +9,13 @@ use Rattle.ddr4_timing.specs.declared.timing.Geometry.{Geometry}
 use Rattle.ddr4_timing.specs.declared.place.Place.{Place}
 use Rattle.ddr4_timing.specs.Limits.{IsSmall, IsGeometry}
 use Rattle.ddr4_timing.specs.Places.{LiesIn}
-use Rattle.interleave_map.specs.Interleaving.{place_by_lines, line_by_lines, exchanged, place_by_xor, line_by_xor}
+use Rattle.interleave_map.specs.Interleaving.{place_by_lines, line_by_lines, exchanged_place, place_by_xor, line_by_xor}
 use Rattle.interleave_map.specs.Inverse.{IsInverse}
 use Rattle.interleave_map.proofs.Numbering.{is_whole, lines_are_inverse}
 
 -- twice exchanged, a place is as it was
-exchanged_twice : (g : Geometry) (place : Place) → exchanged g (exchanged g place) ≡ place
-unfolding exchanged
+exchanged_twice : (g : Geometry) (place : Place) → exchanged_place g (exchanged_place g place) ≡ place
+unfolding exchanged_place
 exchanged_twice g place =
     let key = place.row % g.channels in
     ap (λ channel. record place { channel = channel }) (xor_assoc place.channel key key ∙ (ap (bit_xor place.channel) (xor_self key) ∙ xor_zero_r place.channel))
@@ -40,8 +40,8 @@ xor_below a b n few power a_below b_below =
     let k = exponent n few power in
     subst (λ n. bit_xor a b < n) (sym k.1) (xor_lt k.0 a b (subst (λ n. a < n) k.1 a_below) (subst (λ n. b < n) k.1 b_below))
 
-pub exchanged_lies_in : (g : Geometry) (place : Place) → IsSmall g → IsGeometry g → LiesIn g place → LiesIn g (exchanged g place)
-unfolding exchanged
+pub exchanged_lies_in : (g : Geometry) (place : Place) → IsSmall g → IsGeometry g → LiesIn g place → LiesIn g (exchanged_place g place)
+unfolding exchanged_place
 exchanged_lies_in g place small within lies = record {
   channel = xor_below place.channel (place.row % g.channels) g.channels small.channels within.channels.0 lies.channel (mod-lt place.row (is_whole g small).channels);
   rank = lies.rank;

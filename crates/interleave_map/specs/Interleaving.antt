@@ -24,11 +24,11 @@ unfoldable pub line_by_lines : Geometry → Place → ℕ
 line_by_lines g place = cell_of g place * g.channels + place.channel
 
 -- the place with its channel changed by its row
-unfoldable pub exchanged : Geometry → Place → Place
-exchanged g place = record place { channel = bit_xor place.channel (place.row % g.channels) }
+unfoldable pub exchanged_place : Geometry → Place → Place
+exchanged_place g place = record place { channel = bit_xor place.channel (place.row % g.channels) }
 
 unfoldable pub place_by_xor : Geometry → ℕ → Place
-place_by_xor g line = exchanged g (place_by_lines g line)
+place_by_xor g line = exchanged_place g (place_by_lines g line)
 
 unfoldable pub line_by_xor : Geometry → Place → ℕ
-line_by_xor g place = line_by_lines g (exchanged g place)
+line_by_xor g place = line_by_lines g (exchanged_place g place)

@@ -1,5 +1,5 @@
 // A line's place, by two closures of the caller.
-ghost use Rattle.std.specs.Prelude.{◌≡◌, ℕ};
+ghost use Rattle.std.specs.Prelude.{◌≡◌};
 ghost use Rattle.ddr4_timing.specs.declared.place.Place.{Place};
 
 use crate::line_map::LineMap;

@@ -10,50 +10,11 @@ use crate::line_map::{LineMap, Places};
 use crate::map::Map;
 use crate::{lines, xor};
 use ddr4_timing::place::Place;
-use ddr4_timing::timing::{Checked, Geometry, Timing};
+use ddr4_timing::profiles::{SMALL, TINY, WIDEST};
+use ddr4_timing::timing::{Checked, Geometry};
 use std::marker::Brand;
 use std::process::Abort;
 use std::test::Fail;
-
-const TIMING: Timing = Timing {
-    t_rcd: 16,
-    t_rp: 16,
-    t_ras: 39,
-    cl: 16,
-    cwl: 12,
-    t_ccd_s: 4,
-    t_ccd_l: 6,
-    t_rrd_s: 4,
-    t_rrd_l: 6,
-    t_faw: 26,
-    t_wr: 18,
-    t_wtr_s: 3,
-    t_wtr_l: 9,
-    t_rtp: 9,
-    t_rtw: 10,
-    t_cs: 2,
-    t_rfc: 420,
-    t_refi: 9360,
-};
-
-const TINY: Geometry = Geometry {
-    channels: 2,
-    ranks: 1,
-    groups: 2,
-    banks: 4,
-    rows: 2,
-    columns: 4,
-};
-
-// As many channels, ranks and lines as there may be, and fewer rows than channels.
-const LARGEST: Geometry = Geometry {
-    channels: 8,
-    ranks: 4,
-    groups: 4,
-    banks: 4,
-    rows: 2,
-    columns: 64,
-};
 
 const FIRST: Place = Place {
     channel: 0,
@@ -107,7 +68,7 @@ fn try_xor(rt: &impl Abort, checked: Checked) {
 
 #[test]
 fn all_come_back_on_tiny(rt: HostRuntime) -> Result<(), Fail> {
-    let checked = TIMING.check(&TINY)?;
+    let checked = TINY.check(&SMALL)?;
     try_lines(&rt, checked);
     try_xor(&rt, checked);
     Ok(())
@@ -115,7 +76,7 @@ fn all_come_back_on_tiny(rt: HostRuntime) -> Result<(), Fail> {
 
 #[test]
 fn all_come_back_on_the_largest(rt: HostRuntime) -> Result<(), Fail> {
-    let checked = TIMING.check(&LARGEST)?;
+    let checked = TINY.check(&WIDEST)?;
     try_lines(&rt, checked);
     try_xor(&rt, checked);
     Ok(())
@@ -123,9 +84,9 @@ fn all_come_back_on_the_largest(rt: HostRuntime) -> Result<(), Fail> {
 
 #[test]
 fn all_come_back_on_one_channel(rt: HostRuntime) -> Result<(), Fail> {
-    let checked = TIMING.check(&Geometry {
+    let checked = TINY.check(&Geometry {
         channels: 1,
-        ..TINY
+        ..SMALL
     })?;
     try_lines(&rt, checked);
     try_xor(&rt, checked);
@@ -134,7 +95,7 @@ fn all_come_back_on_one_channel(rt: HostRuntime) -> Result<(), Fail> {
 
 #[test]
 fn places_by_lines(rt: HostRuntime) -> Result<(), Fail> {
-    let checked = TIMING.check(&TINY)?;
+    let checked = TINY.check(&SMALL)?;
     assert_eq!(rt; line_count(&checked), 128);
     assert_eq!(rt; lines::split(&checked, 0), FIRST);
     assert_eq!(rt; lines::split(&checked, 2), Place { column: 1, ..FIRST });
@@ -157,7 +118,7 @@ fn places_by_lines(rt: HostRuntime) -> Result<(), Fail> {
 
 #[test]
 fn places_by_xor(rt: HostRuntime) -> Result<(), Fail> {
-    let checked = TIMING.check(&TINY)?;
+    let checked = TINY.check(&SMALL)?;
     assert_eq!(rt; line_count(&checked), 128);
     let first_row = lines::split(&checked, 63);
     assert_eq!(rt; xor::split(&checked, 63), first_row);
@@ -175,7 +136,7 @@ fn places_by_xor(rt: HostRuntime) -> Result<(), Fail> {
 
 #[test]
 fn places_on_the_largest(rt: HostRuntime) -> Result<(), Fail> {
-    let checked = TIMING.check(&LARGEST)?;
+    let checked = TINY.check(&WIDEST)?;
     assert_eq!(rt; line_count(&checked), 65536);
     let last = Place {
         channel: 7,
@@ -222,7 +183,7 @@ fn place_by_map(checked: Checked, line: u64) -> Place
 
 #[test]
 fn line_69_lies_on_channel_0_by_xor(rt: HostRuntime) -> Result<(), Fail> {
-    let checked = TIMING.check(&TINY)?;
+    let checked = TINY.check(&SMALL)?;
     assert_eq!(rt; line_count(&checked), 128);
     assert_eq!(rt; place_by_map(checked, 69).channel, 0);
     Ok(())

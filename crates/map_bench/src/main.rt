@@ -10,52 +10,14 @@ ghost use Rattle.ddr4_timing.specs.Places.{LiesIn};
 ghost use Rattle.interleave_map.specs.Interleaving.{place_by_lines, line_by_lines, place_by_xor, line_by_xor};
 
 use ddr4_timing::place::Place;
-use ddr4_timing::timing::{Checked, Geometry, Timing};
+use ddr4_timing::profiles::{SMALL, TINY, WIDEST};
+use ddr4_timing::timing::Checked;
 use interleave_map::cells::line_count;
 use interleave_map::line_map::LineMap;
 use interleave_map::map::Map;
 use interleave_map::{lines, xor};
 use std::env;
 use std::time::Instant;
-
-const TIMING: Timing = Timing {
-    t_rcd: 16,
-    t_rp: 16,
-    t_ras: 39,
-    cl: 16,
-    cwl: 12,
-    t_ccd_s: 4,
-    t_ccd_l: 6,
-    t_rrd_s: 4,
-    t_rrd_l: 6,
-    t_faw: 26,
-    t_wr: 18,
-    t_wtr_s: 3,
-    t_wtr_l: 9,
-    t_rtp: 9,
-    t_rtw: 10,
-    t_cs: 2,
-    t_rfc: 420,
-    t_refi: 9360,
-};
-
-const TINY: Geometry = Geometry {
-    channels: 2,
-    ranks: 1,
-    groups: 2,
-    banks: 4,
-    rows: 2,
-    columns: 4,
-};
-
-const LARGEST: Geometry = Geometry {
-    channels: 8,
-    ranks: 4,
-    groups: 4,
-    banks: 4,
-    rows: 2,
-    columns: 64,
-};
 
 // How many lines lie on channel 0 and come back.
 fn walk<M: LineMap>(map: &M, checked: &Checked) -> u64
@@ -127,8 +89,8 @@ fn measure_xor(rt: &HostRuntime, checked: Checked, timed: bool) -> anyhow::Resul
 
 fn main(rt: HostRuntime) -> anyhow::Result<()> {
     let timed = env::args(&rt)?.len() > 1;
-    for geometry in [TINY, LARGEST] {
-        let checked = TIMING.check(&geometry)?;
+    for geometry in [SMALL, WIDEST] {
+        let checked = TINY.check(&geometry)?;
         measure_lines(&rt, checked, timed)?;
         measure_xor(&rt, checked, timed)?;
     }

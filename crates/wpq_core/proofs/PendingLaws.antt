@@ -1,8 +1,7 @@
 -- A line that is read early, a write that goes into the array early, and one more write.
-use Rattle.std.proofs.Common.{◌≡◌, ◌≢◌, ℕ, zero, suc, ◌<◌, List, [], ◌∷◌, ◌++◌, Bool, true, false, cond, filter, map, length, get_or, set, slice_get, remove, Option, Some, None, refl, sym, ap, subst, ◌∙◌, arith, length-set, get_or-set_other, get_or-set_same}
-use Rattle.std.proofs.lemmas.List.{map-append, set_comm}
+use Rattle.std.proofs.Common.{◌≡◌, ◌≢◌, ℕ, zero, suc, ◌<◌, List, [], ◌∷◌, Bool, true, false, cond, filter, length, get_or, set, slice_get, remove, Option, Some, None, refl, sym, ap, subst, ◌∙◌, arith, length-set, get_or-set_other, get_or-set_same}
+use Rattle.std.proofs.lemmas.List.{set_comm}
 use Rattle.line_memory.specs.Memory.{after, after_write}
-use Rattle.line_memory.proofs.MemoryLaws.{after-push}
 use Rattle.wpq_core.specs.declared.queue.PendingWrite.{PendingWrite}
 use Rattle.wpq_core.specs.Writes.{NoWriteNames, IsNewest, IsFirstOfItsLine}
 use Rattle.wpq_core.specs.PendingMemory.{after_pending, data_or}
@@ -58,9 +57,6 @@ below-early f array (x ∷ xs) (suc i) w at picked first =
     let apart : w.write.line ≢ x.write.line = λ same. first zero x w (omega arith) refl at (sym same) in
     early-head f array x w (filter f xs) (filter f (remove xs i)) (f x) apart
     (λ lines. below-early f lines xs i w at picked (λ j v u less s t. first (suc j) v u (omega (arith, less)) s t))
-
-pub after_pending-push : (array : List (List ℕ)) (writes : List PendingWrite) (w : PendingWrite) → after_pending array (writes ++ w ∷ []) ≡ after_write (after_pending array writes) w.write
-after_pending-push array writes w = ap (after array) (map-append (λ (x : PendingWrite). x.write) writes (w ∷ [])) ∙ after-push array (map (λ x. x.write) writes) w.write
 
 pub length-after_pending : (array : List (List ℕ)) (writes : List PendingWrite) → length (after_pending array writes) ≡ length array
 length-after_pending array [] = refl

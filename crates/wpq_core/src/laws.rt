@@ -1,21 +1,20 @@
 // What the pending writes mean to a memory.
-ghost use Rattle.std.specs.Prelude.{◌≡◌, ◌≢◌, ℕ, ◌<◌, List, [], ◌∷◌, ◌++◌, Option, Some, length, remove, slice_get, slice_index_or};
+ghost use Rattle.std.specs.Prelude.{◌≡◌, ℕ, List, [], ◌∷◌, ◌++◌};
 ghost use Rattle.line_memory.specs.Memory.{after_write};
 ghost use Rattle.wpq_core.specs.declared.queue.PendingWrite.{PendingWrite};
-ghost use Rattle.wpq_core.specs.Writes.{IsNewest, IsFirstOfItsLine};
-ghost use Rattle.wpq_core.specs.PendingMemory.{after_pending, data_or};
+ghost use Rattle.wpq_core.specs.Writes.{IsFirstOfItsLine};
+ghost use Rattle.wpq_core.specs.PendingMemory.{HasNewestData, MayGoEarly, after_pending};
 
 /// A line of the memory after the pending writes is the newest pending write's data of that line, or else the array's.
 pub fn line_of_memory()
-    ensures { (array : List (List ℕ)) (writes : List PendingWrite) (line : ℕ) (newest : Option (List ℕ)) → line < length array → IsNewest line writes newest
-        → slice_index_or (after_pending array writes) line [] ≡ data_or newest (slice_index_or array line []) }
+    ensures { (array : List (List ℕ)) (writes : List PendingWrite) → HasNewestData array writes }
 {}
 
 /// Where no older pending write names its line, a pending write may go into the array: the memory after the pending writes
 /// stays as it is.
 pub fn early_write()
-    ensures { (array : List (List ℕ)) (writes : List PendingWrite) (i : ℕ) (pending : PendingWrite) → slice_get writes i ≡ Some pending → IsFirstOfItsLine writes i
-        → after_pending (after_write array pending.write) (remove writes i) ≡ after_pending array writes }
+    ensures { (array : List (List ℕ)) (writes : List PendingWrite) (i : ℕ) → IsFirstOfItsLine writes i
+        → MayGoEarly array writes i }
 {}
 
 /// A pushed write is in the memory after the pending writes.

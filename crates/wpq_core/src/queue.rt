@@ -1,7 +1,7 @@
 // The queue, with its room reserved once.
-ghost use Rattle.std.specs.Prelude.{◌≡◌, ℕ, ◌≤◌, ◌<◌, ◌^◌, ◌↔◌, [], ◌∷◌, ◌++◌, length, nat_lt, count_by, IfErr, IfNone, IfOk, IfSome, IsOk, IsTrue, OnErr, OnOk, vec_capacity};
+ghost use Rattle.std.specs.Prelude.{◌≡◌, ℕ, ◌≤◌, ◌<◌, ◌^◌, ◌↔◌, [], length, nat_lt, count_by, IfErr, IfNone, IfOk, IfSome, IsOk, IsTrue, OnErr, OnOk, vec_capacity};
 ghost use Rattle.wpq_core.specs.Writes.{ComeBefore, IsNewest, IsPlaceOfWrite, TakesWrite, pending_write};
-ghost use Rattle.wpq_core.specs.Queue.{Queue, IsWriteQueue};
+ghost use Rattle.wpq_core.specs.Queue.{Queue, IsWriteQueue, PushesWrite};
 
 use line_memory::{Line, Write};
 use std::alloc::{AllocError, Global};
@@ -129,7 +129,7 @@ impl Wpq {
     /// its depth: the write comes back, and the queue is as it was. It takes no memory.
     pub fn try_push(&mut self, number: u64, line: u64, data: Line) -> Result<(), Full>
         requires { ComeBefore number self.old.writes }
-        ensures pushed { OnOk result (self.new ≡ record self.old { writes = self.old.writes ++ pending_write number line «data» ∷ [] }) }
+        ensures pushed { OnOk result (PushesWrite number line «data» self.old self.new) }
         ensures room { IsOk result ↔ (length self.old.writes < self.old.depth) }
         ensures refused { IfErr result (λ full. full.refused ≡ pending_write number line «data») }
         ensures same { OnErr result (self.new ≡ self.old) }
@@ -147,7 +147,7 @@ impl Wpq {
         })
     }
 
-    /// TakesWrite the pending write of a number out and gives its data; None, and the queue stays, exactly where no pending
+    /// Takes the pending write of a number out and gives its data; None, and the queue stays, exactly where no pending
     /// write has the number. It costs the number of pending writes.
     pub fn take(&mut self, number: u64) -> Option<Line>
         ensures depth { self.new.depth ≡ self.old.depth }

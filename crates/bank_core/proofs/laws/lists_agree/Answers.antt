@@ -1,16 +1,14 @@
-use Rattle.std.proofs.Common.{◌≡◌, ℕ, ◌+◌, ◌*◌, ◌/◌, ◌<◌, List, [], false, refl, sym, ap, ◌∙◌, subst, arith}
-use Rattle.std.specs.Prelude.{max, slice_index_or}
+use Rattle.std.proofs.Common.{◌≡◌, ℕ, ◌+◌, ◌/◌, ◌<◌, List, [], false, refl, sym, ap, ◌∙◌, arith}
+use Rattle.std.specs.Prelude.{slice_index_or}
 use Rattle.std.proofs.Math.Nat.{mul-div_cancel}
-use Rattle.ddr4_timing.specs.declared.cells.BankCells.{BankCells}
 use Rattle.ddr4_timing.specs.declared.command.Command.{Command}
 use Rattle.ddr4_timing.specs.declared.command.Command.TheVariants.{Act, Rd, Wr, Pre, PreAll, Ref, Sre}
 use Rattle.ddr4_timing.specs.declared.command.Stamped.{Stamped}
 use Rattle.ddr4_timing.specs.declared.place.BankAddress.{BankAddress}
 use Rattle.ddr4_timing.specs.declared.rank.RankState.{RankState}
-use Rattle.ddr4_timing.specs.declared.timing.Checked.{Checked}
 use Rattle.ddr4_timing.specs.Command.{rank_of}
 use Rattle.ddr4_timing.specs.Floors.{floor, window, least_clock}
-use Rattle.ddr4_timing.specs.Lawful.{IsInGeometry, IsLawful, FitsRows, KeepsRows, AllClosed, open_row, last_ref, ref_count, is_asleep, with_command}
+use Rattle.ddr4_timing.specs.Lawful.{IsInGeometry, IsLawful, FitsRows, AllClosed, open_row, last_ref, ref_count, is_asleep, with_command}
 use Rattle.ddr4_timing.specs.Machine.{BankStands, RankStands}
 use Rattle.ddr4_timing.specs.Places.{HasBank, slot_of}
 use Rattle.ddr4_timing.proofs.FloorLemmas.{floor-Act, floor-Rd, floor-Wr}

@@ -13,6 +13,6 @@ returns-clause-next _ c list x = (
 
 pub returns-clause-span : goal.returns-clause-span
 returns-clause-span _ c list x l = (
-  λ h. let r = ready_lawful c list x h in (r.rows, r.clock, r.in_time),
-  λ p. lawful_ready c list x l (record { rows = p.0; clock = p.1; in_time = p.2 }),
+  λ h. let r = ready_lawful c list x h in (r.rows, (r.clock, r.in_time)),
+  λ p. lawful_ready c list x l (record { rows = p.0; clock = p.1.0; in_time = p.1.1 }),
 )

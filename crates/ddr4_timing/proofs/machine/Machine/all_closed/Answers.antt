@@ -1,5 +1,4 @@
-use Rattle.std.proofs.Common.{◌≡◌, ℕ, ◌+◌, ◌*◌, ◌/◌, ◌%◌, ◌<◌, Bool, true, false, cond, Option, Some, None, IsTrue, refl, ap, sym, ◌∙◌, arith}
-use Rattle.std.specs.Prelude.{slice_index_or}
+use Rattle.std.proofs.Common.{◌≡◌, ℕ, ◌*◌, ◌/◌, ◌%◌, ◌<◌, Bool, true, false, cond, Some, None, refl, ap, sym, ◌∙◌, arith}
 use Rattle.ddr4_timing.specs.Places.{HasBank, slot_of}
 use Rattle.ddr4_timing.specs.declared.cells.BankCells.{BankCells}
 use Rattle.ddr4_timing.specs.declared.place.BankAddress.{BankAddress}

@@ -1,8 +1,7 @@
 use Rattle.std.proofs.Common.{◌≡◌, ℕ, ap, refl, subst, ◌∙◌, arith}
-use Rattle.std.specs.Prelude.{max, slice_index_or}
+use Rattle.std.specs.Prelude.{slice_index_or}
 use Rattle.ddr4_timing.specs.declared.cells.BankCells.{BankCells}
 use Rattle.ddr4_timing.specs.declared.command.Command.{Command}
-use Rattle.ddr4_timing.specs.declared.command.Command.TheVariants.{Act, Rd, Wr, Pre, PreAll, Ref, Sre}
 use Rattle.ddr4_timing.specs.Command.{rank_of}
 use Rattle.ddr4_timing.specs.Floors.{least_clock}
 use Rattle.ddr4_timing.specs.Lawful.{IsInGeometry}

@@ -1,4 +1,4 @@
-use Rattle.std.proofs.Common.{refl, ◌∙◌, ap}
+use Rattle.std.proofs.Common.{refl, ◌∙◌}
 use Rattle.ddr4_timing.specs.declared.cells.BankCells.{BankCells}
 use Rattle.ddr4_timing.proofs.machine.Machine.open_row.Goals as goal
 

@@ -1,7 +1,7 @@
-use Rattle.std.proofs.Common.{◌≡◌, ℕ, ◌≤◌, ◌<◌, ◌^◌, ◌↔◌, ◌+◌, ◌-◌, List, length, slice_get, Option, Some, None, IfNone, IfSome, sym, subst, ◌∙◌, arith}
+use Rattle.std.proofs.Common.{◌≡◌, ℕ, ◌≤◌, ◌<◌, ◌^◌, ◌↔◌, ◌+◌, ◌-◌, List, length, slice_get, Option, Some, None, IfNone, IfSome, sym, subst, arith}
 use Rattle.std.specs.Option.{SomeIff}
 use Rattle.wpq_core.specs.declared.queue.PendingWrite.{PendingWrite}
-use Rattle.wpq_core.specs.Writes.{ComeBefore, NumbersRise}
+use Rattle.wpq_core.specs.Writes.{ComeBefore}
 use Rattle.wpq_core.specs.Queue.{Queue}
 use Rattle.wpq_core.proofs.Numbers.{above-last}
 use Rattle.wpq_core.proofs.queue.Wpq.next_number.Goals as goal
