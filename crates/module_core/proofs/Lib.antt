@@ -24,3 +24,6 @@ pub mod Drains
 pub mod ClosingSteps
 pub mod ClosingStores
 pub mod ClosingSaves
+pub mod Emptied
+pub mod LossSteps
+pub mod LostModules

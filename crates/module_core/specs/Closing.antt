@@ -1,5 +1,5 @@
 -- The parts of a closing save: the drains, and the save that follows, each action of it paid for first.
-use Rattle.std.specs.Prelude.{◌≡◌, ℕ, ◌+◌, false, List, [], ◌∷◌, ◌++◌, take, slice_get, OnOk, Result, Ok, Err, Some, None}
+use Rattle.std.specs.Prelude.{◌≡◌, ◌⊎◌, ℕ, ◌+◌, false, List, [], ◌∷◌, ◌++◌, take, slice_get, OnOk, Result, Ok, Err, Some, None}
 use Rattle.std.specs.List.{flat_map}
 use Rattle.save_device.specs.declared.calls.CallKind.{CallKind}
 use Rattle.save_device.specs.Calls.{called, all_good}
@@ -42,6 +42,14 @@ pub record DrainsAll (old : ChannelsView) (before : Gauge) (result : Paid) (new 
   pub remain : Remain old.waits.writes new.waits.writes
   pub dry : OnOk result (new.waits ≡ nothing)
 
+-- A payment for a drain was refused, so that no save was begun.
+pub record DarkInDrains (lines : ℕ) (s : Store) (old : ChannelsView) (before : DeviceState) (gauge : Gauge) (saves : Saves) (new : ChannelsView) (device : DeviceState) (later : Gauge) : Type 0 where
+  pub answer : Dark
+  pub drains : DrainsAll old gauge (Err answer) new later
+  pub unasked : device ≡ before
+  pub knows : Knows saves.newest saves.closed saves.unsettled s
+  pub holds : Holds lines (record s { saving = None }) saves.saving device
+
 -- the device calls of the save
 abbrev pub calls_in : ℕ → Store → List CallKind
 calls_in lines s = calls_left s.closed lines Close
@@ -82,3 +90,9 @@ abbrev pub SavesClosing : ℕ → Costs → Store → Image → Result (Unit {0}
 SavesClosing lines costs s made (Ok done) before gauge saves device later = SavesOn lines costs s made before gauge saves device later
 SavesClosing lines costs s made (Err cut.Dark) before gauge saves device later = DarkAfter lines costs s made before gauge saves device later
 SavesClosing lines costs s made (Err cut.Fault) before gauge saves device later = FaultAfter lines costs s made before gauge saves device later
+
+-- The channels were drained and the save was made, or both until something cut them short.
+abbrev pub ClosesChannels : ℕ → Costs → Store → Image → Result (Unit {0}) Cut → ChannelsView → DeviceState → Gauge → ChannelsView → Saves → DeviceState → Gauge → Type 0
+ClosesChannels lines costs s made result old before gauge new saves device later =
+    ((result ≡ Err cut.Dark) × DarkInDrains lines s old before gauge saves new device later)
+    ⊎ ((mid : Gauge) × DrainsAll old gauge (Ok tt) new mid × SavesClosing lines costs s made result before mid saves device later)

@@ -10,3 +10,4 @@ pub mod Saving
 pub mod Begins
 pub mod Stands
 pub mod Closing
+pub mod Opening

@@ -7,6 +7,7 @@ use Rattle.slot_store.specs.declared.plan.Step.{Step}
 use Rattle.slot_store.specs.declared.plan.Step.TheVariants.{SyncBody}
 use Rattle.slot_store.specs.Slots.{HasSize}
 use Rattle.slot_store.specs.Runs.{next_of}
+use Rattle.arm_state.specs.declared.mode.Mode.TheVariants as modes
 use Rattle.arm_state.specs.Modes.{has_ended}
 use Rattle.energy_budget.specs.Gauge.{Gauge}
 use Rattle.line_channels.specs.declared.channels.Channels.{Ghosts}
@@ -57,6 +58,30 @@ module _ {C : Type 0} (L : Ghosts C) where
     pub reading : new.reading ≡ old.reading
     pub saves : new.saves ≡ old.saves
     pub channels : Rehold (hold_behind (option_map next_of old.saves.saving) (L.view old.channels).hold) old.channels new.channels
+
+  -- Mains were lost, after this reading: no hold lasts, and nothing else but the saves has changed.
+  pub record EndsMains (reading : ℕ) (old new : Module C L) : Type 0 where
+    pub lines : new.lines ≡ old.lines
+    pub trail : new.trail ≡ old.trail
+    pub costs : new.costs ≡ old.costs
+    pub start : new.start ≡ old.start
+    pub accepted : new.accepted ≡ old.accepted
+    pub persisted : new.persisted ≡ old.persisted
+    pub shown : new.reading ≡ reading
+    pub mode : new.mode ≡ modes.Closing
+    pub channels : Rehold None old.channels new.channels
+
+  -- nothing but the saves and what waits has changed
+  pub record SameButSaves (old new : Module C L) : Type 0 where
+    pub lines : new.lines ≡ old.lines
+    pub trail : new.trail ≡ old.trail
+    pub costs : new.costs ≡ old.costs
+    pub start : new.start ≡ old.start
+    pub accepted : new.accepted ≡ old.accepted
+    pub persisted : new.persisted ≡ old.persisted
+    pub reading : new.reading ≡ old.reading
+    pub mode : new.mode ≡ old.mode
+    pub keeps : Keeps (L.carries old.channels) (L.carries new.channels)
 
   -- the module, apart from the device
   pub record Matches (it : Module C L) (m : Machine) : Type 0 where

@@ -4,10 +4,13 @@
 mod arming;
 mod closing;
 mod events;
+mod losing;
 mod module;
+mod opening;
 mod saves;
 mod stepping;
 
 pub use events::{Accepted, Event, Loss, ReadRefusal, Reply, StepReply, WriteRefusal};
 pub use module::Module;
+pub use opening::Opened;
 pub use saves::Saves;
