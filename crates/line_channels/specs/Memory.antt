@@ -1,6 +1,6 @@
 -- The writes that the channels carry, and the memory that they make. A relation of the channels, here `Carries`, says that
 -- they began with a memory `base` when `start` writes had been accepted, and were given these writes since.
-use Rattle.std.specs.Prelude.{◌≡◌, ◌==◌, ℕ, ◌-◌, ◌<◌, ◌≤◌, true, false, List, nat_lt, slice_get, Option, Some, None, if◌then◌else◌}
+use Rattle.std.specs.Prelude.{◌≡◌, ◌==◌, ℕ, ◌-◌, ◌<◌, ◌≤◌, true, false, List, nat_lt, slice_get, Option, None, if◌then◌else◌}
 use Rattle.std.specs.List.{list_any}
 use Rattle.line_memory.specs.declared.Write.{Write}
 use Rattle.line_channels.specs.declared.answers.Waiting.{Waiting}

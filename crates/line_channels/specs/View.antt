@@ -1,5 +1,5 @@
 -- What contracts see of the channels.
-use Rattle.std.specs.Prelude.{◌≡◌, ◌==◌, ℕ, ◌*◌, ◌%◌, ◌<◌, ◌≤◌, Bool, List, Option}
+use Rattle.std.specs.Prelude.{◌≡◌, ◌==◌, ℕ, ◌*◌, ◌%◌, ◌≤◌, Bool, List, Option}
 use Rattle.energy_budget.specs.declared.costs.Costs.{Costs}
 use Rattle.line_channels.specs.Waits.{Waits, writes_on, reads_on}
 

@@ -1,5 +1,5 @@
 -- What waits in the channels: writes that aren't in an array yet, and reads that were not collected.
-use Rattle.std.specs.Prelude.{◌≡◌, ◌≢◌, ◌==◌, ℕ, ◌<◌, ◌≤◌, Bool, true, false, List, [], length, insert, remove, count_by, slice_get, All, Option, Some}
+use Rattle.std.specs.Prelude.{◌≡◌, ◌≢◌, ◌==◌, ℕ, ◌<◌, ◌≤◌, Bool, List, [], length, insert, remove, count_by, slice_get, All, Some}
 use Rattle.line_channels.specs.declared.answers.Waiting.{Waiting}
 use Rattle.line_channels.specs.declared.answers.Ticket.{Ticket}
 

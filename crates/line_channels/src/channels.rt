@@ -18,8 +18,8 @@ use line_memory::{Line, Write};
 /// All channels of a module. Each write waits in its channel until a command takes it into the channel's array, and each
 /// read is answered as the memory is after all writes that were put before it, whatever the order of the commands.
 ///
-/// On a loss of mains the channels are drained, from the first to the last one; from the first drain on nothing else is
-/// asked of them but what they hold. No call takes memory.
+/// No call takes memory. Of channels that are drained (`Drainable`) nothing is asked from the first drain on but what they
+/// hold.
 pub trait Channels {
     /// What contracts see of the channels.
     ghost view: { Self → ChannelsView };
@@ -117,28 +117,6 @@ pub trait Channels {
         requires page { 64 * (page + 1) ≤ (view self.now).shape.lines }
         ensures { result ≡ page_of page (view self.now).array };
 
-    /// On backup: pays for the close step of a channel and for the entry of each of its writes, each before it is made, and
-    /// takes these writes into the array in number order, whether they are held or not. All reads of the channel are lost.
-    /// Where a payment is refused nothing runs after it, and no channel is drained any more.
-    fn drain<E: Energy>(&mut self, channel: u64, costs: &Costs, energy: &mut E) -> Result<(), Dark>
-        requires channel { channel < (view self.old).shape.channels }
-        requires turn { (view self.old).drained ≡ Some channel }
-        requires costs { costs.now ≡ (view self.old).shape.costs }
-        ensures pays { PaysInTurn costs.now
-            (drain_actions (writes_on (view self.old).shape.channel_of channel (view self.old).waits.writes))
-            (E.gauge energy.old) result (E.gauge energy.new) }
-        ensures drains { (gone : ℕ) × Drains (view self.old).shape.channel_of channel gone
-            (view self.old).waits (view self.new).waits }
-        ensures dry { OnOk result (writes_on (view self.old).shape.channel_of channel
-            (view self.new).waits.writes ≡ 0) }
-        ensures drained { (view self.new).drained ≡ drained_after channel result }
-        ensures rest { view self.new ≡ record (view self.old) {
-          waits = (view self.new).waits;
-          drained = (view self.new).drained;
-          array = (view self.new).array;
-        } }
-        ensures keeps { Keeps (carries self.old) (carries self.new) };
-
     /// The write of a number that the channels were given, or none.
     fn accepted_write(&self, number: u64) -> Option<Write>
         ensures { (base : List (List ℕ)) (start : ℕ) (writes : List Write)
@@ -157,8 +135,34 @@ pub trait Channels {
         → carries channels base start writes → NoneBelow n (view channels).waits.writes
         → WaitsFrom n (start + length writes) (view channels).waits.writes
         → (view channels).array ≡ memory_at base start writes n };
+}
+
+/// Channels that can be drained: on a loss of mains this is done from the first to the last one.
+pub trait Drainable: Channels {
+    /// On backup: pays for the close step of a channel and for the entry of each of its writes, each before it is made, and
+    /// takes these writes into the array in number order, whether they are held or not. All reads of the channel are lost.
+    /// Where a payment is refused nothing runs after it, and no channel is drained any more.
+    fn drain<E: Energy>(&mut self, channel: u64, costs: &Costs, energy: &mut E) -> Result<(), Dark>
+        requires channel { channel < (Self.view self.old).shape.channels }
+        requires turn { (Self.view self.old).drained ≡ Some channel }
+        requires costs { costs.now ≡ (Self.view self.old).shape.costs }
+        ensures pays { PaysInTurn costs.now
+            (drain_actions (writes_on (Self.view self.old).shape.channel_of channel
+            (Self.view self.old).waits.writes))
+            (E.gauge energy.old) result (E.gauge energy.new) }
+        ensures drains { (gone : ℕ) × Drains (Self.view self.old).shape.channel_of channel gone
+            (Self.view self.old).waits (Self.view self.new).waits }
+        ensures dry { OnOk result (writes_on (Self.view self.old).shape.channel_of channel
+            (Self.view self.new).waits.writes ≡ 0) }
+        ensures drained { (Self.view self.new).drained ≡ drained_after channel result }
+        ensures rest { Self.view self.new ≡ record (Self.view self.old) {
+          waits = (Self.view self.new).waits;
+          drained = (Self.view self.new).drained;
+          array = (Self.view self.new).array;
+        } }
+        ensures keeps { Keeps (Self.carries self.old) (Self.carries self.new) };
 
     /// Once all channels are drained nothing waits.
-    ghost empty: { (channels : Self) → (view channels).drained ≡ Some (view channels).shape.channels
-        → (view channels).waits ≡ nothing };
+    ghost empty: { (channels : Self) → (Self.view channels).drained ≡ Some (Self.view channels).shape.channels
+        → (Self.view channels).waits ≡ nothing };
 }

@@ -6,4 +6,4 @@ mod answers;
 mod channels;
 
 pub use answers::{Collected, Done, Got, Served, Ticket, Waiting};
-pub use channels::Channels;
+pub use channels::{Channels, Drainable};

@@ -1,5 +1,5 @@
 -- One event of the module, from its step and what the device may leave.
-use Rattle.std.proofs.Common.{◌≡◌, ◌⊎◌, ℕ, ◌<◌, ◌≤◌, List, Bool, true, false, refl, sym, ◌∙◌, ap, subst, inl, inr, arith}
+use Rattle.std.proofs.Common.{◌≡◌, ℕ, ◌≤◌, List, Bool, true, false, refl, sym, ◌∙◌, ap, subst, inl, inr, arith}
 use Rattle.std.specs.Prelude.{Option, Some, None, IfSome, IfNone, if◌then◌else◌}
 use Rattle.std.specs.Option.{ForSome}
 use Rattle.save_device.specs.Device.{DeviceState, MayLeave, present, LeavesOnly}
@@ -19,14 +19,13 @@ use Rattle.module_core.specs.declared.events.Event.{Event}
 use Rattle.module_core.specs.declared.events.Event.TheVariants as events
 use Rattle.module_core.specs.declared.events.Reply.TheVariants as replies
 use Rattle.module_core.specs.declared.events.Reply.{Reply}
-use Rattle.module_core.specs.State.{Setup, RunningSave, Store, Machine, World}
+use Rattle.module_core.specs.State.{Setup, RunningSave, Store, Machine}
 use Rattle.module_core.specs.Machine.{MachineStep}
 use Rattle.module_core.specs.Guard.{IsGuarded}
 use Rattle.module_core.specs.Device.{Holds, HoldsWhile}
-use Rattle.module_core.specs.Begins.{StoreMoves}
 use Rattle.module_core.specs.Headline.{Point, Happens, WorksWhereDue, LeftWithin, IsAmongWithin, marks}
 use Rattle.module_core.specs.Stands.{Matches, Stands, Follows, Answers, setup_of, point_of}
-use Rattle.module_core.proofs.StoreSteps.{is_saving, stop_now}
+use Rattle.module_core.proofs.StoreSteps.{stop_now}
 use Rattle.module_core.proofs.Knowing.{holds_moved}
 use Rattle.module_core.proofs.Leaving.{left_before, left_after}
 use Rattle.module_core.proofs.Backing.{IsKnown}

@@ -1,14 +1,13 @@
 -- Arming: its refusals, and what the device holds then.
-use Rattle.std.proofs.Common.{◌≡◌, ◌≢◌, ◌⊎◌, ℕ, ◌+◌, ◌<◌, ◌≤◌, List, Bool, true, false, refl, sym, ◌∙◌, ap, subst, inl, inr, arith}
+use Rattle.std.proofs.Common.{◌≡◌, ◌≢◌, ℕ, ◌<◌, ◌≤◌, Bool, true, false, refl, ◌∙◌, ap, subst, inl, inr}
 use Rattle.std.specs.Prelude.{Option, Some, None, Err, nat_lt, ◌||◌, if◌then◌else◌}
 use Rattle.std.proofs.lemmas.Bool.{ltb-true, ltb-false}
 use Rattle.save_image.specs.Image.{Image}
 use Rattle.save_device.specs.Device.{DeviceState}
-use Rattle.slot_store.specs.declared.slots.Slot.{Slot}
 use Rattle.slot_store.specs.declared.saving.SaveRun.{SaveRun}
-use Rattle.slot_store.specs.Slots.{other, slot_state, Full}
-use Rattle.slot_store.specs.Outcomes.{Outcome, Found, restored}
-use Rattle.slot_store.specs.Rest.{Candidates, only, with_any_arm, rearmed, IsAmong, IsSaved, IsRearmed, IsAtRest, IsAtRestOn, IsAtRestRearmed}
+use Rattle.slot_store.specs.Slots.{other, Full}
+use Rattle.slot_store.specs.Outcomes.{Outcome, restored}
+use Rattle.slot_store.specs.Rest.{only, with_any_arm, rearmed, IsAmong, IsSaved, IsAtRestOn, IsAtRestRearmed}
 use Rattle.arm_state.specs.declared.mode.Mode.{Mode}
 use Rattle.arm_state.specs.declared.refusal.SaveState.{SaveState}
 use Rattle.arm_state.specs.declared.refusal.ArmRefusal.{ArmRefusal}

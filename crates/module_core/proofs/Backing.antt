@@ -1,22 +1,21 @@
 -- An honest gauge goes on backing the acknowledged writes.
-use Rattle.std.proofs.Common.{◌≡◌, ◌≢◌, ◌⊎◌, ℕ, ◌+◌, ◌-◌, ◌*◌, ◌/◌, ◌<◌, ◌≤◌, List, [], ◌∷◌, length, Bool, true, false, refl, sym, ◌∙◌, ap, subst, inl, inr, ⊎_elim, arith}
-use Rattle.std.specs.Prelude.{Option, Some, None, ◌&&◌, nat_lt, is_some, if◌then◌else◌}
+use Rattle.std.proofs.Common.{◌≡◌, ◌≢◌, ℕ, ◌+◌, ◌*◌, ◌<◌, ◌≤◌, true, false, refl, sym, ◌∙◌, ap, subst, arith}
+use Rattle.std.specs.Prelude.{◌&&◌, nat_lt}
 use Rattle.std.specs.Option.{ForSome}
 use Rattle.std.proofs.lemmas.Bool.{ltb-false}
 use Rattle.slot_store.specs.declared.plan.Step.{Step}
 use Rattle.slot_store.specs.declared.plan.Step.TheVariants.{Close, SyncClosed, Header, Page, SyncBody, Open, SyncOpen, Done}
 use Rattle.slot_store.specs.Slots.{IsCapacity}
-use Rattle.slot_store.specs.Steps.{step_after, steps_left, reach_of}
-use Rattle.slot_store.proofs.StepsLeft.{steps_left-after}
+use Rattle.slot_store.specs.Steps.{steps_left, reach_of}
 use Rattle.arm_state.specs.declared.mode.Mode.{Mode}
 use Rattle.arm_state.specs.declared.mode.Mode.TheVariants as modes
-use Rattle.arm_state.specs.Modes.{is_armed, is_backed, is_short}
+use Rattle.arm_state.specs.Modes.{is_armed, is_backed}
 use Rattle.energy_budget.specs.declared.costs.Costs.{Costs}
 use Rattle.energy_budget.specs.Gauge.{Gauge, ReadsLevel, IsHonestThrough}
-use Rattle.energy_budget.specs.Sums.{reserve, backing_level, needed_level}
+use Rattle.energy_budget.specs.Sums.{backing_level}
 use Rattle.energy_budget.proofs.Rising.{backing_level-le, backing_level-ticks, needed_level-le, need_backs}
 use Rattle.line_channels.specs.View.{IsShape}
-use Rattle.module_core.specs.State.{Setup, RunningSave, Store, Machine, pending_of}
+use Rattle.module_core.specs.State.{Setup, Store, Machine, pending_of}
 use Rattle.module_core.specs.Refusals.{need_for, is_low}
 use Rattle.module_core.specs.Guard.{IsGuarded}
 use Rattle.module_core.specs.Headline.{IsBacked, ticks_left, ticks_until_saved}

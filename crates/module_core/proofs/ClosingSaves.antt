@@ -1,6 +1,6 @@
 -- A closing save, step by step.
-use Rattle.std.proofs.Common.{◌≡◌, ◌≢◌, ◌⊎◌, ℕ, zero, suc, ◌+◌, ◌-◌, ◌*◌, ◌/◌, ◌<◌, ◌≤◌, List, [], ◌∷◌, ◌++◌, Bool, true, false, take, drop, refl, sym, ◌∙◌, ap, subst, inl, inr, arith}
-use Rattle.std.specs.Prelude.{Ok, Err, Some, None, Option, nat_lt, slice_get}
+use Rattle.std.proofs.Common.{◌≡◌, ◌≢◌, ◌⊎◌, ℕ, suc, ◌+◌, ◌*◌, ◌<◌, ◌≤◌, List, [], ◌∷◌, ◌++◌, Bool, true, false, take, drop, refl, sym, ◌∙◌, ap, subst, inl, inr, arith}
+use Rattle.std.specs.Prelude.{Ok, Err, Some, None, Option, nat_lt}
 use Rattle.std.specs.Option.{option_map}
 use Rattle.std.proofs.lemmas.Bool.{ltb-true, ltb-false}
 use Rattle.std.proofs.lemmas.List.{map-append, append_assoc, append-nil, take-append-drop}
@@ -27,17 +27,17 @@ use Rattle.energy_budget.specs.Gauge.{Gauge, PaysCost}
 use Rattle.line_channels.specs.Draining.{PaysInTurn}
 use Rattle.module_core.specs.declared.saves.Saves.{Saves}
 use Rattle.module_core.specs.State.{RunningSave, Store}
-use Rattle.module_core.specs.Moves.{stepped, step_failed, saved_in, after_steps}
+use Rattle.module_core.specs.Moves.{step_failed, saved_in, after_steps}
 use Rattle.module_core.specs.Machine.{step_call}
 use Rattle.module_core.specs.Device.{Holds, HoldsWhile, IsResting, IsSaving}
 use Rattle.module_core.specs.Saving.{Knows, IsAmongEither, after_step}
-use Rattle.module_core.specs.Begins.{Makes, IsReadyFor}
+use Rattle.module_core.specs.Begins.{ReachesStore, IsReadyFor}
 use Rattle.module_core.specs.Closing.{action_of, calls_in, IsReadyToClose, SavesOn, DarkAfter, FaultAfter}
 use Rattle.module_core.proofs.Payments.{pays_append}
 use Rattle.module_core.proofs.StoreSteps.{stop_now, at_rest}
 use Rattle.module_core.proofs.SavePages.{same_call}
 use Rattle.module_core.proofs.RunningSaves.{the_run}
-use Rattle.module_core.proofs.ClosingSteps.{IsNext, drop_next, actions_left, reach-after, actions_left-after, calls_left-after, next_at, reach_at, left_at, actions_at, calls_at}
+use Rattle.module_core.proofs.ClosingSteps.{IsNext, drop_next, actions_left, actions_left-after, calls_left-after, reach_at, left_at, actions_at, calls_at}
 use Rattle.module_core.proofs.ClosingStores.{IsStage, stage_at, running, next_running, last_running, failed_running, among_next, among_failed}
 
 -- the module knows a store whatever save runs
@@ -257,7 +257,7 @@ module _ (lines : ℕ) (costs : Costs) (s : Store) (made : Image) (before : Devi
       failed = failed_running (Some (save_at i)) (store_at i) made step_is
 
       -- the device failed
-      pub ends_fault : Makes lines (running (Some (save_at i)) (store_at i)) (step_failed (running (Some (save_at i)) (store_at i)) made step_is) device saves' device'
+      pub ends_fault : ReachesStore lines (running (Some (save_at i)) (store_at i)) (step_failed (running (Some (save_at i)) (store_at i)) made step_is) device saves' device'
           → MakesCalls (step_call s.closed step_is ∷ []) false device.calls device'.calls → FaultAfter lines costs s made before gauge saves' device' later
       ends_fault makes call = record {
         steps = i;
@@ -276,7 +276,7 @@ module _ (lines : ℕ) (costs : Costs) (s : Store) (made : Image) (before : Devi
       }
 
       -- a step was made
-      pub goes_on : Makes lines (running (Some (save_at i)) (store_at i)) (after_step lines (running (Some (save_at i)) (store_at i)) (save_at i) step_is) device saves' device'
+      pub goes_on : ReachesStore lines (running (Some (save_at i)) (store_at i)) (after_step lines (running (Some (save_at i)) (store_at i)) (save_at i) step_is) device saves' device'
           → MakesCalls (step_call s.closed step_is ∷ []) true device.calls device'.calls → ClosedTo (i + 1) saves' device' later
       goes_on makes call = by_test (nat_lt (i + 1) (costs.pages + 6)) refl
         where

@@ -1,21 +1,17 @@
 -- The steps of a closing save: their actions, their calls, and what the store is between them.
-use Rattle.std.proofs.Common.{◌≡◌, ◌≢◌, ◌⊎◌, ℕ, zero, suc, ◌+◌, ◌-◌, ◌*◌, ◌/◌, ◌<◌, ◌≤◌, List, [], ◌∷◌, ◌++◌, Bool, true, false, replicate, take, drop, refl, sym, ◌∙◌, ap, subst, inl, inr, arith}
-use Rattle.std.specs.Prelude.{Some, None, Option, nat_lt, if◌then◌else◌, slice_get}
+use Rattle.std.proofs.Common.{◌≡◌, ℕ, zero, suc, ◌+◌, ◌-◌, ◌*◌, ◌/◌, ◌<◌, ◌≤◌, List, [], ◌∷◌, ◌++◌, Bool, replicate, take, drop, refl, sym, ◌∙◌, ap, inl, inr, arith}
+use Rattle.std.specs.Prelude.{Some, if◌then◌else◌, slice_get}
 use Rattle.save_image.specs.Image.{Image}
-use Rattle.save_device.specs.declared.calls.CallKind.{CallKind}
 use Rattle.save_device.specs.declared.calls.CallKind.TheVariants.{Write, Sync}
 use Rattle.slot_store.specs.declared.plan.Step.{Step}
 use Rattle.slot_store.specs.declared.plan.Step.TheVariants.{Close, SyncClosed, Header, Page, SyncBody, Open, SyncOpen, Done}
-use Rattle.slot_store.specs.Slots.{other}
-use Rattle.slot_store.specs.Outcomes.{Outcome}
-use Rattle.slot_store.specs.Rest.{only, IsAmong}
 use Rattle.slot_store.specs.Steps.{reach_of, step_after, steps_left, page_calls, calls_left}
 use Rattle.slot_store.proofs.Standing.{below_or_not}
 use Rattle.energy_budget.specs.declared.action.Action.{Action}
 use Rattle.energy_budget.specs.declared.action.Action.TheVariants as actions
 use Rattle.energy_budget.specs.Actions.{page_actions, save_actions}
 use Rattle.module_core.specs.State.{Store}
-use Rattle.module_core.specs.Moves.{stepped, step_failed, saved_in, after_steps}
+use Rattle.module_core.specs.Moves.{after_steps}
 use Rattle.module_core.specs.Machine.{step_call}
 use Rattle.module_core.specs.Closing.{action_of}
 

@@ -1,5 +1,5 @@
 -- The store between the steps of a closing save.
-use Rattle.std.proofs.Common.{◌≡◌, ◌≢◌, ◌⊎◌, ℕ, zero, suc, ◌+◌, ◌*◌, List, Bool, true, false, refl, sym, ◌∙◌, ap, subst, inl, inr}
+use Rattle.std.proofs.Common.{◌≡◌, ◌≢◌, ◌⊎◌, ℕ, zero, suc, ◌+◌, ◌*◌, Bool, true, false, refl, sym, ◌∙◌, ap, subst, inl, inr}
 use Rattle.std.specs.Prelude.{Some, None, Option, nat_lt, if◌then◌else◌}
 use Rattle.save_image.specs.Image.{Image}
 use Rattle.slot_store.specs.declared.slots.Slot.{Slot}
@@ -10,7 +10,7 @@ use Rattle.slot_store.specs.Steps.{step_after}
 use Rattle.slot_store.specs.Outcomes.{Outcome, Found}
 use Rattle.slot_store.specs.Rest.{Candidates, rearmed, only, IsAmong, IsSaved}
 use Rattle.module_core.specs.State.{RunningSave, Store}
-use Rattle.module_core.specs.Moves.{stepped, step_failed, saved_in, with_next, after_steps}
+use Rattle.module_core.specs.Moves.{stepped, step_failed, saved_in, after_steps}
 use Rattle.module_core.specs.Saving.{after_step}
 
 -- what may be found before a step of the save, as a store began it

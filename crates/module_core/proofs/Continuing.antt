@@ -1,20 +1,20 @@
 -- Events that call the device go on with the history.
-use Rattle.std.proofs.Common.{◌≡◌, ◌⊎◌, ℕ, ◌+◌, ◌<◌, ◌≤◌, List, length, Bool, true, false, refl, sym, ◌∙◌, ap, subst, inl, inr, arith}
-use Rattle.std.specs.Prelude.{Option, Some, None, ◌||◌}
+use Rattle.std.proofs.Common.{◌≡◌, ℕ, ◌≤◌, Bool, true, false, refl, sym, ◌∙◌, ap, subst, arith}
+use Rattle.std.specs.Prelude.{Some, None, ◌||◌}
 use Rattle.arm_state.specs.declared.mode.Mode.{Mode}
 use Rattle.arm_state.specs.declared.mode.Mode.TheVariants.{Disarmed, Armed, Disarming, Stranded, Closing, Saved}
-use Rattle.arm_state.specs.declared.moves.Move.TheVariants.{EndSave, FailSave}
-use Rattle.arm_state.specs.Modes.{is_armed, is_disarming, is_backed, has_ended}
+use Rattle.arm_state.specs.declared.moves.Move.TheVariants.{EndSave}
+use Rattle.arm_state.specs.Modes.{is_disarming, is_backed, has_ended}
 use Rattle.arm_state.specs.Moves.{mode_after}
 use Rattle.module_core.specs.declared.events.StepReply.{StepReply}
 use Rattle.module_core.specs.declared.events.StepReply.TheVariants as step
 use Rattle.module_core.specs.declared.events.Loss.{Loss}
 use Rattle.module_core.specs.declared.events.Loss.TheVariants as loss
 use Rattle.module_core.specs.State.{Setup, Life, RunningSave, Machine, World}
-use Rattle.module_core.specs.Moves.{read_as, finished, persisted_at_end, disarming, closed_unsaved}
-use Rattle.module_core.specs.Losses.{Closes, LoseStep}
+use Rattle.module_core.specs.Moves.{read_as, persisted_at_end, disarming, closed_unsaved}
+use Rattle.module_core.specs.Losses.{LosesMains, LoseStep}
 use Rattle.module_core.specs.Machine.{MadeStep, SaveStepStep}
-use Rattle.module_core.specs.Guard.{IsGuarded, may_lack, is_cut_short}
+use Rattle.module_core.specs.Guard.{IsGuarded, is_cut_short}
 use Rattle.module_core.proofs.ModeLaws.{failed_backed, armed_backed}
 use Rattle.module_core.proofs.Guarding.{low_armed}
 use Rattle.module_core.proofs.Leaving.{Continues}
@@ -76,7 +76,7 @@ continues_save_step setup (step.Saved generation count) old new did guarded = co
 continues_save_step setup step.Fault old new did guarded = continues_made setup.shape.lines did.2 old.machine did.0 step.Fault new.machine guarded did.1.runs did.6
 
 -- a closing save acknowledges nothing more
-continues_closes : (reply : Loss) (m n : Machine) → Closes reply m n → Continues m n
+continues_closes : (reply : Loss) (m n : Machine) → LosesMains reply m n → Continues m n
 continues_closes reply m n c =
     let life : n.life ≡ m.life = ap (λ (x : Machine). x.life) c.rest in
     record {

@@ -1,11 +1,11 @@
 -- What the machine keeps, and what an honest gauge is enough for, in any event.
-use Rattle.std.proofs.Common.{◌≡◌, refl, sym, ap, subst}
+use Rattle.std.proofs.Common.{◌≡◌, sym, ap, subst}
 use Rattle.energy_budget.specs.Gauge.{Gauge}
 use Rattle.module_core.specs.declared.events.Event.{Event}
 use Rattle.module_core.specs.declared.events.Event.TheVariants as events
 use Rattle.module_core.specs.declared.events.Reply.{Reply}
 use Rattle.module_core.specs.declared.events.Reply.TheVariants as replies
-use Rattle.module_core.specs.State.{Setup, Machine, World}
+use Rattle.module_core.specs.State.{Setup, World}
 use Rattle.module_core.specs.Machine.{MachineStep}
 use Rattle.module_core.specs.Guard.{IsGuarded}
 use Rattle.module_core.specs.Headline.{IsBacked, IsHonest, StaysBacked}

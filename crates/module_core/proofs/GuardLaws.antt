@@ -1,20 +1,16 @@
 -- What the machine keeps while its history goes on, and while a save is begun.
-use Rattle.std.proofs.Common.{◌≡◌, ◌≢◌, ◌⊎◌, ℕ, ◌+◌, ◌-◌, ◌<◌, ◌≤◌, List, [], ◌∷◌, ◌++◌, length, take, Bool, true, false, refl, sym, ◌∙◌, ap, subst, inl, inr, ⊎_elim, arith}
-use Rattle.std.specs.Prelude.{◌||◌, Option, Some, None, if◌then◌else◌}
+use Rattle.std.proofs.Common.{◌≡◌, ◌≢◌, ◌+◌, ◌≤◌, length, Bool, true, false, refl, sym, ◌∙◌, ap, subst, inl, arith}
+use Rattle.std.specs.Prelude.{◌||◌, Option, Some, None}
 use Rattle.std.specs.Option.{ForSome}
-use Rattle.std.proofs.lemmas.List.{take-append-le, length-append}
-use Rattle.line_memory.specs.declared.Write.{Write}
-use Rattle.line_memory.specs.Memory.{after, memory_at}
+use Rattle.line_memory.specs.Memory.{memory_at}
 use Rattle.line_memory.proofs.MemoryLaws.{memory_at-all}
 use Rattle.save_image.specs.Image.{Image}
 use Rattle.save_image.specs.Header.{arm_byte}
-use Rattle.arm_state.specs.declared.mode.Mode.{Mode}
-use Rattle.arm_state.specs.declared.mode.Mode.TheVariants as modes
-use Rattle.arm_state.specs.Modes.{is_armed, is_disarming, is_backed, has_ended}
-use Rattle.module_core.specs.State.{Life, RunningSave, Store, Machine, start_of_life, base_of_life, all_of, memory_of, memory_after, newest_of, made_of, begun_save}
+use Rattle.arm_state.specs.Modes.{is_armed, is_backed, has_ended}
+use Rattle.module_core.specs.State.{Life, RunningSave, Machine, start_of_life, base_of_life, all_of, newest_of, made_of, begun_save}
 use Rattle.module_core.specs.Moves.{begun, disarming}
-use Rattle.module_core.specs.Guard.{IsPrefix, IsGood, IsGuarded, HasCause, may_lack, is_cut_short}
-use Rattle.module_core.proofs.ModeLaws.{armed_runs, armed_backed, armed_disarms}
+use Rattle.module_core.specs.Guard.{IsGood, IsGuarded, HasCause, may_lack, is_cut_short}
+use Rattle.module_core.proofs.ModeLaws.{armed_runs, armed_backed}
 
 -- what holds of none, and of one
 pub for_none : {X : Type 0} (o : Option X) (P : X → Type 0) → o ≡ None → ForSome o P

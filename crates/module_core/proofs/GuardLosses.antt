@@ -1,20 +1,19 @@
 -- What the machine keeps when mains are lost while writes are backed.
-use Rattle.std.proofs.Common.{◌≡◌, ◌≢◌, ◌⊎◌, ℕ, zero, suc, ◌+◌, ◌-◌, ◌≤◌, List, Bool, true, false, refl, sym, ◌∙◌, ap, subst, inl, inr, arith}
-use Rattle.std.specs.Prelude.{◌||◌, Option, Some, None}
+use Rattle.std.proofs.Common.{◌≡◌, ◌⊎◌, ℕ, zero, suc, ◌-◌, ◌≤◌, true, false, refl, sym, ◌∙◌, ap, subst, inl, inr}
+use Rattle.std.specs.Prelude.{Option, Some, None}
 use Rattle.std.specs.Option.{ForSome}
 use Rattle.save_image.specs.Image.{Image}
 use Rattle.slot_store.specs.declared.plan.Step.{Step}
 use Rattle.slot_store.specs.declared.plan.Step.TheVariants.{Close, SyncClosed, Header, Page, SyncBody, Open, SyncOpen, Done}
 use Rattle.arm_state.specs.declared.mode.Mode.{Mode}
 use Rattle.arm_state.specs.declared.mode.Mode.TheVariants as modes
-use Rattle.arm_state.specs.Modes.{is_backed}
 use Rattle.line_channels.specs.Waits.{Waits}
 use Rattle.module_core.specs.declared.events.Loss.{Loss}
 use Rattle.module_core.specs.declared.events.Loss.TheVariants as loss
 use Rattle.module_core.specs.State.{Setup, Store, Machine, World, newest_of, made_of}
 use Rattle.module_core.specs.Moves.{stepped, step_failed, saved_in, after_steps}
-use Rattle.module_core.specs.Losses.{Closes, SavesAll, EndsDark, EndsInFault, drain_count}
-use Rattle.module_core.specs.Guard.{IsGood, IsGuarded, HasCause, may_lack, is_cut_short}
+use Rattle.module_core.specs.Losses.{LosesMains, SavesAll, EndsDark, EndsInFault, drain_count}
+use Rattle.module_core.specs.Guard.{IsGood, IsGuarded, is_cut_short}
 use Rattle.module_core.proofs.GuardLaws.{for_none, for_one, carry, made_good}
 
 -- The store while a save of this image makes its steps: the newest image is the same, and another one may be found only
@@ -161,7 +160,7 @@ saved_machine m guarded reading generation count waits =
     }
 
 -- the parts of the machine after a loss
-parts : (reply : Loss) (old new : Machine) (mode : Mode) (s : Store) → Closes reply old new → new.mode ≡ mode → new.store ≡ s
+parts : (reply : Loss) (old new : Machine) (mode : Mode) (s : Store) → LosesMains reply old new → new.mode ≡ mode → new.store ≡ s
     → record { mode = mode; reading = new.reading; lost = Some reply; life = old.life; waits = new.waits; store = s } ≡ new
 parts reply old new mode s c is store = sym (c.rest ∙ ap (λ (x : Mode). record { mode = x; reading = new.reading; lost = new.lost; life = old.life; waits = new.waits; store = new.store }) is
     ∙ ap (λ (x : Option Loss). record { mode = mode; reading = new.reading; lost = x; life = old.life; waits = new.waits; store = new.store }) c.answered

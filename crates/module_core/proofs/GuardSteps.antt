@@ -1,6 +1,6 @@
 -- What the machine keeps in a step of a save.
-use Rattle.std.proofs.Common.{◌≡◌, ◌≢◌, ◌⊎◌, ℕ, ◌≤◌, Bool, true, false, refl, sym, ◌∙◌, ap, subst, inl, inr, arith}
-use Rattle.std.specs.Prelude.{◌||◌, is_some, Option, Some, None}
+use Rattle.std.proofs.Common.{◌≡◌, ◌≢◌, ℕ, ◌≤◌, true, false, refl, sym, ◌∙◌, ap, subst, inl, inr, arith}
+use Rattle.std.specs.Prelude.{◌||◌, is_some, Some, None}
 use Rattle.std.specs.Option.{ForSome}
 use Rattle.save_image.specs.Image.{Image}
 use Rattle.slot_store.specs.declared.plan.Step.{Step}
@@ -12,7 +12,7 @@ use Rattle.arm_state.specs.declared.moves.Move.TheVariants.{EndSave, FailSave}
 use Rattle.arm_state.specs.Modes.{is_armed, is_disarming, is_backed, has_ended}
 use Rattle.arm_state.specs.Moves.{mode_after}
 use Rattle.module_core.specs.State.{RunningSave, Store, Machine, all_of, newest_of}
-use Rattle.module_core.specs.Moves.{stepped, step_failed, with_next, saved_in, finished, persisted_at_end}
+use Rattle.module_core.specs.Moves.{stepped, step_failed, advanced, saved_in, finished, persisted_at_end}
 use Rattle.module_core.specs.Guard.{IsGood, IsGuarded, HasCause, may_lack, is_cut_short}
 use Rattle.module_core.proofs.ModeLaws.{failed_armed, failed_backed, failed_ended, failed_stops}
 use Rattle.module_core.proofs.GuardLaws.{for_none, for_one, carry}
@@ -63,9 +63,9 @@ module _ (m : Machine) (guarded : IsGuarded m) (mode : Mode) (arms : is_armed mo
 
 module _ (lines : ℕ) (m : Machine) (guarded : IsGuarded m) (save : RunningSave) (runs : m.store.saving ≡ Some save) (active : has_ended m.mode ≡ false) where
   kept : (s : Store) → s.maybe.any_arm ≡ m.store.maybe.any_arm → s.maybe.newest ≡ m.store.maybe.newest → s.unsettled ≡ m.store.unsettled → ForSome s.maybe.saved (IsGood m)
-      → (is_armed m.mode ≡ true → ForSome s.maybe.saved (λ i. i.arm ≢ 0)) → IsGuarded (record m { store = with_next lines save s })
+      → (is_armed m.mode ≡ true → ForSome s.maybe.saved (λ i. i.arm ≢ 0)) → IsGuarded (record m { store = advanced lines save s })
   kept s any newest unsettled saved armed_saved =
-      store_guarded m guarded m.mode refl refl refl (with_next lines save s) any newest (λ is. unsettled ∙ is) saved
+      store_guarded m guarded m.mode refl refl refl (advanced lines save s) any newest (λ is. unsettled ∙ is) saved
       (for_next (IsGood m) save (step_after lines save.next) (guarded.saving save runs))
       (λ is. for_next (λ i. i.count ≡ all_of m) save (step_after lines save.next) (guarded.disarming is save runs))
       (λ is. refl)
@@ -75,7 +75,7 @@ module _ (lines : ℕ) (m : Machine) (guarded : IsGuarded m) (save : RunningSave
       (λ is. absurd (let bad : ⊥ = cc in bad))
       (λ on settled none. absurd (let bad : ⊥ = cc in bad))
 
-  pub guarded_did : (made : Step) → IsGuarded (record m { store = with_next lines save (stepped m.store save.made made) })
+  pub guarded_did : (made : Step) → IsGuarded (record m { store = advanced lines save (stepped m.store save.made made) })
   guarded_did Close = kept (stepped m.store save.made Close) refl refl refl guarded.saved guarded.armed_saved
   guarded_did SyncClosed = kept (stepped m.store save.made SyncClosed) refl refl refl (for_none None (IsGood m) refl) (λ is. for_none None (λ i. i.arm ≢ 0) refl)
   guarded_did Header = kept (stepped m.store save.made Header) refl refl refl guarded.saved guarded.armed_saved

@@ -1,22 +1,19 @@
 -- What the machine keeps while it accepts a write, arms, and loses mains.
-use Rattle.std.proofs.Common.{◌≡◌, ◌≢◌, ◌⊎◌, ℕ, ◌+◌, ◌-◌, ◌<◌, ◌≤◌, List, [], ◌∷◌, ◌++◌, length, take, Bool, true, false, refl, sym, ◌∙◌, ap, subst, inl, inr, arith}
-use Rattle.std.specs.Prelude.{◌||◌, Option, Some, None, if◌then◌else◌}
-use Rattle.std.specs.Option.{ForSome}
+use Rattle.std.proofs.Common.{◌≡◌, ◌≢◌, ℕ, ◌+◌, ◌-◌, [], ◌∷◌, ◌++◌, length, Bool, true, false, refl, sym, ◌∙◌, ap, inl, inr, arith}
+use Rattle.std.specs.Prelude.{◌||◌, None, if◌then◌else◌}
 use Rattle.std.proofs.lemmas.List.{take-append-le, length-append}
 use Rattle.line_memory.specs.declared.Write.{Write}
 use Rattle.line_memory.specs.Memory.{after}
 use Rattle.save_image.specs.Image.{Image}
 use Rattle.arm_state.specs.declared.mode.Mode.{Mode}
 use Rattle.arm_state.specs.declared.mode.Mode.TheVariants as modes
-use Rattle.arm_state.specs.Modes.{is_armed, is_disarming, is_backed, has_ended}
+use Rattle.arm_state.specs.Modes.{is_armed, is_disarming, is_backed}
 use Rattle.line_channels.specs.Waits.{Waits}
-use Rattle.module_core.specs.declared.events.Loss.{Loss}
-use Rattle.module_core.specs.declared.events.Loss.TheVariants as loss
-use Rattle.module_core.specs.State.{Life, RunningSave, Store, Machine, start_of_life, base_of_life, all_of, newest_of, made_of}
-use Rattle.module_core.specs.Moves.{written, armed, arm_failed, closed_unsaved, saved_in}
+use Rattle.module_core.specs.State.{Machine, start_of_life, base_of_life, all_of, newest_of}
+use Rattle.module_core.specs.Moves.{written, armed, arm_failed, closed_unsaved}
 use Rattle.module_core.specs.Guard.{IsPrefix, IsGood, IsGuarded, HasCause, may_lack, is_cut_short}
-use Rattle.module_core.proofs.ModeLaws.{armed_runs, armed_backed, unbacked}
-use Rattle.module_core.proofs.GuardLaws.{for_none, carry, made_good}
+use Rattle.module_core.proofs.ModeLaws.{armed_backed, unbacked}
+use Rattle.module_core.proofs.GuardLaws.{for_none, carry}
 
 -- the machine with one write more
 module _ (m : Machine) (write : Write) (persisted : ℕ) (waits : Waits) where

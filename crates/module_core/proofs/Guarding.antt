@@ -1,5 +1,5 @@
 -- What the machine keeps in each event.
-use Rattle.std.proofs.Common.{◌≡◌, ◌⊎◌, ℕ, ◌<◌, ◌≤◌, Bool, true, false, refl, sym, ◌∙◌, ap, subst, inl, inr, ⊎_elim, arith}
+use Rattle.std.proofs.Common.{◌≡◌, ◌⊎◌, ℕ, Bool, true, false, refl, sym, ◌∙◌, ap, subst, inl, inr, ⊎_elim}
 use Rattle.std.specs.Prelude.{MatchBool, is_some, if◌then◌else◌, Option, Some, None, Result, Ok, Err}
 use Rattle.line_memory.specs.declared.Write.{Write}
 use Rattle.arm_state.specs.declared.mode.Mode.{Mode}
@@ -10,9 +10,8 @@ use Rattle.arm_state.specs.declared.refusal.ArmReply.{ArmReply}
 use Rattle.arm_state.specs.declared.refusal.ArmReply.TheVariants as arm
 use Rattle.arm_state.specs.declared.refusal.DisarmReply.{DisarmReply}
 use Rattle.arm_state.specs.declared.refusal.DisarmReply.TheVariants as disarm
-use Rattle.arm_state.specs.declared.refusal.SaveState.{SaveState}
 use Rattle.arm_state.specs.Modes.{is_armed, is_disarming, has_ended, reads_gauge}
-use Rattle.arm_state.specs.Refusals.{arm_refusal, save_refusal}
+use Rattle.arm_state.specs.Refusals.{arm_refusal}
 use Rattle.energy_budget.specs.Gauge.{Gauge, ReadsLevel}
 use Rattle.line_channels.specs.declared.answers.Done.{Done}
 use Rattle.line_channels.specs.declared.answers.Got.{Got}
@@ -20,15 +19,14 @@ use Rattle.line_channels.specs.declared.answers.Ticket.{Ticket}
 use Rattle.line_channels.specs.declared.answers.Collected.{Collected}
 use Rattle.module_core.specs.declared.events.Accepted.{Accepted}
 use Rattle.module_core.specs.declared.events.WriteRefusal.{WriteRefusal}
-use Rattle.module_core.specs.declared.events.WriteRefusal.TheVariants as write
 use Rattle.module_core.specs.declared.events.ReadRefusal.{ReadRefusal}
 use Rattle.module_core.specs.declared.events.StepReply.{StepReply}
 use Rattle.module_core.specs.declared.events.StepReply.TheVariants as step
 use Rattle.module_core.specs.declared.events.Loss.{Loss}
 use Rattle.module_core.specs.declared.events.Loss.TheVariants as loss
-use Rattle.module_core.specs.State.{Setup, RunningSave, Machine, World, all_of}
-use Rattle.module_core.specs.Refusals.{is_low, is_trail_full, lacks_energy, saves_of, write_refusal}
-use Rattle.module_core.specs.Moves.{finished, read_as, sensed, disarming}
+use Rattle.module_core.specs.State.{Setup, RunningSave, Machine, World}
+use Rattle.module_core.specs.Refusals.{is_low, saves_of}
+use Rattle.module_core.specs.Moves.{read_as, sensed, disarming}
 use Rattle.module_core.specs.Losses.{LoseStep}
 use Rattle.module_core.specs.Machine.{MadeStep, WriteStep, ReadStep, CollectStep, WorkStep, SenseStep, ArmStep, DisarmStep, SaveBeginStep, SaveStepStep}
 use Rattle.module_core.specs.Guard.{IsGuarded}

@@ -1,16 +1,14 @@
 -- An honest gauge that backs the writes is enough for a closing save.
-use Rattle.std.proofs.Common.{◌≡◌, ◌⊎◌, ℕ, ◌+◌, ◌*◌, ◌<◌, ◌≤◌, List, [], ◌∷◌, ◌++◌, length, take, Bool, true, false, refl, sym, ◌∙◌, ap, subst, inl, inr, arith}
-use Rattle.std.specs.Prelude.{Ok, Err, Option, Some, None, sum, not, count_by}
+use Rattle.std.proofs.Common.{◌≡◌, ℕ, ◌+◌, ◌*◌, ◌<◌, ◌≤◌, List, [], ◌∷◌, ◌++◌, length, take, true, false, refl, sym, ◌∙◌, ap, subst, arith}
+use Rattle.std.specs.Prelude.{sum}
 use Rattle.std.proofs.lemmas.List.Sums.{sum_by-append}
 use Rattle.save_device.specs.declared.calls.Call.{Call}
 use Rattle.save_device.specs.Calls.{called, all_good, faults_in}
-use Rattle.save_device.specs.Device.{DeviceState, faults_of}
+use Rattle.save_device.specs.Device.{faults_of}
 use Rattle.arm_state.specs.declared.mode.Mode.TheVariants as modes
 use Rattle.arm_state.specs.Modes.{is_backed, has_ended}
 use Rattle.energy_budget.specs.declared.costs.Costs.{Costs}
-use Rattle.energy_budget.specs.declared.action.Action.{Action}
-use Rattle.energy_budget.specs.Actions.{cost_of, total_cost, closing_actions}
-use Rattle.energy_budget.specs.Gauge.{Gauge}
+use Rattle.energy_budget.specs.Actions.{cost_of, total_cost}
 use Rattle.energy_budget.specs.Sums.{reserve, backing_level}
 use Rattle.energy_budget.proofs.Totals.{closing-cost}
 use Rattle.energy_budget.proofs.Rising.{reserve-le}

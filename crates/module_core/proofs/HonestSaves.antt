@@ -1,9 +1,7 @@
 -- What an honest gauge is enough for while it is read: sensing, arming, and the steps of a save.
-use Rattle.std.proofs.Common.{◌≡◌, ◌≢◌, ◌⊎◌, ℕ, ◌+◌, ◌-◌, ◌<◌, ◌≤◌, List, [], ◌∷◌, ◌++◌, length, Bool, true, false, refl, sym, ◌∙◌, ap, subst, inl, inr, arith}
-use Rattle.std.specs.Prelude.{Option, Some, None, Result, Ok, Err, MatchBool, if◌then◌else◌}
-use Rattle.std.specs.Option.{ForSome}
+use Rattle.std.proofs.Common.{◌≡◌, ℕ, ◌+◌, ◌<◌, ◌≤◌, List, [], ◌∷◌, ◌++◌, length, Bool, true, false, refl, sym, ◌∙◌, ap, subst, arith}
+use Rattle.std.specs.Prelude.{Some, Result, Ok, Err, MatchBool, if◌then◌else◌}
 use Rattle.std.proofs.lemmas.List.{length-append}
-use Rattle.save_device.specs.declared.calls.Call.{Call}
 use Rattle.save_device.specs.declared.calls.CallKind.{CallKind}
 use Rattle.save_device.specs.Calls.{MakesCalls, called, all_good}
 use Rattle.save_device.specs.Device.{DeviceState}
@@ -17,7 +15,7 @@ use Rattle.arm_state.specs.declared.refusal.ArmRefusal.{ArmRefusal}
 use Rattle.arm_state.specs.declared.refusal.ArmRefusal.TheVariants as refusals
 use Rattle.arm_state.specs.declared.refusal.ArmReply.{ArmReply}
 use Rattle.arm_state.specs.declared.refusal.ArmReply.TheVariants as arm
-use Rattle.arm_state.specs.Modes.{is_armed, is_backed, has_ended, reads_gauge}
+use Rattle.arm_state.specs.Modes.{is_armed, is_backed, reads_gauge}
 use Rattle.arm_state.specs.Moves.{mode_after}
 use Rattle.energy_budget.specs.Gauge.{Gauge, ReadsLevel, IsHonestThrough}
 use Rattle.energy_budget.specs.Sums.{backing_level}
@@ -27,13 +25,12 @@ use Rattle.module_core.specs.declared.events.StepReply.TheVariants as step
 use Rattle.module_core.specs.declared.events.Reply.TheVariants as replies
 use Rattle.module_core.specs.State.{Setup, RunningSave, Store, Machine, World, pending_of}
 use Rattle.module_core.specs.Refusals.{need_for, is_low}
-use Rattle.module_core.specs.Moves.{disarming, read_as, sensed, finished, stepped, step_failed, with_next}
-use Rattle.module_core.specs.Machine.{SenseStep, ArmStep, SaveStepStep, MadeStep, step_call, is_made}
+use Rattle.module_core.specs.Moves.{disarming, read_as, sensed, finished, stepped, step_failed, advanced}
+use Rattle.module_core.specs.Machine.{SenseStep, ArmStep, SaveStepStep, step_call}
 use Rattle.module_core.specs.Headline.{IsBacked, IsHonest, IsSpared, ticks_left, ticks_until_saved}
-use Rattle.module_core.proofs.ModeLaws.{ended_backed, failed_backed}
-use Rattle.module_core.proofs.Guarding.{low_armed, arms_where, active}
+use Rattle.module_core.proofs.Guarding.{low_armed, arms_where}
 use Rattle.module_core.proofs.Backing.{IsKnown, is_armed_mode, one_tick, falls, told, not_backed, armed_backs, bound_backs, not_low, capacity, some_left}
-use Rattle.module_core.proofs.HonestSteps.{same_backs, armed_reading, disarming_backs}
+use Rattle.module_core.proofs.HonestSteps.{same_backs, armed_reading}
 
 -- a device that was called isn't as it was
 called_differs : (kinds : List CallKind) (good : Bool) (k : CallKind) (old new : DeviceState) → kinds ≡ k ∷ [] → MakesCalls kinds good old.calls new.calls → new ≡ old → ⊥
@@ -111,23 +108,23 @@ module _ (setup : Setup) where
         armed_backs setup n later still (subst (λ (k : ℕ). need_for setup k ≤ n.reading) (sym (ap (λ w. length w.writes) waits)) (omega arith)) (omega arith)
 
     pub backs_did : (made : Step) → (save.next ≡ made) → (old new : DeviceState) → IsSpared m.mode (replies.SaveStep (step.Did made)) old new → (kinds : List CallKind) (k : CallKind) → kinds ≡ k ∷ [] → MakesCalls kinds true old.calls new.calls
-        → IsBacked setup (record (read_as reading m) { store = with_next setup.shape.lines save (stepped m.store save.made made) }) later
+        → IsBacked setup (record (read_as reading m) { store = advanced setup.shape.lines save (stepped m.store save.made made) }) later
     backs_did made next old new spared kinds k one calls = by_mode m.mode refl
       where
-        by_mode : (mode : Mode) → m.mode ≡ mode → IsBacked setup (record (read_as reading m) { store = with_next setup.shape.lines save (stepped m.store save.made made) }) later
-        by_mode modes.Disarmed is = disarmed_not (record (read_as reading m) { store = with_next setup.shape.lines save (stepped m.store save.made made) }) later is
-        by_mode modes.Armed is = armed_again (record (read_as reading m) { store = with_next setup.shape.lines save (stepped m.store save.made made) }) is is refl refl
+        by_mode : (mode : Mode) → m.mode ≡ mode → IsBacked setup (record (read_as reading m) { store = advanced setup.shape.lines save (stepped m.store save.made made) }) later
+        by_mode modes.Disarmed is = disarmed_not (record (read_as reading m) { store = advanced setup.shape.lines save (stepped m.store save.made made) }) later is
+        by_mode modes.Armed is = armed_again (record (read_as reading m) { store = advanced setup.shape.lines save (stepped m.store save.made made) }) is is refl refl
         by_mode modes.Disarming is =
-            let next_ticks : ticks_left setup (record (read_as reading m) { store = with_next setup.shape.lines save (stepped m.store save.made made) }) ≡ steps_left setup.shape.lines (step_after setup.shape.lines save.next) =
+            let next_ticks : ticks_left setup (record (read_as reading m) { store = advanced setup.shape.lines save (stepped m.store save.made made) }) ≡ steps_left setup.shape.lines (step_after setup.shape.lines save.next) =
             ap (λ (x : Mode). ticks_until_saved setup x (Some (record save { next = step_after setup.shape.lines save.next }))) is in
             let left : steps_left setup.shape.lines (step_after setup.shape.lines save.next) + 1 ≡ steps_left setup.shape.lines save.next =
             steps_left-after setup.shape.lines save.next (capacity setup known.shape) (known.place save runs) (some_left setup save.next (known.going save runs) (known.place save runs)) in
-            bound_backs setup (record (read_as reading m) { store = with_next setup.shape.lines save (stepped m.store save.made made) }) later (ap is_armed is)
+            bound_backs setup (record (read_as reading m) { store = advanced setup.shape.lines save (stepped m.store save.made made) }) later (ap is_armed is)
             (subst (λ (t : ℕ). backing_level setup.shape.costs (pending_of m) t ≤ later.level) (sym next_ticks)
             (omega (arith, more_ticks is, leak_falls, one_tick setup.shape.costs (pending_of m) (steps_left setup.shape.lines (step_after setup.shape.lines save.next)) (steps_left setup.shape.lines save.next) (sym left))))
         by_mode modes.Stranded is = absurd (called_differs kinds true k old new one calls (subst (λ (x : Mode). IsSpared x (replies.SaveStep (step.Did made)) old new) is spared))
-        by_mode modes.Closing is = not_backed setup (record (read_as reading m) { store = with_next setup.shape.lines save (stepped m.store save.made made) }) later (ap is_backed is)
-        by_mode modes.Saved is = not_backed setup (record (read_as reading m) { store = with_next setup.shape.lines save (stepped m.store save.made made) }) later (ap is_backed is)
+        by_mode modes.Closing is = not_backed setup (record (read_as reading m) { store = advanced setup.shape.lines save (stepped m.store save.made made) }) later (ap is_backed is)
+        by_mode modes.Saved is = not_backed setup (record (read_as reading m) { store = advanced setup.shape.lines save (stepped m.store save.made made) }) later (ap is_backed is)
 
     pub backs_finished : IsBacked setup (finished save (read_as reading m)) later
     backs_finished = by_mode m.mode refl

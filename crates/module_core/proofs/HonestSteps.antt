@@ -1,34 +1,19 @@
 -- What an honest gauge is enough for, in each event but a loss.
-use Rattle.std.proofs.Common.{◌≡◌, ◌≢◌, ◌⊎◌, ℕ, ◌+◌, ◌-◌, ◌<◌, ◌≤◌, List, [], ◌∷◌, ◌++◌, length, Bool, true, false, refl, sym, ◌∙◌, ap, subst, inl, inr, ⊎_elim, arith}
-use Rattle.std.specs.Prelude.{Option, Some, None, Result, Ok, Err, MatchBool, is_some, insert, remove, slice_get, slice_set, ◌&&◌, nat_lt, nat_le, if◌then◌else◌}
-use Rattle.std.specs.Option.{ForSome}
+use Rattle.std.proofs.Common.{◌≡◌, ℕ, ◌+◌, ◌≤◌, List, length, Bool, true, false, refl, sym, ◌∙◌, ap, subst, arith}
+use Rattle.std.specs.Prelude.{Option, Some, None, Result, Ok, Err, is_some, ◌&&◌, nat_lt, nat_le, if◌then◌else◌}
 use Rattle.std.proofs.lemmas.Bool.{ltb-false}
-use Rattle.std.proofs.lemmas.List.{length-append}
 use Rattle.std.proofs.lemmas.List.Edits.{length-insert, length-remove}
 use Rattle.std.proofs.lemmas.Option.{slice_get_within}
 use Rattle.line_memory.specs.declared.Write.{Write}
-use Rattle.save_device.specs.declared.calls.Call.{Call}
-use Rattle.save_device.specs.declared.calls.CallKind.{CallKind}
-use Rattle.save_device.specs.Calls.{MakesCalls}
-use Rattle.save_device.specs.Device.{DeviceState}
-use Rattle.slot_store.specs.declared.plan.Step.{Step}
-use Rattle.slot_store.specs.declared.plan.Step.TheVariants.{Close}
-use Rattle.slot_store.specs.Steps.{step_after, steps_left, reach_of}
-use Rattle.slot_store.proofs.StepsLeft.{steps_left-after}
 use Rattle.arm_state.specs.declared.mode.Mode.{Mode}
 use Rattle.arm_state.specs.declared.mode.Mode.TheVariants as modes
-use Rattle.arm_state.specs.declared.moves.Move.TheVariants.{EndSave, FailSave}
 use Rattle.arm_state.specs.declared.refusal.ArmRefusal.{ArmRefusal}
-use Rattle.arm_state.specs.declared.refusal.ArmRefusal.TheVariants as refusals
-use Rattle.arm_state.specs.declared.refusal.ArmReply.{ArmReply}
-use Rattle.arm_state.specs.declared.refusal.ArmReply.TheVariants as arm
 use Rattle.arm_state.specs.declared.refusal.DisarmReply.{DisarmReply}
 use Rattle.arm_state.specs.declared.refusal.DisarmReply.TheVariants as disarm
-use Rattle.arm_state.specs.Modes.{is_armed, is_backed, is_disarming, has_ended, reads_gauge}
-use Rattle.arm_state.specs.Moves.{mode_after}
+use Rattle.arm_state.specs.Modes.{is_armed, is_backed, is_disarming, has_ended}
 use Rattle.energy_budget.specs.Gauge.{Gauge, ReadsLevel, IsHonestThrough}
 use Rattle.energy_budget.specs.Sums.{backing_level}
-use Rattle.energy_budget.proofs.Rising.{backing_level-le, backing_level-ticks, need_backs}
+use Rattle.energy_budget.proofs.Rising.{need_backs}
 use Rattle.line_channels.specs.declared.answers.Done.{Done}
 use Rattle.line_channels.specs.declared.answers.Served.{Served}
 use Rattle.line_channels.specs.declared.answers.Served.TheVariants as served
@@ -43,18 +28,14 @@ use Rattle.module_core.specs.declared.events.Accepted.{Accepted}
 use Rattle.module_core.specs.declared.events.WriteRefusal.{WriteRefusal}
 use Rattle.module_core.specs.declared.events.WriteRefusal.TheVariants as write
 use Rattle.module_core.specs.declared.events.ReadRefusal.{ReadRefusal}
-use Rattle.module_core.specs.declared.events.StepReply.{StepReply}
-use Rattle.module_core.specs.declared.events.StepReply.TheVariants as step
-use Rattle.module_core.specs.declared.events.Reply.TheVariants as replies
-use Rattle.module_core.specs.State.{Setup, RunningSave, Store, Machine, World, pending_of, hold_of}
-use Rattle.module_core.specs.Refusals.{need_for, is_low, is_trail_full, lacks_energy, saves_of, write_refusal}
-use Rattle.module_core.specs.Moves.{begun, disarming, read_as, sensed, finished, stepped, with_next}
-use Rattle.module_core.specs.Machine.{WriteStep, ReadStep, CollectStep, WorkStep, SenseStep, ArmStep, DisarmStep, SaveBeginStep, SaveStepStep, MadeStep, step_call, is_made}
-use Rattle.module_core.specs.Guard.{IsGuarded}
-use Rattle.module_core.specs.Headline.{IsBacked, IsSpared, ticks_left, ticks_until_saved}
+use Rattle.module_core.specs.State.{Setup, RunningSave, Machine, pending_of, hold_of}
+use Rattle.module_core.specs.Refusals.{need_for, is_low, is_trail_full, lacks_energy, write_refusal}
+use Rattle.module_core.specs.Moves.{begun, disarming, read_as, sensed}
+use Rattle.module_core.specs.Machine.{WriteStep, ReadStep, CollectStep, WorkStep, DisarmStep, SaveBeginStep}
+use Rattle.module_core.specs.Headline.{IsBacked, ticks_until_saved}
 use Rattle.module_core.proofs.Collecting.{collected_writes}
-use Rattle.module_core.proofs.Guarding.{unless, rest_of, low_armed, arms_where}
-use Rattle.module_core.proofs.Backing.{IsKnown, is_armed_mode, unarmed_of, one_tick, falls, told, not_backed, armed_backs, bound_backs, fewer_backs, not_low, first_steps, capacity, some_left}
+use Rattle.module_core.proofs.Guarding.{unless, rest_of}
+use Rattle.module_core.proofs.Backing.{IsKnown, is_armed_mode, one_tick, falls, told, not_backed, armed_backs, bound_backs, fewer_backs, not_low, first_steps}
 
 -- what goes leaves one less
 goes_less : {X : Type 0} (x : X) (old new : List X) → Goes x old new → length new ≤ length old

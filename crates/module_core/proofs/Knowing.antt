@@ -1,6 +1,6 @@
 -- What the module knows of the store, and what the device holds after a call that makes no device call.
-use Rattle.std.proofs.Common.{◌≡◌, ◌≢◌, ◌⊎◌, ℕ, ◌+◌, List, Bool, true, false, refl, sym, ◌∙◌, ap, subst, inl, inr, arith}
-use Rattle.std.specs.Prelude.{Option, Some, None}
+use Rattle.std.proofs.Common.{◌≡◌, ◌≢◌, ℕ, ◌+◌, Bool, true, false, refl, sym, ◌∙◌, ap, subst, inl, inr, arith}
+use Rattle.std.specs.Prelude.{Option, Some}
 use Rattle.line_memory.specs.Memory.{IsMemory}
 use Rattle.save_image.specs.Image.{Image}
 use Rattle.save_image.specs.Header.{arm_byte}
@@ -14,10 +14,10 @@ use Rattle.slot_store.specs.Slots.{other}
 use Rattle.slot_store.specs.Changes.{closed_before}
 use Rattle.slot_store.specs.Rest.{IsAtRest}
 use Rattle.slot_store.specs.Saving.{SavingAt}
-use Rattle.slot_store.specs.Runs.{plan_of, next_of, tried_of}
+use Rattle.slot_store.specs.Runs.{plan_of, tried_of}
 use Rattle.slot_store.proofs.GivenUp.{saving_begins}
 use Rattle.module_core.specs.declared.saves.Saves.{Saves}
-use Rattle.module_core.specs.State.{RunningSave, Store, begun_save}
+use Rattle.module_core.specs.State.{Store, begun_save}
 use Rattle.module_core.specs.Moves.{step_failed}
 use Rattle.module_core.specs.Device.{IsPlanFor, IsResting, IsSaving, HoldsWhile}
 use Rattle.module_core.specs.Saving.{after_step, closed_after, unsettled_after, newest_after, Knows}

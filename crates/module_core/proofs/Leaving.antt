@@ -1,18 +1,17 @@
 -- What a stop leaves recovers what was acknowledged.
-use Rattle.std.proofs.Common.{◌≡◌, ◌≢◌, ◌⊎◌, ℕ, ◌+◌, ◌≤◌, List, length, Bool, true, false, refl, sym, ◌∙◌, ap, subst, inl, inr, ⊎_elim, arith}
-use Rattle.std.specs.Prelude.{Option, Some, None, if◌then◌else◌, ◌||◌}
+use Rattle.std.proofs.Common.{◌≡◌, ◌⊎◌, ◌≤◌, List, length, Bool, true, false, refl, sym, ◌∙◌, ap, subst, inl, inr, ⊎_elim, arith}
+use Rattle.std.specs.Prelude.{Option, Some, None, if◌then◌else◌}
 use Rattle.std.specs.Option.{ForSome}
 use Rattle.line_memory.specs.declared.Write.{Write}
 use Rattle.line_memory.specs.Memory.{memory_at}
 use Rattle.save_image.specs.Image.{Image}
 use Rattle.slot_store.specs.declared.slots.Slot.{Slot}
 use Rattle.slot_store.specs.Slots.{other}
-use Rattle.slot_store.specs.Outcomes.{Outcome, Found}
-use Rattle.slot_store.specs.Rest.{Candidates, rearmed, IsAmong, IsSaved, IsRearmed}
-use Rattle.arm_state.specs.Modes.{is_backed}
+use Rattle.slot_store.specs.Outcomes.{Outcome}
+use Rattle.slot_store.specs.Rest.{rearmed, IsAmong, IsSaved, IsRearmed}
 use Rattle.module_core.specs.declared.events.Reply.{Reply}
-use Rattle.module_core.specs.State.{Life, Machine, start_of_life, base_of_life, all_of, memory_after, newest_of}
-use Rattle.module_core.specs.Guard.{IsPrefix, IsGood, IsGuarded, HasCause, may_lack, is_cut_short}
+use Rattle.module_core.specs.State.{Machine, start_of_life, base_of_life, all_of, memory_after, newest_of}
+use Rattle.module_core.specs.Guard.{IsGood, IsGuarded, HasCause, may_lack}
 use Rattle.module_core.specs.Headline.{Recovers, LeftWithin, LeftAfter, IsAmongWithin, HasCauseWithin, marks}
 
 either_way : (b : Bool) → (b ≡ true) ⊎ (b ≡ false)

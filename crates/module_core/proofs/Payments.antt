@@ -1,15 +1,14 @@
 -- Payments in turn, and what they come to.
-use Rattle.std.proofs.Common.{◌≡◌, ◌⊎◌, ℕ, zero, suc, ◌+◌, ◌-◌, ◌*◌, ◌<◌, ◌≤◌, List, [], ◌∷◌, ◌++◌, length, take, drop, Bool, true, false, cond, refl, sym, ◌∙◌, ap, subst, inl, inr, arith}
-use Rattle.std.specs.Prelude.{Ok, Err, Result, Option, Some, ◌==◌, nat_lt, sum, sum_by, count_by, slice_get}
+use Rattle.std.proofs.Common.{◌≡◌, ℕ, zero, suc, ◌+◌, ◌≤◌, List, [], ◌∷◌, ◌++◌, length, take, drop, cond, refl, sym, ◌∙◌, ap, subst, inr, arith}
+use Rattle.std.specs.Prelude.{Ok, Err, Some, ◌==◌, nat_lt, sum, count_by, slice_get}
 use Rattle.std.proofs.lemmas.Bool.Decides.{nat_tests}
 use Rattle.std.proofs.lemmas.List.{length-append}
 use Rattle.std.proofs.lemmas.List.Sums.{sum_by-cons, sum_by-append, count_by-le-length}
 use Rattle.energy_budget.specs.declared.action.Action.{Action}
 use Rattle.energy_budget.specs.declared.costs.Costs.{Costs}
-use Rattle.energy_budget.specs.declared.energy.Dark.{Dark}
 use Rattle.energy_budget.specs.Actions.{cost_of, total_cost}
-use Rattle.energy_budget.specs.Gauge.{Gauge, PaysCost}
-use Rattle.energy_budget.proofs.Totals.{total_cost-cons, total_cost-append, total_cost-nil}
+use Rattle.energy_budget.specs.Gauge.{Gauge}
+use Rattle.energy_budget.proofs.Totals.{total_cost-cons, total_cost-append}
 use Rattle.line_channels.specs.declared.answers.Waiting.{Waiting}
 use Rattle.line_channels.specs.Waits.{writes_on}
 use Rattle.line_channels.specs.Draining.{Paid, PaysInTurn}

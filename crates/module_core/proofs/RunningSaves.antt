@@ -1,5 +1,5 @@
 -- What the channels carry, and which save runs, while the store goes on.
-use Rattle.std.proofs.Common.{◌≡◌, ◌≢◌, ℕ, ◌+◌, List, Bool, true, false, refl, sym, ◌∙◌, ap, subst}
+use Rattle.std.proofs.Common.{◌≡◌, ◌≢◌, ℕ, ◌+◌, Bool, true, false, refl, sym, ◌∙◌, ap, subst}
 use Rattle.std.specs.Prelude.{Option, Some, None, nat_lt, ◌*◌, if◌then◌else◌}
 use Rattle.std.specs.Option.{ForSome, option_map}
 use Rattle.save_image.specs.Image.{Image}
@@ -9,10 +9,10 @@ use Rattle.slot_store.specs.declared.plan.Step.TheVariants.{Close, SyncClosed, H
 use Rattle.slot_store.specs.declared.saving.SaveRun.{SaveRun}
 use Rattle.slot_store.specs.Runs.{plan_of, next_of}
 use Rattle.slot_store.specs.Steps.{step_after}
-use Rattle.module_core.specs.State.{RunningSave, Store, hold_at, hold_of}
-use Rattle.module_core.specs.Moves.{step_failed, with_next, stepped}
+use Rattle.module_core.specs.State.{RunningSave, Store, hold_at}
+use Rattle.module_core.specs.Moves.{step_failed, advanced, stepped}
 use Rattle.module_core.specs.Device.{IsSaving, HoldsWhile}
-use Rattle.module_core.specs.Saving.{after_step, count_of, RunsAs}
+use Rattle.module_core.specs.Saving.{after_step, count_in, RunsAs}
 use Rattle.module_core.specs.Stands.{hold_behind}
 use Rattle.module_core.proofs.GuardLaws.{for_none}
 
@@ -72,11 +72,11 @@ the_run lines s state save (Some other) None is none = absurd none
 the_run lines s state save (Some other) (Some run) is holds = let same : other ≡ save = cc in (run, refl, subst (λ (x : RunningSave). IsSaving lines s x run state) same holds)
 
 -- its count
-pub counts_as : (count : ℕ) (r : Option SaveRun) (run : SaveRun) → r ≡ Some run → option_map count_of r ≡ Some count → count ≡ (plan_of run).count
-counts_as count r run is counted = let e : Some count ≡ Some (count_of run) = sym counted ∙ ap (option_map count_of) is in cc
+pub counts_as : (count : ℕ) (r : Option SaveRun) (run : SaveRun) → r ≡ Some run → option_map count_in r ≡ Some count → count ≡ (plan_of run).count
+counts_as count r run is counted = let e : Some count ≡ Some (count_in run) = sym counted ∙ ap (option_map count_in) is in cc
 
 -- a step that isn't the last one
-pub stepped_is : (lines : ℕ) (s : Store) (save : RunningSave) (next : Step) → next ≢ SyncOpen → after_step lines s save next ≡ with_next lines save (stepped s save.made next)
+pub stepped_is : (lines : ℕ) (s : Store) (save : RunningSave) (next : Step) → next ≢ SyncOpen → after_step lines s save next ≡ advanced lines save (stepped s save.made next)
 stepped_is lines s save Close more = refl
 stepped_is lines s save SyncClosed more = refl
 stepped_is lines s save Header more = refl

@@ -1,14 +1,10 @@
 -- The parts of a step of a save.
-use Rattle.std.proofs.Common.{◌≡◌, ℕ, ◌+◌, ◌<◌, ◌≤◌, List, [], ◌∷◌, length, Bool, true, false, refl, sym, ◌∙◌, ap, subst}
-use Rattle.std.specs.Prelude.{Option, Some, None}
+use Rattle.std.proofs.Common.{◌≡◌, ℕ, List, [], ◌∷◌, Bool, false, refl, sym, ◌∙◌, ap}
 use Rattle.std.specs.Option.{ForSome}
 use Rattle.save_image.specs.Body.{page_of}
-use Rattle.save_device.specs.declared.calls.CallKind.{CallKind}
-use Rattle.save_device.specs.Calls.{MakesCalls}
 use Rattle.slot_store.specs.declared.plan.Plan.{Plan}
 use Rattle.slot_store.specs.declared.plan.Step.{Step}
 use Rattle.slot_store.specs.declared.plan.Step.TheVariants.{Close, SyncClosed, Header, Page, SyncBody, Open, SyncOpen, Done}
-use Rattle.slot_store.specs.declared.saving.SaveRun.{SaveRun}
 use Rattle.slot_store.specs.Changes.{GivesPage, closed_before}
 use Rattle.energy_budget.specs.Gauge.{ReadsLevel}
 use Rattle.line_channels.specs.Memory.{WaitsFrom, NoneBelow}
@@ -17,10 +13,10 @@ use Rattle.module_core.specs.declared.events.StepReply.TheVariants as step
 use Rattle.module_core.specs.State.{Setup, RunningSave, Machine, World, hold_at}
 use Rattle.module_core.specs.Refusals.{is_low}
 use Rattle.module_core.specs.Moves.{read_as}
-use Rattle.module_core.specs.Machine.{waits_at, must_wait, IsReady, MadeStep, SaveStepStep, Calls, step_call, is_made}
+use Rattle.module_core.specs.Machine.{waits_at, MayStep, MadeStep, SaveStepStep, Calls, step_call, is_made}
 
 -- the machine's step, of what the module did after the reading
-pub whole_step : (setup : Setup) (old new : World) (save : RunningSave) (reading : ℕ) (reply : StepReply) → IsReady old.machine save → ReadsLevel old.gauge reading new.gauge → is_low setup (read_as reading old.machine) ≡ false
+pub whole_step : (setup : Setup) (old new : World) (save : RunningSave) (reading : ℕ) (reply : StepReply) → MayStep old.machine save → ReadsLevel old.gauge reading new.gauge → is_low setup (read_as reading old.machine) ≡ false
     → Calls (step_call old.machine.store.closed save.next ∷ []) (is_made reply) old new → MadeStep setup.shape.lines save reply (read_as reading old.machine) new.machine → SaveStepStep setup reply old new
 whole_step setup old new save reading (step.Did made) ready reads enough calls did = (save, ready, reading, reads, enough, calls, did)
 whole_step setup old new save reading (step.Saved generation count) ready reads enough calls did = (save, ready, reading, reads, enough, calls, did)

@@ -1,13 +1,9 @@
 -- How the device and the store go on together.
-use Rattle.std.proofs.Common.{◌≡◌, ◌≢◌, ◌⊎◌, ℕ, ◌+◌, List, Bool, true, false, refl, sym, ◌∙◌, ap, subst, inl, inr, ⊎_elim, arith}
+use Rattle.std.proofs.Common.{◌≡◌, ◌≢◌, ◌⊎◌, ℕ, ◌+◌, List, Bool, true, false, refl, sym, ◌∙◌, ap, subst, inl, inr, ⊎_elim}
 use Rattle.std.specs.Prelude.{Option, Some, None, nat_lt, ◌*◌, if◌then◌else◌}
-use Rattle.line_memory.specs.Memory.{IsMemory}
 use Rattle.save_image.specs.Image.{Image}
-use Rattle.save_image.specs.Header.{arm_byte}
-use Rattle.save_device.specs.Rows.{DiffersOnlyAt}
 use Rattle.save_device.specs.Device.{DeviceState, MayLeave, present}
 use Rattle.slot_store.specs.declared.slots.Slot.{Slot}
-use Rattle.slot_store.specs.declared.plan.Newest.{Newest}
 use Rattle.slot_store.specs.declared.plan.Plan.{Plan}
 use Rattle.slot_store.specs.declared.plan.Step.{Step}
 use Rattle.slot_store.specs.declared.plan.Step.TheVariants.{Close, SyncClosed, Header, Page, SyncBody, Open, SyncOpen, Done}
@@ -16,25 +12,23 @@ use Rattle.slot_store.specs.Slots.{other}
 use Rattle.slot_store.specs.Steps.{step_after}
 use Rattle.slot_store.specs.Changes.{closed_before}
 use Rattle.slot_store.specs.Outcomes.{Outcome, Found, restored}
-use Rattle.slot_store.specs.Rest.{Candidates, only, rearmed, IsAmong, IsSaved, IsAtRest, IsAtRestOn}
+use Rattle.slot_store.specs.Rest.{Candidates, only, rearmed, IsAmong, IsSaved, IsAtRest}
 use Rattle.slot_store.specs.Saving.{SavingAt, Leaves, image_of, old_and_new, only_old, candidates_before}
 use Rattle.slot_store.specs.Runs.{plan_of, next_of, tried_of, Saving}
 use Rattle.slot_store.proofs.Stops.{more}
 use Rattle.slot_store.proofs.Resting.{other_other}
-use Rattle.slot_store.proofs.GivenUp.{given_up, save_done, saving_begins}
-use Rattle.module_core.specs.declared.saves.Saves.{Saves}
-use Rattle.module_core.specs.State.{RunningSave, Store, begun_save}
-use Rattle.module_core.specs.Moves.{stepped, step_failed, saved_in, with_next}
-use Rattle.module_core.specs.Device.{IsNewest, IsPlanFor, AreAmong, IsResting, IsSaving, HoldsWhile}
-use Rattle.module_core.specs.Saving.{after_step, saving_after, closed_after, unsettled_after, newest_after, Knows}
-use Rattle.module_core.specs.Begins.{Begins, StoreMoves}
+use Rattle.slot_store.proofs.GivenUp.{given_up, save_done}
+use Rattle.module_core.specs.State.{RunningSave, Store}
+use Rattle.module_core.specs.Moves.{step_failed}
+use Rattle.module_core.specs.Device.{FindsNewest, IsPlanFor, AreAmong, IsResting, IsSaving, HoldsWhile}
+use Rattle.module_core.specs.Saving.{after_step, saving_after}
 
 -- the image that a plan makes
 pub image_is : (lines : ℕ) (s : Store) (made : Image) (plan : Plan) → IsPlanFor lines s made plan → image_of plan made.memory ≡ made
 image_is lines s made plan p =
     let e : image_of plan made.memory ≡ record { generation = made.generation; count = made.count; arm = made.arm; memory = made.memory } = cc (p.generation, p.count, p.arm) in e
 
-module _ (lines : ℕ) (s : Store) (candidates : Candidates) (image made : Image) (plan : Plan) (p : IsPlanFor lines s made plan) (n : IsNewest s.maybe image) where
+module _ (lines : ℕ) (s : Store) (candidates : Candidates) (image made : Image) (plan : Plan) (p : IsPlanFor lines s made plan) (n : FindsNewest s.maybe image) where
   back : other plan.slot ≡ s.maybe.slot
   back = ap other p.slot ∙ other_other s.maybe.slot
 

@@ -1,6 +1,6 @@
 -- What waits, after a write joined it or left it.
-use Rattle.std.proofs.Common.{◌≡◌, ◌≢◌, ◌⊎◌, ℕ, ◌+◌, ◌<◌, ◌≤◌, List, [], ◌∷◌, ◌++◌, length, Bool, true, false, refl, sym, ◌∙◌, ap, subst, take, drop, suc, get_or, arith, eq-eqb, ⊎_elim}
-use Rattle.std.specs.Prelude.{◌||◌, ◌==◌, Option, Some, None, IfSome, IfNone, insert, remove, slice_get, All}
+use Rattle.std.proofs.Common.{◌≡◌, ◌≢◌, ℕ, ◌+◌, ◌<◌, List, ◌∷◌, ◌++◌, Bool, true, false, refl, sym, ◌∙◌, ap, subst, take, drop, suc, get_or, arith, eq-eqb, ⊎_elim}
+use Rattle.std.specs.Prelude.{◌||◌, ◌==◌, Option, Some, None, IfSome, IfNone, slice_get, All}
 use Rattle.std.specs.Option.{ForSome}
 use Rattle.std.specs.List.{list_any}
 use Rattle.std.proofs.lemmas.Bool.Decides.{eqb_tells}

@@ -51,7 +51,7 @@ pub record IsReadyFor (lines : ℕ) (s : Store) (save : RunningSave) (saves : Sa
 
 -- The device holds this store after a step, and the module knows it. A stop at any moment of the step leaves an image that
 -- was possible before it, or is after it.
-pub record Makes (lines : ℕ) (s later : Store) (before : DeviceState) (saves : Saves) (state : DeviceState) : Type 0 where
+pub record ReachesStore (lines : ℕ) (s later : Store) (before : DeviceState) (saves : Saves) (state : DeviceState) : Type 0 where
   pub knows : Knows saves.newest saves.closed saves.unsettled later
   pub holds : Holds lines later saves.saving state
   pub moments : LeavesOnly before state (IsAmongEither lines s later)

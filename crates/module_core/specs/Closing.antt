@@ -1,12 +1,12 @@
 -- The parts of a closing save: the drains, and the save that follows, each action of it paid for first.
-use Rattle.std.specs.Prelude.{◌≡◌, ◌⊎◌, ℕ, ◌+◌, false, List, [], ◌∷◌, ◌++◌, take, slice_get, OnOk, Result, Ok, Err, Option, Some, None}
+use Rattle.std.specs.Prelude.{◌≡◌, ℕ, ◌+◌, false, List, [], ◌∷◌, ◌++◌, take, slice_get, OnOk, Result, Ok, Err, Some, None}
 use Rattle.std.specs.List.{flat_map}
 use Rattle.save_device.specs.declared.calls.CallKind.{CallKind}
 use Rattle.save_device.specs.Calls.{called, all_good}
 use Rattle.save_device.specs.Device.{DeviceState}
 use Rattle.save_image.specs.Image.{Image}
 use Rattle.slot_store.specs.declared.plan.Step.{Step}
-use Rattle.slot_store.specs.declared.plan.Step.TheVariants.{Close, SyncClosed, Header, Page, SyncBody, Open, SyncOpen, Done}
+use Rattle.slot_store.specs.declared.plan.Step.TheVariants.{Close, Header, Page, Open}
 use Rattle.slot_store.specs.Steps.{calls_left}
 use Rattle.energy_budget.specs.declared.action.Action.{Action}
 use Rattle.energy_budget.specs.declared.action.Action.TheVariants as actions
@@ -25,7 +25,7 @@ use Rattle.module_core.specs.Moves.{step_failed, saved_in, after_steps}
 use Rattle.module_core.specs.Losses.{pending_each}
 use Rattle.module_core.specs.Device.{Holds}
 use Rattle.module_core.specs.Saving.{Knows}
-use Rattle.module_core.specs.Begins.{Makes}
+use Rattle.module_core.specs.Begins.{ReachesStore}
 
 -- what is paid for a step of a save
 abbrev pub action_of : Step → Action
@@ -53,14 +53,14 @@ pub record IsReadyToClose (lines : ℕ) (s : Store) (made : Image) (saves : Save
 
 -- The save that runs, of this image, was made to its end.
 pub record SavesOn (lines : ℕ) (costs : Costs) (s : Store) (made : Image) (before : DeviceState) (gauge : Gauge) (saves : Saves) (device : DeviceState) (later : Gauge) : Type 0 where
-  pub makes : Makes lines s (saved_in s made) before saves device
+  pub makes : ReachesStore lines s (saved_in s made) before saves device
   pub calls : device.calls ≡ before.calls ++ all_good (calls_in lines s)
   pub pays : PaysInTurn costs (save_actions costs.pages) gauge (Ok tt) later
 
 -- After so many of its steps a payment was refused.
 pub record DarkAfter (lines : ℕ) (costs : Costs) (s : Store) (made : Image) (before : DeviceState) (gauge : Gauge) (saves : Saves) (device : DeviceState) (later : Gauge) : Type 0 where
   pub steps : ℕ
-  pub makes : Makes lines s (record (after_steps lines s made steps).1 { saving = None }) before saves device
+  pub makes : ReachesStore lines s (record (after_steps lines s made steps).1 { saving = None }) before saves device
   pub calls : device.calls ≡ before.calls ++ all_good (take steps (calls_in lines s))
   pub mid : Gauge
   pub pays : PaysInTurn costs (take steps (save_actions costs.pages)) gauge (Ok tt) mid
@@ -72,7 +72,7 @@ pub record DarkAfter (lines : ℕ) (costs : Costs) (s : Store) (made : Image) (b
 -- After so many of its steps the device failed in the next one.
 pub record FaultAfter (lines : ℕ) (costs : Costs) (s : Store) (made : Image) (before : DeviceState) (gauge : Gauge) (saves : Saves) (device : DeviceState) (later : Gauge) : Type 0 where
   pub steps : ℕ
-  pub makes : Makes lines s (let at = after_steps lines s made steps in step_failed at.1 made at.0) before saves device
+  pub makes : ReachesStore lines s (let at = after_steps lines s made steps in step_failed at.1 made at.0) before saves device
   pub failed : CallKind
   pub comes : slice_get (calls_in lines s) steps ≡ Some failed
   pub calls : device.calls ≡ before.calls ++ all_good (take steps (calls_in lines s)) ++ called failed false ∷ []

@@ -15,7 +15,7 @@ use Rattle.slot_store.specs.Runs.{plan_of, next_of, tried_of, Saving}
 use Rattle.module_core.specs.State.{RunningSave, Store}
 
 -- a read finds the newest image, with some arm byte, which is its own where only that one may stand
-pub record IsNewest (maybe : Candidates) (image : Image) : Type 0 where
+pub record FindsNewest (maybe : Candidates) (image : Image) : Type 0 where
   pub own : maybe.any_arm ≡ false → image.arm ≡ maybe.newest.arm
   pub is : image ≡ rearmed maybe.newest image.arm
 
@@ -27,7 +27,7 @@ AreAmong candidates maybe = (outcome : Outcome) → IsAmong candidates outcome �
 pub record IsResting (lines : ℕ) (s : Store) (state : DeviceState) : Type 0 where
   pub candidates : Candidates
   pub image : Image
-  pub newest : IsNewest s.maybe image
+  pub newest : FindsNewest s.maybe image
   pub rest : IsAtRest candidates image s.maybe.slot lines s.closed state
   pub among : AreAmong candidates s.maybe
 
@@ -45,7 +45,7 @@ pub record IsPlanFor (lines : ℕ) (s : Store) (made : Image) (plan : Plan) : Ty
 pub record IsSaving (lines : ℕ) (s : Store) (save : RunningSave) (run : SaveRun) (state : DeviceState) : Type 0 where
   pub candidates : Candidates
   pub image : Image
-  pub newest : IsNewest s.maybe image
+  pub newest : FindsNewest s.maybe image
   pub plan : IsPlanFor lines s save.made (plan_of run)
   pub next : next_of run ≡ save.next
   pub untried : tried_of run ≡ false

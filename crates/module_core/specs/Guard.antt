@@ -1,5 +1,5 @@
 -- What is true of each image that a stop may make the newest.
-use Rattle.std.specs.Prelude.{◌≡◌, ◌≢◌, ◌⊎◌, ◌||◌, ℕ, ◌≤◌, Bool, true, false, is_some, Option, Some, None}
+use Rattle.std.specs.Prelude.{◌≡◌, ◌≢◌, ◌⊎◌, ◌||◌, ◌≤◌, Bool, true, false, is_some, Option, Some, None}
 use Rattle.std.specs.Option.{ForSome}
 use Rattle.save_image.specs.Image.{Image}
 use Rattle.arm_state.specs.declared.mode.Mode.TheVariants as modes

@@ -1,5 +1,5 @@
 -- The loss of mains.
-use Rattle.std.specs.Prelude.{◌≡◌, ℕ, ◌+◌, ◌-◌, ◌<◌, ◌≤◌, zero, suc, true, false, List, [], ◌∷◌, ◌++◌, length, take, slice_get, Ok, Err, Option, Some, None}
+use Rattle.std.specs.Prelude.{◌≡◌, ℕ, ◌+◌, ◌-◌, zero, suc, true, false, List, [], ◌∷◌, ◌++◌, length, take, slice_get, Ok, Err, Some, None}
 use Rattle.save_device.specs.declared.calls.CallKind.{CallKind}
 use Rattle.save_device.specs.Calls.{called, all_good}
 use Rattle.slot_store.specs.declared.plan.Step.TheVariants.{Close}
@@ -42,7 +42,7 @@ drain_count setup m = length (flat_map drain_actions (pending_in setup m))
 
 -- Mains were lost while the machine was backed. In place of a save that runs one of all accepted writes, which isn't armed,
 -- makes some of its steps. All reads are lost, and of the writes none waits that did not.
-pub record Closes (loss : Loss) (old new : Machine) : Type 0 where
+pub record LosesMains (loss : Loss) (old new : Machine) : Type 0 where
   pub backed : is_backed old.mode ≡ true
   pub answered : new.lost ≡ Some loss
   pub rest : new ≡ record old { mode = new.mode; reading = new.reading; lost = new.lost; waits = new.waits; store = new.store }
@@ -58,7 +58,7 @@ pub record PaysFirst (setup : Setup) (old : World) (reading paid : ℕ) (gauge :
 
 -- All was saved, each action paid for first.
 pub record SavesAll (setup : Setup) (generation count : ℕ) (old new : World) : Type 0 where
-  pub closes : Closes (loss.Saved generation count) old.machine new.machine
+  pub closes : LosesMains (loss.Saved generation count) old.machine new.machine
   pub mode : new.machine.mode ≡ modes.Saved
   pub generation_is : generation ≡ (made_of false old.machine).generation
   pub count_is : count ≡ (made_of false old.machine).count
@@ -69,7 +69,7 @@ pub record SavesAll (setup : Setup) (generation count : ℕ) (old new : World) :
 
 -- A payment was refused, and nothing ran after it: each action before it was paid for and made.
 pub record EndsDark (setup : Setup) (old new : World) : Type 0 where
-  pub closes : Closes loss.Dark old.machine new.machine
+  pub closes : LosesMains loss.Dark old.machine new.machine
   pub mode : new.machine.mode ≡ modes.Closing
   pub paid : ℕ
   pub mid : Gauge
@@ -85,7 +85,7 @@ pub record EndsDark (setup : Setup) (old new : World) : Type 0 where
 -- The device failed in a step of the save, and nothing ran after it: each action so far was paid for, and but for the last
 -- one it was made.
 pub record EndsInFault (setup : Setup) (old new : World) : Type 0 where
-  pub closes : Closes loss.Fault old.machine new.machine
+  pub closes : LosesMains loss.Fault old.machine new.machine
   pub mode : new.machine.mode ≡ modes.Closing
   pub steps : ℕ
   pub pays : PaysFirst setup old new.machine.reading (drain_count setup old.machine + steps + 1) new.gauge

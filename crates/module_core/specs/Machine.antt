@@ -1,5 +1,5 @@
 -- The machine that a module's replies are a run of: which reply an event may have, and the state after it.
-use Rattle.std.specs.Prelude.{◌≡◌, ◌≢◌, ℕ, ◌+◌, ◌<◌, ◌≤◌, Bool, true, false, List, [], ◌∷◌, nat_lt, MatchBool, Result, Ok, Err, Option, Some, None, if◌then◌else◌}
+use Rattle.std.specs.Prelude.{◌≡◌, ◌≢◌, ℕ, ◌<◌, ◌≤◌, Bool, true, false, List, [], ◌∷◌, nat_lt, MatchBool, Result, Ok, Err, Option, Some, None, if◌then◌else◌}
 use Rattle.std.specs.List.{list_any}
 use Rattle.line_memory.specs.declared.Write as line_write
 use Rattle.save_device.specs.declared.calls.CallKind.{CallKind}
@@ -35,7 +35,7 @@ use Rattle.module_core.specs.declared.events.Reply.{Reply}
 use Rattle.module_core.specs.declared.events.Reply.TheVariants as replies
 use Rattle.module_core.specs.State.{Setup, RunningSave, Machine, World, all_of, memory_of, pending_of, hold_of}
 use Rattle.module_core.specs.Refusals.{need_for, is_low, saves_of, write_refusal, read_refusal}
-use Rattle.module_core.specs.Moves.{begun, disarming, read_as, sensed, written, armed, arm_failed, stepped, step_failed, with_next, finished}
+use Rattle.module_core.specs.Moves.{begun, disarming, read_as, sensed, written, armed, arm_failed, stepped, step_failed, advanced, finished}
 use Rattle.module_core.specs.Losses.{LoseStep}
 
 -- Steps of the machine, one definition an event.
@@ -124,7 +124,7 @@ must_wait m save = waits_at m save.made.count save.next
 -- a step of the save, after the reading: it went well, it was the last one, or the device failed in it
 abbrev pub MadeStep : ℕ → RunningSave → StepReply → Machine → Machine → Type 0
 MadeStep lines save (step.Did made) old new =
-    (made ≡ save.next) × (made ≢ SyncOpen) × (new ≡ record old { store = with_next lines save (stepped old.store save.made made) })
+    (made ≡ save.next) × (made ≢ SyncOpen) × (new ≡ record old { store = advanced lines save (stepped old.store save.made made) })
 MadeStep lines save (step.Saved generation count) old new =
     (save.next ≡ SyncOpen) × (generation ≡ save.made.generation) × (count ≡ save.made.count) × (new ≡ finished save old)
 MadeStep lines save step.Fault old new =
@@ -145,7 +145,7 @@ is_made step.Fault = false
 is_made reply = true
 
 -- a save runs, and nothing that its coming step is to have waits
-pub record IsReady (m : Machine) (save : RunningSave) : Type 0 where
+pub record MayStep (m : Machine) (save : RunningSave) : Type 0 where
   pub runs : m.store.saving ≡ Some save
   pub ready : must_wait m save ≡ false
 
@@ -155,11 +155,11 @@ SaveStepStep setup step.NoSave old new = (old.machine.store.saving ≡ None) × 
 SaveStepStep setup step.Waiting old new =
     (save : RunningSave) × (old.machine.store.saving ≡ Some save) × (must_wait old.machine save ≡ true) × (new ≡ old)
 SaveStepStep setup step.Turned old new =
-    (save : RunningSave) × IsReady old.machine save × (reading : ℕ) × ReadsLevel old.gauge reading new.gauge
+    (save : RunningSave) × MayStep old.machine save × (reading : ℕ) × ReadsLevel old.gauge reading new.gauge
     × (is_low setup (read_as reading old.machine) ≡ true)
     × (new ≡ record old { machine = disarming (read_as reading old.machine); gauge = new.gauge })
 SaveStepStep setup reply old new =
-    (save : RunningSave) × IsReady old.machine save × (reading : ℕ) × ReadsLevel old.gauge reading new.gauge
+    (save : RunningSave) × MayStep old.machine save × (reading : ℕ) × ReadsLevel old.gauge reading new.gauge
     × (is_low setup (read_as reading old.machine) ≡ false)
     × Calls (step_call old.machine.store.closed save.next ∷ []) (is_made reply) old new
     × MadeStep setup.shape.lines save reply (read_as reading old.machine) new.machine

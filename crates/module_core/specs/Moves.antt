@@ -1,5 +1,5 @@
 -- The moves of the machine: what becomes of its state.
-use Rattle.std.specs.Prelude.{ℕ, ◌+◌, zero, suc, Bool, true, false, List, [], ◌∷◌, ◌++◌, length, Option, Some, None, if◌then◌else◌}
+use Rattle.std.specs.Prelude.{ℕ, ◌+◌, zero, suc, true, false, [], ◌∷◌, ◌++◌, length, Some, None, if◌then◌else◌}
 use Rattle.line_memory.specs.declared.Write.{Write}
 use Rattle.save_image.specs.Image.{Image}
 use Rattle.slot_store.specs.declared.plan.Step.{Step}
@@ -67,8 +67,8 @@ step_failed s made step = record s { unsettled = true; saving = None }
 abbrev pub saved_in : Store → Image → Store
 saved_in s made = record { maybe = only (other s.maybe.slot) made; closed = false; unsettled = false; saving = None }
 
-abbrev pub with_next : ℕ → RunningSave → Store → Store
-with_next lines save s = record s { saving = Some (record save { next = step_after lines save.next }) }
+abbrev pub advanced : ℕ → RunningSave → Store → Store
+advanced lines save s = record s { saving = Some (record save { next = step_after lines save.next }) }
 
 -- how many writes are persistent after a save's end
 abbrev pub persisted_at_end : Mode → ℕ → ℕ → ℕ

@@ -1,20 +1,22 @@
 -- What the module knows of its device and of a save, and what a step of the save makes of it.
-use Rattle.std.specs.Prelude.{◌≡◌, ◌≢◌, ◌⊎◌, ℕ, ◌+◌, Bool, true, false, List, Result, Ok, Err, Option, Some, None}
+use Rattle.std.specs.Prelude.{◌≡◌, ◌≢◌, ◌⊎◌, ℕ, ◌+◌, Bool, true, false, List, Result, Ok, Err, Option, Some, None, IfOk}
+use Rattle.std.specs.Option.{ForSome}
+use Rattle.save_device.specs.Device.{DeviceState}
 use Rattle.slot_store.specs.declared.plan.Newest.{Newest}
 use Rattle.slot_store.specs.declared.plan.Step.{Step}
 use Rattle.slot_store.specs.declared.plan.Step.TheVariants.{Close, SyncClosed, Open, SyncOpen}
 use Rattle.slot_store.specs.declared.saving.SaveRun.{SaveRun}
-use Rattle.slot_store.specs.Slots.{other}
+use Rattle.slot_store.specs.Slots.{other, HasSize}
 use Rattle.slot_store.specs.Outcomes.{restored}
 use Rattle.slot_store.specs.Rest.{IsAmong}
 use Rattle.slot_store.specs.Runs.{plan_of, next_of, tried_of}
 use Rattle.module_core.specs.State.{RunningSave, Store}
-use Rattle.module_core.specs.Moves.{stepped, step_failed, saved_in, with_next}
+use Rattle.module_core.specs.Moves.{stepped, step_failed, saved_in, advanced}
 
 -- the store after a step that went well
 abbrev pub after_step : ℕ → Store → RunningSave → Step → Store
 after_step lines s save SyncOpen = saved_in s save.made
-after_step lines s save step = with_next lines save (stepped s save.made step)
+after_step lines s save step = advanced lines save (stepped s save.made step)
 
 abbrev pub store_after : {T E : Type 0} → ℕ → Store → RunningSave → Result T E → Store
 store_after lines s save (Ok done) = after_step lines s save save.next
@@ -28,8 +30,16 @@ pub record Knows (newest : Newest) (closed unsettled : Bool) (s : Store) : Type 
   pub open_end : unsettled ≡ s.unsettled
 
 -- how many writes a save has in its image
-abbrev pub count_of : SaveRun → ℕ
-count_of run = (plan_of run).count
+abbrev pub count_in : SaveRun → ℕ
+count_in run = (plan_of run).count
+
+-- the save that runs, where one does, is one of so many lines
+abbrev pub IsOfLines : ℕ → Option SaveRun → Type 0
+IsOfLines lines saving = ForSome saving (λ run. (plan_of run).lines ≡ lines)
+
+-- the device has the size that its image needs
+abbrev pub IsSizedFor : Option SaveRun → DeviceState → Type 0
+IsSizedFor saving device = ForSome saving (λ run. HasSize (plan_of run).lines device)
 
 -- the save that runs, by its next step, and the number of writes that it holds
 abbrev pub RunsAs : Option RunningSave → Option SaveRun → Type 0
@@ -76,3 +86,7 @@ newest_after step old new = new ≡ old
 abbrev pub IsDone : Step → Option Step → Type 0
 IsDone next (Some step) = (step ≡ next) × (step ≢ SyncOpen)
 IsDone next None = next ≡ SyncOpen
+
+-- a step that went well is told
+abbrev pub TellsStep : {E : Type 0} → Option SaveRun → Result (Option Step) E → Type 0
+TellsStep saving result = ForSome saving (λ run. IfOk result (IsDone (next_of run)))

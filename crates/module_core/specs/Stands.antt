@@ -15,6 +15,7 @@ use Rattle.module_core.specs.declared.module.Module.{Module}
 use Rattle.module_core.specs.declared.events.Event.{Event}
 use Rattle.module_core.specs.declared.events.Reply.{Reply}
 use Rattle.module_core.specs.State.{Setup, Machine, start_of_life, base_of_life, all_of, memory_of, hold_of}
+use Rattle.module_core.specs.Machine.{TakesReading}
 use Rattle.module_core.specs.Saving.{Knows, RunsAs}
 use Rattle.module_core.specs.Begins.{StoreMoves}
 use Rattle.module_core.specs.Device.{Holds}
@@ -79,6 +80,10 @@ module _ {C : Type 0} (L : Ghosts C) where
   abbrev pub Follows : (Machine → Machine → Type 0) → Module C L → Module C L → Type 0
   Follows Step old new = (m : Machine) → Matches old m
       → (n : Machine) × Step m n × Matches new n × StoreMoves old.lines m.store old.saves n.store new.saves
+
+  -- a reading was taken, which begins the disarming where it turns
+  abbrev pub FollowsReading : ℕ → Bool → Module C L → Module C L → Type 0
+  FollowsReading reading turns old new = Follows (λ m n. TakesReading (setup_of old) reading turns m n) old new
 
   -- a channel of the module
   abbrev pub IsChannel : Module C L → ℕ → Type 0

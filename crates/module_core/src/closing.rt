@@ -8,11 +8,12 @@ ghost use Rattle.line_channels.specs.View.{IsShape};
 ghost use Rattle.line_channels.specs.Memory.{Keeps};
 ghost use Rattle.module_core.specs.State.{Store};
 ghost use Rattle.module_core.specs.Closing.{DrainsAll, action_of};
+ghost use Rattle.module_core.specs.Saving.{IsOfLines};
 
 use crate::Saves;
 use crate::stepping::page_for;
 use energy_budget::{Action, Costs, Dark, Energy};
-use line_channels::Channels;
+use line_channels::{Channels, Drainable};
 use save_device::SaveDevice;
 use slot_store::Step;
 
@@ -39,7 +40,7 @@ pub fn action_of(step: Step) -> Action
 }
 
 /// Drains all channels in rising order, each action of it paid for first.
-pub fn drain_all<C: Channels, E: Energy>(
+pub fn drain_all<C: Drainable, E: Energy>(
     channels: &mut C,
     costs: &Costs,
     energy: &mut E,
@@ -71,7 +72,7 @@ impl Saves {
         requires reaches { C.reaches }
         requires shape { IsShape (C.view channels.now).shape }
         requires costs { costs.now ≡ (C.view channels.now).shape.costs }
-        requires lines { ForSome self.old.saving (λ run. (plan_of run).lines ≡ (C.view channels.now).shape.lines) }
+        requires lines { IsOfLines (C.view channels.now).shape.lines self.old.saving }
         requires size { HasSize (C.view channels.now).shape.lines (D.state device.old) }
         ensures saves { (s : Store) (made : Image)
             → IsReadyToClose (C.view channels.now).shape.lines s made self.old (D.state device.old)
@@ -79,7 +80,7 @@ impl Saves {
             → SavesClosing (C.view channels.now).shape.lines costs.now s made result
             (D.state device.old) (E.gauge energy.old)
             self.new (D.state device.new) (E.gauge energy.new) }
-        ensures lines { ForSome self.new.saving (λ run. (plan_of run).lines ≡ (C.view channels.now).shape.lines) }
+        ensures lines { IsOfLines (C.view channels.now).shape.lines self.new.saving }
         ensures size { HasSize (C.view channels.now).shape.lines (D.state device.new) }
     {
         for _done in 0..costs.pages + 6 {

@@ -8,6 +8,7 @@ ghost use Rattle.arm_state.specs.Modes.{is_armed, is_backed, has_ended};
 ghost use Rattle.line_channels.specs.Waits.{AllBelow};
 ghost use Rattle.line_channels.specs.View.{IsShape, is_full, is_full_of_reads};
 ghost use Rattle.module_core.specs.State.{Machine};
+ghost use Rattle.module_core.specs.Saving.{IsOfLines};
 
 use crate::saves::Saves;
 use crate::{Accepted, Event, ReadRefusal, Reply, WriteRefusal};
@@ -48,7 +49,7 @@ pub struct Module<C: Channels> {
     ghost awake: { has_ended mode ≡ false → (C.view channels).drained ≡ Some 0 },
     ghost capacity: { IsCapacity lines },
     ghost unspent: { is_backed mode ≡ true → saves.newest.generation ≤ 2 ^ 62 },
-    ghost running: { ForSome saves.saving (λ run. (plan_of run).lines ≡ lines) },
+    ghost running: { IsOfLines lines saves.saving },
     ghost most: { is_armed mode ≡ true → ForSome saves.saving (λ run. (plan_of run).generation ≤ 2 ^ 62) },
 }
 
@@ -62,8 +63,7 @@ fn persisted_after_write(mode: Mode, persisted: u64, accepted: u64) -> u64
 impl<C: Channels> Module<C> {
     ghost use Rattle.module_core.specs.Refusals.{is_low, need_for, saves_of, write_refusal, read_refusal};
     ghost use Rattle.module_core.specs.Moves.{begun, disarming};
-    ghost use Rattle.module_core.specs.Machine.{TakesReading};
-    ghost use Rattle.module_core.specs.Stands.{Matches, Follows, Answers, AnswersAlone, IsChannel, setup_of};
+    ghost use Rattle.module_core.specs.Stands.{Matches, Follows, FollowsReading, Answers, AnswersAlone, IsChannel, setup_of};
 
     /// The number of writes accepted, counted from the first life on.
     pub fn accepted(&self) -> u64
@@ -135,7 +135,8 @@ impl<C: Channels> Module<C> {
     /// Accepts a write, which later reads see; while armed it is persistent at once.
     pub fn write(&mut self, write: Write) -> Result<Accepted, WriteRefusal>
         requires { C.reaches }
-        ensures answers { AnswersAlone C.Channels (Event.Write write) (Reply.Write result) self.old self.new }
+        ensures answers { AnswersAlone C.Channels (Event.Write write) (Reply.Write result)
+            self.old self.new }
         ensures setup { setup_of C.Channels self.new ≡ setup_of C.Channels self.old }
     {
         if let Some(refusal) = self.write_refusal(write.line) {
@@ -176,7 +177,8 @@ impl<C: Channels> Module<C> {
     /// Reads a line of the memory after all accepted writes, at once or by a ticket.
     pub fn read(&mut self, line: u64) -> Result<Got, ReadRefusal>
         requires { C.reaches }
-        ensures answers { AnswersAlone C.Channels (Event.Read line) (Reply.Read result) self.old self.new }
+        ensures answers { AnswersAlone C.Channels (Event.Read line) (Reply.Read result)
+            self.old self.new }
         ensures setup { setup_of C.Channels self.new ≡ setup_of C.Channels self.old }
     {
         if let Some(refusal) = self.read_refusal(line) {
@@ -187,7 +189,8 @@ impl<C: Channels> Module<C> {
 
     /// What there is for a ticket; `Unknown` once mains were lost.
     pub fn collect(&mut self, ticket: Ticket) -> Collected
-        ensures answers { AnswersAlone C.Channels (Event.Collect ticket) (Reply.Collect result) self.old self.new }
+        ensures answers { AnswersAlone C.Channels (Event.Collect ticket) (Reply.Collect result)
+            self.old self.new }
         ensures setup { setup_of C.Channels self.new ≡ setup_of C.Channels self.old }
     {
         if self.mode.has_ended() {
@@ -199,7 +202,8 @@ impl<C: Channels> Module<C> {
     /// Issues one command of a channel, where mains are there and it has one.
     pub fn work(&mut self, channel: u64) -> Option<Done>
         requires { IsChannel C.Channels self.old channel }
-        ensures answers { AnswersAlone C.Channels (Event.Work channel) (Reply.Work result) self.old self.new }
+        ensures answers { AnswersAlone C.Channels (Event.Work channel) (Reply.Work result)
+            self.old self.new }
         ensures setup { setup_of C.Channels self.new ≡ setup_of C.Channels self.old }
     {
         if self.mode.has_ended() {
@@ -242,7 +246,7 @@ impl<C: Channels> Module<C> {
 
     // Takes a reading; where it is too low while armed the disarming is begun.
     pub(crate) fn take_reading(&mut self, reading: u64) -> bool
-        ensures step { Follows C.Channels (λ m n. TakesReading (setup_of C.Channels self.old) reading result m n) self.old self.new }
+        ensures step { FollowsReading C.Channels reading result self.old self.new }
         ensures stays { result ≡ false → self.new.saves ≡ self.old.saves }
         ensures mode { result ≡ false → self.new.mode ≡ self.old.mode }
         ensures setup { setup_of C.Channels self.new ≡ setup_of C.Channels self.old }
@@ -258,7 +262,8 @@ impl<C: Channels> Module<C> {
     /// Reads the gauge while disarmed or armed; while armed a low reading begins the disarming. In the other modes it answers
     /// the last reading.
     pub fn sense<E: Energy>(&mut self, energy: &mut E) -> u64
-        ensures answers { (device : DeviceState) → Answers C.Channels Event.Sense (Reply.Sense result)
+        ensures answers { (device : DeviceState)
+            → Answers C.Channels Event.Sense (Reply.Sense result)
             self.old device (E.gauge energy.old) self.new device (E.gauge energy.new) }
         ensures setup { setup_of C.Channels self.new ≡ setup_of C.Channels self.old }
     {
@@ -272,7 +277,8 @@ impl<C: Channels> Module<C> {
 
     /// Begins the disarming of an armed module.
     pub fn disarm(&mut self) -> Result<DisarmReply, ArmRefusal>
-        ensures answers { AnswersAlone C.Channels Event.Disarm (Reply.Disarm result) self.old self.new }
+        ensures answers { AnswersAlone C.Channels Event.Disarm (Reply.Disarm result)
+            self.old self.new }
         ensures setup { setup_of C.Channels self.new ≡ setup_of C.Channels self.old }
     {
         if let Some(refusal) = self.mode.disarm_refusal() {
@@ -300,7 +306,8 @@ impl<C: Channels> Module<C> {
     /// Begins a save of all writes accepted so far, which holds later ones back until its last page is written. A stranded
     /// disarming is begun again.
     pub fn save_begin(&mut self) -> Result<(), ArmRefusal>
-        ensures answers { AnswersAlone C.Channels Event.SaveBegin (Reply.SaveBegin result) self.old self.new }
+        ensures answers { AnswersAlone C.Channels Event.SaveBegin (Reply.SaveBegin result)
+            self.old self.new }
         ensures setup { setup_of C.Channels self.new ≡ setup_of C.Channels self.old }
     {
         if let Some(refusal) = self.mode.save_refusal(self.save_state()) {

@@ -8,7 +8,7 @@ ghost use Rattle.slot_store.specs.Steps.{reach_of};
 ghost use Rattle.slot_store.specs.Runs.{plan_of, next_of};
 ghost use Rattle.module_core.specs.State.{RunningSave, Store};
 ghost use Rattle.module_core.specs.Machine.{step_call};
-ghost use Rattle.module_core.specs.Saving.{count_of, store_after, saving_after, closed_after, unsettled_after, newest_after, IsDone};
+ghost use Rattle.module_core.specs.Saving.{count_in, IsOfLines, IsSizedFor, TellsStep, store_after, saving_after, closed_after, unsettled_after, newest_after, IsDone};
 
 use save_device::{DeviceFault, SaveDevice};
 use slot_store::{Newest, SaveRun, Step};
@@ -27,12 +27,12 @@ pub struct Saves {
 }
 
 impl Saves {
-    ghost use Rattle.module_core.specs.Begins.{Begins, IsReadyFor, Makes, StepTold};
+    ghost use Rattle.module_core.specs.Begins.{Begins, IsReadyFor, ReachesStore, StepTold};
 
     /// The coming step of the save that runs, if one does.
     pub(crate) fn next(&self) -> Option<Step>
         ensures is { result ≡ option_map next_of self.now.saving }
-        ensures place { (lines : ℕ) → ForSome self.now.saving (λ run. (plan_of run).lines ≡ lines)
+        ensures place { (lines : ℕ) → IsOfLines lines self.now.saving
             → ForSome result (λ step. reach_of step ≤ lines) }
     {
         match &self.saving {
@@ -43,7 +43,7 @@ impl Saves {
 
     /// How many writes the save that runs has in its image.
     pub(crate) fn count(&self) -> Option<u64>
-        ensures { result ≡ option_map count_of self.now.saving }
+        ensures { result ≡ option_map count_in self.now.saving }
     {
         match &self.saving {
             Some(run) => Some(run.count()),
@@ -70,8 +70,8 @@ impl Saves {
         page: &[u8; 4096],
     ) -> Result<Option<Step>, DeviceFault>
         requires runs { IsSome self.old.saving }
-        requires size { ForSome self.old.saving (λ run. HasSize (plan_of run).lines (D.state device.old)) }
-        ensures step { (run : SaveRun) → self.old.saving ≡ Some run → IfOk result (IsDone (next_of run)) }
+        requires size { IsSizedFor self.old.saving (D.state device.old) }
+        ensures step { TellsStep self.old.saving result }
         ensures call { (run : SaveRun) → self.old.saving ≡ Some run
             → MakesCalls (step_call (plan_of run).closed (next_of run) ∷ []) (is_ok result)
             (D.state device.old).calls (D.state device.new).calls }
@@ -80,14 +80,15 @@ impl Saves {
         // it might before or may after it.
         ensures makes { (lines : ℕ) (s : Store) (save : RunningSave)
             → IsReadyFor lines s save self.old page.now (D.state device.old)
-            → Makes lines s (store_after lines s save result)
+            → ReachesStore lines s (store_after lines s save result)
             (D.state device.old) self.new (D.state device.new) }
         ensures told { StepTold result self.old self.new }
-        ensures lines { (lines : ℕ) → ForSome self.old.saving (λ run. (plan_of run).lines ≡ lines)
-            → ForSome self.new.saving (λ run. (plan_of run).lines ≡ lines) }
+        ensures lines { (lines : ℕ) → IsOfLines lines self.old.saving
+            → IsOfLines lines self.new.saving }
         ensures most { (most : ℕ) → ForSome self.old.saving (λ run. (plan_of run).generation ≤ most)
             → ForSome self.new.saving (λ run. (plan_of run).generation ≤ most) }
-        ensures size { (lines : ℕ) → HasSize lines (D.state device.old) → HasSize lines (D.state device.new) }
+        ensures size { (lines : ℕ) → HasSize lines (D.state device.old)
+            → HasSize lines (D.state device.new) }
     {
         let Some(mut run) = self.saving.take() else {
             unreachable!();

@@ -36,7 +36,7 @@ pub(crate) fn page_for<C: Channels>(channels: &C, step: Step) -> [u8; 4096]
 }
 
 impl<C: Channels> Module<C> {
-    ghost use Rattle.module_core.specs.Begins.{IsReadyFor, Makes};
+    ghost use Rattle.module_core.specs.Begins.{IsReadyFor, ReachesStore};
     ghost use Rattle.module_core.specs.Stands.{Matches, Answers, HasDevice, SameButHold, setup_of};
 
     // A write that the page of the coming step is to have waits for its array.
@@ -70,7 +70,7 @@ impl<C: Channels> Module<C> {
             → IsReadyFor self.old.lines m.store save self.old.saves page.now (D.state device.old)
             → Matches C.Channels self.old m
             → (n : Machine) × MadeStep self.old.lines save result m n × Matches C.Channels self.new n
-            × Makes self.old.lines m.store n.store (D.state device.old) self.new.saves (D.state device.new) }
+            × ReachesStore self.old.lines m.store n.store (D.state device.old) self.new.saves (D.state device.new) }
         ensures call { (run : SaveRun) → self.old.saves.saving ≡ Some run
             → MakesCalls (step_call (plan_of run).closed (next_of run) ∷ []) (is_made result)
             (D.state device.old).calls (D.state device.new).calls }

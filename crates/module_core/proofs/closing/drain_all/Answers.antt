@@ -1,10 +1,8 @@
-use Rattle.std.proofs.Common.{◌≡◌, ◌<◌, ◌+◌, ℕ, refl, sym, ap, subst, ◌∙◌, arith}
+use Rattle.std.proofs.Common.{◌≡◌, ◌<◌, ℕ, sym, ap, subst, ◌∙◌, arith}
 use Rattle.std.specs.Prelude.{Ok, Err, Some}
 use Rattle.energy_budget.specs.declared.costs.Costs.{Costs}
-use Rattle.energy_budget.specs.Actions.{drain_actions}
-use Rattle.line_channels.specs.Waits.{writes_on}
-use Rattle.line_channels.specs.View.{Shape, ChannelsView}
-use Rattle.line_channels.specs.Draining.{Paid, PaysInTurn}
+use Rattle.line_channels.specs.View.{ChannelsView}
+use Rattle.line_channels.specs.Draining.{Paid}
 use Rattle.module_core.specs.Closing.{DrainsAll}
 use Rattle.module_core.proofs.Drains.{DrainedTo, on_dark, none_drained, DrainsNext, drained_next, drain_refused, all_drained}
 use Rattle.module_core.proofs.closing.drain_all.Goals as goal
@@ -64,7 +62,7 @@ returns-clause-drains g c =
     let ended : c.loop-channel.channel ≡ old.shape.channels = omega (arith, inv.end, c.loop-channel.auto.channel-end, c.loop-channel-test.false) in
     let drained : DrainedTo old.shape.costs old.shape.channels old before new later = subst (λ (i : ℕ). DrainedTo old.shape.costs i old before new later) ended inv.drained in
     let same : new.shape.channels ≡ old.shape.channels = ap (λ (v : ChannelsView). v.shape.channels) drained.rest in
-    all_drained old new before later drained (g.met.C.Channels.empty c.loop-channel.channels (drained.turn ∙ ap Some (sym same)))
+    all_drained old new before later drained (g.met.C.Drainable.empty c.loop-channel.channels (drained.turn ∙ ap Some (sym same)))
 
 pub returns-clause-keeps : goal.returns-clause-keeps
 returns-clause-keeps g c = c.loop-channel.invariant.keeps

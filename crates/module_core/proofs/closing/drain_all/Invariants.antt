@@ -1,5 +1,4 @@
 use Rattle.std.proofs.Common.{◌≡◌}
-use Rattle.energy_budget.specs.declared.costs.Costs.{Costs}
 use Rattle.line_channels.specs.Memory.{Keeps}
 use Rattle.module_core.proofs.Drains.{DrainedTo}
 use Rattle.module_core.proofs.closing.drain_all.Given as goal

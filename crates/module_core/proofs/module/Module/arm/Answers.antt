@@ -1,9 +1,7 @@
-use Rattle.std.proofs.Common.{◌≡◌, ◌∙◌, ℕ, ◌+◌, ◌<◌, ◌≤◌, List, length, Bool, true, false, refl, sym, ap, subst, inl, inr, Option, Some, None, arith}
-use Rattle.std.specs.Prelude.{Ok, Err, nat_lt, if◌then◌else◌, ◌||◌}
-use Rattle.std.proofs.lemmas.Bool.{ltb-true, ltb-false}
+use Rattle.std.proofs.Common.{◌≡◌, ◌∙◌, ℕ, ◌<◌, ◌≤◌, length, true, false, refl, sym, ap, subst, inl, None}
+use Rattle.std.specs.Prelude.{Ok, Err}
 use Rattle.save_device.specs.Device.{DeviceState}
 use Rattle.save_device.proofs.Moments.{weaker}
-use Rattle.slot_store.specs.Slots.{HasSize}
 use Rattle.slot_store.specs.Outcomes.{restored}
 use Rattle.slot_store.specs.declared.slots.Slot.{Slot}
 use Rattle.slot_store.specs.Rest.{IsAmong, IsAtRestOn, IsAtRestRearmed, with_any_arm, rearmed}
@@ -11,17 +9,16 @@ use Rattle.arm_state.specs.declared.mode.Mode.{Mode}
 use Rattle.arm_state.specs.declared.refusal.ArmRefusal.{ArmRefusal}
 use Rattle.arm_state.specs.declared.refusal.ArmRefusal.TheVariants as refusals
 use Rattle.arm_state.specs.declared.refusal.ArmReply.TheVariants as arm
-use Rattle.arm_state.specs.Modes.{is_armed, is_backed, has_ended}
-use Rattle.arm_state.specs.Refusals.{arm_refusal, energy_refusal_of}
+use Rattle.arm_state.specs.Modes.{is_armed, has_ended}
+use Rattle.arm_state.specs.Refusals.{arm_refusal}
 use Rattle.energy_budget.specs.Gauge.{Gauge}
 use Rattle.module_core.specs.declared.events.Event.TheVariants as events
 use Rattle.module_core.specs.declared.events.Reply.TheVariants as replies
-use Rattle.module_core.specs.State.{Setup, Store, Machine, World, pending_of, newest_of, all_of}
+use Rattle.module_core.specs.State.{Setup, Machine, pending_of, newest_of}
 use Rattle.module_core.specs.Refusals.{need_for, saves_of}
 use Rattle.module_core.specs.Moves.{read_as, armed, arm_failed}
-use Rattle.module_core.specs.Machine.{MachineStep, ArmStep, MayArm}
-use Rattle.module_core.specs.Device.{Holds, IsResting}
-use Rattle.module_core.specs.Guard.{may_lack, is_cut_short}
+use Rattle.module_core.specs.Machine.{MachineStep, ArmStep}
+use Rattle.module_core.specs.Device.{IsResting}
 use Rattle.module_core.specs.Headline.{marks}
 use Rattle.module_core.specs.Stands.{setup_of}
 use Rattle.module_core.proofs.ArmSteps.{unmarked, energy_is, energy_enough, arm_refused, rest_alone, rests_armed, rests_rearmed, holds_none, fast_where, calm_disarmed, any_arm_in}

@@ -1,4 +1,4 @@
-use Rattle.std.proofs.Common.{◌≡◌, ◌≢◌, ◌∙◌, ℕ, List, [], Bool, true, false, refl, sym, ap, subst, inl}
+use Rattle.std.proofs.Common.{◌≡◌, ◌≢◌, ◌∙◌, List, true, false, refl, sym, ap, subst, inl}
 use Rattle.std.specs.Option.{ForSome}
 use Rattle.std.proofs.lemmas.List.Elements.{All-nil}
 use Rattle.arm_state.specs.Modes.{has_ended}
@@ -8,12 +8,11 @@ use Rattle.line_channels.specs.View.{ChannelsView}
 use Rattle.line_channels.specs.Waits.{OpenRead, Waits, IsNewTicket}
 use Rattle.line_channels.specs.Answers.{IsCollected}
 use Rattle.line_channels.specs.Memory.{WaitsFrom}
-use Rattle.module_core.specs.State.{Machine, all_of, hold_of, base_of_life, start_of_life}
+use Rattle.module_core.specs.State.{all_of, hold_of, base_of_life, start_of_life}
 use Rattle.module_core.proofs.Collecting.{collected_writes}
 use Rattle.module_core.specs.declared.events.Event.TheVariants as events
 use Rattle.module_core.specs.declared.events.Reply.TheVariants as replies
 use Rattle.module_core.specs.Machine.{CollectStep}
-use Rattle.module_core.specs.Stands.{setup_of}
 use Rattle.module_core.proofs.Applying.{same_setup, alone, unmoved}
 use Rattle.module_core.proofs.module.Module.collect.Goals as goal
 

@@ -7,7 +7,6 @@ use Rattle.arm_state.specs.Modes.{is_armed, is_disarming, has_ended}
 use Rattle.arm_state.specs.Refusals.{disarm_refusal}
 use Rattle.module_core.specs.declared.events.Event.TheVariants as events
 use Rattle.module_core.specs.declared.events.Reply.TheVariants as replies
-use Rattle.module_core.specs.Machine.{DisarmStep}
 use Rattle.module_core.specs.Moves.{disarming}
 use Rattle.module_core.proofs.Applying.{alone, unmoved}
 use Rattle.module_core.proofs.Backing.{is_armed_mode}

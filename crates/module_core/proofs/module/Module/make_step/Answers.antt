@@ -1,4 +1,4 @@
-use Rattle.std.proofs.Common.{◌≡◌, ◌≢◌, ◌∙◌, ℕ, ◌≤◌, List, Bool, true, false, refl, sym, ap, subst, Option, Some, None, arith}
+use Rattle.std.proofs.Common.{◌≡◌, ◌∙◌, ℕ, refl, sym, ap, subst, Option, Some, None, arith}
 use Rattle.std.specs.Prelude.{Ok, ◌^◌}
 use Rattle.std.specs.Option.{ForSome, option_map}
 use Rattle.save_device.specs.declared.device.DeviceFault.{DeviceFault}
@@ -8,20 +8,18 @@ use Rattle.slot_store.specs.declared.plan.Step.{Step}
 use Rattle.slot_store.specs.declared.plan.Step.TheVariants.{SyncOpen}
 use Rattle.slot_store.specs.declared.saving.SaveRun.{SaveRun}
 use Rattle.slot_store.specs.Slots.{HasSize}
-use Rattle.slot_store.specs.Runs.{plan_of, next_of}
+use Rattle.slot_store.specs.Runs.{next_of}
 use Rattle.slot_store.specs.Steps.{step_after}
 use Rattle.arm_state.specs.declared.mode.Mode.{Mode}
 use Rattle.arm_state.specs.declared.moves.Move.TheVariants.{EndSave, FailSave}
-use Rattle.arm_state.specs.Modes.{has_ended}
 use Rattle.arm_state.specs.Moves.{mode_after}
 use Rattle.line_memory.specs.Memory.{IsMemory}
 use Rattle.line_channels.specs.Memory.{WaitsFrom}
 use Rattle.module_core.specs.declared.saves.Saves.{Saves}
 use Rattle.module_core.specs.State.{RunningSave, Store, Machine, hold_at, hold_of, all_of, memory_of, base_of_life, start_of_life}
-use Rattle.module_core.specs.Moves.{step_failed, saved_in, stepped, with_next, finished, persisted_at_end}
-use Rattle.module_core.specs.Device.{HoldsWhile}
+use Rattle.module_core.specs.Moves.{step_failed, saved_in, stepped, advanced, finished, persisted_at_end}
 use Rattle.module_core.specs.Saving.{after_step, IsDone, Knows, RunsAs}
-use Rattle.module_core.specs.Begins.{StepTold, Makes}
+use Rattle.module_core.specs.Begins.{StepTold, ReachesStore}
 use Rattle.module_core.specs.Stands.{hold_behind}
 use Rattle.module_core.proofs.ModeLaws.{failed_ended, ended_ended}
 use Rattle.module_core.proofs.GuardLaws.{for_none}
@@ -32,7 +30,7 @@ pub returns-in-Err-clause-made : goal.returns-in-Err-clause-made
 returns-in-Err-clause-made g c = λ m save ready h.
     let S = g.D.SaveDevice in let lines : ℕ = c.args.self.now.lines in let now : DeviceState = S.state c.step.new.device in
     let failed : Store = step_failed m.store save.made save.next in let n : Machine = record m { mode = mode_after FailSave m.mode; store = failed } in
-    let made : Makes lines m.store failed (S.state c.args.device.now) c.step.new.self now = c.in-Err.ensures.makes lines m.store save ready in
+    let made : ReachesStore lines m.store failed (S.state c.args.device.now) c.step.new.self now = c.in-Err.ensures.makes lines m.store save ready in
     let none : failed.saving ≡ None = failed_none m.store save.made save.next in let e = c.release.ensures in (
       n,
       refl,
@@ -64,7 +62,7 @@ returns-in-Ok-None-clause-made g c = λ m save ready h.
     let told : IsDone (next_of run) None = subst (λ (x : Option Step). IsDone (next_of run) x) c.in-Ok-None.field-0-is (c.in-Ok-None.ensures.step run the.1) in
     let last : save.next ≡ SyncOpen = sym the.2.next ∙ told in
     let ended : Store = saved_in m.store save.made in let is : after_step lines m.store save save.next ≡ ended = ap (after_step lines m.store save) last in
-    let made : Makes lines m.store ended before c.step.new.self now = subst (λ (s : Store). Makes lines m.store s before c.step.new.self now) is (c.in-Ok-None.ensures.makes lines m.store save ready) in
+    let made : ReachesStore lines m.store ended before c.step.new.self now = subst (λ (s : Store). ReachesStore lines m.store s before c.step.new.self now) is (c.in-Ok-None.ensures.makes lines m.store save ready) in
     let count : c.in-Some.count ≡ save.made.count = counts_as c.in-Some.count c.args.self.now.saves.saving run the.1 (sym c.count.ensures ∙ c.in-Some.is) ∙ the.2.plan.count in (
       finished save m,
       (last, made.knows.generation, count, refl),
@@ -96,10 +94,10 @@ returns-in-Ok-Some-clause-made g c = λ m save ready h.
     let the = the_run lines m.store before save m.store.saving c.args.self.now.saves.saving ready.runs ready.holds in let run : SaveRun = the.0 in
     let told : IsDone (next_of run) (Some c.in-Ok-Some.step) = subst (λ (x : Option Step). IsDone (next_of run) x) c.in-Ok-Some.field-0-is (c.in-Ok-Some.ensures.step run the.1) in
     let made_is : c.in-Ok-Some.step ≡ save.next = told.0 ∙ the.2.next in
-    let later : Store = with_next lines save (stepped m.store save.made c.in-Ok-Some.step) in
+    let later : Store = advanced lines save (stepped m.store save.made c.in-Ok-Some.step) in
     let is : after_step lines m.store save save.next ≡ later =
-    stepped_is lines m.store save save.next (λ last. told.1 (made_is ∙ last)) ∙ ap (λ (x : Step). with_next lines save (stepped m.store save.made x)) (sym made_is) in
-    let made : Makes lines m.store later before c.step.new.self now = subst (λ (s : Store). Makes lines m.store s before c.step.new.self now) is (c.in-Ok-Some.ensures.makes lines m.store save ready) in
+    stepped_is lines m.store save save.next (λ last. told.1 (made_is ∙ last)) ∙ ap (λ (x : Step). advanced lines save (stepped m.store save.made x)) (sym made_is) in
+    let made : ReachesStore lines m.store later before c.step.new.self now = subst (λ (s : Store). ReachesStore lines m.store s before c.step.new.self now) is (c.in-Ok-Some.ensures.makes lines m.store save ready) in
     let going : RunningSave = record save { next = step_after lines save.next } in
     let then_run = the_run lines later now going later.saving c.step.new.self.saving refl made.holds in
     let coming : option_map next_of c.step.new.self.saving ≡ Some (step_after lines save.next) = ap (option_map next_of) then_run.1 ∙ ap (λ (x : Step). Some x) then_run.2.next in
@@ -126,7 +124,7 @@ returns-in-Ok-Some-clause-made g c = λ m save ready h.
               (subst (λ (o : Option RunningSave). ForSome (hold_of o) (λ k. WaitsFrom k (all_of m) m.waits.writes)) ready.runs h.carried.held);
         };
       },
-      subst (λ (x : Saves). Makes lines m.store later before x now) (sym rest.saves) made,
+      subst (λ (x : Saves). ReachesStore lines m.store later before x now) (sym rest.saves) made,
     )
 
 pub returns-in-Ok-Some-clause-size : goal.returns-in-Ok-Some-clause-size

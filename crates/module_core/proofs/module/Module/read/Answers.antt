@@ -1,4 +1,4 @@
-use Rattle.std.proofs.Common.{◌≡◌, ◌∙◌, ℕ, List, Bool, false, refl, sym, ap, subst, inl}
+use Rattle.std.proofs.Common.{◌≡◌, ◌∙◌, ℕ, List, false, refl, sym, ap, subst, inl}
 use Rattle.std.specs.Prelude.{Ok, Err}
 use Rattle.std.specs.Option.{ForSome}
 use Rattle.arm_state.specs.Modes.{has_ended}
@@ -7,7 +7,7 @@ use Rattle.line_channels.specs.View.{ChannelsView}
 use Rattle.line_channels.specs.Waits.{Waits}
 use Rattle.line_channels.specs.Answers.{IsGot, line_of}
 use Rattle.line_channels.specs.Memory.{WaitsFrom}
-use Rattle.module_core.specs.State.{Machine, all_of, memory_of, hold_of, base_of_life, start_of_life}
+use Rattle.module_core.specs.State.{all_of, memory_of, hold_of, base_of_life, start_of_life}
 use Rattle.module_core.specs.declared.events.Event.TheVariants as events
 use Rattle.module_core.specs.declared.events.Reply.TheVariants as replies
 use Rattle.module_core.specs.Machine.{ReadStep}

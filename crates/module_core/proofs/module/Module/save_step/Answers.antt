@@ -1,6 +1,6 @@
-use Rattle.std.proofs.Common.{◌≡◌, ◌∙◌, ℕ, ◌+◌, List, [], ◌∷◌, length, Bool, true, false, refl, sym, ap, subst, inl, inr, ◌⊎◌, Option, Some, None}
+use Rattle.std.proofs.Common.{◌≡◌, ◌∙◌, ℕ, ◌+◌, List, [], ◌∷◌, length, Bool, true, false, refl, sym, ap, subst, ◌⊎◌, Option}
 use Rattle.std.specs.Prelude.{if◌then◌else◌}
-use Rattle.std.specs.Option.{ForSome, option_map}
+use Rattle.std.specs.Option.{ForSome}
 use Rattle.save_device.specs.declared.calls.CallKind.{CallKind}
 use Rattle.save_device.specs.Calls.{MakesCalls}
 use Rattle.save_device.specs.Device.{DeviceState}
@@ -17,9 +17,9 @@ use Rattle.line_channels.specs.Memory.{WaitsFrom, NoneBelow}
 use Rattle.module_core.specs.declared.events.StepReply.TheVariants as step
 use Rattle.module_core.specs.declared.events.Event.TheVariants as events
 use Rattle.module_core.specs.declared.events.Reply.TheVariants as replies
-use Rattle.module_core.specs.State.{Setup, RunningSave, Store, Machine, World, hold_of, all_of, base_of_life, start_of_life}
+use Rattle.module_core.specs.State.{Setup, RunningSave, Machine, World, hold_of, base_of_life, start_of_life}
 use Rattle.module_core.specs.Refusals.{is_low}
-use Rattle.module_core.specs.Moves.{read_as, disarming, sensed}
+use Rattle.module_core.specs.Moves.{read_as, disarming}
 use Rattle.module_core.specs.Machine.{MachineStep, SaveStepStep, MadeStep, must_wait, step_call, is_made}
 use Rattle.module_core.specs.Device.{Holds}
 use Rattle.module_core.specs.Begins.{StoreMoves, IsReadyFor}

@@ -1,10 +1,9 @@
-use Rattle.std.proofs.Common.{◌≡◌, ◌∙◌, ℕ, Bool, true, false, refl, sym, ap, subst, inl}
+use Rattle.std.proofs.Common.{◌≡◌, ◌∙◌, Bool, true, false, refl, sym, ap, inl}
 use Rattle.std.specs.Prelude.{if◌then◌else◌}
 use Rattle.module_core.specs.State.{Setup, Machine}
 use Rattle.module_core.specs.Refusals.{is_low}
 use Rattle.module_core.specs.Moves.{read_as, disarming, sensed}
-use Rattle.module_core.specs.Begins.{StoreMoves}
-use Rattle.module_core.specs.Stands.{Matches, setup_of}
+use Rattle.module_core.specs.Stands.{setup_of}
 use Rattle.module_core.proofs.module.Module.take_reading.Goals as goal
 
 pub returns-then-not-is_low-clause-step : goal.returns-then-not-is_low-clause-step

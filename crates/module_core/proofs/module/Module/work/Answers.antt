@@ -1,4 +1,4 @@
-use Rattle.std.proofs.Common.{◌≡◌, ◌∙◌, ℕ, List, Bool, true, false, refl, sym, ap, subst, inl}
+use Rattle.std.proofs.Common.{◌≡◌, ◌∙◌, ℕ, List, true, false, refl, sym, ap, subst, inl}
 use Rattle.std.specs.Prelude.{Option, None}
 use Rattle.std.specs.Option.{ForSome}
 use Rattle.arm_state.specs.Modes.{has_ended}

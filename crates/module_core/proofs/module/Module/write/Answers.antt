@@ -1,18 +1,16 @@
-use Rattle.std.proofs.Common.{◌≡◌, ◌∙◌, ℕ, ◌+◌, ◌++◌, [], ◌∷◌, Bool, false, List, length, refl, sym, ap, subst, inl, arith}
+use Rattle.std.proofs.Common.{◌≡◌, ◌∙◌, ℕ, ◌+◌, [], ◌∷◌, false, List, length, refl, sym, ap, subst, inl, arith}
 use Rattle.std.specs.Prelude.{Ok, Err, if◌then◌else◌}
-use Rattle.std.specs.Option.{ForSome}
 use Rattle.std.proofs.lemmas.List.{length-append}
 use Rattle.line_memory.specs.declared.Write.{Write}
 use Rattle.line_memory.specs.Memory.{IsMemory}
 use Rattle.line_memory.proofs.MemoryLaws.{after-push, after_write-IsMemory}
 use Rattle.arm_state.specs.declared.mode.Mode.{Mode}
 use Rattle.arm_state.specs.Modes.{is_armed, has_ended}
-use Rattle.line_channels.specs.declared.answers.Waiting.{Waiting}
 use Rattle.line_channels.specs.View.{ChannelsView}
 use Rattle.line_channels.specs.Waits.{Waits}
 use Rattle.line_channels.specs.Answers.{Puts}
 use Rattle.line_channels.specs.Memory.{WaitsFrom}
-use Rattle.module_core.specs.State.{Machine, Life, all_of, memory_of, hold_of, base_of_life, start_of_life}
+use Rattle.module_core.specs.State.{Machine, Life, all_of, memory_of, base_of_life, start_of_life}
 use Rattle.module_core.specs.Moves.{written}
 use Rattle.module_core.proofs.Waits.{held_joined}
 use Rattle.module_core.specs.declared.events.Event.TheVariants as events

@@ -1,21 +1,15 @@
-use Rattle.std.proofs.Common.{◌≡◌, ℕ, ◌+◌, ◌*◌, ◌<◌, ◌≤◌, List, [], ◌∷◌, Bool, true, false, inl, inr, refl, ap, sym, ◌∙◌, subst, arith}
-use Rattle.std.specs.Prelude.{Ok, Err, Some, None, Option, IsSome}
-use Rattle.std.specs.Option.{ForSome, option_map}
-use Rattle.save_image.specs.Image.{Image}
+use Rattle.std.proofs.Common.{◌≡◌, ℕ, ◌*◌, ◌≤◌, true, false, inl, refl, ap, sym, ◌∙◌, subst, arith}
+use Rattle.std.specs.Prelude.{Ok, Err, Some}
 use Rattle.save_device.specs.Device.{DeviceState}
 use Rattle.slot_store.specs.declared.plan.Step.{Step}
-use Rattle.slot_store.specs.declared.saving.SaveRun.{SaveRun}
 use Rattle.slot_store.specs.Slots.{HasSize}
-use Rattle.slot_store.specs.Runs.{plan_of, next_of}
-use Rattle.module_core.specs.State.{Store}
-use Rattle.module_core.specs.Closing.{IsReadyToClose, SavesClosing}
 use Rattle.energy_budget.specs.declared.costs.Costs.{Costs}
 use Rattle.energy_budget.specs.Actions.{cost_of}
 use Rattle.energy_budget.specs.Gauge.{Gauge, PaysCost}
 use Rattle.module_core.specs.declared.saves.Saves.{Saves}
 use Rattle.module_core.specs.Closing.{action_of}
 use Rattle.module_core.proofs.ClosingStores.{running}
-use Rattle.module_core.proofs.ClosingSaves.{begins, ClosedTo, Running, save_at, store_at, all_closed, runs_on, no_run, none_left, step_is, comes, ready_step, call_is, ends_dark, ends_fault, goes_on}
+use Rattle.module_core.proofs.ClosingSaves.{begins, Running, save_at, store_at, all_closed, runs_on, no_run, none_left, step_is, comes, ready_step, call_is, ends_dark, ends_fault, goes_on}
 use Rattle.module_core.proofs.saves.Saves.make_all.Goals as goal
 
 pub loop-done-init : goal.loop-done-init

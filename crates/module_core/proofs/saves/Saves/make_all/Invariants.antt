@@ -1,9 +1,8 @@
 use Rattle.std.proofs.Common.{◌≡◌}
-use Rattle.std.specs.Option.{ForSome}
 use Rattle.save_image.specs.Image.{Image}
 use Rattle.slot_store.specs.Slots.{HasSize}
-use Rattle.slot_store.specs.Runs.{plan_of}
 use Rattle.module_core.specs.State.{Store}
+use Rattle.module_core.specs.Saving.{IsOfLines}
 use Rattle.module_core.specs.Closing.{IsReadyToClose}
 use Rattle.module_core.proofs.ClosingSaves.{ClosedTo}
 use Rattle.module_core.proofs.saves.Saves.make_all.Given as goal
@@ -14,6 +13,6 @@ invariant-loop-done g l =
     record {
       closed : (s : Store) (made : Image) → IsReadyToClose lines s made l.fn.self (S.state l.fn.device) → (g.C.Channels.view l.channels).array ≡ made.memory
           → ClosedTo lines l.costs s made (S.state l.fn.device) (E.gauge l.fn.energy) l._done l.self (S.state l.device) (E.gauge l.energy);
-      plan : ForSome l.self.saving (λ run. (plan_of run).lines ≡ lines);
+      plan : IsOfLines lines l.self.saving;
       size : HasSize lines (S.state l.device);
     }

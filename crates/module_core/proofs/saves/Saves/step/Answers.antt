@@ -15,12 +15,11 @@ use Rattle.slot_store.specs.declared.plan.Step.TheVariants.{Close, SyncClosed, H
 use Rattle.slot_store.specs.Steps.{step_after}
 use Rattle.slot_store.specs.Changes.{GivesPage, change_of, closed_before, gate_of}
 use Rattle.slot_store.specs.Saving.{SavingAt, Leaves}
-use Rattle.slot_store.specs.Runs.{plan_of, next_of, tried_of, Saving}
-use Rattle.module_core.specs.State.{RunningSave, Store}
+use Rattle.slot_store.specs.Runs.{plan_of, next_of, tried_of}
 use Rattle.module_core.specs.Device.{IsSaving, HoldsWhile}
 use Rattle.module_core.specs.Moves.{step_failed}
 use Rattle.module_core.specs.Machine.{step_call}
-use Rattle.module_core.specs.Saving.{after_step, saving_after, newest_after, closed_after, unsettled_after, Knows, IsAmongEither}
+use Rattle.module_core.specs.Saving.{after_step, saving_after, newest_after, closed_after, unsettled_after, Knows}
 use Rattle.module_core.proofs.StoreSteps.{is_saving, left_stepped, left_failed, holds_next, holds_failed}
 use Rattle.module_core.proofs.Knowing.{knows_next, knows_failed}
 use Rattle.module_core.proofs.saves.Saves.step.Goals as goal
