@@ -18,55 +18,17 @@ mod stream;
 use crate::load::Load;
 use crate::stream::{Picks, Stream};
 use ddr4_timing::place::Place;
-use ddr4_timing::timing::{Checked, Geometry, Timing};
+use ddr4_timing::profiles::{LARGEST, SMALL, TINY};
+use ddr4_timing::timing::{Checked, Geometry};
 use interleave_map::line_map::LineMap;
 use interleave_map::map::Map;
 use interleave_map::{lines, xor};
 use std::env;
 use std::time::Instant;
 
-const TIMING: Timing = Timing {
-    t_rcd: 16,
-    t_rp: 16,
-    t_ras: 39,
-    cl: 16,
-    cwl: 12,
-    t_ccd_s: 4,
-    t_ccd_l: 6,
-    t_rrd_s: 4,
-    t_rrd_l: 6,
-    t_faw: 26,
-    t_wr: 18,
-    t_wtr_s: 3,
-    t_wtr_l: 9,
-    t_rtp: 9,
-    t_rtw: 10,
-    t_cs: 2,
-    t_rfc: 420,
-    t_refi: 9360,
-};
-
-const TINY: Geometry = Geometry {
-    channels: 2,
-    ranks: 1,
-    groups: 2,
-    banks: 4,
-    rows: 2,
-    columns: 4,
-};
-
-const LARGEST: Geometry = Geometry {
-    channels: 1,
-    ranks: 4,
-    groups: 4,
-    banks: 4,
-    rows: 32,
-    columns: 32,
-};
-
 fn geometry_of(word: &str) -> anyhow::Result<Geometry> {
     match word {
-        "tiny" => Ok(TINY),
+        "tiny" => Ok(SMALL),
         "largest" => Ok(LARGEST),
         _ => anyhow::bail!("the geometry is tiny or largest"),
     }
@@ -135,7 +97,7 @@ fn time_xor(rt: &HostRuntime, checked: Checked, trial: &Trial) -> anyhow::Result
 // One stream, timed.
 fn measure(rt: &HostRuntime, words: [&str; 4], map: &str) -> anyhow::Result<()> {
     let [geometry, depth, stream, count] = words;
-    let checked = TIMING.check(&geometry_of(geometry)?)?;
+    let checked = TINY.check(&geometry_of(geometry)?)?;
     let trial = Trial {
         depth: depth.parse()?,
         stream: stream.parse()?,
@@ -153,7 +115,7 @@ fn measure(rt: &HostRuntime, words: [&str; 4], map: &str) -> anyhow::Result<()> 
 
 // The last clocks of a stream, by each map.
 fn show(rt: &HostRuntime, name: &str, geometry: &Geometry, trial: &Trial) -> anyhow::Result<()> {
-    let checked = TIMING.check(geometry)?;
+    let checked = TINY.check(geometry)?;
     let (lines, _) = time_lines(rt, checked, trial)?;
     let (xor, _) = time_xor(rt, checked, trial)?;
     let Trial { depth, stream, .. } = trial;
@@ -173,7 +135,7 @@ fn main(rt: HostRuntime) -> anyhow::Result<()> {
         let map = rest.first().map_or("lines", |word| word.as_str());
         return measure(&rt, words, map);
     }
-    for (name, geometry) in [("tiny", TINY), ("largest", LARGEST)] {
+    for (name, geometry) in [("tiny", SMALL), ("largest", LARGEST)] {
         for depth in [4, 64] {
             for stream in [Stream::Hits, Stream::Conflicts, Stream::Random] {
                 let commands = 1_000;
