@@ -9,12 +9,12 @@ use Rattle.save_image.specs.Image.{Image}
 use Rattle.slot_store.specs.declared.restoring.Verdict.{Verdict}
 use Rattle.slot_store.specs.declared.restoring.Verdict.TheVariants.{Complete}
 use Rattle.slot_store.specs.Outcomes.{verdict_of}
+use Rattle.nv_script.specs.declared.refusal.ReadRefusal.TheVariants as read
+use Rattle.nv_script.specs.declared.refusal.WriteRefusal.TheVariants as write
 use Rattle.nvctl.specs.declared.plain.PlainEvent.{PlainEvent}
 use Rattle.nvctl.specs.declared.plain.PlainEvent.TheVariants as events
 use Rattle.nvctl.specs.declared.plain.Reply.{Reply}
 use Rattle.nvctl.specs.declared.plain.Reply.TheVariants as replies
-use Rattle.nvctl.specs.declared.plain.WriteRefusal.TheVariants as write
-use Rattle.nvctl.specs.declared.plain.ReadRefusal.TheVariants as read
 use Rattle.nvctl.specs.Machine.{World, Life, Store, Restorable, MachineStep, Run, IsReadOrWrite, InLife, life_saved, saved_image}
 
 same_image : (image : Image) (s : Store) → s ≡ Restorable image → (other : Image) → s ≡ Restorable other → image ≡ other
@@ -42,6 +42,9 @@ store_after_write old new w (replies.Accepted number mark) step = ap (λ (x : Wo
 store_after_write old new w (replies.WriteRefused write.NoSuchLine) step = ap (λ (x : World). x.store) step.1
 store_after_write old new w (replies.WriteRefused write.Closed) step = ap (λ (x : World). x.store) step.2
 store_after_write old new w (replies.WriteRefused write.TrailFull) step = ap (λ (x : World). x.store) step.2
+store_after_write old new w (replies.WriteRefused write.Full) step = absurd step
+store_after_write old new w (replies.WriteRefused (write.EnergyLow need has)) step = absurd step
+store_after_write old new w (replies.WriteRefused write.Disarming) step = absurd step
 store_after_write old new w replies.Formatted step = absurd step
 store_after_write old new w (replies.Content line bytes) step = absurd step
 store_after_write old new w (replies.Saved generation count) step = absurd step
@@ -57,6 +60,7 @@ store_after_read : (old new : World) (line : ℕ) (reply : Reply) → MachineSte
 store_after_read old new line (replies.Content told bytes) step = ap (λ (x : World). x.store) step.1.same
 store_after_read old new line (replies.ReadRefused read.NoSuchLine) step = ap (λ (x : World). x.store) step.1
 store_after_read old new line (replies.ReadRefused read.Closed) step = ap (λ (x : World). x.store) step.2
+store_after_read old new line (replies.ReadRefused read.Full) step = absurd step
 store_after_read old new line replies.Formatted step = absurd step
 store_after_read old new line (replies.Accepted number mark) step = absurd step
 store_after_read old new line (replies.Saved generation count) step = absurd step

@@ -8,13 +8,13 @@ use Rattle.slot_store.specs.declared.restoring.Verdict.{Verdict}
 use Rattle.slot_store.specs.declared.restoring.RestoreError.{RestoreError}
 use Rattle.slot_store.specs.declared.restoring.RestoreError.TheVariants as errors
 use Rattle.slot_store.specs.Outcomes.{Outcome, WrongSize, Damaged, NoImage, Found, first_image, restored, verdict_of}
+use Rattle.arm_state.specs.declared.refusal.ArmRefusal.TheVariants as save
+use Rattle.nv_script.specs.declared.refusal.ReadRefusal.TheVariants as read
+use Rattle.nv_script.specs.declared.refusal.WriteRefusal.TheVariants as write
 use Rattle.nvctl.specs.declared.plain.PlainEvent.{PlainEvent}
 use Rattle.nvctl.specs.declared.plain.PlainEvent.TheVariants as events
 use Rattle.nvctl.specs.declared.plain.Reply.{Reply}
 use Rattle.nvctl.specs.declared.plain.Reply.TheVariants as replies
-use Rattle.nvctl.specs.declared.plain.WriteRefusal.TheVariants as write
-use Rattle.nvctl.specs.declared.plain.ReadRefusal.TheVariants as read
-use Rattle.nvctl.specs.declared.plain.SaveRefusal.TheVariants as save
 use Rattle.nvctl.specs.declared.plain.TheConstants.{LINES, TRAIL}
 
 -- what a restore would find: an image, or why there is none

@@ -4,7 +4,7 @@ ghost use Rattle.std.specs.Process.{exit_status};
 
 use crate::script::run_script;
 use clap::error::ErrorKind;
-use clap::{Arg, Command, Error as UsageError};
+use clap::{Arg, ArgMatches, Command, Error as UsageError};
 use nv_profile::{MOST_BYTES, Profile, ProfileFault, TINY, read_profile};
 use nv_script::{SCRIPT_BYTES, ScriptFault};
 use std::alloc::{AllocError, Global};
@@ -80,9 +80,18 @@ where
         Ok(matches) => matches,
         Err(error) => return usage(rt, &error),
     };
-    let Some(matches) = matches.subcommand_matches("run") else {
-        return Ok(ExitCode::SUCCESS);
-    };
+    if let Some(matches) = matches.subcommand_matches("run") {
+        answer(rt, matches, writer)?;
+    }
+    Ok(ExitCode::SUCCESS)
+}
+
+// Runs the script that the words behind `run` name.
+fn answer<'a, R, W>(rt: &R, matches: &ArgMatches<'a>, writer: &mut W) -> Result<(), Fault<'a>>
+where
+    R: Files + Input + AllocGlobal,
+    W: Write,
+{
     let word = matches.get_str("PROFILE").unwrap_or("tiny");
     // the plain module is that of one profile
     if word != "tiny" {
@@ -92,7 +101,7 @@ where
     let script = script_of(rt, matches.get_str("SCRIPT").unwrap_or("-"))?;
     run_script(rt.alloc(), &profile, &script, writer)?;
     match writer.flush() {
-        Ok(()) => Ok(ExitCode::SUCCESS),
+        Ok(()) => Ok(()),
         Err(_) => Err(Fault::File("-")),
     }
 }

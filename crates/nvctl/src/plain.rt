@@ -11,11 +11,12 @@ ghost use Rattle.line_memory.specs.Memory.{IsMemory};
 ghost use Rattle.slot_store.specs.Slots.{HasSize};
 ghost use Rattle.slot_store.specs.Outcomes.{restored};
 
+use arm_state::ArmRefusal;
 use line_memory::{Line, Write, zero};
+use nv_script::{ReadRefusal, WriteRefusal};
 use save_device::SaveDevice;
 use slot_store::{Newest, RestoreError, Restored, Slot, Verdict, format, restore, save};
 use std::alloc::{AllocError, Global};
-use thiserror::Error;
 
 #[cfg(test)]
 mod tests;
@@ -33,45 +34,13 @@ const MOST_WRITES: u64 = 1 << 62;
 const SPENT: u64 = 1 << 62;
 
 /// One line of a script.
-#[derive(Clone, Copy, Debug, PartialEq, Eq)]
+#[derive(Clone, Copy)]
 pub enum PlainEvent {
     Format,
     Write(Write),
     Read { line: u64 },
     Save,
     Restore,
-}
-
-/// Why a write was refused. Each refusal is shown as its number and its name.
-#[derive(Clone, Copy, Debug, PartialEq, Eq, Error)]
-pub enum WriteRefusal {
-    /// No life runs: nothing was formatted or restored yet, or the last restore was refused.
-    #[error("4 Closed")]
-    Closed,
-    /// The life has accepted as many writes as it has room for, or the number would be 2^62.
-    #[error("5 TrailFull")]
-    TrailFull,
-    #[error("6 NoSuchLine")]
-    NoSuchLine,
-}
-
-/// Why a read was refused.
-#[derive(Clone, Copy, Debug, PartialEq, Eq, Error)]
-pub enum ReadRefusal {
-    #[error("4 Closed")]
-    Closed,
-    #[error("6 NoSuchLine")]
-    NoSuchLine,
-}
-
-/// Why a save was refused.
-#[derive(Clone, Copy, Debug, PartialEq, Eq, Error)]
-pub enum SaveRefusal {
-    #[error("5 Closed")]
-    Closed,
-    /// The newest image has generation 2^62 or a greater one.
-    #[error("6 Spent")]
-    Spent,
 }
 
 /// The answer to one line of a script.
@@ -98,14 +67,14 @@ pub enum Reply {
     },
     WriteRefused(WriteRefusal),
     ReadRefused(ReadRefusal),
-    SaveRefused(SaveRefusal),
+    SaveRefused(ArmRefusal),
     RestoreRefused(RestoreError),
     FormatFault,
     SaveFault,
 }
 
 // A life that runs, but for its memory and its writes.
-#[derive(Clone, Copy, Debug, PartialEq, Eq)]
+#[derive(Clone, Copy)]
 struct CurrentLife {
     // the number of the first write
     start: u64,
@@ -227,10 +196,10 @@ impl Plain {
         ensures size { HasSize LINES (D.state device.new) }
     {
         let Some(life) = self.life else {
-            return Reply::SaveRefused(SaveRefusal::Closed);
+            return Reply::SaveRefused(ArmRefusal::Closed);
         };
         if life.newest.generation >= SPENT {
-            return Reply::SaveRefused(SaveRefusal::Spent);
+            return Reply::SaveRefused(ArmRefusal::Spent);
         }
         let count = life.start + self.writes.len() as u64;
         match save(device, life.newest, life.closed, count, false, &self.lines) {

@@ -2,8 +2,7 @@
 ghost use Rattle.nvctl.specs.declared.plain.TheConstants.{LINES};
 ghost use Rattle.slot_store.specs.Slots.{HasSize};
 
-use crate::plain::{LINES, PlainEvent, ReadRefusal, Reply, SaveRefusal, WriteRefusal, run_plain};
-use arm_state::ArmRefusal;
+use crate::plain::{LINES, PlainEvent, Reply, run_plain};
 use nv_profile::Profile;
 use nv_script::{Answer, ScriptFault, ScriptLine, Verb, read_script};
 use save_device::{MemoryDevice, SaveDevice};
@@ -48,19 +47,9 @@ fn answer_of(reply: &Reply) -> Answer {
             count,
             verdict,
         },
-        Reply::WriteRefused(refusal) => Answer::WriteRefused(match refusal {
-            WriteRefusal::Closed => nv_script::WriteRefusal::Closed,
-            WriteRefusal::TrailFull => nv_script::WriteRefusal::TrailFull,
-            WriteRefusal::NoSuchLine => nv_script::WriteRefusal::NoSuchLine,
-        }),
-        Reply::ReadRefused(refusal) => Answer::ReadRefused(match refusal {
-            ReadRefusal::Closed => nv_script::ReadRefusal::Closed,
-            ReadRefusal::NoSuchLine => nv_script::ReadRefusal::NoSuchLine,
-        }),
-        Reply::SaveRefused(refusal) => Answer::SaveRefused(match refusal {
-            SaveRefusal::Closed => ArmRefusal::Closed,
-            SaveRefusal::Spent => ArmRefusal::Spent,
-        }),
+        Reply::WriteRefused(refusal) => Answer::WriteRefused(refusal),
+        Reply::ReadRefused(refusal) => Answer::ReadRefused(refusal),
+        Reply::SaveRefused(refusal) => Answer::SaveRefused(refusal),
         Reply::RestoreRefused(error) => Answer::RestoreRefused(error),
         Reply::FormatFault => Answer::FormatFault,
         Reply::SaveFault => Answer::SaveFault,

@@ -1,5 +1,6 @@
 // The plain module on a device that fails.
-use super::{PlainEvent, Reply, SaveRefusal, run_plain};
+use super::{PlainEvent, Reply, run_plain};
+use arm_state::ArmRefusal;
 use line_memory::Write;
 use save_device::{DeviceFault, Fuse, MemoryDevice, OneFault, Pick, SaveDevice};
 use slot_store::{RestoreError, Verdict, device_size};
@@ -40,7 +41,7 @@ fn a_failed_format_ends_the_life(rt: HostRuntime) -> Result<(), Fail> {
         let mut device = Fuse::new(blank(rt.alloc())?, calls);
         let events = [PlainEvent::Format, PlainEvent::Format, PlainEvent::Save];
         let answers = replies(rt.alloc(), &events, &mut device)?;
-        let closed = Reply::SaveRefused(SaveRefusal::Closed);
+        let closed = Reply::SaveRefused(ArmRefusal::Closed);
         let expected = [Reply::Formatted, Reply::FormatFault, closed];
         assert_eq!(rt; answers.as_slice(), expected.as_slice());
     }

@@ -1,10 +1,10 @@
-// Scripts on devices that fail.
+// Scripts on devices that fail, and on stores whose bytes bring a refusal.
 use crate::plain::LINES;
 use crate::script::{VERBS, run_lines};
 use nv_profile::{TINY, read_profile};
 use nv_script::read_script;
 use save_device::{Fuse, MemoryDevice, OneFault, Pick, SaveDevice};
-use slot_store::{device_size, restore};
+use slot_store::{device_size, format, restore};
 use std::alloc::Global;
 use std::test::Fail;
 
@@ -13,6 +13,8 @@ use std::test::Fail;
 const OF_FORMAT: u64 = 9;
 
 const OF_SAVE: u64 = 8;
+
+const SECOND_SLOT: usize = 12_288;
 
 fn blank(alloc: Global) -> Result<MemoryDevice, Fail> {
     Ok(MemoryDevice::new(alloc, Vec::from_elem(alloc, 0, device_size(LINES))?)?)
@@ -126,6 +128,51 @@ fn a_save_that_is_made_again(rt: HostRuntime) -> Result<(), Fail> {
             "formatted\naccepted 0 mark 0\nfault save\nsaved 2 1\nrestored 2 1 Complete\nline 0 = 11\n",
             "call {at} of the save fails"
         );
+    }
+    Ok(())
+}
+
+// A formatted store with eight bytes put over its own.
+fn store_with(alloc: Global, at: usize, bytes: [u8; 8]) -> Result<MemoryDevice, Fail> {
+    let mut device = blank(alloc)?;
+    if device.len() == device_size(LINES) {
+        format(&mut device, LINES)?;
+    }
+    if device.len() == device_size(LINES) && at < SECOND_SLOT + 8 {
+        device.write_at(at, &bytes)?;
+    }
+    Ok(device)
+}
+
+#[test]
+fn refusals_by_what_the_device_holds(rt: HostRuntime) -> Result<(), Fail> {
+    for (at, bytes, script, wanted) in [
+        // no gate is open; an open gate over a header that is none
+        (0, [0; 8], "restore\n", "refused restore 1 NoImage\n"),
+        (1, [1; 8], "restore\n", "refused restore 2 Damaged 0\n"),
+        (
+            SECOND_SLOT,
+            [0xa5, 0, 0, 0, 0, 0, 0, 0],
+            "restore\n",
+            "refused restore 2 Damaged 1\n",
+        ),
+        // generation 2^62 - 1, and count 2^62 - 1
+        (
+            16,
+            [0xff, 0xff, 0xff, 0xff, 0xff, 0xff, 0xff, 0x3f],
+            "restore\nsave\nsave\n",
+            "restored 4611686018427387903 0 Complete\nsaved 4611686018427387904 0\nrefused save 6 Spent\n",
+        ),
+        (
+            24,
+            [0xff, 0xff, 0xff, 0xff, 0xff, 0xff, 0xff, 0x3f],
+            "restore\nwrite 0 11\nwrite 0 22\n",
+            "restored 1 4611686018427387903 Complete\naccepted 4611686018427387903 mark 4611686018427387903\nrefused write 5 TrailFull\n",
+        ),
+    ] {
+        let mut device = store_with(rt.alloc(), at, bytes)?;
+        let text = answers(rt.alloc(), script, &mut device)?;
+        assert_eq!(rt; text.as_str(), wanted);
     }
     Ok(())
 }

@@ -95,10 +95,11 @@ fn a_writer_that_takes_no_more(rt: HostRuntime) -> Result<(), Fail> {
     }
     let mut room = [0; 12];
     let mut writer = room.as_mut_slice();
-    let line = match run(&rt, &words, &mut writer) {
-        Ok(_) => String::new(rt.alloc()),
-        Err(fault) => format!(in rt.alloc(); "{fault}")?,
+    let (code, line) = match run(&rt, &words, &mut writer) {
+        Ok(code) => (code, String::new(rt.alloc())),
+        Err(fault) => (fault.exit_code(), format!(in rt.alloc(); "{fault}")?),
     };
+    assert_eq!(rt; code, ExitCode::FAILURE);
     assert_eq!(rt; line.as_str(), "file -");
     fs::remove_file(&rt, script.as_str())?;
     Ok(())

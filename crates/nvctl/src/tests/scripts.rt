@@ -1,9 +1,9 @@
 // What scripts write.
-use crate::plain::{PlainEvent, Reply, WriteRefusal, run_plain};
+use crate::plain::{PlainEvent, Reply, run_plain};
 use crate::script::{VERBS, run_script};
 use line_memory::Write;
 use nv_profile::{Profile, TINY, read_profile};
-use nv_script::{ScriptFault, Verb};
+use nv_script::{ScriptFault, Verb, WriteRefusal};
 use save_device::{MemoryDevice, SaveDevice};
 use slot_store::{Verdict, device_size};
 use std::alloc::Global;
@@ -107,6 +107,17 @@ fn a_writer_that_takes_no_more(rt: HostRuntime) -> Result<(), Fail> {
     };
     assert!(rt; is_told);
     assert_eq!(rt; room.as_slice(), b"formatted\nform".as_slice());
+    Ok(())
+}
+
+#[test]
+fn a_write_past_a_full_life(rt: HostRuntime) -> Result<(), Fail> {
+    let mut script = String::from_str(rt.alloc(), "format\n")?;
+    for _ in 0..1025 {
+        script.push_str("write 0 11\n")?;
+    }
+    let text = written(rt.alloc(), script.as_str())?;
+    assert!(rt; text.ends_with("accepted 1023 mark 0\nrefused write 5 TrailFull\n"));
     Ok(())
 }
 
