@@ -27,3 +27,4 @@ pub mod ClosingSaves
 pub mod Emptied
 pub mod LossSteps
 pub mod LostModules
+pub mod RunsOn

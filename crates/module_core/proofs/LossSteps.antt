@@ -1,6 +1,6 @@
 -- The loss of mains while writes are backed: which step of the machine it is.
-use Rattle.std.proofs.Common.{◌≡◌, ◌⊎◌, ℕ, zero, suc, ◌+◌, ◌-◌, ◌<◌, ◌≤◌, List, [], ◌∷◌, ◌++◌, length, take, get_or, Bool, true, false, refl, sym, ◌∙◌, ap, subst, inl, inr, arith}
-use Rattle.std.specs.Prelude.{Ok, Err, Option, Some, None, slice_get}
+use Rattle.std.proofs.Common.{◌≡◌, ℕ, suc, ◌+◌, ◌-◌, ◌<◌, List, [], ◌∷◌, ◌++◌, length, take, get_or, true, false, refl, sym, ◌∙◌, ap, subst, inl, inr, arith}
+use Rattle.std.specs.Prelude.{Ok, Err, Some, None, slice_get}
 use Rattle.std.specs.List.{flat_map}
 use Rattle.std.proofs.lemmas.Option.{slice_get_within, get_or_from_slice_get, slice_get_read}
 use Rattle.std.proofs.lemmas.List.{length-append, append-nil, get_or-append_right, take-append-le}
@@ -30,10 +30,10 @@ use Rattle.module_core.specs.declared.events.Loss.TheVariants as loss
 use Rattle.module_core.specs.declared.saves.Saves.{Saves}
 use Rattle.module_core.specs.State.{Setup, Store, Machine, World, made_of}
 use Rattle.module_core.specs.Moves.{step_failed, saved_in, after_steps}
-use Rattle.module_core.specs.Losses.{pending_each, pending_in, closing_of, save_calls, drain_count, LosesMains, PaysFirst, SavesAll, EndsDark, EndsInFault, LoseStep}
+use Rattle.module_core.specs.Losses.{pending_each, pending_in, closing_of, save_calls, drain_count, LosesMains, PaysFirst, LoseStep}
 use Rattle.module_core.specs.Saving.{IsAmongEither}
 use Rattle.module_core.specs.Begins.{ReachesStore}
-use Rattle.module_core.specs.Closing.{DrainsAll, DarkInDrains, SavesOn, DarkAfter, FaultAfter, ClosesChannels}
+use Rattle.module_core.specs.Closing.{DrainsAll, DarkInDrains, SavesOn, DarkAfter, ClosesChannels}
 use Rattle.module_core.proofs.Payments.{pays_append}
 use Rattle.module_core.proofs.RunningSaves.{failed_none}
 

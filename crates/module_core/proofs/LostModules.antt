@@ -1,9 +1,9 @@
 -- The loss of mains: the module and its device afterwards.
-use Rattle.std.proofs.Common.{◌≡◌, ◌⊎◌, ℕ, ◌+◌, List, [], length, Bool, true, false, refl, sym, ◌∙◌, ap, subst, inl, inr}
+use Rattle.std.proofs.Common.{◌≡◌, ◌⊎◌, ℕ, [], true, false, refl, sym, ◌∙◌, ap, subst, inl}
 use Rattle.std.specs.Prelude.{Result, Option, Some, None}
 use Rattle.line_memory.specs.Memory.{IsMemory}
 use Rattle.save_image.specs.Image.{Image}
-use Rattle.save_device.specs.Device.{DeviceState, MayLeave, present, StopsWithin, LeavesOnly}
+use Rattle.save_device.specs.Device.{DeviceState, present, StopsWithin}
 use Rattle.save_device.proofs.Moments.{started, weaker}
 use Rattle.slot_store.specs.declared.plan.Newest.{Newest}
 use Rattle.slot_store.specs.declared.saving.SaveRun.{SaveRun}
@@ -24,15 +24,14 @@ use Rattle.module_core.specs.declared.events.Loss.{Loss}
 use Rattle.module_core.specs.declared.events.Loss.TheVariants as loss
 use Rattle.module_core.specs.declared.module.Module.{Module}
 use Rattle.module_core.specs.declared.saves.Saves.{Saves}
-use Rattle.module_core.specs.State.{Setup, Store, Machine, World, made_of, begun_save, base_of_life, start_of_life, memory_of, hold_of}
+use Rattle.module_core.specs.State.{Store, Machine, made_of, begun_save, base_of_life, start_of_life, memory_of, hold_of}
 use Rattle.module_core.specs.Losses.{LoseStep}
 use Rattle.module_core.specs.Moves.{closed_unsaved}
 use Rattle.module_core.specs.Device.{Holds, HoldsWhile, IsResting}
-use Rattle.module_core.specs.Saving.{Knows, RunsAs, IsAmongEither}
 use Rattle.module_core.specs.Begins.{Begins, ReachesStore}
 use Rattle.module_core.specs.Closing.{IsReadyToClose, ClosesChannels}
 use Rattle.module_core.specs.Headline.{Happens}
-use Rattle.module_core.specs.Stands.{Matches, Stands, IsCarried, EndsMains, SameButSaves, setup_of, point_of}
+use Rattle.module_core.specs.Stands.{Matches, Stands, EndsMains, SameButSaves, setup_of, point_of}
 use Rattle.module_core.proofs.GuardLaws.{for_none}
 use Rattle.module_core.proofs.StoreSteps.{stop_now, at_rest}
 use Rattle.module_core.proofs.RunningSaves.{holds_runs}

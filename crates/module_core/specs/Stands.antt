@@ -1,8 +1,9 @@
 -- Which machine a module stands for.
-use Rattle.std.specs.Prelude.{◌≡◌, ◌<◌, ℕ, Bool, true, false, [], Option, Some, None}
+use Rattle.std.specs.Prelude.{◌≡◌, ◌<◌, ℕ, Bool, true, false, List, [], Option, Some, None}
 use Rattle.std.specs.Option.{ForSome, option_map}
 use Rattle.line_memory.specs.Memory.{IsMemory}
-use Rattle.save_device.specs.Device.{DeviceState}
+use Rattle.save_device.specs.Device.{DeviceState, present, StopsWithin}
+use Rattle.slot_store.specs.Outcomes.{restored}
 use Rattle.slot_store.specs.declared.plan.Step.{Step}
 use Rattle.slot_store.specs.declared.plan.Step.TheVariants.{SyncBody}
 use Rattle.slot_store.specs.Slots.{HasSize}
@@ -14,6 +15,7 @@ use Rattle.line_channels.specs.declared.channels.Channels.{Ghosts}
 use Rattle.line_channels.specs.Memory.{Keeps, WaitsFrom}
 use Rattle.module_core.specs.declared.module.Module.{Module}
 use Rattle.module_core.specs.declared.events.Event.{Event}
+use Rattle.module_core.specs.declared.events.Event.TheVariants as events
 use Rattle.module_core.specs.declared.events.Reply.{Reply}
 use Rattle.module_core.specs.State.{Setup, Machine, start_of_life, base_of_life, all_of, memory_of, hold_of}
 use Rattle.module_core.specs.Machine.{TakesReading}
@@ -21,7 +23,7 @@ use Rattle.module_core.specs.Saving.{Knows, RunsAs}
 use Rattle.module_core.specs.Begins.{StoreMoves}
 use Rattle.module_core.specs.Device.{Holds}
 use Rattle.module_core.specs.Guard.{IsGuarded}
-use Rattle.module_core.specs.Headline.{Point, Happens}
+use Rattle.module_core.specs.Headline.{Point, LeftAfter, Happens, Run}
 
 -- the hold before this step: it ends behind the last page
 abbrev pub hold_behind : Option Step → Option ℕ → Option ℕ
@@ -132,3 +134,20 @@ module _ {C : Type 0} (L : Ghosts C) where
   -- a device of the size that the module's images need
   abbrev pub HasDevice : Module C L → DeviceState → Type 0
   HasDevice it device = HasSize it.lines device
+
+  -- a work names a channel of the module
+  abbrev pub IsForChannels : Module C L → Event → Type 0
+  IsForChannels it (events.Work channel) = IsChannel it channel
+  IsForChannels it event = Unit {0}
+
+  -- A module and its device stood for a machine. After these events they stand for the last one of a run with these replies,
+  -- and what the device's bytes restore to then, whatever a stop leaves of them, is one of the images that this machine says.
+  pub record RunsTo (events : List Event) (replies : List Reply) (old : Module C L) (m : Machine) (device : DeviceState) (gauge : Gauge) (new : Module C L) (device' : DeviceState) (gauge' : Gauge) : Type 0 where
+    pub last : Machine
+    pub stands : Stands new device' last
+    pub run : Run L (setup_of old) events replies (point_of old m device gauge) (point_of new last device' gauge')
+    pub left : StopsWithin (λ bytes. LeftAfter last (restored (setup_of old).shape.lines bytes)) (present device')
+
+  -- The theorem on a list of events.
+  abbrev pub AnswersAll : List Event → List Reply → Module C L → DeviceState → Gauge → Module C L → DeviceState → Gauge → Type 0
+  AnswersAll events replies old device gauge new device' gauge' = (m : Machine) → Stands old device m → RunsTo events replies old m device gauge new device' gauge'

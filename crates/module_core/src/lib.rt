@@ -7,6 +7,7 @@ mod events;
 mod losing;
 mod module;
 mod opening;
+mod running;
 mod saves;
 mod stepping;
 

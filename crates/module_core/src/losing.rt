@@ -34,7 +34,8 @@ impl<C: Channels> Module<C> {
     fn begin_closing(&mut self, reading: u64)
         requires { self.old.saves.newest.generation ≤ 2 ^ 62 }
         ensures ends { EndsMains C.Channels reading self.old self.new }
-        ensures begins { Begins self.old.saves self.old.accepted false self.old.lines self.new.saves }
+        ensures begins { Begins self.old.saves self.old.accepted false self.old.lines
+            self.new.saves }
     {
         self.reading = reading;
         self.mode = Mode::Closing;
@@ -53,7 +54,8 @@ impl<C: Drainable> Module<C> {
         requires ended { has_ended self.old.mode ≡ true }
         requires awake { (C.view self.old.channels).drained ≡ Some 0 }
         requires size { HasDevice C.Channels self.old (D.state device.old) }
-        ensures closes { (s : Store) (made : Image) (base : List (List ℕ)) (start : ℕ) (writes : List Write)
+        ensures closes { (s : Store) (made : Image)
+            (base : List (List ℕ)) (start : ℕ) (writes : List Write)
             → IsReadyToClose self.old.lines s made self.old.saves (D.state device.old)
             → C.carries self.old.channels base start writes → after base writes ≡ made.memory
             → ClosesChannels self.old.lines self.old.costs s made result

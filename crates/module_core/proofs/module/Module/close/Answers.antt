@@ -1,9 +1,9 @@
-use Rattle.std.proofs.Common.{◌≡◌, ◌∙◌, ℕ, ◌+◌, List, length, refl, sym, ap, subst, inl, inr, arith}
-use Rattle.std.specs.Prelude.{Ok, Some, None}
+use Rattle.std.proofs.Common.{◌≡◌, ◌∙◌, ℕ, ◌+◌, length, refl, sym, ap, subst, inl, inr}
+use Rattle.std.specs.Prelude.{Some}
 use Rattle.line_memory.proofs.MemoryLaws.{memory_at-all}
 use Rattle.save_device.specs.Device.{DeviceState}
 use Rattle.energy_budget.specs.Gauge.{Gauge}
-use Rattle.line_channels.specs.View.{Shape, ChannelsView, IsShape}
+use Rattle.line_channels.specs.View.{ChannelsView, IsShape}
 use Rattle.module_core.specs.State.{Store, begun_save}
 use Rattle.module_core.specs.Closing.{IsReadyToClose, SavesClosing}
 use Rattle.module_core.specs.Device.{IsResting}
