@@ -1,5 +1,5 @@
 -- What stays right of a channel's contents when a write is served.
-use Rattle.std.proofs.Common.{◌≡◌, ◌≢◌, ℕ, suc, ◌+◌, ◌<◌, inl, inr, Bool, false, true, not, nat_lt, filter, List, [], ◌∷◌, ◌++◌, map, length, remove, slice_get, slice_set, Option, Some, None, refl, sym, ap, subst, ◌∙◌, arith, length-set, get_or-set_other}
+use Rattle.std.proofs.Common.{rules, ◌≡◌, ◌≢◌, ℕ, suc, ◌+◌, ◌<◌, inl, inr, Bool, false, true, not, nat_lt, filter, List, [], ◌∷◌, ◌++◌, map, length, remove, slice_get, slice_set, Option, Some, None, refl, sym, ap, subst, ◌∙◌, arith, length-set, get_or-set_other}
 use Rattle.std.specs.List.{All, filter_map}
 use Rattle.std.proofs.lemmas.Bool.{cases_order}
 use Rattle.std.proofs.lemmas.List.{length-append}
@@ -146,31 +146,39 @@ not-not : (b : Bool) → not b ≡ false → b ≡ true
 not-not true e = refl
 not-not false e = absurd cc
 
+-- an eligible write isn't held
+pub write-unheld : (s : Contents) (n i : ℕ) (p : Pending) → AreContents s → IsEligible s.waiting.requests i p → p.kind ≡ Write → s.hold ≡ Some n → p.number < n
+write-unheld s n i p is eligible kind hold =
+    let right = All-at (IsRightRequest s.checked.geometry s.channel s.hold) s.waiting.requests i p is.right eligible.here in
+    let free : is_held (Some n) Write p.number ≡ false = sym (ap (λ (h : Option ℕ). is_held h Write p.number) hold) ∙ sym (ap (λ (k : Kind). is_held s.hold k p.number) kind) ∙ sym right.held ∙ eligible.free in
+    let below : nat_lt p.number n ≡ true = not-not (nat_lt p.number n) free in
+    search rules
+
+-- it is the oldest one of its cell
+pub write-first : (s : Contents) (i : ℕ) (p : Pending) → AreContents s → AreInOrder s.waiting.requests → IsEligible s.waiting.requests i p → p.kind ≡ Write
+    → (j : ℕ) (w : PendingWrite) → slice_get s.queue.writes j ≡ Some w → w.number ≡ p.number → (w.write.line ≡ p.line) × IsFirstOfItsLine s.queue.writes j
+write-first s i p is order eligible kind j w there number =
+    let q = in-queue s is i p eligible.here kind in
+    let same = taken-index s is i p q j w there number in
+    let none : NoneBefore s.waiting.requests i p.line = none-before s i p order eligible in
+    (same-cell s.queue.writes j q.index w q.write there q.at same ∙ q.cell, subst (λ (n : ℕ). IsFirstOfItsLine s.queue.writes n) (sym same) (first-of-cell s is i p q none))
+
 -- The memory is the same once the write is in the array.
 pub write-memory : (s : Contents) (queue : Queue) (i : ℕ) (p : Pending) (bytes : List ℕ) → AreContents s → AreInOrder s.waiting.requests → IsEligible s.waiting.requests i p → p.kind ≡ Write → TakesWrite p.number s.queue.writes (Some bytes) queue.writes
     → after_pending (slice_set s.array p.line bytes) queue.writes ≡ memory_of s
 write-memory s queue i p bytes is order eligible kind (j, w, there, number, data-is, out) =
-    let q = in-queue s is i p eligible.here kind in
-    let same = taken-index s is i p q j w there number in
-    let none : NoneBefore s.waiting.requests i p.line = none-before s i p order eligible in
-    let first : IsFirstOfItsLine s.queue.writes j = subst (λ (n : ℕ). IsFirstOfItsLine s.queue.writes n) (sym same) (first-of-cell s is i p q none) in
-    let cell : w.write.line ≡ p.line = same-cell s.queue.writes j q.index w q.write there q.at same ∙ q.cell in
+    let (cell, first) = write-first s i p is order eligible kind j w there number in
     ap (after_pending (slice_set s.array p.line bytes)) out
     ∙ ap (λ (array : List (List ℕ)). after_pending array (remove s.queue.writes j)) (ap (λ (n : ℕ). slice_set s.array n bytes) (sym cell) ∙ ap (slice_set s.array w.write.line) (sym data-is))
     ∙ after_pending-early s.array s.queue.writes j w there first
 
 -- those below a number stay too, where the write has one of them
-pub write-below : (s : Contents) (queue : Queue) (n i : ℕ) (p : Pending) (bytes : List ℕ) → AreContents s → AreInOrder s.waiting.requests → IsEligible s.waiting.requests i p → p.kind ≡ Write → s.hold ≡ Some n → TakesWrite p.number s.queue.writes (Some bytes) queue.writes
+pub write-below : (s : Contents) (queue : Queue) (n i : ℕ) (p : Pending) (bytes : List ℕ) → AreContents s → AreInOrder s.waiting.requests → IsEligible s.waiting.requests i p → p.kind ≡ Write → p.number < n → TakesWrite p.number s.queue.writes (Some bytes) queue.writes
     → after_pending (slice_set s.array p.line bytes) (filter (λ w. nat_lt w.number n) queue.writes) ≡ after_pending s.array (filter (λ w. nat_lt w.number n) s.queue.writes)
-write-below s queue n i p bytes is order eligible kind hold (j, w, there, number, data-is, out) =
-    let q = in-queue s is i p eligible.here kind in
-    let same = taken-index s is i p q j w there number in
-    let none : NoneBefore s.waiting.requests i p.line = none-before s i p order eligible in
-    let first : IsFirstOfItsLine s.queue.writes j = subst (λ (n : ℕ). IsFirstOfItsLine s.queue.writes n) (sym same) (first-of-cell s is i p q none) in
-    let cell : w.write.line ≡ p.line = same-cell s.queue.writes j q.index w q.write there q.at same ∙ q.cell in
-    let right = All-at (IsRightRequest s.checked.geometry s.channel s.hold) s.waiting.requests i p is.right eligible.here in
-    let free : is_held (Some n) Write p.number ≡ false = sym (ap (λ (h : Option ℕ). is_held h Write p.number) hold) ∙ sym (ap (λ (k : Kind). is_held s.hold k p.number) kind) ∙ sym right.held ∙ eligible.free in
-    let below : nat_lt w.number n ≡ true = ap (λ (m : ℕ). nat_lt m n) number ∙ not-not (nat_lt p.number n) free in
+write-below s queue n i p bytes is order eligible kind less (j, w, there, number, data-is, out) =
+    let (cell, first) = write-first s i p is order eligible kind j w there number in
+    let under : nat_lt p.number n ≡ true = search rules in
+    let below : nat_lt w.number n ≡ true = ap (λ (m : ℕ). nat_lt m n) number ∙ under in
     ap (λ (ws : List PendingWrite). after_pending (slice_set s.array p.line bytes) (filter (λ w. nat_lt w.number n) ws)) out
     ∙ ap (λ (array : List (List ℕ)). after_pending array (filter (λ w. nat_lt w.number n) (remove s.queue.writes j))) (ap (λ (m : ℕ). slice_set s.array m bytes) (sym cell) ∙ ap (slice_set s.array w.write.line) (sym data-is))
     ∙ below-early (λ w. nat_lt w.number n) s.array s.queue.writes j w there below first

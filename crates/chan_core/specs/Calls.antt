@@ -1,5 +1,5 @@
 -- What each call does to a channel.
-use Rattle.std.specs.Prelude.{◌≡◌, ◌≢◌, ℕ, ◌+◌, ◌≤◌, ◌⊎◌, ◌^◌, Result, Ok, Err, Bool, true, false, List, [], ◌∷◌, ◌++◌, length, map, remove, slice_get, slice_set, slice_index_or, Option, Some, None}
+use Rattle.std.specs.Prelude.{◌≡◌, ◌≢◌, ℕ, ◌+◌, ◌<◌, ◌≤◌, ◌⊎◌, ◌^◌, Result, Ok, Err, Bool, true, false, List, [], ◌∷◌, ◌++◌, length, map, remove, slice_get, slice_set, slice_index_or, Option, Some, None}
 use Rattle.ddr4_timing.specs.declared.command.Stamped.{Stamped}
 use Rattle.ddr4_timing.specs.declared.place.Place.{Place}
 use Rattle.frfcfs.specs.declared.pending.Kind.{Kind}
@@ -9,7 +9,8 @@ use Rattle.frfcfs.specs.Margin.{IsIdle}
 use Rattle.frfcfs.specs.Next.{IsNext}
 use Rattle.frfcfs.specs.Queue.{held_by, is_held}
 use Rattle.frfcfs.specs.Requests.{IsEligible}
-use Rattle.wpq_core.specs.Writes.{TakesWrite, IsNewest, NoWriteNames, pending_write}
+use Rattle.wpq_core.specs.declared.queue.PendingWrite.{PendingWrite}
+use Rattle.wpq_core.specs.Writes.{IsFirstOfItsLine, IsNewest, NoWriteNames, TakesWrite, pending_write}
 use Rattle.chan_core.specs.declared.answers.Got.{Got}
 use Rattle.chan_core.specs.declared.answers.Got.TheVariants.{Now, Later}
 use Rattle.chan_core.specs.declared.answers.ReadsFull.{ReadsFull}
@@ -50,6 +51,10 @@ after_put old new = record old { writes = new.writes; requests = new.requests }
 abbrev pub after_get : ChannelState → ChannelState → ChannelState
 after_get old new = record old { tickets = new.tickets; serial = new.serial; requests = new.requests }
 
+-- as many writes as may be are pending
+abbrev pub IsFullOfWrites : ChannelState → Type 0
+IsFullOfWrites s = length s.writes ≡ s.depth
+
 -- as many reads as may be are pending or not collected
 abbrev pub IsFullOfReads : ChannelState → Type 0
 IsFullOfReads s = length s.tickets ≡ s.most_reads
@@ -89,7 +94,8 @@ with_hold s hold = record s { requests = map (held_by hold) s.requests; hold = h
 abbrev pub KeepsBelow : ChannelState → ChannelState → Type 0
 KeepsBelow old new = (n : ℕ) → old.hold ≡ Some n → memory_below n new ≡ memory_below n old
 
--- a request's write goes into the array
+-- A request's write goes into the array: the oldest pending one of its cell, which isn't held. So the memory below each
+-- greater number stays.
 pub record MovesWrite (old : ChannelState) (p : Pending) (number : ℕ) (new : ChannelState) : Type 0 where
   pub kind : p.kind ≡ Write
   pub named : p.number ≡ number
@@ -97,6 +103,9 @@ pub record MovesWrite (old : ChannelState) (p : Pending) (number : ℕ) (new : C
   pub array : new.array ≡ slice_set old.array p.line bytes
   pub writes : TakesWrite number old.writes (Some bytes) new.writes
   pub tickets : new.tickets ≡ old.tickets
+  pub first : (i : ℕ) (w : PendingWrite) → slice_get old.writes i ≡ Some w → w.number ≡ number → (w.write.line ≡ p.line) × IsFirstOfItsLine old.writes i
+  pub unheld : (n : ℕ) → old.hold ≡ Some n → number < n
+  pub below : (n : ℕ) → number < n → memory_below n new ≡ memory_below n old
 
 -- a request's read has the bytes of its cell in the array, which are those that it was to have
 pub record AnswersRead (old : ChannelState) (p : Pending) (ticket : Ticket) (new : ChannelState) : Type 0 where

@@ -105,6 +105,14 @@ pub record AreContents (s : Contents) : Type 0 where
   pub few_seqs : s.waiting.next ≤ length s.waiting.requests + length s.commands
   pub few_serials : s.serial ≤ length s.waiting.requests + 128 * length s.commands
 
+-- a pending write has this number
+abbrev pub HasWriteNumbered : ℕ → List PendingWrite → Type 0
+HasWriteNumbered number writes = (i : ℕ) × (w : PendingWrite) × (slice_get writes i ≡ Some w) × (w.number ≡ number)
+
+-- each line has its 64 bytes
+abbrev pub AreWhole : List (List ℕ) → Type 0
+AreWhole lines = All (λ line. length line ≡ 64) lines
+
 -- the first request is the oldest pending write's, and its cell is one of so many
 pub record AreOldest (cells : ℕ) (writes : List PendingWrite) (requests : List Pending) : Type 0 where
   pub p : Pending

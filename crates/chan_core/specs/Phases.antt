@@ -1,9 +1,10 @@
 -- What a channel's phase says of its commands.
-use Rattle.std.specs.Prelude.{◌≡◌, ◌≢◌, ℕ, ◌<◌, List, IsTrue}
+use Rattle.std.specs.Prelude.{◌≡◌, ◌≢◌, ℕ, ◌<◌, ◌↔◌, List, IsTrue}
 use Rattle.ddr4_timing.specs.declared.command.Stamped.{Stamped}
 use Rattle.ddr4_timing.specs.declared.timing.Checked.{Checked}
 use Rattle.ddr4_timing.specs.Lawful.{is_asleep}
 use Rattle.frfcfs.specs.Margin.{AreAsleep, KeepsMargin}
+use Rattle.chan_core.specs.declared.phase.Phase.{Phase}
 use Rattle.chan_core.specs.declared.phase.Phase.TheVariants.{Asleep, Running, Stepping}
 use Rattle.chan_core.specs.State.{ChannelState}
 
@@ -14,6 +15,10 @@ IsInTime s = KeepsMargin s.checked s.commands
 -- no rank had its SRE
 abbrev pub AreAwake : Checked → List Stamped → Type 0
 AreAwake c list = (rank : ℕ) → rank < c.geometry.ranks → ¬ IsTrue (is_asleep rank list)
+
+-- the phase is the one of sleep exactly where each rank had its SRE
+abbrev pub TellsSleep : Phase → Checked → List Stamped → Type 0
+TellsSleep phase c list = (phase ≡ Asleep) ↔ AreAsleep c list
 
 pub record IsInPhase (s : ChannelState) : Type 0 where
   pub in_time : s.phase ≢ Stepping → IsInTime s

@@ -23,6 +23,10 @@ abbrev pub IsIndexOfSerial : ℕ → List OpenRead → Option ℕ → Type 0
 IsIndexOfSerial serial reads None = (i : ℕ) (read : OpenRead) → slice_get reads i ≡ Some read → read.serial ≢ serial
 IsIndexOfSerial serial reads (Some i) = (read : OpenRead) × (slice_get reads i ≡ Some read) × (read.serial ≡ serial)
 
+-- a read has this seq
+abbrev pub HasSeq : ℕ → List OpenRead → Type 0
+HasSeq seq reads = (i : ℕ) × (read : OpenRead) × (slice_get reads i ≡ Some read) × (read.seq ≡ seq)
+
 -- serials rise, below the next one, and so do the seqs of the requests
 pub record ReadsRise (serial seq : ℕ) (reads : List OpenRead) : Type 0 where
   pub serials : (i j : ℕ) (r s : OpenRead) → i < j → slice_get reads i ≡ Some r → slice_get reads j ≡ Some s → r.serial < s.serial

@@ -10,9 +10,9 @@ use Rattle.ddr4_timing.specs.Floors.{least_clock}
 use Rattle.ddr4_timing.specs.Lawful.{IsLawful, KeepsRows, last_ref, open_row, with_command}
 use Rattle.ddr4_timing.specs.Places.{bank_at}
 use Rattle.frfcfs.specs.declared.pending.Kind.TheVariants.{Write}
-use Rattle.frfcfs.specs.Margin.{AreAsleep}
 use Rattle.wpq_core.specs.PendingMemory.{after_pending}
-use Rattle.chan_core.specs.declared.phase.Phase.TheVariants.{Asleep, Running}
+use Rattle.chan_core.specs.declared.phase.Phase.TheVariants.{Running}
+use Rattle.chan_core.specs.Phases.{TellsSleep}
 use Rattle.chan_core.specs.State.{ChannelState, placed_writes}
 
 -- The least clock at which a command may go behind a list, if there is one: it may go from then on up to nine intervals after
@@ -48,4 +48,4 @@ pub record IssuesAlone (old : ChannelState) (command : Stamped) (new : ChannelSt
   pub placed : placed_writes new ≡ drop (writes_by command.cmd) (placed_writes old)
   pub writes_only : All (λ p. p.kind ≡ Write) new.requests
   pub single : new.phase ≢ Running
-  pub asleep : (new.phase ≡ Asleep) ↔ AreAsleep new.checked new.commands
+  pub asleep : TellsSleep new.phase new.checked new.commands

@@ -1,9 +1,10 @@
 -- What contracts see of a channel.
-use Rattle.std.specs.Prelude.{ℕ, ◌-◌, List, [], drop, filter, length, nat_lt, slice_index_or, Option, Some, None}
+use Rattle.std.specs.Prelude.{ℕ, ◌-◌, ◌/◌, List, [], drop, filter, length, nat_lt, slice_index_or, Option, Some, None}
 use Rattle.std.specs.List.{filter_map}
 use Rattle.ddr4_timing.specs.declared.command.Stamped.{Stamped}
 use Rattle.ddr4_timing.specs.declared.place.Place.{Place}
 use Rattle.ddr4_timing.specs.declared.timing.Checked.{Checked}
+use Rattle.ddr4_timing.specs.Lawful.{ref_count}
 use Rattle.frfcfs.specs.declared.pending.Kind.{Kind}
 use Rattle.frfcfs.specs.declared.pending.Kind.TheVariants.{Read, Write}
 use Rattle.frfcfs.specs.declared.pending.Pending.{Pending}
@@ -71,6 +72,10 @@ placed_writes s = filter_map placed_write s.requests
 -- the channel's clock: that of its last command, 0 where there was none
 abbrev pub clock_of : ChannelState → ℕ
 clock_of s = last_clock s.commands
+
+-- how many REF a rank owes at a clock: one for each interval that has passed, less those issued
+abbrev pub owed_at : ChannelState → ℕ → ℕ → ℕ
+owed_at s rank clock = clock / s.checked.timing.t_refi - ref_count rank s.commands
 
 -- the last 64 commands
 abbrev pub last_commands : List Stamped → List Stamped

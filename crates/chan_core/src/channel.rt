@@ -1,18 +1,18 @@
 // One channel.
-ghost use Rattle.std.specs.Prelude.{◌≡◌, ◌≢◌, ℕ, List, ◌-◌, ◌/◌, ◌<◌, ◌≤◌, ◌^◌, ◌↔◌, ◌++◌, [], Some, None, IfErr, IfOk, IfSome, IfNone, IsOk, IsTrue, OnOk, OnErr, count_by, length, nat_lt, slice_get};
+ghost use Rattle.std.specs.Prelude.{◌≡◌, ◌≢◌, ℕ, List, ◌<◌, ◌≤◌, ◌^◌, ◌↔◌, ◌++◌, [], Some, None, IfErr, IfOk, IfSome, IfNone, IsOk, IsTrue, OnOk, OnErr, count_by, length, nat_lt, slice_get};
 ghost use Rattle.line_memory.specs.Memory.{zero_lines};
 ghost use Rattle.wpq_core.specs.Writes.{ComeBefore, pending_write};
 ghost use Rattle.interleave_map.specs.Cells.{cells_of};
-ghost use Rattle.chan_core.specs.State.{channel_memory, last_commands, new_channel, placed_writes, stored_at};
+ghost use Rattle.chan_core.specs.State.{channel_memory, clock_of, last_commands, new_channel, owed_at, placed_writes, stored_at};
 ghost use Rattle.chan_core.specs.Mapped.{LiesOn, OfItsPlace};
 ghost use Rattle.chan_core.specs.Singles.{FitsOldest, IsEarliest, IssuesAlone};
-ghost use Rattle.ddr4_timing.specs.Lawful.{IsLawful, open_row, ref_count, with_command};
+ghost use Rattle.ddr4_timing.specs.Lawful.{IsLawful, open_row, with_command};
 ghost use Rattle.ddr4_timing.specs.Places.{HasBank};
 ghost use Rattle.ddr4_timing.specs.declared.command.Stamped.{Stamped};
 ghost use Rattle.bank_core.specs.Stands.{Stands};
-ghost use Rattle.frfcfs.specs.Margin.{AreAsleep};
-ghost use Rattle.chan_core.specs.Calls.{AddsWrite, AnswersCollect, AnswersGet, HasNothingToSend, KeepsBelow, IssuesChoice, IssuesChoices, WritesAt, after_commands, after_get, after_put, loaded_at, with_hold};
-ghost use Rattle.chan_core.specs.declared.phase.Phase.TheVariants.{Asleep, Running, Stepping};
+ghost use Rattle.chan_core.specs.Phases.{TellsSleep};
+ghost use Rattle.chan_core.specs.Calls.{AddsWrite, AnswersCollect, AnswersGet, HasNothingToSend, IsFullOfReads, IsFullOfWrites, KeepsBelow, IssuesChoice, IssuesChoices, WritesAt, after_commands, after_get, after_put, loaded_at, with_hold};
+ghost use Rattle.chan_core.specs.declared.phase.Phase.TheVariants.{Running, Stepping};
 ghost use Rattle.chan_core.specs.Always.{IsChannel};
 
 use crate::answers::{Collected, Done, Got, ReadsFull, Ticket};
@@ -98,6 +98,56 @@ impl Channel {
         self.memory.phase()
     }
 
+    /// The profile that it was made with.
+    pub fn checked(&self) -> &Checked
+        ensures { result.now ≡ self.now.checked }
+    {
+        self.memory.checked()
+    }
+
+    /// The clock of its last command, in clocks from its beginning; 0 where there was none. It is below 2^63.
+    pub fn clock(&self) -> u64
+        ensures is { result ≡ clock_of self.now }
+        ensures early { result < 2 ^ 63 }
+    {
+        self.clock
+    }
+
+    /// Its number in the geometry.
+    pub fn number(&self) -> u64
+        ensures { result ≡ self.now.channel }
+    {
+        self.memory.channel()
+    }
+
+    /// How many writes are pending, from 0 to its depth.
+    pub fn pending(&self) -> usize
+        ensures { result ≡ length self.now.writes }
+    {
+        self.memory.pending()
+    }
+
+    /// Whether `put` would refuse: whether as many writes are pending as its depth.
+    pub fn is_full(&self) -> bool
+        ensures { IsTrue result ↔ IsFullOfWrites self.now }
+    {
+        self.memory.is_full()
+    }
+
+    /// How many reads wait or were answered and not collected.
+    pub fn open_reads(&self) -> usize
+        ensures { result ≡ length self.now.tickets }
+    {
+        self.memory.open_reads()
+    }
+
+    /// Whether `get` would refuse: whether as many reads as may be are pending or not collected.
+    pub fn is_full_of_reads(&self) -> bool
+        ensures { IsTrue result ↔ IsFullOfReads self.now }
+    {
+        self.memory.is_full_of_reads()
+    }
+
     /// Whether a line lies on this channel. In constant time, as far as the map's own computation is.
     pub fn has_line<M: LineMap>(&self, map: &M, line: u64) -> bool
         requires lawful { M.is_lawful map.now }
@@ -120,8 +170,10 @@ impl Channel {
         requires geometry { M.geometry_of map.now ≡ self.old.checked.geometry }
         requires line { LiesOn (M.lies_at map.now) self.old line }
         requires quiet { self.old.requests ≡ [] }
-        ensures loaded { OfItsPlace (M.lies_at map.now) line (λ place. self.new ≡ loaded_at self.old place bytes) }
-        ensures memory { OfItsPlace (M.lies_at map.now) line (λ place. WritesAt self.old place bytes self.new) }
+        ensures loaded { OfItsPlace (M.lies_at map.now) line (λ place.
+            self.new ≡ loaded_at self.old place bytes) }
+        ensures memory { OfItsPlace (M.lies_at map.now) line (λ place.
+            WritesAt self.old place bytes self.new) }
     {
         let place = map.place(line);
         self.memory.load(place, bytes);
@@ -263,7 +315,7 @@ impl Channel {
     /// How many REF the rank owes at the clock: one for each interval that has passed, less those issued.
     pub fn owed(&self, rank: u64, clock: u64) -> u64
         requires { rank < self.now.checked.geometry.ranks }
-        ensures { result ≡ clock / self.now.checked.timing.t_refi - ref_count rank self.now.commands }
+        ensures { result ≡ owed_at self.now rank clock }
     {
         self.banks.owed(rank, clock)
     }
@@ -322,7 +374,8 @@ impl Channel {
     /// memory for n of them; nothing has changed then.
     pub fn work_many(&mut self, alloc: Global, n: usize) -> Result<Vec<Stamped>, AllocError>
         ensures issues { IfOk result (λ commands. IssuesChoices self.old commands.items self.new) }
-        ensures commands { IfOk result (λ commands. self.new.commands ≡ self.old.commands ++ commands.items) }
+        ensures commands { IfOk result (λ commands.
+            self.new.commands ≡ self.old.commands ++ commands.items) }
         ensures memory { channel_memory self.new ≡ channel_memory self.old }
         ensures below { KeepsBelow self.old self.new }
         ensures most { IfOk result (λ commands. length commands.items ≤ n) }
@@ -346,7 +399,7 @@ impl Channel {
 fn phase_alone(banks: &Banks) -> Phase
     ensures single { result ≢ Running }
     ensures asleep { (list : List Stamped) → Stands banks.now list →
-        ((result ≡ Asleep) ↔ AreAsleep banks.now.checked list) }
+        TellsSleep result banks.now.checked list }
 {
     for rank in 0..banks.checked().geometry.ranks {
         if !banks.is_asleep(rank) {

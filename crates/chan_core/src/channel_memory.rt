@@ -11,9 +11,9 @@ ghost use Rattle.interleave_map.specs.Cells.{cell_of, cells_of};
 ghost use Rattle.chan_core.specs.State.{channel_memory, cell_in, new_channel, placed_write, placed_writes, stored_at};
 ghost use Rattle.chan_core.specs.Always.{IsHeld};
 ghost use Rattle.chan_core.specs.Singles.{FitsOldest, IssuesAlone};
-ghost use Rattle.chan_core.specs.declared.phase.Phase.TheVariants.{Asleep, Running};
-ghost use Rattle.frfcfs.specs.Margin.{AreAsleep};
-ghost use Rattle.chan_core.specs.Calls.{AddsRead, AddsWrite, AnswersCollect, AnswersGet, AnswersRead, IsFullOfReads, KeepsBelow, MovesWrite, ServesAt, ServesIndex, WritesAt, after_command, after_get, after_put, loaded_at, with_hold};
+ghost use Rattle.chan_core.specs.declared.phase.Phase.TheVariants.{Running};
+ghost use Rattle.chan_core.specs.Phases.{TellsSleep};
+ghost use Rattle.chan_core.specs.Calls.{AddsRead, AddsWrite, AnswersCollect, AnswersGet, AnswersRead, IsFullOfReads, IsFullOfWrites, KeepsBelow, MovesWrite, ServesAt, ServesIndex, WritesAt, after_command, after_get, after_put, loaded_at, with_hold};
 
 use crate::answers::{Collected, Got, ReadsFull, Served, Ticket};
 use crate::moves::{store_by, take_write};
@@ -114,6 +114,27 @@ impl ChannelMemory {
         self.channel
     }
 
+    /// How many writes are pending.
+    pub(crate) fn pending(&self) -> usize
+        ensures { result ≡ length self.now.writes }
+    {
+        self.queue.len()
+    }
+
+    /// Whether no further write may be pending.
+    pub(crate) fn is_full(&self) -> bool
+        ensures { IsTrue result ↔ IsFullOfWrites self.now }
+    {
+        self.queue.is_full()
+    }
+
+    /// How many reads wait or were not collected.
+    pub(crate) fn open_reads(&self) -> usize
+        ensures { result ≡ length self.now.tickets }
+    {
+        self.reads.len()
+    }
+
     /// The least number that a further write may have.
     pub(crate) fn next_number(&self) -> Option<u64>
         ensures free { IfSome result (λ n. (m : ℕ) → (ComeBefore m self.now.writes ↔ (n ≤ m))) }
@@ -204,7 +225,7 @@ impl ChannelMemory {
     }
 
     // May no further read be open?
-    fn is_full_of_reads(&self) -> bool
+    pub(crate) fn is_full_of_reads(&self) -> bool
         ensures { IsTrue result ↔ IsFullOfReads self.now }
     {
         self.reads.len() == self.most_reads
@@ -312,7 +333,7 @@ impl ChannelMemory {
     pub(crate) fn issue_alone(&mut self, command: Stamped, phase: Phase)
         requires oldest { FitsOldest self.old command.cmd }
         requires single { phase ≢ Running }
-        requires asleep { (phase ≡ Asleep) ↔ AreAsleep self.old.checked (self.old.commands ++ command ∷ []) }
+        requires asleep { TellsSleep phase self.old.checked (self.old.commands ++ command ∷ []) }
         ensures issues { IssuesAlone self.old command self.new }
         ensures memory { channel_memory self.new ≡ channel_memory self.old }
     {

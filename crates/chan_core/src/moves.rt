@@ -1,10 +1,9 @@
 // How a write moves from the queue to the array.
-ghost use Rattle.std.specs.Prelude.{◌≡◌, ℕ, Some, All, drop, length, slice_get, take};
+ghost use Rattle.std.specs.Prelude.{◌≡◌, Some, drop, length, take};
 ghost use Rattle.wpq_core.specs.Writes.{TakesWrite};
-ghost use Rattle.wpq_core.specs.declared.queue.PendingWrite.{PendingWrite};
 ghost use Rattle.wpq_core.specs.Queue as queues;
 ghost use Rattle.wpq_core.specs.PendingMemory.{after_pending};
-ghost use Rattle.chan_core.specs.Contents.{AreOldest};
+ghost use Rattle.chan_core.specs.Contents.{AreOldest, AreWhole, HasWriteNumbered};
 ghost use Rattle.chan_core.specs.Singles.{writes_by};
 
 use ddr4_timing::command::Command;
@@ -14,7 +13,7 @@ use wpq_core::Wpq;
 
 /// Takes a write out that is there.
 pub(crate) fn take_write(queue: &mut Wpq, number: u64) -> Line
-    requires { (i : ℕ) × (w : PendingWrite) × (slice_get queue.old.writes i ≡ Some w) × (w.number ≡ number) }
+    requires { HasWriteNumbered number queue.old.writes }
     ensures depth { queue.new.depth ≡ queue.old.depth }
     ensures takes { TakesWrite number queue.old.writes (Some result) queue.new.writes }
     ensures size { length result ≡ 64 }
@@ -31,7 +30,7 @@ fn store_oldest(array: &mut [Line], queue: &mut Wpq, waiting: &mut Queue)
     requires queue { queues.IsWriteQueue queue.old }
     requires oldest { AreOldest (length array.old) queue.old.writes waiting.old.requests }
     ensures array { array.new ≡ after_pending array.old (take 1 queue.old.writes) }
-    ensures whole { All (λ line. length line ≡ 64) array.old → All (λ line. length line ≡ 64) array.new }
+    ensures whole { AreWhole array.old → AreWhole array.new }
     ensures queue { queue.new ≡ record queue.old { writes = drop 1 queue.old.writes } }
     ensures waiting { waiting.new ≡ record waiting.old { requests = drop 1 waiting.old.requests } }
 {
@@ -43,11 +42,14 @@ fn store_oldest(array: &mut [Line], queue: &mut Wpq, waiting: &mut Queue)
 /// The write of a single command goes to the array: the oldest one, where the command is a WR.
 pub(crate) fn store_by(cmd: Command, array: &mut [Line], queue: &mut Wpq, waiting: &mut Queue)
     requires queue { queues.IsWriteQueue queue.old }
-    requires oldest { writes_by cmd ≡ 1 → AreOldest (length array.old) queue.old.writes waiting.old.requests }
+    requires oldest { writes_by cmd ≡ 1
+        → AreOldest (length array.old) queue.old.writes waiting.old.requests }
     ensures array { array.new ≡ after_pending array.old (take (writes_by cmd) queue.old.writes) }
-    ensures whole { All (λ line. length line ≡ 64) array.old → All (λ line. length line ≡ 64) array.new }
-    ensures queue { queue.new ≡ record queue.old { writes = drop (writes_by cmd) queue.old.writes } }
-    ensures waiting { waiting.new ≡ record waiting.old { requests = drop (writes_by cmd) waiting.old.requests } }
+    ensures whole { AreWhole array.old → AreWhole array.new }
+    ensures queue { queue.new
+        ≡ record queue.old { writes = drop (writes_by cmd) queue.old.writes } }
+    ensures waiting { waiting.new
+        ≡ record waiting.old { requests = drop (writes_by cmd) waiting.old.requests } }
 {
     if let Command::Wr { .. } = cmd {
         store_oldest(array, queue, waiting);

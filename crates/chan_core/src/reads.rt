@@ -1,7 +1,6 @@
 // Reads that were accepted and not collected yet.
-ghost use Rattle.std.specs.Prelude.{◌≡◌, ℕ, Some, slice_get, vec_capacity};
-ghost use Rattle.chan_core.specs.declared.reads.OpenRead.{OpenRead};
-ghost use Rattle.chan_core.specs.Reads.{IsIndexOfSerial, AnswersSeq};
+ghost use Rattle.std.specs.Prelude.{◌≡◌, vec_capacity};
+ghost use Rattle.chan_core.specs.Reads.{AnswersSeq, HasSeq, IsIndexOfSerial};
 
 use line_memory::Line;
 
@@ -31,7 +30,7 @@ pub(crate) fn index_of_serial(reads: &[OpenRead], serial: u128) -> Option<usize>
 
 /// Gives the read that a request is for its bytes: its serial.
 pub(crate) fn answer(reads: &mut Vec<OpenRead>, seq: u64, bytes: Line) -> u128
-    requires { (i : ℕ) × (read : OpenRead) × (slice_get reads.old.items i ≡ Some read) × (read.seq ≡ seq) }
+    requires { HasSeq seq reads.old.items }
     ensures answers { AnswersSeq seq bytes result reads.old.items reads.new.items }
     ensures capacity { vec_capacity reads.new ≡ vec_capacity reads.old }
 {

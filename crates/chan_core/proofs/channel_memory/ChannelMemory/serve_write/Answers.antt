@@ -5,7 +5,7 @@ use Rattle.chan_core.specs.Contents.{AreContents, seen}
 use Rattle.chan_core.specs.Inside.{contents_of}
 use Rattle.chan_core.specs.State.{ChannelState, channel_memory, memory_below}
 use Rattle.chan_core.specs.Calls.{MovesWrite}
-use Rattle.chan_core.proofs.Serving.{in-queue, line-within, write-below, write-holds, write-memory, write-tickets}
+use Rattle.chan_core.proofs.Serving.{in-queue, line-within, write-below, write-first, write-holds, write-memory, write-tickets, write-unheld}
 use Rattle.chan_core.proofs.channel_memory.ChannelMemory.serve_write.Goals as goal
 
 pub take_write-bytes-requires : goal.take_write-bytes-requires
@@ -38,7 +38,17 @@ returns-clause-moves c =
     let bytes = c.take_write-bytes.result in
     let new = seen (record s { queue = c.take_write-bytes.new.queue; waiting = c.take.new.self; array = slice_set s.array c.args.request.line bytes; commands = c.note.new.self.items }) in
     subst (λ (x : ChannelState). MovesWrite x c.args.request c.args.request.number new) c.self.view_is
-    (record { kind = c.requires.kind; named = refl; bytes = bytes; array = refl; writes = c.take_write-bytes.ensures.takes; tickets = write-tickets s c.args.index c.args.request bytes c.self.invariant.are order eligible c.requires.kind })
+    (record {
+      kind = c.requires.kind;
+      named = refl;
+      bytes = bytes;
+      array = refl;
+      writes = c.take_write-bytes.ensures.takes;
+      tickets = write-tickets s c.args.index c.args.request bytes c.self.invariant.are order eligible c.requires.kind;
+      first = write-first s c.args.index c.args.request c.self.invariant.are order eligible c.requires.kind;
+      unheld = λ n hold. write-unheld s n c.args.index c.args.request c.self.invariant.are eligible c.requires.kind hold;
+      below = λ n less. write-below s c.take_write-bytes.new.queue n c.args.index c.args.request bytes c.self.invariant.are order eligible c.requires.kind less c.take_write-bytes.ensures.takes;
+    })
 
 pub returns-clause-memory : goal.returns-clause-memory
 returns-clause-memory c =
@@ -51,4 +61,5 @@ returns-clause-below c n hold =
     let order = subst (λ (s : ChannelState). AreInOrder s.requests) (sym c.self.view_is) c.requires.order in
     let eligible = subst (λ (s : ChannelState). IsEligible s.requests c.args.index c.args.request) (sym c.self.view_is) c.requires.eligible in
     let held = subst (λ (s : ChannelState). s.hold ≡ Some n) (sym c.self.view_is) hold in
-    write-below (contents_of c.self.inside) c.take_write-bytes.new.queue n c.args.index c.args.request c.take_write-bytes.result c.self.invariant.are order eligible c.requires.kind held c.take_write-bytes.ensures.takes ∙ ap (memory_below n) c.self.view_is
+    let less = write-unheld (contents_of c.self.inside) n c.args.index c.args.request c.self.invariant.are eligible c.requires.kind held in
+    write-below (contents_of c.self.inside) c.take_write-bytes.new.queue n c.args.index c.args.request c.take_write-bytes.result c.self.invariant.are order eligible c.requires.kind less c.take_write-bytes.ensures.takes ∙ ap (memory_below n) c.self.view_is
