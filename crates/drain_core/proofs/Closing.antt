@@ -20,7 +20,8 @@ use Rattle.chan_core.specs.Phases.{AreAwake}
 use Rattle.drain_core.specs.Standing.{AfterClose, CanDrain, IsBetweenSteps}
 use Rattle.drain_core.proofs.LawfulLists.{greatest_above, drain_start_push, latest-le}
 use Rattle.drain_core.proofs.Settling.{rest_clock_push}
-use Rattle.drain_core.proofs.OneCommand.{MayGo, with_earliest-lawful, awake_next, last_ref-calm, has_open_bank-false, has_open_bank-true}
+use Rattle.drain_core.specs.Steps.{MayGo}
+use Rattle.drain_core.proofs.OneCommand.{with_earliest-lawful, awake_next, last_ref-calm, has_open_bank-false, has_open_bank-true}
 
 -- So many ranks were seen to.
 pub record IsClosing (c : Checked) (first : List Stamped) (ranks : ℕ) (p : Progress) : Type 0 where
@@ -107,7 +108,7 @@ closing_closed c first rank p closed i = record {
 next_close : (clock floor s row j : ℕ) → clock + 1 ≤ s + row + j → floor + 1 ≤ s + row + j → max clock (max floor (max 0 0)) + 1 ≤ s + row + j
 next_close clock floor s row j h l = omega arith
 
-close_clock-le : (c : Checked) (first : List Stamped) (rank : ℕ) (p : Progress) → IsClosing c first rank p → next_clock c.timing (PreAll rank) p + 1 ≤ drain_start first + row_time c.timing + rank
+pub close_clock-le : (c : Checked) (first : List Stamped) (rank : ℕ) (p : Progress) → IsClosing c first rank p → next_clock c.timing (PreAll rank) p + 1 ≤ drain_start first + row_time c.timing + rank
 unfolding least_clock
 close_clock-le c first rank p i = next_close p.clock (floor c.timing p.list (PreAll rank)) (drain_start first) (row_time c.timing) rank i.clock (i.waits rank)
 
@@ -121,7 +122,7 @@ close-sum c = let t = c.timing in close_sum t.t_ras (t.cwl + 4 + t.t_wr) t.t_rtp
 close_in_time : (k s row rfc rp j r cl dead : ℕ) → k + 1 ≤ s + row + j → j < r → max row rfc + rp + 2 * r - 1 ≡ cl → s + (cl + r) ≤ dead → 1 ≤ rp → k ≤ dead
 close_in_time k s row rfc rp j r cl dead h l m o some = omega (arith, h, l, m, o, some)
 
-may_close : (c : Checked) (first : List Stamped) (rank : ℕ) (p : Progress) → CanDrain c first → rank < c.geometry.ranks → has_open_bank c.geometry rank p.list ≡ true → IsClosing c first rank p → MayGo c p (PreAll rank)
+pub may_close : (c : Checked) (first : List Stamped) (rank : ℕ) (p : Progress) → CanDrain c first → rank < c.geometry.ranks → has_open_bank c.geometry rank p.list ≡ true → IsClosing c first rank p → MayGo c p (PreAll rank)
 may_close c first rank p can within some i =
     let t = c.timing in record {
       rows = record { place = within; awake = i.awake rank within; rows = has_open_bank-true c.geometry rank p.list some };

@@ -19,7 +19,8 @@ use Rattle.drain_core.proofs.Gaps.{eqb-same, gap-act_wr, gap-act_pre, gap-wr_pre
 use Rattle.drain_core.proofs.LawfulLists.{drain_start_push}
 use Rattle.drain_core.proofs.Settling.{settle_clock, settle_clock-le, rest_clock_push}
 use Rattle.drain_core.proofs.Rested.{least-Act, floor-Wr, floor-Pre}
-use Rattle.drain_core.proofs.OneCommand.{MayGo, with_earliest-lawful, awake_next, last_ref-calm}
+use Rattle.drain_core.specs.Steps.{MayGo}
+use Rattle.drain_core.proofs.OneCommand.{with_earliest-lawful, awake_next, last_ref-calm}
 use Rattle.drain_core.proofs.Refreshing.{IsRefreshed, refreshed}
 
 -- behind the ACT, the WR and the PRE of a write at a place
@@ -33,7 +34,7 @@ abbrev pub after_pre : Timing → Place → Progress → Progress
 after_pre t place p = with_earliest t (Pre (bank_at place)) (after_wr t place p)
 
 -- how long behind the ACT its PRE goes
-abbrev row_open : Timing → ℕ
+abbrev pub row_open : Timing → ℕ
 row_open t = max t.t_ras (t.t_rcd + (t.cwl + 4 + t.t_wr))
 
 module _ (c : Checked) (start p : Progress) (place : Place) (r : IsRefreshed c start p) where
@@ -41,7 +42,7 @@ module _ (c : Checked) (start p : Progress) (place : Place) (r : IsRefreshed c s
   settled = let e = r.clock in settle_clock-le c p.list p.clock r.lawful r.closed (omega (arith, e)) (omega (arith, e))
 
   -- the ACT goes at once
-  act_clock : next_clock c.timing (Act (bank_at place) place.row) p ≡ p.clock
+  pub act_clock : next_clock c.timing (Act (bank_at place) place.row) p ≡ p.clock
   act_clock = let l = least-Act c p.list (bank_at place) place.row in let s = settled in omega (arith, l, s)
 
   act_list : (after_act c.timing place p).list ≡ p.list ++ record { clock = p.clock; cmd = Act (bank_at place) place.row } ∷ []
@@ -61,7 +62,7 @@ module _ (c : Checked) (start p : Progress) (place : Place) (r : IsRefreshed c s
       (floor_push c.timing p.list (record { clock = p.clock; cmd = Act (bank_at place) place.row }) (Wr (bank_at place) place.column)
       ∙ ap (λ (gap : ℕ). max (floor c.timing p.list (Wr (bank_at place) place.column)) (p.clock + gap)) (gap-act_wr c.timing (bank_at place) place.row place.column))
 
-  wr_clock : next_clock c.timing (Wr (bank_at place) place.column) (after_act c.timing place p) ≡ p.clock + c.timing.t_rcd
+  pub wr_clock : next_clock c.timing (Wr (bank_at place) place.column) (after_act c.timing place p) ≡ p.clock + c.timing.t_rcd
   unfolding least_clock
   wr_clock = wr_at _ _ p.clock _ c.timing.t_rcd _ act_next wr_floor (floor-Wr c p.list (bank_at place) place.column) settled c.in_limits.t_rcd.0
 
@@ -88,7 +89,7 @@ module _ (c : Checked) (start p : Progress) (place : Place) (r : IsRefreshed c s
   pre_at : (next floor a f ras rcd w settle : ℕ) → next ≡ a + rcd + 1 → floor ≡ max (max f (a + max 1 ras)) (a + rcd + max 1 (w + 4)) → f ≤ settle → settle ≤ a → 1 ≤ ras → max next (max floor (max 0 0)) ≡ a + max ras (rcd + (w + 4))
   pre_at next floor a f ras rcd w settle n e h s l = omega (arith, n, e, h, s, l)
 
-  pre_clock : next_clock c.timing (Pre (bank_at place)) (after_wr c.timing place p) ≡ p.clock + row_open c.timing
+  pub pre_clock : next_clock c.timing (Pre (bank_at place)) (after_wr c.timing place p) ≡ p.clock + row_open c.timing
   unfolding least_clock
   pre_clock =
       let t = c.timing in
@@ -108,7 +109,7 @@ module _ (c : Checked) (start p : Progress) (place : Place) (r : IsRefreshed c s
 sum_of_entry : (n ras rcd cwl wr rp : ℕ) → n + max ras (rcd + (cwl + 4 + wr)) + rp ≡ n + max ras (rcd + cwl + 4 + wr) + rp
 sum_of_entry n ras rcd cwl wr rp = omega arith
 
-entry-sum : (c : Checked) → c.geometry.ranks * c.timing.t_rfc + row_open c.timing + c.timing.t_rp ≡ entry_of c.timing c.geometry
+pub entry-sum : (c : Checked) → c.geometry.ranks * c.timing.t_rfc + row_open c.timing + c.timing.t_rp ≡ entry_of c.timing c.geometry
 entry-sum c = let t = c.timing in sum_of_entry (c.geometry.ranks * t.t_rfc) t.t_ras t.t_rcd t.cwl t.t_wr t.t_rp
 
 within_entry : (a k e n o p sum room dead : ℕ) → a ≤ e + n → k ≤ a + o → n + o + p ≡ sum → e + (sum + room) ≤ dead → k ≤ dead
@@ -147,7 +148,7 @@ module _ (c : Checked) (start p : Progress) (place : Place) (lies : LiesIn c.geo
   act_row : (bank : BankAddress) → open_row bank (after_act c.timing place p).list ≡ row_after bank (open_row bank p.list) (Act (bank_at place) place.row)
   act_row bank = rw (act_list c start p place r) (open_row_push bank p.list (record { clock = p.clock; cmd = Act (bank_at place) place.row }))
 
-  act_opens : open_row (bank_at place) (after_act c.timing place p).list ≡ Some place.row
+  pub act_opens : open_row (bank_at place) (after_act c.timing place p).list ≡ Some place.row
   act_opens = act_row (bank_at place) ∙ simp eqb-same
 
   act_refs : (rank : ℕ) → last_ref rank (after_act c.timing place p).list ≡ last_ref rank p.list
@@ -182,13 +183,13 @@ module _ (c : Checked) (start p : Progress) (place : Place) (lies : LiesIn c.geo
   pre_lawful : IsLawful c (after_pre c.timing place p).list
   pre_lawful = with_earliest-lawful c (after_wr c.timing place p) (Pre (bank_at place)) wr_lawful may_pre
 
-  pre_awake : AreAwake c (after_pre c.timing place p).list
+  pub pre_awake : AreAwake c (after_pre c.timing place p).list
   pre_awake = rw (pre_list c start p place r) (awake_next c (after_wr c.timing place p).list (record { clock = p.clock + row_open c.timing; cmd = Pre (bank_at place) }) refl wr_awake)
 
   pre_refs : (rank : ℕ) → last_ref rank (after_pre c.timing place p).list ≡ last_ref rank p.list
   pre_refs rank = rw (pre_list c start p place r) (last_ref-calm rank (after_wr c.timing place p).list (record { clock = p.clock + row_open c.timing; cmd = Pre (bank_at place) }) refl ∙ wr_refs rank)
 
-  pre_closed : AreClosed c (after_pre c.timing place p).list
+  pub pre_closed : AreClosed c (after_pre c.timing place p).list
   pre_closed rank within group bank l m =
       let at : BankAddress = record { rank = rank; group = group; bank = bank } in
       let pushed : open_row at (after_pre c.timing place p).list ≡ row_after at (open_row at (after_wr c.timing place p).list) (Pre (bank_at place)) =
@@ -203,7 +204,7 @@ module _ (c : Checked) (start p : Progress) (place : Place) (lies : LiesIn c.geo
       let third : rest_clock t (after_pre t place p).list ≡ max (rest_clock t (after_wr t place p).list) (p.clock + row_open t + t.t_rp) = rw (pre_list c start p place r) (rest_clock_push t (after_wr t place p).list (record { clock = p.clock + row_open t; cmd = Pre (bank_at place) })) in
       rests _ _ _ _ p.clock t.t_ras t.t_rcd (t.cwl + 4 + t.t_wr) t.t_rp (let e = r.clock in omega (arith, e)) first second third
 
-  pre_start : drain_start (after_pre c.timing place p).list ≡ (after_pre c.timing place p).clock
+  pub pre_start : drain_start (after_pre c.timing place p).list ≡ (after_pre c.timing place p).clock
   pre_start = rw (pre_list c start p place r) (drain_start_push (after_wr c.timing place p).list (record { clock = p.clock + row_open c.timing; cmd = Pre (bank_at place) })) ∙ sym (pre_next c start p place r)
 
 end_of_entry : (a e n o rp sum next rest : ℕ) → a ≤ e + n → n + o + rp ≡ sum → 1 ≤ rp → next ≡ a + o + 1 → rest ≡ a + o + rp → max next rest ≤ e + sum

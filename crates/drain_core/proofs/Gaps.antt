@@ -20,7 +20,7 @@ pub most_gap_some : (t : Timing) (a b : Command) → 1 ≤ most_gap t a b
 unfolding most_gap pair_gap
 most_gap_some t a b = le-max_left 1 _
 
-cond-le : (b : Bool) (v : ℕ) → cond b v 0 ≤ v
+pub cond-le : (b : Bool) (v : ℕ) → cond b v 0 ≤ v
 cond-le true v = omega arith
 cond-le false v = omega arith
 

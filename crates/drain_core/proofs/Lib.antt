@@ -10,3 +10,12 @@ pub mod Sleeping
 pub mod Spending
 pub mod Whole
 mod DrainExamples
+pub mod Beginning
+pub mod Resting
+pub mod OpenBanks
+pub mod Parts
+pub mod ClosingChannel
+pub mod RefreshingChannel
+pub mod SleepingChannel
+pub mod EnteringChannel
+pub mod PendingPlaces

@@ -1,5 +1,5 @@
 -- One more command of a drain.
-use Rattle.std.proofs.Common.{◌≡◌, ℕ, zero, suc, ◌+◌, ◌*◌, ◌≤◌, ◌<◌, Bool, true, false, cond, List, [], ◌∷◌, ◌++◌, Option, Some, None, IsTrue, arith, refl, subst, ap, ◌∙◌, inl, inr}
+use Rattle.std.proofs.Common.{◌≡◌, ℕ, zero, suc, ◌<◌, Bool, true, false, cond, List, [], ◌∷◌, ◌++◌, Option, Some, None, IsTrue, arith, refl, subst, ap, ◌∙◌, inl, inr}
 use Rattle.std.specs.Prelude.{is_some, ◌||◌}
 use Rattle.std.proofs.lemmas.Bool.{cases_lt, or_parts, or_cases}
 use Rattle.ddr4_timing.specs.declared.command.Command.{Command}
@@ -7,17 +7,13 @@ use Rattle.ddr4_timing.specs.declared.command.Command.TheVariants.{Act, Rd, Wr, 
 use Rattle.ddr4_timing.specs.declared.command.Stamped.{Stamped}
 use Rattle.ddr4_timing.specs.declared.timing.Geometry.{Geometry}
 use Rattle.ddr4_timing.specs.declared.timing.Checked.{Checked}
-use Rattle.ddr4_timing.specs.Command.{is_sre, is_sre_of, is_ref, is_ref_of, rank_of}
-use Rattle.ddr4_timing.specs.Lawful.{AllClosed, IsLawful, KeepsRows, open_row, is_asleep, last_ref}
+use Rattle.ddr4_timing.specs.Command.{is_sre, is_sre_of, is_ref, is_ref_of}
+use Rattle.ddr4_timing.specs.Lawful.{AllClosed, IsLawful, open_row, is_asleep, last_ref}
 use Rattle.ddr4_timing.proofs.FloorLemmas.{is_asleep_push, last_ref_push}
+use Rattle.drain_core.specs.Steps.{MayGo}
 use Rattle.drain_core.specs.Drain.{Progress, next_clock, with_earliest, any_below, has_open_bank}
 use Rattle.chan_core.specs.Phases.{AreAwake}
 use Rattle.drain_core.proofs.LawfulLists.{lawful_next}
-
--- The command may go next: the banks are as it wants them, and its rank's deadline is to come.
-pub record MayGo (c : Checked) (p : Progress) (cmd : Command) : Type 0 where
-  pub rows : KeepsRows c.geometry p.list cmd
-  pub in_time : next_clock c.timing cmd p ≤ last_ref (rank_of cmd) p.list + 9 * c.timing.t_refi
 
 pub with_earliest-lawful : (c : Checked) (p : Progress) (cmd : Command) → IsLawful c p.list → MayGo c p cmd → IsLawful c (with_earliest c.timing cmd p).list
 unfolding with_earliest

@@ -21,7 +21,8 @@ use Rattle.drain_core.specs.Standing.{AreClosed, HaveClocks, IsBetweenSteps}
 use Rattle.drain_core.proofs.LawfulLists.{drain_start_push}
 use Rattle.drain_core.proofs.Settling.{settle_clock, settle_clock-le, rest_clock_push}
 use Rattle.drain_core.proofs.Rested.{floor-Ref}
-use Rattle.drain_core.proofs.OneCommand.{MayGo, with_earliest-lawful, awake_next}
+use Rattle.drain_core.specs.Steps.{MayGo}
+use Rattle.drain_core.proofs.OneCommand.{with_earliest-lawful, awake_next}
 
 -- So many ranks were seen to, from the start of an entry on.
 pub record IsRefreshing (c : Checked) (start : Progress) (ranks : ℕ) (p : Progress) : Type 0 where
@@ -69,7 +70,7 @@ none_refreshing c p b =
 entry_fits : (e d r t : ℕ) → 2 * (e + d) + 4 * r ≤ t → e + 2 * r ≤ t
 entry_fits e d r t h = omega arith
 
-entry-le : (c : Checked) → entry_of c.timing c.geometry + 2 * c.geometry.ranks ≤ c.timing.t_refi
+pub entry-le : (c : Checked) → entry_of c.timing c.geometry + 2 * c.geometry.ranks ≤ c.timing.t_refi
 entry-le c = entry_fits (entry_of c.timing c.geometry) (close_of c.timing c.geometry) c.geometry.ranks c.timing.t_refi c.fits_entry
 
 -- a rank that owes none
@@ -123,7 +124,7 @@ ref_at : (clock floor need : ℕ) → floor ≤ clock → need ≤ clock → max
 ref_at clock floor need h l = omega arith
 
 -- its REF goes at once
-ref_clock : (c : Checked) (start : Progress) (rank : ℕ) (p : Progress) → owes_refresh c.timing start.list start.clock rank ≡ true → IsRefreshing c start rank p → next_clock c.timing (Ref rank) p ≡ p.clock
+pub ref_clock : (c : Checked) (start : Progress) (rank : ℕ) (p : Progress) → owes_refresh c.timing start.list start.clock rank ≡ true → IsRefreshing c start rank p → next_clock c.timing (Ref rank) p ≡ p.clock
 unfolding least_clock
 ref_clock c start rank p owes i =
     let t = c.timing in

@@ -14,7 +14,8 @@ use Rattle.drain_core.specs.Drain.{Progress, with_earliest, next_clock, for_each
 use Rattle.drain_core.specs.Standing.{AfterSleep, AreClosed, IsBetweenSteps}
 use Rattle.drain_core.proofs.Gaps.{eqb-same, gap-Sre}
 use Rattle.drain_core.proofs.Rested.{floor-Sre}
-use Rattle.drain_core.proofs.OneCommand.{MayGo, with_earliest-lawful, last_ref-calm}
+use Rattle.drain_core.specs.Steps.{MayGo}
+use Rattle.drain_core.proofs.OneCommand.{with_earliest-lawful, last_ref-calm}
 use Rattle.drain_core.proofs.Refreshing.{settled_between}
 
 -- So many ranks had their SRE.
@@ -41,7 +42,7 @@ none_sleeping c p b = record {
 sre_at : (clock floor : ℕ) → floor ≤ clock → max clock (max floor (max 0 0)) ≡ clock
 sre_at clock floor h = omega arith
 
-sre_clock : (c : Checked) (start : Progress) (rank : ℕ) (p : Progress) → IsSleeping c start rank p → next_clock c.timing (Sre rank) p ≡ p.clock
+pub sre_clock : (c : Checked) (start : Progress) (rank : ℕ) (p : Progress) → IsSleeping c start rank p → next_clock c.timing (Sre rank) p ≡ p.clock
 unfolding least_clock
 sre_clock c start rank p i = sre_at p.clock (floor c.timing p.list (Sre rank)) (i.waits rank)
 

@@ -1,6 +1,5 @@
 -- What the commands of a drain cost at the most, without their clocks.
 use Rattle.std.proofs.Common.{◌≡◌, ℕ, zero, suc, ◌+◌, ◌*◌, ◌≤◌, Bool, true, false, cond, List, [], ◌∷◌, ◌++◌, append_assoc, length, drop, arith, refl, sym, ap, ◌∙◌}
-use Rattle.std.specs.List.{sum_by}
 use Rattle.std.proofs.lemmas.List.{append-nil}
 use Rattle.std.proofs.Math.Seq.{drop-append_seam}
 use Rattle.std.proofs.lemmas.List.Sums.{sum_by-append}
@@ -13,11 +12,8 @@ use Rattle.ddr4_timing.specs.declared.timing.Geometry.{Geometry}
 use Rattle.ddr4_timing.specs.Places.{bank_at}
 use Rattle.energy_budget.specs.declared.costs.CostNumbers.{CostNumbers}
 use Rattle.energy_budget.specs.CostNumbers.{command_cost}
+use Rattle.drain_core.specs.Steps.{commands_cost}
 use Rattle.drain_core.specs.Drain.{Progress, with_earliest, for_each_rank, after_rest, has_open_bank, owes_refresh, close_rank, close_step_of, refresh_rank, after_refreshes, entry_step_of, entry_steps_of, after_self_refresh}
-
--- what these commands cost
-abbrev pub commands_cost : CostNumbers → List Stamped → ℕ
-commands_cost n commands = sum_by (λ x. command_cost n x.cmd) commands
 
 -- Between two moments of a drain commands of this cost at the most were issued.
 pub record Issues (n : CostNumbers) (most : ℕ) (old new : Progress) : Type 0 where

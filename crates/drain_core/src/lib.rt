@@ -1,7 +1,10 @@
-//! The closed-page drain of a channel: what it issues and when (`specs/Drain.antt`), and what that comes to (`laws`).
+//! The closed-page drain of a channel: what it issues and when (`specs/Drain.antt`), what its parts do to a channel
+//! (`specs/Steps.antt`), and what that comes to (`laws`).
 #![tactic(auto)]
 
 pub mod laws;
 mod report;
+mod steps;
 
 pub use report::DrainReport;
+pub use steps::{StepEnd, close_step, entry_step, self_refresh};

@@ -1,0 +1,29 @@
+-- What the earliest clock of a command says of the banks of its rank.
+use Rattle.std.proofs.Common.{◌≡◌, ℕ, ◌<◌, List, Option, Some, None, inl, inr, sym}
+use Rattle.std.specs.Prelude.{is_some}
+use Rattle.std.proofs.lemmas.Bool.{cases_Bool}
+use Rattle.ddr4_timing.specs.declared.command.Command.TheVariants.{PreAll, Sre}
+use Rattle.ddr4_timing.specs.declared.command.Stamped.{Stamped}
+use Rattle.ddr4_timing.specs.declared.timing.Checked.{Checked}
+use Rattle.ddr4_timing.specs.Lawful.{AllClosed}
+use Rattle.chan_core.specs.Phases.{AreAwake}
+use Rattle.chan_core.specs.Singles.{IsEarliest}
+use Rattle.drain_core.specs.Drain.{has_open_bank}
+use Rattle.drain_core.proofs.OneCommand.{has_open_bank-true, has_open_bank-false}
+
+-- a PREA may go exactly where a bank is open
+pub tells_open_bank : (c : Checked) (list : List Stamped) (rank : ℕ) (result : Option ℕ) → rank < c.geometry.ranks → AreAwake c list → IsEarliest c list (PreAll rank) result → is_some result ≡ has_open_bank c.geometry rank list
+tells_open_bank c list rank None within awake e =
+    elim (cases_Bool (has_open_bank c.geometry rank list)) [
+      | inl some ↦ absurd (e.0 (record { place = within; awake = awake rank within; rows = has_open_bank-true c.geometry rank list some }))
+      | inr none ↦ sym none
+    ]
+tells_open_bank c list rank (Some clock) within awake e =
+    elim (cases_Bool (has_open_bank c.geometry rank list)) [
+      | inl some ↦ sym some
+      | inr none ↦ absurd (e.0.rows (has_open_bank-false c.geometry rank list none))
+    ]
+
+-- an SRE may go where none is
+pub no_sleep : (c : Checked) (list : List Stamped) (rank : ℕ) → rank < c.geometry.ranks → AreAwake c list → AllClosed c.geometry rank list → IsEarliest c list (Sre rank) None → ⊥
+no_sleep c list rank within awake closed e = e.0 (record { place = within; awake = awake rank within; rows = closed })

@@ -1,0 +1,74 @@
+-- The places of a channel's pending writes.
+use Rattle.std.proofs.Common.{◌≡◌, ℕ, zero, suc, List, [], ◌∷◌, length, map, slice_get, get_or, Some, None, arith, refl, sym, ap, subst, ◌∙◌}
+use Rattle.std.specs.List.{All, filter_map, cons_option}
+use Rattle.std.proofs.lemmas.List.{length-map}
+use Rattle.std.proofs.lemmas.Option.{slice_get-get_or}
+use Rattle.ddr4_timing.specs.declared.place.Place.{Place}
+use Rattle.ddr4_timing.specs.declared.timing.Geometry.{Geometry}
+use Rattle.ddr4_timing.specs.Places.{LiesIn}
+use Rattle.frfcfs.specs.declared.pending.Kind.{Kind}
+use Rattle.frfcfs.specs.declared.pending.Kind.TheVariants.{Read, Write}
+use Rattle.frfcfs.specs.declared.pending.Pending.{Pending}
+use Rattle.frfcfs.proofs.Lists.{All-at}
+use Rattle.chan_core.specs.Always.{IsHeld}
+use Rattle.chan_core.specs.Contents.{IsRightRequest, queued_key, write_key, write_of}
+use Rattle.chan_core.specs.State.{ChannelState, placed, placed_write, placed_writes}
+use Rattle.drain_core.specs.Steps.{pending_places}
+
+-- each lies in the geometry
+
+placed_head : (g : Geometry) (kind : Kind) (number : ℕ) (place : Place) (rest : List (ℕ × Place)) → LiesIn g place → ((j : ℕ) (w : ℕ × Place) → slice_get rest j ≡ Some w → LiesIn g w.1) →
+    (j : ℕ) (w : ℕ × Place) → slice_get (cons_option (placed kind (number, place)) rest) j ≡ Some w → LiesIn g w.1
+placed_head g Write number place rest here there zero w e = let same : (number, place) ≡ w = cc in subst (λ (w : ℕ × Place). LiesIn g w.1) same here
+placed_head g Write number place rest here there (suc j) w e = there j w e
+placed_head g Read number place rest here there j w e = there j w e
+
+placed_lies : (g : Geometry) (requests : List Pending) → ((i : ℕ) (p : Pending) → slice_get requests i ≡ Some p → LiesIn g p.place) → (j : ℕ) (w : ℕ × Place) → slice_get (filter_map placed_write requests) j ≡ Some w → LiesIn g w.1
+placed_lies g [] lie j w e = absurd cc
+placed_lies g (p ∷ requests) lie j w e = placed_head g p.kind p.number p.place (filter_map placed_write requests) (lie zero p refl) (placed_lies g requests (λ i q at. lie (suc i) q at)) j w e
+
+pub pending_lies : (s : ChannelState) (j : ℕ) (w : ℕ × Place) → IsHeld s → slice_get (placed_writes s) j ≡ Some w → LiesIn s.checked.geometry w.1
+pending_lies s j w held e = placed_lies s.checked.geometry s.requests (λ i p at. (All-at (IsRightRequest s.checked.geometry s.channel s.hold) s.requests i p held.right at).lies) j w e
+
+map_at : {X Y : Type 0} (f : X → Y) (xs : List X) (k : ℕ) (y : Y) → slice_get (map f xs) k ≡ Some y → (x : X) × (slice_get xs k ≡ Some x) × (f x ≡ y)
+map_at f [] k y e = absurd cc
+map_at f (x ∷ xs) zero y e = (x, refl, cc)
+map_at f (x ∷ xs) (suc k) y e = map_at f xs k y e
+
+pub all_lie : (s : ChannelState) → IsHeld s → All (LiesIn s.checked.geometry) (pending_places s)
+all_lie s held k d within =
+    let at = map_at (λ (w : ℕ × Place). w.1) (placed_writes s) k (get_or (pending_places s) k d) (slice_get-get_or (pending_places s) k d within) in
+    subst (LiesIn s.checked.geometry) at.2 (pending_lies s k at.0 held at.1)
+
+-- there are as many as writes
+
+as_long : (kind : Kind) (key : ℕ × ℕ) (w : ℕ × Place) (keys : List (ℕ × ℕ)) (ws : List (ℕ × Place)) → length ws ≡ length keys → length (cons_option (placed kind w) ws) ≡ length (cons_option (write_of kind key.0 key.1) keys)
+as_long Write key w keys ws e = ap suc e
+as_long Read key w keys ws e = e
+
+as_many : (requests : List Pending) → length (filter_map placed_write requests) ≡ length (filter_map write_key requests)
+as_many [] = refl
+as_many (p ∷ requests) = as_long p.kind (p.number, p.line) (p.number, p.place) (filter_map write_key requests) (filter_map placed_write requests) (as_many requests)
+
+pub placed_length : (s : ChannelState) → IsHeld s → length (placed_writes s) ≡ length s.writes
+placed_length s held = as_many s.requests ∙ ap length held.queued ∙ length-map s.writes queued_key
+
+pub places_length : (s : ChannelState) → IsHeld s → length (pending_places s) ≡ length s.writes
+places_length s held = length-map (placed_writes s) (λ (w : ℕ × Place). w.1) ∙ placed_length s held
+
+-- the oldest
+
+nothing : {X : Type 0} (xs : List X) → length xs ≡ 0 → xs ≡ []
+nothing [] e = refl
+nothing (x ∷ xs) e = absurd (omega (arith, e))
+
+no_oldest : {X : Type 0} (xs : List X) → slice_get xs 0 ≡ None → length xs ≡ 0
+no_oldest [] e = refl
+no_oldest (x ∷ xs) e = absurd cc
+
+pub none_pending : (s : ChannelState) → IsHeld s → slice_get (placed_writes s) 0 ≡ None → s.writes ≡ []
+none_pending s held e = nothing s.writes (sym (placed_length s held) ∙ no_oldest (placed_writes s) e)
+
+pub first_and_rest : {X : Type 0} (xs : List X) (x : X) → slice_get xs 0 ≡ Some x → (rest : List X) × (xs ≡ x ∷ rest)
+first_and_rest [] x e = absurd cc
+first_and_rest (y ∷ xs) x e = (xs, let same : y ≡ x = cc in ap (λ z. z ∷ xs) same)

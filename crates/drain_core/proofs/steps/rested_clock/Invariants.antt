@@ -1,0 +1,13 @@
+use Rattle.std.proofs.Common.{ℕ, ◌≤◌, ◌<◌}
+use Rattle.std.specs.Prelude.{max}
+use Rattle.ddr4_timing.specs.declared.command.Command.TheVariants.{Sre}
+use Rattle.ddr4_timing.specs.Floors.{floor}
+use Rattle.drain_core.specs.Drain.{rest_clock}
+use Rattle.drain_core.proofs.steps.rested_clock.Given as goal
+
+abbrev pub invariant-loop-rank : goal.invariant-loop-rank
+invariant-loop-rank l = record {
+  from : l.clock ≤ l.rested;
+  most : l.rested ≤ max l.clock (rest_clock l.channel.checked.timing l.channel.commands);
+  least : (rank : ℕ) → rank < l.rank → floor l.channel.checked.timing l.channel.commands (Sre rank) ≤ l.rested;
+}

@@ -1,0 +1,11 @@
+use Rattle.std.proofs.Common.{◌≤◌, ◌<◌, ◌*◌}
+use Rattle.drain_core.specs.Steps.{GoesTo, IsStepped}
+use Rattle.drain_core.proofs.SleepingChannel.{sleeping_of}
+use Rattle.drain_core.proofs.steps.self_refresh.Given as goal
+
+abbrev pub invariant-loop-rank : goal.invariant-loop-rank
+invariant-loop-rank l = record {
+  goes : GoesTo l.numbers (sleeping_of l.fn.channel l.clock l.rank) 0 l.fn.channel l.channel l.end;
+  cost : l.end.cost ≤ l.rank * 1000000;
+  stepped : 0 < l.rank → IsStepped l.channel;
+}
