@@ -86,27 +86,46 @@ fn a_stop_leaves_the_old_image_or_the_new_one(rt: HostRuntime) -> Result<(), Fai
 
 #[test]
 fn a_stop_over_a_gate_that_is_not_known_closed(rt: HostRuntime) -> Result<(), Fail> {
-    for pick in PICKS {
-        for calls in 0..9 {
-            let mut fuse = Fuse::new(formatted(rt.alloc())?, 0);
-            let (newest, closed) = save_in_part(&mut fuse, 8, CLOSED_FIRST, true, 0x11);
-            assert!(rt; !closed);
-            save_in_part(&mut fuse, calls, newest, closed, 0x22);
-            let is_new = calls == 8
-                || calls == 7 && (pick == Pick::New || pick == Pick::Torn(0xa5));
-            let expected = if is_new { (3, 0x22) } else { (2, 0x11) };
-            assert_eq!(rt;
-                after_a_stop(rt.alloc(), fuse, pick),
-                expected,
-                "after {calls} calls"
-            );
+    for byte in [0x22, 0xa2] {
+        for pick in PICKS {
+            for calls in 0..9 {
+                let mut fuse = Fuse::new(formatted(rt.alloc())?, 0);
+                let (newest, closed) = save_in_part(&mut fuse, 8, CLOSED_FIRST, true, 0x11);
+                assert!(rt; !closed);
+                save_in_part(&mut fuse, calls, newest, closed, byte);
+                let is_new = calls == 8
+                    || calls == 7 && (pick == Pick::New || pick == Pick::Torn(0xa5));
+                let expected = if is_new { (3, byte) } else { (2, 0x11) };
+                assert_eq!(rt;
+                    after_a_stop(rt.alloc(), fuse, pick),
+                    expected,
+                    "after {calls} calls"
+                );
+            }
         }
     }
     Ok(())
 }
 
-// What a stop may leave in the second save after one that failed: the old image or the second new one, and until its gate
-// is settled closed the first new one too, where its opening was tried.
+// An armed save tells of writes that may come after it, and a clear one of none.
+#[test]
+fn verdicts_of_saves(rt: HostRuntime) -> Result<(), Fail> {
+    for (byte, verdict) in [
+        (0x11, Verdict::Complete),
+        (0x91, Verdict::PossibleLoss { after: 1 }),
+    ] {
+        for pick in PICKS {
+            let mut fuse = Fuse::new(formatted(rt.alloc())?, 0);
+            save_in_part(&mut fuse, 8, CLOSED_FIRST, true, byte);
+            fuse.device.stop(pick);
+            assert_eq!(rt; told(rt.alloc(), &mut fuse.device), Ok((2, verdict)));
+        }
+    }
+    Ok(())
+}
+
+// What a stop may leave in the second save, an armed one, after one that failed: the old image or the second new one, and
+// until its gate is settled closed the first new one too, where its opening was tried.
 #[test]
 fn a_stop_after_a_failed_save(rt: HostRuntime) -> Result<(), Fail> {
     for pick in PICKS {
@@ -116,11 +135,11 @@ fn a_stop_after_a_failed_save(rt: HostRuntime) -> Result<(), Fail> {
                 let (newest, closed) = save_in_part(&mut fuse, first, CLOSED_FIRST, true, 0x11);
                 assert_eq!(rt; newest, CLOSED_FIRST);
                 assert_eq!(rt; closed, first < 6);
-                save_in_part(&mut fuse, second, newest, closed, 0x22);
+                save_in_part(&mut fuse, second, newest, closed, 0xa2);
                 let found = after_a_stop(rt.alloc(), fuse, pick);
                 let is_old = found == (1, 0) && second < 8;
                 let is_first = found == (2, 0x11) && first > 5 && second < 2;
-                let is_second = found == (2, 0x22) && second > 6;
+                let is_second = found == (2, 0xa2) && second > 6;
                 assert!(rt;
                     is_old || is_first || is_second,
                     "after {first} and {second} calls"
