@@ -5,6 +5,7 @@ mod arming;
 mod closing;
 mod events;
 mod losing;
+mod marks;
 mod module;
 mod opening;
 mod running;

@@ -65,28 +65,6 @@ impl<C: Channels> Module<C> {
     ghost use Rattle.module_core.specs.Moves.{begun, disarming};
     ghost use Rattle.module_core.specs.Stands.{Matches, Follows, FollowsReading, Answers, AnswersAlone, IsChannel, setup_of};
 
-    /// The number of writes accepted, counted from the first life on.
-    pub fn accepted(&self) -> u64
-        ensures is { result ≡ self.now.accepted }
-        ensures fits { result ≤ 2 ^ 62 }
-    {
-        self.accepted
-    }
-
-    /// The number of writes that are persistent: those with a smaller number are.
-    pub fn mark(&self) -> u64
-        ensures { result ≡ self.now.persisted }
-    {
-        self.persisted
-    }
-
-    /// What the module does with writes.
-    pub fn mode(&self) -> Mode
-        ensures { result ≡ self.now.mode }
-    {
-        self.mode
-    }
-
     // What the gauge has to show while this many writes wait.
     pub(crate) fn need_for(&self, pending: u64) -> u64
         requires { pending ≤ 1024 }

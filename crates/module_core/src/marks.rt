@@ -1,0 +1,30 @@
+// What a module says of itself.
+ghost use Rattle.std.specs.Prelude.{◌≡◌, ◌≤◌, ◌^◌};
+
+use crate::Module;
+use arm_state::Mode;
+use line_channels::Channels;
+
+impl<C: Channels> Module<C> {
+    /// The number of writes accepted, counted from the first life on.
+    pub fn accepted(&self) -> u64
+        ensures is { result ≡ self.now.accepted }
+        ensures fits { result ≤ 2 ^ 62 }
+    {
+        self.accepted
+    }
+
+    /// The number of writes that are persistent: those with a smaller number are.
+    pub fn mark(&self) -> u64
+        ensures { result ≡ self.now.persisted }
+    {
+        self.persisted
+    }
+
+    /// What the module does with writes.
+    pub fn mode(&self) -> Mode
+        ensures { result ≡ self.now.mode }
+    {
+        self.mode
+    }
+}
