@@ -1,0 +1,2 @@
+pub mod SeenMarks
+pub mod MarkRule
