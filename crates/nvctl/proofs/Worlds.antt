@@ -20,13 +20,13 @@ use Rattle.nvctl.specs.declared.plain.Reply.{Reply}
 use Rattle.nvctl.specs.declared.plain.Reply.TheVariants as replies
 use Rattle.nvctl.specs.declared.plain.CurrentLife.{CurrentLife}
 use Rattle.nvctl.specs.declared.plain.TheConstants.{LINES, TRAIL}
-use Rattle.nvctl.specs.Machine.{World, Life, MachineStep, Run, Accepts, tells_fault, all_of, life_memory, saved_image, store_of, ended, world_on}
+use Rattle.nvctl.specs.Machine.{PlainWorld, PlainLife, PlainStep, Run, AcceptsWrite, tells_fault, accepted_of, life_memory, saved_image, store_of, ended, world_on}
 use Rattle.nvctl.specs.declared.plain.Plain.{Plain}
-use Rattle.nvctl.specs.Plain.{RunsAs, RestsInLife, StandsAs}
+use Rattle.nvctl.specs.Plain.{RunsCurrent, RestsInLife, StandsAs}
 
 -- a restore that was refused, with no fault
-pub refused_step : (e : RestoreError) (outcome : Outcome) (world : World) → Refuses e outcome → is_fault {T = Restored} (Err e) ≡ false → world.store ≡ store_of outcome
-    → MachineStep world events.Restore (replies.RestoreRefused e) (ended world)
+pub refused_step : (e : RestoreError) (outcome : Outcome) (world : PlainWorld) → Refuses e outcome → is_fault {T = Restored} (Err e) ≡ false → world.store ≡ store_of outcome
+    → PlainStep world events.Restore (replies.RestoreRefused e) (ended world)
 refused_step errors.NoImage outcome world is fine stored = (stored ∙ ap store_of is, refl)
 refused_step (errors.Damaged slot) outcome world is fine stored = (stored ∙ ap store_of is, refl)
 refused_step errors.WrongSize outcome world is fine stored = (stored ∙ ap store_of is, refl)
@@ -47,7 +47,7 @@ no_fault true before after counted same = absurd (omega (arith, counted, same))
 no_fault false before after counted same = refl
 
 -- the image that a save makes of a life's memory
-pub saved_is : (newest : Newest) (count : ℕ) (memory : List (List ℕ)) (image : Image) (life : Life) → newest.generation ≡ image.generation → count ≡ all_of life → memory ≡ life_memory life
+pub saved_is : (newest : Newest) (count : ℕ) (memory : List (List ℕ)) (image : Image) (life : PlainLife) → newest.generation ≡ image.generation → count ≡ accepted_of life → memory ≡ life_memory life
     → made_over newest count false memory ≡ saved_image image life
 saved_is newest count memory image life generation counts is = let rises : newest.generation + 1 ≡ image.generation + 1 = ap (λ (n : ℕ). n + 1) generation in cc (rises, counts, is)
 
@@ -58,17 +58,17 @@ ready candidates image newest closed memory state size generation rest =
     record { rest = subst (λ (lines : ℕ). IsAtRest candidates image newest.slot lines closed state) (sym size) rest; generation = generation }
 
 -- a write that is accepted
-pub accepts : (o : Option CurrentLife) (current : CurrentLife) (lines : List (List ℕ)) (writes : List Write) (world : World) (w : Write) (number : ℕ) → o ≡ Some current → RunsAs o lines writes world
+pub accepts : (o : Option CurrentLife) (current : CurrentLife) (lines : List (List ℕ)) (writes : List Write) (world : PlainWorld) (w : Write) (number : ℕ) → o ≡ Some current → RunsCurrent o lines writes world
     → w.line < LINES → (length writes ≡ TRAIL → ⊥) → (number ≡ 2 ^ 62 → ⊥) → number ≡ current.start + length writes
-    → (next : World) × Accepts world w number current.persisted next × RunsAs o (slice_set lines w.line w.«data») (writes ++ w ∷ []) next × (next.store ≡ world.store)
+    → (next : PlainWorld) × AcceptsWrite world w number current.persisted next × RunsCurrent o (slice_set lines w.line w.«data») (writes ++ w ∷ []) next × (next.store ≡ world.store)
 accepts None current lines writes world w number is runs there room below counts = absurd (let bad : ⊥ = cc in bad)
 accepts (Some it) current lines writes world w number is runs there room below counts =
     let same : it ≡ current = cc in
-    let life : Life = runs.0 in let at = runs.2 in
-    let grown : Life = record { base = life.base; start = life.start; writes = life.writes ++ w ∷ []; persisted = life.persisted } in
+    let life : PlainLife = runs.0 in let at = runs.2 in
+    let grown : PlainLife = record { base = life.base; start = life.start; writes = life.writes ++ w ∷ []; persisted = life.persisted } in
     let count : length writes ≡ length life.writes = ap length at.accepted in
     let start : current.start ≡ life.start = ap (λ (x : CurrentLife). x.start) (sym same) ∙ at.start in
-    let number_is : number ≡ all_of life = omega (arith, counts, start, count) in (
+    let number_is : number ≡ accepted_of life = omega (arith, counts, start, count) in (
       record { store = world.store; life = Some grown },
       record {
         life = life;
@@ -93,16 +93,16 @@ accepts (Some it) current lines writes world w number is runs there room below c
     )
 
 -- a run goes on by a step
-pub Run-push : (old : World) (events : List PlainEvent) (replies : List Reply) (mid : World) (event : PlainEvent) (reply : Reply) (new : World)
-    → Run old events replies mid → MachineStep mid event reply new → Run old (events ++ event ∷ []) (replies ++ reply ∷ []) new
-Run-push old [] [] mid event reply new run step = (new, subst (λ (w : World). MachineStep w event reply new) run step, refl)
+pub Run-push : (old : PlainWorld) (events : List PlainEvent) (replies : List Reply) (mid : PlainWorld) (event : PlainEvent) (reply : Reply) (new : PlainWorld)
+    → Run old events replies mid → PlainStep mid event reply new → Run old (events ++ event ∷ []) (replies ++ reply ∷ []) new
+Run-push old [] [] mid event reply new run step = (new, subst (λ (w : PlainWorld). PlainStep w event reply new) run step, refl)
 Run-push old (e ∷ events) (r ∷ replies) mid event reply new run step = (run.0, run.1, Run-push run.0 events replies mid event reply new run.2 step)
 Run-push old [] (r ∷ replies) mid event reply new run step = absurd run
 Run-push old (e ∷ events) [] mid event reply new run step = absurd run
 
 -- a run goes on by the next of the events
-pub Run-next : (old : World) (all : List PlainEvent) (i : ℕ) (replies : List Reply) (mid : World) (d : PlainEvent) (reply : Reply) (new : World)
-    → i < length all → Run old (take i all) replies mid → MachineStep mid (get_or all i d) reply new → Run old (take (i + 1) all) (replies ++ reply ∷ []) new
+pub Run-next : (old : PlainWorld) (all : List PlainEvent) (i : ℕ) (replies : List Reply) (mid : PlainWorld) (d : PlainEvent) (reply : Reply) (new : PlainWorld)
+    → i < length all → Run old (take i all) replies mid → PlainStep mid (get_or all i d) reply new → Run old (take (i + 1) all) (replies ++ reply ∷ []) new
 Run-next old all i replies mid d reply new less run step =
     subst (λ (events : List PlainEvent). Run old events (replies ++ reply ∷ []) new) (sym (take_more all i d less)) (Run-push old (take i all) replies mid (get_or all i d) reply new run step)
 
@@ -110,6 +110,6 @@ Run-next old all i replies mid d reply new less run step =
 pub opening : (state : DeviceState) (plain : Plain) → plain.life ≡ None → StandsAs plain state (world_on state.bytes)
 opening state plain none = record {
   store = refl;
-  life = subst (λ (o : Option CurrentLife). RunsAs o plain.lines.items plain.writes.items (world_on state.bytes)) (sym none) refl;
+  life = subst (λ (o : Option CurrentLife). RunsCurrent o plain.lines.items plain.writes.items (world_on state.bytes)) (sym none) refl;
   rests = subst (λ (o : Option CurrentLife). RestsInLife o state (world_on state.bytes).store) (sym none) tt;
 }

@@ -18,76 +18,76 @@ use Rattle.nvctl.specs.declared.plain.Reply.TheVariants as replies
 use Rattle.nvctl.specs.declared.plain.TheConstants.{LINES, TRAIL}
 
 -- what a restore would find: an image, or why there is none
-pub data Store : Type 0 where
-  Restorable : Image → Store
-  Unrestorable : RestoreError → Store
+pub data PlainStore : Type 0 where
+  Restorable : Image → PlainStore
+  Unrestorable : RestoreError → PlainStore
 
 -- a life: the memory that it began with, the number of writes that this memory is after, the writes accepted since, and
 -- how many writes of all are persistent
-pub record Life : Type 0 where
+pub record PlainLife : Type 0 where
   pub base : List (List ℕ)
   pub start : ℕ
   pub writes : List Write
   pub persisted : ℕ
 
-pub record World : Type 0 where
-  pub store : Store
-  pub life : Option Life
+pub record PlainWorld : Type 0 where
+  pub store : PlainStore
+  pub life : Option PlainLife
 
 -- the number of writes accepted, counted from the first life on
-abbrev pub all_of : Life → ℕ
-all_of life = life.start + length life.writes
+abbrev pub accepted_of : PlainLife → ℕ
+accepted_of life = life.start + length life.writes
 
 -- the memory after all accepted writes
-abbrev pub life_memory : Life → List (List ℕ)
+abbrev pub life_memory : PlainLife → List (List ℕ)
 life_memory life = after life.base life.writes
 
 -- a life that begins with an image
-abbrev pub life_from : Image → Life
+abbrev pub life_from : Image → PlainLife
 life_from image = record { base = image.memory; start = image.count; writes = []; persisted = image.count }
 
 -- the image that a save makes of a life over the newest image
-abbrev pub saved_image : Image → Life → Image
-saved_image newest life = record { generation = newest.generation + 1; count = all_of life; arm = 0; memory = life_memory life }
+abbrev pub saved_image : Image → PlainLife → Image
+saved_image newest life = record { generation = newest.generation + 1; count = accepted_of life; arm = 0; memory = life_memory life }
 
 -- the life that a restore of the first `count` of its writes begins
-abbrev pub life_saved : Life → ℕ → Life
+abbrev pub life_saved : PlainLife → ℕ → PlainLife
 life_saved life count = record { base = memory_at life.base life.start life.writes count; start = count; writes = []; persisted = count }
 
 -- no further write is accepted
-abbrev pub IsFull : Life → Type 0
-IsFull life = (length life.writes ≡ TRAIL) ⊎ (all_of life ≡ 2 ^ 62)
+abbrev pub IsFull : PlainLife → Type 0
+IsFull life = (length life.writes ≡ TRAIL) ⊎ (accepted_of life ≡ 2 ^ 62)
 
 -- a write is accepted, with its number and the number of persistent writes
-pub record Accepts (old : World) (accepted : Write) (number mark : ℕ) (new : World) : Type 0 where
-  pub life : Life
+pub record AcceptsWrite (old : PlainWorld) (accepted : Write) (number mark : ℕ) (new : PlainWorld) : Type 0 where
+  pub life : PlainLife
   pub runs : old.life ≡ Some life
   pub there : accepted.line < LINES
   pub room : ¬ IsFull life
-  pub number_is : number ≡ all_of life
+  pub number_is : number ≡ accepted_of life
   pub mark_is : mark ≡ life.persisted
   pub grows : new ≡ record { store = old.store; life = Some (record { base = life.base; start = life.start; writes = life.writes ++ accepted ∷ []; persisted = life.persisted }) }
 
 -- a read gives its line of the memory after all accepted writes
-pub record ReadsLine (old : World) (line : ℕ) (bytes : List ℕ) (new : World) : Type 0 where
-  pub life : Life
+pub record ReadsLine (old : PlainWorld) (line : ℕ) (bytes : List ℕ) (new : PlainWorld) : Type 0 where
+  pub life : PlainLife
   pub runs : old.life ≡ Some life
   pub is : slice_get (life_memory life) line ≡ Some bytes
   pub same : new ≡ old
 
 -- a save makes the newest image of the memory after all accepted writes, all of which are persistent then
-pub record Saves (old : World) (generation count : ℕ) (new : World) : Type 0 where
-  pub life : Life
+pub record Saves (old : PlainWorld) (generation count : ℕ) (new : PlainWorld) : Type 0 where
+  pub life : PlainLife
   pub newest : Image
   pub runs : old.life ≡ Some life
   pub over : old.store ≡ Restorable newest
   pub unspent : newest.generation < 2 ^ 62
   pub generation_is : generation ≡ newest.generation + 1
-  pub count_is : count ≡ all_of life
-  pub saved : new ≡ record { store = Restorable (saved_image newest life); life = Some (record { base = life.base; start = life.start; writes = life.writes; persisted = all_of life }) }
+  pub count_is : count ≡ accepted_of life
+  pub saved : new ≡ record { store = Restorable (saved_image newest life); life = Some (record { base = life.base; start = life.start; writes = life.writes; persisted = accepted_of life }) }
 
 -- a restore finds the newest image and begins a life with it
-pub record Restores (old : World) (generation count : ℕ) (verdict : Verdict) (new : World) : Type 0 where
+pub record Restores (old : PlainWorld) (generation count : ℕ) (verdict : Verdict) (new : PlainWorld) : Type 0 where
   pub image : Image
   pub finds : old.store ≡ Restorable image
   pub generation_is : generation ≡ image.generation
@@ -96,31 +96,31 @@ pub record Restores (old : World) (generation count : ℕ) (verdict : Verdict) (
   pub begins : new ≡ record { store = old.store; life = Some (life_from image) }
 
 -- the world without a life
-abbrev pub ended : World → World
+abbrev pub ended : PlainWorld → PlainWorld
 ended old = record { store = old.store; life = None }
 
 -- a life runs, and this holds of it
-abbrev pub InLife : World → (Life → Type 0) → Type 0
-InLife old P = (life : Life) × (old.life ≡ Some life) × P life
+abbrev pub InLife : PlainWorld → (PlainLife → Type 0) → Type 0
+InLife old P = (life : PlainLife) × (old.life ≡ Some life) × P life
 
 -- From old, the machine may give this reply to the event and go on to new. No other reply is given.
-abbrev pub MachineStep : World → PlainEvent → Reply → World → Type 0
-MachineStep old events.Format replies.Formatted new = new ≡ record { store = Restorable (first_image LINES); life = Some (life_from (first_image LINES)) }
-MachineStep old (events.Write w) (replies.Accepted number mark) new = Accepts old w number mark new
-MachineStep old (events.Write w) (replies.WriteRefused write.NoSuchLine) new = (LINES ≤ w.line) × (new ≡ old)
-MachineStep old (events.Write w) (replies.WriteRefused write.Closed) new = (w.line < LINES) × (old.life ≡ None) × (new ≡ old)
-MachineStep old (events.Write w) (replies.WriteRefused write.TrailFull) new = (w.line < LINES) × InLife old IsFull × (new ≡ old)
-MachineStep old (events.Read line) (replies.Content told bytes) new = (told ≡ line) × ReadsLine old line bytes new
-MachineStep old (events.Read line) (replies.ReadRefused read.NoSuchLine) new = (LINES ≤ line) × (new ≡ old)
-MachineStep old (events.Read line) (replies.ReadRefused read.Closed) new = (line < LINES) × (old.life ≡ None) × (new ≡ old)
-MachineStep old events.Save (replies.Saved generation count) new = Saves old generation count new
-MachineStep old events.Save (replies.SaveRefused save.Closed) new = (old.life ≡ None) × (new ≡ old)
-MachineStep old events.Save (replies.SaveRefused save.Spent) new = (newest : Image) × InLife old (λ life. 2 ^ 62 ≤ newest.generation) × (old.store ≡ Restorable newest) × (new ≡ old)
-MachineStep old events.Restore (replies.Restored generation count verdict) new = Restores old generation count verdict new
-MachineStep old events.Restore (replies.RestoreRefused errors.Memory) new = new ≡ ended old
-MachineStep old events.Restore (replies.RestoreRefused errors.Device) new = ⊥
-MachineStep old events.Restore (replies.RestoreRefused error) new = (old.store ≡ Unrestorable error) × (new ≡ ended old)
-MachineStep old event reply new = ⊥
+abbrev pub PlainStep : PlainWorld → PlainEvent → Reply → PlainWorld → Type 0
+PlainStep old events.Format replies.Formatted new = new ≡ record { store = Restorable (first_image LINES); life = Some (life_from (first_image LINES)) }
+PlainStep old (events.Write w) (replies.Accepted number mark) new = AcceptsWrite old w number mark new
+PlainStep old (events.Write w) (replies.WriteRefused write.NoSuchLine) new = (LINES ≤ w.line) × (new ≡ old)
+PlainStep old (events.Write w) (replies.WriteRefused write.Closed) new = (w.line < LINES) × (old.life ≡ None) × (new ≡ old)
+PlainStep old (events.Write w) (replies.WriteRefused write.TrailFull) new = (w.line < LINES) × InLife old IsFull × (new ≡ old)
+PlainStep old (events.Read line) (replies.Content told bytes) new = (told ≡ line) × ReadsLine old line bytes new
+PlainStep old (events.Read line) (replies.ReadRefused read.NoSuchLine) new = (LINES ≤ line) × (new ≡ old)
+PlainStep old (events.Read line) (replies.ReadRefused read.Closed) new = (line < LINES) × (old.life ≡ None) × (new ≡ old)
+PlainStep old events.Save (replies.Saved generation count) new = Saves old generation count new
+PlainStep old events.Save (replies.SaveRefused save.Closed) new = (old.life ≡ None) × (new ≡ old)
+PlainStep old events.Save (replies.SaveRefused save.Spent) new = (newest : Image) × InLife old (λ life. 2 ^ 62 ≤ newest.generation) × (old.store ≡ Restorable newest) × (new ≡ old)
+PlainStep old events.Restore (replies.Restored generation count verdict) new = Restores old generation count verdict new
+PlainStep old events.Restore (replies.RestoreRefused errors.Memory) new = new ≡ ended old
+PlainStep old events.Restore (replies.RestoreRefused errors.Device) new = ⊥
+PlainStep old events.Restore (replies.RestoreRefused error) new = (old.store ≡ Unrestorable error) × (new ≡ ended old)
+PlainStep old event reply new = ⊥
 
 -- this reply tells that a call of the device failed
 abbrev pub tells_fault : Reply → Bool
@@ -130,9 +130,9 @@ tells_fault (replies.RestoreRefused errors.Device) = true
 tells_fault reply = false
 
 -- the machine may give these replies to these events, one step after another
-abbrev pub Run : World → List PlainEvent → List Reply → World → Type 0
+abbrev pub Run : PlainWorld → List PlainEvent → List Reply → PlainWorld → Type 0
 Run old [] [] new = new ≡ old
-Run old (event ∷ events) (reply ∷ replies) new = (mid : World) × MachineStep old event reply mid × Run mid events replies new
+Run old (event ∷ events) (reply ∷ replies) new = (mid : PlainWorld) × PlainStep old event reply mid × Run mid events replies new
 Run old [] (reply ∷ replies) new = ⊥
 Run old (event ∷ events) [] new = ⊥
 
@@ -143,12 +143,12 @@ IsReadOrWrite (events.Read line) = ⊤
 IsReadOrWrite event = ⊥
 
 -- what a restore would find of these bytes, but for the slot
-abbrev pub store_of : Outcome → Store
+abbrev pub store_of : Outcome → PlainStore
 store_of WrongSize = Unrestorable errors.WrongSize
 store_of (Damaged slot) = Unrestorable (errors.Damaged slot)
 store_of NoImage = Unrestorable errors.NoImage
 store_of (Found slot image) = Restorable image
 
 -- before any event no life runs, and the bytes of the device say what a restore finds
-abbrev pub world_on : List ℕ → World
+abbrev pub world_on : List ℕ → PlainWorld
 world_on bytes = record { store = store_of (restored LINES bytes); life = None }

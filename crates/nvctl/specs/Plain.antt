@@ -11,31 +11,31 @@ use Rattle.nvctl.specs.declared.plain.Plain.{Plain}
 use Rattle.nvctl.specs.declared.plain.PlainEvent.{PlainEvent}
 use Rattle.nvctl.specs.declared.plain.Reply.{Reply}
 use Rattle.nvctl.specs.declared.plain.TheConstants.{LINES}
-use Rattle.nvctl.specs.Machine.{World, Life, Store, Restorable, MachineStep, tells_fault, store_of, life_memory}
+use Rattle.nvctl.specs.Machine.{PlainWorld, PlainLife, PlainStore, Restorable, PlainStep, tells_fault, store_of, life_memory}
 
 -- a life of the machine, by its numbers, its lines and its writes
-pub record IsLife (current : CurrentLife) (lines : List (List ℕ)) (writes : List Write) (life : Life) : Type 0 where
+pub record IsLife (current : CurrentLife) (lines : List (List ℕ)) (writes : List Write) (life : PlainLife) : Type 0 where
   pub start : current.start ≡ life.start
   pub persisted : current.persisted ≡ life.persisted
   pub accepted : writes ≡ life.writes
   pub memory : lines ≡ life_memory life
 
 -- the machine is in that life, or in none
-abbrev pub RunsAs : Option CurrentLife → List (List ℕ) → List Write → World → Type 0
-RunsAs None lines writes world = world.life ≡ None
-RunsAs (Some current) lines writes world = (life : Life) × (world.life ≡ Some life) × IsLife current lines writes life
+abbrev pub RunsCurrent : Option CurrentLife → List (List ℕ) → List Write → PlainWorld → Type 0
+RunsCurrent None lines writes world = world.life ≡ None
+RunsCurrent (Some current) lines writes world = (life : PlainLife) × (world.life ≡ Some life) × IsLife current lines writes life
 
-abbrev pub RunsLife : Plain → World → Type 0
-RunsLife plain world = RunsAs plain.life plain.lines.items plain.writes.items world
+abbrev pub RunsLife : Plain → PlainWorld → Type 0
+RunsLife plain world = RunsCurrent plain.life plain.lines.items plain.writes.items world
 
 -- the device in a life: it is at rest on the newest image
-pub record RestsOn (current : CurrentLife) (state : DeviceState) (store : Store) : Type 0 where
+pub record RestsOn (current : CurrentLife) (state : DeviceState) (store : PlainStore) : Type 0 where
   pub image : Image
   pub holds : store ≡ Restorable image
   pub generation : current.newest.generation ≡ image.generation
   pub rest : IsAtRestOn current.newest.slot image LINES current.closed state
 
-abbrev pub RestsInLife : Option CurrentLife → DeviceState → Store → Type 0
+abbrev pub RestsInLife : Option CurrentLife → DeviceState → PlainStore → Type 0
 RestsInLife None state store = ⊤
 RestsInLife (Some current) state store = RestsOn current state store
 
@@ -44,7 +44,7 @@ abbrev pub life_of : Restored → CurrentLife
 life_of r = record { start = r.count; persisted = r.count; newest = record { slot = r.slot; generation = r.generation }; closed = r.closed }
 
 -- the plain module and its device stand for this world
-pub record StandsAs (plain : Plain) (state : DeviceState) (world : World) : Type 0 where
+pub record StandsAs (plain : Plain) (state : DeviceState) (world : PlainWorld) : Type 0 where
   pub store : world.store ≡ store_of (restored LINES state.bytes)
   pub life : RunsLife plain world
   pub rests : RestsInLife plain.life state world.store
@@ -53,8 +53,8 @@ pub record StandsAs (plain : Plain) (state : DeviceState) (world : World) : Type
 -- stands after it.
 abbrev pub Moves : PlainEvent → Reply → Plain → DeviceState → Plain → DeviceState → Type 0
 Moves event reply old before new after =
-    faults_of after ≡ faults_of before → (world : World) → StandsAs old before world
-    → (next : World) × MachineStep world event reply next × StandsAs new after next
+    faults_of after ≡ faults_of before → (world : PlainWorld) → StandsAs old before world
+    → (next : PlainWorld) × PlainStep world event reply next × StandsAs new after next
 
 -- a call that failed is told, and only one fails
 abbrev pub TellsFaults : Reply → DeviceState → DeviceState → Type 0

@@ -2,7 +2,7 @@
 ghost use Rattle.std.specs.Prelude.{◌≡◌, ◌+◌, ◌<◌, ◌≤◌, ◌^◌, ℕ, List, [], ◌∷◌, ◌++◌, All, false, vec_capacity, length, count_by, Some, None, IfOk, OnErr};
 ghost use Rattle.std.specs.Option.{ForSome};
 ghost use Rattle.nvctl.specs.declared.plain.TheConstants.{LINES, TRAIL};
-ghost use Rattle.nvctl.specs.Machine.{World, Run, tells_fault, world_on, store_of, life_saved, InLife, IsReadOrWrite};
+ghost use Rattle.nvctl.specs.Machine.{PlainWorld, Run, tells_fault, world_on, store_of, life_saved, InLife, IsReadOrWrite};
 ghost use Rattle.slot_store.specs.declared.restoring.Verdict.{Verdict};
 ghost use Rattle.nvctl.specs.declared.plain.PlainEvent.{PlainEvent};
 ghost use Rattle.nvctl.specs.declared.plain.Reply.{Reply};
@@ -99,7 +99,7 @@ struct Plain {
 
 impl Plain {
     ghost use Rattle.nvctl.specs.declared.plain.PlainEvent.TheVariants as events;
-    ghost use Rattle.nvctl.specs.Machine.{MachineStep};
+    ghost use Rattle.nvctl.specs.Machine.{PlainStep};
     ghost use Rattle.nvctl.specs.Plain.{RunsLife, Moves, TellsFaults, IsSafe, life_of};
 
     // No life runs yet. All the memory that events but a restore need is reserved here.
@@ -144,8 +144,8 @@ impl Plain {
     }
 
     fn write(&mut self, write: Write) -> Reply
-        ensures step { (world : World) → RunsLife self.old world
-            → (next : World) × MachineStep world (events.Write write) result next
+        ensures step { (world : PlainWorld) → RunsLife self.old world
+            → (next : PlainWorld) × PlainStep world (events.Write write) result next
             × RunsLife self.new next × (next.store ≡ world.store) }
         ensures same { self.new.life ≡ self.old.life }
         ensures fine { tells_fault result ≡ false }
@@ -170,8 +170,8 @@ impl Plain {
     }
 
     fn read(&self, line: u64) -> Reply
-        ensures step { (world : World) → RunsLife self.now world
-            → MachineStep world (events.Read line) result world }
+        ensures step { (world : PlainWorld) → RunsLife self.now world
+            → PlainStep world (events.Read line) result world }
         ensures fine { tells_fault result ≡ false }
     {
         if line >= LINES as u64 {
@@ -299,7 +299,7 @@ pub fn run_plain<D: SaveDevice>(
     // bytes to what one finds of them then.
     ensures run { IfOk result (λ replies.
         faults_of (D.state device.new) ≡ faults_of (D.state device.old)
-        → (world : World) × Run (world_on (D.state device.old).bytes) events.now replies.items world
+        → (world : PlainWorld) × Run (world_on (D.state device.old).bytes) events.now replies.items world
         × (world.store ≡ store_of (restored LINES (D.state device.new).bytes))) }
 
     // Each call that failed is told by one reply, and no other reply tells a fault.
@@ -318,7 +318,7 @@ pub fn run_plain<D: SaveDevice>(
 /// A restore after a save, whatever reads and writes stand between them, is Complete, with the save's generation and its
 /// count n, and the life that it begins has the memory after the first n of all writes.
 pub fn restore_after_save()
-    ensures { (old new : World) (between : List PlainEvent) (replies : List Reply)
+    ensures { (old new : PlainWorld) (between : List PlainEvent) (replies : List Reply)
         (generation count found held : ℕ) (verdict : Verdict) → All IsReadOrWrite between
         → Run old (PlainEvent.Save ∷ between ++ PlainEvent.Restore ∷ [])
         (Reply.Saved generation count ∷ replies ++ Reply.Restored found held verdict ∷ []) new

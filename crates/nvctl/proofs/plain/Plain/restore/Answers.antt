@@ -7,8 +7,8 @@ use Rattle.slot_store.specs.Told.{image_of_restored}
 use Rattle.slot_store.proofs.RestoreCalls.{faults_of_restore}
 use Rattle.nvctl.specs.declared.plain.CurrentLife.{CurrentLife}
 use Rattle.nvctl.specs.declared.plain.TheConstants.{LINES}
-use Rattle.nvctl.specs.Machine.{World, store_of, life_from, ended}
-use Rattle.nvctl.specs.Plain.{RunsAs, RestsInLife, IsSafe}
+use Rattle.nvctl.specs.Machine.{PlainWorld, store_of, life_from, ended}
+use Rattle.nvctl.specs.Plain.{RunsCurrent, RestsInLife, IsSafe}
 use Rattle.nvctl.proofs.Worlds.{refused_step, tells_refused, no_fault}
 use Rattle.nvctl.proofs.plain.Plain.restore.Goals as goal
 
@@ -27,12 +27,12 @@ returns-in-Err-clause-faults g c =
 pub returns-clause-moves : goal.returns-clause-moves
 returns-clause-moves g c = λ same world stands.
     let S = g.D.SaveDevice in let r = c.in-Ok.restored in let found = c.in-Ok.ensures.found in let image = image_of_restored r found.arm in
-    let next : World = record { store = world.store; life = Some (life_from image) } in (
+    let next : PlainWorld = record { store = world.store; life = Some (life_from image) } in (
       next,
       record { image = image; finds = stands.store ∙ ap store_of found.newest; generation_is = refl; count_is = refl; verdict_is = found.judged; begins = refl },
       record {
         store = stands.store ∙ ap (λ (bytes : List ℕ). store_of (restored LINES bytes)) (sym c.restore.ensures.same);
-        life = subst (λ (o : Option CurrentLife). RunsAs o c.begin.new.self.lines.items c.begin.new.self.writes.items next) (sym c.begin.ensures.life)
+        life = subst (λ (o : Option CurrentLife). RunsCurrent o c.begin.new.self.lines.items c.begin.new.self.writes.items next) (sym c.begin.ensures.life)
             (life_from image, refl, record { start = refl; persisted = refl; accepted = c.begin.ensures.writes; memory = c.begin.ensures.lines });
         rests = subst (λ (o : Option CurrentLife). RestsInLife o (S.state c.restore.new.device) world.store) (sym c.begin.ensures.life)
             (record { image = image; holds = stands.store ∙ ap store_of found.newest; generation = refl; rest = c.in-Ok.ensures.at_rest image found.newest });

@@ -10,8 +10,8 @@ use Rattle.slot_store.specs.Whole.{made_over}
 use Rattle.slot_store.proofs.Resting.{rest_only}
 use Rattle.nvctl.specs.declared.plain.CurrentLife.{CurrentLife}
 use Rattle.nvctl.specs.declared.plain.TheConstants.{LINES}
-use Rattle.nvctl.specs.Machine.{Life, Restorable, store_of, saved_image, all_of}
-use Rattle.nvctl.specs.Plain.{RunsAs, RestsInLife, RestsOn, IsSafe, IsSafeIn}
+use Rattle.nvctl.specs.Machine.{PlainLife, Restorable, store_of, saved_image, accepted_of}
+use Rattle.nvctl.specs.Plain.{RunsCurrent, RestsInLife, RestsOn, IsSafe, IsSafeIn}
 use Rattle.nvctl.proofs.Worlds.{saved_is, ready}
 use Rattle.nvctl.proofs.plain.Plain.save.Goals as goal
 
@@ -19,11 +19,11 @@ pub returns-in-Ok-clause-moves : goal.returns-in-Ok-clause-moves
 returns-in-Ok-clause-moves g c = λ same world stands.
     let S = g.D.SaveDevice in let old = c.args.self.now in let current : CurrentLife = c.in-Some.life in let next = c.in-Ok.newest in
     let before : DeviceState = S.state c.args.device.now in let after : DeviceState = S.state c.save.new.device in
-    let runs : RunsAs (Some current) old.lines.items old.writes.items world = subst (λ (o : Option CurrentLife). RunsAs o old.lines.items old.writes.items world) c.in-Some.is stands.life in
+    let runs : RunsCurrent (Some current) old.lines.items old.writes.items world = subst (λ (o : Option CurrentLife). RunsCurrent o old.lines.items old.writes.items world) c.in-Some.is stands.life in
     let rests : RestsOn current before world.store = subst (λ (o : Option CurrentLife). RestsInLife o before world.store) c.in-Some.is stands.rests in
-    let life : Life = runs.0 in let image : Image = rests.image in let memory : List (List ℕ) = c.deref.result.now in
+    let life : PlainLife = runs.0 in let image : Image = rests.image in let memory : List (List ℕ) = c.deref.result.now in
     let count : c.len.result ≡ length life.writes = omega (arith, c.len.ensures, old.writes.ok, ap length runs.2.accepted) in
-    let all : current.start + c.len.result ≡ all_of life = omega (arith, count, runs.2.start) in
+    let all : current.start + c.len.result ≡ accepted_of life = omega (arith, count, runs.2.start) in
     let size : length memory ≡ LINES = ap length c.deref.ensures.value ∙ old.whole.size in
     let made : made_over current.newest (current.start + c.len.result) false memory ≡ saved_image image life =
     saved_is current.newest (current.start + c.len.result) memory image life rests.generation all (c.deref.ensures.value ∙ runs.2.memory) in
@@ -32,7 +32,7 @@ returns-in-Ok-clause-moves g c = λ same world stands.
     (subst (λ (saved : Image). IsAtRestOn next.slot saved (length memory) false after) made
     (subst (λ (slot : Slot). IsAtRestOn slot (made_over current.newest (current.start + c.len.result) false memory) (length memory) false after) (sym c.in-Ok.ensures.slot)
     (c.in-Ok.ensures.saved (only current.newest.slot image) image (ready (only current.newest.slot image) image current.newest current.closed memory before size (sym rests.generation) rests.rest)))) in
-    let ended : Life = record { base = life.base; start = life.start; writes = life.writes; persisted = all_of life } in (
+    let ended : PlainLife = record { base = life.base; start = life.start; writes = life.writes; persisted = accepted_of life } in (
       record { store = Restorable (saved_image image life); life = Some ended },
       record {
         life = life;
