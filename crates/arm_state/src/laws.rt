@@ -40,7 +40,8 @@ pub fn moves_of_a_mode()
 /// Where arming, disarming and a save aren't refused.
 pub fn refused_nothing()
     ensures arm { (m : Mode) (saves : SaveState)
-        → (arm_refusal m saves ≡ None) ↔ ((m ≡ modes.Armed) ⊎ ((m ≡ modes.Disarmed) × HasNoneInTheWay saves)) }
+        → (arm_refusal m saves ≡ None)
+        ↔ ((m ≡ modes.Armed) ⊎ ((m ≡ modes.Disarmed) × HasNoneInTheWay saves)) }
     ensures disarm { (m : Mode) → (disarm_refusal m ≡ None) ↔ (accepts_writes m ≡ true) }
     ensures save { (m : Mode) (saves : SaveState)
         → (save_refusal m saves ≡ None) ↔ ((has_ended m ≡ false) × MayBegin m saves) }

@@ -55,7 +55,8 @@ pub struct Costs {
     ghost fit: { (close_step ≤ 2 ^ 41) × (entry_step ≤ 2 ^ 41) × (without_entries ≤ 2 ^ 46) },
     ghost is_close_step: { close_step ≡ close_cost_of numbers ranks close },
     ghost is_entry_step: { entry_step ≡ entry_cost_of numbers ranks entry },
-    ghost is_without_entries: { without_entries ≡ channels * close_step + pages * page_cost_of numbers + frame_cost_of numbers },
+    ghost is_without_entries: { without_entries
+        ≡ channels * close_step + pages * page_cost_of numbers + frame_cost_of numbers },
 }
 
 impl CostNumbers {

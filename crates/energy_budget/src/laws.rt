@@ -30,7 +30,8 @@ pub fn sums_with_one_more()
     ensures floor { (costs : Costs) (k : ℕ)
         → floor_level costs (k + 1) ≡ floor_level costs k + entry_cost costs + costs.numbers.leak }
     ensures need { (costs : Costs) (k : ℕ)
-        → needed_level costs (k + 1) ≡ needed_level costs k + entry_cost costs + costs.numbers.leak }
+        → needed_level costs (k + 1)
+        ≡ needed_level costs k + entry_cost costs + costs.numbers.leak }
 {}
 
 /// With no fewer pending writes no sum is smaller, and with no fewer ticks no backing.

@@ -71,7 +71,8 @@ impl<D: SaveDevice> SaveDevice for Fuse<D> {
         ensures left { self.new.left ≡ self.old.left - 1 }
         ensures blown { self.old.left ≡ 0 → IsErr result × (self.new.device ≡ self.old.device) }
         ensures passed { 0 < self.old.left
-            → Makes (Put at bytes.now) (is_ok result) (D.state self.old.device) (D.state self.new.device) }
+            → Makes (Put at bytes.now) (is_ok result)
+            (D.state self.old.device) (D.state self.new.device) }
     {
         if self.left == 0 {
             self.calls.note(CallKind::Write, false);

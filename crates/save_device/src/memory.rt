@@ -218,7 +218,8 @@ impl SaveDevice for MemoryDevice {
 
         // Each place of the range is unsettled then, also one that had its byte before.
         ensures unsettled { (place : ℕ) → IsTrue ((state_of self.new).unsettled place)
-            ↔ (IsTrue ((state_of self.old).unsettled place) ⊎ IsInRange at (length bytes.now) place) }
+            ↔ (IsTrue ((state_of self.old).unsettled place)
+            ⊎ IsInRange at (length bytes.now) place) }
         ensures settled_row { settled_row_of self.new ≡ settled_row_of self.old }
     {
         self.past.note(&self.content);

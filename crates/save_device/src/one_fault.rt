@@ -89,9 +89,11 @@ impl<D: SaveDevice> SaveDevice for OneFault<D> {
 
         ensures next { self.new.before ≡ before_next self.old.before }
         ensures fails { self.old.before ≡ Some 0 → IsErr result
-            × ((good : Bool) × Makes (Put at bytes.now) good (D.state self.old.device) (D.state self.new.device)) }
+            × ((good : Bool) × Makes (Put at bytes.now) good
+            (D.state self.old.device) (D.state self.new.device)) }
         ensures passed { self.old.before ≢ Some 0
-            → Makes (Put at bytes.now) (is_ok result) (D.state self.old.device) (D.state self.new.device) }
+            → Makes (Put at bytes.now) (is_ok result)
+            (D.state self.old.device) (D.state self.new.device) }
     {
         let fails = is_due(&mut self.before);
         let result = self.device.write_at(at, bytes);

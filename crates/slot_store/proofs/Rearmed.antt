@@ -1,10 +1,9 @@
 -- An image whose arm byte is written.
-use Rattle.std.proofs.Common.{◌≡◌, ◌≢◌, ◌⊎◌, ℕ, zero, suc, ◌+◌, ◌-◌, ◌<◌, ◌≤◌, List, [], ◌∷◌, ◌++◌, length, get_or, take, drop, Bool, true, false, refl, sym, ◌∙◌, ap, subst, arith, slice_index, inl, inr, ⊎_elim, length-take, length-drop}
-use Rattle.std.specs.Prelude.{slice_range, IsTrue}
+use Rattle.std.proofs.Common.{◌≡◌, ◌≢◌, ◌⊎◌, ℕ, zero, suc, ◌+◌, ◌-◌, ◌<◌, ◌≤◌, List, [], ◌∷◌, length, get_or, take, drop, Bool, true, false, refl, sym, ◌∙◌, ap, arith, slice_index, inl, inr, ⊎_elim, length-take, length-drop}
+use Rattle.std.specs.Prelude.{IsTrue}
 use Rattle.std.proofs.lemmas.Grind.{same_number_lists}
 use Rattle.std.proofs.lemmas.List.{get_or-take, get_or-drop}
 use Rattle.std.proofs.lemmas.Bool.{cases_eq}
-use Rattle.std.proofs.lemmas.Bool.Decides.{eqb_tells}
 use Rattle.save_device.specs.Rows.{overwritten, IsInRange, DiffersOnlyAt}
 use Rattle.save_device.specs.Device.{DeviceState, present, MayLeave, LeavesOnly, IsSettled}
 use Rattle.save_device.specs.Changes.{Put, Settle, Makes}
@@ -14,9 +13,9 @@ use Rattle.save_image.specs.Header.{header}
 use Rattle.save_image.specs.Image.{Image, image_bytes}
 use Rattle.slot_store.specs.declared.slots.Slot.{Slot}
 use Rattle.slot_store.specs.declared.slots.Slot.TheVariants.{First, Second}
-use Rattle.slot_store.specs.Slots.{start_of, slot_size, device_size, HasSize, other, slot_state, is_closed, Closed, Full}
+use Rattle.slot_store.specs.Slots.{start_of, slot_size, device_size, other, slot_state, is_closed, Full}
 use Rattle.slot_store.specs.Outcomes.{Found, restored}
-use Rattle.slot_store.specs.Rest.{only, rearmed, with_any_arm, IsAmong, IsHarmless, IsShut, IsAtRest, IsAtRestOn, IsAtRestRearmed}
+use Rattle.slot_store.specs.Rest.{rearmed, with_any_arm, IsAmong, IsShut, IsAtRestOn, IsAtRestRearmed}
 use Rattle.slot_store.proofs.Same.{state_same}
 use Rattle.slot_store.proofs.Gates.{the_newer}
 use Rattle.slot_store.proofs.ImageBytes.{image_from_full, full_from_image}

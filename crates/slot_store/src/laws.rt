@@ -39,7 +39,8 @@ pub fn newest_at_rest()
 pub fn stop_between_steps()
     ensures { (candidates : Candidates) (old : Image) (memory : List (List ℕ)) (run : SaveRun)
         (state : DeviceState) (image : List ℕ) → Saving candidates old memory run state
-        → MayLeave (present state) image → Leaves candidates old (plan_of run) memory (next_of run) image }
+        → MayLeave (present state) image
+        → Leaves candidates old (plan_of run) memory (next_of run) image }
 {}
 
 /// A save that is given up before it is done leaves a device at rest on the old image, after a failed step too: with the
@@ -56,7 +57,8 @@ pub fn given_up()
 pub fn save_done()
     ensures { (candidates : Candidates) (old : Image) (memory : List (List ℕ)) (run : SaveRun)
         (state : DeviceState) → Saving candidates old memory run state → next_of run ≡ Done
-        → IsAtRestOn (plan_of run).slot (image_of (plan_of run) memory) (plan_of run).lines false state }
+        → IsAtRestOn (plan_of run).slot (image_of (plan_of run) memory)
+        (plan_of run).lines false state }
 {}
 
 /// Each step of a save leaves one less.

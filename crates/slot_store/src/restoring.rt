@@ -149,7 +149,8 @@ fn choose(first: Reading, second: Reading) -> Result<Choice, RestoreError>
 
 fn newer(first: Header, second: Header) -> Result<Choice, RestoreError>
     ensures chosen { (one two : List (List ℕ))
-        → IsChosen result one two (told (Reading.Image first) one) (told (Reading.Image second) two) }
+        → IsChosen result one two
+        (told (Reading.Image first) one) (told (Reading.Image second) two) }
     ensures headers { IfErr result IsOfHeaders }
 {
     if first.generation == second.generation {

@@ -224,7 +224,8 @@ impl SaveRun {
         // What stands in the slot, whatever the other one holds.
         ensures has { (memory : List (List ℕ)) → IsMemory (plan_of self.old).lines memory
             → GivesPage memory (next_of self.old) page.now
-            → HasSoFar memory self.old (D.state device.old) → HasSoFar memory self.new (D.state device.new) }
+            → HasSoFar memory self.old (D.state device.old)
+            → HasSoFar memory self.new (D.state device.new) }
 
         // A save over the newest image goes on; after a fault it stands at the same step.
         ensures saving { (candidates : Candidates) (old : Image) (memory : List (List ℕ))
