@@ -1,6 +1,6 @@
 // The two words.
-ghost use Rattle.std.specs.Prelude.{◌≡◌, All, vec_len, IfOk};
-ghost use Rattle.mark_board.specs.SeenMarks.{seen_marks};
+ghost use Rattle.std.specs.Prelude.{◌≡◌, vec_len, IfOk};
+ghost use Rattle.mark_board.specs.SeenMarks.{AllHaveSeen, seen_marks};
 
 use crate::rule::{MarkRule, MarkView};
 use crate::seats::{BoardSeat, HostSeat};
@@ -35,7 +35,7 @@ impl MarkBoard {
     ) -> Result<(MarkBoard, BoardSeat, Vec<HostSeat>), AllocError>
         ensures board { IfOk result (λ made. made.1 ≡ seen_marks made.0 count count) }
         ensures number { IfOk result (λ made. vec_len made.2 ≡ hosts) }
-        ensures hosts { IfOk result (λ made. All (λ seat. seat ≡ seen_marks made.0 count count) made.2.items) }
+        ensures hosts { IfOk result (λ m. AllHaveSeen (seen_marks m.0 count count) m.2.items) }
     {
         let (table, seat) = Table::of_words(alloc, &[count, count], &count)?;
         let board = MarkBoard { table };
@@ -54,7 +54,7 @@ fn split_hosts(
 ) -> Result<Vec<HostSeat>, AllocError>
     requires { owner.old.board ≡ board.now }
     ensures number { IfOk result (λ seats. vec_len seats ≡ hosts) }
-    ensures seats { IfOk result (λ seats. All (λ seat. seat ≡ owner.old) seats.items) }
+    ensures seats { IfOk result (λ seats. AllHaveSeen owner.old seats.items) }
     ensures same { owner.new ≡ owner.old }
 {
     let mut seats = Vec::with_capacity(alloc, hosts)?;

@@ -1,0 +1,3 @@
+pub mod Told
+pub mod Numbered
+pub mod NoticeBooks
