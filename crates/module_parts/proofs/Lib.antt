@@ -1,0 +1,4 @@
+pub mod Piles
+pub mod Changing
+pub mod Settling
+pub mod Mapping
