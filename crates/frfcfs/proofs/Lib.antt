@@ -10,3 +10,5 @@ pub mod QueueLemmas
 pub mod KeepLemmas
 pub mod refreshes
 pub mod WorkLemmas
+pub mod ShiftedLists
+pub mod QueueRoom

@@ -268,6 +268,3 @@ waiting_held w hold is = record {
 -- a list written through a slice
 pub written : {X : Type 0} (xs ys : List X) (n : ℕ) → n ≡ length ys → take n (ys ++ xs) ≡ ys
 written xs ys n e = ap (λ (k : ℕ). take k (ys ++ xs)) e ∙ take-append_seam ys xs
-
-pub length-marks : (line : ℕ) (pending : List Pending) (old new : List Bool) → MarksOldest line pending old new → length new ≡ length old
-length-marks line pending old new (place, oldest, is) = ap length is ∙ length-marked place old

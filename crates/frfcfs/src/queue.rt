@@ -1,8 +1,8 @@
 // The pending requests of a channel, in order of arrival.
-ghost use Rattle.std.specs.Prelude.{◌≡◌, ◌≢◌, ◌↔◌, ◌+◌, ◌-◌, ◌<◌, ◌≤◌, ◌^◌, ◌++◌, ◌∷◌, [], Some, All, IfOk, IsTrue, length, map, remove, slice_get, vec_capacity};
+ghost use Rattle.std.specs.Prelude.{◌≡◌, ◌≢◌, ◌↔◌, ◌+◌, ◌-◌, ◌<◌, ◌≤◌, ◌^◌, ◌++◌, ◌∷◌, [], Some, All, IfOk, IsTrue, drop, length, map, remove, slice_get, vec_capacity};
 ghost use Rattle.ddr4_timing.specs.Places.{LiesIn};
 ghost use Rattle.frfcfs.specs.Requests.{AreInOrder};
-ghost use Rattle.frfcfs.specs.Queue.{AreFirsts, IsWaiting, Waiting, MarksOldest, held_by, is_held, numbered_from, writes_among};
+ghost use Rattle.frfcfs.specs.Queue.{AreFirsts, IsOldestOf, IsWaiting, MarksOldest, Waiting, held_by, is_held, numbered_from, writes_among};
 
 use crate::pending::{Kind, Pending};
 use ddr4_timing::place::Place;
@@ -14,8 +14,12 @@ use std::marker::Model;
 /// search has to look for older ones.
 #[derive(Drop)]
 pub struct Queue {
+    // The requests are those from `start` on. One that is taken out makes room at the front: the older ones move up, and those
+    // are few, since the oldest are served first.
     pending: Vec<Pending>,
     firsts: Vec<bool>,
+    start: usize,
+    room: usize,
     most: usize,
     next: u64,
 }
@@ -23,11 +27,12 @@ pub struct Queue {
 impl Model for Queue {
     ghost Value = { Waiting };
 
-    ghost view = { λ q. record { most = q.most; next = q.next; requests = q.pending.items } };
+    ghost view = { λ q. record { most = q.most; next = q.next; requests = drop q.start q.pending.items } };
 
-    ghost invariant = { λ q. IsWaiting (record { most = q.most; next = q.next; requests = q.pending.items })
-        × AreFirsts (map (λ p. p.line) q.pending.items) q.firsts.items
-        × (q.most ≤ vec_capacity q.pending) × (q.most ≤ vec_capacity q.firsts) };
+    ghost invariant = { λ q. IsWaiting (record { most = q.most; next = q.next; requests = drop q.start q.pending.items })
+        × AreFirsts (map (λ p. p.line) (drop q.start q.pending.items)) (drop q.start q.firsts.items)
+        × (q.start ≤ length q.pending.items) × (length q.firsts.items ≡ length q.pending.items)
+        × (length q.pending.items ≤ q.room) × (q.most ≤ q.room) × (q.room ≤ vec_capacity q.pending) × (q.room ≤ vec_capacity q.firsts) };
 }
 
 // Does no request name the line?
@@ -37,15 +42,46 @@ fn none_names(pending: &[Pending], line: u64) -> bool
     pending.iter().all(|p| p.line != line)
 }
 
-// Marks the oldest request of a line.
-fn mark_oldest(pending: &[Pending], firsts: &mut [bool], line: u64)
-    requires { length firsts.old ≡ length pending.now }
-    ensures { MarksOldest line pending.now firsts.old firsts.new }
+// Where the oldest request of a line stands.
+fn oldest_of(pending: &[Pending], line: u64) -> Option<usize>
+    ensures { IsOldestOf line pending.now result }
 {
-    let oldest = pending.iter().position(|p| p.line == line);
-    if let Some(place) = oldest {
-        firsts[place] = true;
+    pending.iter().position(|p| p.line == line)
+}
+
+// Marks the oldest request of a line among those from a start on.
+fn mark_oldest(pending: &[Pending], firsts: &mut [bool], start: usize, line: u64)
+    requires start { start ≤ length pending.now }
+    requires size { length firsts.old ≡ length pending.now }
+    ensures marks { MarksOldest line (drop start pending.now) (drop start firsts.old) (drop start firsts.new) }
+    ensures size { length firsts.new ≡ length firsts.old }
+{
+    if let Some(place) = oldest_of(&pending[start..], line) {
+        firsts[start + place] = true;
     }
+}
+
+// Takes an element out of those from a start on: the ones before it move up.
+fn take_out<T: Copy>(items: &mut [T], start: usize, place: usize) -> T
+    requires { start + place < length items.old }
+    ensures taken { slice_get (drop start items.old) place ≡ Some result }
+    ensures left { drop (start + 1) items.new ≡ remove (drop start items.old) place }
+    ensures size { length items.new ≡ length items.old }
+{
+    let taken = items[start + place];
+    items.copy_within(start..start + place, start + 1);
+    taken
+}
+
+// Moves the elements from a start on to the front.
+fn move_to_front<T: Copy>(items: &mut Vec<T>, start: usize)
+    requires { start ≤ length items.old.items }
+    ensures items { items.new.items ≡ drop start items.old.items }
+    ensures capacity { vec_capacity items.new ≡ vec_capacity items.old }
+{
+    let size = items.len() - start;
+    items.copy_within(start.., 0);
+    items.truncate(size);
 }
 
 /// Whether a request is held, where writes from a number on are.
@@ -82,9 +118,12 @@ impl Queue {
     pub fn with_room(alloc: Global, most: usize) -> Result<Queue, AllocError>
         ensures { IfOk result (λ queue. queue ≡ record { most = most; next = 0; requests = [] }) }
     {
+        let room = most.saturating_mul(2);
         Ok(Queue {
-            pending: Vec::with_capacity(alloc, most)?,
-            firsts: Vec::with_capacity(alloc, most)?,
+            pending: Vec::with_capacity(alloc, room)?,
+            firsts: Vec::with_capacity(alloc, room)?,
+            start: 0,
+            room,
             most,
             next: 0,
         })
@@ -95,14 +134,14 @@ impl Queue {
         ensures value { result.now ≡ self.now.requests }
         ensures order { AreInOrder result.now }
     {
-        &self.pending
+        &self.pending[self.start..]
     }
 
     /// Whether there is no room for a further one.
     pub fn is_full(&self) -> bool
         ensures { IsTrue result ↔ (self.now.most ≤ length self.now.requests) }
     {
-        self.most <= self.pending.len()
+        self.most <= self.requests().len()
     }
 
     /// The seq of the request that is pushed next: how many were pushed before it.
@@ -116,14 +155,14 @@ impl Queue {
     pub fn lies_in(&self, geometry: &Geometry) -> bool
         ensures { IsTrue result ↔ All (λ p. LiesIn geometry.now p.place) self.now.requests }
     {
-        self.pending.iter().all(|p| p.place.lies_in(geometry))
+        self.requests().iter().all(|p| p.place.lies_in(geometry))
     }
 
     /// Whether each request is the first of its line.
     pub(crate) fn firsts(&self) -> &[bool]
         ensures { AreFirsts (map (λ p. p.line) self.now.requests) result.now }
     {
-        &self.firsts
+        &self.firsts[self.start..]
     }
 
     /// Adds a request behind the others. It looks at each of them.
@@ -135,7 +174,12 @@ impl Queue {
         ensures next { self.new.next ≡ self.old.next + 1 }
         ensures most { self.new.most ≡ self.old.most }
     {
-        let first = none_names(&self.pending, line);
+        if self.pending.len() == self.room {
+            move_to_front(&mut self.pending, self.start);
+            move_to_front(&mut self.firsts, self.start);
+            self.start = 0;
+        }
+        let first = none_names(self.requests(), line);
         self.pending.push_reserved(Pending {
             seq: self.next,
             place,
@@ -148,15 +192,16 @@ impl Queue {
         self.next += 1;
     }
 
-    /// Takes the request at a place out. It moves those behind it, and looks for the next one of its line.
+    /// Takes the request at a place out. It moves those before it, and looks for the next one of its line.
     pub fn take(&mut self, place: usize) -> Pending
         requires { place < length self.old.requests }
         ensures taken { slice_get self.old.requests place ≡ Some result }
         ensures left { self.new ≡ record self.old { requests = remove self.old.requests place } }
     {
-        let taken = self.pending.remove(place);
-        self.firsts.remove(place);
-        mark_oldest(&self.pending, &mut self.firsts, taken.line);
+        let taken = take_out(&mut self.pending, self.start, place);
+        take_out(&mut self.firsts, self.start, place);
+        self.start += 1;
+        mark_oldest(&self.pending, &mut self.firsts, self.start, taken.line);
         taken
     }
 
@@ -174,6 +219,9 @@ impl Queue {
         ensures most { self.new.most ≡ self.old.most }
     {
         self.drop_reads();
+        move_to_front(&mut self.pending, self.start);
+        move_to_front(&mut self.firsts, self.start);
+        self.start = 0;
         number_each(&mut self.pending);
         self.next = self.pending.len() as u64;
     }

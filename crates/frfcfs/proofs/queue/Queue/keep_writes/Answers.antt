@@ -1,15 +1,28 @@
-use Rattle.std.proofs.Common.{◌≡◌, length, drop, ap, ◌∙◌, sym, subst, arith, min}
-use Rattle.frfcfs.specs.Queue.{IsWaiting, numbered_from}
+use Rattle.std.proofs.Common.{◌≡◌, length, drop, ap, ◌∙◌, arith}
+use Rattle.std.proofs.lemmas.List.{length-drop}
+use Rattle.frfcfs.specs.Queue.{numbered_from}
 use Rattle.frfcfs.proofs.KeepLemmas.{length-numbered, lines_numbered, waiting_numbered}
 use Rattle.frfcfs.proofs.QueueLemmas.{written}
 use Rattle.frfcfs.proofs.queue.Queue.keep_writes.Goals as goal
 
 pub invariant_of-self : goal.invariant_of-self
 invariant_of-self c =
-    let old = c.self.inside.pending.items in
+    let inside = c.self.inside in
+    let old = drop inside.start inside.pending.items in
+    let moved = c.move_to_front.new.items in
     let new = c.number_each.new.pending in
-    let is : new ≡ numbered_from 0 old = c.number_each.ensures ∙ ap (numbered_from 0) c.deref_mut.ensures.value in
-    let size : c.self.inside.pending.len ≡ length new = let e = ap length is in let n = length-numbered 0 old in let l = c.self.inside.pending.ok in omega (arith, e, n, l) in
-    let next : c.len.result ≡ length old = let l = c.self.inside.pending.ok in omega (arith, l, c.len.ensures) in
-    rw (written (drop (length new) old) new c.self.inside.pending.len size, is, next)
-    (waiting_numbered (record { most = c.self.inside.most; next = c.self.inside.next; requests = old }) c.self.invariant.0, rw (lines_numbered 0 old) c.self.invariant.1, c.self.invariant.2, c.self.invariant.3)
+    let is : new ≡ numbered_from 0 old = c.number_each.ensures ∙ ap (numbered_from 0) (c.deref_mut.ensures.value ∙ c.move_to_front.ensures.items) in
+    let count = length-numbered 0 old in
+    let here = length-drop inside.start inside.pending.items in
+    let size : moved.len ≡ length new = let e = ap length is in let m = ap length c.move_to_front.ensures.items in let l = moved.ok in omega (arith, e, count, m, l) in
+    let next : c.len.result ≡ length old = let m = ap length c.move_to_front.ensures.items in let l = moved.ok in let e = c.len.ensures in omega (arith, l, e, m) in
+    rw (written (drop (length new) moved.items) new moved.len size, is, next, c.move_to_front-2.ensures.items) (
+      waiting_numbered _ c.self.invariant.0,
+      rw (lines_numbered 0 old) c.self.invariant.1,
+      omega arith,
+      (let f = length-drop inside.start inside.firsts.items in let same = c.self.invariant.3 in omega (arith, f, same, count, here)),
+      (let fits = c.self.invariant.4 in omega (arith, fits, count, here)),
+      c.self.invariant.5,
+      (let e = c.move_to_front.ensures.capacity in let r = c.self.invariant.6 in omega (arith, e, r)),
+      (let e = c.move_to_front-2.ensures.capacity in let r = c.self.invariant.7 in omega (arith, e, r)),
+    )

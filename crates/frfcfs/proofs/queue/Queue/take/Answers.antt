@@ -1,33 +1,55 @@
-use Rattle.std.proofs.Common.{◌≡◌, ◌<◌, List, Bool, Some, refl, length, drop, sym, subst, ap, ◌∙◌, arith}
-use Rattle.std.proofs.lemmas.Option.{slice_get_read}
+use Rattle.std.proofs.Common.{◌≡◌, ◌+◌, ◌<◌, ◌++◌, List, Bool, Some, length, take, drop, sym, subst, ap, ◌∙◌, arith}
 use Rattle.std.specs.List.{remove, slice_get}
 use Rattle.frfcfs.specs.declared.pending.Pending.{Pending}
-use Rattle.frfcfs.specs.Queue.{MarksOldest, Waiting}
-use Rattle.frfcfs.proofs.QueueLemmas.{firsts_take, length-marks, line_at, waiting_take, written}
+use Rattle.frfcfs.specs.Queue.{Waiting, MarksOldest}
+use Rattle.frfcfs.proofs.QueueLemmas.{line_at, written}
+use Rattle.frfcfs.proofs.QueueRoom.{IsKept, kept_take}
 use Rattle.frfcfs.proofs.queue.Queue.take.Goals as goal
 
-within : (c : goal.After-self-1) → c.args.place < length c.self.inside.pending.items
-within c = subst (λ (w : Waiting). c.args.place < length w.requests) (sym c.self.view_is) c.requires
+kept_before : (c : goal.After-self-4-1) → IsKept c.self.inside.most c.self.inside.next c.self.inside.start c.self.inside.room c.self.inside.pending.items c.self.inside.firsts.items
+kept_before c = record {
+  waiting = c.self.invariant.0;
+  marks = c.self.invariant.1;
+  within = c.self.invariant.2;
+  size = c.self.invariant.3;
+  fits = c.self.invariant.4;
+  enough = c.self.invariant.5;
+}
 
-taken : (c : goal.After-self-1) → slice_get c.self.inside.pending.items c.args.place ≡ Some c.remove-taken.result
-taken c = slice_get_read c.self.inside.pending.items (length c.self.inside.pending.items) c.args.place c.remove-taken.result refl (within c) c.remove-taken.ensures.value
+-- what the two vectors hold in between
+pending_left : (c : goal.After-self-4-1) → take c.self.inside.pending.len (c.take_out-taken.new.items ++ drop (length c.take_out-taken.new.items) c.self.inside.pending.items) ≡ c.take_out-taken.new.items
+pending_left c =
+    let size : c.self.inside.pending.len ≡ length c.take_out-taken.new.items = let n = c.take_out-taken.ensures.size in let v = ap length c.deref_mut.ensures.value in let l = c.self.inside.pending.ok in omega (arith, n, v, l) in
+    written (drop (length c.take_out-taken.new.items) c.self.inside.pending.items) c.take_out-taken.new.items c.self.inside.pending.len size
 
-marks : (c : goal.After-self-1) → MarksOldest c.remove-taken.result.line (remove c.self.inside.pending.items c.args.place) (remove c.self.inside.firsts.items c.args.place) c.mark_oldest.new.firsts
-marks c =
-    subst (λ (xs : List Bool). MarksOldest c.remove-taken.result.line (remove c.self.inside.pending.items c.args.place) xs c.mark_oldest.new.firsts) (c.deref_mut.ensures.value ∙ c.remove.ensures.items)
-    (subst (λ (ps : List Pending). MarksOldest c.remove-taken.result.line ps c.deref_mut.result.now c.mark_oldest.new.firsts) (c.deref.ensures.value ∙ c.remove-taken.ensures.items) c.mark_oldest.ensures)
+firsts_left : (c : goal.After-self-4-1) → take c.self.inside.firsts.len (c.take_out.new.items ++ drop (length c.take_out.new.items) c.self.inside.firsts.items) ≡ c.take_out.new.items
+firsts_left c =
+    let size : c.self.inside.firsts.len ≡ length c.take_out.new.items = let n = c.take_out.ensures.size in let v = ap length c.deref_mut-2.ensures.value in let l = c.self.inside.firsts.ok in omega (arith, n, v, l) in
+    written (drop (length c.take_out.new.items) c.self.inside.firsts.items) c.take_out.new.items c.self.inside.firsts.len size
 
 pub invariant_of-self : goal.invariant_of-self
 invariant_of-self c =
-    let old = c.self.inside.pending.items in
+    let inside = c.self.inside in
+    let old = inside.pending.items in
     let new = c.mark_oldest.new.firsts in
-    let size : c.remove.new.self.len ≡ length new = let n = length-marks _ _ _ new (marks c) in let l = c.remove.new.self.ok in let e = ap length c.remove.ensures.items in omega (arith, n, l, e) in
-    rw (written (drop (length new) c.remove.new.self.items) new c.remove.new.self.len size, c.remove-taken.ensures.items) (
-      waiting_take _ c.args.place c.self.invariant.0 (within c),
-      firsts_take old c.self.inside.firsts.items new c.args.place c.remove-taken.result.line c.remove-taken.result c.self.invariant.1 (within c) (line_at old c.args.place c.remove-taken.result (taken c)) (marks c),
-      (let e = c.remove-taken.ensures.capacity in let m = c.self.invariant.2 in omega (arith, e, m)),
-      (let e = c.remove.ensures.capacity in let m = c.self.invariant.3 in omega (arith, e, m)),
-    )
-
-pub returns-clause-taken : goal.returns-clause-taken
-returns-clause-taken c = subst (λ (w : Waiting). slice_get w.requests c.args.place ≡ Some c.remove-taken.result) c.self.view_is (taken c)
+    let removed = c.take_out-taken.ensures in
+    let gone = c.take_out.ensures in
+    let seen = c.deref_mut.ensures.value in
+    let seen_firsts = c.deref_mut-2.ensures.value in
+    let pending = c.deref.ensures.value ∙ pending_left c in
+    let firsts = c.deref_mut-3.ensures.value ∙ firsts_left c in
+    let marked_size : length new ≡ length c.take_out.new.items = c.mark_oldest.ensures.size ∙ ap length firsts in
+    let size : inside.firsts.len ≡ length new = let n = gone.size in let v = ap length seen_firsts in let l = inside.firsts.ok in omega (arith, n, v, l, marked_size) in
+    let within = subst (λ (w : Waiting). c.args.place < length w.requests) (sym c.self.view_is) c.requires in
+    let taken : slice_get (drop inside.start old) c.args.place ≡ Some c.take_out-taken.result = subst (λ (ps : List Pending). slice_get (drop inside.start ps) c.args.place ≡ Some c.take_out-taken.result) seen removed.taken in
+    let marked : MarksOldest c.take_out-taken.result.line (drop (inside.start + 1) c.take_out-taken.new.items) (drop (inside.start + 1) c.take_out.new.items) (drop (inside.start + 1) new) =
+    subst (λ (ps : List Pending). MarksOldest c.take_out-taken.result.line (drop (inside.start + 1) ps) (drop (inside.start + 1) c.take_out.new.items) (drop (inside.start + 1) new)) pending
+    (subst (λ (bs : List Bool). MarksOldest c.take_out-taken.result.line (drop (inside.start + 1) c.deref.result.now) (drop (inside.start + 1) bs) (drop (inside.start + 1) new)) firsts c.mark_oldest.ensures.marks) in
+    let kept = kept_take inside.most inside.next inside.start inside.room old c.take_out-taken.new.items inside.firsts.items c.take_out.new.items new c.args.place c.take_out-taken.result.line c.take_out-taken.result (kept_before c) within
+    (line_at (drop inside.start old) c.args.place c.take_out-taken.result taken)
+    (removed.left ∙ ap (λ (ps : List Pending). remove (drop inside.start ps) c.args.place) seen)
+    (removed.size ∙ ap length seen)
+    (gone.left ∙ ap (λ (bs : List Bool). remove (drop inside.start bs) c.args.place) seen_firsts)
+    (let n = gone.size in let v = ap length seen_firsts in omega (arith, n, v, marked_size))
+    marked in
+    rw (pending_left c, written (drop (length new) (take inside.firsts.len (c.take_out.new.items ++ drop (length c.take_out.new.items) inside.firsts.items))) new inside.firsts.len size) (kept.waiting, kept.marks, kept.within, kept.size, kept.fits, kept.enough, c.self.invariant.6, c.self.invariant.7)

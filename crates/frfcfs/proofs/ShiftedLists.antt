@@ -1,0 +1,19 @@
+-- Lists out of which an element is taken, where those before it move up.
+use Rattle.std.proofs.Common.{◌≡◌, ℕ, suc, ◌+◌, ◌-◌, ◌<◌, ◌≤◌, List, ◌++◌, sym, ap, ◌∙◌, arith, take, drop, length}
+use Rattle.std.proofs.Math.Seq.{drop-append_seam}
+use Rattle.std.proofs.lemmas.List.{append_assoc, drop-drop, length-take-le}
+use Rattle.std.specs.List.{copy_within, remove}
+
+-- what lies behind a front
+behind : {X : Type 0} (k : ℕ) (xs ys : List X) → k ≤ length xs → drop k (take k xs ++ ys) ≡ ys
+behind k xs ys few = ap (λ (n : ℕ). drop n (take k xs ++ ys)) (sym (length-take-le k xs few)) ∙ drop-append_seam (take k xs) ys
+
+pub taken_out : {X : Type 0} (xs : List X) (start place : ℕ) → start + place < length xs →
+    drop (start + 1) (copy_within xs start (start + place) (start + 1)) ≡ remove (drop start xs) place
+taken_out {X = X} xs start place within =
+    let size : start + place - start ≡ place = omega arith in
+    let next : start + 1 + place ≡ start + suc place = omega arith in
+    ap (drop (start + 1)) (append_assoc (take (start + 1) xs) _ _) ∙ (behind (start + 1) xs _ (omega (arith, within))
+    ∙ (ap (λ (n : ℕ). take n (drop start xs) ++ drop (start + 1 + n) xs) size
+    ∙ (ap (λ (n : ℕ). take place (drop start xs) ++ drop n xs) next
+    ∙ ap (λ (ys : List X). take place (drop start xs) ++ ys) (sym (drop-drop (suc place) start xs)))))
