@@ -1,5 +1,4 @@
-use Rattle.std.proofs.Common.{◌≡◌, ℕ, ◌+◌, ◌-◌, ◌*◌, ◌≤◌, arith, ap, sym, ◌∙◌}
-use Rattle.drain_core.specs.Steps.{clocks_of}
+use Rattle.std.proofs.Common.{◌-◌, arith}
 use Rattle.drain_core.proofs.DrainingChannel.{draining_first, draining_next, drained_progress, drained_channel, drained_spent, none_left, few_places, few_clocks, few_units, its_clocks, from_start, its_most_clocks, its_most_spent}
 use Rattle.drain_core.proofs.channel_drain.drain.Goals as goal
 

@@ -1,4 +1,4 @@
-use Rattle.std.proofs.Common.{ℕ, length}
+use Rattle.std.proofs.Common.{length}
 use Rattle.drain_core.specs.Steps.{pending_places}
 use Rattle.drain_core.proofs.DrainingChannel.{IsDraining}
 use Rattle.drain_core.proofs.channel_drain.drain.Given as goal
