@@ -19,3 +19,5 @@ pub mod RefreshingChannel
 pub mod SleepingChannel
 pub mod EnteringChannel
 pub mod PendingPlaces
+pub mod ClocksRise
+pub mod DrainingChannel

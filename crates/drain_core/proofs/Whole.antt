@@ -59,7 +59,7 @@ drain_clocks-le c list places can lie = let d = (drains c list places can lie).c
 
 -- the clocks don't come to an end
 
-sum_small : (e cl r t k : ℕ) → 2 * (e + cl) + 4 * r ≤ t → t ≤ 1000000 → k ≤ 64 → k * e ≤ 64 * e → cl + k * e ≤ 32500000
+pub sum_small : (e cl r t k : ℕ) → 2 * (e + cl) + 4 * r ≤ t → t ≤ 1000000 → k ≤ 64 → k * e ≤ 64 * e → cl + k * e ≤ 32500000
 sum_small e cl r t k h l m n = omega arith
 
 ends : (s cl sum d : ℕ) → s < 2 ^ 63 - 2 ^ 32 → d ≤ s + cl + sum → cl + sum ≤ 32500000 → d < 2 ^ 63

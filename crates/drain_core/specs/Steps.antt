@@ -1,5 +1,5 @@
 -- What the parts of a drain do to a channel.
-use Rattle.std.specs.Prelude.{◌≡◌, ℕ, ◌+◌, ◌-◌, ◌*◌, ◌^◌, ◌<◌, ◌≤◌, List, [], ◌∷◌, ◌++◌, take, drop, map, All, ◌↔◌, Option, Some, None}
+use Rattle.std.specs.Prelude.{◌≡◌, ℕ, ◌+◌, ◌-◌, ◌*◌, ◌^◌, ◌<◌, ◌≤◌, List, [], ◌∷◌, ◌++◌, take, drop, map, length, All, ◌↔◌, Option, Some, None}
 use Rattle.std.specs.List.{sum_by}
 use Rattle.ddr4_timing.specs.declared.command.Stamped.{Stamped}
 use Rattle.ddr4_timing.specs.declared.place.Place.{Place}
@@ -17,7 +17,7 @@ use Rattle.chan_core.specs.Singles.{writes_by}
 use Rattle.chan_core.specs.State.{ChannelState, channel_memory, placed_writes}
 use Rattle.chan_core.specs.declared.phase.Phase.TheVariants.{Asleep}
 use Rattle.drain_core.specs.declared.steps.StepEnd.{StepEnd}
-use Rattle.drain_core.specs.Drain.{Progress, drain_start, drain_of, entry_step_of, next_clock, with_earliest}
+use Rattle.drain_core.specs.Drain.{Progress, drain_start, drain_of, drain_clocks, drain_spent, entry_step_of, next_clock, with_earliest}
 use Rattle.drain_core.specs.Standing.{IsBetweenSteps}
 
 -- a channel's commands so far, and the clock from which the next may go
@@ -108,6 +108,17 @@ EntersOldest n old clock (Some end) new =
 -- the commands and clocks of a channel's drain
 abbrev pub drain_of_channel : ChannelState → Progress
 drain_of_channel s = drain_of s.checked.timing s.checked.geometry s.commands (pending_places s)
+
+-- how many clocks it takes, and how many it may take
+abbrev pub clocks_of : ChannelState → ℕ
+clocks_of s = drain_clocks s.checked.timing s.checked.geometry s.commands (pending_places s)
+
+abbrev pub most_clocks : ChannelState → ℕ
+most_clocks s = close_of s.checked.timing s.checked.geometry + length s.writes * entry_of s.checked.timing s.checked.geometry
+
+-- what it spends
+abbrev pub spent_by : CostNumbers → ChannelState → ℕ
+spent_by n s = drain_spent n s.checked.timing s.checked.geometry s.commands (pending_places s)
 
 -- A channel after its drain: nothing is pending, its array is its memory, and every rank sleeps.
 abbrev pub drained : ChannelState → ChannelState

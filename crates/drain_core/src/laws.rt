@@ -1,5 +1,5 @@
 // What the drain's definition comes to. The functions have no code: a crate above calls one to know its law.
-ghost use Rattle.std.specs.Prelude.{ℕ, ◌+◌, ◌*◌, ◌^◌, ◌<◌, ◌≤◌, All, List, length};
+ghost use Rattle.std.specs.Prelude.{◌≡◌, ℕ, ◌+◌, ◌*◌, ◌^◌, ◌<◌, ◌≤◌, All, List, length};
 ghost use Rattle.ddr4_timing.specs.Lawful.{IsLawful};
 ghost use Rattle.ddr4_timing.specs.Limits.{entry_of, close_of};
 ghost use Rattle.ddr4_timing.specs.Places.{LiesIn};
@@ -10,7 +10,10 @@ ghost use Rattle.energy_budget.specs.Costs.{AreReckonedFor, close_cost, entry_co
 ghost use Rattle.energy_budget.specs.declared.costs.Costs.{Costs};
 ghost use Rattle.frfcfs.specs.Margin.{KeepsMargin, last_clock};
 ghost use Rattle.drain_core.specs.Drain.{Progress, drain_start, close_step_of, entry_step_of, entry_steps_of, after_self_refresh, drain_of, drain_clocks, drain_spent};
+ghost use Rattle.chan_core.specs.Always.{IsChannel};
 ghost use Rattle.chan_core.specs.Phases.{AreAwake};
+ghost use Rattle.chan_core.specs.State.{ChannelState, clock_of};
+ghost use Rattle.chan_core.specs.declared.phase.Phase.TheVariants.{Running};
 ghost use Rattle.drain_core.specs.Standing.{CanDrain, AfterClose, AfterDrain, AfterEntries, IsBetweenSteps, AfterSleep};
 
 /// A channel whose refreshes have their time, as every one has that its scheduler alone gave commands, may be drained as
@@ -18,6 +21,12 @@ ghost use Rattle.drain_core.specs.Standing.{CanDrain, AfterClose, AfterDrain, Af
 pub fn margin_lets_drain()
     ensures { (c : Checked) (list : List Stamped) → IsLawful c list → KeepsMargin c list
         → AreAwake c list → last_clock list < 2 ^ 62 → CanDrain c list }
+{}
+
+/// Such a channel may be drained, whatever was put into it, read, held and collected.
+pub fn running_channel_may_drain()
+    ensures { (s : ChannelState) → IsChannel s → s.phase ≡ Running → clock_of s < 2 ^ 62
+        → CanDrain s.checked s.commands }
 {}
 
 /// The steps of a drain, one by one: each ends where the next may begin. All their commands are lawful where they go.

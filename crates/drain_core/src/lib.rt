@@ -1,10 +1,12 @@
-//! The closed-page drain of a channel: what it issues and when (`specs/Drain.antt`), what its parts do to a channel
+//! The closed-page drain of a channel: what it issues and when (`specs/Drain.antt`), what it and its parts do to a channel
 //! (`specs/Steps.antt`), and what that comes to (`laws`).
 #![tactic(auto)]
 
+mod channel_drain;
 pub mod laws;
 mod report;
 mod steps;
 
+pub use channel_drain::drain;
 pub use report::DrainReport;
 pub use steps::{StepEnd, close_step, entry_step, self_refresh};

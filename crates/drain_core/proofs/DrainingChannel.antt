@@ -1,0 +1,203 @@
+-- A channel's drain, entry by entry.
+use Rattle.std.proofs.Common.{◌≡◌, ℕ, zero, suc, ◌+◌, ◌-◌, ◌*◌, ◌≤◌, List, [], ◌∷◌, length, map, take, drop, None, arith, refl, sym, ap, subst, ◌∙◌}
+use Rattle.std.specs.Prelude.{All}
+use Rattle.std.specs.List.{filter_map, cons_option}
+use Rattle.std.proofs.Math.Nat.{mul-le-mul_left}
+use Rattle.std.proofs.Math.Seq.{drop-append_seam}
+use Rattle.ddr4_timing.specs.declared.command.Stamped.{Stamped}
+use Rattle.ddr4_timing.specs.declared.place.Place.{Place}
+use Rattle.ddr4_timing.specs.declared.timing.Checked.{Checked}
+use Rattle.ddr4_timing.specs.Limits.{entry_of, close_of}
+use Rattle.energy_budget.specs.declared.costs.CostNumbers.{CostNumbers}
+use Rattle.energy_budget.specs.declared.costs.Costs.{Costs}
+use Rattle.energy_budget.specs.Costs.{AreReckonedFor, close_cost, entry_cost}
+use Rattle.frfcfs.specs.declared.pending.Kind.{Kind}
+use Rattle.frfcfs.specs.declared.pending.Kind.TheVariants.{Read, Write}
+use Rattle.frfcfs.specs.declared.pending.Pending.{Pending}
+use Rattle.frfcfs.proofs.Lists.{All-at}
+use Rattle.wpq_core.specs.declared.queue.PendingWrite.{PendingWrite}
+use Rattle.wpq_core.specs.PendingMemory.{after_pending}
+use Rattle.chan_core.specs.Always.{IsHeld}
+use Rattle.chan_core.specs.State.{ChannelState, channel_memory, placed, placed_write, placed_writes}
+use Rattle.chan_core.specs.declared.phase.Phase.TheVariants.{Asleep}
+use Rattle.drain_core.specs.declared.steps.StepEnd.{StepEnd}
+use Rattle.drain_core.specs.Drain.{Progress, drain_start, close_step_of, entry_step_of, entry_steps_of, after_self_refresh, drain_of, drain_commands, drain_clocks, drain_spent}
+use Rattle.drain_core.specs.Standing.{CanDrain}
+use Rattle.drain_core.specs.Steps.{EntersOldest, GoesTo, IsEarly, IsStepped, IssuesFor, MayEnter, TakesOldest, commands_cost, drain_of_channel, drain_start_of, drained, pending_places, progress_of, clocks_of, most_clocks, spent_by}
+use Rattle.drain_core.proofs.Parts.{issues_then, takes_then, takes_checked}
+use Rattle.drain_core.proofs.PendingPlaces.{all_lie, placed_length, places_length}
+use Rattle.drain_core.proofs.ClocksRise.{drain_rises}
+use Rattle.drain_core.proofs.Whole.{sum_small as total_small, drain_clocks-le, drain_spent-le}
+
+-- where the entries of a channel's drain end
+abbrev pub entries_of : ChannelState → Progress
+entries_of s = entry_steps_of s.checked.timing s.checked.geometry (pending_places s) (close_step_of s.checked.timing s.checked.geometry (drain_start_of s))
+
+-- The entries that are left lead to the same end.
+pub record IsDraining (n : CostNumbers) (first now : ChannelState) (end : StepEnd) : Type 0 where
+  pub enter : MayEnter now end.clock
+  pub ends : entry_steps_of first.checked.timing first.checked.geometry (pending_places now) (progress_of now end.clock) ≡ entries_of first
+  pub cost : IssuesFor n end.cost first.commands now.commands
+  pub count : ℕ
+  pub takes : TakesOldest count first now
+  pub clocks : end.clock + length (pending_places now) * entry_of first.checked.timing first.checked.geometry ≤ drain_start first.commands + 32500000
+  pub spent : end.cost + length (pending_places now) * 7000000 ≤ 452000000
+
+sum_small : (clock s e cl r t k : ℕ) → clock + r ≤ s + cl → 2 * (e + cl) + 4 * r ≤ t → t ≤ 1000000 → k ≤ 64 → k * e ≤ 64 * e → clock + k * e ≤ s + 32500000
+sum_small clock s e cl r t k c h l m n = omega arith
+
+cost_small : (cost k : ℕ) → cost ≤ 4000000 → k ≤ 64 → cost + k * 7000000 ≤ 452000000
+cost_small cost k h l = omega arith
+
+-- before the first entry
+pub draining_first : (n : CostNumbers) (first now : ChannelState) (end : StepEnd) → length (pending_places first) ≤ 64 → GoesTo n (close_step_of first.checked.timing first.checked.geometry (drain_start_of first)) 0 first now end → MayEnter now end.clock →
+    end.clock + first.checked.geometry.ranks ≤ drain_start first.commands + close_of first.checked.timing first.checked.geometry → end.cost ≤ 4000000 → IsDraining n first now end
+draining_first n first now end few goes enter clock cost =
+    let c = first.checked in
+    let e = entry_of c.timing c.geometry in
+    let places : pending_places now ≡ pending_places first = ap (map (λ (w : ℕ × Place). w.1)) goes.takes.placed in record {
+      enter = enter;
+      ends = ap (λ (places : List Place). entry_steps_of c.timing c.geometry places (progress_of now end.clock)) places ∙ ap (entry_steps_of c.timing c.geometry (pending_places first)) goes.progress;
+      cost = goes.cost;
+      count = 0;
+      takes = goes.takes;
+      clocks = subst (λ (k : ℕ). end.clock + k * e ≤ drain_start first.commands + 32500000) (sym (ap length places))
+          (sum_small end.clock (drain_start first.commands) e (close_of c.timing c.geometry) c.geometry.ranks c.timing.t_refi (length (pending_places first)) clock c.fits_entry c.in_limits.t_refi.1 few (grind (arith, mul-le-mul_left e few)));
+      spent = subst (λ (k : ℕ). end.cost + k * 7000000 ≤ 452000000) (sym (ap length places)) (cost_small end.cost (length (pending_places first)) cost few);
+    }
+
+-- it may go on
+pub draining_early : (n : CostNumbers) (first now : ChannelState) (end : StepEnd) → CanDrain first.checked first.commands → IsDraining n first now end → IsEarly end.clock
+draining_early n first now end can i = omega (arith, i.clocks, can.early)
+
+one_less : (a b k e most : ℕ) → a + suc k * e ≤ most → b ≤ a + e → b + k * e ≤ most
+one_less a b k e most h l = omega (arith, h, l)
+
+-- one more
+pub draining_next : (n : CostNumbers) (first now new : ChannelState) (end entry : StepEnd) (number : ℕ) (place : Place) (rest : List (ℕ × Place)) → IsDraining n first now end → placed_writes now ≡ (number, place) ∷ rest →
+    GoesTo n (entry_step_of now.checked.timing now.checked.geometry place (progress_of now end.clock)) 1 now new entry → MayEnter new entry.clock → entry.clock ≤ end.clock + entry_of now.checked.timing now.checked.geometry → entry.cost ≤ 7000000 →
+    IsDraining n first new (record { clock = entry.clock; cost = end.cost + entry.cost })
+draining_next n first now new end entry number place rest i e goes enter clock cost =
+    let c = first.checked in
+    let same = takes_checked i.count first now i.takes in
+    let before : pending_places now ≡ place ∷ map (λ (w : ℕ × Place). w.1) rest = ap (map (λ (w : ℕ × Place). w.1)) e in
+    let after : pending_places new ≡ map (λ (w : ℕ × Place). w.1) rest = ap (map (λ (w : ℕ × Place). w.1)) (goes.takes.placed ∙ ap (drop 1) e) in
+    let many = ap length before in
+    let fewer = ap length after in
+    let at : progress_of new entry.clock ≡ entry_step_of c.timing c.geometry place (progress_of now end.clock) =
+    goes.progress ∙ ap (λ (k : Checked). entry_step_of k.timing k.geometry place (progress_of now end.clock)) same in record {
+      enter = enter;
+      ends = ap (λ (places : List Place). entry_steps_of c.timing c.geometry places (progress_of new entry.clock)) after
+          ∙ ap (entry_steps_of c.timing c.geometry (map (λ (w : ℕ × Place). w.1) rest)) at
+          ∙ sym (ap (λ (places : List Place). entry_steps_of c.timing c.geometry places (progress_of now end.clock)) before) ∙ i.ends;
+      cost = issues_then n end.cost entry.cost first.commands now.commands new.commands i.cost goes.cost;
+      count = i.count + 1;
+      takes = takes_then i.count 1 (i.count + 1) first now new refl i.takes goes.takes;
+      clocks = subst (λ (k : ℕ). entry.clock + k * entry_of c.timing c.geometry ≤ drain_start first.commands + 32500000) (sym fewer)
+          (one_less end.clock entry.clock (length (map (λ (w : ℕ × Place). w.1) rest)) (entry_of c.timing c.geometry) _
+          (subst (λ (k : ℕ). end.clock + k * entry_of c.timing c.geometry ≤ drain_start first.commands + 32500000) many i.clocks)
+          (subst (λ (k : Checked). entry.clock ≤ end.clock + entry_of k.timing k.geometry) same clock));
+      spent = omega (arith, many, fewer, cost, i.spent);
+    }
+
+-- at the end
+
+take_whole : (k : ℕ) (xs : List PendingWrite) → drop k xs ≡ [] → take k xs ≡ xs
+take_whole zero [] e = refl
+take_whole zero (x ∷ xs) e = absurd cc
+take_whole (suc k) [] e = refl
+take_whole (suc k) (x ∷ xs) e = ap (λ rest. x ∷ rest) (take_whole k xs e)
+
+one_placed : (kind : Kind) (w : ℕ × Place) (rest : List (ℕ × Place)) → kind ≡ Write → cons_option (placed kind w) rest ≡ [] → ⊥
+one_placed Write w rest k e = absurd cc
+one_placed Read w rest k e = absurd cc
+
+pub no_requests : (requests : List Pending) → All (λ p. p.kind ≡ Write) requests → filter_map placed_write requests ≡ [] → requests ≡ []
+no_requests [] all e = refl
+no_requests (p ∷ requests) all e = absurd (one_placed p.kind (p.number, p.place) (filter_map placed_write requests) (All-at (λ (p : Pending). p.kind ≡ Write) (p ∷ requests) 0 p all refl) e)
+
+nothing : {X : Type 0} (xs : List X) → length xs ≡ 0 → xs ≡ []
+nothing [] e = refl
+nothing (x ∷ xs) e = absurd (omega (arith, e))
+
+module _ (n : CostNumbers) (first now final : ChannelState) (end slept : StepEnd) (i : IsDraining n first now end) (none : now.writes ≡ []) (held : IsHeld now)
+    (goes : GoesTo n (after_self_refresh now.checked.timing now.checked.geometry (progress_of now end.clock)) 0 now final slept) where
+  none_placed : placed_writes now ≡ []
+  none_placed = nothing (placed_writes now) (placed_length now held ∙ ap length none)
+
+  pub drained_progress : progress_of final slept.clock ≡ drain_of_channel first
+  unfolding drain_of
+  drained_progress =
+      let c = first.checked in
+      let same = takes_checked i.count first now i.takes in
+      let places : pending_places now ≡ [] = ap (map (λ (w : ℕ × Place). w.1)) none_placed in
+      let at : progress_of now end.clock ≡ entries_of first = sym (ap (λ (places : List Place). entry_steps_of c.timing c.geometry places (progress_of now end.clock)) places) ∙ i.ends in
+      goes.progress ∙ ap (λ (k : Checked). after_self_refresh k.timing k.geometry (progress_of now end.clock)) same ∙ ap (after_self_refresh c.timing c.geometry) at
+
+  pub drained_channel : IsStepped final → final.phase ≡ Asleep → final ≡ drained first
+  drained_channel stepped asleep =
+      let takes = takes_then i.count 0 i.count first now final (omega arith) i.takes goes.takes in
+      let left : drop i.count first.writes ≡ [] = sym (ap (λ (s : ChannelState). s.writes) i.takes.same) ∙ none in
+      let array : after_pending first.array (take i.count first.writes) ≡ channel_memory first = ap (after_pending first.array) (take_whole i.count first.writes left) in
+      let requests : final.requests ≡ [] = no_requests final.requests stepped.requests (goes.takes.placed ∙ none_placed) in
+      let commands = ap (λ (p : Progress). p.list) drained_progress in
+      takes.same
+      ∙ ap (λ (array : List (List ℕ)). record first { array = array; writes = drop i.count first.writes; tickets = final.tickets; requests = final.requests; commands = final.commands; phase = final.phase }) array
+      ∙ ap (λ (writes : List PendingWrite). record first { array = channel_memory first; writes = writes; tickets = final.tickets; requests = final.requests; commands = final.commands; phase = final.phase }) left
+      ∙ ap (λ tickets. record first { array = channel_memory first; writes = []; tickets = tickets; requests = final.requests; commands = final.commands; phase = final.phase }) stepped.tickets
+      ∙ ap (λ (requests : List Pending). record first { array = channel_memory first; writes = []; tickets = []; requests = requests; commands = final.commands; phase = final.phase }) requests
+      ∙ ap (λ (commands : List Stamped). record first { array = channel_memory first; writes = []; tickets = []; requests = []; commands = commands; phase = final.phase }) commands
+      ∙ ap (λ phase. record first { array = channel_memory first; writes = []; tickets = []; requests = []; commands = (drain_of_channel first).list; phase = phase }) asleep
+
+  pub drained_cost : end.cost + slept.cost ≡ commands_cost n (drop (length first.commands) (drain_of_channel first).list)
+  drained_cost =
+      let cost = issues_then n end.cost slept.cost first.commands now.commands final.commands i.cost goes.cost in
+      let list = sym (ap (λ (p : Progress). p.list) drained_progress) ∙ cost.list in
+      cost.is ∙ sym (ap (λ (list : List Stamped). commands_cost n (drop (length first.commands) list)) list ∙ ap (commands_cost n) (drop-append_seam first.commands cost.commands))
+
+  pub drained_spent : (clocks : ℕ) → clocks ≡ clocks_of first → end.cost + slept.cost + n.e_clk * clocks ≡ spent_by n first
+  unfolding drain_spent drain_commands
+  drained_spent clocks e = ap (λ (cost : ℕ). cost + n.e_clk * clocks) drained_cost ∙ ap (λ (clocks : ℕ). commands_cost n (drop (length first.commands) (drain_of_channel first).list) + n.e_clk * clocks) e
+
+-- a last look finds no write
+pub none_left : (n : CostNumbers) (first old new : ChannelState) (clock : ℕ) (end : StepEnd) → EntersOldest n old clock None new → IsDraining n first old end → (new.writes ≡ []) × IsDraining n first new end
+none_left n first old new clock end e i = (ap (λ (s : ChannelState). s.writes) e.1 ∙ e.0, subst (λ (s : ChannelState). IsDraining n first s end) (sym e.1) i)
+
+pub few_places : (s : ChannelState) → IsHeld s → length (pending_places s) ≤ 64
+few_places s held = let many = places_length s held in omega (arith, many, held.writes.few, held.writes.most)
+
+-- its clocks are few
+pub few_clocks : (s : ChannelState) → CanDrain s.checked s.commands → IsHeld s → clocks_of s ≤ 32500000
+few_clocks s can held =
+    let c = s.checked in
+    let e = entry_of c.timing c.geometry in
+    let few = few_places s held in
+    let most = drain_clocks-le c s.commands (pending_places s) can (all_lie s held) in
+    let small = total_small e (close_of c.timing c.geometry) c.geometry.ranks c.timing.t_refi (length (pending_places s)) c.fits_entry c.in_limits.t_refi.1 few (grind (arith, mul-le-mul_left e few)) in
+    omega (arith, most, small)
+
+pub few_units : (e clocks : ℕ) → e ≤ 1000000 → clocks ≤ 32500000 → e * clocks ≤ 32500000000000
+few_units e clocks h l = let m = mul-le-mul_left e l in omega (arith, m, h)
+
+pub its_clocks : (first final : ChannelState) (slept : StepEnd) (start : ℕ) → progress_of final slept.clock ≡ drain_of_channel first → start ≡ drain_start first.commands → slept.clock - start ≡ clocks_of first
+unfolding drain_clocks
+its_clocks first final slept start e s = ap (λ (p : Progress). p.clock - start) e ∙ ap (λ (k : ℕ). (drain_of_channel first).clock - k) s
+
+pub from_start : (first final : ChannelState) (slept : StepEnd) (start : ℕ) → progress_of final slept.clock ≡ drain_of_channel first → start ≡ drain_start first.commands → start ≤ slept.clock
+from_start first final slept start e s =
+    let clock = ap (λ (p : Progress). p.clock) e in
+    let rises = drain_rises first.checked.timing first.checked.geometry first.commands (pending_places first) in
+    omega (arith, clock, rises, s)
+
+pub its_most_clocks : (first : ChannelState) (clocks : ℕ) → CanDrain first.checked first.commands → IsHeld first → clocks ≡ clocks_of first → clocks ≤ most_clocks first
+its_most_clocks first clocks can held e =
+    let c = first.checked in
+    let most = drain_clocks-le c first.commands (pending_places first) can (all_lie first held) in
+    let same = ap (λ (k : ℕ). close_of c.timing c.geometry + k * entry_of c.timing c.geometry) (places_length first held) in
+    omega (arith, most, same, e)
+
+pub its_most_spent : (costs : Costs) (first : ChannelState) (spent : ℕ) → AreReckonedFor first.checked costs → CanDrain first.checked first.commands → IsHeld first → spent ≡ spent_by costs.numbers first → spent ≤ close_cost costs + length first.writes * entry_cost costs
+its_most_spent costs first spent for can held e =
+    let most = drain_spent-le first.checked costs first.commands (pending_places first) for can (all_lie first held) in
+    let same = ap (λ (k : ℕ). close_cost costs + k * entry_cost costs) (places_length first held) in
+    subst (λ (most : ℕ). spent ≤ most) same (subst (λ (k : ℕ). k ≤ close_cost costs + length (pending_places first) * entry_cost costs) (sym e) most)
