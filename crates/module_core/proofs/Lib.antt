@@ -28,3 +28,5 @@ pub mod Emptied
 pub mod LossSteps
 pub mod LostModules
 pub mod RunsOn
+pub mod OpenedStays
+pub mod History

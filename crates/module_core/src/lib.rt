@@ -4,6 +4,7 @@
 mod arming;
 mod closing;
 mod events;
+mod lives;
 mod losing;
 mod marks;
 mod module;
@@ -13,6 +14,7 @@ mod saves;
 mod stepping;
 
 pub use events::{Accepted, Event, Loss, ReadRefusal, Reply, StepReply, WriteRefusal};
+pub use lives::one_history;
 pub use module::Module;
 pub use opening::Opened;
 pub use saves::Saves;
