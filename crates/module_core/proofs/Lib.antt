@@ -30,3 +30,4 @@ pub mod LostModules
 pub mod RunsOn
 pub mod OpenedStays
 pub mod History
+pub mod HonestRuns

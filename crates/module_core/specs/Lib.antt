@@ -12,3 +12,4 @@ pub mod Stands
 pub mod Closing
 pub mod Opening
 pub mod Lives
+pub mod Honesty
