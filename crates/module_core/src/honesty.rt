@@ -12,18 +12,18 @@ ghost use Rattle.module_core.specs.Honesty.{IsHonestAlong, SavesAllAlong, IsBack
 use line_channels::Channels;
 
 /// Through a run with an honest gauge, and a device that is spared, the gauge backs what was acknowledged at each moment, and
-/// a loss of mains while acknowledged writes were to be saved has saved all that were accepted. A machine that isn't armed
-/// needs no backing to begin with.
+/// a loss of mains while acknowledged writes were to be saved has saved all that were accepted. A disarmed machine needs no
+/// backing to begin with.
 pub fn honest_run<C: Channels>()
-    ensures backed { (setup : Setup) (events : List Event) (replies : List Reply) (old new : Point C)
-        (run : Run C.Channels setup events replies old new)
+    ensures backed { (setup : Setup) (events : List Event) (replies : List Reply)
+        (old new : Point C) (run : Run C.Channels setup events replies old new)
         → IsHonestAlong C.Channels setup events replies old new run
         → IsBackedAt C.Channels setup old → IsBackedAt C.Channels setup new }
-    ensures saved { (setup : Setup) (events : List Event) (replies : List Reply) (old new : Point C)
-        (run : Run C.Channels setup events replies old new)
+    ensures saved { (setup : Setup) (events : List Event) (replies : List Reply)
+        (old new : Point C) (run : Run C.Channels setup events replies old new)
         → IsHonestAlong C.Channels setup events replies old new run
         → IsBackedAt C.Channels setup old
         → SavesAllAlong C.Channels setup events replies old new run }
-    ensures begins { (setup : Setup) (machine : Machine) (gauge : Gauge) → is_backed machine.mode ≡ false
-        → IsBacked setup machine gauge }
+    ensures begins { (setup : Setup) (machine : Machine) (gauge : Gauge)
+        → is_backed machine.mode ≡ false → IsBacked setup machine gauge }
 {}
