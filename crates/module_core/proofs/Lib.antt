@@ -28,3 +28,6 @@ pub mod Emptied
 pub mod LossSteps
 pub mod LostModules
 pub mod RunsOn
+pub mod OpenedStays
+pub mod History
+pub mod HonestRuns

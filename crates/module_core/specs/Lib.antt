@@ -11,3 +11,5 @@ pub mod Begins
 pub mod Stands
 pub mod Closing
 pub mod Opening
+pub mod Lives
+pub mod Honesty

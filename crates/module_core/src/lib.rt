@@ -4,6 +4,8 @@
 mod arming;
 mod closing;
 mod events;
+mod honesty;
+mod lives;
 mod losing;
 mod marks;
 mod module;
@@ -13,6 +15,8 @@ mod saves;
 mod stepping;
 
 pub use events::{Accepted, Event, Loss, ReadRefusal, Reply, StepReply, WriteRefusal};
+pub use honesty::honest_run;
+pub use lives::one_history;
 pub use module::Module;
 pub use opening::Opened;
 pub use saves::Saves;
