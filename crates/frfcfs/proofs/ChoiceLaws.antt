@@ -7,7 +7,7 @@ use Rattle.ddr4_timing.specs.declared.command.Stamped.{Stamped}
 use Rattle.ddr4_timing.specs.declared.timing.Checked.{Checked}
 use Rattle.frfcfs.specs.declared.pending.Pending.{Pending}
 use Rattle.frfcfs.specs.Requests.{AreInOrder, IsEligible}
-use Rattle.frfcfs.specs.Candidates.{Turn, OfRank, OfColumn, OfRow, IsCandidate, IsLeast, OffersRank, WantsColumn, WantsRow, class_of, number_of}
+use Rattle.frfcfs.specs.Candidates.{Turn, OfRank, OfColumn, OfRow, IsCandidate, IsLeast, OffersRank, WantsColumn, WantsRow, class_of, tie_break_of}
 use Rattle.frfcfs.proofs.Lists.{All-at, one_at, order_at}
 use Rattle.frfcfs.proofs.RankOffers.{one_rank}
 use Rattle.frfcfs.proofs.Wants.{one_column, one_row}
@@ -27,7 +27,7 @@ one_request pending i j p q order at there same =
     ]
 
 -- of two turns neither of which comes after the other
-one_turn : (c : Checked) (list : List Stamped) (pending : List Pending) (k : ℕ) (s t : Turn) (a b : Command) → AreInOrder pending → IsCandidate c list pending k s a → IsCandidate c list pending k t b → class_of s ≡ class_of t → number_of s ≡ number_of t → (s ≡ t) × (a ≡ b)
+one_turn : (c : Checked) (list : List Stamped) (pending : List Pending) (k : ℕ) (s t : Turn) (a b : Command) → AreInOrder pending → IsCandidate c list pending k s a → IsCandidate c list pending k t b → class_of s ≡ class_of t → tie_break_of s ≡ tie_break_of t → (s ≡ t) × (a ≡ b)
 one_turn c list pending k (OfRank r) (OfRank q) a b order x y class number = (ap OfRank number, one_rank c list k r a b x (subst (λ (n : ℕ). OffersRank c list k n b) (sym number) y))
 one_turn c list pending k (OfRank r) (OfColumn q) a b order x y class number = absurd (omega (arith, class))
 one_turn c list pending k (OfRank r) (OfRow q) a b order x y class number = absurd (omega (arith, class))

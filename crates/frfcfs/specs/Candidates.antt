@@ -69,15 +69,15 @@ class_of (OfColumn p) = 1
 class_of (OfRow p) = 2
 
 -- within a class the smaller rank comes first, or the older request
-abbrev pub number_of : Turn → ℕ
-number_of (OfRank rank) = rank
-number_of (OfColumn p) = p.seq
-number_of (OfRow p) = p.seq
+abbrev pub tie_break_of : Turn → ℕ
+tie_break_of (OfRank rank) = rank
+tie_break_of (OfColumn p) = p.seq
+tie_break_of (OfRow p) = p.seq
 
 -- One turn doesn't come after another.
 pub record IsNotAfter (a b : Turn) : Type 0 where
   pub class : class_of a ≤ class_of b
-  pub number : class_of a ≡ class_of b → number_of a ≤ number_of b
+  pub number : class_of a ≡ class_of b → tie_break_of a ≤ tie_break_of b
 
 -- There is no candidate at the clock.
 abbrev pub HasNoCandidate : Checked → List Stamped → List Pending → ℕ → Type 0

@@ -24,6 +24,10 @@ AreMarks g pending marks =
 abbrev pub IsEligibleIn : Geometry → List Pending → ℕ → Pending → Type 0
 IsEligibleIn g pending index request = IsEligible pending index request × HasBank g (bank_at request.place)
 
+-- Some request is eligible, and the geometry has its bank.
+abbrev pub HasEligibleIn : Geometry → List Pending → Type 0
+HasEligibleIn g pending = (i : ℕ) × (p : Pending) × IsEligible pending i p × HasBank g (bank_at p.place)
+
 -- Some eligible request before an index hits the row that is open in the bank.
 abbrev pub HasHit : List Stamped → List Pending → ℕ → BankAddress → Type 0
 HasHit list pending end bank =
@@ -59,6 +63,10 @@ IsBetter old index from end new =
     ((from < min end old.clock) × (new ≡ record { clock = from; index = index }))
     ⊎ ((min end old.clock ≤ from) × (new ≡ old))
 
+-- before any request was looked at
+abbrev pub no_bests : ℕ → Bests
+no_bests limit = record { column = record { clock = limit; index = 0 }; row = record { clock = limit; index = 0 } }
+
 -- Of the requests before an index, none takes sooner from now on, and none that takes at that clock is older.
 pub record IsBest (TakesAt : ℕ → ℕ → Type 0) (now limit end : ℕ) (best : Best) : Type 0 where
   pub found : best.clock < limit → (best.index < end) × TakesAt best.index best.clock
@@ -78,6 +86,10 @@ IsFound g pending now limit best =
 -- the same of each class
 abbrev pub AreFound : Geometry → List Pending → ℕ → ℕ → Bests → Type 0
 AreFound g pending now limit bests = IsFound g pending now limit bests.column × IsFound g pending now limit bests.row
+
+-- A command goes in a span, and serves no request.
+abbrev pub ServesNobodyIn : ℕ → ℕ → Next → Type 0
+ServesNobodyIn now last next = (now ≤ next.clock) × (next.clock ≤ last) × (next.serves ≡ None)
 
 -- Of some ranks, none has its REF or PREA sooner in a span, and none that has it at that clock is a smaller one.
 pub record IsRankNextAt (c : Checked) (list : List Stamped) (now last low end : ℕ) (next : Next) : Type 0 where

@@ -5,7 +5,7 @@ ghost use Rattle.ddr4_timing.specs.declared.command.Stamped.{Stamped};
 ghost use Rattle.bank_core.specs.Stands.{Stands};
 ghost use Rattle.frfcfs.specs.declared.pending.Pending.{Pending};
 ghost use Rattle.frfcfs.specs.Requests.{IsEligible};
-ghost use Rattle.frfcfs.specs.Search.{AreBest, AreFound, AreHits, IsBetter, IsEnd};
+ghost use Rattle.frfcfs.specs.Search.{AreBest, AreFound, AreHits, IsBetter, IsEnd, no_bests};
 
 use crate::pending::Pending;
 use bank_core::banks::Banks;
@@ -41,7 +41,7 @@ pub(crate) struct Bests {
 impl Bests {
     /// Before any request was looked at.
     pub(crate) fn none(limit: u64) -> Bests
-        ensures { result ≡ record { column = record { clock = limit; index = 0 }; row = record { clock = limit; index = 0 } } }
+        ensures { result ≡ no_bests limit }
     {
         let none = Best {
             clock: limit,
@@ -64,10 +64,12 @@ impl Bests {
         end: u64,
     )
         requires { HasBank banks.now.checked.geometry (bank_at request.now.place) }
-        ensures found { (pending : List Pending) (limit : ℕ) → end ≤ limit → IsEligible pending index request.now →
+        ensures found { (pending : List Pending) (limit : ℕ) → end ≤ limit →
+            IsEligible pending index request.now →
             AreFound banks.now.checked.geometry pending now limit self.old →
             AreFound banks.now.checked.geometry pending now limit self.new }
-        ensures best { (list : List Stamped) (pending : List Pending) (last limit : ℕ) → Stands banks.now list →
+        ensures best { (list : List Stamped) (pending : List Pending) (last limit : ℕ) →
+            Stands banks.now list →
             AreHits banks.now.checked.geometry list pending (length pending) hits.now →
             IsEnd banks.now.checked list request.now.place.rank last end → end ≤ limit →
             IsEligible pending index request.now →

@@ -6,7 +6,7 @@ ghost use Rattle.ddr4_timing.specs.declared.command.Stamped.{Stamped};
 ghost use Rattle.bank_core.specs.Stands.{Stands};
 ghost use Rattle.frfcfs.specs.declared.pending.Pending.{Pending};
 ghost use Rattle.frfcfs.specs.Requests.{IsEligible, IsFirst};
-ghost use Rattle.frfcfs.specs.Search.{AreHits, AreMarks};
+ghost use Rattle.frfcfs.specs.Search.{AreHits, AreMarks, HasEligibleIn};
 
 use crate::pending::Pending;
 use bank_core::banks::Banks;
@@ -61,7 +61,7 @@ pub(crate) fn hit_banks(banks: &Banks, pending: &[Pending], marks: &[bool]) -> H
     requires { AreMarks banks.now.checked.geometry pending.now marks.now }
     ensures banks { (list : List Stamped) → Stands banks.now list →
         AreHits banks.now.checked.geometry list pending.now (length pending.now) result.banks }
-    ensures any { IsTrue result.any ↔ ((i : ℕ) × (p : Pending) × IsEligible pending.now i p × HasBank banks.now.checked.geometry (bank_at p.place)) }
+    ensures any { IsTrue result.any ↔ HasEligibleIn banks.now.checked.geometry pending.now }
 {
     let geometry = &banks.checked().geometry;
     let mut hit = [false; 64];

@@ -9,12 +9,14 @@ ghost use Rattle.frfcfs.specs.Candidates.{Turn, IsLeast};
 
 /// No request at an earlier place of the list names the line of an eligible one.
 pub fn eligible_is_first()
-    ensures { (pending : List Pending) (i j : ℕ) (p q : Pending) → AreInOrder pending → IsEligible pending i p → j < i →
+    ensures { (pending : List Pending) (i j : ℕ) (p q : Pending) → AreInOrder pending →
+        IsEligible pending i p → j < i →
         slice_get pending j ≡ Some q → q.line ≢ p.line }
 {}
 
 /// There is one choice at a clock.
 pub fn one_choice()
-    ensures { (c : Checked) (list : List Stamped) (pending : List Pending) (clock : ℕ) (s t : Turn) (a b : Command) →
-        AreInOrder pending → IsLeast c list pending clock s a → IsLeast c list pending clock t b → (s ≡ t) × (a ≡ b) }
+    ensures { (c : Checked) (list : List Stamped) (pending : List Pending) (clock : ℕ) (s t : Turn)
+        (a b : Command) → AreInOrder pending → IsLeast c list pending clock s a →
+        IsLeast c list pending clock t b → (s ≡ t) × (a ≡ b) }
 {}

@@ -18,8 +18,9 @@ pub fn new_keeps()
 
 /// The scheduler's next command keeps it, whatever the requests are.
 pub fn next_keeps()
-    ensures { (c : Checked) (list : List Stamped) (pending : List Pending) (next : Next) → KeepsMargin c list →
-        IsNext c list pending (last_clock list) (Some next) → KeepsMargin c (with_command list next.clock next.cmd) }
+    ensures { (c : Checked) (list : List Stamped) (pending : List Pending) (next : Next) →
+        KeepsMargin c list → IsNext c list pending (last_clock list) (Some next) →
+        KeepsMargin c (with_command list next.clock next.cmd) }
 {}
 
 /// It is kept where every rank had its SRE, whatever commands came before: a whole drain keeps it.
@@ -29,15 +30,17 @@ pub fn asleep_keeps()
 
 /// Where it is kept, and below clock 2^62, there is no next command exactly where every rank had its SRE.
 pub fn none_exactly()
-    ensures { (c : Checked) (list : List Stamped) (pending : List Pending) (next : Option Next) → KeepsMargin c list →
-        IsLawful c list → last_clock list < 2 ^ 62 → IsNext c list pending (last_clock list) next →
+    ensures { (c : Checked) (list : List Stamped) (pending : List Pending) (next : Option Next) →
+        KeepsMargin c list → IsLawful c list → last_clock list < 2 ^ 62 →
+        IsNext c list pending (last_clock list) next →
         ((next ≡ None) ↔ AreAsleep c list) }
 {}
 
 /// Where it is kept, the REF of a rank that is awake can still go before its deadline, at once or after a PREA.
 pub fn refresh_in_time()
-    ensures { (c : Checked) (list : List Stamped) (rank : ℕ) → KeepsMargin c list → IsLawful c list →
-        rank < c.geometry.ranks → ¬ IsTrue (is_asleep rank list) → MayRefresh c list rank ⊎ MayClose c list rank }
+    ensures { (c : Checked) (list : List Stamped) (rank : ℕ) → KeepsMargin c list →
+        IsLawful c list → rank < c.geometry.ranks → ¬ IsTrue (is_asleep rank list) →
+        MayRefresh c list rank ⊎ MayClose c list rank }
 {}
 
 /// Where it is kept, a drain's close step and two of its entries end before the deadline of each rank that is awake.

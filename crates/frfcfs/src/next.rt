@@ -78,8 +78,8 @@ pub fn next_command(banks: &Banks, queue: &Queue, now: u64) -> Option<Next>
     ensures allows { IfSome result (λ next. Allows banks.now next.cmd next.clock) }
     ensures next { IfSome result (λ next. (list : List Stamped) → Stands banks.now list →
         IsNext banks.now.checked list queue.now.requests now (Some next)) }
-    ensures idle { (list : List Stamped) → Stands banks.now list → KeepsMargin banks.now.checked list →
-        now ≡ last_clock list →
+    ensures idle { (list : List Stamped) → Stands banks.now list →
+        KeepsMargin banks.now.checked list → now ≡ last_clock list →
         ((result ≡ None) ↔ (IsIdle banks.now.checked list queue.now.requests now ⊎ (2 ^ 62 ≤ now))) }
     ensures keeps { IfSome result (λ next. (list : List Stamped) → Stands banks.now list →
         KeepsMargin banks.now.checked list → now ≡ last_clock list →

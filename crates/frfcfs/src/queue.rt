@@ -32,7 +32,8 @@ impl Model for Queue {
     ghost invariant = { λ q. IsWaiting (record { most = q.most; next = q.next; requests = drop q.start q.pending.items })
         × AreFirsts (map (λ p. p.line) (drop q.start q.pending.items)) (drop q.start q.firsts.items)
         × (q.start ≤ length q.pending.items) × (length q.firsts.items ≡ length q.pending.items)
-        × (length q.pending.items ≤ q.room) × (q.most ≤ q.room) × (q.room ≤ vec_capacity q.pending) × (q.room ≤ vec_capacity q.firsts) };
+        × (length q.pending.items ≤ q.room) × (q.most ≤ q.room)
+        × (q.room ≤ vec_capacity q.pending) × (q.room ≤ vec_capacity q.firsts) };
 }
 
 // Does no request name the line?
@@ -53,7 +54,8 @@ fn oldest_of(pending: &[Pending], line: u64) -> Option<usize>
 fn mark_oldest(pending: &[Pending], firsts: &mut [bool], start: usize, line: u64)
     requires start { start ≤ length pending.now }
     requires size { length firsts.old ≡ length pending.now }
-    ensures marks { MarksOldest line (drop start pending.now) (drop start firsts.old) (drop start firsts.new) }
+    ensures marks { MarksOldest line (drop start pending.now)
+        (drop start firsts.old) (drop start firsts.new) }
     ensures size { length firsts.new ≡ length firsts.old }
 {
     if let Some(place) = oldest_of(&pending[start..], line) {

@@ -8,7 +8,7 @@ ghost use Rattle.frfcfs.specs.declared.pending.Pending.{Pending};
 ghost use Rattle.frfcfs.specs.Requests.{AreInOrder};
 ghost use Rattle.frfcfs.specs.Candidates.{WantsRow};
 ghost use Rattle.frfcfs.specs.Next.{IsNextIn, IsServable};
-ghost use Rattle.frfcfs.specs.Search.{AreBest, AreEnds, AreFound, AreHits, AreMarks, IsRankNext, IsSoonerOf, limit_of};
+ghost use Rattle.frfcfs.specs.Search.{AreBest, AreEnds, AreFound, AreHits, AreMarks, IsRankNext, IsSoonerOf, ServesNobodyIn, limit_of};
 
 use crate::best::Bests;
 use crate::hits::{Hits, is_eligible};
@@ -20,7 +20,8 @@ use ddr4_timing::command::Command;
 // For each rank the clock before which its requests may have their commands, in a span up to a last clock.
 fn ends(banks: &Banks, last: u64) -> [u64; 4]
     ensures early { (rank : ℕ) → slice_index result rank ≤ limit_of last }
-    ensures ends { (list : List Stamped) → Stands banks.now list → AreEnds banks.now.checked list last result }
+    ensures ends { (list : List Stamped) → Stands banks.now list →
+        AreEnds banks.now.checked list last result }
 {
     let mut ends = [0; 4];
     for rank in 0..banks.checked().geometry.ranks {
@@ -63,7 +64,8 @@ fn soonest_requests(
 // A request's ACT where its bank is closed, else its PRE.
 fn row_command(banks: &Banks, request: &Pending) -> Command
     requires { HasBank banks.now.checked.geometry (bank_at request.now.place) }
-    ensures { (list : List Stamped) (pending : List Pending) (cmd : Command) → Stands banks.now list →
+    ensures { (list : List Stamped) (pending : List Pending) (cmd : Command) →
+        Stands banks.now list →
         WantsRow list pending request.now cmd → result ≡ cmd }
 {
     match banks.open_row(request.place.bank_address()) {
@@ -75,7 +77,7 @@ fn row_command(banks: &Banks, request: &Pending) -> Command
 // A rank's REF, or the PREA before it, in a span.
 fn rank_next(banks: &Banks, rank: u64, now: u64, last: u64) -> Option<Next>
     requires { rank < banks.now.checked.geometry.ranks }
-    ensures span { IfSome result (λ next. (now ≤ next.clock) × (next.clock ≤ last) × (next.serves ≡ None)) }
+    ensures span { IfSome result (ServesNobodyIn now last) }
     ensures next { (list : List Stamped) → Stands banks.now list →
         IsRankNext banks.now.checked list now last rank (rank + 1) result }
 {
@@ -108,7 +110,7 @@ fn sooner(best: Option<Next>, other: Option<Next>) -> Option<Next>
 
 // The REF or PREA that goes first in a span.
 fn soonest_rank(banks: &Banks, now: u64, last: u64) -> Option<Next>
-    ensures span { IfSome result (λ next. (now ≤ next.clock) × (next.clock ≤ last) × (next.serves ≡ None)) }
+    ensures span { IfSome result (ServesNobodyIn now last) }
     ensures next { (list : List Stamped) → Stands banks.now list →
         IsRankNext banks.now.checked list now last 0 banks.now.checked.geometry.ranks result }
 {
