@@ -9,39 +9,9 @@ use crate::queue::Queue;
 use bank_core::banks::Banks;
 use ddr4_timing::command::Command;
 use ddr4_timing::place::{BankAddress, Place};
-use ddr4_timing::timing::{Geometry, Timing};
+use ddr4_timing::profiles::{SMALL, TINY};
 use std::alloc::Global;
 use std::test::Fail;
-
-const TIMING: Timing = Timing {
-    t_rcd: 16,
-    t_rp: 16,
-    t_ras: 39,
-    cl: 16,
-    cwl: 12,
-    t_ccd_s: 4,
-    t_ccd_l: 6,
-    t_rrd_s: 4,
-    t_rrd_l: 6,
-    t_faw: 26,
-    t_wr: 18,
-    t_wtr_s: 3,
-    t_wtr_l: 9,
-    t_rtp: 9,
-    t_rtw: 10,
-    t_cs: 2,
-    t_rfc: 420,
-    t_refi: 9360,
-};
-
-const GEOMETRY: Geometry = Geometry {
-    channels: 2,
-    ranks: 1,
-    groups: 2,
-    banks: 4,
-    rows: 2,
-    columns: 4,
-};
 
 const BANK: BankAddress = BankAddress {
     rank: 0,
@@ -85,7 +55,7 @@ struct Bench {
 
 impl Bench {
     fn new(alloc: Global) -> Result<Bench, Fail> {
-        let checked = TIMING.check(&GEOMETRY)?;
+        let checked = TINY.check(&SMALL)?;
         Ok(Bench {
             banks: Banks::new(&checked),
             queue: Queue::with_room(alloc, 8)?,
