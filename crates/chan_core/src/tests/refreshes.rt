@@ -1,17 +1,14 @@
 // Channels that are busy past many refresh intervals.
 use crate::answers::{Collected, Got, Served, Ticket};
 use crate::tests::fixture::Fixture;
-use crate::tests::{small, tiny};
 use ddr4_timing::command::{Command, Stamped};
+use ddr4_timing::profiles::{SMALL, TINY};
 use ddr4_timing::timing::{Geometry, Timing};
 use std::alloc::Global;
 use std::test::Fail;
 
 fn four_ranks() -> Geometry {
-    Geometry {
-        ranks: 4,
-        ..small()
-    }
+    Geometry { ranks: 4, ..SMALL }
 }
 
 // An entry takes 44 clocks and a close step 40: the interval is 2 * (44 + 40) + 4 * 4.
@@ -150,8 +147,8 @@ fn refreshes(list: &[Stamped]) -> usize {
 
 #[test]
 fn a_busy_channel_keeps_every_rule(rt: HostRuntime) -> Result<(), Fail> {
-    for (geometry, least) in [(small(), 12), (four_ranks(), 48)] {
-        let mut channel = Fixture::new(rt.alloc(), &tiny(), &geometry, 8, 8)?;
+    for (geometry, least) in [(SMALL, 12), (four_ranks(), 48)] {
+        let mut channel = Fixture::new(rt.alloc(), &TINY, &geometry, 8, 8)?;
         let list = busy(rt.alloc(), &mut channel, 21 * 9360)?;
         assert_eq!(rt; channel.fault(&list), None);
         assert!(rt; refreshes(&list) >= least);

@@ -1,14 +1,14 @@
 // Worked requests on channel 0 of the small profile.
 use crate::answers::{Collected, Got, ReadsFull};
 use crate::tests::fixture::Fixture;
-use crate::tests::{small, tiny};
 use ddr4_timing::command::Stamped;
+use ddr4_timing::profiles::{SMALL, TINY};
 use std::alloc::Global;
 use std::fmt::Write;
 use std::test::Fail;
 
 fn channel(alloc: Global) -> Result<Fixture, Fail> {
-    Fixture::new(alloc, &tiny(), &small(), 8, 8)
+    Fixture::new(alloc, &TINY, &SMALL, 8, 8)
 }
 
 // The commands as text, one a line.
@@ -91,5 +91,15 @@ fn refuses_at_the_limits_exactly(rt: HostRuntime) -> Result<(), Fail> {
     assert!(rt; matches!(channel.get(14)?, Ok(Got::Later(_))));
     assert_eq!(rt; channel.get(64)?, Err(ReadsFull));
     assert_eq!(rt; channel.get(16)?, Err(ReadsFull));
+    Ok(())
+}
+
+// It takes room for as many commands as it may issue, and for no more.
+#[test]
+fn room_for_many_commands(rt: HostRuntime) -> Result<(), Fail> {
+    let mut channel = channel(rt.alloc())?;
+    assert!(rt; channel.put(4, 0x22)?.is_ok());
+    let commands = channel.work_many(rt.alloc(), 1 << 20)?;
+    assert_eq!(rt; commands.len(), 2);
     Ok(())
 }
