@@ -8,6 +8,26 @@ use ddr4_timing::timing::Checked;
 use interleave_map::line_map::LineMap;
 use std::alloc::Global;
 use std::marker::Model;
+use thiserror::Error;
+
+/// Why a load can't go on: its stream asks for what the channel hasn't.
+#[derive(Clone, Copy, Debug, PartialEq, Eq, Error)]
+pub enum LoadError {
+    #[error("no such depth")]
+    Depth,
+    #[error("no such place")]
+    Place,
+    #[error("no such write")]
+    Write,
+    #[error("no room for a write")]
+    WriteRoom,
+    #[error("no such read")]
+    Read,
+    #[error("no room for a read")]
+    ReadRoom,
+    #[error("idle")]
+    Idle,
+}
 
 // Takes the low part, which counts up to a power of two, off a number.
 fn low_part(rest: &mut u64, size: u64) -> u64 {
@@ -51,7 +71,7 @@ impl<'m, M: LineMap> Load<'m, M> {
         requires geometry { M.geometry_of map.now ≡ checked.now.geometry }
     {
         if depth < 1 || depth > 64 {
-            anyhow::bail!("no such depth");
+            return Err(LoadError::Depth.into());
         }
         let mut load = Load {
             map,
@@ -68,39 +88,39 @@ impl<'m, M: LineMap> Load<'m, M> {
     }
 
     // Writes the stream's next line, to an even column.
-    fn put(&mut self) -> anyhow::Result<()> {
+    fn put(&mut self) -> Result<(), LoadError> {
         let pick = self.picks.next() / 2 * 2;
         let line = self.line(pick)?;
         if !self.channel.has_line(self.map, line) || !self.channel.may_take(self.number) {
-            anyhow::bail!("no such write");
+            return Err(LoadError::Write);
         }
         if self
             .channel
             .put(self.map, self.number, line, [1; 64])
             .is_err()
         {
-            anyhow::bail!("no room for a write");
+            return Err(LoadError::WriteRoom);
         }
         self.number = self.number.wrapping_add(1);
         Ok(())
     }
 
     // Reads the stream's next line, of an odd column, so that no pending write answers it.
-    fn get(&mut self) -> anyhow::Result<()> {
+    fn get(&mut self) -> Result<(), LoadError> {
         let pick = self.picks.next() / 2 * 2 + 1;
         let line = self.line(pick)?;
         if !self.channel.has_line(self.map, line) {
-            anyhow::bail!("no such read");
+            return Err(LoadError::Read);
         }
         match self.channel.get(self.map, line, self.number) {
             Ok(Got::Later(_)) => Ok(()),
-            _ => anyhow::bail!("no room for a read"),
+            _ => Err(LoadError::ReadRoom),
         }
     }
 
     // A line of the channel: that at the place of a pick, whose low part names the column, then the group, the bank, the
     // rank and the row.
-    fn line(&self, pick: u64) -> anyhow::Result<u64> {
+    fn line(&self, pick: u64) -> Result<u64, LoadError> {
         let geometry = &self.checked.geometry;
         let mut rest = pick;
         let place = Place {
@@ -112,15 +132,15 @@ impl<'m, M: LineMap> Load<'m, M> {
             row: low_part(&mut rest, geometry.rows),
         };
         if !place.lies_in(geometry) {
-            anyhow::bail!("no such place");
+            return Err(LoadError::Place);
         }
         Ok(self.map.line(place))
     }
 
     /// Issues one command, and replaces the request that it served: the command's clock.
-    pub(crate) fn step(&mut self) -> anyhow::Result<u64> {
+    pub(crate) fn step(&mut self) -> Result<u64, LoadError> {
         let Some(done) = self.channel.work() else {
-            anyhow::bail!("idle");
+            return Err(LoadError::Idle);
         };
         match done.served {
             Some(Served::Write { .. }) => self.put()?,

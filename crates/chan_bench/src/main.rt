@@ -15,7 +15,7 @@ ghost use Rattle.interleave_map.specs.Interleaving.{place_by_lines, line_by_line
 mod load;
 mod stream;
 
-use crate::load::Load;
+use crate::load::{Load, LoadError};
 use crate::stream::{Picks, Stream};
 use ddr4_timing::place::Place;
 use ddr4_timing::profiles::{LARGEST, SMALL, TINY};
@@ -35,7 +35,7 @@ fn geometry_of(word: &str) -> anyhow::Result<Geometry> {
 }
 
 // Issues so many commands; the last clock.
-fn run<M: LineMap>(load: &mut Load<'_, M>, commands: u64) -> anyhow::Result<u64> {
+fn run<M: LineMap>(load: &mut Load<'_, M>, commands: u64) -> Result<u64, LoadError> {
     let mut last = 0;
     for _ in 0..commands {
         last = load.step()?;

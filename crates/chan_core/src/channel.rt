@@ -1,18 +1,12 @@
 // One channel.
-ghost use Rattle.std.specs.Prelude.{◌≡◌, ◌≢◌, ℕ, List, ◌<◌, ◌≤◌, ◌^◌, ◌↔◌, ◌++◌, [], Some, None, IfErr, IfOk, IfSome, IfNone, IsOk, IsTrue, OnOk, OnErr, count_by, length, nat_lt, slice_get};
+ghost use Rattle.std.specs.Prelude.{◌≡◌, ◌≢◌, ℕ, ◌<◌, ◌≤◌, ◌^◌, ◌↔◌, ◌++◌, [], Some, None, IfErr, IfOk, IfSome, IfNone, IsOk, IsTrue, OnOk, OnErr, count_by, length, nat_lt, slice_get};
 ghost use Rattle.line_memory.specs.Memory.{zero_lines};
 ghost use Rattle.wpq_core.specs.Writes.{ComeBefore, pending_write};
 ghost use Rattle.interleave_map.specs.Cells.{cells_of};
-ghost use Rattle.chan_core.specs.State.{channel_memory, clock_of, last_commands, new_channel, owed_at, placed_writes, stored_at};
+ghost use Rattle.chan_core.specs.State.{channel_memory, clock_of, last_commands, new_channel, stored_at};
 ghost use Rattle.chan_core.specs.Mapped.{LiesOn, OfItsPlace};
-ghost use Rattle.chan_core.specs.Singles.{FitsOldest, IsEarliest, IssuesAlone};
-ghost use Rattle.ddr4_timing.specs.Lawful.{IsLawful, open_row, with_command};
-ghost use Rattle.ddr4_timing.specs.Places.{HasBank};
-ghost use Rattle.ddr4_timing.specs.declared.command.Stamped.{Stamped};
-ghost use Rattle.bank_core.specs.Stands.{Stands};
-ghost use Rattle.chan_core.specs.Phases.{TellsSleep};
 ghost use Rattle.chan_core.specs.Calls.{AddsWrite, AnswersCollect, AnswersGet, HasNothingToSend, IsFullOfReads, IsFullOfWrites, KeepsBelow, IssuesChoice, IssuesChoices, WritesAt, after_commands, after_get, after_put, loaded_at, with_hold};
-ghost use Rattle.chan_core.specs.declared.phase.Phase.TheVariants.{Running, Stepping};
+ghost use Rattle.chan_core.specs.declared.phase.Phase.TheVariants.{Stepping};
 ghost use Rattle.chan_core.specs.Always.{IsChannel};
 
 use crate::answers::{Collected, Done, Got, ReadsFull, Ticket};
@@ -20,8 +14,7 @@ use crate::channel_memory::ChannelMemory;
 use crate::phase::Phase;
 use bank_core::banks::Banks;
 use circular_buffer::HeapCircularBuffer;
-use ddr4_timing::command::{Command, Stamped};
-use ddr4_timing::place::{BankAddress, Place};
+use ddr4_timing::command::Stamped;
 use ddr4_timing::timing::Checked;
 use frfcfs::next::next_command;
 use interleave_map::cells::line_count;
@@ -41,10 +34,10 @@ pub const RECENT: usize = 64;
 /// for contracts alone, and takes no bytes.
 #[derive(Drop)]
 pub struct Channel {
-    banks: Banks,
-    clock: u64,
-    recent: HeapCircularBuffer<Stamped>,
-    memory: ChannelMemory,
+    pub(crate) banks: Banks,
+    pub(crate) clock: u64,
+    pub(crate) recent: HeapCircularBuffer<Stamped>,
+    pub(crate) memory: ChannelMemory,
 }
 
 impl Model for Channel {
@@ -288,38 +281,6 @@ impl Channel {
         self.recent.get(i).copied()
     }
 
-    /// The number and the place of the oldest pending write; None exactly where none is pending. It costs the number of
-    /// pending requests.
-    pub fn oldest(&self) -> Option<(u64, Place)>
-        ensures { result ≡ slice_get (placed_writes self.now) 0 }
-    {
-        self.memory.oldest()
-    }
-
-    /// The least clock at which a single command may go, if there is one: it may go from then on up to nine intervals after
-    /// the last REF of its rank.
-    pub fn earliest(&self, cmd: Command) -> Option<u64>
-        ensures { IsEarliest self.now.checked self.now.commands cmd result }
-    {
-        self.banks.earliest(cmd)
-    }
-
-    /// The row that is open in a bank, or None where the bank is closed.
-    pub fn open_row(&self, bank: BankAddress) -> Option<u64>
-        requires { HasBank self.now.checked.geometry bank }
-        ensures { result ≡ open_row bank self.now.commands }
-    {
-        self.banks.open_row(bank)
-    }
-
-    /// How many REF the rank owes at the clock: one for each interval that has passed, less those issued.
-    pub fn owed(&self, rank: u64, clock: u64) -> u64
-        requires { rank < self.now.checked.geometry.ranks }
-        ensures { result ≡ owed_at self.now rank clock }
-    {
-        self.banks.owed(rank, clock)
-    }
-
     /// Goes to the first clock from now on at which the first-ready, first-come-first-served choice has a candidate (Rixner
     /// and others, "Memory Access Scheduling", ISCA 2000), and issues it there. A WR takes its write to the array, a RD
     /// answers its read. So the memory stays what it was, that below a hold too, and an open read has the bytes that it was to
@@ -348,28 +309,6 @@ impl Channel {
         Some(Done { command, served })
     }
 
-    /// A single command goes at a clock, as a drain sends them; `earliest` says at which it may. A WR takes the oldest pending
-    /// write to the array, held or not. All reads are lost: their tickets are unknown from now on. From the first single
-    /// command until every rank had its SRE no refresh is promised in its time. It takes no memory and costs the number of
-    /// pending requests and of ranks.
-    pub fn issue(&mut self, cmd: Command, clock: u64)
-        requires lawful { IsLawful self.old.checked (with_command self.old.commands clock cmd) }
-        requires early { clock < 2 ^ 63 }
-        requires oldest { FitsOldest self.old cmd }
-        ensures issues { IssuesAlone self.old (record { clock = clock; cmd = cmd }) self.new }
-        ensures memory { channel_memory self.new ≡ channel_memory self.old }
-    {
-        if !self.banks.ready(cmd, clock) {
-            unreachable!()
-        }
-        let command = Stamped { clock, cmd };
-        self.banks.issue(cmd, clock);
-        let phase = phase_alone(&self.banks);
-        self.memory.issue_alone(command, phase);
-        self.clock = clock;
-        self.recent.push_back(command);
-    }
-
     /// Works up to n times, until there is nothing to do: the commands in their order. It refuses only where there is no
     /// memory for n of them; nothing has changed then.
     pub fn work_many(&mut self, alloc: Global, n: usize) -> Result<Vec<Stamped>, AllocError>
@@ -393,18 +332,4 @@ impl Channel {
         }
         Ok(commands)
     }
-}
-
-// The phase after a single command.
-fn phase_alone(banks: &Banks) -> Phase
-    ensures single { result ≢ Running }
-    ensures asleep { (list : List Stamped) → Stands banks.now list →
-        TellsSleep result banks.now.checked list }
-{
-    for rank in 0..banks.checked().geometry.ranks {
-        if !banks.is_asleep(rank) {
-            return Phase::Stepping;
-        }
-    }
-    Phase::Asleep
 }

@@ -1,24 +1,17 @@
 // What a channel holds: its array, its pending writes, its open reads, and the list of its commands, which takes no bytes.
-ghost use Rattle.std.specs.Prelude.{◌≡◌, ◌≢◌, ℕ, ◌+◌, ◌*◌, ◌<◌, ◌≤◌, ◌↔◌, ◌++◌, ◌∷◌, ◌^◌, [], None, Some, All, IfErr, IfNone, IfOk, IfSome, IsOk, IsTrue, OnOk, OnErr, count_by, length, nat_lt, remove, slice_get, slice_set};
+ghost use Rattle.std.specs.Prelude.{◌≡◌, ℕ, ◌<◌, ◌≤◌, ◌↔◌, ◌^◌, [], All, IfErr, IfNone, IfOk, IfSome, IsOk, IsTrue, OnOk, OnErr, count_by, length, nat_lt, slice_get};
 ghost use Rattle.std.specs.List.{filter_map};
 ghost use Rattle.line_memory.specs.Memory.{zero_lines};
-ghost use Rattle.frfcfs.specs.declared.pending.Kind.TheVariants as kinds;
-ghost use Rattle.frfcfs.specs.Requests.{AreInOrder, IsEligible};
-ghost use Rattle.frfcfs.specs.Next.{IsServable};
 ghost use Rattle.wpq_core.specs.Writes.{ComeBefore, NoWriteNames, pending_write};
 ghost use Rattle.ddr4_timing.specs.Places.{LiesIn};
-ghost use Rattle.interleave_map.specs.Cells.{cell_of, cells_of};
-ghost use Rattle.chan_core.specs.State.{channel_memory, cell_in, new_channel, placed_write, placed_writes, stored_at};
+ghost use Rattle.interleave_map.specs.Cells.{cells_of};
+ghost use Rattle.chan_core.specs.State.{cell_in, new_channel, placed_write, placed_writes, stored_at};
 ghost use Rattle.chan_core.specs.Always.{IsHeld};
-ghost use Rattle.chan_core.specs.Singles.{FitsOldest, IssuesAlone};
-ghost use Rattle.chan_core.specs.declared.phase.Phase.TheVariants.{Running};
-ghost use Rattle.chan_core.specs.Phases.{TellsSleep};
-ghost use Rattle.chan_core.specs.Calls.{AddsRead, AddsWrite, AnswersCollect, AnswersGet, AnswersRead, IsFullOfReads, IsFullOfWrites, KeepsBelow, MovesWrite, ServesAt, ServesIndex, WritesAt, after_command, after_get, after_put, loaded_at, with_hold};
+ghost use Rattle.chan_core.specs.Calls.{AddsRead, AddsWrite, AnswersCollect, AnswersGet, IsFullOfReads, IsFullOfWrites, WritesAt, after_get, after_put, loaded_at, with_hold};
 
-use crate::answers::{Collected, Got, ReadsFull, Served, Ticket};
-use crate::moves::{store_by, take_write};
+use crate::answers::{Collected, Got, ReadsFull, Ticket};
 use crate::phase::Phase;
-use crate::reads::{OpenRead, answer, index_of_serial};
+use crate::reads::{OpenRead, index_of_serial};
 use ddr4_timing::command::Stamped;
 use ddr4_timing::place::Place;
 use ddr4_timing::timing::Checked;
@@ -33,18 +26,18 @@ use wpq_core::{Full, PendingWrite, Wpq};
 
 #[derive(Drop)]
 pub struct ChannelMemory {
-    checked: Checked,
-    channel: u64,
-    array: Vec<Line>,
-    queue: Wpq,
-    waiting: Queue,
-    reads: Vec<OpenRead>,
-    most_reads: usize,
+    pub(crate) checked: Checked,
+    pub(crate) channel: u64,
+    pub(crate) array: Vec<Line>,
+    pub(crate) queue: Wpq,
+    pub(crate) waiting: Queue,
+    pub(crate) reads: Vec<OpenRead>,
+    pub(crate) most_reads: usize,
     // that of the next read that waits
-    serial: u128,
-    hold: Option<u64>,
-    issued: Past<Stamped>,
-    phase: Phase,
+    pub(crate) serial: u128,
+    pub(crate) hold: Option<u64>,
+    pub(crate) issued: Past<Stamped>,
+    pub(crate) phase: Phase,
 }
 
 impl Model for ChannelMemory {
@@ -309,99 +302,6 @@ impl ChannelMemory {
     {
         self.waiting.hold(from);
         self.hold = from;
-    }
-
-    /// A command goes, and serves the request at an index, whose RD or WR it is: a write goes into the array, a read gets
-    /// the bytes of its line there.
-    pub(crate) fn issue(&mut self, index: Option<usize>, command: Stamped) -> Option<Served>
-        requires { IfSome index (IsServable self.old.requests) }
-        ensures same { self.new ≡ after_command self.old command self.new }
-        ensures serves { ServesIndex index result self.old self.new }
-        ensures memory { channel_memory self.new ≡ channel_memory self.old }
-        ensures below { KeepsBelow self.old self.new }
-    {
-        match index {
-            Some(index) => Some(self.serve(index, command)),
-            None => {
-                self.issued.note(&command);
-                None
-            }
-        }
-    }
-
-    /// A single command goes: all reads are lost, and a WR takes the oldest write to the array, held or not.
-    pub(crate) fn issue_alone(&mut self, command: Stamped, phase: Phase)
-        requires oldest { FitsOldest self.old command.cmd }
-        requires single { phase ≢ Running }
-        requires asleep { TellsSleep phase self.old.checked (self.old.commands ++ command ∷ []) }
-        ensures issues { IssuesAlone self.old command self.new }
-        ensures memory { channel_memory self.new ≡ channel_memory self.old }
-    {
-        self.reads.clear();
-        self.waiting.keep_writes();
-        store_by(
-            command.cmd,
-            &mut self.array,
-            &mut self.queue,
-            &mut self.waiting,
-        );
-        self.issued.note(&command);
-        self.phase = phase;
-    }
-
-    // The command of an eligible request goes, and serves it.
-    fn serve(&mut self, index: usize, command: Stamped) -> Served
-        requires { IsServable self.old.requests index }
-        ensures same { self.new ≡ after_command self.old command self.new }
-        ensures serves { ServesAt self.old index result self.new }
-        ensures memory { channel_memory self.new ≡ channel_memory self.old }
-        ensures below { KeepsBelow self.old self.new }
-    {
-        let request = self.waiting.requests()[index];
-        match request.kind {
-            Kind::Write => {
-                self.serve_write(index, request, command);
-                Served::Write {
-                    number: request.number,
-                }
-            }
-            Kind::Read => Served::Read(self.serve_read(index, request, command)),
-        }
-    }
-
-    fn serve_write(&mut self, index: usize, request: Pending, command: Stamped)
-        requires eligible { IsEligible self.old.requests index request }
-        requires kind { request.kind ≡ kinds.Write }
-        requires order { AreInOrder self.old.requests }
-        ensures same { self.new ≡ after_command self.old command self.new }
-        ensures moves { MovesWrite self.old request request.number self.new }
-        ensures requests { self.new.requests ≡ remove self.old.requests index }
-        ensures memory { channel_memory self.new ≡ channel_memory self.old }
-        ensures below { KeepsBelow self.old self.new }
-    {
-        self.waiting.take(index);
-        let bytes = take_write(&mut self.queue, request.number);
-        self.array[request.line as usize] = bytes;
-        self.issued.note(&command);
-    }
-
-    fn serve_read(&mut self, index: usize, request: Pending, command: Stamped) -> Ticket
-        requires eligible { IsEligible self.old.requests index request }
-        requires kind { request.kind ≡ kinds.Read }
-        ensures same { self.new ≡ after_command self.old command self.new }
-        ensures answers { AnswersRead self.old request result self.new }
-        ensures requests { self.new.requests ≡ remove self.old.requests index }
-        ensures memory { channel_memory self.new ≡ channel_memory self.old }
-        ensures below { KeepsBelow self.old self.new }
-    {
-        self.waiting.take(index);
-        let bytes = self.array[request.line as usize];
-        let serial = answer(&mut self.reads, request.seq, bytes);
-        self.issued.note(&command);
-        Ticket {
-            channel: self.channel,
-            serial,
-        }
     }
 }
 

@@ -8,10 +8,12 @@
 mod answers;
 mod channel;
 mod channel_memory;
+mod effects;
 mod laws;
 mod moves;
 mod phase;
 mod reads;
+mod singles;
 #[cfg(test)]
 mod tests;
 

@@ -79,7 +79,8 @@ impl Machine {
     /// The row that is open in a bank.
     pub fn open_row(&self, checked: &Checked, at: BankAddress) -> Option<u64>
         requires { HasBank checked.now.geometry at }
-        ensures { (list : List Stamped) → StandsFor checked.now self.now list → result ≡ open_row at list }
+        ensures { (list : List Stamped) → StandsFor checked.now self.now list →
+            result ≡ open_row at list }
     {
         self.rank(checked, at.rank).rows.open_row(at)
     }

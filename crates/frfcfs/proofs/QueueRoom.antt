@@ -43,21 +43,23 @@ kept_push most next start room pending firsts p first kept room_left few seq her
       enough = kept.enough;
     }
 
-pub kept_take : (most next start room : ℕ) (pending left : List Pending) (firsts before marks : List Bool) (i line : ℕ) (d : Pending) → IsKept most next start room pending firsts → i < length (drop start pending)
-    → get_or (lines (drop start pending)) i 0 ≡ line → drop (start + 1) left ≡ remove (drop start pending) i → length left ≡ length pending → drop (start + 1) before ≡ remove (drop start firsts) i → length marks ≡ length firsts
-    → MarksOldest line (drop (start + 1) left) (drop (start + 1) before) (drop (start + 1) marks) → IsKept most next (start + 1) room left marks
-kept_take most next start room pending left firsts before marks i line d kept within named taken size gone size_marks marked =
+-- one is taken out, and the rest are those from the next start on
+pub kept_take : (most next start end room : ℕ) (pending left : List Pending) (firsts before marks : List Bool) (i line : ℕ) (d : Pending) → IsKept most next start room pending firsts → i < length (drop start pending)
+    → get_or (lines (drop start pending)) i 0 ≡ line → start ≤ end → end ≤ start + 1 → drop end left ≡ remove (drop start pending) i → length left + 1 + start ≡ length pending + end
+    → drop end before ≡ remove (drop start firsts) i → length marks + 1 + start ≡ length firsts + end
+    → MarksOldest line (drop end left) (drop end before) (drop end marks) → IsKept most next end room left marks
+kept_take most next start end room pending left firsts before marks i line d kept within named least most_end taken size gone size_marks marked =
     let rest = drop start pending in
-    let found : MarksOldest line (remove rest i) (remove (drop start firsts) i) (drop (start + 1) marks) =
-    subst (λ (ps : List Pending). MarksOldest line ps (remove (drop start firsts) i) (drop (start + 1) marks)) taken (subst (λ (bs : List Bool). MarksOldest line (drop (start + 1) left) bs (drop (start + 1) marks)) gone marked) in
+    let found : MarksOldest line (remove rest i) (remove (drop start firsts) i) (drop end marks) =
+    subst (λ (ps : List Pending). MarksOldest line ps (remove (drop start firsts) i) (drop end marks)) taken (subst (λ (bs : List Bool). MarksOldest line (drop end left) bs (drop end marks)) gone marked) in
     let n = length-drop start pending in
     let same = kept.size in
     let fits = kept.fits in
     record {
       waiting = rw taken (waiting_take _ i kept.waiting within);
-      marks = rw taken (firsts_take rest (drop start firsts) (drop (start + 1) marks) i line d kept.marks within named found);
-      within = omega (arith, within, n, size);
+      marks = rw taken (firsts_take rest (drop start firsts) (drop end marks) i line d kept.marks within named found);
+      within = omega (arith, within, n, size, least, most_end);
       size = omega (arith, same, size, size_marks);
-      fits = omega (arith, fits, size);
+      fits = omega (arith, fits, size, most_end);
       enough = kept.enough;
     }

@@ -1,7 +1,7 @@
--- Lists out of which an element is taken, where those before it move up.
+-- Lists out of which an element is taken, where those before it move up, or those behind it down.
 use Rattle.std.proofs.Common.{◌≡◌, ℕ, suc, ◌+◌, ◌-◌, ◌<◌, ◌≤◌, List, ◌++◌, sym, ap, ◌∙◌, arith, take, drop, length}
 use Rattle.std.proofs.Math.Seq.{drop-append_seam}
-use Rattle.std.proofs.lemmas.List.{append_assoc, drop-drop, length-take-le}
+use Rattle.std.proofs.lemmas.List.{append_assoc, drop-append-le, drop-drop, drop-take, length-take-le}
 use Rattle.std.specs.List.{copy_within, remove}
 
 -- what lies behind a front
@@ -17,3 +17,12 @@ taken_out {X = X} xs start place within =
     ∙ (ap (λ (n : ℕ). take n (drop start xs) ++ drop (start + 1 + n) xs) size
     ∙ (ap (λ (n : ℕ). take place (drop start xs) ++ drop n xs) next
     ∙ ap (λ (ys : List X). take place (drop start xs) ++ ys) (sym (drop-drop (suc place) start xs)))))
+
+pub removed_behind : {X : Type 0} (xs : List X) (start place : ℕ) → start + place < length xs → drop start (remove xs (start + place)) ≡ remove (drop start xs) place
+removed_behind {X = X} xs start place within =
+    let front = length-take-le (start + place) xs (omega (arith, within)) in
+    let next : suc (start + place) ≡ start + suc place = omega arith in
+    drop-append-le start (take (start + place) xs) _ (omega (arith, front))
+    ∙ (ap (λ (ys : List X). ys ++ drop (suc (start + place)) xs) (drop-take start place xs)
+    ∙ (ap (λ (n : ℕ). take place (drop start xs) ++ drop n xs) next
+    ∙ ap (λ (ys : List X). take place (drop start xs) ++ ys) (sym (drop-drop (suc place) start xs))))

@@ -14,8 +14,8 @@ use std::marker::Model;
 /// search has to look for older ones.
 #[derive(Drop)]
 pub struct Queue {
-    // The requests are those from `start` on. One that is taken out makes room at the front: the older ones move up, and those
-    // are few, since the oldest are served first.
+    // The requests are those from `start` on. One that is taken out makes room at the front, where fewer are older than younger:
+    // the older ones move up. Else the younger ones move down.
     pending: Vec<Pending>,
     firsts: Vec<bool>,
     start: usize,
@@ -73,6 +73,33 @@ fn take_out<T: Copy>(items: &mut [T], start: usize, place: usize) -> T
     let taken = items[start + place];
     items.copy_within(start..start + place, start + 1);
     taken
+}
+
+// Where the elements from a start on begin, so many, when the one at a place is gone: a place further where fewer stand
+// before it than behind it.
+fn start_without(start: usize, place: usize, size: usize) -> usize
+    requires { start + size < 2 ^ 64 }
+    ensures least { start ≤ result }
+    ensures most { result ≤ start + 1 }
+{
+    if place < size / 2 { start + 1 } else { start }
+}
+
+// Takes an element out of those from a start on, which are those from `next` on behind it: the ones before it move up where
+// that is one place further, and else the ones behind it move down.
+fn take_out_towards<T: Copy>(items: &mut Vec<T>, start: usize, place: usize, next: usize) -> T
+    requires place { start + place < length items.old.items }
+    requires next { (start ≤ next) × (next ≤ start + 1) }
+    ensures taken { slice_get (drop start items.old.items) place ≡ Some result }
+    ensures left { drop next items.new.items ≡ remove (drop start items.old.items) place }
+    ensures size { length items.new.items + 1 + start ≡ length items.old.items + next }
+    ensures capacity { vec_capacity items.new ≡ vec_capacity items.old }
+{
+    if next == start {
+        items.remove(start + place)
+    } else {
+        take_out(items, start, place)
+    }
 }
 
 // Moves the elements from a start on to the front.
@@ -194,15 +221,17 @@ impl Queue {
         self.next += 1;
     }
 
-    /// Takes the request at a place out. It moves those before it, and looks for the next one of its line.
+    /// Takes the request at a place out. It moves those before it or those behind it, whichever are fewer, and looks for the
+    /// next one of its line.
     pub fn take(&mut self, place: usize) -> Pending
         requires { place < length self.old.requests }
         ensures taken { slice_get self.old.requests place ≡ Some result }
         ensures left { self.new ≡ record self.old { requests = remove self.old.requests place } }
     {
-        let taken = take_out(&mut self.pending, self.start, place);
-        take_out(&mut self.firsts, self.start, place);
-        self.start += 1;
+        let next = start_without(self.start, place, self.requests().len());
+        let taken = take_out_towards(&mut self.pending, self.start, place, next);
+        take_out_towards(&mut self.firsts, self.start, place, next);
+        self.start = next;
         mark_oldest(&self.pending, &mut self.firsts, self.start, taken.line);
         taken
     }

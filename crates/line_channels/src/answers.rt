@@ -13,8 +13,8 @@ pub struct Waiting {
 #[derive(Clone, Copy, Debug, PartialEq, Eq)]
 pub struct Ticket {
     pub channel: u64,
-    /// Its number among the reads of the channel that waited, from 0.
-    pub serial: u64,
+    /// Its number among the reads of the channel that waited, from 0. A channel can make more of them than 64 bits count.
+    pub serial: u128,
 }
 
 /// The answer to a read.

@@ -8,12 +8,12 @@ ghost use Rattle.energy_budget.specs.Actions.{drain_actions};
 ghost use Rattle.line_channels.specs.Waits.{nothing, AllBelow, writes_on};
 ghost use Rattle.line_channels.specs.View.{ChannelsView, IsShape, is_full, is_full_of_reads};
 ghost use Rattle.line_channels.specs.Answers.{Puts, IsGot, IsCollected, IsServed, line_of};
-ghost use Rattle.line_channels.specs.Memory.{Keeps, write_at, NoneBelow, WaitsFrom};
+ghost use Rattle.line_channels.specs.Memory.{Keeps, NoneBelow, WaitsFrom};
 ghost use Rattle.line_channels.specs.Draining.{PaysInTurn, Drains, drained_after};
 
 use crate::{Collected, Done, Got, Ticket};
 use energy_budget::{Costs, Dark, Energy};
-use line_memory::{Line, Write};
+use line_memory::Write;
 
 /// All channels of a module. Each write waits in its channel until a command takes it into the channel's array, and each
 /// read is answered as the memory is after all writes that were put before it, whatever the order of the commands.
@@ -116,19 +116,6 @@ pub trait Channels {
         requires reaches { reaches }
         requires page { 64 * (page + 1) ≤ (view self.now).shape.lines }
         ensures { result ≡ page_of page (view self.now).array };
-
-    /// The write of a number that the channels were given, or none.
-    fn accepted_write(&self, number: u64) -> Option<Write>
-        ensures { (base : List (List ℕ)) (start : ℕ) (writes : List Write)
-            → carries self.now base start writes → result ≡ write_at start writes number };
-
-    /// A line of the memory after the first `at` writes.
-    fn value_of(&self, line: u64, at: u64) -> Line
-        requires reaches { reaches }
-        requires line { line < (view self.now).shape.lines }
-        ensures { (base : List (List ℕ)) (start : ℕ) (writes : List Write)
-            → carries self.now base start writes → start ≤ at → at ≤ start + length writes
-            → result ≡ line_of (memory_at base start writes at) line };
 
     /// The arrays are the memory after the first n writes, where none of these waits and all others do.
     ghost settled: { (channels : Self) (base : List (List ℕ)) (start : ℕ) (writes : List Write) (n : ℕ)

@@ -4,6 +4,8 @@
 
 mod answers;
 mod channels;
+mod recorded;
 
 pub use answers::{Collected, Done, Got, Served, Ticket, Waiting};
 pub use channels::{Channels, Drainable};
+pub use recorded::Recorded;

@@ -10,25 +10,26 @@ use Rattle.module_core.specs.State.{Machine}
 use Rattle.module_core.specs.Guard.{IsPrefix}
 use Rattle.module_core.specs.Lives.{Lived, IsLived, LeadsTo, AreChained, kept_writes, history_before, last_opened}
 use Rattle.module_core.proofs.OpenedStays.{opened_as, run_stays}
+use Rattle.module_core.proofs.StoppedLives.{recovered}
 
 module _ {C : Type 0} (L : Ghosts C) where
-  last_is : (life : Lived C) → IsLived L life → opened_as life.last.world.machine ≡ life.image
+  pub last_is : (life : Lived C) → IsLived L life → opened_as life.last.world.machine ≡ life.image
   last_is life lived = run_stays L life.setup life.events life.replies life.first life.last lived.run ∙ ap opened_as lived.begins
 
   -- the next life's image is the memory after a prefix of this one's writes
   prefix : (life next : Lived C) → IsLived L life → LeadsTo L life next → IsPrefix life.last.world.machine next.image
   prefix life next lived leads =
-      let r = lived.left.recovers in
+      let r = (recovered L life lived).recovers in
       let both : Found next.found.newest.slot next.image ≡ Found r.slot r.image = sym leads ∙ r.found in
       let same : next.image ≡ r.image = cc in
       subst (λ (i : Image). IsPrefix life.last.world.machine i) (sym same) r.prefix
 
-  kept_memory : (life next : Lived C) → IsLived L life → LeadsTo L life next → next.image.memory ≡ after life.image.memory (kept_writes life next.image.count)
+  pub kept_memory : (life next : Lived C) → IsLived L life → LeadsTo L life next → next.image.memory ≡ after life.image.memory (kept_writes life next.image.count)
   kept_memory life next lived leads =
       let m : Machine = life.last.world.machine in
       (prefix life next lived leads).memory ∙ ap (λ (i : Image). memory_at i.memory i.count m.life.writes next.image.count) (last_is life lived)
 
-  kept_count : (life next : Lived C) → IsLived L life → LeadsTo L life next → next.image.count ≡ life.image.count + length (kept_writes life next.image.count)
+  pub kept_count : (life next : Lived C) → IsLived L life → LeadsTo L life next → next.image.count ≡ life.image.count + length (kept_writes life next.image.count)
   kept_count life next lived leads =
       let m : Machine = life.last.world.machine in let p = prefix life next lived leads in let start : m.life.opened.count ≡ life.image.count = ap (λ (i : Image). i.count) (last_is life lived) in
       let less : next.image.count - life.image.count ≤ length m.life.writes = omega (arith, p.from, p.to, start) in

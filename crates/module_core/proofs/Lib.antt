@@ -29,5 +29,9 @@ pub mod LossSteps
 pub mod LostModules
 pub mod RunsOn
 pub mod OpenedStays
+pub mod StoppedLives
 pub mod History
 pub mod HonestRuns
+pub mod ToldMarks
+pub mod SurvivedLives
+pub mod ModulesLive

@@ -13,3 +13,5 @@ pub mod Closing
 pub mod Opening
 pub mod Lives
 pub mod Honesty
+pub mod Survival
+pub mod ModuleLives

@@ -13,6 +13,7 @@ mod opening;
 mod running;
 mod saves;
 mod stepping;
+mod survival;
 
 pub use events::{Accepted, Event, Loss, ReadRefusal, Reply, StepReply, WriteRefusal};
 pub use honesty::honest_run;
@@ -20,3 +21,4 @@ pub use lives::one_history;
 pub use module::Module;
 pub use opening::Opened;
 pub use saves::Saves;
+pub use survival::{modules_live, survives_any_stop};

@@ -24,6 +24,7 @@ const SPENT: u64 = 1 << 62;
 const MOST_WRITES: u64 = 1 << 62;
 
 /// A life: its channels, how many writes it has accepted, and its saves.
+#[derive(Drop)]
 pub struct Module<C: Channels> {
     pub(crate) channels: C,
     pub(crate) lines: usize,

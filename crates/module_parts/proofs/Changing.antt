@@ -1,5 +1,5 @@
 -- The channels where one of them has changed, or the hold of all.
-use Rattle.std.proofs.Common.{All, ◌≡◌, ◌≢◌, ℕ, List, map, slice_get, slice_set, Option, Some, refl, sym, ap, subst, ◌∙◌, arith, ◌∷◌, [], zero, suc, ⊎_elim, length-set}
+use Rattle.std.proofs.Common.{All, ◌<◌, ◌≡◌, ◌≢◌, ℕ, List, map, slice_get, slice_set, Option, Some, refl, sym, ap, subst, ◌∙◌, arith, ◌∷◌, [], zero, suc, ⊎_elim, length-set}
 use Rattle.std.proofs.lemmas.Bool.Decides.{eqb_tells}
 use Rattle.std.proofs.lemmas.List.{length-map}
 use Rattle.frfcfs.proofs.Lists.{All-at}
@@ -7,7 +7,7 @@ use Rattle.chan_core.specs.Always.{IsHeld}
 use Rattle.chan_core.specs.Calls.{with_hold}
 use Rattle.chan_core.specs.State.{ChannelState}
 use Rattle.chan_core.proofs.Kept.{map-from}
-use Rattle.module_parts.specs.Parts.{AreParts, IsPart, PartsState}
+use Rattle.module_parts.specs.Parts.{AreParts, IsDry, IsPart, PartsState, RunsEarly}
 
 -- what stands in a list after one element was set
 pub record Set {X : Type 0} (xs : List X) (i : ℕ) (y : X) (j : ℕ) (z : X) : Type 0 where
@@ -30,30 +30,38 @@ pub record Keeps (s new : ChannelState) : Type 0 where
   pub depth : new.depth ≡ s.depth
   pub most_reads : new.most_reads ≡ s.most_reads
   pub hold : new.hold ≡ s.hold
-  pub phase : new.phase ≡ s.phase
+  pub runs : RunsEarly s → RunsEarly new
 
-pub part-kept : (p : PartsState) (i : ℕ) (s new : ChannelState) → IsPart p i s → IsHeld new → Keeps s new → IsPart p i new
-part-kept p i s new part held kept = record {
+-- before the first drain no channel has to be dry
+pub awake-dry : (p : PartsState) (i : ℕ) (t : ChannelState) → p.drained ≡ Some 0 → (n : ℕ) → p.drained ≡ Some n → i < n → IsDry t
+awake-dry p i t awake n e less =
+    let both : Some 0 ≡ Some n = sym awake ∙ e in
+    let same : 0 ≡ n = cc in
+    absurd (omega (arith, same, less))
+
+pub part-kept : (p : PartsState) (i : ℕ) (s new : ChannelState) → IsPart p i s → IsHeld new → Keeps s new → ((n : ℕ) → p.drained ≡ Some n → i < n → IsDry new) → IsPart p i new
+part-kept p i s new part held kept dry = record {
   held = held;
   checked = kept.checked ∙ part.checked;
   channel = kept.channel ∙ part.channel;
   depth = kept.depth ∙ part.depth;
   most_reads = kept.most_reads ∙ part.most_reads;
   hold = kept.hold ∙ part.hold;
-  running = λ e. kept.phase ∙ part.running e;
+  running = λ n e less. kept.runs (part.running n e less);
+  dry = dry;
 }
 
-pub parts-set : (p : PartsState) (i : ℕ) (s new : ChannelState) → AreParts p → slice_get p.channels i ≡ Some s → IsHeld new → Keeps s new → AreParts (record p { channels = slice_set p.channels i new })
-parts-set p i s new are at held kept = record {
+pub parts-set : (p : PartsState) (i : ℕ) (s new : ChannelState) → AreParts p → slice_get p.channels i ≡ Some s → IsHeld new → Keeps s new → ((n : ℕ) → p.drained ≡ Some n → i < n → IsDry new) → AreParts (record p { channels = slice_set p.channels i new })
+parts-set p i s new are at held kept dry = record {
   count = length-set p.channels i new ∙ are.count;
   each = λ j t there.
       let set = get-set p.channels i new j t there in
-      let here : IsPart p i new = part-kept p i s new (are.each i s at) held kept in
+      let here : IsPart p i new = part-kept p i s new (are.each i s at) held kept dry in
       decide j t set here;
 }
   where
     moved : (j : ℕ) (t : ChannelState) → IsPart p j t → IsPart (record p { channels = slice_set p.channels i new }) j t
-    moved j t is = record { held = is.held; checked = is.checked; channel = is.channel; depth = is.depth; most_reads = is.most_reads; hold = is.hold; running = is.running }
+    moved j t is = record { held = is.held; checked = is.checked; channel = is.channel; depth = is.depth; most_reads = is.most_reads; hold = is.hold; running = is.running; dry = is.dry }
 
     decide : (j : ℕ) (t : ChannelState) → Set p.channels i new j t → IsPart p i new → IsPart (record p { channels = slice_set p.channels i new }) j t
     decide j t set here =
@@ -69,5 +77,5 @@ parts-held p hold are held = record {
       let (s, at, is) = map-from (λ s. with_hold s hold) p.channels j t there in
       let part = are.each j s at in
       subst (λ (x : ChannelState). IsPart (record p { channels = map (λ s. with_hold s hold) p.channels; hold = hold }) j x) is
-      (record { held = subst IsHeld (sym is) (All-at IsHeld (map (λ s. with_hold s hold) p.channels) j t held there); checked = part.checked; channel = part.channel; depth = part.depth; most_reads = part.most_reads; hold = refl; running = part.running });
+      (record { held = subst IsHeld (sym is) (All-at IsHeld (map (λ s. with_hold s hold) p.channels) j t held there); checked = part.checked; channel = part.channel; depth = part.depth; most_reads = part.most_reads; hold = refl; running = part.running; dry = part.dry });
 }

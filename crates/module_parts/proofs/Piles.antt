@@ -1,12 +1,12 @@
 -- Lists put behind one another, where one of them changes.
-use Rattle.std.proofs.Common.{rules, ◌≡◌, ◌≢◌, ℕ, zero, suc, ◌+◌, ◌<◌, ◌≤◌, ◌||◌, Bool, true, false, cond, filter, nat_lt, List, [], ◌∷◌, ◌++◌, count_by, length, remove, slice_get, slice_set, Some, refl, sym, ap, subst, ◌∙◌, arith}
+use Rattle.std.proofs.Common.{rules, ◌≡◌, ◌≢◌, ℕ, zero, suc, ◌+◌, ◌<◌, ◌≤◌, ◌||◌, ◌⊎◌, inl, inr, Bool, true, false, cond, filter, nat_lt, List, [], ◌∷◌, ◌++◌, count_by, length, remove, slice_get, slice_set, Some, refl, sym, ap, subst, ◌∙◌, arith}
 use Rattle.std.specs.List.{flat_map, list_any}
 use Rattle.std.proofs.lemmas.List.Edits.{insert-append_left}
 use Rattle.std.proofs.lemmas.List.{length-append}
 use Rattle.std.proofs.lemmas.List.Elements.{filter-append}
 use Rattle.std.proofs.lemmas.List.Sums.{length-filter}
 use Rattle.std.proofs.lemmas.List.Folds.{list_any-append}
-use Rattle.line_channels.specs.Waits.{Goes, Joins}
+use Rattle.line_channels.specs.Waits.{Goes, Has, Joins}
 
 -- one element has another value
 abbrev pub Becomes : {X : Type 0} → X → X → List X → List X → Type 0
@@ -79,6 +79,43 @@ one-stays f xs i x y at same = one-changes (λ old new. new ≡ old) f (λ ps ol
 pub any-pile : {X A : Type 0} (p : A → Bool) (f : X → List A) (xs : List X) → list_any p (flat_map f xs) ≡ list_any (λ x. list_any p (f x)) xs
 any-pile p f [] = refl
 any-pile p f (x ∷ xs) = list_any-append p (f x) (flat_map f xs) ∙ ap (λ b. list_any p (f x) || b) (any-pile p f xs)
+
+has-behind : {X : Type 0} (x : X) (ps xs : List X) → Has x xs → Has x (ps ++ xs)
+has-behind x [] xs has = has
+has-behind x (p ∷ ps) xs has = let (k, at) = has-behind x ps xs has in (suc k, at)
+
+has-before : {X : Type 0} (x : X) (xs rs : List X) → Has x xs → Has x (xs ++ rs)
+has-before x [] rs (k, at) = absurd cc
+has-before x (y ∷ xs) rs (zero, at) = (zero, at)
+has-before x (y ∷ xs) rs (suc k, at) = let (j, there) = has-before x xs rs (k, at) in (suc j, there)
+
+-- what stands in a pile stands in all
+pub has-pile : {X A : Type 0} (f : X → List A) (xs : List X) (i : ℕ) (x : X) (a : A) → slice_get xs i ≡ Some x → Has a (f x) → Has a (flat_map f xs)
+has-pile f [] i x a at has = absurd cc
+has-pile f (y ∷ xs) zero x a at has = let same : x ≡ y = cc in has-before a (f y) (flat_map f xs) (subst (λ z. Has a (f z)) same has)
+has-pile f (y ∷ xs) (suc i) x a at has = has-behind a (f y) (flat_map f xs) (has-pile f xs i x a at has)
+
+has-either : {X : Type 0} (x : X) (xs ys : List X) → Has x (xs ++ ys) → Has x xs ⊎ Has x ys
+has-either x [] ys has = inr has
+has-either x (y ∷ xs) ys (zero, at) = inl (zero, at)
+has-either x (y ∷ xs) ys (suc k, at) = elim (has-either x xs ys (k, at)) [
+  | inl first ↦ inl (suc first.0, first.1)
+  | inr second ↦ inr second
+]
+
+-- the pile in which something stands
+pub record InPile {X A : Type 0} (f : X → List A) (xs : List X) (a : A) : Type 0 where
+  pub place : ℕ
+  pub pile : X
+  pub at : slice_get xs place ≡ Some pile
+  pub has : Has a (f pile)
+
+pub from-pile : {X A : Type 0} (f : X → List A) (xs : List X) (a : A) → Has a (flat_map f xs) → InPile f xs a
+from-pile f [] a (k, at) = absurd cc
+from-pile f (x ∷ xs) a has = elim (has-either a (f x) (flat_map f xs) has) [
+  | inl first ↦ record { place = zero; pile = x; at = refl; has = first }
+  | inr second ↦ let rest = from-pile f xs a second in record { place = suc rest.place; pile = rest.pile; at = rest.at; has = rest.has }
+]
 
 count-both : {A : Type 0} (p : A → Bool) (xs ys : List A) → count_by p (xs ++ ys) ≡ count_by p xs + count_by p ys
 count-both p xs ys = omega (arith, length-filter p (xs ++ ys), ap length (filter-append p xs ys), length-append (filter p xs) (filter p ys), length-filter p xs, length-filter p ys)

@@ -50,7 +50,7 @@ pub length-after : (memory : List (List ℕ)) (writes : List Write) → length (
 length-after memory [] = refl
 length-after memory (w ∷ writes) = length-after (after_write memory w) writes ∙ length-set memory w.line w.«data»
 
-any-default : {X : Type 0} (xs : List X) (k : ℕ) (d e : X) → k < length xs → get_or xs k d ≡ get_or xs k e
+pub any-default : {X : Type 0} (xs : List X) (k : ℕ) (d e : X) → k < length xs → get_or xs k d ≡ get_or xs k e
 any-default [] k d e less = absurd (omega (arith, less))
 any-default (x ∷ xs) zero d e less = refl
 any-default (x ∷ xs) (suc k) d e less = any-default xs k d e (omega (arith, less))
@@ -81,7 +81,7 @@ settles-within place_of p base start writes n within carry none waits =
     ∙ carry.lines n within waits k under
     ∙ any-default memory k [] d (omega (arith, under, size)))
 
-take-all : {X : Type 0} (xs : List X) (k : ℕ) → length xs ≤ k → take k xs ≡ xs
+pub take-all : {X : Type 0} (xs : List X) (k : ℕ) → length xs ≤ k → take k xs ≡ xs
 take-all [] zero less = refl
 take-all [] (suc k) less = refl
 take-all (x ∷ xs) zero less = absurd (omega (arith, less))

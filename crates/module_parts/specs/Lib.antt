@@ -2,3 +2,7 @@ pub mod Lines
 pub mod Parts
 pub mod Seen
 pub mod Carrying
+pub mod Beginning
+pub mod Collecting
+pub mod Working
+pub mod Drained

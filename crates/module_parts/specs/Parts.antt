@@ -1,11 +1,11 @@
 -- The channels of a geometry, one beside the other.
-use Rattle.std.specs.Prelude.{◌≡◌, ℕ, List, length, map, slice_get, Option, Some}
+use Rattle.std.specs.Prelude.{◌≡◌, ℕ, ◌+◌, ◌^◌, ◌<◌, ◌≤◌, List, [], length, map, slice_get, Option, Some}
 use Rattle.ddr4_timing.specs.declared.timing.Checked.{Checked}
 use Rattle.energy_budget.specs.declared.costs.Costs.{Costs}
 use Rattle.chan_core.specs.declared.phase.Phase.TheVariants.{Running}
 use Rattle.chan_core.specs.Always.{IsHeld}
 use Rattle.chan_core.specs.Calls.{with_hold}
-use Rattle.chan_core.specs.State.{ChannelState}
+use Rattle.chan_core.specs.State.{ChannelState, clock_of}
 
 -- Their profile, the channels in order, how many writes and reads each may have, what a closing save costs, from which
 -- number on writes are held, and how many channels were drained.
@@ -18,7 +18,15 @@ pub record PartsState : Type 0 where
   pub hold : Option ℕ
   pub drained : Option ℕ
 
--- the channel with this number
+-- It runs, at a clock before 2^62, from which on it issues no further command, or a little behind that.
+abbrev pub RunsEarly : ChannelState → Type 0
+RunsEarly s = (s.phase ≡ Running) × (clock_of s < 2 ^ 62 + 2 ^ 24)
+
+-- nothing waits in it
+abbrev pub IsDry : ChannelState → Type 0
+IsDry s = (s.writes ≡ []) × (s.tickets ≡ [])
+
+-- The channel with this number. Until it is drained it runs, and then it is dry.
 pub record IsPart (p : PartsState) (number : ℕ) (s : ChannelState) : Type 0 where
   pub held : IsHeld s
   pub checked : s.checked ≡ p.checked
@@ -26,7 +34,8 @@ pub record IsPart (p : PartsState) (number : ℕ) (s : ChannelState) : Type 0 wh
   pub depth : s.depth ≡ p.depth
   pub most_reads : s.most_reads ≡ p.most_reads
   pub hold : s.hold ≡ p.hold
-  pub running : p.drained ≡ Some 0 → s.phase ≡ Running
+  pub running : (n : ℕ) → p.drained ≡ Some n → n ≤ number → RunsEarly s
+  pub dry : (n : ℕ) → p.drained ≡ Some n → number < n → IsDry s
 
 -- one for each channel of the geometry
 pub record AreParts (p : PartsState) : Type 0 where

@@ -20,7 +20,8 @@ pub(crate) fn pending_in(channels: &[Channel]) -> u64
 
 /// Whether a write below this number is pending. It costs the number of pending writes.
 pub(crate) fn any_below(channels: &[Channel], number: u64) -> bool
-    ensures { result ≡ list_any (λ s. nat_lt 0 (count_by (λ w. nat_lt w.number number) s.writes)) channels.now }
+    ensures { result ≡ list_any (λ s. nat_lt 0 (count_by (λ w. nat_lt w.number number) s.writes))
+        channels.now }
 {
     channels.iter().any(|channel| channel.below(number) > 0)
 }

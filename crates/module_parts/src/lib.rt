@@ -4,8 +4,13 @@
 //! carry is in `specs/Carrying.antt`.
 #![tactic(auto)]
 
+mod asking;
+mod channels;
 mod counting;
+mod draining;
+mod getting;
 mod holding;
 mod parts;
+mod putting;
 
 pub use parts::Parts;

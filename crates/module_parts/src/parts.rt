@@ -2,9 +2,17 @@
 ghost use Rattle.std.specs.Prelude.{◌≡◌, ◌<◌, ◌≤◌, None, Some, length, nat_lt};
 ghost use Rattle.ddr4_timing.specs.Limits.{lines_of};
 ghost use Rattle.module_parts.specs.Lines.{line_in};
-ghost use Rattle.std.specs.List.{list_any, sum_by};
-ghost use Rattle.module_parts.specs.Seen.{line_there, waits_in};
+ghost use Rattle.std.specs.List.{list_any};
+ghost use Rattle.line_channels.specs.Memory.{Keeps};
+ghost use Rattle.module_parts.specs.Carrying.{CarryWritten};
+ghost use Rattle.module_parts.specs.Seen.{line_there, seen_by_lines, waits_in};
 ghost use Rattle.module_parts.specs.Parts.{held_parts};
+
+mod building;
+mod collecting;
+mod draining;
+mod paging;
+mod working;
 
 use crate::counting::{any_below, pending_in};
 use crate::holding::hold_all;
@@ -18,15 +26,15 @@ use std::marker::{Model, PhantomData};
 /// The channels of a geometry, from the first to the last one, over a lawful map of its lines. No call takes memory.
 #[derive(Drop)]
 pub struct Parts<'m, M: LineMap, P: Places> {
-    map: &'m M,
-    checked: Checked,
-    channels: Vec<Channel>,
-    depth: usize,
-    most_reads: usize,
-    costs: Costs,
-    hold: Option<u64>,
-    drained: Option<u64>,
-    of: PhantomData<P>,
+    pub(crate) map: &'m M,
+    pub(crate) checked: Checked,
+    pub(crate) channels: Vec<Channel>,
+    pub(crate) depth: usize,
+    pub(crate) most_reads: usize,
+    pub(crate) costs: Costs,
+    pub(crate) hold: Option<u64>,
+    pub(crate) drained: Option<u64>,
+    pub(crate) of: PhantomData<P>,
 }
 
 impl<'m, M: LineMap, P: Places> Model for Parts<'m, M, P> {
@@ -58,7 +66,7 @@ impl<'m, M: LineMap, P: Places> Model for Parts<'m, M, P> {
 
 impl<'m, M: LineMap, P: Places> Parts<'m, M, P> {
     // The number of the channel of a line.
-    fn number_of(&self, line: u64) -> usize
+    pub(crate) fn number_of(&self, line: u64) -> usize
         requires line { line < lines_of self.now.checked.geometry }
         ensures number { result ≡ (P.place_of line).channel }
         ensures within { result < length self.now.channels }
@@ -77,7 +85,7 @@ impl<'m, M: LineMap, P: Places> Parts<'m, M, P> {
 
     /// How many writes wait. It costs the number of channels.
     pub fn pending(&self) -> u64
-        ensures is { result ≡ sum_by (λ s. length s.writes) self.now.channels }
+        ensures is { result ≡ length (seen_by_lines P.place_of self.now).waits.writes }
         ensures most { result ≤ 512 }
     {
         pending_in(&self.channels)
@@ -93,7 +101,11 @@ impl<'m, M: LineMap, P: Places> Parts<'m, M, P> {
 
     /// From now on writes from this number on stay out of the arrays.
     pub fn hold_from(&mut self, number: u64)
-        ensures { self.new ≡ held_parts self.old (Some number) }
+        ensures is { self.new ≡ held_parts self.old (Some number) }
+        ensures held { seen_by_lines P.place_of self.new
+            ≡ record (seen_by_lines P.place_of self.old) { hold = Some number } }
+        ensures keeps { Keeps (CarryWritten P.place_of self.old)
+            (CarryWritten P.place_of self.new) }
     {
         hold_all(&mut self.channels, Some(number));
         self.hold = Some(number);
@@ -101,7 +113,11 @@ impl<'m, M: LineMap, P: Places> Parts<'m, M, P> {
 
     /// Ends a hold.
     pub fn release(&mut self)
-        ensures { self.new ≡ held_parts self.old None }
+        ensures is { self.new ≡ held_parts self.old None }
+        ensures held { seen_by_lines P.place_of self.new
+            ≡ record (seen_by_lines P.place_of self.old) { hold = None } }
+        ensures keeps { Keeps (CarryWritten P.place_of self.old)
+            (CarryWritten P.place_of self.new) }
     {
         hold_all(&mut self.channels, None);
         self.hold = None;

@@ -1,2 +1,2 @@
-pub mod Worlds
-pub mod SavesAndRestores
+pub mod Naming
+pub mod Results

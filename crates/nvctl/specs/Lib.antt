@@ -1,4 +1,3 @@
 pub mod Exit
-pub mod Machine
-pub mod Plain
 pub mod Store
+pub mod Wiring

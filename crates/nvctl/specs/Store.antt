@@ -1,5 +1,5 @@
 -- Stores, by their size and by what they restore to.
-use Rattle.std.specs.Prelude.{◌≡◌, ◌≢◌, ℕ, List, length}
+use Rattle.std.specs.Prelude.{◌≡◌, ℕ, List, length}
 use Rattle.save_image.specs.Image.{Image}
 use Rattle.slot_store.specs.declared.slots.Slot.{Slot}
 use Rattle.slot_store.specs.Slots.{IsCapacity, device_size}

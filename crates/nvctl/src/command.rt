@@ -1,16 +1,25 @@
 // The command line: its words, the files that they name, and the exit status.
-ghost use Rattle.std.specs.Prelude.{◌≡◌};
+ghost use Rattle.std.specs.Prelude.{◌≡◌, ◌<◌};
+ghost use Rattle.ddr4_timing.specs.Limits.{lines_of};
+ghost use Rattle.ddr4_timing.specs.Places.{LiesIn};
+ghost use Rattle.interleave_map.specs.Interleaving.{place_by_lines, line_by_lines, place_by_xor, line_by_xor};
 ghost use Rattle.std.specs.Process.{exit_status};
 
 use crate::script::run_script;
+use crate::store::{STORE_BYTES, show_store};
 use clap::error::ErrorKind;
 use clap::{Arg, ArgMatches, Command, Error as UsageError};
+use ddr4_timing::place::Place;
+use interleave_map::map::Map;
+use interleave_map::{lines, xor};
 use nv_profile::{MOST_BYTES, Profile, ProfileFault, TINY, read_profile};
 use nv_script::{SCRIPT_BYTES, ScriptFault};
+use save_device::{MemoryDevice, SaveDevice};
 use std::alloc::{AllocError, Global};
 use std::env::{self, Env};
-use std::fs::File;
+use std::fs::{self, File};
 use std::io::{self, Eprint, Input, Print, Read, Write};
+use std::marker::Brand;
 use std::process::ExitCode;
 use std::rt::Files;
 use thiserror::Error;
@@ -80,47 +89,126 @@ where
         Ok(matches) => matches,
         Err(error) => return usage(rt, &error),
     };
+    if let Some(matches) = matches.subcommand_matches("show") {
+        return show(rt, matches.get_str("STORE").unwrap_or("-"), writer);
+    }
     if let Some(matches) = matches.subcommand_matches("run") {
         answer(rt, matches, writer)?;
     }
     Ok(ExitCode::SUCCESS)
 }
 
-// Runs the script that the words behind `run` name.
+// Runs the script that the words behind `run` name, and writes the device's bytes to the file behind `--out` last.
 fn answer<'a, R, W>(rt: &R, matches: &ArgMatches<'a>, writer: &mut W) -> Result<(), Fault<'a>>
 where
     R: Files + Input + AllocGlobal,
     W: Write,
 {
-    let word = matches.get_str("PROFILE").unwrap_or("tiny");
-    // the plain module is that of one profile
-    if word != "tiny" {
-        return Err(Fault::Profile);
-    }
-    let profile = profile_of(rt, word)?;
+    let profile = profile_of(rt, matches.get_str("PROFILE").unwrap_or("tiny"))?;
     let script = script_of(rt, matches.get_str("SCRIPT").unwrap_or("-"))?;
-    run_script(rt.alloc(), &profile, &script, writer)?;
+    let device = run_on_maps(rt.alloc(), &profile, &script, writer)?;
+    flush(writer)?;
+    match matches.get_str("STORE") {
+        Some(name) => write_store(rt, device, name),
+        None => Ok(()),
+    }
+}
+
+/// Runs a script over closures of both maps.
+pub fn run_on_maps<W: Write>(
+    alloc: Global,
+    profile: &Profile,
+    script: &[u8],
+    writer: &mut W,
+) -> Result<MemoryDevice, ScriptFault> {
+    let checked = profile.checked;
+    let split_lines = move |line: u64| -> Place
+        requires { line < lines_of checked.geometry }
+        ensures { result ≡ place_by_lines checked.geometry line }
+    { lines::split(&checked, line) };
+    let join_lines = move |place: Place| -> u64
+        requires { LiesIn checked.geometry place }
+        ensures { result ≡ line_by_lines checked.geometry place }
+    { lines::join(&checked, place) };
+    let split_xor = move |line: u64| -> Place
+        requires { line < lines_of checked.geometry }
+        ensures { result ≡ place_by_xor checked.geometry line }
+    { xor::split(&checked, line) };
+    let join_xor = move |place: Place| -> u64
+        requires { LiesIn checked.geometry place }
+        ensures { result ≡ line_by_xor checked.geometry place }
+    { xor::join(&checked, place) };
+    let lines_map = Map::new(split_lines, join_lines, &checked);
+    let xor_map = Map::new(split_xor, join_xor, &checked);
+    run_script::<_, _, Brand, Brand, W>(alloc, profile, script, &lines_map, &xor_map, writer)
+}
+
+fn flush<'a, W: Write>(writer: &mut W) -> Result<(), Fault<'a>> {
     match writer.flush() {
         Ok(()) => Ok(()),
         Err(_) => Err(Fault::File("-")),
     }
 }
 
+// Writes the bytes of a device, as a read gives them, to a file.
+fn write_store<'a, R: Files + AllocGlobal>(
+    rt: &R,
+    mut device: MemoryDevice,
+    name: &'a str,
+) -> Result<(), Fault<'a>> {
+    let mut bytes = Vec::from_elem(rt.alloc(), 0, device.len())?;
+    let Ok(()) = device.read(0, &mut bytes) else {
+        return Err(Fault::File(name));
+    };
+    match fs::write(rt, name, &bytes) {
+        Ok(()) => Ok(()),
+        Err(_) => Err(Fault::File(name)),
+    }
+}
+
+// Shows the store in a file; the exit status is 1 where nothing is restored from it.
+fn show<'a, R, W>(rt: &R, name: &'a str, writer: &mut W) -> Result<ExitCode, Fault<'a>>
+where
+    R: Files + AllocGlobal,
+    W: Write,
+{
+    // one byte more than a store may have
+    let store = file_bytes(rt, name, STORE_BYTES + 1)?;
+    let found = show_store(rt.alloc(), store, writer)?;
+    flush(writer)?;
+    if found {
+        Ok(ExitCode::SUCCESS)
+    } else {
+        Ok(ExitCode::FAILURE)
+    }
+}
+
 fn command_line<'a>(alloc: Global) -> Result<Command<'a>, AllocError> {
-    let profile = Arg::new(alloc, "PROFILE")
-        .required(true)
-        .help("The word tiny: a controller of 128 lines");
+    let profile = Arg::new(alloc, "PROFILE").required(true).help(
+        "The word tiny, a module of 128 lines, or the profile's TOML file",
+    );
     let script = Arg::new(alloc, "SCRIPT")
         .required(true)
         .help("The script's file, or - for standard input");
+    let out = Arg::new(alloc, "STORE")
+        .long("out")
+        .help("A file for the device's bytes after the last line");
     let run = Command::new(alloc, "run")
         .about("Runs a script and prints an answer to each line")
         .arg(profile)?
-        .arg(script)?;
+        .arg(script)?
+        .arg(out)?;
+    let shown = Arg::new(alloc, "STORE")
+        .required(true)
+        .help("The store's file");
+    let show = Command::new(alloc, "show")
+        .about("Shows what a store restores to")
+        .arg(shown)?;
     Command::new(alloc, "nvctl")
         .about("Runs scripts on an NVDIMM-N controller")
         .subcommand_required(true)
-        .subcommand(run)
+        .subcommand(run)?
+        .subcommand(show)
 }
 
 // Tells why the words were refused, or gives the help that they ask for.

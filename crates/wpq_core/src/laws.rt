@@ -13,12 +13,13 @@ pub fn line_of_memory()
 /// Where no older pending write names its line, a pending write may go into the array: the memory after the pending writes
 /// stays as it is.
 pub fn early_write()
-    ensures { (array : List (List ℕ)) (writes : List PendingWrite) (i : ℕ) → IsFirstOfItsLine writes i
-        → MayGoEarly array writes i }
+    ensures { (array : List (List ℕ)) (writes : List PendingWrite) (i : ℕ)
+        → IsFirstOfItsLine writes i → MayGoEarly array writes i }
 {}
 
 /// A pushed write is in the memory after the pending writes.
 pub fn pushed_write()
     ensures { (array : List (List ℕ)) (writes : List PendingWrite) (pending : PendingWrite)
-        → after_pending array (writes ++ pending ∷ []) ≡ after_write (after_pending array writes) pending.write }
+        → after_pending array (writes ++ pending ∷ [])
+        ≡ after_write (after_pending array writes) pending.write }
 {}

@@ -5,10 +5,23 @@ use ddr4_timing::command::{Command, Stamped};
 use ddr4_timing::profiles::{SMALL, TINY};
 use ddr4_timing::timing::{Geometry, Timing};
 use std::alloc::Global;
+use std::process::Abort;
 use std::test::Fail;
 
 fn four_ranks() -> Geometry {
     Geometry { ranks: 4, ..SMALL }
+}
+
+// One channel of four ranks, of few short rows.
+fn narrow() -> Geometry {
+    Geometry {
+        channels: 1,
+        ranks: 4,
+        groups: 2,
+        banks: 4,
+        rows: 16,
+        columns: 4,
+    }
 }
 
 // An entry takes 44 clocks and a close step 40: the interval is 2 * (44 + 40) + 4 * 4.
@@ -93,25 +106,64 @@ fn waiting(alloc: Global, channel: &mut Fixture, tickets: &[Ticket]) -> Result<V
     Ok(left)
 }
 
+// What fills both queues of a channel, and the reads that wait.
+#[derive(Drop)]
+struct Load {
+    picks: Picks,
+    tickets: Vec<Ticket>,
+}
+
+impl Load {
+    fn new(alloc: Global, salt: u64, apart: u64) -> Load {
+        Load {
+            picks: Picks { salt, apart },
+            tickets: Vec::new(alloc),
+        }
+    }
+
+    fn fill(&mut self, channel: &mut Fixture) -> Result<(), Fail> {
+        fill_writes(channel, &mut self.picks)?;
+        fill_reads(channel, &mut self.picks, &mut self.tickets)
+    }
+}
+
+// Sixteen commands of a channel, after its answered reads were collected and both queues filled.
+fn sixteen(alloc: Global, channel: &mut Fixture, load: &mut Load) -> Result<Vec<Stamped>, Fail> {
+    load.tickets = waiting(alloc, channel, &load.tickets)?;
+    load.fill(channel)?;
+    let commands = channel.work_many(alloc, 16)?;
+    if commands.len() < 16 {
+        return Err("idle".into());
+    }
+    Ok(commands)
+}
+
+fn is_past(list: &[Stamped], until: u64) -> bool {
+    list.last().is_some_and(|last| last.clock > until)
+}
+
 // The commands of a channel up to a clock, sixteen at a time; both queues are full before each of these.
 fn busy(alloc: Global, channel: &mut Fixture, until: u64) -> Result<Vec<Stamped>, Fail> {
     let mut list = Vec::new(alloc);
-    let mut tickets = Vec::new(alloc);
-    let mut picks = Picks { salt: 7, apart: 1 };
+    let mut load = Load::new(alloc, 7, 1);
     for _ in 0..10_000 {
-        fill_writes(channel, &mut picks)?;
-        fill_reads(channel, &mut picks, &mut tickets)?;
-        let commands = channel.work_many(alloc, 16)?;
-        if commands.len() < 16 {
-            return Err("idle".into());
-        }
+        let commands = sixteen(alloc, channel, &mut load)?;
         list.extend_from_slice(&commands)?;
-        if list.last().is_some_and(|last| last.clock > until) {
+        if is_past(&list, until) {
             return Ok(list);
         }
-        tickets = waiting(alloc, channel, &tickets)?;
     }
     Err("not there in time".into())
+}
+
+// One command of a channel, after both queues were filled; the read that it serves is collected.
+fn conflict(channel: &mut Fixture, load: &mut Load) -> Result<Stamped, Fail> {
+    load.fill(channel)?;
+    let done = channel.work().ok_or("idle")?;
+    if let Some(Served::Read(ticket)) = done.served {
+        channel.collect(ticket);
+    }
+    Ok(done.command)
 }
 
 // The commands of a channel up to a clock, whose queues are full of conflicts before each command.
@@ -122,17 +174,10 @@ fn conflicts(
     until: u64,
 ) -> Result<Vec<Stamped>, Fail> {
     let mut list = Vec::new(alloc);
-    let mut tickets = Vec::new(alloc);
-    let mut picks = Picks { salt, apart: 4 };
+    let mut load = Load::new(alloc, salt, 4);
     for _ in 0..until {
-        fill_writes(channel, &mut picks)?;
-        fill_reads(channel, &mut picks, &mut tickets)?;
-        let done = channel.work().ok_or("idle")?;
-        if let Some(Served::Read(ticket)) = done.served {
-            channel.collect(ticket);
-        }
-        list.push(done.command)?;
-        if done.command.clock > until {
+        list.push(conflict(channel, &mut load)?)?;
+        if is_past(&list, until) {
             return Ok(list);
         }
     }
@@ -145,32 +190,43 @@ fn refreshes(list: &[Stamped]) -> usize {
         .count()
 }
 
+// The commands break no rule, and so many of them at least are refreshes.
+fn keeps_every_rule(rt: &impl Abort, channel: &Fixture, list: &[Stamped], least: usize) {
+    assert_eq!(rt; channel.fault(list), None);
+    assert!(rt; refreshes(list) >= least);
+}
+
+fn busy_by_the_rules(
+    rt: &impl Abort,
+    alloc: Global,
+    geometry: &Geometry,
+    least: usize,
+) -> Result<(), Fail> {
+    let mut channel = Fixture::new(alloc, &TINY, geometry, 8, 8)?;
+    let list = busy(alloc, &mut channel, 21 * 9360)?;
+    keeps_every_rule(rt, &channel, &list, least);
+    Ok(())
+}
+
 #[test]
 fn a_busy_channel_keeps_every_rule(rt: HostRuntime) -> Result<(), Fail> {
     for (geometry, least) in [(SMALL, 12), (four_ranks(), 48)] {
-        let mut channel = Fixture::new(rt.alloc(), &TINY, &geometry, 8, 8)?;
-        let list = busy(rt.alloc(), &mut channel, 21 * 9360)?;
-        assert_eq!(rt; channel.fault(&list), None);
-        assert!(rt; refreshes(&list) >= least);
+        busy_by_the_rules(&rt, rt.alloc(), &geometry, least)?;
     }
+    Ok(())
+}
+
+fn conflicts_by_the_rules(rt: &impl Abort, alloc: Global, salt: u64) -> Result<(), Fail> {
+    let mut channel = Fixture::new(alloc, &tight(), &narrow(), 64, 64)?;
+    let list = conflicts(alloc, &mut channel, salt, 50 * 184)?;
+    keeps_every_rule(rt, &channel, &list, 4 * 41);
     Ok(())
 }
 
 #[test]
 fn the_tightest_profile_never_gets_stuck(rt: HostRuntime) -> Result<(), Fail> {
-    let geometry = Geometry {
-        channels: 1,
-        ranks: 4,
-        groups: 2,
-        banks: 4,
-        rows: 16,
-        columns: 4,
-    };
     for salt in 0..8 {
-        let mut channel = Fixture::new(rt.alloc(), &tight(), &geometry, 64, 64)?;
-        let list = conflicts(rt.alloc(), &mut channel, salt, 50 * 184)?;
-        assert_eq!(rt; channel.fault(&list), None);
-        assert!(rt; refreshes(&list) >= 4 * 41);
+        conflicts_by_the_rules(&rt, rt.alloc(), salt)?;
     }
     Ok(())
 }

@@ -1,115 +1,131 @@
-// Scripts on devices that fail, and on stores whose bytes bring a refusal.
-use crate::plain::LINES;
-use crate::script::{VERBS, run_lines};
-use nv_profile::{TINY, read_profile};
-use nv_script::read_script;
-use save_device::{Fuse, MemoryDevice, OneFault, Pick, SaveDevice};
-use slot_store::{device_size, format, restore};
+// Scripts over devices that fail and lose their power, with the verbs for it.
+ghost use Rattle.std.specs.Prelude.{◌≡◌, ◌<◌};
+ghost use Rattle.ddr4_timing.specs.Limits.{lines_of};
+ghost use Rattle.ddr4_timing.specs.Places.{LiesIn};
+ghost use Rattle.interleave_map.specs.Interleaving.{place_by_lines, line_by_lines, place_by_xor, line_by_xor};
+
+use crate::answers::restore_answer;
+use crate::script::run_lines;
+use ddr4_timing::place::Place;
+use interleave_map::map::Map;
+use interleave_map::{lines, xor};
+use nv_profile::{Profile, TINY, read_profile};
+use nv_script::{ScriptFault, ScriptLine, Verb, read_script};
+use save_device::MemoryDevice;
+use slot_store::RestoreError;
 use std::alloc::Global;
+use std::io;
+use std::marker::Brand;
 use std::test::Fail;
 
-// The calls of a format and of a save after it, by the format of images: two gates, a sync, the header, two pages, a sync,
-// a gate, a sync; and the same with one gate, or a sync in its place.
-const OF_FORMAT: u64 = 9;
+const VERBS: [Verb; 8] = [
+    Verb::Format,
+    Verb::Write,
+    Verb::Read,
+    Verb::Save,
+    Verb::Restore,
+    Verb::RestoreOld,
+    Verb::RestorePick,
+    Verb::Fuse,
+];
 
+// The calls of a save: a gate, a sync, the header, two pages, a sync, a gate, a sync.
 const OF_SAVE: u64 = 8;
 
-const SECOND_SLOT: usize = 12_288;
-
-fn blank(alloc: Global) -> Result<MemoryDevice, Fail> {
-    Ok(MemoryDevice::new(alloc, Vec::from_elem(alloc, 0, device_size(LINES))?)?)
+// Runs lines over both maps.
+fn run_all<W: io::Write>(
+    alloc: Global,
+    profile: &Profile,
+    script: &[u8],
+    writer: &mut W,
+) -> Result<MemoryDevice, ScriptFault> {
+    let checked = profile.checked;
+    let split_lines = move |line: u64| -> Place
+        requires { line < lines_of checked.geometry }
+        ensures { result ≡ place_by_lines checked.geometry line }
+    { lines::split(&checked, line) };
+    let join_lines = move |place: Place| -> u64
+        requires { LiesIn checked.geometry place }
+        ensures { result ≡ line_by_lines checked.geometry place }
+    { lines::join(&checked, place) };
+    let split_xor = move |line: u64| -> Place
+        requires { line < lines_of checked.geometry }
+        ensures { result ≡ place_by_xor checked.geometry line }
+    { xor::split(&checked, line) };
+    let join_xor = move |place: Place| -> u64
+        requires { LiesIn checked.geometry place }
+        ensures { result ≡ line_by_xor checked.geometry place }
+    { xor::join(&checked, place) };
+    let lines_map = Map::new(split_lines, join_lines, &checked);
+    let xor_map = Map::new(split_xor, join_xor, &checked);
+    let script = read_script(alloc, script, &checked.geometry, &VERBS)?;
+    run_lines::<_, _, Brand, Brand, W>(alloc, profile, &script, &lines_map, &xor_map, writer)
 }
 
-// What a script answers on a device.
-fn answers<D: SaveDevice>(alloc: Global, script: &str, device: &mut D) -> Result<String, Fail> {
+// What a script answers.
+fn answers(alloc: Global, script: &str) -> Result<String, Fail> {
     let profile = read_profile(alloc, TINY.as_bytes())?;
-    let lines = read_script(alloc, script.as_bytes(), &profile.checked.geometry, &VERBS)?;
     let mut text = Vec::new(alloc);
-    if device.len() == device_size(LINES) {
-        run_lines(alloc, &lines, device, &mut text)?;
-    }
+    run_all(alloc, &profile, script.as_bytes(), &mut text)?;
     Ok(String::from_utf8(text)?)
-}
-
-// The generation and the count of what is restored after a loss of power; zeros where nothing is.
-fn left(alloc: Global, mut device: MemoryDevice, pick: Pick) -> (u64, u64) {
-    device.stop(pick);
-    match restore(alloc, &mut device, LINES) {
-        Ok(restored) => (restored.generation, restored.count),
-        Err(_) => (0, 0),
-    }
 }
 
 #[test]
 fn a_fault_is_answered_where_it_comes(rt: HostRuntime) -> Result<(), Fail> {
-    let script = "format\nwrite 0 11\nread 0\nsave\nwrite 1 22\nread 1\n";
-    for passes in 0..OF_FORMAT + OF_SAVE + 1 {
-        let mut device = Fuse::new(blank(rt.alloc())?, passes);
-        let wanted = if passes < OF_FORMAT {
-            "fault format\nrefused write 4 Closed\nrefused read 4 Closed\nrefused save 5 Closed\nrefused write 4 Closed\nrefused read 4 Closed\n"
-        } else if passes < OF_FORMAT + OF_SAVE {
-            "formatted\naccepted 0 mark 0\nline 0 = 11\nfault save\naccepted 1 mark 0\nline 1 = 22\n"
+    for passes in 0..OF_SAVE + 1 {
+        let script = format!(in rt.alloc();
+            "format\nwrite 0 11\nread 0\nfuse {passes}\nsave\nwrite 1 22\nread 1\n"
+        )?;
+        let saved = if passes < OF_SAVE {
+            "fault save\naccepted 1 mark 0\n"
         } else {
-            "formatted\naccepted 0 mark 0\nline 0 = 11\nsaved 2 1\naccepted 1 mark 1\nline 1 = 22\n"
+            "saved 2 1\naccepted 1 mark 1\n"
         };
-        let text = answers(rt.alloc(), script, &mut device)?;
-        assert_eq!(rt; text.as_str(), wanted, "{passes} calls pass");
+        let wanted = format!(in rt.alloc();
+            "formatted\naccepted 0 mark 0\nline 0 = 11\nfuse {passes}\n{saved}line 1 = 22\n"
+        )?;
+        let text = answers(rt.alloc(), script.as_str())?;
+        assert_eq!(rt; text.as_str(), wanted.as_str(), "{passes} calls pass");
     }
     Ok(())
 }
 
 #[test]
-fn a_failed_format_ends_the_life(rt: HostRuntime) -> Result<(), Fail> {
-    let script = "format\nwrite 0 11\nformat\nread 0\nwrite 0 22\n";
-    for at in OF_FORMAT..2 * OF_FORMAT {
-        let mut device = OneFault::new(blank(rt.alloc())?, at);
-        let text = answers(rt.alloc(), script, &mut device)?;
-        assert_eq!(rt;
-            text.as_str(),
-            "formatted\naccepted 0 mark 0\nfault format\nrefused read 4 Closed\nrefused write 4 Closed\n",
-            "call {at} fails"
-        );
+fn a_save_that_is_made_again(rt: HostRuntime) -> Result<(), Fail> {
+    for passes in 0..OF_SAVE {
+        let script = format!(in rt.alloc();
+            "format\nwrite 0 11\nfuse {passes}\nsave\nfuse off\nsave\nrestore\nread 0\n"
+        )?;
+        let wanted = format!(in rt.alloc();
+            "formatted\naccepted 0 mark 0\nfuse {passes}\nfault save\nfuse off\nsaved 2 1\nrestored 2 1 Complete\nline 0 = 11\n"
+        )?;
+        let text = answers(rt.alloc(), script.as_str())?;
+        assert_eq!(rt; text.as_str(), wanted.as_str(), "{passes} calls pass");
     }
     Ok(())
 }
 
-#[test]
-fn a_failed_restore_ends_the_life(rt: HostRuntime) -> Result<(), Fail> {
-    let mut device = Fuse::new(blank(rt.alloc())?, OF_FORMAT);
-    let text = answers(rt.alloc(), "format\nrestore\nread 0\nsave\n", &mut device)?;
-    assert_eq!(rt;
-        text.as_str(),
-        "formatted\nrefused restore 4 Device\nrefused read 4 Closed\nrefused save 5 Closed\n"
-    );
-    Ok(())
-}
-
-// The first save fails at one call, and the second one after some further calls that it passes to the device.
+// The first save fails at one call, and the second one after some further calls.
 #[test]
 fn a_save_after_a_failed_one(rt: HostRuntime) -> Result<(), Fail> {
-    let script = "format\nwrite 0 11\nsave\nsave\n";
     for at in 0..OF_SAVE {
         for further in 0..OF_SAVE {
-            for pick in [Pick::Old, Pick::New, Pick::Torn(0xa5), Pick::Torn(0)] {
-                // a sync that fails isn't handed on
-                let is_write = at != 0 && at != 1 && at != 5 && at != 7;
-                let passed = OF_FORMAT + at + is_write as u64 + further;
-                let fuse = Fuse::new(blank(rt.alloc())?, passed);
-                let mut device = OneFault::new(fuse, OF_FORMAT + at);
-                let text = answers(rt.alloc(), script, &mut device)?;
-                assert_eq!(rt;
-                    text.as_str(),
-                    "formatted\naccepted 0 mark 0\nfault save\nfault save\n",
-                    "{at}, then {further}"
-                );
-                let (generation, count) = left(rt.alloc(), device.device.device, pick);
-                let is_old = generation == 1 && count == 0;
-                let is_new = generation == 2 && count == 1;
+            for pick in ["old", "new", "torna5", "torn00"] {
+                let script = format!(in rt.alloc();
+                    "format\nwrite 0 11\nfuse {at}\nsave\nfuse {further}\nsave\nrestore {pick}\n"
+                )?;
+                let text = answers(rt.alloc(), script.as_str())?;
+                let faults = format!(in rt.alloc();
+                    "formatted\naccepted 0 mark 0\nfuse {at}\nfault save\nfuse {further}\nfault save\n"
+                )?;
+                assert!(rt; text.starts_with(faults.as_str()), "{at}, then {further}");
+                let is_old = text.ends_with("\nrestored 1 0 Complete\n");
+                let is_new = text.ends_with("\nrestored 2 1 Complete\n");
                 // from the settled close on the new image can't be there, until the gate is opened again
                 let may_be_new = further == 7 || (at >= 6 && further < 2);
                 assert!(rt;
                     is_old || (may_be_new && is_new),
-                    "{at}, then {further}: {generation} {count}"
+                    "{at}, then {further}: {text}"
                 );
             }
         }
@@ -118,61 +134,26 @@ fn a_save_after_a_failed_one(rt: HostRuntime) -> Result<(), Fail> {
 }
 
 #[test]
-fn a_save_that_is_made_again(rt: HostRuntime) -> Result<(), Fail> {
-    let script = "format\nwrite 0 11\nsave\nsave\nrestore\nread 0\n";
-    for at in 0..OF_SAVE {
-        let mut device = OneFault::new(blank(rt.alloc())?, OF_FORMAT + at);
-        let text = answers(rt.alloc(), script, &mut device)?;
-        assert_eq!(rt;
-            text.as_str(),
-            "formatted\naccepted 0 mark 0\nfault save\nsaved 2 1\nrestored 2 1 Complete\nline 0 = 11\n",
-            "call {at} of the save fails"
-        );
+fn a_fuse_ends_with_the_life(rt: HostRuntime) -> Result<(), Fail> {
+    for again in ["format", "restore"] {
+        let script = format!(in rt.alloc(); "format\nfuse 0\nsave\n{again}\nsave\n")?;
+        let text = answers(rt.alloc(), script.as_str())?;
+        assert!(rt; text.starts_with("formatted\nfuse 0\nfault save\n"));
+        assert!(rt; text.ends_with("\nsaved 2 0\n"), "{text}");
     }
     Ok(())
 }
 
-// A formatted store with eight bytes put over its own.
-fn store_with(alloc: Global, at: usize, bytes: [u8; 8]) -> Result<MemoryDevice, Fail> {
-    let mut device = blank(alloc)?;
-    if device.len() == device_size(LINES) {
-        format(&mut device, LINES)?;
-    }
-    if device.len() == device_size(LINES) && at < SECOND_SLOT + 8 {
-        device.write_at(at, &bytes)?;
-    }
-    Ok(device)
-}
-
 #[test]
-fn refusals_by_what_the_device_holds(rt: HostRuntime) -> Result<(), Fail> {
-    for (at, bytes, script, wanted) in [
-        // no gate is open; an open gate over a header that is none
-        (0, [0; 8], "restore\n", "refused restore 1 NoImage\n"),
-        (1, [1; 8], "restore\n", "refused restore 2 Damaged 0\n"),
-        (
-            SECOND_SLOT,
-            [0xa5, 0, 0, 0, 0, 0, 0, 0],
-            "restore\n",
-            "refused restore 2 Damaged 1\n",
-        ),
-        // generation 2^62 - 1, and count 2^62 - 1
-        (
-            16,
-            [0xff, 0xff, 0xff, 0xff, 0xff, 0xff, 0xff, 0x3f],
-            "restore\nsave\nsave\n",
-            "restored 4611686018427387903 0 Complete\nsaved 4611686018427387904 0\nrefused save 6 Spent\n",
-        ),
-        (
-            24,
-            [0xff, 0xff, 0xff, 0xff, 0xff, 0xff, 0xff, 0x3f],
-            "restore\nwrite 0 11\nwrite 0 22\n",
-            "restored 1 4611686018427387903 Complete\naccepted 4611686018427387903 mark 4611686018427387903\nrefused write 5 TrailFull\n",
-        ),
+fn a_restore_that_fails(rt: HostRuntime) -> Result<(), Fail> {
+    for (error, text) in [
+        (RestoreError::NoImage, "refused restore 1 NoImage"),
+        (RestoreError::WrongSize, "refused restore 3 WrongSize"),
+        (RestoreError::Device, "refused restore 4 Device"),
+        (RestoreError::Memory, "refused restore 5 Memory"),
     ] {
-        let mut device = store_with(rt.alloc(), at, bytes)?;
-        let text = answers(rt.alloc(), script, &mut device)?;
-        assert_eq!(rt; text.as_str(), wanted);
+        let answer = restore_answer(Err(error));
+        assert_eq!(rt; format!(in rt.alloc(); "{answer}")?.as_str(), text);
     }
     Ok(())
 }

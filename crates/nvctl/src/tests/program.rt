@@ -36,13 +36,14 @@ fn file(rt: &HostRuntime, name: &str, bytes: &[u8]) -> Result<String, Fail> {
 
 #[test]
 fn words_that_are_no_usage(rt: HostRuntime) -> Result<(), Fail> {
-    let cases: [&[&str]; 8] = [
+    let cases: [&[&str]; 9] = [
         &[],
         &["run"],
         &["run", "tiny"],
         &["run", "tiny", "-", "-"],
-        &["run", "tiny", "-", "--out", "store"],
-        &["show", "store"],
+        &["run", "tiny", "-", "--out"],
+        &["show"],
+        &["show", "store", "store"],
         &["walk"],
         &["--walk"],
     ];
@@ -72,8 +73,8 @@ fn a_script_that_runs(rt: HostRuntime) -> Result<(), Fail> {
 fn faults_in_their_order(rt: HostRuntime) -> Result<(), Fail> {
     let bad = file(&rt, "bad", b"format\nwirte 0 11\n")?;
     for (words, fault) in [
-        (["run", "nothing", "/no/such/file"], "profile"),
-        (["run", "nothing", bad.as_str()], "profile"),
+        (["run", "/no/profile", "/no/such/file"], "file /no/profile"),
+        (["run", bad.as_str(), "/no/such/file"], "profile"),
         (["run", "tiny", "/no/such/file"], "file /no/such/file"),
         (["run", "tiny", bad.as_str()], "script line 2"),
     ] {
@@ -83,6 +84,28 @@ fn faults_in_their_order(rt: HostRuntime) -> Result<(), Fail> {
         assert!(rt; text.is_empty(), "{fault}");
     }
     fs::remove_file(&rt, bad.as_str())?;
+    Ok(())
+}
+
+#[test]
+fn a_store_that_is_shown(rt: HostRuntime) -> Result<(), Fail> {
+    let script = file(&rt, "saving", b"format\nwrite 5 a5\nsave\nwrite 6 11\n")?;
+    let store = file(&rt, "store", b"")?;
+    let words = ["run", "tiny", script.as_str(), "--out", store.as_str()];
+    let (code, line, _) = outcome(&rt, &words)?;
+    assert_eq!(rt; code, ExitCode::SUCCESS, "{line}");
+    let (code, line, text) = outcome(&rt, &["show", store.as_str()])?;
+    assert_eq!(rt; code, ExitCode::SUCCESS);
+    assert!(rt; line.is_empty());
+    assert_eq!(rt; text.as_str(), "restored 2 1 Complete\nline 5 = a5\n");
+    let (code, line, text) = outcome(&rt, &["show", script.as_str()])?;
+    assert_eq!(rt; code, ExitCode::FAILURE);
+    assert!(rt; line.is_empty());
+    assert_eq!(rt; text.as_str(), "refused restore 3 WrongSize\n");
+    let (_, line, _) = outcome(&rt, &["run", "tiny", script.as_str(), "--out", "/no/store"])?;
+    assert_eq!(rt; line.as_str(), "file /no/store");
+    fs::remove_file(&rt, script.as_str())?;
+    fs::remove_file(&rt, store.as_str())?;
     Ok(())
 }
 

@@ -1,10 +1,11 @@
 // Stores that are shown, whole and broken.
-use crate::plain::LINES;
 use crate::store::{STORE_BYTES, show_store};
 use save_device::{MemoryDevice, SaveDevice};
 use slot_store::{device_size, format};
 use std::alloc::Global;
 use std::test::Fail;
+
+const LINES: usize = 128;
 
 const SLOT: usize = 12_288;
 

@@ -1,8 +1,0 @@
-use Rattle.std.proofs.Common.{ℕ, ◌<◌, List, IsTrue}
-use Rattle.ddr4_timing.specs.Lawful.{is_asleep}
-use Rattle.ddr4_timing.specs.declared.command.Stamped.{Stamped}
-use Rattle.bank_core.specs.Stands.{Stands}
-use Rattle.chan_core.proofs.channel.phase_alone.Given as goal
-
-abbrev pub invariant-loop-rank : goal.invariant-loop-rank
-invariant-loop-rank l = (list : List Stamped) → Stands l.banks list → (rank : ℕ) → rank < l.rank → IsTrue (is_asleep rank list)

@@ -1,0 +1,113 @@
+// What a command does to what a channel holds.
+ghost use Rattle.std.specs.Prelude.{◌≡◌, ◌≢◌, ◌++◌, ◌∷◌, [], IfSome, remove};
+ghost use Rattle.frfcfs.specs.declared.pending.Kind.TheVariants as kinds;
+ghost use Rattle.frfcfs.specs.Requests.{AreInOrder, IsEligible};
+ghost use Rattle.frfcfs.specs.Next.{IsServable};
+ghost use Rattle.chan_core.specs.State.{channel_memory};
+ghost use Rattle.chan_core.specs.Singles.{FitsOldest, IssuesAlone};
+ghost use Rattle.chan_core.specs.declared.phase.Phase.TheVariants.{Running};
+ghost use Rattle.chan_core.specs.Phases.{TellsSleep};
+ghost use Rattle.chan_core.specs.Calls.{AnswersRead, KeepsBelow, MovesWrite, ServesAt, ServesIndex, after_command};
+
+use crate::answers::{Served, Ticket};
+use crate::channel_memory::ChannelMemory;
+use crate::moves::{store_by, take_write};
+use crate::phase::Phase;
+use crate::reads::answer;
+use ddr4_timing::command::Stamped;
+use frfcfs::pending::{Kind, Pending};
+
+impl ChannelMemory {
+    /// A command goes, and serves the request at an index, whose RD or WR it is: a write goes into the array, a read gets
+    /// the bytes of its line there.
+    pub(crate) fn issue(&mut self, index: Option<usize>, command: Stamped) -> Option<Served>
+        requires { IfSome index (IsServable self.old.requests) }
+        ensures same { self.new ≡ after_command self.old command self.new }
+        ensures serves { ServesIndex index result self.old self.new }
+        ensures memory { channel_memory self.new ≡ channel_memory self.old }
+        ensures below { KeepsBelow self.old self.new }
+    {
+        match index {
+            Some(index) => Some(self.serve(index, command)),
+            None => {
+                self.issued.note(&command);
+                None
+            }
+        }
+    }
+
+    /// A single command goes: all reads are lost, and a WR takes the oldest write to the array, held or not.
+    pub(crate) fn issue_alone(&mut self, command: Stamped, phase: Phase)
+        requires oldest { FitsOldest self.old command.cmd }
+        requires single { phase ≢ Running }
+        requires asleep { TellsSleep phase self.old.checked (self.old.commands ++ command ∷ []) }
+        ensures issues { IssuesAlone self.old command self.new }
+        ensures memory { channel_memory self.new ≡ channel_memory self.old }
+    {
+        self.reads.clear();
+        self.waiting.keep_writes();
+        store_by(
+            command.cmd,
+            &mut self.array,
+            &mut self.queue,
+            &mut self.waiting,
+        );
+        self.issued.note(&command);
+        self.phase = phase;
+    }
+
+    // The command of an eligible request goes, and serves it.
+    fn serve(&mut self, index: usize, command: Stamped) -> Served
+        requires { IsServable self.old.requests index }
+        ensures same { self.new ≡ after_command self.old command self.new }
+        ensures serves { ServesAt self.old index result self.new }
+        ensures memory { channel_memory self.new ≡ channel_memory self.old }
+        ensures below { KeepsBelow self.old self.new }
+    {
+        let request = self.waiting.requests()[index];
+        match request.kind {
+            Kind::Write => {
+                self.serve_write(index, request, command);
+                Served::Write {
+                    number: request.number,
+                }
+            }
+            Kind::Read => Served::Read(self.serve_read(index, request, command)),
+        }
+    }
+
+    fn serve_write(&mut self, index: usize, request: Pending, command: Stamped)
+        requires eligible { IsEligible self.old.requests index request }
+        requires kind { request.kind ≡ kinds.Write }
+        requires order { AreInOrder self.old.requests }
+        ensures same { self.new ≡ after_command self.old command self.new }
+        ensures moves { MovesWrite self.old request request.number self.new }
+        ensures requests { self.new.requests ≡ remove self.old.requests index }
+        ensures memory { channel_memory self.new ≡ channel_memory self.old }
+        ensures below { KeepsBelow self.old self.new }
+    {
+        self.waiting.take(index);
+        let bytes = take_write(&mut self.queue, request.number);
+        self.array[request.line as usize] = bytes;
+        self.issued.note(&command);
+    }
+
+    fn serve_read(&mut self, index: usize, request: Pending, command: Stamped) -> Ticket
+        requires eligible { IsEligible self.old.requests index request }
+        requires kind { request.kind ≡ kinds.Read }
+        ensures same { self.new ≡ after_command self.old command self.new }
+        ensures answers { AnswersRead self.old request result self.new }
+        ensures requests { self.new.requests ≡ remove self.old.requests index }
+        ensures memory { channel_memory self.new ≡ channel_memory self.old }
+        ensures below { KeepsBelow self.old self.new }
+    {
+        self.waiting.take(index);
+        let bytes = self.array[request.line as usize];
+        let serial = answer(&mut self.reads, request.seq, bytes);
+        self.issued.note(&command);
+        Ticket {
+            channel: self.channel,
+            serial,
+        }
+    }
+}

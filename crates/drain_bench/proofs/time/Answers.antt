@@ -1,0 +1,12 @@
+use Rattle.std.proofs.Common.{rules}
+use Rattle.interleave_map.specs.Interleaving.{place_by_lines}
+use Rattle.interleave_map.proofs.Closures.{closures_by_lines}
+use Rattle.drain_bench.proofs.time.Goals as goal
+
+pub new-map-requires : goal.new-map-requires
+new-map-requires c =
+    let geometry = c.args.checked.geometry in (
+      place_by_lines geometry,
+      closures_by_lines geometry c.args.checked.is_small (search rules)
+          (record { callable = search rules; value = search rules; only = search rules }),
+    )

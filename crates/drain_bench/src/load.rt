@@ -1,0 +1,121 @@
+// A channel whose write queue is full.
+ghost use Rattle.std.specs.Prelude.{◌≡◌};
+
+use chan_core::{Channel, Phase, Served};
+use ddr4_timing::timing::Checked;
+use drain_core::laws::running_channel_may_drain;
+use drain_core::{DrainReport, drain};
+use energy_budget::{CostNumbers, Costs};
+use interleave_map::cells::cells;
+use interleave_map::line_map::LineMap;
+use std::alloc::Global;
+use std::marker::Model;
+
+/// How many writes are pending.
+pub(crate) const DEPTH: usize = 64;
+
+const NUMBERS: CostNumbers = CostNumbers {
+    e_act: 4,
+    e_col: 2,
+    e_pre: 1,
+    e_ref: 20,
+    e_sre: 1,
+    e_clk: 1,
+    e_mark: 50,
+    e_sync: 100,
+    e_page: 1000,
+    leak: 1,
+};
+
+/// Channel 0 of a profile, with the number of its next write and the stream that its writes come from.
+#[derive(Drop)]
+pub struct Load<'m, M: LineMap> {
+    map: &'m M,
+    checked: Checked,
+    channel: Channel,
+    costs: Costs,
+    number: u64,
+    salt: u64,
+}
+
+impl<'m, M: LineMap> Model for Load<'m, M> {
+    ghost use Rattle.std.specs.Prelude.{◌≡◌};
+    ghost use Rattle.ddr4_timing.specs.declared.timing.Checked.{Checked};
+    ghost use Rattle.energy_budget.specs.Costs.{AreReckonedFor};
+
+    ghost Value = { Checked };
+
+    ghost view = { λ l. l.checked };
+
+    ghost invariant = { λ l. M.is_lawful l.map.now × (M.geometry_of l.map.now ≡ l.checked.geometry)
+        × (l.channel.checked ≡ l.checked) × AreReckonedFor l.checked l.costs };
+}
+
+impl<'m, M: LineMap> Load<'m, M> {
+    /// A channel with a full write queue, and no command so far.
+    pub(crate) fn new(alloc: Global, map: &'m M, checked: &Checked) -> anyhow::Result<Load<'m, M>>
+        requires lawful { M.is_lawful map.now }
+        requires geometry { M.geometry_of map.now ≡ checked.now.geometry }
+    {
+        if !NUMBERS.is_in_limits() {
+            anyhow::bail!("no such costs");
+        }
+        let mut load = Load {
+            map,
+            checked: *checked,
+            channel: Channel::new(alloc, checked, 0, DEPTH, 1)?,
+            costs: Costs::of(checked, &NUMBERS),
+            number: 0,
+            salt: 7,
+        };
+        for _ in 0..DEPTH {
+            load.put()?;
+        }
+        Ok(load)
+    }
+
+    // Writes the stream's next line.
+    fn put(&mut self) -> anyhow::Result<()> {
+        self.salt = self
+            .salt
+            .wrapping_mul(6_364_136_223_846_793_005)
+            .wrapping_add(1_442_695_040_888_963_407);
+        let index = (self.salt >> 33) % cells(&self.checked) as u64;
+        let line = index.wrapping_mul(self.checked.geometry.channels);
+        if !self.channel.has_line(self.map, line) || !self.channel.may_take(self.number) {
+            anyhow::bail!("no such write");
+        }
+        let put = self.channel.put(self.map, self.number, line, [1; 64]);
+        if put.is_err() {
+            anyhow::bail!("no room for a write");
+        }
+        self.number = self.number.wrapping_add(1);
+        Ok(())
+    }
+
+    /// Issues commands up to a clock, and replaces each write that was served.
+    pub(crate) fn work_until(&mut self, until: u64) -> anyhow::Result<()> {
+        for _ in 0..until {
+            let Some(done) = self.channel.work() else {
+                anyhow::bail!("idle");
+            };
+            if let Some(Served::Write { .. }) = done.served {
+                self.put()?;
+            }
+            if done.command.clock >= until {
+                return Ok(());
+            }
+        }
+        anyhow::bail!("not there in time")
+    }
+
+    /// Drains the channel.
+    pub(crate) fn drain(&mut self) -> anyhow::Result<DrainReport> {
+        if !matches!(self.channel.phase(), Phase::Running) || self.channel.clock() >= 1 << 62 {
+            anyhow::bail!("may not drain");
+        }
+        self.channel.always();
+        running_channel_may_drain();
+        Ok(drain(&mut self.channel, &self.costs))
+    }
+}

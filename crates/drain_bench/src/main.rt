@@ -1,0 +1,117 @@
+//! How long a channel's drain of 64 writes takes.
+//!
+//!     drain_bench                 the clocks of each drain, and what it spends
+//!     drain_bench time COUNT      and nanoseconds, the mean of so many
+//!
+//! A channel is rested where no command went before, and busy where it worked with a full queue until each of its ranks owed
+//! nearly eight refreshes.
+#![tactic(auto)]
+
+ghost use Rattle.std.specs.Prelude.{◌≡◌, ◌<◌};
+ghost use Rattle.ddr4_timing.specs.Limits.{lines_of};
+ghost use Rattle.ddr4_timing.specs.Places.{LiesIn};
+ghost use Rattle.interleave_map.specs.Interleaving.{place_by_lines, line_by_lines};
+
+mod load;
+
+use crate::load::{DEPTH, Load};
+use ddr4_timing::place::Place;
+use ddr4_timing::profiles::{SMALL, TINY, WIDEST};
+use ddr4_timing::timing::{Checked, Geometry};
+use drain_core::DrainReport;
+use interleave_map::line_map::LineMap;
+use interleave_map::lines;
+use interleave_map::map::Map;
+use std::env;
+use std::time::Instant;
+
+/// What goes before a drain.
+#[derive(Clone, Copy, Debug, PartialEq, Eq)]
+enum Before {
+    /// No command.
+    Rested,
+    /// A full queue, until just before the refreshes may wait no longer.
+    Busy,
+}
+
+// One drain, and how many nanoseconds it took.
+fn drain_once<M: LineMap>(
+    rt: &HostRuntime,
+    map: &M,
+    checked: &Checked,
+    before: Before,
+) -> anyhow::Result<(DrainReport, u128)>
+    requires lawful { M.is_lawful map.now }
+    requires geometry { M.geometry_of map.now ≡ checked.now.geometry }
+{
+    let mut load = Load::new(rt.alloc(), map, checked)?;
+    if before == Before::Busy {
+        let lead = checked.timing.t_refi.saturating_mul(8);
+        load.work_until(lead.saturating_sub(60))?;
+    }
+    let start = Instant::now(rt)?;
+    let report = load.drain()?;
+    Ok((report, start.elapsed(rt)?.as_nanos()))
+}
+
+fn time(rt: &HostRuntime, checked: Checked, before: Before) -> anyhow::Result<(DrainReport, u128)> {
+    let split = move |line: u64| -> Place
+        requires { line < lines_of checked.geometry }
+        ensures { result ≡ place_by_lines checked.geometry line }
+    { lines::split(&checked, line) };
+    let join = move |place: Place| -> u64
+        requires { LiesIn checked.geometry place }
+        ensures { result ≡ line_by_lines checked.geometry place }
+    { lines::join(&checked, place) };
+    let map = Map::new(split, join, &checked);
+    drain_once(rt, &map, &checked, before)
+}
+
+// The mean of so many drains, in nanoseconds.
+fn mean(rt: &HostRuntime, checked: Checked, before: Before, count: u64) -> anyhow::Result<u128> {
+    let mut sum: u128 = 0;
+    for _ in 0..count {
+        let (_, nanos) = time(rt, checked, before)?;
+        sum = sum.saturating_add(nanos);
+    }
+    Ok(sum / (count as u128).max(1))
+}
+
+// A drain's clocks and what it spends, and nanoseconds where a count is given.
+fn show(
+    rt: &HostRuntime,
+    name: &str,
+    geometry: &Geometry,
+    before: Before,
+    count: Option<u64>,
+) -> anyhow::Result<()> {
+    let checked = TINY.check(geometry)?;
+    let (report, _) = time(rt, checked, before)?;
+    let word = match before {
+        Before::Rested => "rested",
+        Before::Busy => "busy",
+    };
+    let DrainReport { clocks, spent } = report;
+    print!(rt; "{name} {word}: {clocks} clocks for {DEPTH} writes, {spent} spent")?;
+    if let Some(count) = count {
+        let nanos = mean(rt, checked, before, count)?;
+        print!(rt; ", {nanos} nanoseconds")?;
+    }
+    println!(rt;)?;
+    Ok(())
+}
+
+fn main(rt: HostRuntime) -> anyhow::Result<()> {
+    let words: Vec<String> = env::args(&rt)?.collect(rt.alloc())?;
+    let count = match words.as_slice() {
+        [_] => None,
+        [_, word, count] if word.as_str() == "time" => Some(count.as_str().parse()?),
+        _ => anyhow::bail!("no word, or time and a count"),
+    };
+    for (name, geometry) in [("tiny", SMALL), ("largest", WIDEST)] {
+        for before in [Before::Rested, Before::Busy] {
+            show(&rt, name, &geometry, before, count)?;
+        }
+    }
+    Ok(())
+}

@@ -1,0 +1,129 @@
+//! How fast a module is on the channels of a profile, beside a plain array of lines.
+//!
+//!     module_bench         what each answers, in short
+//!     module_bench time    and how much of it a second, at the largest size
+//!
+//! Lines are written and read in a pseudo-random order. A write that finds its channel full works the channel until it isn't, and
+//! a read that has to wait works its channel until it has its bytes. A save writes a whole image to a device in memory, and a
+//! restore begins a memory with it.
+#![tactic(auto)]
+
+ghost use Rattle.std.specs.Prelude.{◌≡◌, ◌<◌};
+ghost use Rattle.ddr4_timing.specs.Limits.{lines_of};
+ghost use Rattle.ddr4_timing.specs.Places.{LiesIn};
+ghost use Rattle.interleave_map.specs.Interleaving.{place_by_lines, line_by_lines};
+
+mod load;
+mod measured;
+mod opening;
+mod picks;
+mod plain;
+mod rounds;
+
+use crate::rounds::{Amount, Nanos, Tally, module_rounds, plain_rounds};
+use ddr4_timing::place::Place;
+use ddr4_timing::profiles::{SMALL, TINY, WIDEST};
+use ddr4_timing::timing::{Checked, Geometry};
+use interleave_map::cells::line_count;
+use interleave_map::lines;
+use interleave_map::map::Map;
+use std::env;
+use std::marker::Brand;
+
+// The rounds of a module over the map `lines`.
+fn by_lines(rt: &HostRuntime, checked: Checked, amount: Amount) -> anyhow::Result<Tally> {
+    let split = move |line: u64| -> Place
+        requires { line < lines_of checked.geometry }
+        ensures { result ≡ place_by_lines checked.geometry line }
+    { lines::split(&checked, line) };
+    let join = move |place: Place| -> u64
+        requires { LiesIn checked.geometry place }
+        ensures { result ≡ line_by_lines checked.geometry place }
+    { lines::join(&checked, place) };
+    let map = Map::new(split, join, &checked);
+    module_rounds::<_, Brand>(rt, &map, &checked, amount)
+}
+
+// How many a second.
+fn rate(count: u64, nanos: u128) -> u128 {
+    (count as u128).saturating_mul(1_000_000_000) / nanos.max(1)
+}
+
+// How much of each a second, where so many lines are saved and restored in a round.
+fn show_rates(rt: &HostRuntime, nanos: &Nanos, amount: Amount, lines: u64) -> anyhow::Result<()> {
+    let Amount { rounds, each } = amount;
+    let calls = rounds.saturating_mul(each);
+    let saved = rounds.saturating_mul(lines);
+    let writes = rate(calls, nanos.writes);
+    let reads = rate(calls, nanos.reads);
+    println!(rt; "    {writes} writes and {reads} reads a second")?;
+    let saves = rate(saved, nanos.saves);
+    let restores = rate(saved, nanos.restores);
+    println!(rt; "    {saves} lines saved and {restores} lines restored a second")?;
+    Ok(())
+}
+
+/// A geometry, and what is measured of it.
+#[derive(Drop)]
+struct Trial<'a> {
+    name: &'a str,
+    geometry: Geometry,
+    amount: Amount,
+    timed: bool,
+}
+
+// What a memory answered, and where it is wanted how much of it a second.
+fn show(
+    rt: &HostRuntime,
+    trial: &Trial<'_>,
+    memory: &str,
+    tally: &Tally,
+    lines: u64,
+) -> anyhow::Result<()> {
+    let Tally {
+        sum,
+        generation,
+        ..
+    } = tally;
+    println!(rt;
+        "{} {memory}: read {sum:016x}, saved generation {generation}",
+        trial.name
+    )?;
+    if trial.timed {
+        show_rates(rt, &tally.nanos, trial.amount, lines)?;
+    }
+    Ok(())
+}
+
+// A module and a plain array of one geometry.
+fn compare(rt: &HostRuntime, trial: &Trial<'_>) -> anyhow::Result<()> {
+    let checked = TINY.check(&trial.geometry)?;
+    let lines = line_count(&checked);
+    let module = by_lines(rt, checked, trial.amount)?;
+    show(rt, trial, "module", &module, lines)?;
+    let plain = plain_rounds(rt, &checked, trial.amount)?;
+    show(rt, trial, "plain", &plain, lines)
+}
+
+fn trial_of(name: &str, geometry: Geometry, rounds: u64, each: u64, timed: bool) -> Trial<'_> {
+    Trial {
+        name,
+        geometry,
+        amount: Amount { rounds, each },
+        timed,
+    }
+}
+
+fn main(rt: HostRuntime) -> anyhow::Result<()> {
+    let words: Vec<String> = env::args(&rt)?.collect(rt.alloc())?;
+    match words.as_slice() {
+        [_] => {
+            compare(&rt, &trial_of("tiny", SMALL, 3, 1_000, false))?;
+            compare(&rt, &trial_of("largest", WIDEST, 1, 2_000, false))
+        }
+        [_, word] if word.as_str() == "time" => {
+            compare(&rt, &trial_of("largest", WIDEST, 16, 65_536, true))
+        }
+        _ => anyhow::bail!("no word, or time"),
+    }
+}

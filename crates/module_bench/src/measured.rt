@@ -1,0 +1,40 @@
+// What is measured, of a module and of a plain array alike.
+use line_memory::Line;
+use thiserror::Error;
+
+/// Why a measurement can't go on.
+#[derive(Clone, Copy, Debug, PartialEq, Eq, Error)]
+pub enum Stall {
+    #[error("no such costs")]
+    Costs,
+    #[error("no such device")]
+    Device,
+    #[error("no such write")]
+    Write,
+    #[error("no such read")]
+    Read,
+    #[error("no save")]
+    Save,
+    #[error("idle")]
+    Idle,
+    #[error("not there in time")]
+    Turns,
+}
+
+/// A memory that can be saved.
+pub trait Measured {
+    /// What the calls need: a caller hands it on.
+    ghost ready: { Type 0 };
+
+    /// Writes a line.
+    fn write(&mut self, line: u64, data: Line) -> Result<(), Stall>
+        requires { ready };
+
+    /// Reads a line, after all writes before.
+    fn read(&mut self, line: u64) -> Result<Line, Stall>
+        requires { ready };
+
+    /// Makes a whole save; its generation.
+    fn save(&mut self) -> Result<u64, Stall>
+        requires { ready };
+}

@@ -1,0 +1,74 @@
+// A module on the image of a device.
+ghost use Rattle.std.specs.Prelude.{◌≡◌, IfOk};
+ghost use Rattle.module_parts.specs.Lines.{HasPlaces};
+ghost use Rattle.slot_store.specs.Slots.{IsCapacity};
+ghost use Rattle.ddr4_timing.specs.Limits.{lines_of};
+
+use crate::load::Load;
+use crate::measured::Stall;
+use ddr4_timing::timing::Checked;
+use energy_budget::{CostNumbers, Costs};
+use interleave_map::cells::line_count;
+use interleave_map::line_map::{LineMap, Places};
+use module_core::{Module, Opened};
+use module_parts::Parts;
+use save_device::SaveDevice;
+use slot_store::{device_size, restore};
+use std::alloc::Global;
+
+/// How many writes may wait in a channel, and how many of its reads may be open.
+const DEPTH: usize = 64;
+
+/// How many writes a module may accept.
+const TRAIL: u64 = 1 << 40;
+
+const NUMBERS: CostNumbers = CostNumbers {
+    e_act: 4,
+    e_col: 2,
+    e_pre: 1,
+    e_ref: 20,
+    e_sre: 1,
+    e_clk: 1,
+    e_mark: 50,
+    e_sync: 100,
+    e_page: 1000,
+    leak: 1,
+};
+
+/// How many lines a profile has, where they make whole pages.
+pub fn capacity_of(checked: &Checked) -> Result<usize, Stall>
+    ensures is { IfOk result (λ lines. lines ≡ lines_of checked.now.geometry) }
+    ensures capacity { IfOk result IsCapacity }
+{
+    let lines = line_count(checked) as usize;
+    if lines % 64 == 0 {
+        Ok(lines)
+    } else {
+        Err(Stall::Device)
+    }
+}
+
+/// A module over channels with the memory that a device restores to.
+pub fn open<'m, M: LineMap, P: Places, D: SaveDevice + Drop>(
+    alloc: Global,
+    map: &'m M,
+    checked: &Checked,
+    mut device: D,
+) -> anyhow::Result<Load<Parts<'m, M, P>, D>>
+    requires places { HasPlaces (M.is_lawful map.now) (M.geometry_of map.now)
+        checked.now.geometry (M.lies_at map.now) P.place_of }
+{
+    if !NUMBERS.is_in_limits() {
+        return Err(Stall::Costs.into());
+    }
+    let costs = Costs::of(checked, &NUMBERS);
+    let lines = capacity_of(checked)?;
+    if device.len() != device_size(lines) {
+        return Err(Stall::Device.into());
+    }
+    let restored = restore(alloc, &mut device, lines)?;
+    let memory = &restored.lines;
+    let parts = Parts::with_memory(alloc, map, checked, memory, DEPTH, DEPTH, costs)?;
+    let module = Module::open(parts, Opened::of(&restored), lines, costs, TRAIL);
+    Ok(Load::new(module, device, checked.geometry.channels))
+}

@@ -1,0 +1,13 @@
+pub mod Coming
+pub mod Promised
+pub mod Awaiting
+pub mod Reading
+pub mod Saving
+pub mod Stepping
+pub mod Turning
+pub mod OneEvents
+pub mod LifeEvents
+pub mod Going
+pub mod Beginning
+pub mod Restoring
+pub mod InLife

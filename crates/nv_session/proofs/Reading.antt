@@ -1,0 +1,87 @@
+-- A read, at once or awaited.
+use Rattle.std.proofs.Common.{◌≡◌, ℕ, List, [], ◌∷◌, ◌++◌, refl, sym, subst, None, Ok, Err}
+use Rattle.line_channels.specs.declared.channels.Channels.{Ghosts}
+use Rattle.line_channels.specs.declared.answers.Ticket.{Ticket}
+use Rattle.line_channels.specs.declared.answers.Got.TheVariants.{Now, Later}
+use Rattle.line_channels.specs.Waits.{OpenRead}
+use Rattle.line_channels.specs.Answers.{line_of}
+use Rattle.std.proofs.Common.{All}
+use Rattle.module_core.specs.declared.module.Module.{Module}
+use Rattle.module_core.specs.declared.events.Event.{Event}
+use Rattle.module_core.specs.declared.events.Event.TheVariants as events
+use Rattle.module_core.specs.declared.events.Reply.{Reply}
+use Rattle.module_core.specs.declared.events.Reply.TheVariants as replies
+use Rattle.module_core.specs.declared.events.ReadRefusal.{ReadRefusal}
+use Rattle.module_core.specs.State.{Setup, Machine, memory_of, all_of}
+use Rattle.module_core.specs.Refusals.{read_refusal}
+use Rattle.module_core.specs.Machine.{ReadStep}
+use Rattle.module_core.specs.Stands.{AnswersAlone, setup_of}
+use Rattle.nv_session.specs.Coming.{ComesAlone}
+use Rattle.nv_session.specs.Turns.{SameButWaits, IsPromised, SeesPromised, SeesLine}
+use Rattle.nv_session.specs.declared.turns.Seen.{Seen}
+use Rattle.nv_session.specs.declared.turns.Seen.TheVariants.{Content}
+use Rattle.nv_session.proofs.Coming.{Starts, starts_at, comes_further, comes_on}
+use Rattle.nv_session.proofs.Promised.{Has, promised_new}
+use Rattle.nv_session.proofs.Awaiting.{same_after}
+
+-- a ticket was given for a line
+record PromisesLine (setup : Setup) (line : ℕ) (ticket : Ticket) (events : List Event) (replies : List Reply) (old new : Machine) : Type 0 where
+  unrefused : read_refusal setup old line ≡ None
+  promised : IsPromised ticket (line_of (memory_of old) line) new
+  same : SameButWaits old new
+
+now_seen : (setup : Setup) (line : ℕ) (bytes : List ℕ) (es fs : List Event) (rs ts : List Reply) (m n l : Machine)
+    → Starts es rs m n → ReadStep setup line (Ok (Now bytes)) n l → SeesLine setup line (Ok (Content bytes)) fs ts m l
+now_seen setup line bytes es fs rs ts m n l told step =
+    subst (λ (x : Machine). SeesLine setup line (Ok (Content bytes)) fs ts x l) told.same (step.0, step.1.0, step.2)
+
+later_promised : (setup : Setup) (line : ℕ) (ticket : Ticket) (es fs : List Event) (rs ts : List Reply) (m n l : Machine)
+    → Starts es rs m n → ReadStep setup line (Ok (Later ticket)) n l → PromisesLine setup line ticket fs ts m l
+later_promised setup line ticket es fs rs ts m n l told step =
+    let bytes : List ℕ = line_of (memory_of n) line in let joins = step.1.2 in
+    subst (λ (x : Machine). PromisesLine setup line ticket fs ts x l) told.same
+    (record {
+      unrefused = step.0;
+      promised = subst (λ (reads : List OpenRead). All (Has ticket bytes) reads) (sym joins.2) (promised_new ticket line bytes (all_of n) joins.0 n.waits.reads step.1.1);
+      same = step.2;
+    })
+
+refused_seen : (setup : Setup) (line : ℕ) (refusal : ReadRefusal) (es fs : List Event) (rs ts : List Reply) (m n l : Machine)
+    → Starts es rs m n → ReadStep setup line (Err refusal) n l → SeesLine setup line (Err refusal) fs ts m l
+refused_seen setup line refusal es fs rs ts m n l told step =
+    subst (λ (x : Machine). SeesLine setup line (Err refusal) fs ts x l) told.same (step.0, step.1)
+
+promise_kept : (setup : Setup) (line : ℕ) (ticket : Ticket) (seen : Seen) (es fs : List Event) (rs ts : List Reply) (m n l : Machine)
+    → PromisesLine setup line ticket es rs m n → SeesPromised ticket seen fs ts n l → SeesLine setup line (Ok seen) (es ++ fs) (rs ++ ts) m l
+promise_kept setup line ticket seen es fs rs ts m n l told next =
+    (told.unrefused, next.promised (line_of (memory_of m) line) told.promised, same_after m n l told.same next.same)
+
+module _ {C : Type 0} (L : Ghosts C) where
+  pub sees_now : (line : ℕ) (bytes : List ℕ) (old new : Module C L) → AnswersAlone L (events.Read line) (replies.Read (Ok (Now bytes))) old new
+      → ComesAlone L (SeesLine (setup_of L old) line (Ok (Content bytes))) old new
+  sees_now line bytes old new answers device gauge =
+      comes_further L Starts (SeesLine (setup_of L old) line (Ok (Content bytes))) (events.Read line) (replies.Read (Ok (Now bytes))) old old new device device device gauge gauge gauge refl
+      (starts_at L old device gauge) (answers device gauge)
+      (λ es rs m n l stands told happens. now_seen (setup_of L old) line bytes es (es ++ events.Read line ∷ []) rs (rs ++ replies.Read (Ok (Now bytes)) ∷ []) m n l told happens.step.1)
+
+  pub sees_refusal : (line : ℕ) (refusal : ReadRefusal) (old new : Module C L) → AnswersAlone L (events.Read line) (replies.Read (Err refusal)) old new
+      → ComesAlone L (SeesLine (setup_of L old) line (Err refusal)) old new
+  sees_refusal line refusal old new answers device gauge =
+      comes_further L Starts (SeesLine (setup_of L old) line (Err refusal)) (events.Read line) (replies.Read (Err refusal)) old old new device device device gauge gauge gauge refl
+      (starts_at L old device gauge) (answers device gauge)
+      (λ es rs m n l stands told happens. refused_seen (setup_of L old) line refusal es (es ++ events.Read line ∷ []) rs (rs ++ replies.Read (Err refusal) ∷ []) m n l told happens.step.1)
+
+  promises_later : (line : ℕ) (ticket : Ticket) (old new : Module C L) → AnswersAlone L (events.Read line) (replies.Read (Ok (Later ticket))) old new
+      → ComesAlone L (PromisesLine (setup_of L old) line ticket) old new
+  promises_later line ticket old new answers device gauge =
+      comes_further L Starts (PromisesLine (setup_of L old) line ticket) (events.Read line) (replies.Read (Ok (Later ticket))) old old new device device device gauge gauge gauge refl
+      (starts_at L old device gauge) (answers device gauge)
+      (λ es rs m n l stands told happens. later_promised (setup_of L old) line ticket es (es ++ events.Read line ∷ []) rs (rs ++ replies.Read (Ok (Later ticket)) ∷ []) m n l told happens.step.1)
+
+  pub sees_later : (line : ℕ) (ticket : Ticket) (seen : Seen) (old mid new : Module C L) → setup_of L mid ≡ setup_of L old
+      → AnswersAlone L (events.Read line) (replies.Read (Ok (Later ticket))) old mid → ComesAlone L (SeesPromised ticket seen) mid new
+      → ComesAlone L (SeesLine (setup_of L old) line (Ok seen)) old new
+  sees_later line ticket seen old mid new same answers next device gauge =
+      comes_on L (PromisesLine (setup_of L old) line ticket) (SeesPromised ticket seen) (SeesLine (setup_of L old) line (Ok seen)) old mid new device device device gauge gauge gauge same
+      (promises_later line ticket old mid answers device gauge) (next device gauge)
+      (λ es fs rs ts m n l told later. promise_kept (setup_of L old) line ticket seen es fs rs ts m n l told later)

@@ -1,0 +1,96 @@
+-- A restore after a save that is done.
+use Rattle.std.proofs.Common.{◌≡◌, ◌∙◌, ℕ, List, false, inl, inr, refl, sym, ap, subst, Option, Some, None}
+use Rattle.save_device.specs.Device.{DeviceState, present, MayLeave}
+use Rattle.save_image.specs.Image.{Image}
+use Rattle.slot_store.specs.declared.slots.Slot.{Slot}
+use Rattle.slot_store.specs.declared.saving.SaveRun.{SaveRun}
+use Rattle.slot_store.specs.Outcomes.{Outcome, restored, verdict_of}
+use Rattle.slot_store.specs.Outcomes as outcome
+use Rattle.slot_store.specs.Rest.{Candidates, IsAmong, only, rearmed}
+use Rattle.arm_state.specs.Modes.{is_armed}
+use Rattle.line_channels.specs.declared.channels.Channels.{Ghosts}
+use Rattle.module_core.specs.declared.module.Module.{Module}
+use Rattle.module_core.specs.State.{Machine, RunningSave, Store, newest_of, memory_after}
+use Rattle.module_core.specs.Device.{Holds, HoldsWhile, IsResting}
+use Rattle.module_core.specs.Stands.{Stands, setup_of}
+use Rattle.nv_session.specs.declared.life.Life.{Life}
+use Rattle.nv_session.specs.declared.life.Life.TheVariants.{Lines, Xor}
+use Rattle.nv_session.specs.declared.opening.Found.{Found}
+use Rattle.nv_session.specs.Turns.{HasSaved}
+use Rattle.nv_session.specs.Living.{LifeStands, setup_of_life}
+use Rattle.nv_session.specs.Wired.{Revives}
+use Rattle.nv_session.specs.Sessions.{LifeRevives}
+use Rattle.nv_session.specs.Restoring.{FindsSaved}
+
+-- no save runs: the device rests
+resting : (run : Option SaveRun) (lines : ℕ) (s : Store) (state : DeviceState) → s.saving ≡ None → Holds lines s run state → IsResting lines s state
+resting None lines s state idle holds = subst (λ (o : Option RunningSave). HoldsWhile o None lines s state) idle holds
+resting (Some run) lines s state idle holds = absurd (subst (λ (o : Option RunningSave). HoldsWhile o (Some run) lines s state) idle holds)
+
+stop_among : (lines : ℕ) (s : Store) (state : DeviceState) (bytes : List ℕ) → IsResting lines s state → MayLeave (present state) bytes → IsAmong s.maybe (restored lines bytes)
+stop_among lines s state bytes resting left =
+    resting.among (restored lines bytes)
+    (resting.rest.harmless bytes (record { size = left.size; outside = λ place not. left.outside place (λ unsettled. not (inl unsettled)) }))
+
+among_only : (slot : Slot) (image : Image) (found : Outcome) → IsAmong (only slot image) found → found ≡ outcome.Found slot image
+among_only slot image found (inl r) = r.found ∙ ap (λ (arm : ℕ). outcome.Found slot (rearmed image arm)) (r.own refl)
+among_only slot image found (inr saved) = absurd saved
+
+-- the image that was found, or this one
+abbrev image_in : Image → Outcome → Image
+image_in image (outcome.Found slot found) = found
+image_in image outcome.WrongSize = image
+image_in image outcome.NoImage = image
+image_in image (outcome.Damaged slot) = image
+
+module _ {C : Type 0} (L : Ghosts C) where
+  module_left : (it : Module C L) (m : Machine) (device : DeviceState) (generation count : ℕ) (bytes : List ℕ) → Stands L it device m → HasSaved generation count m
+      → MayLeave (present device) bytes → restored (setup_of L it).shape.lines bytes ≡ outcome.Found m.store.maybe.slot (newest_of m)
+  module_left it m device generation count bytes stands saved left =
+      subst (λ (n : ℕ). restored n bytes ≡ outcome.Found m.store.maybe.slot (newest_of m)) it.sized
+      (among_only m.store.maybe.slot (newest_of m) (restored it.lines bytes)
+      (subst (λ (c : Candidates). IsAmong c (restored it.lines bytes)) saved.alone
+      (stop_among it.lines m.store device bytes (resting it.saves.saving it.lines m.store device saved.idle stands.holds) left)))
+
+  image_is : (lines : ℕ) (bytes : List ℕ) (found : Found) (it : Module C L) (device : DeviceState) (slot : Slot) (image : Image)
+      → restored lines bytes ≡ outcome.Found slot image → (revives : Revives L lines bytes found it device) → revives.image ≡ image
+  image_is lines bytes found it device slot image is revives = ap (image_in image) (sym revives.finds ∙ is)
+
+module _ {C D : Type 0} (L : Ghosts C) (M : Ghosts D) where
+  life_left : (it : Life C D L M) (m : Machine) (device : DeviceState) (generation count : ℕ) (bytes : List ℕ) → LifeStands L M it device m → HasSaved generation count m
+      → MayLeave (present device) bytes → restored (setup_of_life L M it).shape.lines bytes ≡ outcome.Found m.store.maybe.slot (newest_of m)
+  life_left (Lines it) m device generation count bytes stands saved left = module_left L it m device generation count bytes stands saved left
+  life_left (Xor it) m device generation count bytes stands saved left = module_left M it m device generation count bytes stands saved left
+
+  finds_image : (it : Life C D L M) (m : Machine) (generation count lines : ℕ) (bytes : List ℕ) (found : Found) (device : DeviceState)
+      → HasSaved generation count m → is_armed m.mode ≡ false → restored lines bytes ≡ outcome.Found m.store.maybe.slot (newest_of m)
+      → LifeRevives L M lines bytes found it device → FindsSaved L M generation count (memory_after m count) found it device
+  finds_image (Lines it) m generation count lines bytes found device saved unarmed is revives =
+      let same = image_is L lines bytes found it device m.store.maybe.slot (newest_of m) is revives in
+      record {
+        generation_is = revives.generation_is ∙ ap (λ (i : Image). i.generation) same ∙ saved.generation_is;
+        count_is = revives.count_is ∙ ap (λ (i : Image). i.count) same ∙ saved.count_is;
+        complete = revives.verdict_is ∙ ap (λ (n : ℕ). verdict_of n revives.image.count) (ap (λ (i : Image). i.arm) same ∙ saved.complete unarmed);
+        opened = revives.opened;
+        image = revives.image;
+        stands = revives.stands;
+        memory_is = ap (λ (i : Image). i.memory) same ∙ saved.memory;
+      }
+  finds_image (Xor it) m generation count lines bytes found device saved unarmed is revives =
+      let same = image_is M lines bytes found it device m.store.maybe.slot (newest_of m) is revives in
+      record {
+        generation_is = revives.generation_is ∙ ap (λ (i : Image). i.generation) same ∙ saved.generation_is;
+        count_is = revives.count_is ∙ ap (λ (i : Image). i.count) same ∙ saved.count_is;
+        complete = revives.verdict_is ∙ ap (λ (n : ℕ). verdict_of n revives.image.count) (ap (λ (i : Image). i.arm) same ∙ saved.complete unarmed);
+        opened = revives.opened;
+        image = revives.image;
+        stands = revives.stands;
+        memory_is = ap (λ (i : Image). i.memory) same ∙ saved.memory;
+      }
+
+  pub save_restored : (old new : Life C D L M) (m : Machine) (generation count : ℕ) (device device' : DeviceState) (bytes : List ℕ) (found : Found)
+      → LifeStands L M old device m → HasSaved generation count m → is_armed m.mode ≡ false → MayLeave (present device) bytes
+      → LifeRevives L M (setup_of_life L M old).shape.lines bytes found new device' → FindsSaved L M generation count (memory_after m count) found new device'
+  save_restored old new m generation count device device' bytes found stands saved unarmed left revives =
+      finds_image new m generation count (setup_of_life L M old).shape.lines bytes found device' saved unarmed
+      (life_left old m device generation count bytes stands saved left) revives

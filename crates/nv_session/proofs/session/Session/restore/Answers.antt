@@ -1,0 +1,24 @@
+use Rattle.std.proofs.Common.{◌∙◌, ap, sym, subst, unwrap_or}
+use Rattle.ddr4_timing.specs.Limits.{lines_of}
+use Rattle.save_device.specs.Device.{DeviceState}
+use Rattle.nv_profile.specs.declared.profile.MapWord.{MapWord}
+use Rattle.nv_profile.specs.declared.profile.Profile.{Profile}
+use Rattle.nv_session.specs.Sessions.{IsOverMap}
+use Rattle.nv_session.proofs.Beginning.{revives_still}
+use Rattle.std.proofs.Common.{refl}
+use Rattle.nv_session.proofs.InLife.{revived_stands}
+use Rattle.nv_session.proofs.session.Session.restore.Goals as goal
+
+pub returns-clause-revives : goal.returns-clause-revives
+returns-clause-revives g c =
+    let L = g.C.Channels in let M = g.D.Channels in let it = c.in_ok-life.life in let same = c.stop.ensures.profile in
+    record {
+      it = it;
+      runs = c.begin.ensures.life;
+      over = subst (λ (w : MapWord). IsOverMap L M w it) (c.unwrap_or.ensures ∙ ap (λ (p : Profile). unwrap_or c.args.map p.map) same) c.in_ok-life.ensures.over;
+      holds = revives_still L M it c.in_ok-life.found _ _ _ _ _ _ c.in_ok-life.ensures.revives (ap (λ (p : Profile). lines_of p.checked.geometry) same)
+          (sym (ap (λ (s : DeviceState). s.bytes) c.begin.ensures.device ∙ c.revive.ensures.same)) (sym c.begin.ensures.device);
+    }
+
+pub begin-requires-clause-stands : goal.begin-requires-clause-stands
+begin-requires-clause-stands g c = revived_stands g.C.Channels g.D.Channels c.in_ok-life.life _ _ c.in_ok-life.found _ _ c.in_ok-life.ensures.revives refl

@@ -1,0 +1,20 @@
+use Rattle.save_device.specs.Device.{DeviceState, with_calls}
+use Rattle.save_device.specs.Memory.{state_of}
+use Rattle.energy_budget.specs.Gauge.{Gauge}
+use Rattle.energy_budget.specs.Meter.{meter_gauge}
+use Rattle.nv_session.specs.Turns.{GoesOnSaving}
+use Rattle.nv_session.proofs.InLife.{stays_fitting, stays_in_life, stays_sized}
+use Rattle.nv_session.proofs.session.Session.save.Goals as goal
+
+pub invariant_of-self : goal.invariant_of-self
+invariant_of-self g c =
+    let L = g.C.Channels in let M = g.D.Channels in let it = c.args.self.now in
+    let device : DeviceState = with_calls (state_of it.device.device) it.device.calls in let gauge : Gauge = meter_gauge it.gauge in
+    let device' : DeviceState = with_calls (state_of c.save.new.device.device) c.save.new.device.calls in let gauge' : Gauge = meter_gauge c.save.new.energy in
+    record {
+      lines_fit = it.lines_fit;
+      xor_fits = it.xor_fits;
+      sized = stays_sized L M it.profile it.life c.in-Some.life c.save.new.self device' c.in-Some.is it.life_fits c.save.ensures.setup c.save.ensures.size;
+      life_fits = stays_fitting L M it.profile it.life c.in-Some.life c.save.new.self c.in-Some.is it.life_fits c.save.ensures.setup;
+      stands = stays_in_life L M (GoesOnSaving c.save.result) it.life c.in-Some.life c.save.new.self device device' gauge gauge' c.in-Some.is it.stands c.save.ensures.comes;
+    }

@@ -1,0 +1,13 @@
+use Rattle.std.proofs.Common.{◌≡◌}
+use Rattle.module_core.specs.Stands.{setup_of}
+use Rattle.nv_session.specs.Coming.{ComesAlone}
+use Rattle.nv_session.specs.Turns.{AwaitsRead}
+use Rattle.nv_session.proofs.turns.await_read.Given as goal
+
+abbrev pub invariant-loop-turn : goal.invariant-loop-turn
+invariant-loop-turn g l =
+    let L = g.C.Channels in
+    record {
+      setup : setup_of L l.running ≡ setup_of L l.fn.running;
+      comes : ComesAlone L (AwaitsRead l.fn.ticket) l.fn.running l.running;
+    }

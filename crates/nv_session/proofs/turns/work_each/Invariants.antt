@@ -1,0 +1,13 @@
+use Rattle.std.proofs.Common.{◌≡◌}
+use Rattle.module_core.specs.Stands.{setup_of}
+use Rattle.nv_session.specs.Coming.{ComesAlone}
+use Rattle.nv_session.specs.Turns.{OnlyWorks}
+use Rattle.nv_session.proofs.turns.work_each.Given as goal
+
+abbrev pub invariant-loop-channel : goal.invariant-loop-channel
+invariant-loop-channel g l =
+    let L = g.C.Channels in
+    record {
+      setup : setup_of L l.running ≡ setup_of L l.fn.running;
+      comes : ComesAlone L OnlyWorks l.fn.running l.running;
+    }

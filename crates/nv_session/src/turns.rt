@@ -1,0 +1,147 @@
+// What a line of a script asks of a module that takes several of its calls.
+ghost use Rattle.std.specs.Prelude.{◌≡◌};
+ghost use Rattle.module_core.specs.Stands.{IsChannel, HasDevice, setup_of};
+ghost use Rattle.nv_session.specs.Coming.{Comes, ComesAlone};
+ghost use Rattle.nv_session.specs.Turns.{SeesPromised, SeesLine, MakesStep, OnlyWorks, GoesOnSaving};
+
+use arm_state::ArmRefusal;
+use energy_budget::Energy;
+use line_channels::{Channels, Collected, Got, Ticket};
+use line_memory::Line;
+use module_core::{Module, ReadRefusal, StepReply};
+use save_device::SaveDevice;
+
+/// How often the channel of a read is worked before the read is left waiting.
+const READ_TURNS: u64 = 64;
+
+/// How many turns a save may take.
+const SAVE_TURNS: u64 = 4096;
+
+/// What is seen of a line.
+#[derive(Clone, Copy, Debug, PartialEq, Eq)]
+pub enum Seen {
+    Content(Line),
+    /// The read waits for a command of its channel.
+    Waiting,
+}
+
+// Works the channel of a read that waits, until it has its bytes or the channel is idle.
+fn await_read<C: Channels>(running: &mut Module<C>, ticket: Ticket) -> Seen
+    requires { IsChannel C.Channels running.old ticket.channel }
+    ensures comes { ComesAlone C.Channels (SeesPromised ticket result) running.old running.new }
+    ensures setup { setup_of C.Channels running.new ≡ setup_of C.Channels running.old }
+{
+    for _turn in 0..READ_TURNS {
+        if let Collected::Data { bytes, .. } = running.collect(ticket) {
+            return Seen::Content(bytes);
+        }
+        if running.work(ticket.channel).is_none() {
+            return Seen::Waiting;
+        }
+    }
+    match running.collect(ticket) {
+        Collected::Data { bytes, .. } => Seen::Content(bytes),
+        _ => Seen::Waiting,
+    }
+}
+
+/// Reads a line of the memory after all accepted writes. Where its bytes are to come with a command, its channel is worked.
+pub(crate) fn read<C: Channels>(
+    running: &mut Module<C>,
+    channels: u64,
+    line: u64,
+) -> Result<Seen, ReadRefusal>
+    requires reaches { C.reaches }
+    requires channels { channels ≡ (setup_of C.Channels running.old).shape.channels }
+    ensures comes { ComesAlone C.Channels (SeesLine (setup_of C.Channels running.old) line result)
+        running.old running.new }
+    ensures setup { setup_of C.Channels running.new ≡ setup_of C.Channels running.old }
+{
+    match running.read(line) {
+        Ok(Got::Now(bytes)) => Ok(Seen::Content(bytes)),
+        Ok(Got::Later(ticket)) if ticket.channel < channels => Ok(await_read(running, ticket)),
+        Ok(Got::Later(_)) => Ok(Seen::Waiting),
+        Err(refusal) => Err(refusal),
+    }
+}
+
+/// Makes a step of the save that runs, or begins one and makes its first step.
+pub(crate) fn step<C: Channels, D: SaveDevice, E: Energy>(
+    running: &mut Module<C>,
+    device: &mut D,
+    energy: &mut E,
+) -> Result<StepReply, ArmRefusal>
+    requires reaches { C.reaches }
+    requires size { HasDevice C.Channels running.old (D.state device.old) }
+    ensures comes { Comes C.Channels (MakesStep result)
+        running.old (D.state device.old) (E.gauge energy.old)
+        running.new (D.state device.new) (E.gauge energy.new) }
+    ensures setup { setup_of C.Channels running.new ≡ setup_of C.Channels running.old }
+    ensures size { HasDevice C.Channels running.new (D.state device.new) }
+{
+    match running.save_step(device, energy) {
+        StepReply::NoSave => match running.save_begin() {
+            Ok(()) => Ok(running.save_step(device, energy)),
+            Err(refusal) => Err(refusal),
+        },
+        reply => Ok(reply),
+    }
+}
+
+// One work on each channel.
+fn work_each<C: Channels>(running: &mut Module<C>, channels: u64)
+    requires { channels ≡ (setup_of C.Channels running.old).shape.channels }
+    ensures comes { ComesAlone C.Channels OnlyWorks running.old running.new }
+    ensures setup { setup_of C.Channels running.new ≡ setup_of C.Channels running.old }
+{
+    for channel in 0..channels {
+        let _ = running.work(channel);
+    }
+}
+
+// Whether a save has a further turn after this reply.
+fn goes_on(reply: StepReply) -> bool {
+    matches!(reply, StepReply::Did(_) | StepReply::Waiting)
+}
+
+// Works each channel where a step had to wait.
+fn work_where_waiting<C: Channels>(running: &mut Module<C>, channels: u64, reply: StepReply)
+    requires { channels ≡ (setup_of C.Channels running.old).shape.channels }
+    ensures comes { ComesAlone C.Channels OnlyWorks running.old running.new }
+    ensures setup { setup_of C.Channels running.new ≡ setup_of C.Channels running.old }
+{
+    if reply == StepReply::Waiting {
+        work_each(running, channels);
+    }
+}
+
+/// Makes a whole save, or the rest of one that runs: a step in each turn, or where that waits a work on each channel. It
+/// answers the step that ended it, or `Waiting` where the turns don't suffice.
+pub(crate) fn save<C: Channels, D: SaveDevice, E: Energy>(
+    running: &mut Module<C>,
+    channels: u64,
+    device: &mut D,
+    energy: &mut E,
+) -> Result<StepReply, ArmRefusal>
+    requires reaches { C.reaches }
+    requires channels { channels ≡ (setup_of C.Channels running.old).shape.channels }
+    requires size { HasDevice C.Channels running.old (D.state device.old) }
+    ensures comes { Comes C.Channels (GoesOnSaving result)
+        running.old (D.state device.old) (E.gauge energy.old)
+        running.new (D.state device.new) (E.gauge energy.new) }
+    ensures setup { setup_of C.Channels running.new ≡ setup_of C.Channels running.old }
+    ensures size { HasDevice C.Channels running.new (D.state device.new) }
+{
+    let mut reply = match step(running, device, energy) {
+        Ok(reply) => reply,
+        Err(refusal) => return Err(refusal),
+    };
+    for _turn in 1..SAVE_TURNS {
+        if !goes_on(reply) {
+            return Ok(reply);
+        }
+        work_where_waiting(running, channels, reply);
+        reply = running.save_step(device, energy);
+    }
+    Ok(reply)
+}

@@ -1,0 +1,99 @@
+// The answers to a script's lines, from what the session replies.
+use arm_state::{ArmRefusal, ArmReply, DisarmReply, Mode};
+use module_core::{Accepted, ReadRefusal, StepReply, WriteRefusal};
+use nv_script::{self, Answer};
+use nv_session::{Found, Seen};
+use slot_store::RestoreError;
+
+/// The answer to a write.
+pub fn write_answer(reply: Result<Accepted, WriteRefusal>) -> Answer {
+    match reply {
+        Ok(Accepted { number, mark }) => Answer::Accepted { number, mark },
+        Err(refusal) => Answer::WriteRefused(match refusal {
+            WriteRefusal::Full => nv_script::WriteRefusal::Full,
+            WriteRefusal::EnergyLow { need, has } => {
+                nv_script::WriteRefusal::EnergyLow { need, has }
+            }
+            WriteRefusal::Disarming => nv_script::WriteRefusal::Disarming,
+            WriteRefusal::Closed => nv_script::WriteRefusal::Closed,
+            WriteRefusal::TrailFull => nv_script::WriteRefusal::TrailFull,
+            WriteRefusal::NoSuchLine => nv_script::WriteRefusal::NoSuchLine,
+        }),
+    }
+}
+
+/// The answer to a read of a line.
+pub fn read_answer(line: u64, reply: Result<Seen, ReadRefusal>) -> Answer {
+    match reply {
+        Ok(Seen::Content(bytes)) => Answer::Content { line, bytes },
+        Ok(Seen::Waiting) => Answer::ReadWaiting { line },
+        Err(refusal) => Answer::ReadRefused(match refusal {
+            ReadRefusal::Full => nv_script::ReadRefusal::Full,
+            ReadRefusal::Closed => nv_script::ReadRefusal::Closed,
+            ReadRefusal::NoSuchLine => nv_script::ReadRefusal::NoSuchLine,
+        }),
+    }
+}
+
+/// The answer to a step of a save. A save that isn't over after its turns is waiting, whatever its last step was.
+pub fn step_answer(reply: Result<StepReply, ArmRefusal>) -> Answer {
+    match reply {
+        Ok(StepReply::Did(step)) => Answer::Stepped(step),
+        Ok(StepReply::Saved { generation, count }) => Answer::Saved { generation, count },
+        Ok(StepReply::Waiting | StepReply::NoSave) => Answer::Waiting,
+        Ok(StepReply::Turned) => Answer::StepDisarming,
+        Ok(StepReply::Fault) => Answer::SaveFault,
+        Err(refusal) => Answer::SaveRefused(refusal),
+    }
+}
+
+/// The answer to a whole save.
+pub fn save_answer(reply: Result<StepReply, ArmRefusal>) -> Answer {
+    match reply {
+        Ok(StepReply::Did(_)) => Answer::Waiting,
+        _ => step_answer(reply),
+    }
+}
+
+/// The answer to a reading of the gauge.
+pub fn level_answer(reply: (u64, Option<Mode>)) -> Answer {
+    let (reading, mode) = reply;
+    Answer::Level { reading, mode }
+}
+
+/// The answer to arming.
+pub fn arm_answer(reply: Result<ArmReply, ArmRefusal>) -> Answer {
+    match reply {
+        Ok(ArmReply::Armed) => Answer::Armed,
+        Ok(ArmReply::AlreadyArmed) => Answer::ArmedAlready,
+        Err(ArmRefusal::Device) => Answer::ArmFault,
+        Err(refusal) => Answer::ArmRefused(refusal),
+    }
+}
+
+/// The answer to disarming.
+pub fn disarm_answer(reply: Result<DisarmReply, ArmRefusal>) -> Answer {
+    match reply {
+        Ok(DisarmReply::Disarming) => Answer::Disarming,
+        Ok(DisarmReply::AlreadyDisarmed) => Answer::DisarmedAlready,
+        Err(refusal) => Answer::DisarmRefused(refusal),
+    }
+}
+
+/// The answer to a restore.
+pub fn restore_answer(reply: Result<Found, RestoreError>) -> Answer {
+    match reply {
+        Ok(
+            Found {
+                generation,
+                count,
+                verdict,
+            },
+        ) => Answer::Restored {
+            generation,
+            count,
+            verdict,
+        },
+        Err(error) => Answer::RestoreRefused(error),
+    }
+}
