@@ -1,3 +1,2 @@
 pub mod Exit
 pub mod Store
-pub mod Wiring

@@ -5,7 +5,6 @@ ghost use Rattle.ddr4_timing.specs.Places.{LiesIn};
 ghost use Rattle.interleave_map.specs.Interleaving.{place_by_lines, line_by_lines, place_by_xor, line_by_xor};
 ghost use Rattle.std.specs.Process.{exit_status};
 
-use crate::script::run_script;
 use crate::store::{STORE_BYTES, show_store};
 use clap::error::ErrorKind;
 use clap::{Arg, ArgMatches, Command, Error as UsageError};
@@ -15,6 +14,7 @@ use interleave_map::{lines, xor};
 use nv_profile::{MOST_BYTES, Profile, ProfileFault, TINY, read_profile};
 use nv_script::{SCRIPT_BYTES, ScriptFault};
 use save_device::{MemoryDevice, SaveDevice};
+use script_runner::run_script;
 use std::alloc::{AllocError, Global};
 use std::env::{self, Env};
 use std::fs::{self, File};

@@ -1,13 +1,10 @@
 //! Runs scripts on an NVDIMM-N controller.
 #![tactic(auto)]
 
-mod answers;
 mod command;
-mod script;
 mod store;
 #[cfg(test)]
 mod tests;
-mod wiring;
 
 use command::{Fault, run, words_of};
 use std::io::{self, BufWriter};

@@ -4,15 +4,13 @@ ghost use Rattle.ddr4_timing.specs.Limits.{lines_of};
 ghost use Rattle.ddr4_timing.specs.Places.{LiesIn};
 ghost use Rattle.interleave_map.specs.Interleaving.{place_by_lines, line_by_lines, place_by_xor, line_by_xor};
 
-use crate::answers::restore_answer;
-use crate::script::run_lines;
 use ddr4_timing::place::Place;
 use interleave_map::map::Map;
 use interleave_map::{lines, xor};
 use nv_profile::{Profile, TINY, read_profile};
 use nv_script::{ScriptFault, ScriptLine, Verb, read_script};
 use save_device::MemoryDevice;
-use slot_store::RestoreError;
+use script_runner::run_lines;
 use std::alloc::Global;
 use std::io;
 use std::marker::Brand;
@@ -140,20 +138,6 @@ fn a_fuse_ends_with_the_life(rt: HostRuntime) -> Result<(), Fail> {
         let text = answers(rt.alloc(), script.as_str())?;
         assert!(rt; text.starts_with("formatted\nfuse 0\nfault save\n"));
         assert!(rt; text.ends_with("\nsaved 2 0\n"), "{text}");
-    }
-    Ok(())
-}
-
-#[test]
-fn a_restore_that_fails(rt: HostRuntime) -> Result<(), Fail> {
-    for (error, text) in [
-        (RestoreError::NoImage, "refused restore 1 NoImage"),
-        (RestoreError::WrongSize, "refused restore 3 WrongSize"),
-        (RestoreError::Device, "refused restore 4 Device"),
-        (RestoreError::Memory, "refused restore 5 Memory"),
-    ] {
-        let answer = restore_answer(Err(error));
-        assert_eq!(rt; format!(in rt.alloc(); "{answer}")?.as_str(), text);
     }
     Ok(())
 }

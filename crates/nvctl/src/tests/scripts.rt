@@ -1,8 +1,8 @@
 // What scripts write.
 use crate::command::run_on_maps;
-use crate::script::VERBS;
 use nv_profile::{Profile, TINY, read_profile};
 use nv_script::{ScriptFault, Verb};
+use script_runner::VERBS;
 use std::alloc::Global;
 use std::test::Fail;
 

@@ -3,7 +3,7 @@ use Rattle.std.proofs.lemmas.List.Elements.{All-get_or}
 use Rattle.nv_profile.specs.declared.profile.Profile.{Profile}
 use Rattle.nv_script.specs.Line.{NamesChannelOf}
 use Rattle.nv_script.specs.declared.line.ScriptLine.TheVariants.{Format}
-use Rattle.nvctl.proofs.script.run_lines.Goals as goal
+use Rattle.script_runner.proofs.script.run_lines.Goals as goal
 
 pub answer_line-requires-clause-line : goal.answer_line-requires-clause-line
 answer_line-requires-clause-line g c =

@@ -1,8 +1,8 @@
 use Rattle.std.proofs.Common.{refl}
 use Rattle.module_parts.specs.Beginning.{zero_parts}
 use Rattle.module_parts.proofs.Shaping.{is-shape}
-use Rattle.nvctl.proofs.Naming.{has_places_of}
-use Rattle.nvctl.proofs.wiring.Wiring.new.Goals as goal
+use Rattle.script_runner.proofs.Naming.{has_places_of}
+use Rattle.script_runner.proofs.wiring.Wiring.new.Goals as goal
 
 pub invariant_of-result : goal.invariant_of-result
 invariant_of-result g c =

@@ -24,7 +24,7 @@ pub struct Wiring<'m, M: LineMap, P: Places> {
 impl<'m, M: LineMap, P: Places> Model for Wiring<'m, M, P> {
     ghost use Rattle.energy_budget.specs.Costs.{AreReckonedFor};
     ghost use Rattle.module_parts.specs.Lines.{HasPlaces};
-    ghost use Rattle.nvctl.specs.Wiring.{WiredProfile};
+    ghost use Rattle.script_runner.specs.Wiring.{WiredProfile};
 
     ghost Value = { WiredProfile };
 
@@ -36,7 +36,7 @@ impl<'m, M: LineMap, P: Places> Model for Wiring<'m, M, P> {
 }
 
 impl<'m, M: LineMap, P: Places> Wiring<'m, M, P> {
-    ghost use Rattle.nvctl.specs.Wiring.{shape_over};
+    ghost use Rattle.script_runner.specs.Wiring.{shape_over};
 
     /// Over a lawful map of the profile's geometry, by the names of its places.
     pub fn new(map: &'m M, profile: &Profile) -> Wiring<'m, M, P>
@@ -58,7 +58,7 @@ impl<'m, M: LineMap, P: Places> Wiring<'m, M, P> {
 }
 
 impl<'m, M: LineMap, P: Places> Wires<Parts<'m, M, P>> for Wiring<'m, M, P> {
-    ghost use Rattle.nvctl.specs.Wiring.{shape_over};
+    ghost use Rattle.script_runner.specs.Wiring.{shape_over};
 
     ghost shape = { shape_over P.place_of };
 

@@ -1,4 +1,6 @@
 // The answers to a script's lines, from what the session replies.
+ghost use Rattle.std.specs.Prelude.{◌≡◌, IfErr};
+
 use arm_state::{ArmRefusal, ArmReply, DisarmReply, Mode};
 use module_core::{Accepted, ReadRefusal, StepReply, WriteRefusal};
 use nv_script::{self, Answer};
@@ -81,7 +83,9 @@ pub fn disarm_answer(reply: Result<DisarmReply, ArmRefusal>) -> Answer {
 }
 
 /// The answer to a restore.
-pub fn restore_answer(reply: Result<Found, RestoreError>) -> Answer {
+pub fn restore_answer(reply: Result<Found, RestoreError>) -> Answer
+    ensures refused { IfErr reply (λ error. result ≡ Answer.RestoreRefused error) }
+{
     match reply {
         Ok(
             Found {

@@ -4,9 +4,9 @@ use Rattle.line_channels.specs.Waits.{nothing}
 use Rattle.module_parts.specs.Carrying.{CarryWritten}
 use Rattle.module_parts.specs.Parts.{PartsState}
 use Rattle.module_parts.specs.Seen.{seen_by_lines, shape_of}
-use Rattle.nvctl.specs.Wiring.{WiredProfile, shape_over}
-use Rattle.nvctl.proofs.Results.{if_ok_of}
-use Rattle.nvctl.proofs.wiring.WiringWiresParts.wire.Goals as goal
+use Rattle.script_runner.specs.Wiring.{WiredProfile, shape_over}
+use Rattle.script_runner.proofs.Results.{if_ok_of}
+use Rattle.script_runner.proofs.wiring.WiringWiresParts.wire.Goals as goal
 
 pub returns : goal.returns
 returns g c =

@@ -2,8 +2,8 @@ use Rattle.std.proofs.Common.{List, All, sym, subst}
 use Rattle.std.proofs.lemmas.List.Elements.{All-weaker}
 use Rattle.nv_script.specs.Line.{IsLineFor, NamesChannelOf}
 use Rattle.nv_script.specs.declared.line.ScriptLine.{ScriptLine}
-use Rattle.nvctl.specs.declared.script.TheConstants.{VERBS}
-use Rattle.nvctl.proofs.script.run_script.Goals as goal
+use Rattle.script_runner.specs.declared.script.TheConstants.{VERBS}
+use Rattle.script_runner.proofs.script.run_script.Goals as goal
 
 pub run_lines-requires-clause-lines : goal.run_lines-requires-clause-lines
 run_lines-requires-clause-lines g c =

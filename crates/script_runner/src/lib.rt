@@ -1,0 +1,9 @@
+//! Runs scripts on a session over DDR4 channels, and writes each answer as a line.
+#![tactic(auto)]
+
+mod answers;
+mod script;
+mod wiring;
+
+pub use script::{VERBS, run_lines, run_script};
+pub use wiring::Wiring;
