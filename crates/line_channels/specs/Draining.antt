@@ -23,13 +23,17 @@ PaysInTurn costs (action ∷ actions) old (Err dark) new =
     ⊎ ((mid : Gauge) × PaysCost old (cost_of costs action) (Ok tt) mid
     × PaysInTurn costs actions mid (Err dark) new)
 
--- Of a channel's writes the oldest have gone to the array, so many of them, and its reads are lost; the other channels are
--- as they were.
+-- Of a channel's writes the oldest have gone to the array, so many of them; the writes and the reads of the other channels
+-- are as they were.
 pub record Drains (channel_of : ℕ → ℕ) (channel gone : ℕ) (old new : Waits) : Type 0 where
   pub here : filter (is_write_on channel_of channel) new.writes ≡ drop gone (filter (is_write_on channel_of channel) old.writes)
   pub elsewhere : filter (λ w. not (is_write_on channel_of channel w)) new.writes ≡ filter (λ w. not (is_write_on channel_of channel w)) old.writes
   pub remain : Remain old.writes new.writes
-  pub reads : new.reads ≡ filter (λ r. not (is_read_on channel r)) old.reads
+  pub reads : filter (λ r. not (is_read_on channel r)) new.reads ≡ filter (λ r. not (is_read_on channel r)) old.reads
+
+-- The reads of a channel are lost, and no others.
+abbrev pub LosesReads : ℕ → Waits → Waits → Type 0
+LosesReads channel old new = new.reads ≡ filter (λ r. not (is_read_on channel r)) old.reads
 
 -- how many channels count as drained after the drain of this one
 abbrev pub drained_after : ℕ → Paid → Option ℕ

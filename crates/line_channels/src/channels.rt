@@ -9,7 +9,7 @@ ghost use Rattle.line_channels.specs.Waits.{nothing, AllBelow, writes_on};
 ghost use Rattle.line_channels.specs.View.{ChannelsView, IsShape, is_full, is_full_of_reads};
 ghost use Rattle.line_channels.specs.Answers.{Puts, IsGot, IsCollected, IsServed, line_of};
 ghost use Rattle.line_channels.specs.Memory.{Keeps, NoneBelow, WaitsFrom};
-ghost use Rattle.line_channels.specs.Draining.{PaysInTurn, Drains, drained_after};
+ghost use Rattle.line_channels.specs.Draining.{PaysInTurn, Drains, LosesReads, drained_after};
 
 use crate::{Collected, Done, Got, Ticket};
 use energy_budget::{Costs, Dark, Energy};
@@ -127,8 +127,8 @@ pub trait Channels {
 /// Channels that can be drained: on a loss of mains this is done from the first to the last one.
 pub trait Drainable: Channels {
     /// On backup: pays for the close step of a channel and for the entry of each of its writes, each before it is made, and
-    /// takes these writes into the array in number order, whether they are held or not. All reads of the channel are lost.
-    /// Where a payment is refused nothing runs after it, and no channel is drained any more.
+    /// takes these writes into the array in number order, whether they are held or not. Once that is done all reads of the
+    /// channel are lost. Where a payment is refused nothing runs after it, and no channel counts as drained any more.
     fn drain<E: Energy>(&mut self, channel: u64, costs: &Costs, energy: &mut E) -> Result<(), Dark>
         requires channel { channel < (Self.view self.old).shape.channels }
         requires turn { (Self.view self.old).drained ≡ Some channel }
@@ -139,6 +139,8 @@ pub trait Drainable: Channels {
             (E.gauge energy.old) result (E.gauge energy.new) }
         ensures drains { (gone : ℕ) × Drains (Self.view self.old).shape.channel_of channel gone
             (Self.view self.old).waits (Self.view self.new).waits }
+        ensures lost { OnOk result (LosesReads channel
+            (Self.view self.old).waits (Self.view self.new).waits) }
         ensures dry { OnOk result (writes_on (Self.view self.old).shape.channel_of channel
             (Self.view self.new).waits.writes ≡ 0) }
         ensures drained { (Self.view self.new).drained ≡ drained_after channel result }
@@ -149,7 +151,8 @@ pub trait Drainable: Channels {
         } }
         ensures keeps { Keeps (Self.carries self.old) (Self.carries self.new) };
 
-    /// Once all channels are drained nothing waits.
-    ghost empty: { (channels : Self) → (Self.view channels).drained ≡ Some (Self.view channels).shape.channels
-        → (Self.view channels).waits ≡ nothing };
+    /// Once all channels are drained nothing waits. It has no code.
+    fn nothing_waits(&self)
+        ensures { (Self.view self.now).drained ≡ Some (Self.view self.now).shape.channels
+            → (Self.view self.now).waits ≡ nothing };
 }

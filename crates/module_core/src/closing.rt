@@ -55,6 +55,7 @@ pub fn drain_all<C: Drainable, E: Energy>(
     for channel in 0..costs.channels {
         channels.drain(channel, costs, energy)?;
     }
+    channels.nothing_waits();
     Ok(())
 }
 

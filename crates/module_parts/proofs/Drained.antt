@@ -16,11 +16,10 @@ use Rattle.chan_core.specs.Always.{IsHeld}
 use Rattle.chan_core.specs.State.{ChannelState, memory_below}
 use Rattle.drain_core.specs.Steps.{TakesOldest}
 use Rattle.line_channels.specs.declared.answers.Waiting.{Waiting}
-use Rattle.line_channels.specs.Draining.{Paid, drained_after}
+use Rattle.line_channels.specs.Draining.{Drains, LosesReads, Paid, drained_after}
 use Rattle.line_channels.specs.Memory.{Keeps, WaitsFrom}
 use Rattle.line_channels.specs.Waits.{Has, OpenRead, Remain, is_read_on, is_write_on, writes_on, nothing}
 use Rattle.module_parts.specs.Carrying.{CarryWrites, CarryWritten}
-use Rattle.module_parts.specs.Drained.{DrainsWrites}
 use Rattle.module_parts.specs.Lines.{ArePlaces, line_in}
 use Rattle.module_parts.specs.Parts.{AreParts, IsDry, IsPart, PartsState}
 use Rattle.module_parts.specs.Seen.{open_on, open_read_of, waiting_on, waiting_write, waits_in}
@@ -239,6 +238,9 @@ module _ (place_of : ℕ → Place) (p : PartsState) (i gone : ℕ) (s t : Chann
       → is_write_on channel_of i a ≡ eqb j i
   tells-new are places j k y a there here = ap (λ n. eqb n i) (waits-there place_of (record p { channels = slice_set p.channels i t; drained = drained }) are places j k y a there here)
 
+  tells-reads-new : AreParts (record p { channels = slice_set p.channels i t; drained = drained }) → (j k : ℕ) (y : ChannelState) (a : OpenRead) → slice_get (slice_set p.channels i t) j ≡ Some y → slice_get (open_on y) k ≡ Some a → is_read_on i a ≡ eqb j i
+  tells-reads-new are j k y a there here = ap (λ n. eqb n i) (opens-there (record p { channels = slice_set p.channels i t; drained = drained }) are j k y a there here)
+
   pub pending-on : AreParts p → ArePlaces p.checked.geometry place_of → writes_on channel_of i (waits_in line_at p.channels).writes ≡ length s.writes
   pending-on are places = count-on (is_write_on channel_of i) (waiting_on line_at) p.channels i s at (tells are places) ∙ length-map s.writes (waiting_write line_at s.channel)
 
@@ -258,19 +260,21 @@ module _ (place_of : ℕ → Place) (p : PartsState) (i gone : ℕ) (s t : Chann
       ]
 
   pub drains : AreParts p → AreParts (record p { channels = slice_set p.channels i t; drained = drained }) → ArePlaces p.checked.geometry place_of
-      → DrainsWrites channel_of i gone (waits_in line_at p.channels).writes (waits_in line_at (slice_set p.channels i t)).writes
+      → Drains channel_of i gone (waits_in line_at p.channels) (waits_in line_at (slice_set p.channels i t))
   drains are new places = record {
     here = filter-on (is_write_on channel_of i) (waiting_on line_at) (slice_set p.channels i t) i t (set-here p.channels i s t at) (tells-new new places)
         ∙ waiting-are ∙ ap (drop gone) (sym (filter-on (is_write_on channel_of i) (waiting_on line_at) p.channels i s at (tells are places)));
     elsewhere = filter-others (is_write_on channel_of i) (waiting_on line_at) p.channels i s t at (tells are places)
         (λ k a here. tells-new new places i k t a (set-here p.channels i s t at) here ∙ eq-eqb i i refl);
     remain = λ w has. was-waiting w (from-pile (waiting_on line_at) (slice_set p.channels i t) w has);
+    reads = filter-others (is_read_on i) open_on p.channels i s t at (tells-reads are)
+        (λ k a here. tells-reads-new new i k t a (set-here p.channels i s t at) here ∙ eq-eqb i i refl);
   }
 
-  lost-reads : AreParts p → t.tickets ≡ [] → (waits_in line_at (slice_set p.channels i t)).reads ≡ filter (λ r. not (is_read_on i r)) (waits_in line_at p.channels).reads
+  lost-reads : AreParts p → t.tickets ≡ [] → LosesReads i (waits_in line_at p.channels) (waits_in line_at (slice_set p.channels i t))
   lost-reads are none = filter-off (is_read_on i) open_on p.channels i s t at (tells-reads are) (ap (map (open_read_of t.channel)) none)
 
-  pub lost-where-ok : (result : Paid) → AreParts p → OnOk result (t.tickets ≡ []) → OnOk result ((waits_in line_at (slice_set p.channels i t)).reads ≡ filter (λ r. not (is_read_on i r)) (waits_in line_at p.channels).reads)
+  pub lost-where-ok : (result : Paid) → AreParts p → OnOk result (t.tickets ≡ []) → OnOk result (LosesReads i (waits_in line_at p.channels) (waits_in line_at (slice_set p.channels i t)))
   lost-where-ok (Ok done) are none = lost-reads are none
   lost-where-ok (Err dark) are none = tt
 

@@ -5,4 +5,3 @@ pub mod Carrying
 pub mod Beginning
 pub mod Collecting
 pub mod Working
-pub mod Drained

@@ -1,7 +1,8 @@
-// The parts are the channels of a module.
+// The parts are the channels of a module, and can be drained.
 use crate::Parts;
+use energy_budget::{Costs, Dark, Energy};
 use interleave_map::line_map::{LineMap, Places};
-use line_channels::{Channels, Collected, Done, Got, Ticket};
+use line_channels::{Channels, Collected, Done, Drainable, Got, Ticket};
 use line_memory::Write;
 
 impl<'m, M: LineMap, P: Places> Channels for Parts<'m, M, P> {
@@ -61,4 +62,19 @@ impl<'m, M: LineMap, P: Places> Channels for Parts<'m, M, P> {
     }
 
     ghost settled = { λ parts base start writes n written none waits. written.settles n none waits };
+}
+
+impl<'m, M: LineMap, P: Places> Drainable for Parts<'m, M, P> {
+    fn drain<E: Energy>(
+        &mut self,
+        channel: u64,
+        costs: &Costs,
+        energy: &mut E,
+    ) -> Result<(), Dark> {
+        self.drain(channel, costs, energy)
+    }
+
+    fn nothing_waits(&self) {
+        self.nothing_waits();
+    }
 }

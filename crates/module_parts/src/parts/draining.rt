@@ -1,11 +1,10 @@
 // The drain of one channel after another.
-ghost use Rattle.std.specs.Prelude.{◌≡◌, ℕ, ◌<◌, OnOk, Some, filter, not};
+ghost use Rattle.std.specs.Prelude.{◌≡◌, ℕ, ◌<◌, OnOk, Some};
 ghost use Rattle.energy_budget.specs.Actions.{drain_actions};
-ghost use Rattle.line_channels.specs.Draining.{PaysInTurn, drained_after};
+ghost use Rattle.line_channels.specs.Draining.{Drains, LosesReads, PaysInTurn, drained_after};
 ghost use Rattle.line_channels.specs.Memory.{Keeps};
-ghost use Rattle.line_channels.specs.Waits.{is_read_on, nothing, writes_on};
+ghost use Rattle.line_channels.specs.Waits.{nothing, writes_on};
 ghost use Rattle.module_parts.specs.Carrying.{CarryWritten};
-ghost use Rattle.module_parts.specs.Drained.{DrainsWrites};
 ghost use Rattle.module_parts.specs.Seen.{seen_by_lines};
 
 use super::Parts;
@@ -31,11 +30,11 @@ impl<'m, M: LineMap, P: Places> Parts<'m, M, P> {
             (drain_actions (writes_on old.shape.channel_of channel old.waits.writes))
             (E.gauge energy.old) result (E.gauge energy.new) }
         ensures drains { let old = seen_by_lines P.place_of self.old in
-            (gone : ℕ) × DrainsWrites old.shape.channel_of channel gone
-            old.waits.writes (seen_by_lines P.place_of self.new).waits.writes }
-        ensures lost { let old = seen_by_lines P.place_of self.old in
-            OnOk result ((seen_by_lines P.place_of self.new).waits.reads
-            ≡ filter (λ r. not (is_read_on channel r)) old.waits.reads) }
+            (gone : ℕ) × Drains old.shape.channel_of channel gone
+            old.waits (seen_by_lines P.place_of self.new).waits }
+        ensures lost { OnOk result (LosesReads channel
+            (seen_by_lines P.place_of self.old).waits
+            (seen_by_lines P.place_of self.new).waits) }
         ensures dry { let old = seen_by_lines P.place_of self.old in
             OnOk result (writes_on old.shape.channel_of channel
             (seen_by_lines P.place_of self.new).waits.writes ≡ 0) }

@@ -62,7 +62,7 @@ returns-clause-drains g c =
     let ended : c.loop-channel.channel ≡ old.shape.channels = omega (arith, inv.end, c.loop-channel.auto.channel-end, c.loop-channel-test.false) in
     let drained : DrainedTo old.shape.costs old.shape.channels old before new later = subst (λ (i : ℕ). DrainedTo old.shape.costs i old before new later) ended inv.drained in
     let same : new.shape.channels ≡ old.shape.channels = ap (λ (v : ChannelsView). v.shape.channels) drained.rest in
-    all_drained old new before later drained (g.met.C.Drainable.empty c.loop-channel.channels (drained.turn ∙ ap Some (sym same)))
+    all_drained old new before later drained (c.nothing_waits.ensures (drained.turn ∙ ap Some (sym same)))
 
 pub returns-clause-keeps : goal.returns-clause-keeps
 returns-clause-keeps g c = c.loop-channel.invariant.keeps

@@ -1,11 +1,10 @@
-use Rattle.std.proofs.Common.{◌≡◌, ◌<◌, ℕ, filter, slice_set, Some, sym, ap, subst, ◌∙◌, arith}
-use Rattle.std.specs.Prelude.{OnOk, Option, not}
+use Rattle.std.proofs.Common.{◌≡◌, ◌<◌, ℕ, slice_set, Some, sym, ap, subst, ◌∙◌, arith}
+use Rattle.std.specs.Prelude.{OnOk, Option}
 use Rattle.energy_budget.specs.Actions.{drain_actions}
-use Rattle.line_channels.specs.Draining.{PaysInTurn, drained_after}
+use Rattle.line_channels.specs.Draining.{Drains, LosesReads, PaysInTurn, drained_after}
 use Rattle.line_channels.specs.Memory.{Keeps}
-use Rattle.line_channels.specs.Waits.{is_read_on, writes_on}
+use Rattle.line_channels.specs.Waits.{writes_on}
 use Rattle.module_parts.specs.Carrying.{CarryWritten}
-use Rattle.module_parts.specs.Drained.{DrainsWrites}
 use Rattle.module_parts.specs.Parts.{AreParts, PartsState}
 use Rattle.module_parts.specs.Seen.{seen_by_lines}
 use Rattle.module_parts.proofs.Drained.{drain-keeps, drains, dry-where-ok, lost-where-ok, none-where-ok, parts-drained, pending-on}
@@ -78,7 +77,7 @@ returns-clause-drains g c =
     let drain = c.drain_running-result.ensures in
     let parts = parts-drained p i drain.takes.0 s t result c.self.invariant.0 turn at drain.takes.1 drain.held (dry-where-ok t result drain.dry drain.lost) in
     let new : PartsState = record p { channels = slice_set p.channels i t; drained = drained_after i result } in
-    subst (λ (q : PartsState). (gone : ℕ) × DrainsWrites (seen_by_lines place_of q).shape.channel_of i gone (seen_by_lines place_of q).waits.writes (seen_by_lines place_of new).waits.writes) c.self.view_is
+    subst (λ (q : PartsState). (gone : ℕ) × Drains (seen_by_lines place_of q).shape.channel_of i gone (seen_by_lines place_of q).waits (seen_by_lines place_of new).waits) c.self.view_is
     (drain.takes.0, drains place_of p i drain.takes.0 s t (drained_after i result) at drain.takes.1 c.self.invariant.0 parts c.self.invariant.1.places)
 
 pub returns-clause-lost : goal.returns-clause-lost
@@ -95,7 +94,7 @@ returns-clause-lost g c =
     let result = c.drain_running-result.result in
     let drain = c.drain_running-result.ensures in
     let new : PartsState = record p { channels = slice_set p.channels i t; drained = drained_after i result } in
-    subst (λ (q : PartsState). OnOk result ((seen_by_lines place_of new).waits.reads ≡ filter (λ r. not (is_read_on i r)) (seen_by_lines place_of q).waits.reads)) c.self.view_is
+    subst (λ (q : PartsState). OnOk result (LosesReads i (seen_by_lines place_of q).waits (seen_by_lines place_of new).waits)) c.self.view_is
     (lost-where-ok place_of p i drain.takes.0 s t (drained_after i result) at drain.takes.1 result c.self.invariant.0 drain.lost)
 
 pub returns-clause-dry : goal.returns-clause-dry
