@@ -13,6 +13,6 @@ mod tests;
 mod word;
 
 pub use answer::{Answer, Loss};
-pub use line::{ScriptLine, Verb};
+pub use line::ScriptLine;
 pub use reading::{SCRIPT_BYTES, ScriptFault, read_script};
 pub use refusal::{ReadRefusal, WriteRefusal};

@@ -1,6 +1,4 @@
 // The lines of a script.
-ghost use Rattle.std.specs.Prelude.{◌≡◌};
-
 use line_memory::Write;
 use nv_profile::MapWord;
 use save_device::Pick;
@@ -50,59 +48,4 @@ pub enum ScriptLine {
     },
     /// `mark`
     Mark,
-}
-
-/// What a line asks for. A program that answers some of the language says by a list of these which.
-#[derive(Clone, Copy, Debug, PartialEq, Eq)]
-pub enum Verb {
-    Format,
-    Write,
-    Read,
-    Work,
-    Sense,
-    Arm,
-    Disarm,
-    Save,
-    Step,
-    Lose,
-    Lie,
-    Fuse,
-    /// `restore` alone.
-    Restore,
-    /// `restore old`, and a map or none.
-    RestoreOld,
-    /// `restore` with another pick, and a map or none.
-    RestorePick,
-    Mark,
-}
-
-impl ScriptLine {
-    ghost use Rattle.nv_script.specs.Line.{verb_of};
-
-    /// What the line asks for.
-    pub fn verb(&self) -> Verb
-        ensures { result ≡ verb_of self.now }
-    {
-        match self {
-            ScriptLine::Format => Verb::Format,
-            ScriptLine::Write(_) => Verb::Write,
-            ScriptLine::Read { .. } => Verb::Read,
-            ScriptLine::Work { .. } => Verb::Work,
-            ScriptLine::Sense { .. } => Verb::Sense,
-            ScriptLine::Arm => Verb::Arm,
-            ScriptLine::Disarm => Verb::Disarm,
-            ScriptLine::Save => Verb::Save,
-            ScriptLine::Step => Verb::Step,
-            ScriptLine::Lose => Verb::Lose,
-            ScriptLine::Lie { .. } => Verb::Lie,
-            ScriptLine::Fuse { .. } => Verb::Fuse,
-            ScriptLine::Restore { pick: None, .. } => Verb::Restore,
-            ScriptLine::Restore {
-                pick: Some(Pick::Old),
-                ..
-            } => Verb::RestoreOld,
-            ScriptLine::Restore { .. } => Verb::RestorePick,
-            ScriptLine::Mark => Verb::Mark,
-        }
-    }
 }

@@ -3,9 +3,9 @@ ghost use Rattle.std.specs.Prelude.{◌≡◌, ◌≢◌, ◌<◌, Err, All, IfO
 ghost use Rattle.std.specs.Option.{ForSome};
 ghost use Rattle.nv_script.specs.declared.reading.ScriptFault.TheVariants.{Memory};
 ghost use Rattle.ddr4_timing.specs.declared.timing.Geometry.{Geometry};
-ghost use Rattle.nv_script.specs.Line.{NamesChannelOf, IsLineFor};
+ghost use Rattle.nv_script.specs.Line.{NamesChannelOf};
 
-use crate::line::{ScriptLine, Verb};
+use crate::line::ScriptLine;
 use crate::word::{BadWord, byte, number, pick};
 use ddr4_timing::timing::Geometry;
 use line_memory::Write;
@@ -64,8 +64,7 @@ impl From<AllocError> for LineFault {
     }
 }
 
-/// Reads a whole script for a module of this geometry. A line whose verb isn't among those that the program answers is a
-/// bad one.
+/// Reads a whole script for a module of this geometry.
 ///
 /// A line is a verb and its words, between them one or more spaces; a line of spaces alone is skipped, and so is one that
 /// begins with `#`. Numbers are decimal digits and fit 64 bits. A byte is two hexadecimal digits. `Line` names the first
@@ -74,9 +73,8 @@ pub fn read_script(
     alloc: Global,
     script: &[u8],
     geometry: &Geometry,
-    verbs: &[Verb],
 ) -> Result<Vec<ScriptLine>, ScriptFault>
-    ensures lines { IfOk result (λ lines. All (IsLineFor geometry.now verbs.now) lines.items) }
+    ensures lines { IfOk result (λ lines. All (NamesChannelOf geometry.now) lines.items) }
     ensures fault { result ≢ Err ScriptFault.Writer }
 {
     let text = script.strip_suffix(b"\n").unwrap_or(script);
@@ -86,7 +84,7 @@ pub fn read_script(
         if number > MOST_LINES {
             return Err(ScriptFault::Line { number });
         }
-        match read_line(alloc, line, geometry, verbs) {
+        match read_line(alloc, line, geometry) {
             Ok(Some(line)) => match lines.push(line) {
                 Ok(()) => {}
                 Err(_) => return Err(ScriptFault::Memory),
@@ -104,9 +102,8 @@ fn read_line(
     alloc: Global,
     line: &[u8],
     geometry: &Geometry,
-    verbs: &[Verb],
 ) -> Result<Option<ScriptLine>, LineFault>
-    ensures { IfOk result (λ line. ForSome line (IsLineFor geometry.now verbs.now)) }
+    ensures { IfOk result (λ line. ForSome line (NamesChannelOf geometry.now)) }
 {
     if line.len() > MOST_LINE_BYTES {
         return Err(LineFault::Bad);
@@ -124,12 +121,7 @@ fn read_line(
     if words.is_empty() {
         return Ok(None);
     }
-    let line = line_of(&words, geometry)?;
-    if verbs.contains(&line.verb()) {
-        Ok(Some(line))
-    } else {
-        Err(LineFault::Bad)
-    }
+    Ok(Some(line_of(&words, geometry)?))
 }
 
 // The value of a line's words.

@@ -1,32 +1,13 @@
 // Texts of lines, of bad lines and of answers.
 mod answers;
 
-use crate::{SCRIPT_BYTES, ScriptFault, ScriptLine, Verb, read_script};
+use crate::{SCRIPT_BYTES, ScriptFault, ScriptLine, read_script};
 use ddr4_timing::timing::Geometry;
 use line_memory::Write;
 use nv_profile::MapWord;
 use save_device::Pick;
 use std::alloc::Global;
 use std::test::Fail;
-
-const ALL: [Verb; 16] = [
-    Verb::Format,
-    Verb::Write,
-    Verb::Read,
-    Verb::Work,
-    Verb::Sense,
-    Verb::Arm,
-    Verb::Disarm,
-    Verb::Save,
-    Verb::Step,
-    Verb::Lose,
-    Verb::Lie,
-    Verb::Fuse,
-    Verb::Restore,
-    Verb::RestoreOld,
-    Verb::RestorePick,
-    Verb::Mark,
-];
 
 const TWO_CHANNELS: Geometry = Geometry {
     channels: 2,
@@ -38,7 +19,7 @@ const TWO_CHANNELS: Geometry = Geometry {
 };
 
 fn read(alloc: Global, script: &[u8]) -> Result<Vec<ScriptLine>, ScriptFault> {
-    read_script(alloc, script, &TWO_CHANNELS, &ALL)
+    read_script(alloc, script, &TWO_CHANNELS)
 }
 
 // Whether a script is refused for this line.
@@ -192,29 +173,6 @@ fn the_first_bad_line_is_named(rt: HostRuntime) {
     assert!(rt; refuses(rt.alloc(), b"format\nread 0\n#\xff\n", 3));
     assert!(rt; refuses(rt.alloc(), b"format\nwirte 0 11\nwork 2 1\n", 2));
     assert!(rt; refuses(rt.alloc(), b"\n\n\nfuse\n#\xff", 4));
-}
-
-#[test]
-fn verbs_that_are_not_answered(rt: HostRuntime) {
-    for verb in ALL {
-        for text in [
-            "format",
-            "read 0",
-            "restore",
-            "restore old",
-            "restore new",
-            "mark",
-        ] {
-            let read = read_script(rt.alloc(), text.as_bytes(), &TWO_CHANNELS, &[verb]);
-            let is_its_verb = match read_script(rt.alloc(), text.as_bytes(), &TWO_CHANNELS, &ALL) {
-                Ok(lines) => lines.iter().any(|line| line.verb() == verb),
-                Err(_) => false,
-            };
-            assert_eq!(rt; read.is_ok(), is_its_verb, "{verb:?} alone, and {text}");
-        }
-    }
-    let none = read_script(rt.alloc(), b"# nothing\n\n", &TWO_CHANNELS, &[]);
-    assert!(rt; none.is_ok());
 }
 
 #[test]

@@ -2,8 +2,11 @@
 //! life where one runs: a module over the channels of one of two maps.
 #![tactic(auto)]
 
+mod calls;
 mod laws;
 mod life;
+mod lives;
+mod losing;
 mod opening;
 mod session;
 mod turns;
@@ -11,7 +14,8 @@ mod wires;
 
 pub use laws::restore_after_save;
 pub use life::Life;
+pub use lives::FormatError;
 pub use opening::Found;
-pub use session::{FormatError, Session};
+pub use session::Session;
 pub use turns::Seen;
 pub use wires::Wires;

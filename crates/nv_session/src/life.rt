@@ -7,9 +7,9 @@ ghost use Rattle.nv_session.specs.Turns.{SeesLine, MakesStep, GoesOnSaving};
 use crate::turns::{Seen, read, save, step};
 use arm_state::{ArmRefusal, ArmReply, DisarmReply, Mode};
 use energy_budget::Energy;
-use line_channels::{Channels, Done};
+use line_channels::{Channels, Done, Drainable};
 use line_memory::Write;
-use module_core::{Accepted, Event, Module, ReadRefusal, Reply, StepReply, WriteRefusal};
+use module_core::{Accepted, Event, Loss, Module, ReadRefusal, Reply, StepReply, WriteRefusal};
 use save_device::SaveDevice;
 
 /// A life, by the map of its lines.
@@ -189,6 +189,31 @@ impl<C: Channels, D: Channels> Life<C, D> {
         match self {
             Life::Lines(module) => module.mode(),
             Life::Xor(module) => module.mode(),
+        }
+    }
+}
+
+impl<C: Drainable, D: Drainable> Life<C, D> {
+    ghost use Rattle.nv_session.specs.Living.{IsOneEvent, LifeComes, setup_of_life};
+
+    /// Loses the mains.
+    pub(crate) fn lose<S: SaveDevice, E: Energy>(&mut self, device: &mut S, energy: &mut E) -> Loss
+        requires lines { C.reaches }
+        requires xor { D.reaches }
+        requires size { HasSize (setup_of_life C.Channels D.Channels self.old).shape.lines
+            (S.state device.old) }
+        ensures comes { LifeComes C.Channels D.Channels
+            (IsOneEvent Event.Lose (Reply.Lose result))
+            self.old (S.state device.old) (E.gauge energy.old)
+            self.new (S.state device.new) (E.gauge energy.new) }
+        ensures setup { setup_of_life C.Channels D.Channels self.new
+            ≡ setup_of_life C.Channels D.Channels self.old }
+        ensures size { HasSize (setup_of_life C.Channels D.Channels self.new).shape.lines
+            (S.state device.new) }
+    {
+        match self {
+            Life::Lines(module) => module.power_loss(device, energy),
+            Life::Xor(module) => module.power_loss(device, energy),
         }
     }
 }

@@ -2,7 +2,7 @@
 ghost use Rattle.std.specs.Prelude.{◌≡◌, IfErr};
 
 use arm_state::{ArmRefusal, ArmReply, DisarmReply, Mode};
-use module_core::{Accepted, ReadRefusal, StepReply, WriteRefusal};
+use module_core::{Accepted, Loss, ReadRefusal, StepReply, WriteRefusal};
 use nv_script::{self, Answer};
 use nv_session::{Found, Seen};
 use slot_store::RestoreError;
@@ -80,6 +80,17 @@ pub fn disarm_answer(reply: Result<DisarmReply, ArmRefusal>) -> Answer {
         Ok(DisarmReply::AlreadyDisarmed) => Answer::DisarmedAlready,
         Err(refusal) => Answer::DisarmRefused(refusal),
     }
+}
+
+/// The answer to a loss of mains.
+pub fn loss_answer(loss: Loss) -> Answer {
+    Answer::Lost(match loss {
+        Loss::Saved { generation, count } => nv_script::Loss::Saved { generation, count },
+        Loss::Unsaved => nv_script::Loss::Unsaved,
+        Loss::Dark => nv_script::Loss::Dark,
+        Loss::Fault => nv_script::Loss::Fault,
+        Loss::Closed => nv_script::Loss::Already,
+    })
 }
 
 /// The answer to a restore.

@@ -5,5 +5,5 @@ mod answers;
 mod script;
 mod wiring;
 
-pub use script::{VERBS, run_lines, run_script};
+pub use script::{run_lines, run_script};
 pub use wiring::Wiring;

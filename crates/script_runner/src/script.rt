@@ -4,31 +4,18 @@ ghost use Rattle.interleave_map.specs.Inverse.{NamesPlaces};
 ghost use Rattle.nv_script.specs.Line.{NamesChannelOf};
 
 use crate::answers::{
-    arm_answer, disarm_answer, level_answer, read_answer, restore_answer, save_answer, step_answer,
-    write_answer,
+    arm_answer, disarm_answer, level_answer, loss_answer, read_answer, restore_answer, save_answer,
+    step_answer, write_answer,
 };
 use crate::wiring::Wiring;
 use interleave_map::line_map::{LineMap, Places};
-use line_channels::Channels;
+use line_channels::{Channels, Drainable};
 use nv_profile::Profile;
-use nv_script::{Answer, ScriptFault, ScriptLine, Verb, read_script};
+use nv_script::{Answer, ScriptFault, ScriptLine, read_script};
 use nv_session::{FormatError, Session, Wires};
 use save_device::{MemoryDevice, Pick};
 use std::alloc::Global;
 use std::io;
-
-/// The verbs that the program answers. A line with any other is a bad one.
-pub const VERBS: [Verb; 9] = [
-    Verb::Format,
-    Verb::Write,
-    Verb::Read,
-    Verb::Work,
-    Verb::Save,
-    Verb::Step,
-    Verb::Mark,
-    Verb::Restore,
-    Verb::RestoreOld,
-];
 
 /// Reads a script, runs it on a session over two lawful maps of the profile's geometry, and writes each answer as a line.
 /// Answers the device as the script left it. A script with a bad line writes nothing.
@@ -49,7 +36,7 @@ pub fn run_script<L: LineMap, X: LineMap, P: Places, Q: Places, W: io::Write>(
     requires xor_names { NamesPlaces profile.now.checked.geometry (X.lies_at xor_map.now)
         Q.place_of }
 {
-    let lines = read_script(alloc, script, &profile.checked.geometry, &VERBS)?;
+    let lines = read_script(alloc, script, &profile.checked.geometry)?;
     run_lines::<L, X, P, Q, W>(alloc, profile, &lines, lines_map, xor_map, writer)
 }
 
@@ -93,8 +80,8 @@ fn answer_line<C, D, A, B, W>(
     writer: &mut W,
 ) -> Result<(), ScriptFault>
 where
-    C: Channels + Drop,
-    D: Channels + Drop,
+    C: Drainable + Drop,
+    D: Drainable + Drop,
     A: Wires<C> + Drop,
     B: Wires<D> + Drop,
     W: io::Write,
@@ -146,12 +133,11 @@ where
     Ok(())
 }
 
-// The answer to a line that takes no memory and has one answer. None for any other, and for a loss of mains, which sessions
-// don't have.
+// The answer to a line that takes no memory and has one answer. None for any other.
 fn answer_of<C, D, A, B>(session: &mut Session<C, D, A, B>, line: ScriptLine) -> Option<Answer>
 where
-    C: Channels + Drop,
-    D: Channels + Drop,
+    C: Drainable + Drop,
+    D: Drainable + Drop,
     A: Wires<C> + Drop,
     B: Wires<D> + Drop,
     requires lines { C.reaches }
@@ -166,6 +152,7 @@ where
         ScriptLine::Sense { level } => level_answer(session.sense(level)),
         ScriptLine::Arm => arm_answer(session.arm()),
         ScriptLine::Disarm => disarm_answer(session.disarm()),
+        ScriptLine::Lose => loss_answer(session.lose()),
         ScriptLine::Lie { units } => {
             session.lie(units);
             Answer::Lie { units }

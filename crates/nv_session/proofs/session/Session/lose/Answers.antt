@@ -1,0 +1,22 @@
+use Rattle.save_device.specs.Device.{DeviceState, with_calls}
+use Rattle.save_device.specs.Memory.{state_of}
+use Rattle.energy_budget.specs.Gauge.{Gauge}
+use Rattle.energy_budget.specs.Meter.{meter_gauge}
+use Rattle.module_core.specs.declared.events.Event.TheVariants as events
+use Rattle.module_core.specs.declared.events.Reply.TheVariants as replies
+use Rattle.nv_session.specs.Living.{IsOneEvent}
+use Rattle.nv_session.proofs.InLife.{stays_fitting, stays_in_life, stays_sized}
+use Rattle.nv_session.proofs.session.Session.lose.Goals as goal
+
+pub invariant_of-self : goal.invariant_of-self
+invariant_of-self g c =
+    let L = g.C.Channels in let M = g.D.Channels in let it = c.args.self.now in
+    let device : DeviceState = with_calls (state_of it.device.device) it.device.calls in let gauge : Gauge = meter_gauge it.gauge in
+    let device' : DeviceState = with_calls (state_of c.lose.new.device.device) c.lose.new.device.calls in let gauge' : Gauge = meter_gauge c.lose.new.energy in
+    record {
+      lines_fit = it.lines_fit;
+      xor_fits = it.xor_fits;
+      sized = stays_sized L M it.profile it.life c.in-Some.life c.lose.new.self device' c.in-Some.is it.life_fits c.lose.ensures.setup c.lose.ensures.size;
+      life_fits = stays_fitting L M it.profile it.life c.in-Some.life c.lose.new.self c.in-Some.is it.life_fits c.lose.ensures.setup;
+      stands = stays_in_life L M (IsOneEvent events.Lose (replies.Lose c.lose.result)) it.life c.in-Some.life c.lose.new.self device device' gauge gauge' c.in-Some.is it.stands c.lose.ensures.comes;
+    }
