@@ -33,5 +33,6 @@ pub mod StoppedLives
 pub mod History
 pub mod HonestRuns
 pub mod ToldMarks
+pub mod RisingMarks
 pub mod SurvivedLives
 pub mod ModulesLive

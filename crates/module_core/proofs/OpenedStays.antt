@@ -148,6 +148,9 @@ event_stays setup events.SaveStep (replies.SaveStep reply) old new done = kept (
 event_stays setup events.Lose (replies.Lose reply) old new done = record { opened = lose_stays setup reply old new done; calm = lose_calm setup reply old new done }
 event_stays setup event reply old new none = absurd none
 
+pub opened_event : (setup : Setup) (event : Event) (reply : Reply) (old new : World) → MachineStep setup event reply old new → of_world new ≡ of_world old
+opened_event setup event reply old new done = (event_stays setup event reply old new done).opened
+
 pub run_stays : {C : Type 0} (L : Ghosts C) (setup : Setup) (events : List Event) (replies : List Reply) (old new : Point C) → Run L setup events replies old new → of_world new.world ≡ of_world old.world
 run_stays {C} L setup [] [] old new run = ap (λ (p : Point C). of_world p.world) run
 run_stays L setup (event ∷ events) (reply ∷ replies) old new run =

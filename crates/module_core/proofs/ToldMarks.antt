@@ -1,6 +1,7 @@
--- What is acknowledged as persistent stays so, and is all that a reply tells.
-use Rattle.std.proofs.Common.{◌≡◌, ℕ, ◌+◌, ◌≤◌, Bool, true, false, List, [], ◌∷◌, All, refl, ◌∙◌, ap, arith}
+-- The history only grows; what is acknowledged as persistent stays so, and is all that a reply tells.
+use Rattle.std.proofs.Common.{◌≡◌, ℕ, ◌+◌, ◌≤◌, Bool, true, false, List, [], ◌∷◌, ◌++◌, All, refl, sym, ◌∙◌, ap, arith}
 use Rattle.std.specs.Prelude.{Result, Ok, Err, Option, Some, None, MatchBool, if◌then◌else◌}
+use Rattle.std.proofs.lemmas.List.{append-nil}
 use Rattle.std.proofs.lemmas.List.Elements.{All-cons, All-nil}
 use Rattle.arm_state.specs.declared.refusal.ArmRefusal.{ArmRefusal}
 use Rattle.arm_state.specs.declared.refusal.ArmRefusal.TheVariants as refusals
@@ -35,20 +36,38 @@ use Rattle.module_core.specs.Headline.{Point, Run}
 use Rattle.module_core.specs.Survival.{told_mark}
 use Rattle.module_core.proofs.ModeLaws.{armed_backed}
 use Rattle.module_core.proofs.Continuing.{continues_save_step, continues_lose}
+use Rattle.module_core.proofs.Leaving.{Continues}
 use Rattle.module_core.proofs.EachEvent.{guarded_event}
 
 -- how many writes are persistent
 abbrev marked : Machine → ℕ
 marked m = m.life.persisted
 
--- No acknowledged write is taken back, and what the reply tells is acknowledged.
-record Tells (reply : Reply) (m n : Machine) : Type 0 where
-  rises : marked m ≤ marked n
-  told : told_mark reply ≤ marked n
+-- the history of a life, and how many of its writes are persistent
+abbrev kept : Machine → List line_write.Write × ℕ
+kept m = (m.life.writes, m.life.persisted)
 
--- the count stays, and the reply tells nothing
-same : (reply : Reply) (m n : Machine) → told_mark reply ≡ 0 → marked n ≡ marked m → Tells reply m n
-same reply m n none is = record { rises = omega (arith, is); told = omega (arith, none) }
+-- The history goes on, no acknowledged write is taken back, and what the reply tells is acknowledged.
+pub record Tells (reply : Reply) (m n : Machine) : Type 0 where
+  pub more : List line_write.Write
+  pub history : n.life.writes ≡ m.life.writes ++ more
+  pub rises : m.life.persisted ≤ n.life.persisted
+  pub told : told_mark reply ≤ n.life.persisted
+
+-- no further write, as the history is the same
+as_was : (m n : Machine) → n.life.writes ≡ m.life.writes → n.life.writes ≡ m.life.writes ++ []
+as_was m n is = is ∙ sym (append-nil m.life.writes)
+
+-- history and count stay, and the reply tells nothing
+same : (reply : Reply) (m n : Machine) → told_mark reply ≡ 0 → kept n ≡ kept m → Tells reply m n
+same reply m n none is =
+    let count : marked n ≡ marked m = ap (λ (k : List line_write.Write × ℕ). k.1) is in
+    record {
+      more = [];
+      history = as_was m n (ap (λ (k : List line_write.Write × ℕ). k.0) is);
+      rises = omega (arith, count);
+      told = omega (arith, none);
+    }
 
 most_after : (b : Bool) (persisted all : ℕ) → persisted ≤ all → persisted ≤ (if b then all + 1 else persisted)
 most_after true persisted all most = omega (arith, most)
@@ -59,21 +78,26 @@ write_tells : (setup : Setup) (write : line_write.Write) (result : Result Accept
 write_tells setup write (Ok accepted) m n done guarded =
     let is : marked n ≡ (if is_armed m.mode then all_of m + 1 else marked m) = ap marked done.1.is in
     let most = most_after (is_armed m.mode) (marked m) (all_of m) guarded.most in
-    record { rises = omega (arith, is, most); told = omega (arith, done.1.mark) }
-write_tells setup write (Err refusal) m n done guarded = same (replies.Write (Err refusal)) m n refl (ap marked done.1)
+    record {
+      more = write ∷ [];
+      history = ap (λ (x : Machine). x.life.writes) done.1.is;
+      rises = omega (arith, is, most);
+      told = omega (arith, done.1.mark);
+    }
+write_tells setup write (Err refusal) m n done guarded = same (replies.Write (Err refusal)) m n refl (ap kept done.1)
 
 read_tells : (setup : Setup) (line : ℕ) (result : Result Got ReadRefusal) (m n : Machine) → ReadStep setup line result m n → Tells (replies.Read result) m n
-read_tells setup line (Ok got) m n done = same (replies.Read (Ok got)) m n refl (ap marked done.2)
-read_tells setup line (Err refusal) m n done = same (replies.Read (Err refusal)) m n refl (ap marked done.1)
+read_tells setup line (Ok got) m n done = same (replies.Read (Ok got)) m n refl (ap kept done.2)
+read_tells setup line (Err refusal) m n done = same (replies.Read (Err refusal)) m n refl (ap kept done.1)
 
 work_tells : (setup : Setup) (channel : ℕ) (result : Option Done) (m n : Machine) → WorkStep setup channel result m n → Tells (replies.Work result) m n
-work_tells setup channel None m n done = same (replies.Work None) m n refl (ap marked done)
-work_tells setup channel (Some command) m n done = same (replies.Work (Some command)) m n refl (ap marked done.2)
+work_tells setup channel None m n done = same (replies.Work None) m n refl (ap kept done)
+work_tells setup channel (Some command) m n done = same (replies.Work (Some command)) m n refl (ap kept done.2)
 
-sensed_marked : (setup : Setup) (m : Machine) → marked (sensed setup m) ≡ marked m
-sensed_marked setup m = by_level (is_low setup m)
+sensed_kept : (setup : Setup) (m : Machine) → kept (sensed setup m) ≡ kept m
+sensed_kept setup m = by_level (is_low setup m)
   where
-    by_level : (b : Bool) → marked (if b then disarming m else m) ≡ marked m
+    by_level : (b : Bool) → kept (if b then disarming m else m) ≡ kept m
     by_level true = refl
     by_level false = refl
 
@@ -83,33 +107,38 @@ sense_tells setup level m before n later done = same (replies.Sense level) m n r
   where
     by_mode : (b : Bool)
         → MatchBool b (ReadsLevel before level later × (n ≡ sensed setup (read_as level m))) ((level ≡ m.reading) × (n ≡ m) × (later ≡ before))
-        → marked n ≡ marked m
-    by_mode true d = ap marked d.1 ∙ sensed_marked setup (read_as level m)
-    by_mode false d = ap marked d.1
+        → kept n ≡ kept m
+    by_mode true d = ap kept d.1 ∙ sensed_kept setup (read_as level m)
+    by_mode false d = ap kept d.1
 
 disarm_tells : (result : Result DisarmReply ArmRefusal) (m n : Machine) → DisarmStep result m n → Tells (replies.Disarm result) m n
-disarm_tells (Ok disarm.AlreadyDisarmed) m n done = same (replies.Disarm (Ok disarm.AlreadyDisarmed)) m n refl (ap marked done.1)
-disarm_tells (Ok disarm.Disarming) m n done = same (replies.Disarm (Ok disarm.Disarming)) m n refl (ap marked done.1)
-disarm_tells (Err refusal) m n done = same (replies.Disarm (Err refusal)) m n refl (ap marked done.1)
+disarm_tells (Ok disarm.AlreadyDisarmed) m n done = same (replies.Disarm (Ok disarm.AlreadyDisarmed)) m n refl (ap kept done.1)
+disarm_tells (Ok disarm.Disarming) m n done = same (replies.Disarm (Ok disarm.Disarming)) m n refl (ap kept done.1)
+disarm_tells (Err refusal) m n done = same (replies.Disarm (Err refusal)) m n refl (ap kept done.1)
 
 save_begin_tells : (result : Result (Unit {0}) ArmRefusal) (m n : Machine) → SaveBeginStep result m n → Tells (replies.SaveBegin result) m n
-save_begin_tells (Ok begins) m n done = same (replies.SaveBegin (Ok begins)) m n refl (ap marked done.1)
-save_begin_tells (Err refusal) m n done = same (replies.SaveBegin (Err refusal)) m n refl (ap marked done.1)
+save_begin_tells (Ok begins) m n done = same (replies.SaveBegin (Ok begins)) m n refl (ap kept done.1)
+save_begin_tells (Err refusal) m n done = same (replies.SaveBegin (Err refusal)) m n refl (ap kept done.1)
 
-abbrev marked_in : World → ℕ
-marked_in w = marked w.machine
+abbrev kept_in : World → List line_write.Write × ℕ
+kept_in w = kept w.machine
 
 arm_tells : (setup : Setup) (result : Result ArmReply ArmRefusal) (old new : World) → ArmStep setup result old new → IsGuarded old.machine
     → Tells (replies.Arm result) old.machine new.machine
-arm_tells setup (Ok arm.AlreadyArmed) old new done guarded = same _ old.machine new.machine refl (ap marked_in done.1)
-arm_tells setup (Ok arm.Armed) old new done guarded = record { rises = omega (arith, guarded.most, ap marked done.2); told = omega arith }
-arm_tells setup (Err refusals.Device) old new done guarded = same _ old.machine new.machine refl (ap marked done.2)
-arm_tells setup (Err (refusals.NeedEnergy need has)) old new done guarded = same _ old.machine new.machine refl (ap marked_in done.5)
-arm_tells setup (Err refusals.SaveRunning) old new done guarded = same _ old.machine new.machine refl (ap marked_in done.2)
-arm_tells setup (Err refusals.Unsettled) old new done guarded = same _ old.machine new.machine refl (ap marked_in done.2)
-arm_tells setup (Err refusals.Disarming) old new done guarded = same _ old.machine new.machine refl (ap marked_in done.2)
-arm_tells setup (Err refusals.Closed) old new done guarded = same _ old.machine new.machine refl (ap marked_in done.2)
-arm_tells setup (Err refusals.Spent) old new done guarded = same _ old.machine new.machine refl (ap marked_in done.2)
+arm_tells setup (Ok arm.AlreadyArmed) old new done guarded = same _ old.machine new.machine refl (ap kept_in done.1)
+arm_tells setup (Ok arm.Armed) old new done guarded = record {
+  more = [];
+  history = as_was old.machine new.machine (ap (λ (x : Machine). x.life.writes) done.2);
+  rises = omega (arith, guarded.most, ap marked done.2);
+  told = omega arith;
+}
+arm_tells setup (Err refusals.Device) old new done guarded = same _ old.machine new.machine refl (ap kept done.2)
+arm_tells setup (Err (refusals.NeedEnergy need has)) old new done guarded = same _ old.machine new.machine refl (ap kept_in done.5)
+arm_tells setup (Err refusals.SaveRunning) old new done guarded = same _ old.machine new.machine refl (ap kept_in done.2)
+arm_tells setup (Err refusals.Unsettled) old new done guarded = same _ old.machine new.machine refl (ap kept_in done.2)
+arm_tells setup (Err refusals.Disarming) old new done guarded = same _ old.machine new.machine refl (ap kept_in done.2)
+arm_tells setup (Err refusals.Closed) old new done guarded = same _ old.machine new.machine refl (ap kept_in done.2)
+arm_tells setup (Err refusals.Spent) old new done guarded = same _ old.machine new.machine refl (ap kept_in done.2)
 
 -- where a save ends all of its writes are persistent
 at_end : (m : Machine) (save : RunningSave) → IsGuarded m → m.store.saving ≡ Some save → (b : Bool) → is_armed m.mode ≡ b
@@ -138,20 +167,23 @@ lose_told setup loss.Unsaved old new done guarded = omega arith
 lose_told setup loss.Dark old new done guarded = omega arith
 lose_told setup loss.Fault old new done guarded = omega arith
 
-event_tells : (setup : Setup) (event : Event) (reply : Reply) (old new : World) → MachineStep setup event reply old new → IsGuarded old.machine
+continued : (reply : Reply) (m n : Machine) → Continues m n → told_mark reply ≤ n.life.persisted → Tells reply m n
+continued reply m n c told = record { more = []; history = as_was m n c.writes; rises = c.persisted; told = told }
+
+pub event_tells : (setup : Setup) (event : Event) (reply : Reply) (old new : World) → MachineStep setup event reply old new → IsGuarded old.machine
     → Tells reply old.machine new.machine
 event_tells setup (events.Write write) (replies.Write result) old new done guarded = write_tells setup write result old.machine new.machine done.1 guarded
 event_tells setup (events.Read line) (replies.Read result) old new done guarded = read_tells setup line result old.machine new.machine done.1
-event_tells setup (events.Collect ticket) (replies.Collect collected) old new done guarded = same (replies.Collect collected) old.machine new.machine refl (ap marked done.1.1)
+event_tells setup (events.Collect ticket) (replies.Collect collected) old new done guarded = same (replies.Collect collected) old.machine new.machine refl (ap kept done.1.1)
 event_tells setup (events.Work channel) (replies.Work result) old new done guarded = work_tells setup channel result old.machine new.machine done.1
 event_tells setup events.Sense (replies.Sense level) old new done guarded = sense_tells setup level old.machine old.gauge new.machine new.gauge done.1
 event_tells setup events.Arm (replies.Arm result) old new done guarded = arm_tells setup result old new done guarded
 event_tells setup events.Disarm (replies.Disarm result) old new done guarded = disarm_tells result old.machine new.machine done.1
 event_tells setup events.SaveBegin (replies.SaveBegin result) old new done guarded = save_begin_tells result old.machine new.machine done.1
 event_tells setup events.SaveStep (replies.SaveStep reply) old new done guarded =
-    record { rises = (continues_save_step setup reply old new done guarded).persisted; told = save_step_told setup reply old new done guarded }
+    continued (replies.SaveStep reply) old.machine new.machine (continues_save_step setup reply old new done guarded) (save_step_told setup reply old new done guarded)
 event_tells setup events.Lose (replies.Lose reply) old new done guarded =
-    record { rises = (continues_lose setup reply old new done guarded).persisted; told = lose_told setup reply old new done guarded }
+    continued (replies.Lose reply) old.machine new.machine (continues_lose setup reply old new done guarded) (lose_told setup reply old new done guarded)
 event_tells setup event reply old new none guarded = absurd none
 
 -- through a run

@@ -15,3 +15,5 @@ pub mod Lives
 pub mod Honesty
 pub mod Survival
 pub mod ModuleLives
+pub mod Telling
+pub mod Rising
