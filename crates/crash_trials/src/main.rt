@@ -23,18 +23,29 @@ fn show(rt: &HostRuntime, what: &str, tally: Tally) -> anyhow::Result<()> {
         possible_loss,
         wrong,
     } = tally;
-    println!(rt; "    {what}: {complete} complete, {possible_loss} possible losses, {wrong} wrong")?;
+    println!(rt;
+        "    {what}: {complete} complete, {possible_loss} possible losses, {wrong} wrong"
+    )?;
     Ok(())
 }
 
 // The trials of each script: by which picks, and how many units apart the lies are.
-fn try_scripts(rt: &HostRuntime, profile: &Profile, picks: Picks, apart: u64) -> anyhow::Result<()> {
+fn try_scripts(
+    rt: &HostRuntime,
+    profile: &Profile,
+    picks: Picks,
+    apart: u64,
+) -> anyhow::Result<()> {
     for script in SCRIPTS {
         println!(rt; "{}", script.name)?;
         let trials = Trials::new(rt.alloc(), profile, picks);
         show(rt, "a device that fails", trials.stops(script.text)?)?;
         show(rt, "mains lost", trials.losses(script.text)?)?;
-        show(rt, "mains lost under a lie", trials.lies(script.text, apart)?)?;
+        show(
+            rt,
+            "mains lost under a lie",
+            trials.lies(script.text, apart)?,
+        )?;
     }
     Ok(())
 }

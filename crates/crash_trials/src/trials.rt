@@ -85,7 +85,9 @@ impl<'p> Trials<'p> {
     fn restore(&self, script: &str, honest: bool, tally: &mut Tally) -> anyhow::Result<bool> {
         let mut has_failed = false;
         for pick in self.picks {
-            let whole = format!(in self.alloc; "{script}restore {pick}\nread 0\nread 1\nread 127\n")?;
+            let whole = format!(in self.alloc;
+                "{script}restore {pick}\nread 0\nread 1\nread 127\n"
+            )?;
             let answers = self.answers(&whole)?;
             let ledger = Ledger::of(self.alloc, script, &answers)?;
             tally.count(judged(&ledger, &answers, honest));
