@@ -80,12 +80,12 @@ impl<'a> Ledger<'a> {
 
     /// What a line holds after the first `count` writes, by the word that wrote it.
     pub fn value(&self, line: &str, count: u64) -> &'a str {
-        let mut found = "00";
-        for entry in self.writes.iter().take(count as usize) {
+        let first = self.writes.get(..count as usize).unwrap_or(&[]);
+        for entry in first.iter().rev() {
             if entry.line == line {
-                found = entry.data;
+                return entry.data;
             }
         }
-        found
+        "00"
     }
 }
