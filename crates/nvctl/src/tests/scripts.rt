@@ -3,6 +3,7 @@ use nv_profile::{Profile, TINY, read_profile};
 use nv_script::ScriptFault;
 use script_runner::run_on_maps;
 use std::alloc::Global;
+use std::process::Abort;
 use std::test::Fail;
 
 fn tiny(alloc: Global) -> Result<Profile, Fail> {
@@ -17,7 +18,7 @@ pub(crate) fn written(alloc: Global, script: &str) -> Result<String, Fail> {
 }
 
 // Runs scripts. The lines of each and those of its answers are separated by slashes.
-fn are_answered(rt: &HostRuntime, cases: &[(&str, &str)]) -> Result<(), Fail> {
+fn are_answered<R: Abort + AllocGlobal>(rt: &R, cases: &[(&str, &str)]) -> Result<(), Fail> {
     for (script, answers) in cases {
         let script = script.replace(rt.alloc(), "/", "\n")?;
         let wanted = answers.replace(rt.alloc(), "/", "\n")?;
