@@ -14,13 +14,13 @@ pub const PICKS: Picks = &[
     "torn88", "torn99", "tornaa", "tornbb", "torncc", "torndd", "tornee", "tornff",
 ];
 
-/// Few of them.
-pub const FEW: Picks = &["old", "new", "torn00", "torna5"];
+/// Two of them.
+const FEW: Picks = &["old", "torna5"];
 
 /// Behind so many device calls each script has ended.
 const MOST_CALLS: u64 = 64;
 
-/// Where the lies end, in units of energy.
+/// Where the lies end, in units.
 const MOST_UNITS: u64 = 4_000;
 
 /// What was found, how often.
@@ -60,21 +60,16 @@ impl Tally {
 pub struct Trials<'p> {
     alloc: Global,
     profile: &'p Profile,
-    picks: Picks,
 }
 
 impl<'p> Trials<'p> {
-    /// By these picks.
-    pub fn new(alloc: Global, profile: &'p Profile, picks: Picks) -> Trials<'p> {
-        Trials {
-            alloc,
-            profile,
-            picks,
-        }
+    /// Of this profile.
+    pub fn new(alloc: Global, profile: &'p Profile) -> Trials<'p> {
+        Trials { alloc, profile }
     }
 
-    // What a script answers.
-    fn answers(&self, script: &str) -> anyhow::Result<String> {
+    /// What a script answers.
+    pub fn answers(&self, script: &str) -> anyhow::Result<String> {
         let mut bytes = Vec::new(self.alloc);
         let _device = run_on_maps(self.alloc, self.profile, script.as_bytes(), &mut bytes)?;
         Ok(String::from_utf8(bytes)?)
@@ -82,9 +77,15 @@ impl<'p> Trials<'p> {
 
     // Runs a script to its end, restores what it left by each pick, and counts what was found. Answers whether a call of the
     // device failed.
-    fn restore(&self, script: &str, honest: bool, tally: &mut Tally) -> anyhow::Result<bool> {
+    fn restore(
+        &self,
+        script: &str,
+        picks: Picks,
+        honest: bool,
+        tally: &mut Tally,
+    ) -> anyhow::Result<bool> {
         let mut has_failed = false;
-        for pick in self.picks {
+        for pick in picks {
             let whole = format!(in self.alloc;
                 "{script}restore {pick}\nread 0\nread 1\nread 127\n"
             )?;
@@ -101,7 +102,7 @@ impl<'p> Trials<'p> {
         let mut tally = Tally::new();
         for calls in 0..MOST_CALLS {
             let script = format!(in self.alloc; "format\nfuse {calls}\n{text}")?;
-            if !self.restore(&script, false, &mut tally)? {
+            if !self.restore(&script, PICKS, false, &mut tally)? {
                 break;
             }
         }
@@ -115,19 +116,30 @@ impl<'p> Trials<'p> {
         for line in text.split_inclusive('\n') {
             begun.push_str(line)?;
             let script = format!(in self.alloc; "{begun}lose\n")?;
-            let _failed = self.restore(&script, true, &mut tally)?;
+            let _failed = self.restore(&script, PICKS, true, &mut tally)?;
         }
         Ok(tally)
     }
 
-    /// Mains are lost after the last line, and the gauge has less than it told: every so many units.
-    pub fn lies(&self, text: &str, apart: u64) -> anyhow::Result<Tally> {
-        let mut tally = Tally::new();
+    // Mains are lost, and the gauge has less than it told: each number of units, so many apart.
+    fn lie(&self, begun: &str, unit: u64, apart: u64, tally: &mut Tally) -> anyhow::Result<()> {
         for units in 0..=MOST_UNITS {
             if units.checked_rem(apart) == Some(0) {
-                let script = format!(in self.alloc; "format\n{text}lie {units}\nlose\n")?;
-                let _failed = self.restore(&script, false, &mut tally)?;
+                let lie = units.wrapping_mul(unit);
+                let script = format!(in self.alloc; "{begun}lie {lie}\nlose\n")?;
+                let _failed = self.restore(&script, FEW, false, tally)?;
             }
+        }
+        Ok(())
+    }
+
+    /// Mains are lost after each line, and the gauge has less than it told, so many units apart.
+    pub fn lies(&self, text: &str, unit: u64, apart: u64) -> anyhow::Result<Tally> {
+        let mut tally = Tally::new();
+        let mut begun = format!(in self.alloc; "format\n")?;
+        for line in text.split_inclusive('\n') {
+            begun.push_str(line)?;
+            self.lie(&begun, unit, apart, &mut tally)?;
         }
         Ok(tally)
     }
