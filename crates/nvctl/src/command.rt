@@ -1,25 +1,18 @@
 // The command line: its words, the files that they name, and the exit status.
-ghost use Rattle.std.specs.Prelude.{◌≡◌, ◌<◌};
-ghost use Rattle.ddr4_timing.specs.Limits.{lines_of};
-ghost use Rattle.ddr4_timing.specs.Places.{LiesIn};
-ghost use Rattle.interleave_map.specs.Interleaving.{place_by_lines, line_by_lines, place_by_xor, line_by_xor};
+ghost use Rattle.std.specs.Prelude.{◌≡◌};
 ghost use Rattle.std.specs.Process.{exit_status};
 
 use crate::store::{STORE_BYTES, show_store};
 use clap::error::ErrorKind;
 use clap::{Arg, ArgMatches, Command, Error as UsageError};
-use ddr4_timing::place::Place;
-use interleave_map::map::Map;
-use interleave_map::{lines, xor};
 use nv_profile::{MOST_BYTES, Profile, ProfileFault, TINY, read_profile};
 use nv_script::{SCRIPT_BYTES, ScriptFault};
 use save_device::{MemoryDevice, SaveDevice};
-use script_runner::run_script;
+use script_runner::run_on_maps;
 use std::alloc::{AllocError, Global};
 use std::env::{self, Env};
 use std::fs::{self, File};
 use std::io::{self, Eprint, Input, Print, Read, Write};
-use std::marker::Brand;
 use std::process::ExitCode;
 use std::rt::Files;
 use thiserror::Error;
@@ -112,35 +105,6 @@ where
         Some(name) => write_store(rt, device, name),
         None => Ok(()),
     }
-}
-
-/// Runs a script over closures of both maps.
-pub fn run_on_maps<W: Write>(
-    alloc: Global,
-    profile: &Profile,
-    script: &[u8],
-    writer: &mut W,
-) -> Result<MemoryDevice, ScriptFault> {
-    let checked = profile.checked;
-    let split_lines = move |line: u64| -> Place
-        requires { line < lines_of checked.geometry }
-        ensures { result ≡ place_by_lines checked.geometry line }
-    { lines::split(&checked, line) };
-    let join_lines = move |place: Place| -> u64
-        requires { LiesIn checked.geometry place }
-        ensures { result ≡ line_by_lines checked.geometry place }
-    { lines::join(&checked, place) };
-    let split_xor = move |line: u64| -> Place
-        requires { line < lines_of checked.geometry }
-        ensures { result ≡ place_by_xor checked.geometry line }
-    { xor::split(&checked, line) };
-    let join_xor = move |place: Place| -> u64
-        requires { LiesIn checked.geometry place }
-        ensures { result ≡ line_by_xor checked.geometry place }
-    { xor::join(&checked, place) };
-    let lines_map = Map::new(split_lines, join_lines, &checked);
-    let xor_map = Map::new(split_xor, join_xor, &checked);
-    run_script::<_, _, Brand, Brand, W>(alloc, profile, script, &lines_map, &xor_map, writer)
 }
 
 fn flush<'a, W: Write>(writer: &mut W) -> Result<(), Fault<'a>> {

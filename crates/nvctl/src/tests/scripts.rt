@@ -1,7 +1,7 @@
 // What scripts write.
-use crate::command::run_on_maps;
 use nv_profile::{Profile, TINY, read_profile};
 use nv_script::ScriptFault;
+use script_runner::run_on_maps;
 use std::alloc::Global;
 use std::process::Abort;
 use std::test::Fail;

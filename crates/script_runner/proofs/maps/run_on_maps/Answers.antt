@@ -1,7 +1,7 @@
 use Rattle.std.proofs.Common.{rules}
 use Rattle.interleave_map.specs.Interleaving.{place_by_lines, place_by_xor}
 use Rattle.interleave_map.proofs.Closures.{closures_by_lines, closures_by_xor}
-use Rattle.nvctl.proofs.command.run_on_maps.Goals as goal
+use Rattle.script_runner.proofs.maps.run_on_maps.Goals as goal
 
 pub new-lines_map-requires : goal.new-lines_map-requires
 new-lines_map-requires g c =

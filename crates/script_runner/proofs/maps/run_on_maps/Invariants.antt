@@ -1,5 +1,5 @@
 use Rattle.interleave_map.specs.Interleaving.{place_by_lines, place_by_xor}
-use Rattle.nvctl.proofs.command.run_on_maps.Given as goal
+use Rattle.script_runner.proofs.maps.run_on_maps.Given as goal
 
 abbrev pub ghosts-run_script-P-Places : goal.ghosts-run_script-P-Places
 ghosts-run_script-P-Places g a = record { place_of = place_by_lines a.profile.now.checked.geometry }

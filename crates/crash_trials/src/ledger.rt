@@ -1,0 +1,91 @@
+// What the answers of a script tell of its writes.
+use std::alloc::{AllocError, Global};
+
+/// A write, by the words of its script.
+#[derive(Clone, Copy, Drop)]
+pub struct Entry<'a> {
+    pub line: &'a str,
+    pub data: &'a str,
+}
+
+/// The writes that were accepted, in order, and how many of them were told persistent.
+#[derive(Drop)]
+pub struct Ledger<'a> {
+    pub writes: Vec<Entry<'a>>,
+    pub told: u64,
+}
+
+/// A number, or 0 where the word is none.
+pub fn number_of(word: Option<&str>) -> u64 {
+    match word {
+        Some(word) => word.parse::<u64>().unwrap_or(0),
+        None => 0,
+    }
+}
+
+// The writes that a script asks for.
+fn asked<'a>(alloc: Global, script: &'a str) -> Result<Vec<Entry<'a>>, AllocError> {
+    let mut entries = Vec::new(alloc);
+    for line in script.split('\n') {
+        let mut words = line.split(' ');
+        if words.next() != Some("write") {
+            continue;
+        }
+        if let (Some(line), Some(data)) = (words.next(), words.next()) {
+            entries.push(Entry { line, data })?;
+        }
+    }
+    Ok(entries)
+}
+
+impl<'a> Ledger<'a> {
+    /// By the answers to a script.
+    pub fn of(alloc: Global, script: &'a str, answers: &str) -> Result<Ledger<'a>, AllocError> {
+        let asked = asked(alloc, script)?;
+        let mut next = asked.iter();
+        let mut ledger = Ledger {
+            writes: Vec::new(alloc),
+            told: 0,
+        };
+        for answer in answers.split('\n') {
+            let mut words = answer.split(' ');
+            let first = words.next();
+            let second = words.next();
+            let third = words.next();
+            let fourth = words.next();
+            if first == Some("accepted") {
+                if let Some(entry) = next.next() {
+                    ledger.writes.push(*entry)?;
+                }
+                ledger.tell(fourth);
+            } else if first == Some("refused") && second == Some("write") {
+                let _refused = next.next();
+            } else if first == Some("saved") {
+                ledger.tell(third);
+            } else if first == Some("lost") && second == Some("saved") {
+                ledger.tell(fourth);
+            }
+        }
+        Ok(ledger)
+    }
+
+    fn tell(&mut self, count: Option<&str>) {
+        self.told = self.told.max(number_of(count));
+    }
+
+    /// How many writes were accepted.
+    pub fn accepted(&self) -> u64 {
+        self.writes.len() as u64
+    }
+
+    /// What a line holds after the first `count` writes, by the word that wrote it.
+    pub fn value(&self, line: &str, count: u64) -> &'a str {
+        let first = self.writes.get(..count as usize).unwrap_or(&[]);
+        for entry in first.iter().rev() {
+            if entry.line == line {
+                return entry.data;
+            }
+        }
+        "00"
+    }
+}

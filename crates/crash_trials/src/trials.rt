@@ -1,0 +1,146 @@
+// Scripts that are broken off and restored.
+use crate::judging::{Restored, Wrong, judged};
+use crate::ledger::Ledger;
+use nv_profile::Profile;
+use script_runner::run_on_maps;
+use std::alloc::Global;
+
+/// The words of restores: what becomes of each byte that is unsettled.
+pub type Picks = &'static [&'static str];
+
+/// The bytes of old, of new, and of sixteen kinds of torn ones.
+pub const PICKS: Picks = &[
+    "old", "new", "torn00", "torn11", "torn22", "torn33", "torn44", "torn55", "torn66", "torn77",
+    "torn88", "torn99", "tornaa", "tornbb", "torncc", "torndd", "tornee", "tornff",
+];
+
+/// Two of them.
+const FEW: Picks = &["old", "torna5"];
+
+/// Behind so many device calls each script has ended.
+const MOST_CALLS: u64 = 64;
+
+/// Where the lies end, in units.
+const MOST_UNITS: u64 = 4_000;
+
+/// What was found, how often.
+#[derive(Clone, Copy, Drop)]
+pub struct Tally {
+    pub complete: u64,
+    pub possible_loss: u64,
+    pub wrong: u64,
+}
+
+impl Tally {
+    fn new() -> Tally {
+        Tally {
+            complete: 0,
+            possible_loss: 0,
+            wrong: 0,
+        }
+    }
+
+    fn count(&mut self, found: Result<Restored, Wrong>) {
+        let place = match found {
+            Ok(restored) => {
+                if restored.is_complete {
+                    &mut self.complete
+                } else {
+                    &mut self.possible_loss
+                }
+            }
+            Err(_) => &mut self.wrong,
+        };
+        *place = place.saturating_add(1);
+    }
+}
+
+/// The trials of a profile.
+#[derive(Drop)]
+pub struct Trials<'p> {
+    alloc: Global,
+    profile: &'p Profile,
+}
+
+impl<'p> Trials<'p> {
+    /// Of this profile.
+    pub fn new(alloc: Global, profile: &'p Profile) -> Trials<'p> {
+        Trials { alloc, profile }
+    }
+
+    /// What a script answers.
+    pub fn answers(&self, script: &str) -> anyhow::Result<String> {
+        let mut bytes = Vec::new(self.alloc);
+        let _device = run_on_maps(self.alloc, self.profile, script.as_bytes(), &mut bytes)?;
+        Ok(String::from_utf8(bytes)?)
+    }
+
+    // Runs a script to its end, restores what it left by each pick, and counts what was found. Answers whether a call of the
+    // device failed.
+    fn restore(
+        &self,
+        script: &str,
+        picks: Picks,
+        honest: bool,
+        tally: &mut Tally,
+    ) -> anyhow::Result<bool> {
+        let mut has_failed = false;
+        for pick in picks {
+            let whole = format!(in self.alloc;
+                "{script}restore {pick}\nread 0\nread 1\nread 127\n"
+            )?;
+            let answers = self.answers(&whole)?;
+            let ledger = Ledger::of(self.alloc, script, &answers)?;
+            tally.count(judged(&ledger, &answers, honest));
+            has_failed = has_failed || answers.contains("fault ");
+        }
+        Ok(has_failed)
+    }
+
+    /// Behind `format` the device fails from each of its calls on.
+    pub fn stops(&self, text: &str) -> anyhow::Result<Tally> {
+        let mut tally = Tally::new();
+        for calls in 0..MOST_CALLS {
+            let script = format!(in self.alloc; "format\nfuse {calls}\n{text}")?;
+            if !self.restore(&script, PICKS, false, &mut tally)? {
+                break;
+            }
+        }
+        Ok(tally)
+    }
+
+    /// Mains are lost after each line, and the gauge told the truth.
+    pub fn losses(&self, text: &str) -> anyhow::Result<Tally> {
+        let mut tally = Tally::new();
+        let mut begun = format!(in self.alloc; "format\n")?;
+        for line in text.split_inclusive('\n') {
+            begun.push_str(line)?;
+            let script = format!(in self.alloc; "{begun}lose\n")?;
+            let _failed = self.restore(&script, PICKS, true, &mut tally)?;
+        }
+        Ok(tally)
+    }
+
+    // Mains are lost, and the gauge has less than it told: each number of units, so many apart.
+    fn lie(&self, begun: &str, unit: u64, apart: u64, tally: &mut Tally) -> anyhow::Result<()> {
+        for units in 0..=MOST_UNITS {
+            if units.checked_rem(apart) == Some(0) {
+                let lie = units.wrapping_mul(unit);
+                let script = format!(in self.alloc; "{begun}lie {lie}\nlose\n")?;
+                let _failed = self.restore(&script, FEW, false, tally)?;
+            }
+        }
+        Ok(())
+    }
+
+    /// Mains are lost after each line, and the gauge has less than it told, so many units apart.
+    pub fn lies(&self, text: &str, unit: u64, apart: u64) -> anyhow::Result<Tally> {
+        let mut tally = Tally::new();
+        let mut begun = format!(in self.alloc; "format\n")?;
+        for line in text.split_inclusive('\n') {
+            begun.push_str(line)?;
+            self.lie(&begun, unit, apart, &mut tally)?;
+        }
+        Ok(tally)
+    }
+}
