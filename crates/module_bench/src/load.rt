@@ -18,8 +18,8 @@ const SAVE_TURNS: u64 = 1 << 20;
 /// A module, its device and its gauge.
 #[derive(Drop)]
 pub struct Load<C: Channels, D: SaveDevice> {
-    running: Module<C>,
-    device: D,
+    pub(crate) running: Module<C>,
+    pub(crate) device: D,
     gauge: Meter,
     channels: u64,
     ghost counted: { channels ≡ (setup_of C.Channels running).shape.channels },

@@ -19,6 +19,8 @@ mod opening;
 mod picks;
 mod plain;
 mod rounds;
+#[cfg(test)]
+mod tests;
 
 use crate::rounds::{Amount, Nanos, Tally, module_rounds, plain_rounds};
 use ddr4_timing::place::Place;

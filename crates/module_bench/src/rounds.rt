@@ -111,8 +111,8 @@ impl Nanos {
     }
 }
 
-// A device in memory, whose newest image has zero lines.
-fn formatted(alloc: Global, checked: &Checked) -> anyhow::Result<MemoryDevice> {
+/// A device in memory, whose newest image has zero lines.
+pub fn formatted(alloc: Global, checked: &Checked) -> anyhow::Result<MemoryDevice> {
     let lines = capacity_of(checked)?;
     let bytes = Vec::from_elem(alloc, 0, device_size(lines))?;
     let mut device = MemoryDevice::new(alloc, bytes)?;
