@@ -23,7 +23,7 @@ use interleave_map::lines;
 use interleave_map::map::Map;
 use line_channels::Drainable;
 use line_memory::{Line, Write};
-use module_core::{Accepted, Event, Loss, Reply, StepReply};
+use module_core::{Accepted, Event, Loss, Reply, StepReply, WriteRefusal};
 use notice_book::{Notice, NoticeBook, Persisted};
 use save_device::{MemoryDevice, SaveDevice};
 use slot_store::{Step, Verdict, restore};
@@ -40,6 +40,7 @@ const LINES: usize = 128;
 enum Case {
     Save,
     Loss,
+    Turn,
     Notices,
 }
 
@@ -74,21 +75,26 @@ fn image_of<D: SaveDevice>(alloc: Global, device: &mut D) -> Result<Image, Fail>
     })
 }
 
-// What a module answers to a list of events, on a gauge of this level.
-fn replies<C: Drainable + Drop>(
+// A module answers a list of events so, on a gauge of this level, and leaves this image.
+fn answers_with<C: Drainable + Drop>(
+    rt: &impl Abort,
     alloc: Global,
     load: &mut Load<C, MemoryDevice>,
-    events: &[Event],
     level: u64,
-) -> Result<Vec<Reply>, Fail>
+    events: &[Event],
+    replies: &[Reply],
+    image: Image,
+) -> Result<(), Fail>
     requires reaches { C.reaches }
     requires channels { All (IsForChannels C.Channels load.old.running) events.now }
 {
     let mut gauge = Meter::with(level, 1);
-    Ok(
-        load.running
-            .run(alloc, events, &mut load.device, &mut gauge)?,
-    )
+    let answers = load
+        .running
+        .run(alloc, events, &mut load.device, &mut gauge)?;
+    assert_eq!(rt; answers.as_slice(), replies);
+    assert_eq!(rt; image_of(alloc, &mut load.device)?, image);
+    Ok(())
 }
 
 const SAVE: [Event; 10] = [
@@ -131,8 +137,6 @@ fn save_at_once<C: Drainable + Drop>(
 ) -> Result<(), Fail>
     requires { C.reaches }
 {
-    let answers = replies(alloc, load, &SAVE, 0)?;
-    assert_eq!(rt; answers.as_slice(), SAVE_REPLIES.as_slice());
     let image = Image {
         generation: 2,
         count: 0,
@@ -140,8 +144,7 @@ fn save_at_once<C: Drainable + Drop>(
         first: 0,
         last: 0,
     };
-    assert_eq!(rt; image_of(alloc, &mut load.device)?, image);
-    Ok(())
+    answers_with(rt, alloc, load, 0, &SAVE, &SAVE_REPLIES, image)
 }
 
 const LOSS: [Event; 5] = [
@@ -176,8 +179,6 @@ fn lose_at_once<C: Drainable + Drop>(
 ) -> Result<(), Fail>
     requires { C.reaches }
 {
-    let answers = replies(alloc, load, &LOSS, 9000)?;
-    assert_eq!(rt; answers.as_slice(), LOSS_REPLIES.as_slice());
     let image = Image {
         generation: 2,
         count: 2,
@@ -185,8 +186,44 @@ fn lose_at_once<C: Drainable + Drop>(
         first: 0x11,
         last: 0x22,
     };
-    assert_eq!(rt; image_of(alloc, &mut load.device)?, image);
-    Ok(())
+    answers_with(rt, alloc, load, 9000, &LOSS, &LOSS_REPLIES, image)
+}
+
+const TURN: [Event; 5] = [
+    Event::Arm,
+    Event::SaveBegin,
+    Event::SaveStep,
+    Event::Write(Write {
+        line: 0,
+        data: [0x11; 64],
+    }),
+    Event::SaveStep,
+];
+
+const TURN_REPLIES: [Reply; 5] = [
+    Reply::Arm(Ok(ArmReply::Armed)),
+    Reply::SaveBegin(Ok(())),
+    Reply::SaveStep(StepReply::Turned),
+    Reply::Write(Err(WriteRefusal::Disarming)),
+    Reply::SaveStep(StepReply::Did(Step::Close)),
+];
+
+// A gauge that shows just enough to arm, and a unit less at the first step of a save.
+fn turn_at_once<C: Drainable + Drop>(
+    rt: &impl Abort,
+    alloc: Global,
+    load: &mut Load<C, MemoryDevice>,
+) -> Result<(), Fail>
+    requires { C.reaches }
+{
+    let image = Image {
+        generation: 1,
+        count: 0,
+        verdict: Verdict::PossibleLoss { after: 0 },
+        first: 0,
+        last: 0,
+    };
+    answers_with(rt, alloc, load, 3341, &TURN, &TURN_REPLIES, image)
 }
 
 fn save_three_writes<C: Drainable + Drop>(load: &mut Load<C, MemoryDevice>) -> Result<u64, Fail>
@@ -253,6 +290,7 @@ fn try_case<M: LineMap, P: Places>(
     match case {
         Case::Save => save_at_once(rt, alloc, &mut load),
         Case::Loss => lose_at_once(rt, alloc, &mut load),
+        Case::Turn => turn_at_once(rt, alloc, &mut load),
         Case::Notices => notify_of_a_save(rt, alloc, &mut load),
     }
 }
@@ -279,6 +317,11 @@ fn a_save_as_one_run(rt: HostRuntime) -> Result<(), Fail> {
 #[test]
 fn a_loss_as_one_run(rt: HostRuntime) -> Result<(), Fail> {
     by_lines(&rt, rt.alloc(), TINY.check(&SMALL)?, Case::Loss)
+}
+
+#[test]
+fn a_low_reading_before_a_step(rt: HostRuntime) -> Result<(), Fail> {
+    by_lines(&rt, rt.alloc(), TINY.check(&SMALL)?, Case::Turn)
 }
 
 #[test]
