@@ -20,8 +20,8 @@ const SAVE_TURNS: u64 = 1 << 20;
 pub struct Load<C: Channels, D: SaveDevice> {
     pub(crate) running: Module<C>,
     pub(crate) device: D,
-    gauge: Meter,
-    channels: u64,
+    pub(crate) gauge: Meter,
+    pub(crate) channels: u64,
     ghost counted: { channels ≡ (setup_of C.Channels running).shape.channels },
     ghost sized: { HasDevice C.Channels running (D.state device) },
 }

@@ -5,7 +5,7 @@
 //!
 //! Lines are written and read in a pseudo-random order. A write that finds its channel full works the channel until it isn't, and
 //! a read that has to wait works its channel until it has its bytes. A save writes a whole image to a device in memory, and a
-//! restore begins a memory with it.
+//! restore begins a memory with it. An armed module writes as much again, and loses the mains with full queues.
 #![tactic(auto)]
 
 ghost use Rattle.std.specs.Prelude.{◌≡◌, ◌<◌};
@@ -13,6 +13,7 @@ ghost use Rattle.ddr4_timing.specs.Limits.{lines_of};
 ghost use Rattle.ddr4_timing.specs.Places.{LiesIn};
 ghost use Rattle.interleave_map.specs.Interleaving.{place_by_lines, line_by_lines};
 
+mod armed;
 mod load;
 mod measured;
 mod opening;
@@ -22,6 +23,7 @@ mod rounds;
 #[cfg(test)]
 mod tests;
 
+use crate::armed::{Armed, armed_life};
 use crate::rounds::{Amount, Nanos, Tally, module_rounds, plain_rounds};
 use ddr4_timing::place::Place;
 use ddr4_timing::profiles::{SMALL, TINY, WIDEST};
@@ -32,8 +34,8 @@ use interleave_map::map::Map;
 use std::env;
 use std::marker::Brand;
 
-// The rounds of a module over the map `lines`.
-fn by_lines(rt: &HostRuntime, checked: Checked, amount: Amount) -> anyhow::Result<Tally> {
+// The rounds of a module over the map `lines`, and an armed life of one.
+fn by_lines(rt: &HostRuntime, checked: Checked, amount: Amount) -> anyhow::Result<(Tally, Armed)> {
     let split = move |line: u64| -> Place
         requires { line < lines_of checked.geometry }
         ensures { result ≡ place_by_lines checked.geometry line }
@@ -43,7 +45,9 @@ fn by_lines(rt: &HostRuntime, checked: Checked, amount: Amount) -> anyhow::Resul
         ensures { result ≡ line_by_lines checked.geometry place }
     { lines::join(&checked, place) };
     let map = Map::new(split, join, &checked);
-    module_rounds::<_, Brand>(rt, &map, &checked, amount)
+    let tally = module_rounds::<_, Brand>(rt, &map, &checked, amount)?;
+    let armed = armed_life::<_, Brand>(rt, &map, &checked, amount.each)?;
+    Ok((tally, armed))
 }
 
 // How many a second.
@@ -97,12 +101,35 @@ fn show(
     Ok(())
 }
 
+// What an armed life saved at its end, and where it is wanted how fast it was.
+fn show_armed(rt: &HostRuntime, trial: &Trial<'_>, armed: &Armed) -> anyhow::Result<()> {
+    let Armed {
+        waiting,
+        generation,
+        count,
+        ..
+    } = armed;
+    println!(rt;
+        "{} armed: {waiting} writes waited, saved generation {generation} of {count} writes",
+        trial.name
+    )?;
+    if trial.timed {
+        let writes = rate(trial.amount.each, armed.writes);
+        println!(rt;
+            "    {writes} writes a second, a loss in {} nanoseconds",
+            armed.loss
+        )?;
+    }
+    Ok(())
+}
+
 // A module and a plain array of one geometry.
 fn compare(rt: &HostRuntime, trial: &Trial<'_>) -> anyhow::Result<()> {
     let checked = TINY.check(&trial.geometry)?;
     let lines = line_count(&checked);
-    let module = by_lines(rt, checked, trial.amount)?;
+    let (module, armed) = by_lines(rt, checked, trial.amount)?;
     show(rt, trial, "module", &module, lines)?;
+    show_armed(rt, trial, &armed)?;
     let plain = plain_rounds(rt, &checked, trial.amount)?;
     show(rt, trial, "plain", &plain, lines)
 }

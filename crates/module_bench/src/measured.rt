@@ -17,6 +17,10 @@ pub enum Stall {
     Save,
     #[error("idle")]
     Idle,
+    #[error("not armed")]
+    Arm,
+    #[error("nothing saved on backup")]
+    Loss,
     #[error("not there in time")]
     Turns,
 }

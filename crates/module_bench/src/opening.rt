@@ -17,7 +17,7 @@ use slot_store::{device_size, restore};
 use std::alloc::Global;
 
 /// How many writes may wait in a channel, and how many of its reads may be open.
-const DEPTH: usize = 64;
+pub const DEPTH: usize = 64;
 
 /// How many writes a module may accept.
 const TRAIL: u64 = 1 << 40;

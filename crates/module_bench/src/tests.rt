@@ -26,7 +26,7 @@ use line_memory::{Line, Write};
 use module_core::{Accepted, Event, Loss, Reply, StepReply, WriteRefusal};
 use notice_book::{Notice, NoticeBook, Persisted};
 use save_device::{MemoryDevice, SaveDevice};
-use slot_store::{Step, Verdict, restore};
+use slot_store::{Step, Verdict, format, restore};
 use std::alloc::Global;
 use std::marker::Brand;
 use std::process::Abort;
@@ -42,6 +42,7 @@ enum Case {
     Loss,
     Turn,
     Notices,
+    SecondWriter,
 }
 
 /// What a device restores to.
@@ -274,6 +275,28 @@ fn notify_of_a_save<C: Drainable + Drop>(
     Ok(())
 }
 
+// Another writer formats the device of a life that goes on: what was told persistent is gone, and no verdict tells it.
+fn write_behind_its_back<C: Drainable + Drop>(
+    rt: &impl Abort,
+    alloc: Global,
+    load: &mut Load<C, MemoryDevice>,
+) -> Result<(), Fail>
+    requires { C.reaches }
+{
+    assert_eq!(rt; save_three_writes(load)?, 2);
+    assert_eq!(rt; load.running.mark(), 3);
+    format(&mut load.device, LINES)?;
+    let image = Image {
+        generation: 1,
+        count: 0,
+        verdict: Verdict::Complete,
+        first: 0,
+        last: 0,
+    };
+    assert_eq!(rt; image_of(alloc, &mut load.device)?, image);
+    Ok(())
+}
+
 // Tries a case on a module over this map.
 fn try_case<M: LineMap, P: Places>(
     rt: &impl Abort,
@@ -292,6 +315,7 @@ fn try_case<M: LineMap, P: Places>(
         Case::Loss => lose_at_once(rt, alloc, &mut load),
         Case::Turn => turn_at_once(rt, alloc, &mut load),
         Case::Notices => notify_of_a_save(rt, alloc, &mut load),
+        Case::SecondWriter => write_behind_its_back(rt, alloc, &mut load),
     }
 }
 
@@ -327,4 +351,9 @@ fn a_low_reading_before_a_step(rt: HostRuntime) -> Result<(), Fail> {
 #[test]
 fn notices_after_a_save(rt: HostRuntime) -> Result<(), Fail> {
     by_lines(&rt, rt.alloc(), TINY.check(&SMALL)?, Case::Notices)
+}
+
+#[test]
+fn a_second_writer(rt: HostRuntime) -> Result<(), Fail> {
+    by_lines(&rt, rt.alloc(), TINY.check(&SMALL)?, Case::SecondWriter)
 }

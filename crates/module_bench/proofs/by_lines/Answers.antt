@@ -16,3 +16,8 @@ pub module_rounds-requires : goal.module_rounds-requires
 module_rounds-requires c = record {
   places = has_places c.args.checked.geometry c.new-map.result.geometry c.args.checked.is_small c.new-map.ensures.lawful (search rules) (search rules) (search rules);
 }
+
+pub armed_life-requires : goal.armed_life-requires
+armed_life-requires c = record {
+  places = has_places c.args.checked.geometry c.new-map.result.geometry c.args.checked.is_small c.new-map.ensures.lawful (search rules) (search rules) (search rules);
+}
