@@ -26,7 +26,7 @@ use line_memory::{Line, Write};
 use module_core::{Accepted, Event, Loss, Reply, StepReply, WriteRefusal};
 use notice_book::{Notice, NoticeBook, Persisted};
 use save_device::{MemoryDevice, SaveDevice};
-use slot_store::{Step, Verdict, format, restore};
+use slot_store::{Step, Verdict, device_size, format, restore};
 use std::alloc::Global;
 use std::marker::Brand;
 use std::process::Abort;
@@ -285,6 +285,9 @@ fn write_behind_its_back<C: Drainable + Drop>(
 {
     assert_eq!(rt; save_three_writes(load)?, 2);
     assert_eq!(rt; load.running.mark(), 3);
+    if load.device.len() != device_size(LINES) {
+        return Err("another device".into());
+    }
     format(&mut load.device, LINES)?;
     let image = Image {
         generation: 1,
