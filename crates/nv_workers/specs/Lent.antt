@@ -1,5 +1,5 @@
 -- What lies behind the lock, as contracts see it.
-use Rattle.std.specs.Prelude.{◌≡◌, ◌+◌, ◌≤◌}
+use Rattle.std.specs.Prelude.{◌≡◌, ℕ, ◌+◌, ◌≤◌}
 use Rattle.atomic_table.specs.Seated.{TableId}
 use Rattle.mark_board.specs.SeenMarks.{SeenMarks, seen_marks}
 use Rattle.save_device.specs.Device.{DeviceState}
@@ -11,6 +11,10 @@ use Rattle.module_core.specs.declared.events.Event.{Event}
 use Rattle.module_core.specs.declared.events.Reply.{Reply}
 use Rattle.module_core.specs.State.{Machine}
 use Rattle.module_core.specs.Stands.{Stands, Answers, HasDevice}
+
+-- an accepted write of this number, with this mark
+abbrev pub told_at : ℕ → ℕ → Accepted
+told_at number mark = record { number = number; mark = mark }
 
 module _ {C : Type 0} (L : Ghosts C) where
   -- the module, and what is known of its device and of its gauge

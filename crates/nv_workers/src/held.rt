@@ -83,7 +83,8 @@ impl<C: Channels, D: SaveDevice, E: Energy, B: Room> Held<C, D, E, B> {
             (Event.Write write) (Reply.Write result) self.old self.new }
         ensures device { self.new.device ≡ self.old.device }
         ensures energy { self.new.energy ≡ self.old.energy }
-        ensures setup { setup_of C.Channels self.new.running ≡ setup_of C.Channels self.old.running }
+        ensures setup { setup_of C.Channels self.new.running
+            ≡ setup_of C.Channels self.old.running }
         ensures counted { IfOk result (λ accepted.
             IsCounted C.Channels accepted self.old.running self.new.running) }
         ensures seen { host.new ≡ marks_of C.Channels B.board self.new.running }
@@ -103,7 +104,8 @@ impl<C: Channels, D: SaveDevice, E: Energy, B: Room> Held<C, D, E, B> {
             (Event.Read line) (Reply.Read result.0) self.old self.new }
         ensures device { self.new.device ≡ self.old.device }
         ensures energy { self.new.energy ≡ self.old.energy }
-        ensures setup { setup_of C.Channels self.new.running ≡ setup_of C.Channels self.old.running }
+        ensures setup { setup_of C.Channels self.new.running
+            ≡ setup_of C.Channels self.old.running }
         ensures at { result.1 ≡ self.old.running.accepted }
         ensures seen { host.new ≡ marks_of C.Channels B.board self.old.running }
         ensures rises { IsNotAbove host.old host.new }
@@ -120,7 +122,8 @@ impl<C: Channels, D: SaveDevice, E: Energy, B: Room> Held<C, D, E, B> {
             (Event.Collect ticket) (Reply.Collect result) self.old self.new }
         ensures device { self.new.device ≡ self.old.device }
         ensures energy { self.new.energy ≡ self.old.energy }
-        ensures setup { setup_of C.Channels self.new.running ≡ setup_of C.Channels self.old.running }
+        ensures setup { setup_of C.Channels self.new.running
+            ≡ setup_of C.Channels self.old.running }
     {
         self.running.collect(ticket)
     }
@@ -132,7 +135,8 @@ impl<C: Channels, D: SaveDevice, E: Energy, B: Room> Held<C, D, E, B> {
             (Event.Work channel) (Reply.Work result) self.old self.new }
         ensures device { self.new.device ≡ self.old.device }
         ensures energy { self.new.energy ≡ self.old.energy }
-        ensures setup { setup_of C.Channels self.new.running ≡ setup_of C.Channels self.old.running }
+        ensures setup { setup_of C.Channels self.new.running
+            ≡ setup_of C.Channels self.old.running }
     {
         self.running.work(channel)
     }
@@ -142,7 +146,8 @@ impl<C: Channels, D: SaveDevice, E: Energy, B: Room> Held<C, D, E, B> {
         ensures steps { Steps C.Channels D.SaveDevice E.Energy B.Room
             Event.Sense (Reply.Sense result) self.old self.new }
         ensures device { self.new.device ≡ self.old.device }
-        ensures setup { setup_of C.Channels self.new.running ≡ setup_of C.Channels self.old.running }
+        ensures setup { setup_of C.Channels self.new.running
+            ≡ setup_of C.Channels self.old.running }
     {
         let reply = self.running.sense(&mut self.energy);
         publish(&self.marks, &mut self.seat, &self.running);
@@ -153,7 +158,8 @@ impl<C: Channels, D: SaveDevice, E: Energy, B: Room> Held<C, D, E, B> {
     pub fn arm(&mut self) -> Result<ArmReply, ArmRefusal>
         ensures steps { Steps C.Channels D.SaveDevice E.Energy B.Room
             Event.Arm (Reply.Arm result) self.old self.new }
-        ensures setup { setup_of C.Channels self.new.running ≡ setup_of C.Channels self.old.running }
+        ensures setup { setup_of C.Channels self.new.running
+            ≡ setup_of C.Channels self.old.running }
     {
         let reply = self.running.arm(&mut self.device, &mut self.energy);
         publish(&self.marks, &mut self.seat, &self.running);
@@ -166,7 +172,8 @@ impl<C: Channels, D: SaveDevice, E: Energy, B: Room> Held<C, D, E, B> {
             Event.Disarm (Reply.Disarm result) self.old self.new }
         ensures device { self.new.device ≡ self.old.device }
         ensures energy { self.new.energy ≡ self.old.energy }
-        ensures setup { setup_of C.Channels self.new.running ≡ setup_of C.Channels self.old.running }
+        ensures setup { setup_of C.Channels self.new.running
+            ≡ setup_of C.Channels self.old.running }
     {
         let reply = self.running.disarm();
         publish(&self.marks, &mut self.seat, &self.running);
@@ -179,7 +186,8 @@ impl<C: Channels, D: SaveDevice, E: Energy, B: Room> Held<C, D, E, B> {
             Event.SaveBegin (Reply.SaveBegin result) self.old self.new }
         ensures device { self.new.device ≡ self.old.device }
         ensures energy { self.new.energy ≡ self.old.energy }
-        ensures setup { setup_of C.Channels self.new.running ≡ setup_of C.Channels self.old.running }
+        ensures setup { setup_of C.Channels self.new.running
+            ≡ setup_of C.Channels self.old.running }
     {
         let reply = self.running.save_begin();
         publish(&self.marks, &mut self.seat, &self.running);
@@ -191,7 +199,8 @@ impl<C: Channels, D: SaveDevice, E: Energy, B: Room> Held<C, D, E, B> {
         requires { C.reaches }
         ensures steps { Steps C.Channels D.SaveDevice E.Energy B.Room
             Event.SaveStep (Reply.SaveStep result) self.old self.new }
-        ensures setup { setup_of C.Channels self.new.running ≡ setup_of C.Channels self.old.running }
+        ensures setup { setup_of C.Channels self.new.running
+            ≡ setup_of C.Channels self.old.running }
     {
         let reply = self.running.save_step(&mut self.device, &mut self.energy);
         publish(&self.marks, &mut self.seat, &self.running);
@@ -208,7 +217,8 @@ impl<C: Drainable, D: SaveDevice, E: Energy, B: Room> Held<C, D, E, B> {
         requires { C.reaches }
         ensures steps { Steps C.Channels D.SaveDevice E.Energy B.Room
             Event.Lose (Reply.Lose result) self.old self.new }
-        ensures setup { setup_of C.Channels self.new.running ≡ setup_of C.Channels self.old.running }
+        ensures setup { setup_of C.Channels self.new.running
+            ≡ setup_of C.Channels self.old.running }
     {
         let reply = self.running.power_loss(&mut self.device, &mut self.energy);
         publish(&self.marks, &mut self.seat, &self.running);
