@@ -1,0 +1,17 @@
+use Rattle.std.proofs.Common.{refl}
+use Rattle.module_core.specs.declared.events.Event.TheVariants as events
+use Rattle.module_core.specs.declared.events.Reply.TheVariants as replies
+use Rattle.nv_workers.specs.Lent.{Lent, lent}
+use Rattle.nv_workers.proofs.Holding.{same_size}
+use Rattle.nv_workers.proofs.Quiet.{keeps_quiet, collect_is_quiet}
+use Rattle.nv_workers.proofs.held.Held.collect.Goals as goal
+
+pub invariant_of-self : goal.invariant_of-self
+invariant_of-self g c =
+    let L = g.C.Channels in let it = c.args.self.now in
+    let old : Lent L = lent L it.running (g.D.SaveDevice.state it.device) (g.E.Energy.gauge it.energy) in
+    let new : Lent L = lent L c.collect.new.self (g.D.SaveDevice.state it.device) (g.E.Energy.gauge it.energy) in
+    record {
+      board = it.board;
+      held = keeps_quiet L g.B.Room.board it.seat _ (events.Collect c.args.ticket) (replies.Collect c.collect.result) old new (collect_is_quiet c.args.ticket c.collect.result) it.held (c.collect.ensures.answers (g.D.SaveDevice.state it.device) (g.E.Energy.gauge it.energy)) (same_size L it.running c.collect.new.self (g.D.SaveDevice.state it.device) it.held.size c.collect.ensures.setup) refl;
+    }

@@ -1,0 +1,23 @@
+use Rattle.std.proofs.Common.{◌∙◌}
+use Rattle.module_core.specs.declared.events.Event.TheVariants as events
+use Rattle.module_core.specs.declared.events.Reply.TheVariants as replies
+use Rattle.nv_workers.specs.Lent.{Lent, lent}
+use Rattle.nv_workers.proofs.Holding.{falls_behind, keeps_held}
+use Rattle.nv_workers.proofs.held.Held.power_loss.Goals as goal
+
+pub publish-requires-clause-behind : goal.publish-requires-clause-behind
+publish-requires-clause-behind g c =
+    let L = g.C.Channels in let it = c.args.self.now in
+    let old : Lent L = lent L it.running (g.D.SaveDevice.state it.device) (g.E.Energy.gauge it.energy) in
+    let new : Lent L = lent L c.power_loss-reply.new.self (g.D.SaveDevice.state c.power_loss-reply.new.device) (g.E.Energy.gauge c.power_loss-reply.new.energy) in
+    falls_behind L g.B.Room.board it.seat events.Lose (replies.Lose c.power_loss-reply.result) old new it.held c.power_loss-reply.ensures.answers
+
+pub invariant_of-self : goal.invariant_of-self
+invariant_of-self g c =
+    let L = g.C.Channels in let it = c.args.self.now in
+    let old : Lent L = lent L it.running (g.D.SaveDevice.state it.device) (g.E.Energy.gauge it.energy) in
+    let new : Lent L = lent L c.power_loss-reply.new.self (g.D.SaveDevice.state c.power_loss-reply.new.device) (g.E.Energy.gauge c.power_loss-reply.new.energy) in
+    record {
+      board = it.board;
+      held = keeps_held L g.B.Room.board _ it.seat _ events.Lose (replies.Lose c.power_loss-reply.result) old new it.held c.power_loss-reply.ensures.answers c.power_loss-reply.ensures.size (c.deref.ensures ∙ it.board) c.publish.ensures;
+    }

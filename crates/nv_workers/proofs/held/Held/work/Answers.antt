@@ -1,0 +1,17 @@
+use Rattle.std.proofs.Common.{refl}
+use Rattle.module_core.specs.declared.events.Event.TheVariants as events
+use Rattle.module_core.specs.declared.events.Reply.TheVariants as replies
+use Rattle.nv_workers.specs.Lent.{Lent, lent}
+use Rattle.nv_workers.proofs.Holding.{same_size}
+use Rattle.nv_workers.proofs.Quiet.{keeps_quiet, work_is_quiet}
+use Rattle.nv_workers.proofs.held.Held.work.Goals as goal
+
+pub invariant_of-self : goal.invariant_of-self
+invariant_of-self g c =
+    let L = g.C.Channels in let it = c.args.self.now in
+    let old : Lent L = lent L it.running (g.D.SaveDevice.state it.device) (g.E.Energy.gauge it.energy) in
+    let new : Lent L = lent L c.work.new.self (g.D.SaveDevice.state it.device) (g.E.Energy.gauge it.energy) in
+    record {
+      board = it.board;
+      held = keeps_quiet L g.B.Room.board it.seat _ (events.Work c.args.channel) (replies.Work c.work.result) old new (work_is_quiet c.args.channel c.work.result) it.held (c.work.ensures.answers (g.D.SaveDevice.state it.device) (g.E.Energy.gauge it.energy)) (same_size L it.running c.work.new.self (g.D.SaveDevice.state it.device) it.held.size c.work.ensures.setup) refl;
+    }

@@ -1,0 +1,15 @@
+-- What a host is to its callers.
+use Rattle.std.specs.Prelude.{ℕ, ◌≤◌}
+
+-- how many writes a host has seen to be accepted, and how many to be persistent
+pub record Client : Type 0 where
+  pub accepted : ℕ
+  pub persisted : ℕ
+
+abbrev pub client : ℕ → ℕ → Client
+client accepted persisted = record { accepted = accepted; persisted = persisted }
+
+-- what a host has seen never goes back
+pub record Rises (old new : Client) : Type 0 where
+  pub accepted : old.accepted ≤ new.accepted
+  pub persisted : old.persisted ≤ new.persisted

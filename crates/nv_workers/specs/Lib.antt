@@ -1,0 +1,4 @@
+pub mod Boards
+pub mod Client
+pub mod Lent
+pub mod Steps

@@ -1,0 +1,227 @@
+// What lies behind the lock.
+ghost use Rattle.std.specs.Prelude.{◌≡◌, IfOk};
+ghost use Rattle.mark_board.specs.SeenMarks.{IsNotAbove};
+ghost use Rattle.std.specs.Arc.{arc_value};
+ghost use Rattle.nv_workers.specs.Lent.{IsBehind, IsCounted, IsHeld, StandsForSome, lent, marks_of};
+
+use crate::room::Room;
+use arm_state::{ArmRefusal, ArmReply, DisarmReply};
+use energy_budget::Energy;
+use line_channels::{Channels, Collected, Done, Drainable, Got, Ticket};
+use line_memory::Write;
+use mark_board::{BoardSeat, HostSeat, MarkBoard};
+use module_core::{Accepted, Event, Loss, Module, ReadRefusal, Reply, StepReply, WriteRefusal};
+use save_device::SaveDevice;
+use std::alloc::Global;
+use std::marker::PhantomData;
+use std::sync::Arc;
+
+/// The module, its device, its gauge, and the seat that moves the marks, which are the module's two numbers.
+#[derive(Drop)]
+pub struct Held<C: Channels, D: SaveDevice, E: Energy, B: Room> {
+    pub(crate) running: Module<C>,
+    pub(crate) device: D,
+    pub(crate) energy: E,
+    pub(crate) marks: Arc<MarkBoard, Global>,
+    pub(crate) seat: BoardSeat,
+    of: PhantomData<B>,
+    ghost board: { arc_value marks ≡ B.board },
+    ghost held: { IsHeld C.Channels B.board
+        (lent C.Channels running (D.state device) (E.gauge energy)) seat },
+}
+
+// The marks follow the module.
+fn publish<C: Channels>(marks: &MarkBoard, seat: &mut BoardSeat, running: &Module<C>)
+    requires board { seat.old.board ≡ marks.now }
+    requires behind { IsBehind C.Channels running.now seat.old }
+    ensures { seat.new ≡ marks_of C.Channels marks.now running.now }
+{
+    seat.accept(marks, running.accepted());
+    seat.raise(marks, running.mark());
+}
+
+impl<C: Channels, D: SaveDevice, E: Energy, B: Room> Held<C, D, E, B> {
+    ghost use Rattle.nv_workers.specs.Steps.{Steps};
+    ghost use Rattle.module_core.specs.Stands.{HasDevice, IsChannel, setup_of};
+
+    /// Puts a module together with its device, its gauge and the seat of the board that shows its two numbers.
+    pub fn new(
+        running: Module<C>,
+        device: D,
+        energy: E,
+        marks: Arc<MarkBoard, Global>,
+        seat: BoardSeat,
+    ) -> Held<C, D, E, B>
+        requires board { arc_value marks ≡ B.board }
+        requires seat { seat ≡ marks_of C.Channels B.board running }
+        requires stands { StandsForSome C.Channels
+            (lent C.Channels running (D.state device) (E.gauge energy)) }
+        requires size { HasDevice C.Channels running (D.state device) }
+        ensures running { result.running ≡ running }
+        ensures device { result.device ≡ device }
+        ensures energy { result.energy ≡ energy }
+    {
+        Held {
+            running,
+            device,
+            energy,
+            marks,
+            seat,
+            of: PhantomData,
+        }
+    }
+
+    /// Writes a line for a host, whose seat then sees the marks.
+    pub(crate) fn write(
+        &mut self,
+        host: &mut HostSeat,
+        write: Write,
+    ) -> Result<Accepted, WriteRefusal>
+        requires reaches { C.reaches }
+        requires host { host.old.board ≡ B.board }
+        ensures steps { Steps C.Channels D.SaveDevice E.Energy B.Room
+            (Event.Write write) (Reply.Write result) self.old self.new }
+        ensures device { self.new.device ≡ self.old.device }
+        ensures energy { self.new.energy ≡ self.old.energy }
+        ensures setup { setup_of C.Channels self.new.running
+            ≡ setup_of C.Channels self.old.running }
+        ensures counted { IfOk result (λ accepted.
+            IsCounted C.Channels accepted self.old.running self.new.running) }
+        ensures seen { host.new ≡ marks_of C.Channels B.board self.new.running }
+        ensures rises { IsNotAbove host.old host.new }
+    {
+        let reply = self.running.write(write);
+        publish(&self.marks, &mut self.seat, &self.running);
+        self.seat.inform(&self.marks, host);
+        reply
+    }
+
+    /// Reads a line for a host, whose seat then sees the marks. The number is how many writes were accepted before.
+    pub(crate) fn read(&mut self, host: &mut HostSeat, line: u64) -> (Result<Got, ReadRefusal>, u64)
+        requires reaches { C.reaches }
+        requires host { host.old.board ≡ B.board }
+        ensures steps { Steps C.Channels D.SaveDevice E.Energy B.Room
+            (Event.Read line) (Reply.Read result.0) self.old self.new }
+        ensures device { self.new.device ≡ self.old.device }
+        ensures energy { self.new.energy ≡ self.old.energy }
+        ensures setup { setup_of C.Channels self.new.running
+            ≡ setup_of C.Channels self.old.running }
+        ensures at { result.1 ≡ self.old.running.accepted }
+        ensures seen { host.new ≡ marks_of C.Channels B.board self.old.running }
+        ensures rises { IsNotAbove host.old host.new }
+    {
+        let at = self.running.accepted();
+        let reply = self.running.read(line);
+        self.seat.inform(&self.marks, host);
+        (reply, at)
+    }
+
+    /// What there is for a ticket; `Unknown` once mains were lost.
+    pub fn collect(&mut self, ticket: Ticket) -> Collected
+        ensures steps { Steps C.Channels D.SaveDevice E.Energy B.Room
+            (Event.Collect ticket) (Reply.Collect result) self.old self.new }
+        ensures device { self.new.device ≡ self.old.device }
+        ensures energy { self.new.energy ≡ self.old.energy }
+        ensures setup { setup_of C.Channels self.new.running
+            ≡ setup_of C.Channels self.old.running }
+    {
+        self.running.collect(ticket)
+    }
+
+    /// Issues one command of a channel, where mains are there and it has one.
+    pub fn work(&mut self, channel: u64) -> Option<Done>
+        requires { IsChannel C.Channels self.old.running channel }
+        ensures steps { Steps C.Channels D.SaveDevice E.Energy B.Room
+            (Event.Work channel) (Reply.Work result) self.old self.new }
+        ensures device { self.new.device ≡ self.old.device }
+        ensures energy { self.new.energy ≡ self.old.energy }
+        ensures setup { setup_of C.Channels self.new.running
+            ≡ setup_of C.Channels self.old.running }
+    {
+        self.running.work(channel)
+    }
+
+    /// Reads the gauge while disarmed or armed; while armed a low reading begins the disarming.
+    pub fn sense(&mut self) -> u64
+        ensures steps { Steps C.Channels D.SaveDevice E.Energy B.Room
+            Event.Sense (Reply.Sense result) self.old self.new }
+        ensures device { self.new.device ≡ self.old.device }
+        ensures setup { setup_of C.Channels self.new.running
+            ≡ setup_of C.Channels self.old.running }
+    {
+        let reply = self.running.sense(&mut self.energy);
+        publish(&self.marks, &mut self.seat, &self.running);
+        reply
+    }
+
+    /// Arms the module.
+    pub fn arm(&mut self) -> Result<ArmReply, ArmRefusal>
+        ensures steps { Steps C.Channels D.SaveDevice E.Energy B.Room
+            Event.Arm (Reply.Arm result) self.old self.new }
+        ensures setup { setup_of C.Channels self.new.running
+            ≡ setup_of C.Channels self.old.running }
+    {
+        let reply = self.running.arm(&mut self.device, &mut self.energy);
+        publish(&self.marks, &mut self.seat, &self.running);
+        reply
+    }
+
+    /// Begins the disarming of an armed module.
+    pub fn disarm(&mut self) -> Result<DisarmReply, ArmRefusal>
+        ensures steps { Steps C.Channels D.SaveDevice E.Energy B.Room
+            Event.Disarm (Reply.Disarm result) self.old self.new }
+        ensures device { self.new.device ≡ self.old.device }
+        ensures energy { self.new.energy ≡ self.old.energy }
+        ensures setup { setup_of C.Channels self.new.running
+            ≡ setup_of C.Channels self.old.running }
+    {
+        let reply = self.running.disarm();
+        publish(&self.marks, &mut self.seat, &self.running);
+        reply
+    }
+
+    /// Begins a save of all writes accepted so far.
+    pub fn save_begin(&mut self) -> Result<(), ArmRefusal>
+        ensures steps { Steps C.Channels D.SaveDevice E.Energy B.Room
+            Event.SaveBegin (Reply.SaveBegin result) self.old self.new }
+        ensures device { self.new.device ≡ self.old.device }
+        ensures energy { self.new.energy ≡ self.old.energy }
+        ensures setup { setup_of C.Channels self.new.running
+            ≡ setup_of C.Channels self.old.running }
+    {
+        let reply = self.running.save_begin();
+        publish(&self.marks, &mut self.seat, &self.running);
+        reply
+    }
+
+    /// Makes the coming step of the save that runs, after a reading of the gauge.
+    pub fn save_step(&mut self) -> StepReply
+        requires { C.reaches }
+        ensures steps { Steps C.Channels D.SaveDevice E.Energy B.Room
+            Event.SaveStep (Reply.SaveStep result) self.old self.new }
+        ensures setup { setup_of C.Channels self.new.running
+            ≡ setup_of C.Channels self.old.running }
+    {
+        let reply = self.running.save_step(&mut self.device, &mut self.energy);
+        publish(&self.marks, &mut self.seat, &self.running);
+        reply
+    }
+}
+
+impl<C: Drainable, D: SaveDevice, E: Energy, B: Room> Held<C, D, E, B> {
+    ghost use Rattle.nv_workers.specs.Steps.{Steps};
+    ghost use Rattle.module_core.specs.Stands.{setup_of};
+
+    /// Mains were lost: where acknowledged writes are to be saved, all accepted ones are.
+    pub fn power_loss(&mut self) -> Loss
+        requires { C.reaches }
+        ensures steps { Steps C.Channels D.SaveDevice E.Energy B.Room
+            Event.Lose (Reply.Lose result) self.old self.new }
+        ensures setup { setup_of C.Channels self.new.running
+            ≡ setup_of C.Channels self.old.running }
+    {
+        let reply = self.running.power_loss(&mut self.device, &mut self.energy);
+        publish(&self.marks, &mut self.seat, &self.running);
+        reply
+    }
+}

@@ -1,0 +1,223 @@
+// Who writes and reads.
+ghost use Rattle.std.specs.Prelude.{◌≡◌, ◌<◌, ◌≤◌, IfOk, IfErr, Ok, Err};
+ghost use Rattle.std.specs.Arc.{arc_value};
+ghost use Rattle.module_core.specs.Stands.{setup_of};
+ghost use Rattle.nv_workers.specs.Client.{Rises, client};
+ghost use Rattle.nv_workers.specs.Lent.{told_at};
+ghost use Rattle.nv_workers.specs.Steps.{Steps};
+
+use crate::board::Board;
+use crate::held::Held;
+use crate::room::Room;
+use energy_budget::Energy;
+use line_channels::{Channels, Got};
+use line_memory::{Line, Write};
+use mark_board::{HostSeat, MarkBoard};
+use module_core::{Event, ReadRefusal, Reply, WriteRefusal};
+use notice_book::Persisted;
+use save_device::SaveDevice;
+use std::alloc::Global;
+use std::marker::{Model, PhantomData};
+use std::sync::{Arc, Wait};
+
+/// A write that was accepted: its number, and what it wrote.
+#[derive(Clone, Copy, Debug, PartialEq, Eq)]
+pub struct Receipt {
+    pub number: u64,
+    pub line: u64,
+    pub data: Line,
+}
+
+/// A line as it was read after the first `at` accepted writes.
+#[derive(Clone, Copy, Debug, PartialEq, Eq)]
+pub struct Seen {
+    pub line: u64,
+    pub data: Line,
+    pub at: u64,
+}
+
+/// A write that isn't known to be persistent: its number, and the mark that was found.
+#[derive(Clone, Copy, Debug, PartialEq, Eq)]
+pub struct Behind {
+    pub seen: u64,
+    pub found: u64,
+}
+
+/// A host of one board. Contracts see the marks that it has seen.
+#[derive(Drop)]
+pub struct Host<B: Room> {
+    marks: Arc<MarkBoard, Global>,
+    seat: HostSeat,
+    of: PhantomData<B>,
+}
+
+impl<B: Room> Model for Host<B> {
+    ghost use Rattle.std.specs.Prelude.{◌≡◌};
+    ghost use Rattle.std.specs.Arc.{arc_value};
+    ghost use Rattle.nv_workers.specs.Client.{Client, client};
+
+    ghost Value = { Client };
+
+    ghost view = { λ h. client h.seat.accepted h.seat.persisted };
+
+    ghost invariant = { λ h. (arc_value h.marks ≡ B.board) × (h.seat.board ≡ B.board) };
+}
+
+impl<B: Room> Host<B> {
+    /// A host with a seat of the board.
+    pub fn new(marks: Arc<MarkBoard, Global>, seat: HostSeat) -> Host<B>
+        requires board { arc_value marks ≡ B.board }
+        requires seat { seat.board ≡ B.board }
+        ensures { result ≡ client seat.accepted seat.persisted }
+    {
+        Host {
+            marks,
+            seat,
+            of: PhantomData,
+        }
+    }
+
+    /// Writes a line at the module that is lent.
+    pub fn write_in<C: Channels, D: SaveDevice, E: Energy>(
+        &mut self,
+        held: &mut Held<C, D, E, B>,
+        write: Write,
+    ) -> Result<Receipt, WriteRefusal>
+        requires { C.reaches }
+        ensures ok { IfOk result (λ r. Steps C.Channels D.SaveDevice E.Energy B.Room
+            (Event.Write write) (Reply.Write (Ok (told_at r.number held.new.running.persisted)))
+            held.old held.new) }
+        ensures err { IfErr result (λ refusal. Steps C.Channels D.SaveDevice E.Energy B.Room
+            (Event.Write write) (Reply.Write (Err refusal)) held.old held.new) }
+        ensures number { IfOk result (λ r. r.number ≡ held.old.running.accepted) }
+        ensures line { IfOk result (λ r. r.line ≡ write.line) }
+        ensures data { IfOk result (λ r. r.data ≡ write.data) }
+        ensures seen { IfOk result (λ r. r.number < self.new.accepted) }
+        ensures rises { Rises self.old self.new }
+        ensures device { held.new.device ≡ held.old.device }
+        ensures energy { held.new.energy ≡ held.old.energy }
+        ensures setup { setup_of C.Channels held.new.running
+            ≡ setup_of C.Channels held.old.running }
+    {
+        let data = write.data;
+        match held.write(&mut self.seat, write) {
+            Ok(accepted) => Ok(Receipt {
+                number: accepted.number,
+                line: write.line,
+                data,
+            }),
+            Err(refusal) => Err(refusal),
+        }
+    }
+
+    /// Writes a line.
+    pub fn write<C: Channels, D: SaveDevice, E: Energy>(
+        &mut self,
+        rt: &impl Wait,
+        board: &Board<C, D, E, B>,
+        write: Write,
+    ) -> Result<Receipt, WriteRefusal>
+        requires { C.reaches }
+        ensures line { IfOk result (λ r. r.line ≡ write.line) }
+        ensures data { IfOk result (λ r. r.data ≡ write.data) }
+        ensures seen { IfOk result (λ r. r.number < self.new.accepted) }
+        ensures rises { Rises self.old self.new }
+    {
+        let mut held = board.held.lock(rt);
+        self.write_in(&mut *held, write)
+    }
+
+    /// Reads a line at the module that is lent. The number is how many writes were accepted before it.
+    pub fn read_in<C: Channels, D: SaveDevice, E: Energy>(
+        &mut self,
+        held: &mut Held<C, D, E, B>,
+        line: u64,
+    ) -> Result<(Got, u64), ReadRefusal>
+        requires { C.reaches }
+        ensures ok { IfOk result (λ r. Steps C.Channels D.SaveDevice E.Energy B.Room
+            (Event.Read line) (Reply.Read (Ok r.0)) held.old held.new) }
+        ensures err { IfErr result (λ refusal. Steps C.Channels D.SaveDevice E.Energy B.Room
+            (Event.Read line) (Reply.Read (Err refusal)) held.old held.new) }
+        ensures at { IfOk result (λ r. r.1 ≡ held.old.running.accepted) }
+        ensures seen { IfOk result (λ r. self.old.accepted ≤ r.1) }
+        ensures rises { Rises self.old self.new }
+        ensures device { held.new.device ≡ held.old.device }
+        ensures energy { held.new.energy ≡ held.old.energy }
+        ensures setup { setup_of C.Channels held.new.running
+            ≡ setup_of C.Channels held.old.running }
+    {
+        let (reply, at) = held.read(&mut self.seat, line);
+        match reply {
+            Ok(got) => Ok((got, at)),
+            Err(refusal) => Err(refusal),
+        }
+    }
+
+    /// Reads a line, and waits for the answer.
+    pub fn read<C: Channels, D: SaveDevice, E: Energy>(
+        &mut self,
+        rt: &impl Wait,
+        board: &Board<C, D, E, B>,
+        line: u64,
+    ) -> Result<Seen, ReadRefusal>
+        requires { C.reaches }
+        ensures line { IfOk result (λ s. s.line ≡ line) }
+        ensures at { IfOk result (λ s. self.old.accepted ≤ s.at) }
+        ensures rises { Rises self.old self.new }
+    {
+        let (got, at) = self.ask(rt, board, line)?;
+        match got {
+            Got::Now(data) => Ok(Seen { line, data, at }),
+            Got::Later(ticket) => {
+                let data = board.await_line(rt, ticket)?;
+                Ok(Seen { line, data, at })
+            }
+        }
+    }
+
+    // Asks under the lock, and lets go of it.
+    fn ask<C: Channels, D: SaveDevice, E: Energy>(
+        &mut self,
+        rt: &impl Wait,
+        board: &Board<C, D, E, B>,
+        line: u64,
+    ) -> Result<(Got, u64), ReadRefusal>
+        requires { C.reaches }
+        ensures at { IfOk result (λ r. self.old.accepted ≤ r.1) }
+        ensures rises { Rises self.old self.new }
+    {
+        let mut held = board.held.lock(rt);
+        self.read_in(&mut *held, line)
+    }
+
+    /// Loads how many writes are persistent, with no lock.
+    pub fn mark(&mut self) -> u64
+        ensures rises { self.old.persisted ≤ result }
+        ensures seen { self.new ≡ client self.old.accepted result }
+    {
+        self.seat.persisted(&self.marks)
+    }
+
+    /// Whether a write is persistent, by a mark that is loaded anew, with no lock.
+    pub fn check(&mut self, receipt: &Receipt) -> Result<Persisted, Behind>
+        ensures number { IfOk result (λ p. p.number ≡ receipt.now.number) }
+        ensures below { IfOk result (λ p. p.number < p.mark) }
+        ensures mark { IfOk result (λ p. p.mark ≡ self.new.persisted) }
+        ensures seen { IfErr result (λ b. b.seen ≡ receipt.now.number) }
+        ensures behind { IfErr result (λ b. b.found ≤ b.seen) }
+        ensures found { IfErr result (λ b. b.found ≡ self.new.persisted) }
+        ensures rises { Rises self.old self.new }
+        ensures accepted { self.new.accepted ≡ self.old.accepted }
+    {
+        let number = receipt.number;
+        let mark = self.mark();
+        if number < mark {
+            Ok(Persisted { number, mark })
+        } else {
+            Err(Behind {
+                seen: number,
+                found: mark,
+            })
+        }
+    }
+}

@@ -1,0 +1,16 @@
+//! Threads that share one module: what lies behind the lock, and the hosts.
+//!
+//! `Held` is the module with its device, its gauge and the seat that moves the marks. Contracts see it as `Lent`
+//! (`specs/Lent.antt`), and each of its calls as one event that the module answers. A `Board` keeps it behind a lock. A
+//! `Host` writes and reads under the lock, and loads the marks without it.
+#![tactic(auto)]
+
+mod board;
+mod held;
+mod host;
+mod room;
+
+pub use board::Board;
+pub use held::Held;
+pub use host::{Behind, Host, Receipt, Seen};
+pub use room::Room;

@@ -1,0 +1,15 @@
+// The name of a board.
+use std::marker::Brand;
+
+/// Names one board by the words of its marks. Each call of a program picks it.
+pub trait Room {
+    ghost use Rattle.atomic_table.specs.Seated.{TableId};
+
+    ghost board: { TableId };
+}
+
+impl Room for Brand {
+    ghost use Rattle.nv_workers.specs.Boards.{no_board};
+
+    ghost board = { no_board };
+}
