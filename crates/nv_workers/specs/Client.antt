@@ -10,6 +10,6 @@ abbrev pub client : ℕ → ℕ → Client
 client accepted persisted = record { accepted = accepted; persisted = persisted }
 
 -- what a host has seen never goes back
-pub record Rises (old new : Client) : Type 0 where
+pub record SeesNoLess (old new : Client) : Type 0 where
   pub accepted : old.accepted ≤ new.accepted
   pub persisted : old.persisted ≤ new.persisted

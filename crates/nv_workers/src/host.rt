@@ -2,7 +2,7 @@
 ghost use Rattle.std.specs.Prelude.{◌≡◌, ◌<◌, ◌≤◌, IfOk, IfErr, Ok, Err};
 ghost use Rattle.std.specs.Arc.{arc_value};
 ghost use Rattle.module_core.specs.Stands.{setup_of};
-ghost use Rattle.nv_workers.specs.Client.{Rises, client};
+ghost use Rattle.nv_workers.specs.Client.{SeesNoLess, client};
 ghost use Rattle.nv_workers.specs.Lent.{told_at};
 ghost use Rattle.nv_workers.specs.Steps.{Steps};
 
@@ -93,7 +93,7 @@ impl<B: Room> Host<B> {
         ensures line { IfOk result (λ r. r.line ≡ write.line) }
         ensures data { IfOk result (λ r. r.data ≡ write.data) }
         ensures seen { IfOk result (λ r. r.number < self.new.accepted) }
-        ensures rises { Rises self.old self.new }
+        ensures rises { SeesNoLess self.old self.new }
         ensures device { held.new.device ≡ held.old.device }
         ensures energy { held.new.energy ≡ held.old.energy }
         ensures setup { setup_of C.Channels held.new.running
@@ -121,7 +121,7 @@ impl<B: Room> Host<B> {
         ensures line { IfOk result (λ r. r.line ≡ write.line) }
         ensures data { IfOk result (λ r. r.data ≡ write.data) }
         ensures seen { IfOk result (λ r. r.number < self.new.accepted) }
-        ensures rises { Rises self.old self.new }
+        ensures rises { SeesNoLess self.old self.new }
     {
         let mut held = board.held.lock(rt);
         self.write_in(&mut *held, write)
@@ -140,7 +140,7 @@ impl<B: Room> Host<B> {
             (Event.Read line) (Reply.Read (Err refusal)) held.old held.new) }
         ensures at { IfOk result (λ r. r.1 ≡ held.old.running.accepted) }
         ensures seen { IfOk result (λ r. self.old.accepted ≤ r.1) }
-        ensures rises { Rises self.old self.new }
+        ensures rises { SeesNoLess self.old self.new }
         ensures device { held.new.device ≡ held.old.device }
         ensures energy { held.new.energy ≡ held.old.energy }
         ensures setup { setup_of C.Channels held.new.running
@@ -163,7 +163,7 @@ impl<B: Room> Host<B> {
         requires { C.reaches }
         ensures line { IfOk result (λ s. s.line ≡ line) }
         ensures at { IfOk result (λ s. self.old.accepted ≤ s.at) }
-        ensures rises { Rises self.old self.new }
+        ensures rises { SeesNoLess self.old self.new }
     {
         let (got, at) = self.ask(rt, board, line)?;
         match got {
@@ -184,7 +184,7 @@ impl<B: Room> Host<B> {
     ) -> Result<(Got, u64), ReadRefusal>
         requires { C.reaches }
         ensures at { IfOk result (λ r. self.old.accepted ≤ r.1) }
-        ensures rises { Rises self.old self.new }
+        ensures rises { SeesNoLess self.old self.new }
     {
         let mut held = board.held.lock(rt);
         self.read_in(&mut *held, line)
@@ -206,7 +206,7 @@ impl<B: Room> Host<B> {
         ensures seen { IfErr result (λ b. b.seen ≡ receipt.now.number) }
         ensures behind { IfErr result (λ b. b.found ≤ b.seen) }
         ensures found { IfErr result (λ b. b.found ≡ self.new.persisted) }
-        ensures rises { Rises self.old self.new }
+        ensures rises { SeesNoLess self.old self.new }
         ensures accepted { self.new.accepted ≡ self.old.accepted }
     {
         let number = receipt.number;
