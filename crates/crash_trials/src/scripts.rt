@@ -1,5 +1,4 @@
-// The scripts that are broken off. Each formats, writes lines 0, 1 and 127 alone, and has no `work`, so that each of its lines has
-// one answer.
+// The scripts that are broken off. Each formats, and writes lines 0, 1 and 127 alone.
 
 /// A script by a name of its own.
 #[derive(Clone, Copy, Drop)]
@@ -10,7 +9,7 @@ pub struct Script {
 }
 
 /// The scripts.
-pub const SCRIPTS: [Script; 8] = [
+pub const SCRIPTS: [Script; 10] = [
     Script {
         name: "nothing written",
         text: "",
@@ -42,5 +41,13 @@ pub const SCRIPTS: [Script; 8] = [
     Script {
         name: "a low reading",
         text: "sense 3854\narm\nwrite 0 11\nsense 3853\nwrite 0 22\nstep\nstep\nstep\nstep\nsave\nmark\n",
+    },
+    Script {
+        name: "armed, and a write in its array",
+        text: "sense 9000\narm\nwrite 0 11\nwrite 1 22\nwork 1 2\nwrite 1 33\n",
+    },
+    Script {
+        name: "a save that failed, made again",
+        text: "write 0 11\nfuse 7\nsave\nsense 9000\narm\nfuse off\nsave\narm\nwrite 1 22\n",
     },
 ];
