@@ -59,7 +59,7 @@ fn lines_agree(ledger: &Ledger<'_>, answers: &str, count: u64) -> bool {
 
 /// Judges the answers of a restore and of the reads behind it by the writes before it. Where nothing is told lost, every write
 /// that was told persistent is there.
-pub fn judged(ledger: &Ledger<'_>, answers: &str, honest: bool) -> Result<Restored, Wrong> {
+pub(crate) fn judged(ledger: &Ledger<'_>, answers: &str, honest: bool) -> Result<Restored, Wrong> {
     let Some(restored) = restored_in(answers) else {
         return Err(Wrong::Refused);
     };

@@ -16,7 +16,7 @@ pub struct Ledger<'a> {
 }
 
 /// A number, or 0 where the word is none.
-pub fn number_of(word: Option<&str>) -> u64 {
+pub(crate) fn number_of(word: Option<&str>) -> u64 {
     match word {
         Some(word) => word.parse::<u64>().unwrap_or(0),
         None => 0,
@@ -40,7 +40,11 @@ fn asked<'a>(alloc: Global, script: &'a str) -> Result<Vec<Entry<'a>>, AllocErro
 
 impl<'a> Ledger<'a> {
     /// By the answers to a script.
-    pub fn of(alloc: Global, script: &'a str, answers: &str) -> Result<Ledger<'a>, AllocError> {
+    pub(crate) fn of(
+        alloc: Global,
+        script: &'a str,
+        answers: &str,
+    ) -> Result<Ledger<'a>, AllocError> {
         let asked = asked(alloc, script)?;
         let mut next = asked.iter();
         let mut ledger = Ledger {
@@ -74,12 +78,12 @@ impl<'a> Ledger<'a> {
     }
 
     /// How many writes were accepted.
-    pub fn accepted(&self) -> u64 {
+    pub(crate) fn accepted(&self) -> u64 {
         self.writes.len() as u64
     }
 
     /// What a line holds after the first `count` writes, by the word that wrote it.
-    pub fn value(&self, line: &str, count: u64) -> &'a str {
+    pub(crate) fn value(&self, line: &str, count: u64) -> &'a str {
         let first = self.writes.get(..count as usize).unwrap_or(&[]);
         for entry in first.iter().rev() {
             if entry.line == line {

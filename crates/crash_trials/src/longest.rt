@@ -11,7 +11,7 @@ fn line_of(round: u64) -> u64 {
 }
 
 /// The script.
-pub fn script(alloc: Global) -> anyhow::Result<String> {
+pub(crate) fn script(alloc: Global) -> anyhow::Result<String> {
     let mut script = format!(in alloc; "format\n")?;
     for round in 0..ROUNDS {
         let line = line_of(round);
@@ -26,7 +26,7 @@ pub fn script(alloc: Global) -> anyhow::Result<String> {
 }
 
 /// How many of its reads give what was written last.
-pub fn right_reads(alloc: Global, answers: &str) -> anyhow::Result<u64> {
+pub(crate) fn right_reads(alloc: Global, answers: &str) -> anyhow::Result<u64> {
     let mut round: u64 = 0;
     let mut right: u64 = 0;
     for answer in answers.split('\n') {

@@ -35,7 +35,7 @@ pub const SETTINGS: [Setting; 3] = [
 
 impl Setting {
     /// The small profile with these costs.
-    pub fn profile(&self, alloc: Global) -> anyhow::Result<Profile> {
+    pub(crate) fn profile(&self, alloc: Global) -> anyhow::Result<Profile> {
         let Some((head, rest)) = TINY.split_once("[costs]") else {
             anyhow::bail!("a profile without costs");
         };
@@ -47,7 +47,7 @@ impl Setting {
     }
 
     /// A script's text, armed at this level.
-    pub fn script(&self, alloc: Global, text: &str) -> anyhow::Result<String> {
+    pub(crate) fn script(&self, alloc: Global, text: &str) -> anyhow::Result<String> {
         Ok(text.replace(alloc, "9000", self.level)?)
     }
 }

@@ -64,12 +64,12 @@ pub struct Trials<'p> {
 
 impl<'p> Trials<'p> {
     /// Of this profile.
-    pub fn new(alloc: Global, profile: &'p Profile) -> Trials<'p> {
+    pub(crate) fn new(alloc: Global, profile: &'p Profile) -> Trials<'p> {
         Trials { alloc, profile }
     }
 
     /// What a script answers.
-    pub fn answers(&self, script: &str) -> anyhow::Result<String> {
+    pub(crate) fn answers(&self, script: &str) -> anyhow::Result<String> {
         let mut bytes = Vec::new(self.alloc);
         let _device = run_on_maps(self.alloc, self.profile, script.as_bytes(), &mut bytes)?;
         Ok(String::from_utf8(bytes)?)
@@ -98,7 +98,7 @@ impl<'p> Trials<'p> {
     }
 
     /// Behind `format` the device fails from each of its calls on.
-    pub fn stops(&self, text: &str) -> anyhow::Result<Tally> {
+    pub(crate) fn stops(&self, text: &str) -> anyhow::Result<Tally> {
         let mut tally = Tally::new();
         for calls in 0..MOST_CALLS {
             let script = format!(in self.alloc; "format\nfuse {calls}\n{text}")?;
@@ -110,7 +110,7 @@ impl<'p> Trials<'p> {
     }
 
     /// Mains are lost after each line, and the gauge told the truth.
-    pub fn losses(&self, text: &str) -> anyhow::Result<Tally> {
+    pub(crate) fn losses(&self, text: &str) -> anyhow::Result<Tally> {
         let mut tally = Tally::new();
         let mut begun = format!(in self.alloc; "format\n")?;
         for line in text.split_inclusive('\n') {
@@ -134,7 +134,7 @@ impl<'p> Trials<'p> {
     }
 
     /// Mains are lost after each line, and the gauge has less than it told, so many units apart.
-    pub fn lies(&self, text: &str, unit: u64, apart: u64) -> anyhow::Result<Tally> {
+    pub(crate) fn lies(&self, text: &str, unit: u64, apart: u64) -> anyhow::Result<Tally> {
         let mut tally = Tally::new();
         let mut begun = format!(in self.alloc; "format\n")?;
         for line in text.split_inclusive('\n') {

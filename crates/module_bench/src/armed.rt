@@ -93,7 +93,7 @@ fn write_each<C: Drainable + Drop, D: SaveDevice + Drop>(
 }
 
 /// An armed life of a module over the map `lines`: so many writes, then as many as fill all queues, and the loss of mains.
-pub fn armed_life<M: LineMap, P: Places>(
+pub(crate) fn armed_life<M: LineMap, P: Places>(
     rt: &HostRuntime,
     map: &M,
     checked: &Checked,

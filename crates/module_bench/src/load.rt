@@ -28,7 +28,7 @@ pub struct Load<C: Channels, D: SaveDevice> {
 
 impl<C: Channels + Drop, D: SaveDevice + Drop> Load<C, D> {
     /// A module that was opened on this device.
-    pub fn new(running: Module<C>, device: D, channels: u64) -> Load<C, D>
+    pub(crate) fn new(running: Module<C>, device: D, channels: u64) -> Load<C, D>
         requires channels { channels ≡ (setup_of C.Channels running).shape.channels }
         requires size { HasDevice C.Channels running (D.state device) }
     {
@@ -41,7 +41,7 @@ impl<C: Channels + Drop, D: SaveDevice + Drop> Load<C, D> {
     }
 
     /// The device, without the module.
-    pub fn into_device(self) -> D {
+    pub(crate) fn into_device(self) -> D {
         self.device
     }
 

@@ -36,7 +36,7 @@ const NUMBERS: CostNumbers = CostNumbers {
 };
 
 /// How many lines a profile has, where they make whole pages.
-pub fn capacity_of(checked: &Checked) -> Result<usize, Stall>
+pub(crate) fn capacity_of(checked: &Checked) -> Result<usize, Stall>
     ensures is { IfOk result (λ lines. lines ≡ lines_of checked.now.geometry) }
     ensures capacity { IfOk result IsCapacity }
 {
@@ -49,7 +49,7 @@ pub fn capacity_of(checked: &Checked) -> Result<usize, Stall>
 }
 
 /// A module over channels with the memory that a device restores to.
-pub fn open<'m, M: LineMap, P: Places, D: SaveDevice + Drop>(
+pub(crate) fn open<'m, M: LineMap, P: Places, D: SaveDevice + Drop>(
     alloc: Global,
     map: &'m M,
     checked: &Checked,

@@ -16,12 +16,12 @@ pub struct Picks {
 
 impl Picks {
     /// Picks of so many lines.
-    pub fn new(lines: u64) -> Picks {
+    pub(crate) fn new(lines: u64) -> Picks {
         Picks { salt: 7, lines }
     }
 
     /// The next pick.
-    pub fn next(&mut self) -> Pick {
+    pub(crate) fn next(&mut self) -> Pick {
         self.salt = self
             .salt
             .wrapping_mul(6_364_136_223_846_793_005)

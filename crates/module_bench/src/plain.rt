@@ -25,7 +25,7 @@ pub struct Plain<D: SaveDevice> {
 
 impl<D: SaveDevice + Drop> Plain<D> {
     /// The memory that a device restores to.
-    pub fn open(alloc: Global, mut device: D, lines: usize) -> anyhow::Result<Plain<D>>
+    pub(crate) fn open(alloc: Global, mut device: D, lines: usize) -> anyhow::Result<Plain<D>>
         requires { IsCapacity lines }
     {
         if device.len() != device_size(lines) {
@@ -49,7 +49,7 @@ impl<D: SaveDevice + Drop> Plain<D> {
     }
 
     /// The device, without the lines.
-    pub fn into_device(self) -> D {
+    pub(crate) fn into_device(self) -> D {
         self.device
     }
 }

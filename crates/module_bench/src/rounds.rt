@@ -112,7 +112,7 @@ impl Nanos {
 }
 
 /// A device in memory, whose newest image has zero lines.
-pub fn formatted(alloc: Global, checked: &Checked) -> anyhow::Result<MemoryDevice> {
+pub(crate) fn formatted(alloc: Global, checked: &Checked) -> anyhow::Result<MemoryDevice> {
     let lines = capacity_of(checked)?;
     let bytes = Vec::from_elem(alloc, 0, device_size(lines))?;
     let mut device = MemoryDevice::new(alloc, bytes)?;
@@ -140,7 +140,7 @@ fn module_round<M: LineMap, P: Places>(
 }
 
 /// The rounds of a module.
-pub fn module_rounds<M: LineMap, P: Places>(
+pub(crate) fn module_rounds<M: LineMap, P: Places>(
     rt: &HostRuntime,
     map: &M,
     checked: &Checked,
@@ -174,7 +174,11 @@ fn plain_round(
 }
 
 /// The rounds of a plain array.
-pub fn plain_rounds(rt: &HostRuntime, checked: &Checked, amount: Amount) -> anyhow::Result<Tally> {
+pub(crate) fn plain_rounds(
+    rt: &HostRuntime,
+    checked: &Checked,
+    amount: Amount,
+) -> anyhow::Result<Tally> {
     let mut tally = Tally::new(checked);
     let mut device = formatted(rt.alloc(), checked)?;
     for _ in 0..amount.rounds {

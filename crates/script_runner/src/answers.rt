@@ -8,7 +8,7 @@ use nv_session::{Found, Seen};
 use slot_store::RestoreError;
 
 /// The answer to a write.
-pub fn write_answer(reply: Result<Accepted, WriteRefusal>) -> Answer {
+pub(crate) fn write_answer(reply: Result<Accepted, WriteRefusal>) -> Answer {
     match reply {
         Ok(Accepted { number, mark }) => Answer::Accepted { number, mark },
         Err(refusal) => Answer::WriteRefused(match refusal {
@@ -25,7 +25,7 @@ pub fn write_answer(reply: Result<Accepted, WriteRefusal>) -> Answer {
 }
 
 /// The answer to a read of a line.
-pub fn read_answer(line: u64, reply: Result<Seen, ReadRefusal>) -> Answer {
+pub(crate) fn read_answer(line: u64, reply: Result<Seen, ReadRefusal>) -> Answer {
     match reply {
         Ok(Seen::Content(bytes)) => Answer::Content { line, bytes },
         Ok(Seen::Waiting) => Answer::ReadWaiting { line },
@@ -38,7 +38,7 @@ pub fn read_answer(line: u64, reply: Result<Seen, ReadRefusal>) -> Answer {
 }
 
 /// The answer to a step of a save. A save that isn't over after its turns is waiting, whatever its last step was.
-pub fn step_answer(reply: Result<StepReply, ArmRefusal>) -> Answer {
+pub(crate) fn step_answer(reply: Result<StepReply, ArmRefusal>) -> Answer {
     match reply {
         Ok(StepReply::Did(step)) => Answer::Stepped(step),
         Ok(StepReply::Saved { generation, count }) => Answer::Saved { generation, count },
@@ -50,7 +50,7 @@ pub fn step_answer(reply: Result<StepReply, ArmRefusal>) -> Answer {
 }
 
 /// The answer to a whole save.
-pub fn save_answer(reply: Result<StepReply, ArmRefusal>) -> Answer {
+pub(crate) fn save_answer(reply: Result<StepReply, ArmRefusal>) -> Answer {
     match reply {
         Ok(StepReply::Did(_)) => Answer::Waiting,
         _ => step_answer(reply),
@@ -58,13 +58,13 @@ pub fn save_answer(reply: Result<StepReply, ArmRefusal>) -> Answer {
 }
 
 /// The answer to a reading of the gauge.
-pub fn level_answer(reply: (u64, Option<Mode>)) -> Answer {
+pub(crate) fn level_answer(reply: (u64, Option<Mode>)) -> Answer {
     let (reading, mode) = reply;
     Answer::Level { reading, mode }
 }
 
 /// The answer to arming.
-pub fn arm_answer(reply: Result<ArmReply, ArmRefusal>) -> Answer {
+pub(crate) fn arm_answer(reply: Result<ArmReply, ArmRefusal>) -> Answer {
     match reply {
         Ok(ArmReply::Armed) => Answer::Armed,
         Ok(ArmReply::AlreadyArmed) => Answer::ArmedAlready,
@@ -74,7 +74,7 @@ pub fn arm_answer(reply: Result<ArmReply, ArmRefusal>) -> Answer {
 }
 
 /// The answer to disarming.
-pub fn disarm_answer(reply: Result<DisarmReply, ArmRefusal>) -> Answer {
+pub(crate) fn disarm_answer(reply: Result<DisarmReply, ArmRefusal>) -> Answer {
     match reply {
         Ok(DisarmReply::Disarming) => Answer::Disarming,
         Ok(DisarmReply::AlreadyDisarmed) => Answer::DisarmedAlready,
@@ -83,7 +83,7 @@ pub fn disarm_answer(reply: Result<DisarmReply, ArmRefusal>) -> Answer {
 }
 
 /// The answer to a loss of mains.
-pub fn loss_answer(loss: Loss) -> Answer {
+pub(crate) fn loss_answer(loss: Loss) -> Answer {
     Answer::Lost(match loss {
         Loss::Saved { generation, count } => nv_script::Loss::Saved { generation, count },
         Loss::Unsaved => nv_script::Loss::Unsaved,
@@ -94,7 +94,7 @@ pub fn loss_answer(loss: Loss) -> Answer {
 }
 
 /// The answer to a restore.
-pub fn restore_answer(reply: Result<Found, RestoreError>) -> Answer
+pub(crate) fn restore_answer(reply: Result<Found, RestoreError>) -> Answer
     ensures refused { IfErr reply (λ error. result ≡ Answer.RestoreRefused error) }
 {
     match reply {
