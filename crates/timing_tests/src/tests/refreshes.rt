@@ -1,51 +1,47 @@
 // A channel at its limits: a profile as tight as the checks let it be, four ranks, and requests that conflict without end.
 ghost use Rattle.std.specs.Prelude.{◌≤◌, ◌<◌, ◌^◌, All, IfOk, IfSome};
 
-use crate::next::{Next, next_command};
-use crate::pending::Kind;
-use crate::queue::Queue;
 use bank_core::banks::Banks;
 use bank_core::replay::first_unready;
 use ddr4_timing::command::{Command, Stamped};
 use ddr4_timing::place::Place;
 use ddr4_timing::timing::{Checked, Geometry, Timing};
+use frfcfs::next::{Next, next_command};
+use frfcfs::pending::Kind;
+use frfcfs::queue::Queue;
 use std::alloc::Global;
 use std::test::Fail;
 
 // An entry takes 44 clocks and a close step 40: the interval is 2 * (44 + 40) + 4 * 4.
-fn tight() -> Timing {
-    Timing {
-        t_rcd: 3,
-        t_rp: 3,
-        t_ras: 5,
-        cl: 3,
-        cwl: 2,
-        t_ccd_s: 2,
-        t_ccd_l: 3,
-        t_rrd_s: 2,
-        t_rrd_l: 3,
-        t_faw: 8,
-        t_wr: 4,
-        t_wtr_s: 1,
-        t_wtr_l: 2,
-        t_rtp: 30,
-        t_rtw: 4,
-        t_cs: 1,
-        t_rfc: 7,
-        t_refi: 184,
-    }
-}
+const TIGHT: Timing = Timing {
+    t_rcd: 3,
+    t_rp: 3,
+    t_ras: 5,
+    cl: 3,
+    cwl: 2,
+    t_ccd_s: 2,
+    t_ccd_l: 3,
+    t_rrd_s: 2,
+    t_rrd_l: 3,
+    t_faw: 8,
+    t_wr: 4,
+    t_wtr_s: 1,
+    t_wtr_l: 2,
+    t_rtp: 30,
+    t_rtw: 4,
+    t_cs: 1,
+    t_rfc: 7,
+    t_refi: 184,
+};
 
-fn four_ranks() -> Geometry {
-    Geometry {
-        channels: 1,
-        ranks: 4,
-        groups: 2,
-        banks: 4,
-        rows: 16,
-        columns: 4,
-    }
-}
+const FOUR_RANKS: Geometry = Geometry {
+    channels: 1,
+    ranks: 4,
+    groups: 2,
+    banks: 4,
+    rows: 16,
+    columns: 4,
+};
 
 // Sixteen requests, each of a line of its own, at places that the salt picks.
 fn conflicts(alloc: Global, salt: u64) -> Result<Queue, Fail> {
@@ -106,17 +102,23 @@ fn run(alloc: Global, checked: &Checked, count: u64) -> Result<Vec<Stamped>, Fai
     Ok(list)
 }
 
+fn refreshes(list: &[Stamped]) -> u64 {
+    let mut count = 0_u64;
+    for command in list {
+        if matches!(command.cmd, Command::Ref { .. }) {
+            count = count.saturating_add(1);
+        }
+    }
+    count
+}
+
 #[test]
 fn goes_on_for_fifty_intervals(rt: HostRuntime) -> Result<(), Fail> {
-    let checked = tight().check(&four_ranks()).ok().ok_or("refused")?;
+    let checked = TIGHT.check(&FOUR_RANKS)?;
     let list = run(rt.alloc(), &checked, 9000)?;
     let last = list.last().ok_or("empty")?;
     assert!(rt; last.clock >= 50 * 184);
     assert_eq!(rt; first_unready(&checked, &list), None);
-    let refreshes = list
-        .iter()
-        .filter(|x| matches!(x.cmd, Command::Ref { .. }))
-        .count();
-    assert!(rt; refreshes >= 4 * 42);
+    assert!(rt; refreshes(&list) >= 4 * 42);
     Ok(())
 }
