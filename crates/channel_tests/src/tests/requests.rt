@@ -1,24 +1,15 @@
 // Worked requests on channel 0 of the small profile.
-use crate::answers::{Collected, Got, ReadsFull, Ticket};
 use crate::tests::fixture::Fixture;
+use crate::tests::profiles::text;
+use chan_core::{Collected, Got, ReadsFull, Ticket};
 use ddr4_timing::command::Stamped;
 use ddr4_timing::profiles::{SMALL, TINY};
 use std::alloc::Global;
-use std::fmt::Write;
 use std::process::Abort;
 use std::test::Fail;
 
 fn channel(alloc: Global) -> Result<Fixture, Fail> {
     Fixture::new(alloc, &TINY, &SMALL, 8, 8)
-}
-
-// The commands as text, one a line.
-fn text(alloc: Global, commands: &[Stamped]) -> Result<String, Fail> {
-    let mut text = String::new(alloc);
-    for command in commands {
-        writeln!(text, "{command}")?;
-    }
-    Ok(text)
 }
 
 // A write of a line of one byte has room.
@@ -105,14 +96,14 @@ fn holds_a_write(rt: &impl Abort, channel: &mut Fixture) -> Result<(), Fail> {
     channel.hold_from(0);
     takes(rt, channel, 0, 0x11)?;
     assert!(rt; channel.work().is_none());
-    assert_eq!(rt; channel.recent(0), None);
+    assert_eq!(rt; channel.channel().recent(0), None);
     Ok(())
 }
 
 // The command is the only one that is remembered.
 fn remembers_one(rt: &impl Abort, channel: &Fixture, command: Stamped) {
-    assert_eq!(rt; channel.recent(0), Some(command));
-    assert_eq!(rt; channel.recent(1), None);
+    assert_eq!(rt; channel.channel().recent(0), Some(command));
+    assert_eq!(rt; channel.channel().recent(1), None);
 }
 
 // The channel's first command reads so, and is remembered.

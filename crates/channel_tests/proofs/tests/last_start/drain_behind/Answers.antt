@@ -1,6 +1,6 @@
 use Rattle.std.proofs.Common.{◌≡◌, rules}
 use Rattle.std.specs.Prelude.{IsNone}
-use Rattle.drain_core.proofs.tests.last_start.drain_behind.Goals as goal
+use Rattle.channel_tests.proofs.tests.last_start.drain_behind.Goals as goal
 
 pub drain_opened-report-requires-clause-lawful : goal.drain_opened-report-requires-clause-lawful
 drain_opened-report-requires-clause-lawful c =

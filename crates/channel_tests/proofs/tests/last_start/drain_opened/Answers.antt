@@ -8,7 +8,7 @@ use Rattle.ddr4_timing.specs.declared.timing.Checked.{Checked}
 use Rattle.chan_core.specs.State.{ChannelState}
 use Rattle.drain_core.specs.Drain.{drain_start}
 use Rattle.drain_core.specs.Standing.{CanDrain}
-use Rattle.drain_core.proofs.tests.last_start.drain_opened.Goals as goal
+use Rattle.channel_tests.proofs.tests.last_start.drain_opened.Goals as goal
 
 opened_may_drain : (c : Checked) (at : BankAddress) (row clock : ℕ) → IsLawful c (with_command [] clock (Act at row))
     → clock + 1 + (close_of c.timing c.geometry + c.geometry.ranks) ≤ 9 * c.timing.t_refi → clock < 2 ^ 32

@@ -1,7 +1,7 @@
 use Rattle.std.proofs.Common.{◌≡◌, ℕ, ◌<◌, sym, subst}
 use Rattle.ddr4_timing.specs.Limits.{lines_of}
 use Rattle.interleave_map.specs.Interleaving.{place_by_lines, line_by_lines}
-use Rattle.drain_core.proofs.tests.by_lines.ByLinesLineMap.line.Goals as goal
+use Rattle.channel_tests.proofs.tests.by_lines.ByLinesLineMap.line.Goals as goal
 
 pub returns-clause-below : goal.returns-clause-below
 returns-clause-below c =

@@ -7,13 +7,13 @@ ghost use Rattle.ddr4_timing.specs.declared.command.Command.TheVariants.{Act};
 
 use crate::tests::by_lines::ByLines;
 use crate::tests::fixture::NUMBERS;
-use crate::{DrainReport, drain};
 use chan_core::Channel;
 use ddr4_timing::command::{Command, Stamped};
 use ddr4_timing::fault::first_fault;
 use ddr4_timing::place::BankAddress;
 use ddr4_timing::profiles::{SMALL, TINY};
 use ddr4_timing::timing::Checked;
+use drain_core::{DrainReport, drain};
 use energy_budget::Costs;
 use std::alloc::Global;
 use std::test::Fail;
@@ -97,10 +97,8 @@ fn a_drain_at_the_last_start(rt: HostRuntime) -> Result<(), Fail> {
         (84_326, Command::Pre { at }),
         (84_342, Command::Sre { rank: 0 }),
     ];
-    assert_eq!(rt; list.len(), want.len());
-    for (command, (clock, cmd)) in list.iter().zip(want) {
-        assert_eq!(rt; *command, Stamped { clock, cmd });
-    }
+    let want = want.map(|(clock, cmd)| Stamped { clock, cmd });
+    assert_eq!(rt; list.as_slice(), want.as_slice());
     assert_eq!(rt; first_fault(&checked, &list), None);
     assert_eq!(rt; (report.clocks, report.spent), (541, 570));
     Ok(())

@@ -1,69 +1,15 @@
 // Channels that are busy past many refresh intervals.
-use crate::answers::{Collected, Got, Served, Ticket};
 use crate::tests::fixture::Fixture;
-use ddr4_timing::command::{Command, Stamped};
+use crate::tests::picks::Picks;
+use crate::tests::profiles::{FOUR_RANKS, NARROW, TIGHT};
+use crate::tests::run::refreshes;
+use chan_core::{Collected, Got, Served, Ticket};
+use ddr4_timing::command::Stamped;
 use ddr4_timing::profiles::{SMALL, TINY};
-use ddr4_timing::timing::{Geometry, Timing};
+use ddr4_timing::timing::Geometry;
 use std::alloc::Global;
 use std::process::Abort;
 use std::test::Fail;
-
-fn four_ranks() -> Geometry {
-    Geometry { ranks: 4, ..SMALL }
-}
-
-// One channel of four ranks, of few short rows.
-fn narrow() -> Geometry {
-    Geometry {
-        channels: 1,
-        ranks: 4,
-        groups: 2,
-        banks: 4,
-        rows: 16,
-        columns: 4,
-    }
-}
-
-// An entry takes 44 clocks and a close step 40: the interval is 2 * (44 + 40) + 4 * 4.
-fn tight() -> Timing {
-    Timing {
-        t_rcd: 3,
-        t_rp: 3,
-        t_ras: 5,
-        cl: 3,
-        cwl: 2,
-        t_ccd_s: 2,
-        t_ccd_l: 3,
-        t_rrd_s: 2,
-        t_rrd_l: 3,
-        t_faw: 8,
-        t_wr: 4,
-        t_wtr_s: 1,
-        t_wtr_l: 2,
-        t_rtp: 30,
-        t_rtw: 4,
-        t_cs: 1,
-        t_rfc: 7,
-        t_refi: 184,
-    }
-}
-
-// Picks places on a channel, so many columns apart, one after another.
-#[derive(Drop)]
-struct Picks {
-    salt: u64,
-    apart: u64,
-}
-
-impl Picks {
-    fn next(&mut self) -> u64 {
-        self.salt = self
-            .salt
-            .wrapping_mul(6_364_136_223_846_793_005)
-            .wrapping_add(1_442_695_040_888_963_407);
-        (self.salt >> 33).wrapping_mul(self.apart)
-    }
-}
 
 // Writes until the queue is full.
 fn fill_writes(channel: &mut Fixture, picks: &mut Picks) -> Result<(), Fail> {
@@ -184,12 +130,6 @@ fn conflicts(
     Err("not there in time".into())
 }
 
-fn refreshes(list: &[Stamped]) -> usize {
-    list.iter()
-        .filter(|x| matches!(x.cmd, Command::Ref { .. }))
-        .count()
-}
-
 // The commands break no rule, and so many of them at least are refreshes.
 fn keeps_every_rule(rt: &impl Abort, channel: &Fixture, list: &[Stamped], least: usize) {
     assert_eq!(rt; channel.fault(list), None);
@@ -210,14 +150,14 @@ fn busy_by_the_rules(
 
 #[test]
 fn a_busy_channel_keeps_every_rule(rt: HostRuntime) -> Result<(), Fail> {
-    for (geometry, least) in [(SMALL, 12), (four_ranks(), 48)] {
+    for (geometry, least) in [(SMALL, 12), (FOUR_RANKS, 48)] {
         busy_by_the_rules(&rt, rt.alloc(), &geometry, least)?;
     }
     Ok(())
 }
 
 fn conflicts_by_the_rules(rt: &impl Abort, alloc: Global, salt: u64) -> Result<(), Fail> {
-    let mut channel = Fixture::new(alloc, &tight(), &narrow(), 64, 64)?;
+    let mut channel = Fixture::new(alloc, &TIGHT, &NARROW, 64, 64)?;
     let list = conflicts(alloc, &mut channel, salt, 50 * 184)?;
     keeps_every_rule(rt, &channel, &list, 4 * 41);
     Ok(())

@@ -1,5 +1,5 @@
 use Rattle.interleave_map.specs.Interleaving.{place_by_lines, line_by_lines}
-use Rattle.drain_core.proofs.tests.by_lines.ByLinesLineMap.interleaves.Goals as goal
+use Rattle.channel_tests.proofs.tests.by_lines.ByLinesLineMap.interleaves.Goals as goal
 
 pub returns : goal.returns
 returns c =

@@ -1,21 +1,22 @@
-// A channel that tests fill, work and drain.
+// A channel that tests fill with writes and reads, work and drain.
 ghost use Rattle.std.specs.Prelude.{◌≡◌};
 ghost use Rattle.energy_budget.specs.Costs.{AreReckonedFor};
 
-use crate::laws::running_channel_may_drain;
 use crate::tests::by_lines::ByLines;
-use crate::{DrainReport, drain};
-use chan_core::{Channel, Done, Got, Phase, RECENT};
+use chan_core::{Channel, Collected, Done, Got, Phase, RECENT, ReadsFull, Ticket};
 use ddr4_timing::command::Stamped;
 use ddr4_timing::fault::{Fault, first_fault};
 use ddr4_timing::place::Place;
 use ddr4_timing::timing::{Checked, Geometry, Timing};
+use drain_core::laws::running_channel_may_drain;
+use drain_core::{DrainReport, drain};
 use energy_budget::{CostNumbers, Costs};
 use interleave_map::cells::cells;
 use interleave_map::line_map::LineMap;
 use line_memory::Line;
 use std::alloc::{AllocError, Global};
 use std::test::Fail;
+use wpq_core::Full;
 
 pub(crate) const NUMBERS: CostNumbers = CostNumbers {
     e_act: 4,
@@ -42,18 +43,19 @@ pub struct Fixture {
 }
 
 impl Fixture {
-    /// As many writes as reads may be pending.
+    /// So many writes may be pending, and so many reads.
     pub(crate) fn new(
         alloc: Global,
         timing: &Timing,
         geometry: &Geometry,
         depth: usize,
+        reads: usize,
     ) -> Result<Fixture, Fail> {
-        if depth < 1 || depth > 64 || !NUMBERS.is_in_limits() {
+        if depth < 1 || depth > 64 || reads > 64 || !NUMBERS.is_in_limits() {
             return Err("no such depth".into());
         }
         let checked = timing.check(geometry)?;
-        let channel = Channel::new(alloc, &checked, 0, depth, depth)?;
+        let channel = Channel::new(alloc, &checked, 0, depth, reads)?;
         Ok(Fixture {
             map: ByLines { checked },
             channel,
@@ -89,8 +91,8 @@ impl Fixture {
         Ok(self.map.line(place))
     }
 
-    /// Writes a line of one byte: the write's number and place, or None where as many are pending as may be.
-    pub(crate) fn put(&mut self, line: u64, byte: u8) -> Result<Option<(u64, Place)>, Fail> {
+    /// Writes a line of one byte: the write's number and place.
+    pub(crate) fn put(&mut self, line: u64, byte: u8) -> Result<Result<(u64, Place), Full>, Fail> {
         if !self.channel.has_line(&self.map, line) {
             return Err("no such line".into());
         }
@@ -99,23 +101,24 @@ impl Fixture {
             return Err("no such number".into());
         }
         let place = self.map.place(line);
-        if self
-            .channel
-            .put(&self.map, number, line, [byte; 64])
-            .is_err()
-        {
-            return Ok(None);
+        match self.channel.put(&self.map, number, line, [byte; 64]) {
+            Ok(()) => {
+                self.number = number + 1;
+                Ok(Ok((number, place)))
+            }
+            Err(full) => Ok(Err(full)),
         }
-        self.number = number + 1;
-        Ok(Some((number, place)))
     }
 
-    /// Reads a line, if a further read may wait.
-    pub(crate) fn get(&mut self, line: u64) -> Result<Option<Got>, Fail> {
+    pub(crate) fn get(&mut self, line: u64) -> Result<Result<Got, ReadsFull>, Fail> {
         if !self.channel.has_line(&self.map, line) {
             return Err("no such line".into());
         }
-        Ok(self.channel.get(&self.map, line, self.number).ok())
+        Ok(self.channel.get(&self.map, line, self.number))
+    }
+
+    pub(crate) fn collect(&mut self, ticket: Ticket) -> Collected {
+        self.channel.collect(ticket)
     }
 
     /// A line of the array.
@@ -135,13 +138,20 @@ impl Fixture {
         self.channel.hold_from(number);
     }
 
-    /// Issues one command; the reads that it answered are collected.
+    pub(crate) fn release(&mut self) {
+        self.channel.release();
+    }
+
     pub(crate) fn work(&mut self) -> Option<Done> {
-        let done = self.channel.work()?;
-        if let Some(chan_core::Served::Read(ticket)) = done.served {
-            self.channel.collect(ticket);
-        }
-        Some(done)
+        self.channel.work()
+    }
+
+    pub(crate) fn work_many(
+        &mut self,
+        alloc: Global,
+        n: usize,
+    ) -> Result<Vec<Stamped>, AllocError> {
+        self.channel.work_many(alloc, n)
     }
 
     /// Drains the channel.

@@ -1,11 +1,12 @@
 // A channel with a plain account of what went into it and what it issued.
-use crate::DrainReport;
 use crate::tests::fixture::{Fixture, NUMBERS};
+use crate::tests::picks::Picks;
 use crate::tests::plain::{Plain, spent};
 use chan_core::Served;
 use ddr4_timing::command::{Command, Stamped};
 use ddr4_timing::place::Place;
 use ddr4_timing::timing::{Geometry, Timing};
+use drain_core::DrainReport;
 use energy_budget::Action;
 use std::alloc::Global;
 use std::process::Abort;
@@ -19,8 +20,7 @@ pub struct Run {
     commands: Vec<Stamped>,
     pending: Vec<(u64, Place)>,
     bytes: Vec<u8>,
-    salt: u64,
-    apart: u64,
+    picks: Picks,
 }
 
 /// What a drain did.
@@ -41,7 +41,7 @@ impl Run {
         salt: u64,
         apart: u64,
     ) -> Result<Run, Fail> {
-        let fixture = Fixture::new(alloc, timing, geometry, 8)?;
+        let fixture = Fixture::new(alloc, timing, geometry, 8, 8)?;
         let bytes = Vec::from_elem(alloc, 0, fixture.lines() as usize)?;
         Ok(Run {
             alloc,
@@ -49,24 +49,14 @@ impl Run {
             commands: Vec::new(alloc),
             pending: Vec::new(alloc),
             bytes,
-            salt,
-            apart,
+            picks: Picks { salt, apart },
         })
-    }
-
-    // The next number of the stream of requests.
-    fn pick(&mut self) -> u64 {
-        self.salt = self
-            .salt
-            .wrapping_mul(6_364_136_223_846_793_005)
-            .wrapping_add(1_442_695_040_888_963_407);
-        (self.salt >> 33).wrapping_mul(self.apart)
     }
 
     /// Writes a line that the number picks; false where no further write may wait.
     pub(crate) fn put(&mut self, pick: u64, byte: u8) -> Result<bool, Fail> {
         let line = self.fixture.line(pick);
-        let Some(write) = self.fixture.put(line, byte)? else {
+        let Ok(write) = self.fixture.put(line, byte)? else {
             return Ok(false);
         };
         self.pending.push(write)?;
@@ -80,7 +70,7 @@ impl Run {
     // Writes until no further write may wait.
     fn fill_writes(&mut self) -> Result<(), Fail> {
         for byte in 1..255 {
-            let pick = self.pick();
+            let pick = self.picks.next();
             if !self.put(pick, byte)? {
                 return Ok(());
             }
@@ -92,23 +82,27 @@ impl Run {
     pub(crate) fn fill(&mut self) -> Result<(), Fail> {
         self.fill_writes()?;
         for _ in 0..1000 {
-            let pick = self.pick();
+            let pick = self.picks.next();
             let line = self.fixture.line(pick);
-            if self.fixture.get(line)?.is_none() {
+            if self.fixture.get(line)?.is_err() {
                 return Ok(());
             }
         }
         Err("never full".into())
     }
 
-    /// Issues one command, if there is one: its clock.
+    /// Issues one command, if there is one, and collects the read that it answered: its clock.
     pub(crate) fn step(&mut self) -> Result<Option<u64>, Fail> {
         let Some(done) = self.fixture.work() else {
             return Ok(None);
         };
         self.commands.push(done.command)?;
-        if let Some(Served::Write { number }) = done.served {
-            self.pending.retain(|write| write.0 != number);
+        match done.served {
+            Some(Served::Write { number }) => self.pending.retain(|write| write.0 != number),
+            Some(Served::Read(ticket)) => {
+                self.fixture.collect(ticket);
+            }
+            None => {}
         }
         Ok(Some(done.command.clock))
     }
@@ -203,8 +197,11 @@ impl Run {
 
 /// How many of the commands are a REF.
 pub(crate) fn refreshes(commands: &[Stamped]) -> usize {
-    commands
-        .iter()
-        .filter(|x| matches!(x.cmd, Command::Ref { .. }))
-        .count()
+    let mut count = 0_usize;
+    for command in commands {
+        if matches!(command.cmd, Command::Ref { .. }) {
+            count = count.saturating_add(1);
+        }
+    }
+    count
 }
