@@ -14,8 +14,6 @@ mod moves;
 mod phase;
 mod reads;
 mod singles;
-#[cfg(test)]
-mod tests;
 
 pub use answers::{Collected, Done, Got, ReadsFull, Served, Ticket};
 pub use channel::{Channel, RECENT};

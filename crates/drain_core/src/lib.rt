@@ -6,8 +6,6 @@ mod channel_drain;
 pub mod laws;
 mod report;
 mod steps;
-#[cfg(test)]
-mod tests;
 
 pub use channel_drain::drain;
 pub use report::DrainReport;

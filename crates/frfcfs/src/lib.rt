@@ -14,5 +14,3 @@ pub mod next;
 pub mod pending;
 pub mod queue;
 mod search;
-#[cfg(test)]
-mod tests;

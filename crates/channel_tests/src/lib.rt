@@ -1,0 +1,6 @@
+//! The tests of a channel (`chan_core`) and of its drain (`drain_core`). They stand apart from both, since a crate with tests is
+//! proved a second time with them.
+#![tactic(auto)]
+
+#[cfg(test)]
+mod tests;
