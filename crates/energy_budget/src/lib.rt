@@ -10,8 +10,6 @@ mod energy;
 pub mod laws;
 mod meter;
 mod tally;
-#[cfg(test)]
-mod tests;
 mod wild;
 
 pub use action::Action;

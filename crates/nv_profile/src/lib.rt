@@ -9,8 +9,6 @@ mod profile;
 mod reading;
 mod sizes;
 mod table;
-#[cfg(test)]
-mod tests;
 mod timing;
 
 pub use profile::{MapWord, Profile};

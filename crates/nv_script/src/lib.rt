@@ -8,8 +8,6 @@ mod answer;
 mod line;
 mod reading;
 mod refusal;
-#[cfg(test)]
-mod tests;
 mod word;
 
 pub use answer::{Answer, Loss};

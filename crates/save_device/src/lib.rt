@@ -7,8 +7,6 @@ mod device;
 mod fuse;
 mod memory;
 mod one_fault;
-#[cfg(test)]
-mod tests;
 
 pub use calls::{Call, CallKind, CallLog};
 pub use device::{DeviceFault, SaveDevice};

@@ -13,8 +13,6 @@ mod plan;
 mod restoring;
 mod saving;
 mod slots;
-#[cfg(test)]
-mod tests;
 mod whole;
 
 pub use arming::mark_armed;

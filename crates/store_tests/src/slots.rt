@@ -1,9 +1,13 @@
 // What no clause says: that calls succeed, the texts and numbers, and what a stop leaves at each call, by hand.
-use super::*;
+use crate::check::same;
 use line_memory::Line;
 use save_device::{Fuse, MemoryDevice, OneFault, Pick, SaveDevice};
+use slot_store::{
+    Newest, RestoreError, SaveFault, SaveRun, Slot, Step, Verdict, device_size, format, mark_armed,
+    restore, save,
+};
 use std::alloc::Global;
-use std::test::Fail;
+use std::process::Abort;
 
 const LINES: usize = 128;
 
@@ -16,12 +20,12 @@ const CLOSED_FIRST: Newest = Newest {
 
 const PICKS: [Pick; 4] = [Pick::Old, Pick::New, Pick::Torn(0xa5), Pick::Torn(0)];
 
-fn formatted(alloc: Global) -> Result<MemoryDevice, Fail> {
-    let mut device = MemoryDevice::new(alloc, Vec::from_elem(alloc, 0, SIZE)?)?;
-    if device.len() == SIZE {
-        format(&mut device, LINES)?;
-    }
-    Ok(device)
+fn formatted<R: Abort + AllocGlobal>(rt: &R) -> MemoryDevice {
+    let zeros = Vec::from_elem(rt.alloc(), 0, SIZE).expect(rt, "memory");
+    let mut device = MemoryDevice::new(rt.alloc(), zeros).expect(rt, "memory");
+    assert!(*rt; device.len() == SIZE);
+    format(&mut device, LINES).expect(rt, "a store");
+    device
 }
 
 // A memory whose first line has this byte.
@@ -64,77 +68,68 @@ fn after_a_stop(alloc: Global, fuse: Fuse<MemoryDevice>, pick: Pick) -> (u64, u8
 }
 
 #[test]
-fn a_stop_leaves_the_old_image_or_the_new_one(rt: HostRuntime) -> Result<(), Fail> {
+fn a_stop_leaves_the_old_image_or_the_new_one(rt: HostRuntime) {
     for byte in [0x11, 0x91] {
         for pick in PICKS {
             for calls in 0..9 {
-                let mut fuse = Fuse::new(formatted(rt.alloc())?, 0);
+                let mut fuse = Fuse::new(formatted(&rt), 0);
                 save_in_part(&mut fuse, calls, CLOSED_FIRST, true, byte);
                 let is_new = calls == 8
                     || calls == 7 && (pick == Pick::New || pick == Pick::Torn(0xa5));
                 let expected = if is_new { (2, byte) } else { (1, 0) };
-                assert_eq!(rt;
-                    after_a_stop(rt.alloc(), fuse, pick),
-                    expected,
-                    "after {calls} calls"
-                );
+                let found = after_a_stop(rt.alloc(), fuse, pick);
+                same(&rt, (calls, found), (calls, expected));
             }
         }
     }
-    Ok(())
 }
 
 #[test]
-fn a_stop_over_a_gate_that_is_not_known_closed(rt: HostRuntime) -> Result<(), Fail> {
+fn a_stop_over_a_gate_that_is_not_known_closed(rt: HostRuntime) {
     for byte in [0x22, 0xa2] {
         for pick in PICKS {
             for calls in 0..9 {
-                let mut fuse = Fuse::new(formatted(rt.alloc())?, 0);
+                let mut fuse = Fuse::new(formatted(&rt), 0);
                 let (newest, closed) = save_in_part(&mut fuse, 8, CLOSED_FIRST, true, 0x11);
                 assert!(rt; !closed);
                 save_in_part(&mut fuse, calls, newest, closed, byte);
                 let is_new = calls == 8
                     || calls == 7 && (pick == Pick::New || pick == Pick::Torn(0xa5));
                 let expected = if is_new { (3, byte) } else { (2, 0x11) };
-                assert_eq!(rt;
-                    after_a_stop(rt.alloc(), fuse, pick),
-                    expected,
-                    "after {calls} calls"
-                );
+                let found = after_a_stop(rt.alloc(), fuse, pick);
+                same(&rt, (calls, found), (calls, expected));
             }
         }
     }
-    Ok(())
 }
 
 // An armed save tells of writes that may come after it, and a clear one of none.
 #[test]
-fn verdicts_of_saves(rt: HostRuntime) -> Result<(), Fail> {
+fn verdicts_of_saves(rt: HostRuntime) {
     for (byte, verdict) in [
         (0x11, Verdict::Complete),
         (0x91, Verdict::PossibleLoss { after: 1 }),
     ] {
         for pick in PICKS {
-            let mut fuse = Fuse::new(formatted(rt.alloc())?, 0);
+            let mut fuse = Fuse::new(formatted(&rt), 0);
             save_in_part(&mut fuse, 8, CLOSED_FIRST, true, byte);
             fuse.device.stop(pick);
-            assert_eq!(rt; told(rt.alloc(), &mut fuse.device), Ok((2, verdict)));
+            same(&rt, told(rt.alloc(), &mut fuse.device), Ok((2, verdict)));
         }
     }
-    Ok(())
 }
 
 // What a stop may leave in the second save, an armed one, after one that failed: the old image or the second new one, and
 // until its gate is settled closed the first new one too, where its opening was tried.
 #[test]
-fn a_stop_after_a_failed_save(rt: HostRuntime) -> Result<(), Fail> {
+fn a_stop_after_a_failed_save(rt: HostRuntime) {
     for pick in PICKS {
         for first in 0..8 {
             for second in 0..9 {
-                let mut fuse = Fuse::new(formatted(rt.alloc())?, 0);
+                let mut fuse = Fuse::new(formatted(&rt), 0);
                 let (newest, closed) = save_in_part(&mut fuse, first, CLOSED_FIRST, true, 0x11);
-                assert_eq!(rt; newest, CLOSED_FIRST);
-                assert_eq!(rt; closed, first < 6);
+                same(&rt, newest, CLOSED_FIRST);
+                same(&rt, closed, first < 6);
                 save_in_part(&mut fuse, second, newest, closed, 0xa2);
                 let found = after_a_stop(rt.alloc(), fuse, pick);
                 let is_old = found == (1, 0) && second < 8;
@@ -147,20 +142,18 @@ fn a_stop_after_a_failed_save(rt: HostRuntime) -> Result<(), Fail> {
             }
         }
     }
-    Ok(())
 }
 
 #[test]
-fn a_write_that_fails_may_reach_the_device(rt: HostRuntime) -> Result<(), Fail> {
+fn a_write_that_fails_may_reach_the_device(rt: HostRuntime) {
     for before in 0..8 {
-        let mut device = OneFault::new(formatted(rt.alloc())?, before);
-        assert_eq!(rt; device.len(), SIZE);
+        let mut device = OneFault::new(formatted(&rt), before);
+        assert!(rt; device.len() == SIZE);
         let refused = save(&mut device, CLOSED_FIRST, true, 1, false, &memory(0x11));
-        assert_eq!(rt; refused, Err(SaveFault { closed: before < 6 }));
+        same(&rt, refused, Err(SaveFault { closed: before < 6 }));
         let found = after_a_stop(rt.alloc(), Fuse::new(device.device, 0), Pick::New);
-        assert_eq!(rt; found.0, if before < 6 { 1 } else { 2 });
+        same(&rt, found.0, if before < 6 { 1 } else { 2 });
     }
-    Ok(())
 }
 
 // A step of a save of a memory of zero lines.
@@ -172,49 +165,48 @@ fn step(run: &mut SaveRun, device: &mut Fuse<MemoryDevice>) -> Option<Step> {
 }
 
 #[test]
-fn the_steps_of_a_save(rt: HostRuntime) -> Result<(), Fail> {
+fn the_steps_of_a_save(rt: HostRuntime) {
     let newest = Newest {
         slot: Slot::Second,
         generation: 7,
     };
-    let mut device = Fuse::new(formatted(rt.alloc())?, 8);
+    let mut device = Fuse::new(formatted(&rt), 8);
     let mut run = SaveRun::begin(newest, false, 3, true, LINES);
-    assert_eq!(rt; run.count(), 3);
+    same(&rt, run.count(), 3);
     let mut said = String::new(rt.alloc());
     for left in [8, 7, 6, 5, 4, 3, 2, 1] {
-        assert_eq!(rt; run.steps_left(), left);
-        let step = step(&mut run, &mut device).ok_or("a step failed")?;
-        write!(said, "{step}, ")?;
+        same(&rt, run.steps_left(), left);
+        let step = step(&mut run, &mut device).expect(&rt, "a step");
+        write!(said, "{step}, ").expect(&rt, "memory");
     }
-    assert_eq!(rt;
+    same(
+        &rt,
         said.as_str(),
-        "close, sync, header, page 0, page 1, sync, open, sync, "
+        "close, sync, header, page 0, page 1, sync, open, sync, ",
     );
-    assert_eq!(rt; run.next(), Step::Done);
-    Ok(())
+    same(&rt, run.next(), Step::Done);
 }
 
 #[test]
-fn a_failed_step_is_made_again(rt: HostRuntime) -> Result<(), Fail> {
-    let mut device = Fuse::new(formatted(rt.alloc())?, 0);
+fn a_failed_step_is_made_again(rt: HostRuntime) {
+    let mut device = Fuse::new(formatted(&rt), 0);
     let mut run = SaveRun::begin(CLOSED_FIRST, true, 0, false, LINES);
     for left in [8, 7, 6, 5, 4, 3, 2, 1] {
         let coming = run.next();
-        assert_eq!(rt; run.is_closed(), left > 1);
+        same(&rt, run.is_closed(), left > 1);
         device.left = 0;
-        assert_eq!(rt; step(&mut run, &mut device), None);
-        assert_eq!(rt; run.next(), coming);
-        assert_eq!(rt; run.is_closed(), left > 2);
+        same(&rt, step(&mut run, &mut device), None);
+        same(&rt, run.next(), coming);
+        same(&rt, run.is_closed(), left > 2);
         device.left = 1;
-        assert_eq!(rt; step(&mut run, &mut device), Some(coming));
+        same(&rt, step(&mut run, &mut device), Some(coming));
     }
-    assert_eq!(rt; device.faults(), 8);
-    assert_eq!(rt; after_a_stop(rt.alloc(), device, Pick::Old), (2, 0));
-    Ok(())
+    same(&rt, device.faults(), 8);
+    same(&rt, after_a_stop(rt.alloc(), device, Pick::Old), (2, 0));
 }
 
 #[test]
-fn an_arm_that_is_stopped(rt: HostRuntime) -> Result<(), Fail> {
+fn an_arm_that_is_stopped(rt: HostRuntime) {
     let clear = Ok((1, Verdict::Complete));
     let armed = Ok((1, Verdict::PossibleLoss { after: 0 }));
     for (calls, pick, expected) in [
@@ -225,26 +217,24 @@ fn an_arm_that_is_stopped(rt: HostRuntime) -> Result<(), Fail> {
         (1, Pick::Torn(0xa5), armed),
         (2, Pick::Old, armed),
     ] {
-        let mut fuse = Fuse::new(formatted(rt.alloc())?, calls);
-        assert_eq!(rt; fuse.len(), SIZE);
-        assert_eq!(rt; mark_armed(&mut fuse, Slot::First).is_ok(), calls == 2);
+        let mut fuse = Fuse::new(formatted(&rt), calls);
+        assert!(rt; fuse.len() == SIZE);
+        same(&rt, mark_armed(&mut fuse, Slot::First).is_ok(), calls == 2);
         let mut device = fuse.device;
         device.stop(pick);
-        assert_eq!(rt; told(rt.alloc(), &mut device), expected);
+        same(&rt, told(rt.alloc(), &mut device), expected);
     }
-    Ok(())
 }
 
 #[test]
-fn the_second_slot_is_armed(rt: HostRuntime) -> Result<(), Fail> {
-    let mut fuse = Fuse::new(formatted(rt.alloc())?, 0);
+fn the_second_slot_is_armed(rt: HostRuntime) {
+    let mut fuse = Fuse::new(formatted(&rt), 0);
     let (newest, _closed) = save_in_part(&mut fuse, 8, CLOSED_FIRST, true, 0x11);
     fuse.left = 2;
-    assert_eq!(rt; fuse.len(), SIZE);
-    mark_armed(&mut fuse, newest.slot)?;
+    assert!(rt; fuse.len() == SIZE);
+    mark_armed(&mut fuse, newest.slot).expect(&rt, "a mark");
     let armed = Ok((2, Verdict::PossibleLoss { after: 1 }));
-    assert_eq!(rt; told(rt.alloc(), &mut fuse.device), armed);
-    Ok(())
+    same(&rt, told(rt.alloc(), &mut fuse.device), armed);
 }
 
 // What a device restores to.
@@ -252,72 +242,57 @@ fn told(alloc: Global, device: &mut MemoryDevice) -> Result<(u64, Verdict), Rest
     restore(alloc, device, LINES).map(|restored| (restored.generation, restored.verdict))
 }
 
-// What a device restores to after these bytes were set in a formatted store.
-fn restored(
-    alloc: Global,
+// Fails where a formatted store with these bytes set restores to something else.
+fn restores<R: Abort + AllocGlobal>(
+    rt: &R,
     changes: &[(usize, u8)],
-) -> Result<Result<(u64, Verdict), RestoreError>, Fail> {
-    let mut device = formatted(alloc)?;
+    wanted: Result<(u64, Verdict), RestoreError>,
+) {
+    let mut device = formatted(rt);
     for (at, byte) in changes {
         if *at < device.len() {
-            device.write_at(*at, &[*byte])?;
+            device.write_at(*at, &[*byte]).expect(rt, "a write");
         }
     }
-    Ok(told(alloc, &mut device))
+    same(rt, told(rt.alloc(), &mut device), wanted);
 }
 
 #[test]
-fn what_a_store_restores_to(rt: HostRuntime) -> Result<(), Fail> {
-    let first = Slot::First;
-    assert_eq!(rt; restored(rt.alloc(), &[])?, Ok((1, Verdict::Complete)));
-    assert_eq!(rt;
-        restored(rt.alloc(), &[(1, 1)])?,
-        Ok((1, Verdict::PossibleLoss { after: 0 }))
-    );
-    assert_eq!(rt;
-        restored(rt.alloc(), &[(0, 0xa4)])?,
-        Err(RestoreError::NoImage)
-    );
-    assert_eq!(rt;
-        restored(rt.alloc(), &[(32, 127)])?,
-        Err(RestoreError::Damaged { slot: first })
-    );
-    assert_eq!(rt;
-        restored(rt.alloc(), &[(40, 1)])?,
-        Err(RestoreError::Damaged { slot: first })
-    );
-    assert_eq!(rt;
-        restored(rt.alloc(), &[(SIZE / 2, 0xa5)])?,
-        Err(RestoreError::Damaged { slot: Slot::Second })
-    );
-    Ok(())
+fn what_a_store_restores_to(rt: HostRuntime) {
+    let first = RestoreError::Damaged { slot: Slot::First };
+    let second = RestoreError::Damaged { slot: Slot::Second };
+    restores(&rt, &[], Ok((1, Verdict::Complete)));
+    restores(&rt, &[(1, 1)], Ok((1, Verdict::PossibleLoss { after: 0 })));
+    restores(&rt, &[(0, 0xa4)], Err(RestoreError::NoImage));
+    restores(&rt, &[(32, 127)], Err(first));
+    restores(&rt, &[(40, 1)], Err(first));
+    restores(&rt, &[(SIZE / 2, 0xa5)], Err(second));
 }
 
 #[test]
-fn a_device_of_another_size(rt: HostRuntime) -> Result<(), Fail> {
-    let mut device = MemoryDevice::new(rt.alloc(), Vec::from_elem(rt.alloc(), 0, SIZE - 1)?)?;
+fn a_device_of_another_size(rt: HostRuntime) {
+    let zeros = Vec::from_elem(rt.alloc(), 0, SIZE - 1).expect(&rt, "memory");
+    let mut device = MemoryDevice::new(rt.alloc(), zeros).expect(&rt, "memory");
     let refused = restore(rt.alloc(), &mut device, LINES).err();
-    assert_eq!(rt; refused, Some(RestoreError::WrongSize));
-    Ok(())
+    same(&rt, refused, Some(RestoreError::WrongSize));
 }
 
 #[test]
-fn a_restore_on_a_device_that_fails(rt: HostRuntime) -> Result<(), Fail> {
+fn a_restore_on_a_device_that_fails(rt: HostRuntime) {
     for calls in 0..6 {
-        let mut fuse = Fuse::new(formatted(rt.alloc())?, calls);
+        let mut fuse = Fuse::new(formatted(&rt), calls);
         let answer = restore(rt.alloc(), &mut fuse, LINES).map(|restored| restored.count);
         let expected = if calls < 5 {
             Err(RestoreError::Device)
         } else {
             Ok(0)
         };
-        assert_eq!(rt; answer, expected);
+        same(&rt, answer, expected);
     }
-    Ok(())
 }
 
 #[test]
-fn refusals_and_verdicts_as_texts(rt: HostRuntime) -> Result<(), Fail> {
+fn refusals_and_verdicts_as_texts(rt: HostRuntime) {
     for (error, text) in [
         (RestoreError::NoImage, "1 NoImage"),
         (RestoreError::Damaged { slot: Slot::First }, "2 Damaged 0"),
@@ -326,37 +301,37 @@ fn refusals_and_verdicts_as_texts(rt: HostRuntime) -> Result<(), Fail> {
         (RestoreError::Device, "4 Device"),
         (RestoreError::Memory, "5 Memory"),
     ] {
-        assert_eq!(rt; error.to_string(rt.alloc())?.as_str(), text);
+        let shown = error.to_string(rt.alloc()).expect(&rt, "memory");
+        same(&rt, shown.as_str(), text);
     }
-    let lost = Verdict::PossibleLoss { after: 3 };
-    assert_eq!(rt;
-        Verdict::Complete.to_string(rt.alloc())?.as_str(),
-        "Complete"
-    );
-    assert_eq!(rt; lost.to_string(rt.alloc())?.as_str(), "PossibleLoss");
+    for (verdict, text) in [
+        (Verdict::Complete, "Complete"),
+        (Verdict::PossibleLoss { after: 3 }, "PossibleLoss"),
+    ] {
+        let shown = verdict.to_string(rt.alloc()).expect(&rt, "memory");
+        same(&rt, shown.as_str(), text);
+    }
     let fault = SaveFault { closed: true };
-    assert_eq!(rt; fault.to_string(rt.alloc())?.as_str(), "the device failed");
-    Ok(())
+    let shown = fault.to_string(rt.alloc()).expect(&rt, "memory");
+    same(&rt, shown.as_str(), "the device failed");
 }
 
 // A store of the largest memory: it is formatted, a memory is saved, and restored again.
 #[test]
-fn the_largest_memory(rt: HostRuntime) -> Result<(), Fail> {
+fn the_largest_memory(rt: HostRuntime) {
     let alloc = rt.alloc();
     let size = device_size(65_536);
-    let mut device = MemoryDevice::new(alloc, Vec::from_elem(alloc, 0, size)?)?;
-    assert_eq!(rt; device.len(), size);
-    format(&mut device, 65_536)?;
-    let mut lines = Vec::from_elem(alloc, [0; 64], 65_536)?;
-    assert_eq!(rt; lines.len(), 65_536);
+    let zeros = Vec::from_elem(alloc, 0, size).expect(&rt, "memory");
+    let mut device = MemoryDevice::new(alloc, zeros).expect(&rt, "memory");
+    assert!(rt; device.len() == size);
+    format(&mut device, 65_536).expect(&rt, "a store");
+    let mut lines = Vec::from_elem(alloc, [0; 64], 65_536).expect(&rt, "memory");
+    assert!(rt; lines.len() == 65_536);
     lines[65_535] = [0x33; 64];
-    let newest = save(&mut device, CLOSED_FIRST, true, 9, false, &lines)?;
+    let newest = save(&mut device, CLOSED_FIRST, true, 9, false, &lines).expect(&rt, "a save");
     device.stop(Pick::Old);
-    let Ok(restored) = restore(alloc, &mut device, 65_536) else {
-        return Err("nothing was restored")?;
-    };
-    assert_eq!(rt; restored.newest(), newest);
-    assert_eq!(rt; restored.count, 9);
-    assert_eq!(rt; restored.lines.last(), Some(&[0x33; 64]));
-    Ok(())
+    let restored = restore(alloc, &mut device, 65_536).expect(&rt, "an image");
+    same(&rt, restored.newest(), newest);
+    same(&rt, restored.count, 9);
+    same(&rt, restored.lines.last(), Some(&[0x33; 64]));
 }

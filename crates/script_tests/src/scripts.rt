@@ -1,32 +1,10 @@
 // What scripts write.
-use nv_profile::{Profile, TINY, read_profile};
+use crate::running::{answers_on, are_answered, is_answered};
+use nv_profile::{TINY, read_profile};
 use nv_script::ScriptFault;
 use script_runner::run_on_maps;
 use std::alloc::Global;
 use std::process::Abort;
-use std::test::Fail;
-
-fn tiny(alloc: Global) -> Result<Profile, Fail> {
-    Ok(read_profile(alloc, TINY.as_bytes())?)
-}
-
-/// What a script writes.
-pub(crate) fn written(alloc: Global, script: &str) -> Result<String, Fail> {
-    let mut text = Vec::new(alloc);
-    run_on_maps(alloc, &tiny(alloc)?, script.as_bytes(), &mut text)?;
-    Ok(String::from_utf8(text)?)
-}
-
-// Runs scripts. The lines of each and those of its answers are separated by slashes.
-fn are_answered<R: Abort + AllocGlobal>(rt: &R, cases: &[(&str, &str)]) -> Result<(), Fail> {
-    for (script, answers) in cases {
-        let script = script.replace(rt.alloc(), "/", "\n")?;
-        let wanted = answers.replace(rt.alloc(), "/", "\n")?;
-        let text = written(rt.alloc(), script.as_str())?;
-        assert_eq!(*rt; text.as_str().trim_end(), wanted.as_str(), "{script}");
-    }
-    Ok(())
-}
 
 const AT_REST: [(&str, &str); 6] = [
     ("", ""),
@@ -50,8 +28,8 @@ const AT_REST: [(&str, &str); 6] = [
 ];
 
 #[test]
-fn where_no_life_runs(rt: HostRuntime) -> Result<(), Fail> {
-    are_answered(&rt, &AT_REST)
+fn where_no_life_runs(rt: HostRuntime) {
+    are_answered(&rt, &AT_REST);
 }
 
 const DISARMED: [(&str, &str); 7] = [
@@ -86,8 +64,8 @@ const DISARMED: [(&str, &str); 7] = [
 ];
 
 #[test]
-fn while_disarmed(rt: HostRuntime) -> Result<(), Fail> {
-    are_answered(&rt, &DISARMED)
+fn while_disarmed(rt: HostRuntime) {
+    are_answered(&rt, &DISARMED);
 }
 
 const ARMED: [(&str, &str); 6] = [
@@ -118,8 +96,8 @@ const ARMED: [(&str, &str); 6] = [
 ];
 
 #[test]
-fn while_armed(rt: HostRuntime) -> Result<(), Fail> {
-    are_answered(&rt, &ARMED)
+fn while_armed(rt: HostRuntime) {
+    are_answered(&rt, &ARMED);
 }
 
 const LOSSES: [(&str, &str); 6] = [
@@ -150,83 +128,96 @@ const LOSSES: [(&str, &str); 6] = [
 ];
 
 #[test]
-fn losses_of_mains(rt: HostRuntime) -> Result<(), Fail> {
-    are_answered(&rt, &LOSSES)
+fn losses_of_mains(rt: HostRuntime) {
+    are_answered(&rt, &LOSSES);
 }
 
 // Whether a script is refused for its first line, with nothing written.
-fn is_bad(alloc: Global, script: &str) -> Result<bool, Fail> {
-    let mut text = Vec::new(alloc);
-    let is_refused = match run_on_maps(alloc, &tiny(alloc)?, script.as_bytes(), &mut text) {
-        Err(fault) => fault == ScriptFault::Line { number: 1 },
-        Ok(_) => false,
+fn is_bad(alloc: Global, script: &[u8]) -> bool {
+    let Ok(profile) = read_profile(alloc, TINY.as_bytes()) else {
+        return false;
     };
-    Ok(is_refused && text.is_empty())
-}
-
-#[test]
-fn a_script_with_a_bad_line(rt: HostRuntime) -> Result<(), Fail> {
-    for script in ["work 2 1\nformat\n", "onefault 1\nformat\n"] {
-        assert!(rt; is_bad(rt.alloc(), script)?, "{script}");
+    let mut text = Vec::new(alloc);
+    match run_on_maps(alloc, &profile, script, &mut text) {
+        Err(fault) => fault == ScriptFault::Line { number: 1 } && text.is_empty(),
+        Ok(_) => false,
     }
-    Ok(())
 }
 
 #[test]
-fn a_writer_that_takes_no_more(rt: HostRuntime) -> Result<(), Fail> {
+fn a_script_with_a_bad_line(rt: HostRuntime) {
+    assert!(rt; is_bad(rt.alloc(), b"work 2 1\nformat\n"));
+    assert!(rt; is_bad(rt.alloc(), b"onefault 1\nformat\n"));
+}
+
+// Whether a script is broken off because its writer takes no more, with these bytes written.
+fn is_cut_off(alloc: Global, script: &[u8], written: [u8; 14]) -> bool {
+    let Ok(profile) = read_profile(alloc, TINY.as_bytes()) else {
+        return false;
+    };
     let mut room = [0; 14];
     let mut writer = room.as_mut_slice();
-    let script = b"format\nformat\nformat\n";
-    let result = run_on_maps(rt.alloc(), &tiny(rt.alloc())?, script, &mut writer);
-    let is_told = match result {
+    let is_told = match run_on_maps(alloc, &profile, script, &mut writer) {
         Err(fault) => fault == ScriptFault::Writer,
         Ok(_) => false,
     };
-    assert!(rt; is_told);
-    assert_eq!(rt; room.as_slice(), b"formatted\nform".as_slice());
-    Ok(())
-}
-
-// What a script writes on the small profile with other text in place of some.
-fn written_on(alloc: Global, old: &str, new: &str, script: &str) -> Result<String, Fail> {
-    let (head, tail) = TINY.split_once(old).ok_or("not there")?;
-    let profile = format!(in alloc; "{head}{new}{tail}")?;
-    let mut text = Vec::new(alloc);
-    let profile = read_profile(alloc, profile.as_bytes())?;
-    run_on_maps(alloc, &profile, script.as_bytes(), &mut text)?;
-    Ok(String::from_utf8(text)?)
+    is_told && room == written
 }
 
 #[test]
-fn a_write_past_a_full_life(rt: HostRuntime) -> Result<(), Fail> {
-    let script = "format\nwrite 0 11\nwrite 1 22\nwrite 2 33\nsave\nrestore\nwrite 2 33\n";
-    assert_eq!(rt;
-        written_on(rt.alloc(), "trail = 1024", "trail = 2", script)?.as_str(),
-        "formatted\naccepted 0 mark 0\naccepted 1 mark 0\nrefused write 5 TrailFull\nsaved 2 2\nrestored 2 2 Complete\naccepted 2 mark 2\n"
-    );
-    Ok(())
+fn a_writer_that_takes_no_more(rt: HostRuntime) {
+    let script = b"format\nformat\nformat\n";
+    assert!(rt; is_cut_off(rt.alloc(), script, *b"formatted\nform"));
+}
+
+// Fails where a script doesn't answer these lines on the small profile with other text in place of some.
+fn is_answered_with<R: Abort + AllocGlobal>(
+    rt: &R,
+    old: &str,
+    new: &str,
+    script: &str,
+    wanted: &str,
+) {
+    let answers = match TINY.replace(rt.alloc(), old, new) {
+        Ok(profile) => answers_on(rt.alloc(), profile.as_str(), script),
+        Err(_) => None,
+    };
+    assert_eq!(*rt; answers.as_deref(), Some(wanted), "{new}");
 }
 
 #[test]
-fn the_map_of_the_profile(rt: HostRuntime) -> Result<(), Fail> {
-    let script = "format\nwrite 69 44\nwork 0 1\nwork 1 1\n";
-    assert_eq!(rt;
-        written_on(rt.alloc(), "map = \"lines\"", "map = \"xor\"", script)?.as_str(),
-        "formatted\naccepted 0 mark 0\n0 0 ACT 0 0 0 1\n1 idle\n"
+fn a_write_past_a_full_life(rt: HostRuntime) {
+    is_answered_with(
+        &rt,
+        "trail = 1024",
+        "trail = 2",
+        "format/write 0 11/write 1 22/write 2 33/save/restore/write 2 33",
+        "formatted/accepted 0 mark 0/accepted 1 mark 0/refused write 5 TrailFull/saved 2 2/restored 2 2 Complete/accepted 2 mark 2",
     );
-    assert_eq!(rt;
-        written(rt.alloc(), script)?.as_str(),
-        "formatted\naccepted 0 mark 0\n0 idle\n1 0 ACT 0 0 0 1\n"
-    );
-    Ok(())
 }
 
 #[test]
-fn a_channel_that_is_full(rt: HostRuntime) -> Result<(), Fail> {
-    let writes = "write 0 11\n".repeat(rt.alloc(), 9)?;
-    let script = format!(in rt.alloc(); "format\n{writes}write 128 11\n")?;
-    let text = written(rt.alloc(), script.as_str())?;
-    let last = "\naccepted 7 mark 0\nrefused write 1 Full\nrefused write 6 NoSuchLine\n";
-    assert!(rt; text.ends_with(last));
-    Ok(())
+fn the_map_of_the_profile(rt: HostRuntime) {
+    let script = "format/write 69 44/work 0 1/work 1 1";
+    is_answered_with(
+        &rt,
+        "map = \"lines\"",
+        "map = \"xor\"",
+        script,
+        "formatted/accepted 0 mark 0/0 0 ACT 0 0 0 1/1 idle",
+    );
+    is_answered(
+        &rt,
+        script,
+        "formatted/accepted 0 mark 0/0 idle/1 0 ACT 0 0 0 1",
+    );
+}
+
+#[test]
+fn a_channel_that_is_full(rt: HostRuntime) {
+    is_answered(
+        &rt,
+        "format/write 0 11/write 0 11/write 0 11/write 0 11/write 0 11/write 0 11/write 0 11/write 0 11/write 0 11/write 128 11",
+        "formatted/accepted 0 mark 0/accepted 1 mark 0/accepted 2 mark 0/accepted 3 mark 0/accepted 4 mark 0/accepted 5 mark 0/accepted 6 mark 0/accepted 7 mark 0/refused write 1 Full/refused write 6 NoSuchLine",
+    );
 }

@@ -1,0 +1,282 @@
+// Profiles at their limits and one past them, and texts that are none.
+use crate::check::same;
+use ddr4_timing::profiles;
+use energy_budget::CostNumbers;
+use nv_profile::{MapWord, ModuleSizes, Profile, ProfileFault, TINY, read_profile};
+use std::alloc::Global;
+use std::process::Abort;
+
+// The text of the word `tiny` with another value under a key.
+fn with<R: Abort + AllocGlobal>(rt: &R, key: &str, value: &str) -> String {
+    let start = format!(in rt.alloc(); "\n{key} = ").expect(rt, "memory");
+    let (before, rest) = TINY.split_once(start.as_str()).expect(rt, "the key");
+    let (_, after) = rest.split_once('\n').expect(rt, "the end of the line");
+    format!(in rt.alloc(); "{before}{start}{value}\n{after}").expect(rt, "memory")
+}
+
+// The text of the word `tiny` with another text in place of a part of it.
+fn without<R: Abort + AllocGlobal>(rt: &R, part: &str, other: &str) -> String {
+    let (before, after) = TINY.split_once(part).expect(rt, "the part");
+    format!(in rt.alloc(); "{before}{other}{after}").expect(rt, "memory")
+}
+
+fn is_profile(alloc: Global, text: &[u8]) -> bool {
+    read_profile(alloc, text).is_ok()
+}
+
+fn is_refused(alloc: Global, text: &[u8]) -> bool {
+    match read_profile(alloc, text) {
+        Err(fault) => fault == ProfileFault::Refused,
+        Ok(_) => false,
+    }
+}
+
+// Fails where a value under a key isn't accepted.
+fn accepts<R: Abort + AllocGlobal>(rt: &R, key: &str, value: &str) {
+    let text = with(rt, key, value);
+    assert!(*rt; is_profile(rt.alloc(), text.as_bytes()), "{key} = {value}");
+}
+
+// Fails where a value under a key isn't refused.
+fn refuses<R: Abort + AllocGlobal>(rt: &R, key: &str, value: &str) {
+    let text = with(rt, key, value);
+    assert!(*rt; is_refused(rt.alloc(), text.as_bytes()), "{key} = {value}");
+}
+
+// Fails where another text in place of a part isn't accepted.
+fn accepts_for<R: Abort + AllocGlobal>(rt: &R, part: &str, other: &str) {
+    let text = without(rt, part, other);
+    assert!(*rt;
+        is_profile(rt.alloc(), text.as_bytes()),
+        "{other} for {part}"
+    );
+}
+
+// Fails where another text in place of a part isn't refused.
+fn refuses_for<R: Abort + AllocGlobal>(rt: &R, part: &str, other: &str) {
+    let text = without(rt, part, other);
+    assert!(*rt;
+        is_refused(rt.alloc(), text.as_bytes()),
+        "{other} for {part}"
+    );
+}
+
+fn tiny<R: Abort + AllocGlobal>(rt: &R) -> Profile {
+    read_profile(rt.alloc(), TINY.as_bytes()).expect(rt, "a profile")
+}
+
+#[test]
+fn timing_of_tiny(rt: HostRuntime) {
+    let profile = tiny(&rt);
+    same(&rt, profile.checked.timing, profiles::TINY);
+    same(&rt, profile.checked.geometry, profiles::SMALL);
+}
+
+#[test]
+fn costs_and_sizes_of_tiny(rt: HostRuntime) {
+    let costs = CostNumbers {
+        e_act: 4,
+        e_col: 2,
+        e_pre: 1,
+        e_ref: 20,
+        e_sre: 1,
+        e_clk: 1,
+        e_mark: 50,
+        e_sync: 100,
+        e_page: 1000,
+        leak: 1,
+    };
+    let sizes = ModuleSizes {
+        depth: 8,
+        reads: 8,
+        trail: 1024,
+        notices: 64,
+    };
+    let profile = tiny(&rt);
+    same(&rt, profile.costs, costs);
+    same(&rt, profile.sizes, sizes);
+    same(&rt, profile.map, MapWord::Lines);
+}
+
+#[test]
+fn limits_of_costs(rt: HostRuntime) {
+    for key in [
+        "e_act", "e_col", "e_pre", "e_ref", "e_sre", "e_clk", "e_mark", "e_sync", "e_page", "leak",
+    ] {
+        for value in ["0", "1000000"] {
+            accepts(&rt, key, value);
+        }
+        for value in ["-1", "1000001"] {
+            refuses(&rt, key, value);
+        }
+    }
+}
+
+#[test]
+fn limits_of_sizes(rt: HostRuntime) {
+    for (key, most, past) in [
+        ("depth", "64", "65"),
+        ("reads", "64", "65"),
+        ("trail", "65536", "65537"),
+        ("notices", "4096", "4097"),
+    ] {
+        for value in ["1", most] {
+            accepts(&rt, key, value);
+        }
+        for value in ["0", "-1", past] {
+            refuses(&rt, key, value);
+        }
+    }
+}
+
+#[test]
+fn limits_of_timing(rt: HostRuntime) {
+    for key in [
+        "tRCD", "tRP", "tRAS", "CL", "CWL", "tCCD_S", "tCCD_L", "tRRD_S", "tRRD_L", "tFAW", "tWR",
+        "tWTR_S", "tWTR_L", "tRTP", "tRTW", "tCS", "tRFC",
+    ] {
+        for value in ["0", "-1", "100001", "9223372036854775807"] {
+            refuses(&rt, key, value);
+        }
+    }
+    for value in ["100000", "1"] {
+        accepts(&rt, "CL", value);
+    }
+    for (key, value) in [("tREFI", "1850"), ("tREFI", "1000000"), ("tFAW", "55")] {
+        accepts(&rt, key, value);
+    }
+    for (key, value) in [("tREFI", "1849"), ("tREFI", "1000001"), ("tFAW", "56")] {
+        refuses(&rt, key, value);
+    }
+}
+
+#[test]
+fn limits_of_the_geometry(rt: HostRuntime) {
+    for (key, value) in [
+        ("channels", "1"),
+        ("channels", "8"),
+        ("ranks", "4"),
+        ("groups", "4"),
+        ("rows", "1"),
+        ("rows", "1024"),
+        ("columns", "2048"),
+    ] {
+        accepts(&rt, key, value);
+    }
+    for (key, value) in [
+        ("channels", "0"),
+        ("channels", "3"),
+        ("channels", "16"),
+        ("ranks", "3"),
+        ("ranks", "8"),
+        ("groups", "1"),
+        ("groups", "8"),
+        ("banks", "2"),
+        ("rows", "3"),
+        ("rows", "2048"),
+        ("columns", "1"),
+        ("columns", "4096"),
+    ] {
+        refuses(&rt, key, value);
+    }
+    let (start, end) = (
+        "channels = 2\nranks = 1\ngroups = 2\n",
+        "rows = 2\ncolumns = 4\n",
+    );
+    let numbers = format!(in rt.alloc(); "{start}banks = 4\n{end}").expect(&rt, "memory");
+    let most = "channels = 8\nranks = 4\ngroups = 4\nbanks = 4\nrows = 16\ncolumns = 8\n";
+    accepts_for(&rt, numbers.as_str(), most);
+    let past = "channels = 8\nranks = 4\ngroups = 4\nbanks = 4\nrows = 16\ncolumns = 16\n";
+    refuses_for(&rt, numbers.as_str(), past);
+    refuses_for(&rt, "rows = 2\ncolumns = 4", "rows = 1\ncolumns = 2");
+}
+
+#[test]
+fn maps(rt: HostRuntime) {
+    let xor = with(&rt, "map", "\"xor\"");
+    let profile = read_profile(rt.alloc(), xor.as_bytes()).expect(&rt, "a profile");
+    same(&rt, profile.map, MapWord::Xor);
+    let word = format!(in rt.alloc(); "{} {}", MapWord::Lines, MapWord::Xor).expect(&rt, "memory");
+    same(&rt, word.as_str(), "lines xor");
+    for value in ["\"row\"", "\"\"", "\"Lines\"", "\"lines \"", "lines", "1"] {
+        refuses(&rt, "map", value);
+    }
+}
+
+#[test]
+fn further_and_missing_keys(rt: HostRuntime) {
+    for (part, other) in [
+        ("tCS = 2\n", ""),
+        ("leak = 1\n", ""),
+        ("banks = 4\n", ""),
+        ("notices = 64\n", ""),
+        ("map = \"lines\"\n", ""),
+        ("tCS = 2\n", "tCS = 2\ntCS = 2\n"),
+        ("[module]\n", "[module]\n[module]\n"),
+        ("tCS = 2\n", "tCS = 2\ntCKE = 2\n"),
+        ("tCS = 2\n", "tcs = 2\n"),
+        ("leak = 1\n", "leak = 1\nretries = 0\n"),
+        ("banks = 4\n", "banks = 4\nlines = 128\n"),
+        ("notices = 64\n", "notices = 64\nname = \"tiny\"\n"),
+        ("[timing]\n", "name = \"tiny\"\n[timing]\n"),
+        ("[module]\n", "[further]\n[module]\n"),
+        ("[module]\n", "[modules]\n"),
+    ] {
+        refuses_for(&rt, part, other);
+    }
+}
+
+#[test]
+fn values_that_are_no_whole_numbers(rt: HostRuntime) {
+    for value in [
+        "2.0",
+        "\"2\"",
+        "true",
+        "[2]",
+        "{}",
+        "2 3",
+        "",
+        "9223372036854775808",
+    ] {
+        for key in ["tCS", "channels", "leak", "depth"] {
+            refuses(&rt, key, value);
+        }
+    }
+}
+
+#[test]
+fn texts_that_are_no_profiles(rt: HostRuntime) {
+    for text in [
+        "",
+        "timing",
+        "[timing]",
+        "timing = 1\ngeometry = 1\ncosts = 1\nmodule = 1\n",
+    ] {
+        assert!(rt; is_refused(rt.alloc(), text.as_bytes()), "{text}");
+    }
+    let mut bytes = TINY.as_bytes().to_vec(rt.alloc()).expect(&rt, "memory");
+    bytes.extend_from_slice(b"# \xff\n").expect(&rt, "memory");
+    assert!(rt; is_refused(rt.alloc(), &bytes));
+}
+
+#[test]
+fn other_ways_to_write_it(rt: HostRuntime) {
+    for (part, other) in [
+        ("tCS = 2\n", "tCS = 0x2 # clocks\n"),
+        ("tRFC = 420\n", "\"tRFC\" = 4_20\r\n"),
+        ("map = \"lines\"", "map = 'lines'"),
+        ("leak = 1\n", "leak = +1\n"),
+    ] {
+        accepts_for(&rt, part, other);
+    }
+}
+
+#[test]
+fn the_longest_profile(rt: HostRuntime) {
+    let mut bytes = TINY.as_bytes().to_vec(rt.alloc()).expect(&rt, "memory");
+    bytes.push(b'#').expect(&rt, "memory");
+    bytes.resize(65_536, b'x').expect(&rt, "memory");
+    assert!(rt; is_profile(rt.alloc(), &bytes));
+    bytes.push(b'x').expect(&rt, "memory");
+    assert!(rt; is_refused(rt.alloc(), &bytes));
+}

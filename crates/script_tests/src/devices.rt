@@ -1,0 +1,103 @@
+// Scripts over devices that fail and lose their power.
+use crate::running::{answers_on, are_answered, is_answered};
+use nv_profile::TINY;
+use std::alloc::{AllocError, Global};
+use std::process::Abort;
+
+// How many of its eight calls a save may make before it fails: a gate, a sync, the header, two pages, a sync, a gate, a sync.
+const OF_SAVE: [&str; 8] = ["0", "1", "2", "3", "4", "5", "6", "7"];
+
+// Fails where a script doesn't answer these lines, with the number of calls for each % in both.
+fn is_answered_at<R: Abort + AllocGlobal>(rt: &R, calls: &str, script: &str, wanted: &str) {
+    let script = script.replace(rt.alloc(), "%", calls);
+    let wanted = wanted.replace(rt.alloc(), "%", calls);
+    assert!(*rt; script.is_ok() && wanted.is_ok());
+    if let (Ok(script), Ok(wanted)) = (script, wanted) {
+        is_answered(rt, script.as_str(), wanted.as_str());
+    }
+}
+
+#[test]
+fn a_fault_is_answered_where_it_comes(rt: HostRuntime) {
+    let script = "format/write 0 11/read 0/fuse %/save/write 1 22/read 1";
+    for calls in OF_SAVE {
+        is_answered_at(
+            &rt,
+            calls,
+            script,
+            "formatted/accepted 0 mark 0/line 0 = 11/fuse %/fault save/accepted 1 mark 0/line 1 = 22",
+        );
+    }
+    is_answered_at(
+        &rt,
+        "8",
+        script,
+        "formatted/accepted 0 mark 0/line 0 = 11/fuse %/saved 2 1/accepted 1 mark 1/line 1 = 22",
+    );
+}
+
+#[test]
+fn a_save_that_is_made_again(rt: HostRuntime) {
+    for calls in OF_SAVE {
+        is_answered_at(
+            &rt,
+            calls,
+            "format/write 0 11/fuse %/save/fuse off/save/restore/read 0",
+            "formatted/accepted 0 mark 0/fuse %/fault save/fuse off/saved 2 1/restored 2 1 Complete/line 0 = 11",
+        );
+    }
+}
+
+// Whether two saves fail, after so many calls each, and what is restored after them is the old image, or where it may be, the
+// new one.
+fn leaves_an_image(
+    alloc: Global,
+    at: usize,
+    further: usize,
+    pick: &str,
+) -> Result<bool, AllocError> {
+    let script = format!(in alloc;
+        "format/write 0 11/fuse {at}/save/fuse {further}/save/restore {pick}"
+    )?;
+    let faults = format!(in alloc;
+        "formatted/accepted 0 mark 0/fuse {at}/fault save/fuse {further}/fault save/restored "
+    )?;
+    let Some(answers) = answers_on(alloc, TINY, script.as_str()) else {
+        return Ok(false);
+    };
+    // from the settled close on the new image can't be there, until the gate is opened again
+    let may_be_new = further == 7 || (at >= 6 && further < 2);
+    Ok(match answers.strip_prefix(faults.as_str()) {
+        Some(restored) => restored == "1 0 Complete" || (may_be_new && restored == "2 1 Complete"),
+        None => false,
+    })
+}
+
+// The first save fails at one call, and the second one after some further calls.
+#[test]
+fn a_save_after_a_failed_one(rt: HostRuntime) {
+    for at in 0..8 {
+        for further in 0..8 {
+            for pick in ["old", "new", "torna5", "torn00"] {
+                let leaves = leaves_an_image(rt.alloc(), at, further, pick);
+                assert!(rt; leaves == Ok(true), "{at}, then {further}, {pick}");
+            }
+        }
+    }
+}
+
+const ENDED_FUSES: [(&str, &str); 2] = [
+    (
+        "format/fuse 0/save/format/save",
+        "formatted/fuse 0/fault save/formatted/saved 2 0",
+    ),
+    (
+        "format/fuse 0/save/restore/save",
+        "formatted/fuse 0/fault save/restored 1 0 Complete/saved 2 0",
+    ),
+];
+
+#[test]
+fn a_fuse_ends_with_the_life(rt: HostRuntime) {
+    are_answered(&rt, &ENDED_FUSES);
+}

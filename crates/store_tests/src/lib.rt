@@ -1,0 +1,11 @@
+//! Tests of devices, of the store's slots on them, and of gauges: what no clause says of them.
+#![tactic(auto)]
+
+#[cfg(test)]
+mod check;
+#[cfg(test)]
+mod devices;
+#[cfg(test)]
+mod gauges;
+#[cfg(test)]
+mod slots;
