@@ -5,7 +5,6 @@ use Rattle.std.proofs.lemmas.List.{map-append, append-nil, length-append, length
 use Rattle.std.proofs.lemmas.List.Elements.{All-append, All-map, filter_map-append}
 use Rattle.std.proofs.lemmas.Option.{slice_get_within}
 use Rattle.line_memory.specs.Memory.{IsMemory}
-use Rattle.ddr4_timing.specs.declared.command.Stamped.{Stamped}
 use Rattle.ddr4_timing.specs.declared.place.Place.{Place}
 use Rattle.ddr4_timing.specs.Places.{LiesIn}
 use Rattle.frfcfs.specs.declared.pending.Kind.{Kind}
@@ -217,23 +216,4 @@ hold-holds s hold waiting is waiting-is =
           (ap (λ (x : Pending). x.line) from.2 ∙ line ∙ sym (ap (λ (x : Pending). x.line) to.2));
       few_seqs = omega (arith, is.few_seqs, same, next);
       few_serials = omega (arith, is.few_serials, same);
-    }
-
--- a command that serves no request
-pub note-holds : (s : Contents) (x : Stamped) → AreContents s → AreContents (record s { commands = s.commands ++ x ∷ [] })
-note-holds s x is =
-    let more = length-append s.commands (x ∷ []) in
-    record {
-      array = is.array;
-      queue = is.queue;
-      room = is.room;
-      right = is.right;
-      writes = is.writes;
-      unanswered = is.unanswered;
-      reads = is.reads;
-      few_reads = is.few_reads;
-      most = is.most;
-      clear = is.clear;
-      few_seqs = omega (arith, is.few_seqs, more);
-      few_serials = omega (arith, is.few_serials, more);
     }

@@ -1,5 +1,5 @@
 -- What one more command does to the least clocks of a rank.
-use Rattle.std.proofs.Common.{◌≡◌, ◌≢◌, ℕ, ◌+◌, ◌<◌, ◌≤◌, Bool, true, false, cond, eqb, List, length, get_or, set, get_or-set_other, get_or-set_same, refl, ap, sym, subst, ◌∙◌, inl, inr, arith, rules}
+use Rattle.std.proofs.Common.{◌≡◌, ◌≢◌, ℕ, ◌+◌, ◌<◌, ◌≤◌, Bool, true, false, cond, eqb, List, length, get_or, set, get_or-set_other, refl, ap, sym, subst, ◌∙◌, inl, inr, arith, rules}
 use Rattle.std.specs.Prelude.{max, min, ◌*◌, ◌^◌, ◌&&◌, ◌||◌, Option}
 use Rattle.std.proofs.lemmas.Bool.{cases_eq, cases_Bool, eq-eqb, ne_eqb, eqb-true, and_parts}
 use Rattle.std.proofs.lemmas.Grind.{get_or-set_at}

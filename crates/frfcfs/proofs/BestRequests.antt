@@ -16,10 +16,6 @@ use Rattle.frfcfs.specs.Candidates.{WantsColumn, WantsRow}
 use Rattle.frfcfs.specs.Search.{AreBest, IsBest, IsBetter, IsEnd}
 use Rattle.frfcfs.proofs.Wants.{IsWish, column_place, no_row, row_bank, takes_from, takes_none}
 
--- before any request
-pub best_none : (T : ℕ → ℕ → Type 0) (now limit : ℕ) → IsBest T now limit 0 (record { clock = limit; index = 0 })
-best_none T now limit = record { found = λ h. absurd (omega (arith, h)); first = λ i k l. absurd (omega (arith, l)) }
-
 -- one more that takes nothing
 pub best_skip : (T : ℕ → ℕ → Type 0) (now limit index : ℕ) (best : Best) → ((k : ℕ) → ¬ T index k) → IsBest T now limit index best → IsBest T now limit (index + 1) best
 best_skip T now limit index best never before = record {

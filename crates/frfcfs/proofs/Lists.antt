@@ -10,10 +10,6 @@ use Rattle.frfcfs.specs.Requests.{AreInOrder}
 pub All-at : {X : Type 0} (P : X → Type 0) (xs : List X) (i : ℕ) (x : X) → All P xs → slice_get xs i ≡ Some x → P x
 All-at P xs i x all at = subst P (get_or_from_slice_get xs i x x at) (all i x (slice_get_within xs i x at))
 
--- what holds of the one at a place holds of what is read there
-pub read_there : {X : Type 0} (P : X → Type 0) (xs : List X) (i : ℕ) (x d : X) → slice_get xs i ≡ Some x → P x → P (get_or xs i d)
-read_there P xs i x d at h = subst P (sym (get_or_from_slice_get xs i x d at)) h
-
 -- one element stands at a place
 pub one_at : {X : Type 0} (xs : List X) (i j : ℕ) (x y : X) → slice_get xs i ≡ Some x → slice_get xs j ≡ Some y → i ≡ j → x ≡ y
 one_at xs i j x y at there e = same_Some x y (sym at ∙ ap (λ k. slice_get xs k) e ∙ there)

@@ -52,9 +52,6 @@ offered c list rank lead k x cmd is at h =
     let span = (is.exact k).0 (subst (λ (y : Command). IsLawful c (with_command list k y)) same h.lawful) in
     record { led = (lead_at c list rank k lead at).0 h.lead; from = span.1; until = span.2 }
 
-abbrev OnlyRank : ℕ → ℕ → Type 0
-OnlyRank rank other = (rank ≤ other) × (other < rank + 1)
-
 only_rank : (c : Checked) (list : List Stamped) (k rank other : ℕ) (cmd : Command) → rank ≤ other → other < rank + 1 → OffersRank c list k other cmd → OffersRank c list k rank cmd
 only_rank c list k rank other cmd l h offers = let e : other ≡ rank = omega (arith, l, h) in subst (λ (r : ℕ). OffersRank c list k r cmd) e offers
 

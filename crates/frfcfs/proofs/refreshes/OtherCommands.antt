@@ -31,9 +31,6 @@ same_product a b l m t e f h = rw (e, f) h
 new_floor : (f old gap most more : ℕ) → f ≡ max old gap → old ≤ most → most ≤ more → gap ≤ more → f ≤ more
 new_floor f old gap most more e a b d = omega arith
 
-old_close : (f now k lead : ℕ) → f ≤ max (now + 1) lead → now ≤ k → f ≤ max (k + 1) lead
-old_close f now k lead h l = omega arith
-
 next_close : (f old gap now k lead lead' : ℕ) → f ≡ max old gap → old ≤ max (now + 1) lead → now ≤ k → gap ≤ max (k + 1) lead → lead' ≡ lead → f ≤ max (k + 1) lead'
 next_close f old gap now k lead lead' e a b d s = omega arith
 

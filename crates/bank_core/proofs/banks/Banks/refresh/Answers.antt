@@ -1,4 +1,4 @@
-use Rattle.std.proofs.Common.{◌≡◌, ℕ, ◌+◌, ◌*◌, ◌≤◌, ◌<◌, ◌↔◌, inl, inr, List, true, false, IsTrue, ap, sym, subst, ◌∙◌, arith}
+use Rattle.std.proofs.Common.{◌≡◌, ℕ, ◌+◌, ◌*◌, ◌≤◌, ◌<◌, ◌↔◌, List, true, false, IsTrue, ap, sym, subst, ◌∙◌, arith}
 use Rattle.ddr4_timing.specs.declared.command.Command.{Command}
 use Rattle.ddr4_timing.specs.declared.command.Stamped.{Stamped}
 use Rattle.ddr4_timing.specs.declared.timing.Checked.{Checked}
@@ -20,9 +20,6 @@ exactly c list rank clock k cmd lawful own e rows =
           (subst (λ (n : ℕ). ¬ IsTrue (is_asleep n list)) own r.rows.awake, omega (arith, e, r.clock), omega (arith, last, r.in_time)),
       λ p. lawful_ready c list x lawful (record { rows = rows p.0; clock = omega (arith, e, p.1); in_time = omega (arith, last, p.2) }),
     )
-
-pub returns-clause-kind : goal.returns-clause-kind
-returns-clause-kind c = elim c.if-all_closed.branch [ then-all_closed w ↦ inl w.cmd-is | else-all_closed w ↦ inr w.cmd-is ]
 
 pub returns-clause-closed : goal.returns-clause-closed
 returns-clause-closed c = rw (← c.self.view_is) (λ list s all. elim c.if-all_closed.branch [
