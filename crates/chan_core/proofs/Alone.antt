@@ -3,23 +3,7 @@ use Rattle.std.proofs.Common.{◌≡◌, ◌≢◌, ◌↔◌, ℕ, zero, suc, �
 use Rattle.std.specs.List.{All, filter_map, cons_option}
 use Rattle.std.proofs.lemmas.List.{drop-map, length-append, length-drop, length-map}
 use Rattle.std.proofs.lemmas.Option.{slice_get_within}
-use Rattle.ddr4_timing.specs.declared.command.Command.{Command}
-use Rattle.ddr4_timing.specs.declared.command.Command.TheVariants.{Act, Pre, PreAll, Rd, Ref, Sre, Wr}
-use Rattle.ddr4_timing.specs.declared.command.Stamped.{Stamped}
-use Rattle.ddr4_timing.specs.declared.place.Place.{Place}
-use Rattle.frfcfs.specs.declared.pending.Kind.{Kind}
-use Rattle.frfcfs.specs.declared.pending.Kind.TheVariants.{Read, Write}
-use Rattle.frfcfs.specs.declared.pending.Pending.{Pending}
-use Rattle.frfcfs.specs.Queue.{Waiting, is_write, numbered_from, writes_among}
-use Rattle.frfcfs.specs.Margin.{AreAsleep}
-use Rattle.wpq_core.specs.declared.queue.PendingWrite.{PendingWrite}
-use Rattle.wpq_core.specs.Queue.{Queue, IsWriteQueue}
-use Rattle.wpq_core.specs.PendingMemory.{after_pending}
-use Rattle.chan_core.specs.declared.phase.Phase.{Phase}
-use Rattle.chan_core.specs.declared.phase.Phase.TheVariants.{Asleep, Running}
-use Rattle.chan_core.specs.Contents.{Contents, AreContents, AreOldest, IsRightRequest, ReadKey, read_key, read_of, queued_key, seen, write_key, write_of}
-use Rattle.chan_core.specs.Singles.{FitsOldest, IssuesAlone, writes_by}
-use Rattle.chan_core.specs.State.{placed, placed_write}
+use Rattle.chan_core.proofs.Common.{Act, AreAsleep, AreContents, AreOldest, Asleep, Command, Contents, FitsOldest, IsRightRequest, IsWriteQueue, IssuesAlone, Kind, Pending, PendingWrite, Phase, Place, Pre, PreAll, Queue, Rd, Read, ReadKey, Ref, Running, Sre, Stamped, Waiting, Wr, Write, after_pending, is_write, numbered_from, placed, placed_write, queued_key, read_key, read_of, seen, write_key, write_of, writes_among, writes_by}
 use Rattle.chan_core.proofs.Holding.{few-pending}
 use Rattle.chan_core.proofs.Taken.{all-of}
 use Rattle.frfcfs.proofs.Lists.{All-at}

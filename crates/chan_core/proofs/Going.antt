@@ -1,23 +1,8 @@
 -- A channel goes on: its banks, clock and last commands stay those of its list of commands.
 use Rattle.std.proofs.Common.{◌≡◌, ◌≢◌, ℕ, ◌-◌, ◌<◌, ◌≤◌, ◌^◌, ◌↔◌, ◌⊎◌, List, [], ◌∷◌, ◌++◌, length, drop, Option, Some, None, refl, sym, ap, subst, ◌∙◌, arith}
-use Rattle.circular_buffer.specs.Buffer.{Buffer}
-use Rattle.ddr4_timing.specs.declared.command.Stamped.{Stamped}
-use Rattle.ddr4_timing.specs.declared.timing.Checked.{Checked}
-use Rattle.bank_core.specs.Stands.{BanksState}
-use Rattle.bank_core.specs.Stands.{Stands, with_command}
-use Rattle.frfcfs.specs.declared.next.Next.{Next}
-use Rattle.frfcfs.specs.declared.pending.Pending.{Pending}
-use Rattle.frfcfs.specs.Next.{IsNext}
-use Rattle.frfcfs.specs.Margin.{AreAsleep, KeepsMargin, IsIdle, last_clock}
+use Rattle.chan_core.proofs.Common.{AreAsleep, AreAwake, Asleep, BanksState, Buffer, ChannelState, Checked, HasNothingToSend, IsIdle, IsInPhase, IsNext, IsRunning, IssuesAlone, KeepsMargin, Next, Pending, Phase, Running, Stamped, Stands, Stepping, after_command, clock_of, last_clock, last_commands, with_command}
 use Rattle.frfcfs.proofs.refreshes.RefreshCounts.{last_clock_push}
 use Rattle.chan_core.specs.declared.channel.Channel.TheInside.{Inside}
-use Rattle.chan_core.specs.Running.{IsRunning}
-use Rattle.chan_core.specs.State.{ChannelState, clock_of, last_commands}
-use Rattle.chan_core.specs.declared.phase.Phase.{Phase}
-use Rattle.chan_core.specs.declared.phase.Phase.TheVariants.{Asleep, Running, Stepping}
-use Rattle.chan_core.specs.Phases.{AreAwake, IsInPhase}
-use Rattle.chan_core.specs.Calls.{HasNothingToSend, after_command}
-use Rattle.chan_core.specs.Singles.{IssuesAlone}
 use Rattle.chan_core.proofs.Sleeping.{asleep-more, awake-more, chosen-awake}
 use Rattle.chan_core.proofs.Clocks.{few-commands}
 use Rattle.chan_core.proofs.Recent.{last-push}

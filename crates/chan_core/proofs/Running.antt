@@ -1,10 +1,6 @@
 -- Commands one after another.
-use Rattle.std.proofs.Common.{◌≡◌, List, [], ◌∷◌, ◌++◌, refl, ap, subst, ◌∙◌}
-use Rattle.std.proofs.lemmas.List.{append_assoc}
-use Rattle.ddr4_timing.specs.declared.command.Stamped.{Stamped}
-use Rattle.chan_core.specs.declared.answers.Done.{Done}
-use Rattle.chan_core.specs.State.{ChannelState, channel_memory}
-use Rattle.chan_core.specs.Calls.{IssuesChoice, IssuesChoices, KeepsBelow, after_commands}
+use Rattle.std.proofs.Common.{◌≡◌, List, [], ◌∷◌, ◌++◌, refl, ap, subst, ◌∙◌, append_assoc}
+use Rattle.chan_core.proofs.Common.{ChannelState, Done, IssuesChoice, IssuesChoices, KeepsBelow, Stamped, after_commands, channel_memory}
 
 -- a run goes on by one command
 pub IssuesChoices-more : (old mid new : ChannelState) (xs : List Stamped) (done : Done) → IssuesChoices old xs mid → IssuesChoice mid done new → IssuesChoices old (xs ++ done.command ∷ []) new

@@ -1,26 +1,9 @@
 -- What one more command does to the least clocks of a rank.
-use Rattle.std.proofs.Common.{◌≡◌, ◌≢◌, ℕ, ◌+◌, ◌<◌, ◌≤◌, Bool, true, false, cond, eqb, List, length, get_or, set, get_or-set_other, refl, ap, sym, subst, ◌∙◌, inl, inr, arith, rules}
-use Rattle.std.specs.Prelude.{max, min, ◌*◌, ◌^◌, ◌&&◌, ◌||◌, Option}
+use Rattle.std.proofs.Common.{◌≡◌, ◌≢◌, ℕ, ◌+◌, ◌<◌, ◌≤◌, Bool, true, false, cond, eqb, List, length, get_or, set, get_or-set_other, refl, ap, sym, subst, ◌∙◌, inl, inr, arith, rules, max, min, ◌*◌, ◌^◌, ◌&&◌, ◌||◌, Option}
 use Rattle.std.proofs.lemmas.Bool.{cases_eq, cases_Bool, eq-eqb, ne_eqb, eqb-true, and_parts}
 use Rattle.std.proofs.lemmas.Grind.{get_or-set_at}
 use Rattle.std.proofs.lemmas.List.{get_or_default}
-use Rattle.ddr4_timing.specs.declared.place.BankAddress.{BankAddress}
-use Rattle.ddr4_timing.specs.declared.command.Command.{Command}
-use Rattle.ddr4_timing.specs.declared.command.Command.TheVariants.{Act, Rd, Wr, Pre, PreAll, Ref, Sre}
-use Rattle.ddr4_timing.specs.declared.command.Stamped.{Stamped}
-use Rattle.ddr4_timing.specs.declared.timing.Timing.{Timing}
-use Rattle.ddr4_timing.specs.declared.timing.Checked.{Checked}
-use Rattle.ddr4_timing.specs.declared.cells.BankCells.{BankCells}
-use Rattle.ddr4_timing.specs.declared.machine.Machine.{Machine}
-use Rattle.ddr4_timing.specs.declared.rank.RankState.{RankState}
-use Rattle.ddr4_timing.specs.declared.rank.Window.{Window}
-use Rattle.ddr4_timing.specs.declared.rank.Refresh.{Refresh}
-use Rattle.ddr4_timing.specs.Command.{bank_of, rank_of, is_act, is_ref, is_sre, is_act_of, is_ref_of}
-use Rattle.ddr4_timing.specs.Demands.{demand_of, in_groups, in_rank, beyond_rank}
-use Rattle.ddr4_timing.specs.Lawful.{row_after, is_asleep, with_command, KeepsRefresh}
-use Rattle.ddr4_timing.specs.Machine.{BankStands, RankStands, WindowStands, RefreshStands, ClockRises, BankRises, BanksRise, GroupsRise, RankTakes, ChannelTakes}
-use Rattle.ddr4_timing.specs.Places.{HasSlot, is_bank, is_group, slot_of}
-use Rattle.ddr4_timing.specs.Rows.{row_in}
+use Rattle.ddr4_timing.proofs.Common.{Act, BankAddress, BankCells, BankRises, BankStands, BanksRise, ChannelTakes, Checked, ClockRises, Command, GroupsRise, HasSlot, KeepsRefresh, Machine, Pre, PreAll, RankStands, RankState, RankTakes, Rd, Ref, Refresh, RefreshStands, Sre, Stamped, Timing, Window, WindowStands, Wr, bank_of, beyond_rank, demand_of, in_groups, in_rank, is_act, is_act_of, is_asleep, is_bank, is_group, is_ref, is_ref_of, is_sre, rank_of, row_after, row_in, slot_of, with_command}
 use Rattle.ddr4_timing.proofs.Addresses.{has_slot, same_slot, slot_small}
 use Rattle.ddr4_timing.proofs.FloorLemmas.{floor_push, open_row_push, window-yes, window-first, window-no, ref_count_push, last_ref_push, is_asleep_push, or_false}
 use Rattle.ddr4_timing.proofs.GapParts.{tells_gaps}

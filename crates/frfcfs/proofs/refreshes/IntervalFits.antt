@@ -1,10 +1,7 @@
 -- What the checks of a profile say of the clocks between two refreshes.
-use Rattle.std.proofs.Common.{ℕ, ◌+◌, ◌-◌, ◌*◌, ◌≤◌, ◌<◌, arith}
+use Rattle.std.proofs.Common.{ℕ, ◌+◌, ◌-◌, ◌*◌, ◌≤◌, ◌<◌, arith, max}
 use Rattle.std.proofs.Math.Nat.{le-max_left}
-use Rattle.std.specs.Prelude.{max}
-use Rattle.ddr4_timing.specs.declared.timing.Checked.{Checked}
-use Rattle.ddr4_timing.specs.Limits.{entry_of, close_of}
-use Rattle.frfcfs.specs.Margin.{row_time}
+use Rattle.frfcfs.proofs.Common.{Checked, close_of, entry_of, row_time}
 
 -- a row, its precharge and a turn or two of each rank are within an interval; so are a refresh and those
 pub record Fits (c : Checked) : Type 0 where

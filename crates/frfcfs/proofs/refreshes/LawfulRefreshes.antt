@@ -1,13 +1,7 @@
 -- When a rank's REF and PREA are lawful.
-use Rattle.std.proofs.Common.{ℕ, ◌+◌, ◌*◌, ◌≤◌, ◌<◌, List, IsTrue, arith}
-use Rattle.std.specs.Prelude.{max}
-use Rattle.ddr4_timing.specs.declared.command.Command.TheVariants.{PreAll, Ref}
-use Rattle.ddr4_timing.specs.declared.command.Stamped.{Stamped}
-use Rattle.ddr4_timing.specs.declared.timing.Checked.{Checked}
-use Rattle.ddr4_timing.specs.Floors.{floor, least_clock}
-use Rattle.ddr4_timing.specs.Lawful.{AllClosed, IsLawful, last_ref, ref_count, is_asleep}
+use Rattle.std.proofs.Common.{ℕ, ◌+◌, ◌*◌, ◌≤◌, ◌<◌, List, IsTrue, arith, max}
+use Rattle.frfcfs.proofs.Common.{AllClosed, Checked, IsLawful, PreAll, Ref, Stamped, floor, is_asleep, last_ref, least_clock, ref_count, with_command}
 use Rattle.ddr4_timing.proofs.Ready.{lawful_ready}
-use Rattle.bank_core.specs.Stands.{with_command}
 
 -- the rank is there and awake, and its deadline is to come
 pub record MayStill (c : Checked) (list : List Stamped) (k rank : ℕ) : Type 0 where

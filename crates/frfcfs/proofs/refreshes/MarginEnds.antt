@@ -1,12 +1,6 @@
 -- The margin before the first command and behind a drain, and what it leaves to one.
-use Rattle.std.proofs.Common.{ℕ, ◌+◌, ◌-◌, ◌*◌, ◌≤◌, ◌<◌, List, [], IsTrue, arith}
-use Rattle.std.specs.Prelude.{max}
-use Rattle.ddr4_timing.specs.declared.command.Stamped.{Stamped}
-use Rattle.ddr4_timing.specs.declared.timing.Checked.{Checked}
-use Rattle.ddr4_timing.specs.Floors.{greatest, floor}
-use Rattle.ddr4_timing.specs.Lawful.{last_ref, ref_count, is_asleep}
-use Rattle.ddr4_timing.specs.Limits.{entry_of, close_of}
-use Rattle.frfcfs.specs.Margin.{above, HasTime, KeepsMargin, AreAsleep, last_clock}
+use Rattle.std.proofs.Common.{ℕ, ◌+◌, ◌-◌, ◌*◌, ◌≤◌, ◌<◌, List, [], IsTrue, arith, max}
+use Rattle.frfcfs.proofs.Common.{AreAsleep, Checked, HasTime, KeepsMargin, Stamped, above, close_of, entry_of, floor, greatest, is_asleep, last_clock, last_ref, ref_count}
 use Rattle.frfcfs.proofs.refreshes.IntervalFits.{fits}
 use Rattle.frfcfs.proofs.refreshes.RanksAhead.{above-lt}
 

@@ -1,29 +1,10 @@
 -- The scheduler's next command keeps the margin, and there is one as long as a rank is awake.
-use Rattle.std.proofs.Common.{◌≡◌, ℕ, ◌+◌, ◌*◌, ◌≤◌, ◌<◌, ◌⊎◌, ◌^◌, ◌↔◌, Bool, true, false, List, [], ◌∷◌, ◌++◌, length, IsTrue, Option, Some, None, inl, inr, arith, refl, sym, subst, ap, ◌∙◌}
-use Rattle.std.specs.Prelude.{max, ◌||◌}
+use Rattle.std.proofs.Common.{◌≡◌, ℕ, ◌+◌, ◌*◌, ◌≤◌, ◌<◌, ◌⊎◌, ◌^◌, ◌↔◌, Bool, true, false, List, [], ◌∷◌, ◌++◌, length, IsTrue, Option, Some, None, inl, inr, arith, refl, sym, subst, ap, ◌∙◌, max, ◌||◌}
 use Rattle.std.proofs.lemmas.Bool.{cases_lt, cases_eq}
 use Rattle.std.proofs.Math.Seq.{take-append_seam}
-use Rattle.ddr4_timing.specs.declared.command.Command.{Command}
-use Rattle.ddr4_timing.specs.declared.command.Command.TheVariants.{Act, Rd, Wr, Pre, PreAll, Ref, Sre}
-use Rattle.ddr4_timing.specs.declared.command.Stamped.{Stamped}
-use Rattle.ddr4_timing.specs.declared.timing.Geometry.{Geometry}
-use Rattle.ddr4_timing.specs.declared.timing.Checked.{Checked}
-use Rattle.ddr4_timing.specs.Command.{rank_of, is_ref, is_sre_of}
-use Rattle.ddr4_timing.specs.Floors.{floor}
-use Rattle.ddr4_timing.specs.Gaps.{most_gap}
-use Rattle.ddr4_timing.specs.Lawful.{IsInGeometry, IsLawful, last_ref, ref_count, is_asleep}
+use Rattle.frfcfs.proofs.Common.{Act, AreAsleep, Checked, Command, Geometry, HasTime, HasWork, IsCandidate, IsIdle, IsInGeometry, IsInLead, IsLawful, IsNext, IsNotAfter, KeepsMargin, Kind, Next, OfColumn, OfRank, OfRow, OffersRank, Pending, Place, Pre, PreAll, Rd, Read, Ref, Sre, Stamped, Turn, Wr, Write, above, act_of, column_of, floor, is_asleep, is_ref, is_sre_of, last_clock, last_ref, lead_clock, most_gap, pre_of, rank_of, ref_count, refresh_clock, row_time, with_command}
 use Rattle.ddr4_timing.proofs.FloorLemmas.{is_asleep_push}
 use Rattle.ddr4_timing.proofs.Ready.{ready_lawful, IsLawful-take}
-use Rattle.bank_core.specs.Stands.{with_command}
-use Rattle.frfcfs.specs.declared.pending.Kind.{Kind}
-use Rattle.frfcfs.specs.declared.pending.Kind.TheVariants.{Read, Write}
-use Rattle.frfcfs.specs.declared.pending.Pending.{Pending}
-use Rattle.ddr4_timing.specs.declared.place.Place.{Place}
-use Rattle.frfcfs.specs.declared.next.Next.{Next}
-use Rattle.frfcfs.specs.Requests.{column_of, act_of, pre_of}
-use Rattle.frfcfs.specs.Candidates.{Turn, OfRank, OfColumn, OfRow, IsInLead, OffersRank, IsCandidate, IsNotAfter}
-use Rattle.frfcfs.specs.Next.{HasWork, IsNext}
-use Rattle.frfcfs.specs.Margin.{row_time, lead_clock, above, refresh_clock, HasTime, KeepsMargin, AreAsleep, IsIdle, last_clock}
 use Rattle.frfcfs.proofs.refreshes.RefreshCounts.{last_clock_push, ref_of_calm, ref_of_other}
 use Rattle.frfcfs.proofs.refreshes.OffersInTime.{IsUp, in_lead, ref_from, close_from, ref_from-le, close_from-le, ref_due, close_due, from-le}
 use Rattle.ddr4_timing.proofs.Bounds.{most_gap-Ref_calm, most_gap-Ref_other}

@@ -1,13 +1,6 @@
 -- A rank that has its time offers its REF, or the PREA before it, at the first clock from now that allows it.
-use Rattle.std.proofs.Common.{ℕ, ◌+◌, ◌*◌, ◌≤◌, ◌<◌, List, IsTrue, inl, inr, arith, refl}
-use Rattle.std.specs.Prelude.{max}
-use Rattle.ddr4_timing.specs.declared.command.Command.TheVariants.{PreAll, Ref}
-use Rattle.ddr4_timing.specs.declared.command.Stamped.{Stamped}
-use Rattle.ddr4_timing.specs.declared.timing.Checked.{Checked}
-use Rattle.ddr4_timing.specs.Floors.{floor}
-use Rattle.ddr4_timing.specs.Lawful.{AllClosed, IsLawful, last_ref, ref_count, is_asleep}
-use Rattle.frfcfs.specs.Candidates.{IsInLead, OffersRank}
-use Rattle.frfcfs.specs.Margin.{row_time, lead_clock, above, commands_before, close_clock, refresh_clock, HasTime}
+use Rattle.std.proofs.Common.{ℕ, ◌+◌, ◌*◌, ◌≤◌, ◌<◌, List, IsTrue, inl, inr, arith, refl, max}
+use Rattle.frfcfs.proofs.Common.{AllClosed, Checked, HasTime, IsInLead, IsLawful, OffersRank, PreAll, Ref, Stamped, above, close_clock, commands_before, floor, is_asleep, last_ref, lead_clock, ref_count, refresh_clock, row_time}
 use Rattle.frfcfs.proofs.refreshes.IntervalFits.{fits}
 use Rattle.frfcfs.proofs.Leads.{lead_at}
 use Rattle.frfcfs.proofs.refreshes.LawfulRefreshes.{MayStill, ref_lawful, close_lawful}

@@ -1,16 +1,7 @@
 -- The time of a rank that another command than its own REF leaves.
-use Rattle.std.proofs.Common.{◌≡◌, ℕ, ◌+◌, ◌*◌, ◌≤◌, false, List, arith}
-use Rattle.std.specs.Prelude.{max}
-use Rattle.ddr4_timing.specs.declared.command.Command.{Command}
-use Rattle.ddr4_timing.specs.declared.command.Command.TheVariants.{PreAll, Ref}
-use Rattle.ddr4_timing.specs.declared.command.Stamped.{Stamped}
-use Rattle.ddr4_timing.specs.declared.timing.Checked.{Checked}
-use Rattle.ddr4_timing.specs.Command.{is_ref_of}
-use Rattle.ddr4_timing.specs.Gaps.{most_gap}
-use Rattle.ddr4_timing.specs.Lawful.{AllClosed}
+use Rattle.std.proofs.Common.{◌≡◌, ℕ, ◌+◌, ◌*◌, ◌≤◌, false, List, arith, max}
+use Rattle.frfcfs.proofs.Common.{AllClosed, Checked, Command, HasTime, PreAll, Ref, Stamped, close_clock, is_ref_of, lead_clock, most_gap, refresh_clock, row_time, with_command}
 use Rattle.ddr4_timing.proofs.FloorLemmas.{floor_push}
-use Rattle.bank_core.specs.Stands.{with_command}
-use Rattle.frfcfs.specs.Margin.{lead_clock, row_time, close_clock, refresh_clock, HasTime}
 use Rattle.frfcfs.proofs.refreshes.RefreshCounts.{count_same, last_same, lead_same, before_more}
 
 pub record Calm (c : Checked) (list : List Stamped) (now k rank : ℕ) (x : Command) : Type 0 where

@@ -1,19 +1,7 @@
 -- A command to another rank, at a clock at which this one is in lead, leaves it its time.
-use Rattle.std.proofs.Common.{◌≡◌, ◌≢◌, ℕ, ◌+◌, ◌*◌, ◌≤◌, ◌<◌, ◌⊎◌, List, inl, inr, arith, sym, subst, ap, ◌∙◌}
-use Rattle.std.specs.Prelude.{max}
+use Rattle.std.proofs.Common.{◌≡◌, ◌≢◌, ℕ, ◌+◌, ◌*◌, ◌≤◌, ◌<◌, ◌⊎◌, List, inl, inr, arith, sym, subst, ap, ◌∙◌, max, mul-le-mul_right}
 use Rattle.std.proofs.lemmas.Bool.{cases_lt}
-use Rattle.std.proofs.Math.Nat.{mul-le-mul_right}
-use Rattle.ddr4_timing.specs.declared.command.Command.{Command}
-use Rattle.ddr4_timing.specs.declared.command.Command.TheVariants.{PreAll, Ref}
-use Rattle.ddr4_timing.specs.declared.command.Stamped.{Stamped}
-use Rattle.ddr4_timing.specs.declared.timing.Checked.{Checked}
-use Rattle.ddr4_timing.specs.Command.{rank_of}
-use Rattle.ddr4_timing.specs.Floors.{floor}
-use Rattle.ddr4_timing.specs.Gaps.{most_gap}
-use Rattle.ddr4_timing.specs.Lawful.{AllClosed, ref_count}
-use Rattle.bank_core.specs.Stands.{with_command}
-use Rattle.frfcfs.specs.Candidates.{OffersRank}
-use Rattle.frfcfs.specs.Margin.{row_time, lead_clock, above, commands_before, close_clock, refresh_clock, HasTime}
+use Rattle.frfcfs.proofs.Common.{AllClosed, Checked, Command, HasTime, OffersRank, PreAll, Ref, Stamped, above, close_clock, commands_before, floor, lead_clock, most_gap, rank_of, ref_count, refresh_clock, row_time, with_command}
 use Rattle.frfcfs.proofs.refreshes.OtherCommands.{calm_time, close_more}
 use Rattle.frfcfs.proofs.refreshes.RefreshCounts.{ref_of_other, act_of_other, lead_same, before_next}
 use Rattle.frfcfs.proofs.refreshes.OffersInTime.{IsUp, refresh-lt, from_lead, offers_ref, offers_close, ref_from-le, close_from-le}

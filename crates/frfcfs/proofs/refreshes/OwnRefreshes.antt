@@ -1,20 +1,10 @@
 -- One step of the scheduler leaves each rank its time.
-use Rattle.std.proofs.Common.{◌≡◌, ℕ, ◌+◌, ◌*◌, ◌≤◌, ◌<◌, ◌⊎◌, false, List, inl, inr, arith, refl}
-use Rattle.std.specs.Prelude.{max}
+use Rattle.std.proofs.Common.{◌≡◌, ℕ, ◌+◌, ◌*◌, ◌≤◌, ◌<◌, ◌⊎◌, false, List, inl, inr, arith, refl, max}
 use Rattle.std.proofs.lemmas.Bool.{cases_lt}
-use Rattle.ddr4_timing.specs.declared.command.Command.{Command}
-use Rattle.ddr4_timing.specs.declared.command.Command.TheVariants.{PreAll, Ref}
-use Rattle.ddr4_timing.specs.declared.command.Stamped.{Stamped}
-use Rattle.ddr4_timing.specs.declared.timing.Checked.{Checked}
-use Rattle.ddr4_timing.specs.Command.{rank_of, is_ref, is_ref_of}
-use Rattle.ddr4_timing.specs.Gaps.{most_gap}
-use Rattle.ddr4_timing.specs.Lawful.{AllClosed, IsLawful, ref_count}
+use Rattle.frfcfs.proofs.Common.{AllClosed, Checked, Command, HasTime, IsInLead, IsLawful, OffersRank, PreAll, Ref, Stamped, close_clock, commands_before, is_ref, is_ref_of, lead_clock, most_gap, rank_of, ref_count, refresh_clock, row_time, with_command}
 use Rattle.ddr4_timing.proofs.Bounds.{most_gap-PreAll}
 use Rattle.ddr4_timing.proofs.FloorLemmas.{floor_push}
 use Rattle.ddr4_timing.proofs.Ready.{ready_lawful, refresh_lawful}
-use Rattle.bank_core.specs.Stands.{with_command}
-use Rattle.frfcfs.specs.Candidates.{IsInLead, OffersRank}
-use Rattle.frfcfs.specs.Margin.{row_time, lead_clock, commands_before, close_clock, refresh_clock, HasTime}
 use Rattle.frfcfs.proofs.refreshes.OtherCommands.{calm_time, close_more}
 use Rattle.frfcfs.proofs.refreshes.RefreshCounts.{count_next, last_next}
 use Rattle.frfcfs.proofs.refreshes.OffersInTime.{IsUp, refresh-lt, ref_from, close_from, ref_from-le, close_from-le, ref_due, close_due}

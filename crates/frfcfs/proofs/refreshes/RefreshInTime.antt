@@ -1,13 +1,7 @@
 -- The REF of a rank that is awake can still go before its deadline.
-use Rattle.std.proofs.Common.{ℕ, ◌≤◌, ◌<◌, ◌⊎◌, Bool, true, false, List, IsTrue, inl, inr, subst, sym}
-use Rattle.std.specs.Prelude.{◌||◌}
-use Rattle.ddr4_timing.specs.declared.command.Command.TheVariants.{PreAll}
-use Rattle.ddr4_timing.specs.declared.command.Stamped.{Stamped}
-use Rattle.ddr4_timing.specs.declared.timing.Checked.{Checked}
-use Rattle.ddr4_timing.specs.Lawful.{AllClosed, IsLawful, is_asleep}
+use Rattle.std.proofs.Common.{ℕ, ◌≤◌, ◌<◌, ◌⊎◌, Bool, true, false, List, IsTrue, inl, inr, subst, sym, ◌||◌}
+use Rattle.frfcfs.proofs.Common.{AllClosed, Checked, HasTime, IsLawful, KeepsMargin, MayClose, MayRefresh, PreAll, Stamped, is_asleep, last_clock, with_command}
 use Rattle.ddr4_timing.proofs.FloorLemmas.{is_asleep_push}
-use Rattle.bank_core.specs.Stands.{with_command}
-use Rattle.frfcfs.specs.Margin.{HasTime, KeepsMargin, MayRefresh, MayClose, last_clock}
 use Rattle.frfcfs.proofs.refreshes.OffersInTime.{IsUp, in_time, ref_from, close_from, ref_from-le, close_from-le, ref_due, close_due, from-le}
 use Rattle.frfcfs.proofs.refreshes.RefreshCounts.{last_clock_push}
 use Rattle.frfcfs.proofs.refreshes.RowsClosed.{closed_or, closed_after}

@@ -1,7 +1,5 @@
 use Rattle.std.proofs.Common.{◌≡◌, ℕ, List, drop, remove, slice_get, slice_set, Some, sym, ap, subst, ◌∙◌}
-use Rattle.frfcfs.specs.declared.pending.Pending.{Pending}
-use Rattle.wpq_core.specs.Writes.{NumbersRise, TakesWrite}
-use Rattle.wpq_core.specs.declared.queue.PendingWrite.{PendingWrite}
+use Rattle.chan_core.proofs.Common.{NumbersRise, Pending, PendingWrite, TakesWrite}
 use Rattle.wpq_core.proofs.Numbers.{NumbersRise-one}
 use Rattle.chan_core.proofs.Alone.{remove-first, stored-array}
 use Rattle.chan_core.proofs.moves.store_oldest.Goals as goal

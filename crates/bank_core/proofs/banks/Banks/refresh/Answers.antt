@@ -1,12 +1,6 @@
 use Rattle.std.proofs.Common.{◌≡◌, ℕ, ◌+◌, ◌*◌, ◌≤◌, ◌<◌, ◌↔◌, List, true, false, IsTrue, ap, sym, subst, ◌∙◌, arith}
-use Rattle.ddr4_timing.specs.declared.command.Command.{Command}
-use Rattle.ddr4_timing.specs.declared.command.Stamped.{Stamped}
-use Rattle.ddr4_timing.specs.declared.timing.Checked.{Checked}
-use Rattle.ddr4_timing.specs.Command.{rank_of}
-use Rattle.ddr4_timing.specs.Floors.{least_clock}
-use Rattle.ddr4_timing.specs.Lawful.{IsLawful, KeepsRows, is_asleep, last_ref, with_command}
+use Rattle.bank_core.proofs.Common.{BanksState, Checked, Command, IsLawful, KeepsRows, Stamped, Stands, is_asleep, last_ref, least_clock, rank_of, with_command}
 use Rattle.ddr4_timing.proofs.Ready.{lawful_ready, ready_lawful}
-use Rattle.bank_core.specs.Stands.{BanksState, Stands}
 use Rattle.bank_core.proofs.banks.Banks.refresh.Goals as goal
 use Rattle.bank_core.proofs.banks.Banks.refresh.Goals.{then-all_closed, else-all_closed}
 

@@ -1,6 +1,5 @@
 use Rattle.std.proofs.Common.{◌∙◌, ap, eqb}
-use Rattle.ddr4_timing.specs.declared.command.Command.{Command}
-use Rattle.ddr4_timing.specs.Command.{rank_of}
+use Rattle.ddr4_timing.proofs.Common.{Command, rank_of}
 use Rattle.ddr4_timing.proofs.RankSteps.{raised, kept, column_raised, column_kept, shares_nothing}
 use Rattle.std.proofs.Common.{refl}
 use Rattle.ddr4_timing.proofs.machine.Machine.share.Goals as goal
