@@ -1,6 +1,6 @@
 -- A rank that has its time offers its REF, or the PREA before it, at the first clock from now that allows it.
 use Rattle.std.proofs.Common.{ℕ, ◌+◌, ◌*◌, ◌≤◌, ◌<◌, List, IsTrue, inl, inr, arith, refl, max}
-use Rattle.frfcfs.proofs.Common.{AllClosed, Checked, HasTime, IsInLead, IsLawful, OffersRank, PreAll, Ref, Stamped, above, close_clock, commands_before, floor, is_asleep, last_ref, lead_clock, ref_count, refresh_clock, row_time}
+use Rattle.frfcfs.proofs.Common.{AllClosed, Checked, HasTime, IsInLead, IsLawful, OffersRank, PreAll, Ref, Stamped, above, close_clock, floor, is_asleep, last_ref, lead_clock, ref_count, refresh_clock, row_time}
 use Rattle.frfcfs.proofs.refreshes.IntervalFits.{fits}
 use Rattle.frfcfs.proofs.Leads.{lead_at}
 use Rattle.frfcfs.proofs.refreshes.LawfulRefreshes.{MayStill, ref_lawful, close_lawful}
@@ -41,16 +41,13 @@ in_lead c list rank k h = (lead_at c list rank k (lead_clock c.timing list rank)
 pub from_lead : (c : Checked) (list : List Stamped) (rank k : ℕ) → IsInLead c.timing list k rank → lead_clock c.timing list rank ≤ k
 from_lead c list rank k h = (lead_at c list rank k (lead_clock c.timing list rank) refl).0 h
 
-seven_sooner : (n t k : ℕ) → (n + 8) * t ≤ k → (n + 1) * t ≤ k
-seven_sooner n t k h = omega arith
-
 pub offers_ref : (c : Checked) (list : List Stamped) (now rank k : ℕ) → IsUp c list now rank → AllClosed c.geometry rank list → floor c.timing list (Ref rank) ≤ k → lead_clock c.timing list rank ≤ k → k ≤ refresh_clock c list rank →
     OffersRank c list k rank (Ref rank)
 offers_ref c list now rank k u closed f l h = record {
   within = u.within;
   lead = in_lead c list rank k l;
   kind = inl refl;
-  lawful = ref_lawful c list k rank (in_time c list now rank k u h) closed f (seven_sooner (ref_count rank list) c.timing.t_refi k l);
+  lawful = ref_lawful c list k rank (in_time c list now rank k u h) closed f (omega (arith, l));
 }
 
 pub offers_close : (c : Checked) (list : List Stamped) (now rank k : ℕ) → IsUp c list now rank → (¬ AllClosed c.geometry rank list) → floor c.timing list (PreAll rank) ≤ k → lead_clock c.timing list rank ≤ k → k ≤ refresh_clock c list rank →
@@ -69,17 +66,11 @@ ref_from c list now rank = max now (max (floor c.timing list (Ref rank)) (lead_c
 abbrev pub close_from : Checked → List Stamped → ℕ → ℕ → ℕ
 close_from c list now rank = max now (max (floor c.timing list (PreAll rank)) (lead_clock c.timing list rank))
 
-by_refresh : (now f lead g s p : ℕ) → now + 1 ≤ lead + g + s + p → f ≤ lead + g + s + p → max now (max f lead) ≤ lead + g + s + p
-by_refresh now f lead g s p h l = omega arith
-
-by_close : (now f lead g s : ℕ) → now + 1 ≤ lead + g + s → f ≤ max (now + 1) (lead + g) → max now (max f lead) ≤ lead + g + s
-by_close now f lead g s h l = omega arith
-
 pub ref_from-le : (c : Checked) (list : List Stamped) (now rank : ℕ) → HasTime c list now rank → ref_from c list now rank ≤ refresh_clock c list rank
-ref_from-le c list now rank h = by_refresh now (floor c.timing list (Ref rank)) (lead_clock c.timing list rank) (row_time c.timing) (commands_before c list rank) c.timing.t_rp h.next h.refresh
+ref_from-le c list now rank h = omega (arith, h.next, h.refresh)
 
 pub close_from-le : (c : Checked) (list : List Stamped) (now rank : ℕ) → HasTime c list now rank → (¬ AllClosed c.geometry rank list) → close_from c list now rank ≤ close_clock c list rank
-close_from-le c list now rank h some = by_close now (floor c.timing list (PreAll rank)) (lead_clock c.timing list rank) (row_time c.timing) (commands_before c list rank) (h.opened some) h.close
+close_from-le c list now rank h some = omega (arith, h.opened some, h.close)
 
 pub from-le : (now f lead : ℕ) → now ≤ max now (max f lead)
 from-le now f lead = omega arith

@@ -19,12 +19,6 @@ close_more c list k rank x e = let l = lead_same c.timing rank k list x e in let
 same_product : (a b l m t : ℕ) → a ≡ b → l ≡ m → b * t ≤ m → a * t ≤ l
 same_product a b l m t e f h = rw (e, f) h
 
-new_floor : (f old gap most more : ℕ) → f ≡ max old gap → old ≤ most → most ≤ more → gap ≤ more → f ≤ more
-new_floor f old gap most more e a b d = omega arith
-
-next_close : (f old gap now k lead lead' : ℕ) → f ≡ max old gap → old ≤ max (now + 1) lead → now ≤ k → gap ≤ max (k + 1) lead → lead' ≡ lead → f ≤ max (k + 1) lead'
-next_close f old gap now k lead lead' e a b d s = omega arith
-
 pub calm_time : (c : Checked) (list : List Stamped) (now k rank : ℕ) (x : Command) → Calm c list now k rank x → HasTime c (with_command list k x) k rank
 calm_time c list now k rank x h =
     let t = h.time in
@@ -33,9 +27,7 @@ calm_time c list now k rank x h =
       refreshed = same_product _ _ _ _ c.timing.t_refi (count_same rank k list x h.other) last t.refreshed;
       past = let p = t.past in let l = h.from in omega (arith, last, p, l);
       next = h.next;
-      refresh = new_floor _ _ _ (refresh_clock c list rank) _ (floor_push c.timing list (record { clock = k; cmd = x }) (Ref rank)) t.refresh
-          (let m = close_more c list k rank x h.other in omega (arith, m)) h.refresh;
-      close = next_close _ _ _ now k (lead_clock c.timing list rank + row_time c.timing) (lead_clock c.timing (with_command list k x) rank + row_time c.timing)
-          (floor_push c.timing list (record { clock = k; cmd = x }) (PreAll rank)) t.close h.from h.close (omega (arith, lead));
+      refresh = omega (arith, floor_push c.timing list (record { clock = k; cmd = x }) (Ref rank), t.refresh, close_more c list k rank x h.other, h.refresh);
+      close = omega (arith, floor_push c.timing list (record { clock = k; cmd = x }) (PreAll rank), t.close, h.from, h.close, lead);
       opened = h.opened;
     }
