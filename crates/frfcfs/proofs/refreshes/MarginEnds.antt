@@ -1,11 +1,8 @@
 -- The margin before the first command and behind a drain, and what it leaves to one.
-use Rattle.std.proofs.Common.{ℕ, ◌+◌, ◌-◌, ◌*◌, ◌≤◌, ◌<◌, List, [], IsTrue, arith}
+use Rattle.std.proofs.Common.{ℕ, ◌+◌, ◌-◌, ◌*◌, ◌<◌, List, [], IsTrue, arith}
 use Rattle.frfcfs.proofs.Common.{AreAsleep, Checked, HasTime, KeepsMargin, Stamped, close_of, entry_of, floor, greatest, is_asleep, last_clock, last_ref, ref_count}
 use Rattle.frfcfs.proofs.refreshes.IntervalFits.{fits}
 use Rattle.frfcfs.proofs.refreshes.RanksAhead.{above-lt}
-
-first_clock : (t g s : ℕ) → 1 ≤ g → 0 + 1 ≤ (0 + 8) * t + g + s
-first_clock t g s h = omega arith
 
 fresh : (c : Checked) (rank : ℕ) → HasTime c [] 0 rank
 unfolding floor greatest ref_count last_ref
@@ -16,7 +13,7 @@ fresh c rank =
       next = omega (arith, f.precharge);
       refresh = omega arith;
       close = omega arith;
-      opened = λ _. first_clock c.timing.t_refi _ _ f.some;
+      opened = λ _. omega (arith, f.some);
     }
 
 pub new_keeps : (c : Checked) → KeepsMargin c []

@@ -2,11 +2,11 @@
 use Rattle.std.proofs.Common.{◌≡◌, ℕ, ◌+◌, ◌≤◌, ◌<◌, ◌⊎◌, ◌^◌, ◌↔◌, Bool, true, false, List, [], ◌∷◌, ◌++◌, length, IsTrue, Option, Some, None, inl, inr, arith, refl, sym, subst, ap, ◌∙◌, ◌||◌}
 use Rattle.std.proofs.lemmas.Bool.{cases_lt, cases_eq}
 use Rattle.std.proofs.Math.Seq.{take-append_seam}
-use Rattle.frfcfs.proofs.Common.{Act, AreAsleep, Checked, Command, Geometry, HasTime, HasWork, IsCandidate, IsIdle, IsInGeometry, IsInLead, IsLawful, IsNext, IsNotAfter, KeepsMargin, Kind, Next, OfColumn, OfRank, OfRow, OffersRank, Pending, Place, Pre, PreAll, Rd, Read, Ref, Sre, Stamped, Turn, Wr, Write, act_of, column_of, floor, is_asleep, is_ref, is_sre_of, last_clock, lead_clock, pre_of, rank_of, ref_count, refresh_clock, with_command}
+use Rattle.frfcfs.proofs.Common.{Act, AreAsleep, Checked, Command, Geometry, HasTime, HasWork, IsCandidate, IsIdle, IsInGeometry, IsInLead, IsLawful, IsNext, IsNotAfter, KeepsMargin, Kind, Next, OfColumn, OfRank, OfRow, OffersRank, Pending, Place, Pre, PreAll, Rd, Read, Ref, Sre, Stamped, Turn, Wr, Write, act_of, column_of, is_asleep, is_ref, is_sre_of, last_clock, lead_clock, pre_of, rank_of, ref_count, refresh_clock, with_command}
 use Rattle.ddr4_timing.proofs.FloorLemmas.{is_asleep_push}
 use Rattle.ddr4_timing.proofs.Ready.{ready_lawful, IsLawful-take}
 use Rattle.frfcfs.proofs.refreshes.RefreshCounts.{last_clock_push, ref_of_calm, ref_of_other}
-use Rattle.frfcfs.proofs.refreshes.OffersInTime.{IsUp, in_lead, ref_from, close_from, ref_from-le, close_from-le, ref_due, close_due, from-le}
+use Rattle.frfcfs.proofs.refreshes.OffersInTime.{IsUp, in_lead, ref_from, close_from, ref_from-le, close_from-le, ref_due, close_due}
 use Rattle.ddr4_timing.proofs.Bounds.{most_gap-Ref_calm, most_gap-Ref_other}
 use Rattle.frfcfs.proofs.refreshes.OtherRanks.{late, rank_of_offer}
 use Rattle.frfcfs.proofs.refreshes.IntervalFits.{fits}
@@ -135,10 +135,10 @@ candidate_comes c list pending now rank u h =
     elim (closed_or c.geometry rank list) [
       | inl closed ↦
           let l = ref_from-le c list now rank u.time in
-          (ref_from c list now rank, from-le now (floor c.timing list (Ref rank)) (lead_clock c.timing list rank), omega (arith, l, early), (OfRank rank, Ref rank, ref_due c list now rank u closed))
+          (ref_from c list now rank, omega arith, omega (arith, l, early), (OfRank rank, Ref rank, ref_due c list now rank u closed))
       | inr some ↦
           let l = close_from-le c list now rank u.time some in
-          (close_from c list now rank, from-le now (floor c.timing list (PreAll rank)) (lead_clock c.timing list rank), omega (arith, l, early), (OfRank rank, PreAll rank, close_due c list now rank u some))
+          (close_from c list now rank, omega arith, omega (arith, l, early), (OfRank rank, PreAll rank, close_due c list now rank u some))
     ]
 
 -- each candidate goes to a rank that is awake

@@ -1,6 +1,6 @@
 -- A rank that has its time offers its REF, or the PREA before it, at the first clock from now that allows it.
 use Rattle.std.proofs.Common.{ℕ, ◌+◌, ◌*◌, ◌≤◌, ◌<◌, List, IsTrue, inl, inr, arith, refl, max}
-use Rattle.frfcfs.proofs.Common.{AllClosed, Checked, HasTime, IsInLead, IsLawful, OffersRank, PreAll, Ref, Stamped, above, close_clock, floor, is_asleep, last_ref, lead_clock, ref_count, refresh_clock, row_time}
+use Rattle.frfcfs.proofs.Common.{AllClosed, Checked, HasTime, IsInLead, IsLawful, OffersRank, PreAll, Ref, Stamped, above, close_clock, floor, is_asleep, lead_clock, ref_count, refresh_clock, row_time}
 use Rattle.frfcfs.proofs.refreshes.IntervalFits.{fits}
 use Rattle.frfcfs.proofs.Leads.{lead_at}
 use Rattle.frfcfs.proofs.refreshes.LawfulRefreshes.{MayStill, ref_lawful, close_lawful}
@@ -24,15 +24,12 @@ refresh-lt c list rank l =
     (above (λ other. ref_count other list) (ref_count rank list) c.geometry.ranks) f.row l (above-le (λ other. ref_count other list) (ref_count rank list) c.geometry.ranks) in
     omega (arith, e)
 
-late : (n t k last : ℕ) → n * t ≤ last → k < (n + 9) * t → k ≤ last + 9 * t
-late n t k last h l = omega arith
-
 pub in_time : (c : Checked) (list : List Stamped) (now rank k : ℕ) → IsUp c list now rank → k ≤ refresh_clock c list rank → MayStill c list k rank
 in_time c list now rank k u h = record {
   lawful = u.lawful;
   within = u.within;
   awake = u.awake;
-  in_time = late (ref_count rank list) c.timing.t_refi k (last_ref rank list) u.time.refreshed (let l = refresh-lt c list rank u.within in omega (arith, h, l));
+  in_time = omega (arith, u.time.refreshed, refresh-lt c list rank u.within, h);
 }
 
 pub in_lead : (c : Checked) (list : List Stamped) (rank k : ℕ) → lead_clock c.timing list rank ≤ k → IsInLead c.timing list k rank
@@ -72,19 +69,10 @@ ref_from-le c list now rank h = omega (arith, h.next, h.refresh)
 pub close_from-le : (c : Checked) (list : List Stamped) (now rank : ℕ) → HasTime c list now rank → (¬ AllClosed c.geometry rank list) → close_from c list now rank ≤ close_clock c list rank
 close_from-le c list now rank h some = omega (arith, h.opened some, h.close)
 
-pub from-le : (now f lead : ℕ) → now ≤ max now (max f lead)
-from-le now f lead = omega arith
-
-max_parts : (a b d : ℕ) → (a ≤ max a (max b d)) × (b ≤ max a (max b d)) × (d ≤ max a (max b d))
-max_parts a b d = omega arith
-
 pub ref_due : (c : Checked) (list : List Stamped) (now rank : ℕ) → IsUp c list now rank → AllClosed c.geometry rank list → OffersRank c list (ref_from c list now rank) rank (Ref rank)
-ref_due c list now rank u closed =
-    let m = max_parts now (floor c.timing list (Ref rank)) (lead_clock c.timing list rank) in
-    offers_ref c list now rank (ref_from c list now rank) u closed m.1 m.2 (ref_from-le c list now rank u.time)
+ref_due c list now rank u closed = offers_ref c list now rank (ref_from c list now rank) u closed (omega arith) (omega arith) (ref_from-le c list now rank u.time)
 
 pub close_due : (c : Checked) (list : List Stamped) (now rank : ℕ) → IsUp c list now rank → (¬ AllClosed c.geometry rank list) → OffersRank c list (close_from c list now rank) rank (PreAll rank)
 close_due c list now rank u some =
-    let m = max_parts now (floor c.timing list (PreAll rank)) (lead_clock c.timing list rank) in
     let l = close_from-le c list now rank u.time some in
-    offers_close c list now rank (close_from c list now rank) u some m.1 m.2 (omega (arith, l))
+    offers_close c list now rank (close_from c list now rank) u some (omega arith) (omega arith) (omega (arith, l))
