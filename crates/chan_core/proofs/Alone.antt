@@ -1,5 +1,5 @@
 -- What a single command makes of a channel's contents.
-use Rattle.std.proofs.Common.{◌≡◌, ◌≢◌, ◌↔◌, ℕ, zero, suc, ◌+◌, ◌<◌, ◌≤◌, List, [], ◌∷◌, ◌++◌, Bool, true, false, cond, map, length, take, drop, remove, slice_get, slice_set, Option, Some, None, refl, sym, ap, subst, ◌∙◌, arith}
+use Rattle.std.proofs.Common.{◌≡◌, ◌≢◌, ◌↔◌, ℕ, zero, suc, ◌+◌, ◌<◌, ◌≤◌, List, [], ◌∷◌, ◌++◌, Bool, true, false, cond, map, length, take, drop, slice_get, Option, Some, None, refl, sym, ap, subst, ◌∙◌, arith}
 use Rattle.std.specs.List.{All, filter_map, cons_option}
 use Rattle.std.proofs.lemmas.List.{drop-map, length-append, length-drop, length-map}
 use Rattle.std.proofs.lemmas.Option.{slice_get_within}
@@ -7,14 +7,6 @@ use Rattle.chan_core.proofs.Common.{Act, AreAsleep, AreContents, AreOldest, Asle
 use Rattle.chan_core.proofs.Holding.{few-pending}
 use Rattle.chan_core.proofs.Taken.{all-of}
 use Rattle.frfcfs.proofs.Lists.{All-at}
-
-pub stored-array : (array : List (List ℕ)) (writes : List PendingWrite) (w : PendingWrite) → slice_get writes 0 ≡ Some w → after_pending array (take 1 writes) ≡ slice_set array w.write.line w.write.«data»
-stored-array array [] w at = absurd cc
-stored-array array (x ∷ xs) w at = let same : x ≡ w = cc in ap (λ (y : PendingWrite). slice_set array y.write.line y.write.«data») same
-
-pub remove-first : {X : Type 0} (xs : List X) → remove xs 0 ≡ drop 1 xs
-remove-first [] = refl
-remove-first (x ∷ xs) = refl
 
 drop-at : {X : Type 0} (k : ℕ) (xs : List X) (i : ℕ) (x : X) → slice_get (drop k xs) i ≡ Some x → slice_get xs (k + i) ≡ Some x
 drop-at zero xs i x at = let n : i ≡ 0 + i = omega arith in subst (λ (m : ℕ). slice_get xs m ≡ Some x) n at
