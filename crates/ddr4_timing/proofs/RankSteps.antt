@@ -223,26 +223,6 @@ other_rank c list k next write write' column column' x rank r n beyond writes s 
       asleep = rw (is_asleep_push rank list (record { clock = k; cmd = x }), test_elsewhere (is_sre x) (rank_of x) rank n) (s.asleep ∙ sym (or_false _));
     }
 
--- what all ranks share
-
-pub column_raised : (b : Bool) (k gap old new : ℕ) → new ≡ max old (cond b 0 (k + gap)) → ClockRises k (cond b 0 gap) old new
-column_raised true k gap old new e = omega (arith, e)
-column_raised false k gap old new e = omega (arith, e)
-
-pub column_kept : (b : Bool) (k gap a : ℕ) → gap ≡ 0 → ClockRises k (cond b 0 gap) a a
-column_kept true k gap a e = kept k a
-column_kept false k gap a e = rw e (kept k a)
-
--- only a RD or WR asks anything of other ranks
-pub shares_nothing : (t : Timing) (x : Command) → ((at : BankAddress) (column : ℕ) → x ≡ Rd at column → ⊥) → ((at : BankAddress) (column : ℕ) → x ≡ Wr at column → ⊥) → ((demand_of t x).beyond ≡ 0) × ((demand_of t x).write ≡ 0)
-shares_nothing t (Act at row) rd wr = (refl, refl)
-shares_nothing t (Rd at column) rd wr = absurd (rd at column refl)
-shares_nothing t (Wr at column) rd wr = absurd (wr at column refl)
-shares_nothing t (Pre at) rd wr = (refl, refl)
-shares_nothing t (PreAll rank) rd wr = (refl, refl)
-shares_nothing t (Ref rank) rd wr = (refl, refl)
-shares_nothing t (Sre rank) rd wr = (refl, refl)
-
 -- each rank, behind a command that one of them takes
 pub each_rank : (c : Checked) (list : List Stamped) (k : ℕ) (x : Command) (old new : Machine) (taken d : RankState) (i : ℕ) → length old.ranks ≡ 4 → length old.columns ≡ 4 → i ≡ rank_of x →
     KeepsRefresh c.timing list (record { clock = k; cmd = x }) → RankTakes c.timing k x (get_or old.ranks i d) taken → ChannelTakes c.timing k x (record old { ranks = set old.ranks i taken }) new →
