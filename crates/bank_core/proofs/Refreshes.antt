@@ -1,13 +1,7 @@
 -- No REF of a lawful list was pulled in.
-use Rattle.std.proofs.Common.{◌≡◌, ℕ, ◌+◌, ◌*◌, ◌≤◌, Bool, true, false, cond, eqb, List, [], ◌∷◌, ◌++◌, append_assoc, length, IsTrue, arith, refl, sym, subst}
-use Rattle.std.specs.Prelude.{◌&&◌}
-use Rattle.std.proofs.lemmas.Bool.{eqb-true}
-use Rattle.std.proofs.lemmas.List.{append-nil}
+use Rattle.std.proofs.Common.{◌≡◌, ℕ, ◌+◌, ◌*◌, ◌≤◌, Bool, true, false, cond, eqb, List, [], ◌∷◌, ◌++◌, append_assoc, length, IsTrue, arith, refl, sym, subst, ◌&&◌, eqb-true, append-nil}
 use Rattle.std.proofs.Math.Seq.{take-append_seam}
-use Rattle.ddr4_timing.specs.declared.command.Stamped.{Stamped}
-use Rattle.ddr4_timing.specs.declared.timing.Checked.{Checked}
-use Rattle.ddr4_timing.specs.Command.{rank_of, is_ref, is_ref_of}
-use Rattle.ddr4_timing.specs.Lawful.{IsLawful, last_ref, ref_count}
+use Rattle.bank_core.proofs.Common.{Checked, IsLawful, Stamped, is_ref, is_ref_of, last_ref, rank_of, ref_count}
 use Rattle.ddr4_timing.proofs.FloorLemmas.{last_ref_push, ref_count_push}
 use Rattle.ddr4_timing.proofs.Ready.{refresh_lawful, IsLawful-take}
 

@@ -2,13 +2,8 @@
 use Rattle.std.proofs.Common.{ℕ, List}
 use Rattle.std.proofs.Math.Logic.{∥∥₁_elim}
 use Rattle.std.proofs.Props.{props}
-use Rattle.ddr4_timing.specs.declared.command.Command.{Command}
-use Rattle.ddr4_timing.specs.declared.command.Command.TheVariants.{Act, Rd, Wr, Pre, PreAll, Ref, Sre}
-use Rattle.ddr4_timing.specs.declared.command.Stamped.{Stamped}
-use Rattle.ddr4_timing.specs.declared.timing.Geometry.{Geometry}
-use Rattle.ddr4_timing.specs.Lawful.{IsInGeometry}
+use Rattle.bank_core.proofs.Common.{Act, Allows, BanksState, Command, Geometry, IsInGeometry, Pre, PreAll, Rd, Ref, Sre, Stamped, Stands, Wr}
 use Rattle.ddr4_timing.proofs.Ready.{ready_lawful}
-use Rattle.bank_core.specs.Stands.{BanksState, Stands, Allows}
 
 in_geometry_prop : (g : Geometry) (x : Command) → IsProp (IsInGeometry g x)
 in_geometry_prop g (Act at row) = hlevel props

@@ -1,36 +1,12 @@
 -- What a single command makes of a channel's contents.
-use Rattle.std.proofs.Common.{◌≡◌, ◌≢◌, ◌↔◌, ℕ, zero, suc, ◌+◌, ◌<◌, ◌≤◌, List, [], ◌∷◌, ◌++◌, Bool, true, false, cond, map, length, take, drop, remove, slice_get, slice_set, Option, Some, None, refl, sym, ap, subst, ◌∙◌, arith}
+use Rattle.std.proofs.Common.{◌≡◌, ◌≢◌, ◌↔◌, ℕ, zero, suc, ◌+◌, ◌<◌, ◌≤◌, List, [], ◌∷◌, ◌++◌, Bool, true, false, cond, map, length, take, drop, slice_get, Option, Some, None, refl, sym, ap, subst, ◌∙◌, arith}
 use Rattle.std.specs.List.{All, filter_map, cons_option}
 use Rattle.std.proofs.lemmas.List.{drop-map, length-append, length-drop, length-map}
 use Rattle.std.proofs.lemmas.Option.{slice_get_within}
-use Rattle.ddr4_timing.specs.declared.command.Command.{Command}
-use Rattle.ddr4_timing.specs.declared.command.Command.TheVariants.{Act, Pre, PreAll, Rd, Ref, Sre, Wr}
-use Rattle.ddr4_timing.specs.declared.command.Stamped.{Stamped}
-use Rattle.ddr4_timing.specs.declared.place.Place.{Place}
-use Rattle.frfcfs.specs.declared.pending.Kind.{Kind}
-use Rattle.frfcfs.specs.declared.pending.Kind.TheVariants.{Read, Write}
-use Rattle.frfcfs.specs.declared.pending.Pending.{Pending}
-use Rattle.frfcfs.specs.Queue.{Waiting, is_write, numbered_from, writes_among}
-use Rattle.frfcfs.specs.Margin.{AreAsleep}
-use Rattle.wpq_core.specs.declared.queue.PendingWrite.{PendingWrite}
-use Rattle.wpq_core.specs.Queue.{Queue, IsWriteQueue}
-use Rattle.wpq_core.specs.PendingMemory.{after_pending}
-use Rattle.chan_core.specs.declared.phase.Phase.{Phase}
-use Rattle.chan_core.specs.declared.phase.Phase.TheVariants.{Asleep, Running}
-use Rattle.chan_core.specs.Contents.{Contents, AreContents, AreOldest, IsRightRequest, ReadKey, read_key, read_of, queued_key, seen, write_key, write_of}
-use Rattle.chan_core.specs.Singles.{FitsOldest, IssuesAlone, writes_by}
-use Rattle.chan_core.specs.State.{placed, placed_write}
+use Rattle.chan_core.proofs.Common.{Act, AreAsleep, AreContents, AreOldest, Asleep, Command, Contents, FitsOldest, IsRightRequest, IsWriteQueue, IssuesAlone, Kind, Pending, PendingWrite, Phase, Place, Pre, PreAll, Queue, Rd, Read, ReadKey, Ref, Running, Sre, Stamped, Waiting, Wr, Write, after_pending, is_write, numbered_from, placed, placed_write, queued_key, read_key, read_of, seen, write_key, write_of, writes_among, writes_by}
 use Rattle.chan_core.proofs.Holding.{few-pending}
 use Rattle.chan_core.proofs.Taken.{all-of}
 use Rattle.frfcfs.proofs.Lists.{All-at}
-
-pub stored-array : (array : List (List ℕ)) (writes : List PendingWrite) (w : PendingWrite) → slice_get writes 0 ≡ Some w → after_pending array (take 1 writes) ≡ slice_set array w.write.line w.write.«data»
-stored-array array [] w at = absurd cc
-stored-array array (x ∷ xs) w at = let same : x ≡ w = cc in ap (λ (y : PendingWrite). slice_set array y.write.line y.write.«data») same
-
-pub remove-first : {X : Type 0} (xs : List X) → remove xs 0 ≡ drop 1 xs
-remove-first [] = refl
-remove-first (x ∷ xs) = refl
 
 drop-at : {X : Type 0} (k : ℕ) (xs : List X) (i : ℕ) (x : X) → slice_get (drop k xs) i ≡ Some x → slice_get xs (k + i) ≡ Some x
 drop-at zero xs i x at = let n : i ≡ 0 + i = omega arith in subst (λ (m : ℕ). slice_get xs m ≡ Some x) n at

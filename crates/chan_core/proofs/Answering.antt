@@ -1,20 +1,11 @@
 -- What stays right of a channel's contents when a read is answered or collected.
-use Rattle.std.proofs.Common.{◌≡◌, ℕ, suc, ◌<◌, ◌⊎◌, inl, inr, true, List, [], ◌∷◌, ◌++◌, map, length, get_or, remove, slice_get, slice_set, Option, Some, None, refl, sym, ap, subst, ◌∙◌, arith, length-set}
-use Rattle.std.specs.List.{filter_map}
+use Rattle.std.proofs.Common.{◌≡◌, ℕ, suc, ◌<◌, ◌⊎◌, inl, inr, true, List, [], ◌∷◌, ◌++◌, map, length, get_or, remove, slice_get, slice_set, Option, Some, None, refl, sym, ap, subst, ◌∙◌, arith, length-set, filter_map}
 use Rattle.std.proofs.lemmas.Bool.{cases_order, cases_eq}
 use Rattle.std.proofs.lemmas.List.{length-append, map-set}
 use Rattle.std.proofs.lemmas.List.Edits.{length-remove}
 use Rattle.std.proofs.lemmas.Option.{slice_get_within, slice_get_read, get_or_from_slice_get}
 use Rattle.circular_buffer.proofs.Places.{slice_get-set_same, slice_get-set_other}
-use Rattle.ddr4_timing.specs.declared.command.Stamped.{Stamped}
-use Rattle.frfcfs.specs.declared.pending.Kind.{Kind}
-use Rattle.frfcfs.specs.declared.pending.Kind.TheVariants.{Read}
-use Rattle.frfcfs.specs.declared.pending.Pending.{Pending}
-use Rattle.frfcfs.specs.Queue.{Waiting}
-use Rattle.chan_core.specs.declared.reads.OpenRead.{OpenRead}
-use Rattle.chan_core.specs.Reads.{OpenTicket, ReadsRise, AnswersSeq, ticket_with, ticket_of, answered_with}
-use Rattle.chan_core.specs.Calls.{AnswersRead}
-use Rattle.chan_core.specs.Contents.{Contents, AreContents, ReadKey, seen, write_of, read_of, waits_for, write_key, read_key, waiting_key}
+use Rattle.chan_core.proofs.Common.{AnswersRead, AnswersSeq, AreContents, Contents, Kind, OpenRead, OpenTicket, Pending, Read, ReadKey, ReadsRise, Stamped, Waiting, answered_with, read_key, read_of, seen, ticket_of, ticket_with, waiting_key, waits_for, write_key, write_of}
 use Rattle.chan_core.proofs.Kept.{kept, filter_map-without, filter_map-taken, filter_map-changed, filter_map-at, filter_map-origin, map-at}
 use Rattle.chan_core.proofs.Taken.{before_removal}
 use Rattle.chan_core.proofs.Serving.{clear-taken, right-taken, shorter, tickets_of}

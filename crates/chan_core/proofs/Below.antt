@@ -1,14 +1,8 @@
 -- The memory below a number.
-use Rattle.std.proofs.Common.{rules, ◌≡◌, ℕ, zero, suc, ◌<◌, ◌≤◌, Bool, true, false, cond, List, [], ◌∷◌, ◌++◌, count_by, filter, length, nat_lt, refl, ap, ◌∙◌, arith}
-use Rattle.std.proofs.lemmas.List.{append-nil}
+use Rattle.std.proofs.Common.{rules, ◌≡◌, ℕ, zero, suc, ◌<◌, ◌≤◌, Bool, true, false, cond, List, [], ◌∷◌, ◌++◌, count_by, filter, length, nat_lt, refl, ap, ◌∙◌, arith, append-nil}
 use Rattle.std.proofs.lemmas.List.Elements.{filter-append}
 use Rattle.std.proofs.lemmas.List.Sums.{length-filter}
-use Rattle.ddr4_timing.specs.declared.place.Place.{Place}
-use Rattle.wpq_core.specs.declared.queue.PendingWrite.{PendingWrite}
-use Rattle.wpq_core.specs.PendingMemory.{after_pending}
-use Rattle.wpq_core.specs.Writes.{ComeBefore, pending_write}
-use Rattle.chan_core.specs.Calls.{AddsWrite}
-use Rattle.chan_core.specs.State.{ChannelState, cell_in, channel_memory, memory_below}
+use Rattle.chan_core.proofs.Common.{AddsWrite, ChannelState, ComeBefore, PendingWrite, Place, after_pending, cell_in, channel_memory, memory_below, pending_write}
 
 abbrev below : ℕ → PendingWrite → Bool
 below n w = nat_lt w.number n

@@ -1,12 +1,7 @@
 -- The clock of a list of commands, and how many commands there can be by a clock.
 use Rattle.std.proofs.Common.{◌≡◌, ℕ, zero, suc, ◌+◌, ◌-◌, ◌<◌, ◌≤◌, List, [], ◌∷◌, length, take, fold, slice_get, get_or, Some, refl, ap, arith}
 use Rattle.std.proofs.lemmas.Option.{slice_get_within, slice_get-get_or}
-use Rattle.ddr4_timing.specs.declared.command.Stamped.{Stamped}
-use Rattle.ddr4_timing.specs.declared.timing.Checked.{Checked}
-use Rattle.ddr4_timing.specs.declared.rules.Rule.TheVariants.{Order}
-use Rattle.ddr4_timing.specs.Gaps.{gap, pair_gap}
-use Rattle.ddr4_timing.specs.Lawful.{IsLawful}
-use Rattle.frfcfs.specs.Margin.{last_clock}
+use Rattle.chan_core.proofs.Common.{Checked, IsLawful, Order, Stamped, gap, last_clock, pair_gap}
 
 -- one command behind another goes later
 later : (c : Checked) (list : List Stamped) → IsLawful c list → (k : ℕ) (a x : Stamped) → slice_get (take (suc k) list) k ≡ Some a → slice_get list (suc k) ≡ Some x → a.clock + 1 ≤ x.clock

@@ -1,45 +1,11 @@
 -- A channel goes on: its banks, clock and last commands stay those of its list of commands.
 use Rattle.std.proofs.Common.{◌≡◌, ◌≢◌, ℕ, ◌-◌, ◌<◌, ◌≤◌, ◌^◌, ◌↔◌, ◌⊎◌, List, [], ◌∷◌, ◌++◌, length, drop, Option, Some, None, refl, sym, ap, subst, ◌∙◌, arith}
-use Rattle.circular_buffer.specs.Buffer.{Buffer}
-use Rattle.ddr4_timing.specs.declared.command.Stamped.{Stamped}
-use Rattle.ddr4_timing.specs.declared.timing.Checked.{Checked}
-use Rattle.bank_core.specs.Stands.{BanksState}
-use Rattle.bank_core.specs.Stands.{Stands, with_command}
-use Rattle.frfcfs.specs.declared.next.Next.{Next}
-use Rattle.frfcfs.specs.declared.pending.Pending.{Pending}
-use Rattle.frfcfs.specs.Next.{IsNext}
-use Rattle.frfcfs.specs.Margin.{AreAsleep, KeepsMargin, IsIdle, last_clock}
+use Rattle.chan_core.proofs.Common.{AreAsleep, AreAwake, Asleep, BanksState, Buffer, ChannelState, Checked, HasNothingToSend, IsIdle, IsInPhase, IsNext, IsRunning, IssuesAlone, KeepsMargin, Next, Pending, Phase, Running, Stamped, Stands, Stepping, after_command, clock_of, last_clock, last_commands, with_command}
 use Rattle.frfcfs.proofs.refreshes.RefreshCounts.{last_clock_push}
 use Rattle.chan_core.specs.declared.channel.Channel.TheInside.{Inside}
-use Rattle.chan_core.specs.Running.{IsRunning, KeepsRun}
-use Rattle.chan_core.specs.State.{ChannelState, clock_of, last_commands}
-use Rattle.chan_core.specs.declared.phase.Phase.{Phase}
-use Rattle.chan_core.specs.declared.phase.Phase.TheVariants.{Asleep, Running, Stepping}
-use Rattle.chan_core.specs.Phases.{AreAwake, IsInPhase}
-use Rattle.chan_core.specs.Calls.{HasNothingToSend, after_command}
-use Rattle.chan_core.specs.Singles.{IssuesAlone}
 use Rattle.chan_core.proofs.Sleeping.{asleep-more, awake-more, chosen-awake}
 use Rattle.chan_core.proofs.Clocks.{few-commands}
 use Rattle.chan_core.proofs.Recent.{last-push}
-
-phase-kept : (old new : ChannelState) → new.checked ≡ old.checked → new.commands ≡ old.commands → new.phase ≡ old.phase → IsInPhase old → IsInPhase new
-phase-kept old new checked commands phase is = record {
-  in_time = λ not. subst (λ (k : Checked). KeepsMargin k new.commands) (sym checked) (subst (λ (xs : List Stamped). KeepsMargin old.checked xs) (sym commands) (is.in_time (λ e. not (phase ∙ e))));
-  awake = λ e. subst (λ (k : Checked). AreAwake k new.commands) (sym checked) (subst (λ (xs : List Stamped). AreAwake old.checked xs) (sym commands) (is.awake (sym phase ∙ e)));
-  asleep = λ e. subst (λ (k : Checked). AreAsleep k new.commands) (sym checked) (subst (λ (xs : List Stamped). AreAsleep old.checked xs) (sym commands) (is.asleep (sym phase ∙ e)));
-}
-
--- what touches neither profile nor commands leaves it so
-pub running-kept : (c : Inside) (new : ChannelState) → KeepsRun c.memory new → IsRunning c → IsRunning (record { banks = c.banks; clock = c.clock; recent = c.recent; memory = new })
-running-kept c new (checked, commands, phase) is = record {
-  stands = subst (λ (xs : List Stamped). Stands c.banks xs) (sym commands) is.stands;
-  checked = is.checked ∙ sym checked;
-  clock = is.clock ∙ ap last_clock (sym commands);
-  early = is.early;
-  recent = is.recent ∙ ap last_commands (sym commands);
-  capacity = is.capacity;
-  phase = phase-kept c.memory new checked commands phase is.phase;
-}
 
 -- there are at most 2^63 commands
 pub running-few : (c : Inside) → IsRunning c → length c.memory.commands ≤ 2 ^ 63

@@ -1,16 +1,9 @@
 -- What contracts may know of a channel's contents.
-use Rattle.std.proofs.Common.{◌≡◌, ℕ, ◌<◌, List, map, length, slice_get, get_or, Some, sym, ap, subst, ◌∙◌, arith}
-use Rattle.std.specs.List.{filter_map}
+use Rattle.std.proofs.Common.{◌≡◌, ℕ, ◌<◌, List, map, length, slice_get, get_or, Some, sym, ap, subst, ◌∙◌, arith, filter_map}
 use Rattle.std.proofs.lemmas.List.{length-map}
 use Rattle.std.proofs.lemmas.Option.{slice_get-get_or}
-use Rattle.frfcfs.specs.Requests.{AreInOrder}
+use Rattle.chan_core.proofs.Common.{AreContents, AreInOrder, Contents, IsHeld, IsRightRequest, OpenRead, OpenTicket, PendingWrite, ReadsRise, SerialsRise, cells_of, queued_key, seen, ticket_of, write_key}
 use Rattle.frfcfs.proofs.Lists.{All-at}
-use Rattle.wpq_core.specs.declared.queue.PendingWrite.{PendingWrite}
-use Rattle.interleave_map.specs.Cells.{cells_of}
-use Rattle.chan_core.specs.Reads.{OpenTicket, ReadsRise, ticket_of}
-use Rattle.chan_core.specs.declared.reads.OpenRead.{OpenRead}
-use Rattle.chan_core.specs.Contents.{Contents, AreContents, IsRightRequest, seen, write_key, queued_key}
-use Rattle.chan_core.specs.Always.{IsHeld, SerialsRise}
 use Rattle.interleave_map.proofs.Numbering.{cell_within}
 use Rattle.chan_core.proofs.Kept.{filter_map-origin, map-at, map-from}
 use Rattle.chan_core.proofs.Serving.{cell-of-key}

@@ -4,22 +4,7 @@ use Rattle.std.specs.List.{All, filter_map, cons_option}
 use Rattle.std.proofs.lemmas.List.{map-append, append-nil, length-append, length-map}
 use Rattle.std.proofs.lemmas.List.Elements.{All-append, All-map, filter_map-append}
 use Rattle.std.proofs.lemmas.Option.{slice_get_within}
-use Rattle.line_memory.specs.Memory.{IsMemory}
-use Rattle.ddr4_timing.specs.declared.command.Stamped.{Stamped}
-use Rattle.ddr4_timing.specs.declared.place.Place.{Place}
-use Rattle.ddr4_timing.specs.Places.{LiesIn}
-use Rattle.frfcfs.specs.declared.pending.Kind.{Kind}
-use Rattle.frfcfs.specs.declared.pending.Kind.TheVariants.{Read, Write}
-use Rattle.frfcfs.specs.declared.pending.Pending.{Pending}
-use Rattle.frfcfs.specs.Queue.{Waiting, held_by, is_held}
-use Rattle.wpq_core.specs.declared.queue.PendingWrite.{PendingWrite}
-use Rattle.wpq_core.specs.Queue.{Queue, IsWriteQueue}
-use Rattle.wpq_core.specs.Writes.{NoWriteNames, pending_write}
-use Rattle.chan_core.specs.declared.reads.OpenRead.{OpenRead}
-use Rattle.interleave_map.specs.Cells.{cells_of, cell_of}
-use Rattle.chan_core.specs.Reads.{ReadsRise}
-use Rattle.chan_core.specs.Calls.{request}
-use Rattle.chan_core.specs.Contents.{Contents, AreContents, IsRightRequest, ReadKey, write_of, read_of, write_key, read_key, queued_key, waiting_key}
+use Rattle.chan_core.proofs.Common.{AreContents, Contents, IsMemory, IsRightRequest, IsWriteQueue, Kind, LiesIn, NoWriteNames, OpenRead, Pending, PendingWrite, Place, Queue, Read, ReadKey, ReadsRise, Waiting, Write, cell_of, cells_of, held_by, is_held, pending_write, queued_key, read_key, read_of, request, waiting_key, write_key, write_of}
 use Rattle.chan_core.proofs.Kept.{filter_map-at, filter_map-unseen, length-filter_map, map-from}
 use Rattle.chan_core.proofs.Taken.{appended}
 
@@ -217,23 +202,4 @@ hold-holds s hold waiting is waiting-is =
           (ap (λ (x : Pending). x.line) from.2 ∙ line ∙ sym (ap (λ (x : Pending). x.line) to.2));
       few_seqs = omega (arith, is.few_seqs, same, next);
       few_serials = omega (arith, is.few_serials, same);
-    }
-
--- a command that serves no request
-pub note-holds : (s : Contents) (x : Stamped) → AreContents s → AreContents (record s { commands = s.commands ++ x ∷ [] })
-note-holds s x is =
-    let more = length-append s.commands (x ∷ []) in
-    record {
-      array = is.array;
-      queue = is.queue;
-      room = is.room;
-      right = is.right;
-      writes = is.writes;
-      unanswered = is.unanswered;
-      reads = is.reads;
-      few_reads = is.few_reads;
-      most = is.most;
-      clear = is.clear;
-      few_seqs = omega (arith, is.few_seqs, more);
-      few_serials = omega (arith, is.few_serials, more);
     }

@@ -1,15 +1,8 @@
 -- What a run of commands leaves of a channel.
 use Rattle.std.proofs.Common.{◌≡◌, ℕ, suc, ◌<◌, inl, inr, List, [], ◌∷◌, length, remove, Option, Some, None, ap, sym, subst, ◌∙◌}
 use Rattle.std.proofs.lemmas.Option.{slice_get_within}
-use Rattle.wpq_core.specs.declared.queue.PendingWrite.{PendingWrite}
-use Rattle.wpq_core.specs.Writes.{ComeBefore}
-use Rattle.ddr4_timing.specs.declared.command.Stamped.{Stamped}
-use Rattle.frfcfs.specs.declared.pending.Pending.{Pending}
-use Rattle.chan_core.specs.declared.answers.Done.{Done}
-use Rattle.chan_core.specs.declared.answers.Served.{Served}
+use Rattle.chan_core.proofs.Common.{ChannelState, ComeBefore, Done, IssuesChoice, IssuesChoices, Pending, PendingWrite, Served, ServesIndex, ServesRequest, Stamped}
 use Rattle.chan_core.specs.declared.answers.Served.TheVariants as served
-use Rattle.chan_core.specs.State.{ChannelState}
-use Rattle.chan_core.specs.Calls.{IssuesChoice, IssuesChoices, ServesRequest, ServesIndex}
 use Rattle.chan_core.proofs.Taken.{before_removal}
 
 -- The profile and the channel stay, and no later write comes.

@@ -1,10 +1,6 @@
 -- Commands one after another.
-use Rattle.std.proofs.Common.{◌≡◌, List, [], ◌∷◌, ◌++◌, refl, sym, ap, subst, ◌∙◌}
-use Rattle.std.proofs.lemmas.List.{append_assoc, append-nil}
-use Rattle.ddr4_timing.specs.declared.command.Stamped.{Stamped}
-use Rattle.chan_core.specs.declared.answers.Done.{Done}
-use Rattle.chan_core.specs.State.{ChannelState, channel_memory}
-use Rattle.chan_core.specs.Calls.{IssuesChoice, IssuesChoices, KeepsBelow, after_commands}
+use Rattle.std.proofs.Common.{◌≡◌, List, [], ◌∷◌, ◌++◌, refl, ap, subst, ◌∙◌, append_assoc}
+use Rattle.chan_core.proofs.Common.{ChannelState, Done, IssuesChoice, IssuesChoices, KeepsBelow, Stamped, after_commands, channel_memory}
 
 -- a run goes on by one command
 pub IssuesChoices-more : (old mid new : ChannelState) (xs : List Stamped) (done : Done) → IssuesChoices old xs mid → IssuesChoice mid done new → IssuesChoices old (xs ++ done.command ∷ []) new
@@ -18,9 +14,6 @@ pub record HasRun (old : ChannelState) (xs : List Stamped) (new : ChannelState) 
   pub memory : channel_memory new ≡ channel_memory old
   pub below : KeepsBelow old new
   pub rest : new ≡ after_commands old new
-
-pub run-none : (s : ChannelState) → HasRun s [] s
-run-none s = record { issues = refl; commands = sym (append-nil s.commands); memory = refl; below = λ n hold. refl; rest = refl }
 
 pub run-more : (old mid new : ChannelState) (xs : List Stamped) (done : Done) → HasRun old xs mid → IssuesChoice mid done new → channel_memory new ≡ channel_memory mid → KeepsBelow mid new → new ≡ after_commands mid new → HasRun old (xs ++ done.command ∷ []) new
 run-more old mid new xs done ran issues memory below rest = record {

@@ -1,28 +1,14 @@
 -- What stays right of a channel's contents when a write is served.
-use Rattle.std.proofs.Common.{rules, ◌≡◌, ◌≢◌, ℕ, suc, ◌+◌, ◌<◌, inl, inr, Bool, false, true, not, nat_lt, filter, List, [], ◌∷◌, ◌++◌, map, length, remove, slice_get, slice_set, Option, Some, None, refl, sym, ap, subst, ◌∙◌, arith, length-set, get_or-set_other}
-use Rattle.std.specs.List.{All, filter_map}
+use Rattle.std.proofs.Common.{rules, ◌≡◌, ◌≢◌, ℕ, suc, ◌+◌, ◌<◌, inl, inr, Bool, false, true, not, nat_lt, filter, List, [], ◌∷◌, ◌++◌, map, length, remove, slice_get, slice_set, Option, Some, None, refl, sym, ap, subst, ◌∙◌, arith, length-set, get_or-set_other, All, filter_map, length-append}
 use Rattle.std.proofs.lemmas.Bool.{cases_order}
-use Rattle.std.proofs.lemmas.List.{length-append}
 use Rattle.std.proofs.lemmas.List.Edits.{length-remove}
 use Rattle.std.proofs.lemmas.List.Elements.{All-set}
 use Rattle.std.proofs.lemmas.Option.{slice_get_within}
-use Rattle.ddr4_timing.specs.declared.command.Stamped.{Stamped}
-use Rattle.frfcfs.specs.declared.pending.Kind.{Kind}
-use Rattle.frfcfs.specs.declared.pending.Kind.TheVariants.{Read, Write}
-use Rattle.frfcfs.specs.declared.pending.Pending.{Pending}
-use Rattle.frfcfs.specs.Queue.{Waiting, is_held}
-use Rattle.frfcfs.specs.Requests.{AreInOrder, IsEligible}
+use Rattle.chan_core.proofs.Common.{AreContents, AreInOrder, Contents, IsEligible, IsFirstOfItsLine, IsRightRequest, IsWriteQueue, Kind, OpenRead, OpenTicket, Pending, PendingWrite, Queue, Read, ReadKey, ReadsRise, Stamped, TakesWrite, Waiting, Write, after_pending, is_held, queued_key, read_key, read_of, ticket_of, ticket_with, waiting_key, waits_for, write_key, write_of}
 use Rattle.frfcfs.proofs.ChoiceLaws.{eligible_is_first}
 use Rattle.frfcfs.proofs.Lists.{All-at}
-use Rattle.wpq_core.specs.declared.queue.PendingWrite.{PendingWrite}
-use Rattle.wpq_core.specs.Queue.{Queue, IsWriteQueue}
-use Rattle.wpq_core.specs.Writes.{TakesWrite, IsFirstOfItsLine}
-use Rattle.wpq_core.specs.PendingMemory.{after_pending}
 use Rattle.wpq_core.proofs.Numbers.{NumbersRise-one}
 use Rattle.wpq_core.proofs.PendingLaws.{after_pending-early, below-early}
-use Rattle.chan_core.specs.declared.reads.OpenRead.{OpenRead}
-use Rattle.chan_core.specs.Reads.{OpenTicket, ReadsRise, ticket_with, ticket_of}
-use Rattle.chan_core.specs.Contents.{Contents, AreContents, IsRightRequest, ReadKey, write_of, read_of, waits_for, write_key, read_key, queued_key, waiting_key}
 use Rattle.chan_core.proofs.Kept.{kept, kept-more, filter_map-without, filter_map-taken, filter_map-at, filter_map-origin, map_alike, map-at, map-from}
 use Rattle.chan_core.proofs.Taken.{all-taken, before_removal, map-remove}
 use Rattle.interleave_map.proofs.Numbering.{cell_within}

@@ -1,21 +1,7 @@
 -- Which ranks had their SRE, after one more command.
 use Rattle.std.proofs.Common.{◌≡◌, ℕ, ◌||◌, ◌&&◌, ◌==◌, Bool, true, false, IsTrue, List, [], ◌∷◌, ◌++◌, Some, inl, inr, refl, sym, ap, subst, ◌∙◌}
-use Rattle.ddr4_timing.specs.declared.command.Command.{Command}
-use Rattle.ddr4_timing.specs.declared.command.Stamped.{Stamped}
-use Rattle.ddr4_timing.specs.declared.timing.Checked.{Checked}
-use Rattle.ddr4_timing.specs.Command.{is_sre, is_sre_of, rank_of}
+use Rattle.chan_core.proofs.Common.{AreAsleep, AreAwake, Checked, Command, IsCandidate, IsNext, Kind, Next, OfColumn, OfRank, OfRow, Pending, Place, Read, Stamped, Turn, Write, column_of, is_asleep, is_sre, is_sre_of, rank_of}
 use Rattle.ddr4_timing.proofs.FloorLemmas.{is_asleep_push}
-use Rattle.ddr4_timing.specs.Lawful.{is_asleep}
-use Rattle.frfcfs.specs.declared.next.Next.{Next}
-use Rattle.frfcfs.specs.declared.pending.Kind.{Kind}
-use Rattle.frfcfs.specs.declared.pending.Kind.TheVariants.{Read, Write}
-use Rattle.frfcfs.specs.declared.pending.Pending.{Pending}
-use Rattle.frfcfs.specs.Candidates.{IsCandidate, Turn, OfRank, OfColumn, OfRow}
-use Rattle.frfcfs.specs.Margin.{AreAsleep}
-use Rattle.frfcfs.specs.Next.{IsNext}
-use Rattle.frfcfs.specs.Requests.{column_of}
-use Rattle.ddr4_timing.specs.declared.place.Place.{Place}
-use Rattle.chan_core.specs.Phases.{AreAwake}
 
 or-left : (a b : Bool) → IsTrue a → IsTrue (a || b)
 or-left true b h = refl

@@ -1,8 +1,7 @@
 -- Lists that get one element more, or lose one.
-use Rattle.std.specs.List.{All}
 use Rattle.std.proofs.lemmas.Option.{slice_get-get_or}
 use Rattle.frfcfs.proofs.Lists.{All-at}
-use Rattle.std.proofs.Common.{◌≡◌, ℕ, zero, suc, ◌<◌, ◌≤◌, ◌⊎◌, inl, inr, List, [], ◌∷◌, ◌++◌, map, length, slice_get, get_or, remove, Some, refl, ap, arith}
+use Rattle.std.proofs.Common.{◌≡◌, ℕ, zero, suc, ◌<◌, ◌≤◌, ◌⊎◌, inl, inr, List, [], ◌∷◌, ◌++◌, map, length, slice_get, get_or, remove, Some, refl, ap, arith, All}
 
 -- an element of a longer list is one of the list, or the last
 pub record Appended {X : Type 0} (xs : List X) (x : X) (i : ℕ) (y : X) : Type 0 where

@@ -1,22 +1,9 @@
 -- What reads are told.
 use Rattle.std.proofs.Common.{◌≡◌, ℕ, ◌+◌, ◌<◌, true, false, List, [], ◌∷◌, ◌++◌, map, length, remove, slice_get, slice_set, get_or, Option, Some, None, refl, sym, ap, subst, ◌∙◌, arith}
 use Rattle.std.proofs.lemmas.List.{length-map, map-append}
-use Rattle.wpq_core.specs.Queue.{Queue}
-use Rattle.wpq_core.specs.Writes.{IsNewest, NoWriteNames, pending_write}
-use Rattle.wpq_core.specs.PendingMemory.{data_or}
+use Rattle.chan_core.proofs.Common.{AddsRead, AddsWrite, AnswersCollect, AreContents, ChannelState, Contents, IsFullOfReads, IsIndexOfSerial, IsNewest, NoWriteNames, OpenRead, OpenTicket, Pending, Place, Queue, Read, Ticket, Waiting, Write, cell_of, cells_of, data_or, is_held, line_at, loaded_at, pending_write, request, seen, ticket_of, ticket_with}
 use Rattle.wpq_core.proofs.PendingLaws.{after_pending-line}
-use Rattle.ddr4_timing.specs.declared.place.Place.{Place}
-use Rattle.frfcfs.specs.declared.pending.Kind.TheVariants.{Read, Write}
-use Rattle.frfcfs.specs.declared.pending.Pending.{Pending}
-use Rattle.frfcfs.specs.Queue.{Waiting, is_held}
-use Rattle.chan_core.specs.declared.reads.OpenRead.{OpenRead}
-use Rattle.chan_core.specs.declared.answers.Ticket.{Ticket}
 use Rattle.chan_core.specs.declared.answers.Collected.TheVariants as collected
-use Rattle.interleave_map.specs.Cells.{cells_of, cell_of}
-use Rattle.chan_core.specs.Reads.{OpenTicket, IsIndexOfSerial, ticket_with, ticket_of}
-use Rattle.chan_core.specs.Contents.{Contents, AreContents, seen}
-use Rattle.chan_core.specs.State.{ChannelState, line_at}
-use Rattle.chan_core.specs.Calls.{AddsRead, AddsWrite, AnswersCollect, IsFullOfReads, loaded_at, request}
 use Rattle.chan_core.proofs.Holding.{room}
 use Rattle.chan_core.proofs.Kept.{map-at, map-from}
 use Rattle.chan_core.proofs.Taken.{map-remove}

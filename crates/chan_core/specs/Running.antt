@@ -2,7 +2,7 @@
 use Rattle.std.specs.Prelude.{◌≡◌, ◌<◌, ◌^◌}
 use Rattle.bank_core.specs.Stands.{Stands}
 use Rattle.chan_core.specs.declared.channel.Channel.TheInside.{Inside}
-use Rattle.chan_core.specs.State.{ChannelState, clock_of, last_commands}
+use Rattle.chan_core.specs.State.{clock_of, last_commands}
 use Rattle.chan_core.specs.Phases.{IsInPhase}
 
 pub record IsRunning (c : Inside) : Type 0 where
@@ -13,7 +13,3 @@ pub record IsRunning (c : Inside) : Type 0 where
   pub recent : c.recent.items ≡ last_commands c.memory.commands
   pub capacity : c.recent.capacity ≡ 64
   pub phase : IsInPhase c.memory
-
--- neither the profile nor the commands change, and the phase neither
-abbrev pub KeepsRun : ChannelState → ChannelState → Type 0
-KeepsRun old new = (new.checked ≡ old.checked) × (new.commands ≡ old.commands) × (new.phase ≡ old.phase)

@@ -1,13 +1,6 @@
 -- Banks are the same where their numbers are.
 use Rattle.std.proofs.Common.{◌≡◌, ℕ, ◌<◌, ap, ◌∙◌, arith}
-use Rattle.ddr4_timing.specs.declared.place.BankAddress.{BankAddress}
-use Rattle.ddr4_timing.specs.declared.timing.Geometry.{Geometry}
-use Rattle.ddr4_timing.specs.declared.command.Command.{Command}
-use Rattle.ddr4_timing.specs.declared.command.Command.TheVariants.{Act, Rd, Wr, Pre, PreAll, Ref, Sre}
-use Rattle.ddr4_timing.specs.Command.{rank_of}
-use Rattle.ddr4_timing.specs.Lawful.{IsInGeometry}
-use Rattle.ddr4_timing.specs.Limits.{IsSmall}
-use Rattle.ddr4_timing.specs.Places.{HasBank, HasSlot, slot_of}
+use Rattle.ddr4_timing.proofs.Common.{Act, BankAddress, Command, Geometry, HasBank, HasSlot, IsInGeometry, IsSmall, Pre, PreAll, Rd, Ref, Sre, Wr, rank_of, slot_of}
 
 pub same_address : (a b : BankAddress) → a.rank ≡ b.rank → a.group ≡ b.group → a.bank ≡ b.bank → a ≡ b
 same_address a b rank group bank =

@@ -1,17 +1,6 @@
 -- How long a command may have to wait, by its kind.
-use Rattle.std.proofs.Common.{◌≡◌, ◌≢◌, ℕ, ◌+◌, ◌≤◌, Bool, true, false, cond, eqb, rules, arith}
-use Rattle.std.specs.Prelude.{max}
-use Rattle.std.proofs.lemmas.Bool.{ne_eqb}
-use Rattle.ddr4_timing.specs.declared.place.BankAddress.{BankAddress}
-use Rattle.ddr4_timing.specs.declared.command.Command.{Command}
-use Rattle.ddr4_timing.specs.declared.command.Command.TheVariants.{Act, Rd, Wr, Pre, PreAll, Ref, Sre}
-use Rattle.ddr4_timing.specs.declared.timing.Timing.{Timing}
-use Rattle.ddr4_timing.specs.Command.{rank_of, is_ref}
-use Rattle.ddr4_timing.specs.Demands.{Demand, demand_of}
-use Rattle.ddr4_timing.specs.Gaps.{most_gap}
-use Rattle.ddr4_timing.specs.Limits.{FitsFaw}
-use Rattle.ddr4_timing.specs.Places.{is_bank, is_group}
-use Rattle.ddr4_timing.specs.Command.{bank_of}
+use Rattle.std.proofs.Common.{◌≡◌, ◌≢◌, ℕ, ◌+◌, ◌≤◌, Bool, true, false, cond, eqb, rules, arith, max, ne_eqb}
+use Rattle.ddr4_timing.proofs.Common.{Act, BankAddress, Command, Demand, FitsFaw, Pre, PreAll, Rd, Ref, Sre, Timing, Wr, bank_of, demand_of, is_bank, is_group, is_ref, most_gap, rank_of}
 use Rattle.ddr4_timing.proofs.GapParts.{tells_gaps}
 
 -- no command asks for longer gaps

@@ -1,19 +1,9 @@
 -- What one more command does to the floors, the windows and the rows.
-use Rattle.std.proofs.Common.{◌≡◌, ℕ, ◌+◌, Bool, true, false, cond, eqb, List, [], ◌∷◌, ◌++◌, None, refl, ap, ◌∙◌, arith, add-zero}
-use Rattle.std.specs.Prelude.{max, count_by, ◌&&◌, ◌||◌}
+use Rattle.std.proofs.Common.{◌≡◌, ℕ, ◌+◌, Bool, true, false, cond, eqb, List, [], ◌∷◌, ◌++◌, None, refl, ap, ◌∙◌, arith, add-zero, max, count_by, ◌&&◌, ◌||◌}
 use Rattle.std.proofs.lemmas.List.Sums.{fold_push}
 use Rattle.std.proofs.lemmas.Bool.Decides.{nat_tests}
 use Rattle.std.proofs.lemmas.List.Folds.{list_any-append}
-use Rattle.ddr4_timing.specs.declared.command.Command.{Command}
-use Rattle.ddr4_timing.specs.declared.place.BankAddress.{BankAddress}
-use Rattle.ddr4_timing.specs.declared.command.Command.TheVariants.{Act, Rd, Wr}
-use Rattle.ddr4_timing.specs.Gaps.{pair_gap}
-use Rattle.ddr4_timing.specs.declared.command.Stamped.{Stamped}
-use Rattle.ddr4_timing.specs.declared.timing.Timing.{Timing}
-use Rattle.ddr4_timing.specs.Command.{is_act_of, is_ref_of, is_sre_of}
-use Rattle.ddr4_timing.specs.Lawful.{row_after, open_row, last_ref, ref_count, is_asleep}
-use Rattle.ddr4_timing.specs.Floors.{greatest, floor, window}
-use Rattle.ddr4_timing.specs.Gaps.{most_gap}
+use Rattle.ddr4_timing.proofs.Common.{Act, BankAddress, Command, Rd, Stamped, Timing, Wr, floor, greatest, is_act_of, is_asleep, is_ref_of, is_sre_of, last_ref, most_gap, open_row, pair_gap, ref_count, row_after, window}
 
 -- a demand that doesn't look at what is behind
 greatest_push : (f : Stamped → ℕ) (list : List Stamped) (x : Stamped) → greatest (λ a _. f a) (list ++ x ∷ []) ≡ max (greatest (λ a _. f a) list) (f x)

@@ -1,15 +1,8 @@
 -- The gap between two commands comes apart by what they share.
-use Rattle.std.proofs.Common.{◌≡◌, ℕ, ◌+◌, Bool, true, false, cond, eqb, refl, arith, ap}
-use Rattle.std.specs.Prelude.{max, not}
+use Rattle.std.proofs.Common.{◌≡◌, ℕ, ◌+◌, Bool, true, false, cond, eqb, refl, arith, ap, max, not}
 use Rattle.std.proofs.lemmas.Bool.Decides.{nat_tests}
-use Rattle.ddr4_timing.specs.declared.place.BankAddress.{BankAddress}
-use Rattle.ddr4_timing.specs.declared.command.Command.{Command}
-use Rattle.ddr4_timing.specs.declared.command.Command.TheVariants.{Act, Rd, Wr, Pre, PreAll, Ref, Sre}
-use Rattle.ddr4_timing.specs.declared.timing.Timing.{Timing}
+use Rattle.ddr4_timing.proofs.Common.{Act, BankAddress, Command, Pre, PreAll, Rd, Ref, Sre, TellsGaps, Timing, Wr, demand_of, is_bank, is_group, most_gap, pair_gap}
 use Rattle.ddr4_timing.specs.declared.rules.Rule.TheVariants as rules
-use Rattle.ddr4_timing.specs.Demands.{TellsGaps, demand_of}
-use Rattle.ddr4_timing.specs.Places.{is_group, is_bank}
-use Rattle.ddr4_timing.specs.Gaps.{pair_gap, most_gap}
 
 max_none : (k : ℕ) → max k 0 ≡ k
 max_none k = omega arith

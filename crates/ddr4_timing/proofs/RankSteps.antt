@@ -1,26 +1,9 @@
 -- What one more command does to the least clocks of a rank.
-use Rattle.std.proofs.Common.{◌≡◌, ◌≢◌, ℕ, ◌+◌, ◌<◌, ◌≤◌, Bool, true, false, cond, eqb, List, length, get_or, set, get_or-set_other, get_or-set_same, refl, ap, sym, subst, ◌∙◌, inl, inr, arith, rules}
-use Rattle.std.specs.Prelude.{max, min, ◌*◌, ◌^◌, ◌&&◌, ◌||◌, Option}
+use Rattle.std.proofs.Common.{◌≡◌, ◌≢◌, ℕ, ◌+◌, ◌<◌, ◌≤◌, Bool, true, false, cond, eqb, List, length, get_or, set, get_or-set_other, refl, ap, sym, subst, ◌∙◌, inl, inr, arith, rules, max, min, ◌*◌, ◌^◌, ◌&&◌, ◌||◌, Option}
 use Rattle.std.proofs.lemmas.Bool.{cases_eq, cases_Bool, eq-eqb, ne_eqb, eqb-true, and_parts}
 use Rattle.std.proofs.lemmas.Grind.{get_or-set_at}
 use Rattle.std.proofs.lemmas.List.{get_or_default}
-use Rattle.ddr4_timing.specs.declared.place.BankAddress.{BankAddress}
-use Rattle.ddr4_timing.specs.declared.command.Command.{Command}
-use Rattle.ddr4_timing.specs.declared.command.Command.TheVariants.{Act, Rd, Wr, Pre, PreAll, Ref, Sre}
-use Rattle.ddr4_timing.specs.declared.command.Stamped.{Stamped}
-use Rattle.ddr4_timing.specs.declared.timing.Timing.{Timing}
-use Rattle.ddr4_timing.specs.declared.timing.Checked.{Checked}
-use Rattle.ddr4_timing.specs.declared.cells.BankCells.{BankCells}
-use Rattle.ddr4_timing.specs.declared.machine.Machine.{Machine}
-use Rattle.ddr4_timing.specs.declared.rank.RankState.{RankState}
-use Rattle.ddr4_timing.specs.declared.rank.Window.{Window}
-use Rattle.ddr4_timing.specs.declared.rank.Refresh.{Refresh}
-use Rattle.ddr4_timing.specs.Command.{bank_of, rank_of, is_act, is_ref, is_sre, is_act_of, is_ref_of}
-use Rattle.ddr4_timing.specs.Demands.{demand_of, in_groups, in_rank, beyond_rank}
-use Rattle.ddr4_timing.specs.Lawful.{row_after, is_asleep, with_command, KeepsRefresh}
-use Rattle.ddr4_timing.specs.Machine.{BankStands, RankStands, WindowStands, RefreshStands, ClockRises, BankRises, BanksRise, GroupsRise, RankTakes, ChannelTakes}
-use Rattle.ddr4_timing.specs.Places.{HasSlot, is_bank, is_group, slot_of}
-use Rattle.ddr4_timing.specs.Rows.{row_in}
+use Rattle.ddr4_timing.proofs.Common.{Act, BankAddress, BankCells, BankRises, BankStands, BanksRise, ChannelTakes, Checked, ClockRises, Command, GroupsRise, HasSlot, KeepsRefresh, Machine, Pre, PreAll, RankStands, RankState, RankTakes, Rd, Ref, Refresh, RefreshStands, Sre, Stamped, Timing, Window, WindowStands, Wr, bank_of, beyond_rank, demand_of, in_groups, in_rank, is_act, is_act_of, is_asleep, is_bank, is_group, is_ref, is_ref_of, is_sre, rank_of, row_after, row_in, slot_of, with_command}
 use Rattle.ddr4_timing.proofs.Addresses.{has_slot, same_slot, slot_small}
 use Rattle.ddr4_timing.proofs.FloorLemmas.{floor_push, open_row_push, window-yes, window-first, window-no, ref_count_push, last_ref_push, is_asleep_push, or_false}
 use Rattle.ddr4_timing.proofs.GapParts.{tells_gaps}
@@ -239,26 +222,6 @@ other_rank c list k next write write' column column' x rank r n beyond writes s 
       refreshes = refresh_kept c.timing rank k list x r.refresh (test_elsewhere (is_ref x) (rank_of x) rank n) s.refreshes;
       asleep = rw (is_asleep_push rank list (record { clock = k; cmd = x }), test_elsewhere (is_sre x) (rank_of x) rank n) (s.asleep ∙ sym (or_false _));
     }
-
--- what all ranks share
-
-pub column_raised : (b : Bool) (k gap old new : ℕ) → new ≡ max old (cond b 0 (k + gap)) → ClockRises k (cond b 0 gap) old new
-column_raised true k gap old new e = omega (arith, e)
-column_raised false k gap old new e = omega (arith, e)
-
-pub column_kept : (b : Bool) (k gap a : ℕ) → gap ≡ 0 → ClockRises k (cond b 0 gap) a a
-column_kept true k gap a e = kept k a
-column_kept false k gap a e = rw e (kept k a)
-
--- only a RD or WR asks anything of other ranks
-pub shares_nothing : (t : Timing) (x : Command) → ((at : BankAddress) (column : ℕ) → x ≡ Rd at column → ⊥) → ((at : BankAddress) (column : ℕ) → x ≡ Wr at column → ⊥) → ((demand_of t x).beyond ≡ 0) × ((demand_of t x).write ≡ 0)
-shares_nothing t (Act at row) rd wr = (refl, refl)
-shares_nothing t (Rd at column) rd wr = absurd (rd at column refl)
-shares_nothing t (Wr at column) rd wr = absurd (wr at column refl)
-shares_nothing t (Pre at) rd wr = (refl, refl)
-shares_nothing t (PreAll rank) rd wr = (refl, refl)
-shares_nothing t (Ref rank) rd wr = (refl, refl)
-shares_nothing t (Sre rank) rd wr = (refl, refl)
 
 -- each rank, behind a command that one of them takes
 pub each_rank : (c : Checked) (list : List Stamped) (k : ℕ) (x : Command) (old new : Machine) (taken d : RankState) (i : ℕ) → length old.ranks ≡ 4 → length old.columns ≡ 4 → i ≡ rank_of x →

@@ -1,25 +1,11 @@
 -- When a list with one more command is lawful, by what a `Banks` keeps.
-use Rattle.std.proofs.Common.{◌≡◌, ℕ, zero, suc, ◌+◌, ◌-◌, ◌*◌, ◌<◌, ◌≤◌, Bool, true, false, cond, eqb, List, [], ◌∷◌, ◌++◌, length, take, drop, Some, refl, ap, sym, subst, ◌∙◌, inl, inr, arith, add-one, IsTrue}
-use Rattle.std.specs.Prelude.{max, count_by, not, ◌&&◌, ◌↔◌}
-use Rattle.std.specs.List.{slice_get}
+use Rattle.std.proofs.Common.{◌≡◌, ℕ, zero, suc, ◌+◌, ◌-◌, ◌*◌, ◌<◌, ◌≤◌, Bool, true, false, cond, eqb, List, [], ◌∷◌, ◌++◌, length, take, drop, Some, refl, ap, sym, subst, ◌∙◌, inl, inr, arith, add-one, IsTrue, max, count_by, not, ◌&&◌, ◌↔◌, slice_get}
 use Rattle.std.proofs.lemmas.Bool.{cases_lt, cases_Bool}
 use Rattle.std.proofs.lemmas.List.{take-append-le, length_push}
 use Rattle.std.proofs.lemmas.Option.{slice_get_within, same_Some}
 use Rattle.std.proofs.lemmas.Grind.{common_steps}
 use Rattle.std.proofs.Math.Seq.{take-append_seam}
-use Rattle.ddr4_timing.specs.declared.command.Command.{Command}
-use Rattle.ddr4_timing.specs.declared.command.Stamped.{Stamped}
-use Rattle.ddr4_timing.specs.declared.timing.Timing.{Timing}
-use Rattle.ddr4_timing.specs.declared.timing.Checked.{Checked}
-use Rattle.ddr4_timing.specs.declared.fault.Fault.{Fault}
-use Rattle.ddr4_timing.specs.Command.{is_act, is_act_of, is_ref, rank_of}
-use Rattle.ddr4_timing.specs.Gaps.{gap, pair_gap, faw_gap}
-use Rattle.ddr4_timing.specs.Lawful.{ref_count, last_ref, KeepsGap, KeepsRows, KeepsRefresh, ObeysRule, MayComeNext, KeepsRule, IsLawful, IsLeastFault}
-use Rattle.ddr4_timing.specs.Floors.{greatest, floor, window, least_clock}
-use Rattle.ddr4_timing.specs.Gaps.{largest, most_gap}
-use Rattle.ddr4_timing.specs.Rules.{every_rule, rule_number}
-use Rattle.ddr4_timing.specs.declared.rules.Rule.{Rule}
-use Rattle.ddr4_timing.specs.declared.rules.Rule.TheVariants.{Order, Rows, Faw, Refi}
+use Rattle.ddr4_timing.proofs.Common.{Checked, Command, Fault, Faw, IsLawful, IsLeastFault, KeepsGap, KeepsRefresh, KeepsRows, KeepsRule, MayComeNext, ObeysRule, Order, Refi, Rows, Rule, Stamped, Timing, every_rule, faw_gap, floor, gap, greatest, is_act, is_act_of, is_ref, largest, last_ref, least_clock, most_gap, pair_gap, rank_of, ref_count, rule_number, window}
 use Rattle.ddr4_timing.proofs.RuleOrder.{rule_at}
 
 -- the largest

@@ -1,11 +1,9 @@
 -- Each rule stands in the list of rules where its number says.
-use Rattle.std.proofs.Common.{◌≡◌, ℕ, zero, suc, ◌+◌, ◌-◌, ◌≤◌, ◌<◌, List, [], ◌∷◌, get_or, Some, refl, ap, sym, subst, inl, inr, arith, rules}
-use Rattle.std.specs.List.{slice_get}
+use Rattle.std.proofs.Common.{◌≡◌, ℕ, zero, suc, ◌+◌, ◌-◌, ◌≤◌, ◌<◌, List, [], ◌∷◌, get_or, Some, refl, ap, sym, subst, inl, inr, arith, rules, slice_get}
 use Rattle.std.proofs.lemmas.Bool.{cases_lt}
 use Rattle.std.proofs.lemmas.Option.{same_Some, get_or_from_slice_get, slice_get-get_or, slice_get_within}
-use Rattle.ddr4_timing.specs.Rules.{every_rule, rule_number}
-use Rattle.ddr4_timing.specs.declared.rules.Rule.{Rule}
-use Rattle.ddr4_timing.specs.declared.rules.Rule.TheVariants.{Order, Rows, Rcd, Ras, Rp, Rc, Rtp, Wr, Rrd, Faw, Ccd, Wtr, Rtw, Cs, Rfc, Refi}
+use Rattle.ddr4_timing.proofs.Common.{Ccd, Cs, Faw, Order, Ras, Rc, Rcd, Refi, Rfc, Rows, Rp, Rrd, Rtp, Rtw, Rule, Wtr, every_rule, rule_number}
+use Rattle.ddr4_timing.specs.declared.rules.Rule.TheVariants.{Wr}
 
 pub rule_at : (rule : Rule) → slice_get every_rule (rule_number rule - 1) ≡ Some rule
 rule_at Order = refl

@@ -1,24 +1,9 @@
 -- The best of the requests that were looked at, one more at a time.
 use Rattle.std.proofs.Common.{◌≡◌, ◌≢◌, ℕ, ◌+◌, ◌<◌, ◌≤◌, ◌↔◌, max, List, Some, inl, inr, arith, sym, subst}
 use Rattle.std.proofs.lemmas.Bool.{cases_lt}
-use Rattle.ddr4_timing.specs.declared.command.Command.{Command}
-use Rattle.ddr4_timing.specs.declared.command.Stamped.{Stamped}
-use Rattle.ddr4_timing.specs.declared.timing.Checked.{Checked}
-use Rattle.ddr4_timing.specs.Floors.{least_clock}
-use Rattle.ddr4_timing.specs.Lawful.{IsInGeometry, IsLawful, open_row, with_command}
-use Rattle.ddr4_timing.specs.Places.{HasBank, bank_at}
+use Rattle.frfcfs.proofs.Common.{AreBest, Best, Bests, Checked, Command, HasBank, IsBest, IsBetter, IsEligible, IsEnd, IsInGeometry, IsLawful, Pending, Stamped, WantsColumn, WantsRow, bank_at, least_clock, open_row, with_command}
 use Rattle.ddr4_timing.proofs.Ready.{ready_lawful}
-use Rattle.frfcfs.specs.declared.best.Best.{Best}
-use Rattle.frfcfs.specs.declared.best.Bests.{Bests}
-use Rattle.frfcfs.specs.declared.pending.Pending.{Pending}
-use Rattle.frfcfs.specs.Requests.{IsEligible}
-use Rattle.frfcfs.specs.Candidates.{WantsColumn, WantsRow}
-use Rattle.frfcfs.specs.Search.{AreBest, IsBest, IsBetter, IsEnd}
 use Rattle.frfcfs.proofs.Wants.{IsWish, column_place, no_row, row_bank, takes_from, takes_none}
-
--- before any request
-pub best_none : (T : ℕ → ℕ → Type 0) (now limit : ℕ) → IsBest T now limit 0 (record { clock = limit; index = 0 })
-best_none T now limit = record { found = λ h. absurd (omega (arith, h)); first = λ i k l. absurd (omega (arith, l)) }
 
 -- one more that takes nothing
 pub best_skip : (T : ℕ → ℕ → Type 0) (now limit index : ℕ) (best : Best) → ((k : ℕ) → ¬ T index k) → IsBest T now limit index best → IsBest T now limit (index + 1) best

@@ -1,13 +1,7 @@
 -- What holds of eligible requests and of the choice.
-use Rattle.std.proofs.Common.{◌≡◌, ◌≢◌, ℕ, ◌<◌, List, Some, inl, inr, arith, ap, sym, subst}
+use Rattle.std.proofs.Common.{◌≡◌, ◌≢◌, ℕ, ◌<◌, List, Some, inl, inr, arith, ap, sym, subst, slice_get}
 use Rattle.std.proofs.lemmas.Bool.{cases_lt}
-use Rattle.std.specs.List.{slice_get}
-use Rattle.ddr4_timing.specs.declared.command.Command.{Command}
-use Rattle.ddr4_timing.specs.declared.command.Stamped.{Stamped}
-use Rattle.ddr4_timing.specs.declared.timing.Checked.{Checked}
-use Rattle.frfcfs.specs.declared.pending.Pending.{Pending}
-use Rattle.frfcfs.specs.Requests.{AreInOrder, IsEligible}
-use Rattle.frfcfs.specs.Candidates.{Turn, OfRank, OfColumn, OfRow, IsCandidate, IsLeast, OffersRank, WantsColumn, WantsRow, class_of, tie_break_of}
+use Rattle.frfcfs.proofs.Common.{AreInOrder, Checked, Command, IsCandidate, IsEligible, IsLeast, OfColumn, OfRank, OfRow, OffersRank, Pending, Stamped, Turn, WantsColumn, WantsRow, class_of, tie_break_of}
 use Rattle.frfcfs.proofs.Lists.{All-at, one_at, order_at}
 use Rattle.frfcfs.proofs.RankOffers.{one_rank}
 use Rattle.frfcfs.proofs.Wants.{one_column, one_row}

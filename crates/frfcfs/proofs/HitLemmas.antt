@@ -1,21 +1,10 @@
 -- The table of banks whose open row is hit, one request at a time.
-use Rattle.std.proofs.Common.{◌≡◌, ℕ, ◌+◌, ◌<◌, ◌↔◌, ◌⊎◌, List, Some, Bool, true, false, inl, inr, arith, ap, ◌∙◌, refl, sym, subst, get_or, set, length, get_or-set_other, get_or-set_same, IsTrue}
+use Rattle.std.proofs.Common.{◌≡◌, ℕ, ◌+◌, ◌<◌, ◌↔◌, ◌⊎◌, List, Some, Bool, true, false, inl, inr, arith, ap, ◌∙◌, refl, sym, subst, get_or, set, length, get_or-set_other, get_or-set_same, IsTrue, replicate, slice_get}
 use Rattle.std.proofs.lemmas.Bool.{cases_eq, cases_lt}
 use Rattle.std.proofs.lemmas.List.{get_or-replicate}
 use Rattle.std.proofs.lemmas.Option.{slice_get_within, slice_get-get_or}
-use Rattle.std.proofs.Math.ListN.{replicate}
-use Rattle.std.specs.List.{slice_get}
-use Rattle.ddr4_timing.specs.declared.command.Stamped.{Stamped}
-use Rattle.ddr4_timing.specs.declared.place.BankAddress.{BankAddress}
-use Rattle.ddr4_timing.specs.declared.timing.Geometry.{Geometry}
-use Rattle.ddr4_timing.specs.Limits.{IsSmall}
-use Rattle.ddr4_timing.specs.Lawful.{open_row}
-use Rattle.ddr4_timing.specs.Places.{HasBank, bank_at, bank_index}
+use Rattle.frfcfs.proofs.Common.{AreHits, BankAddress, Geometry, HasBank, HasHit, IsEligible, IsSmall, IsUnhit, Pending, Stamped, bank_at, bank_index, open_row}
 use Rattle.ddr4_timing.proofs.Addresses.{has_slot, same_slot, slot_small}
-use Rattle.frfcfs.specs.declared.pending.Pending.{Pending}
-use Rattle.frfcfs.specs.Requests.{IsEligible}
-use Rattle.frfcfs.specs.Candidates.{IsUnhit}
-use Rattle.frfcfs.specs.Search.{HasHit, AreHits}
 use Rattle.frfcfs.proofs.Lists.{one_at, something_at}
 
 one_bank : (g : Geometry) (a b : BankAddress) → IsSmall g → HasBank g a → HasBank g b → bank_index a ≡ bank_index b → a ≡ b

@@ -1,7 +1,6 @@
 -- Requests that are numbered anew.
 use Rattle.std.proofs.Common.{◌≡◌, ℕ, zero, suc, ◌+◌, ◌<◌, List, [], ◌∷◌, ◌++◌, refl, sym, ap, ◌∙◌, arith, take, drop, length, get_or, set}
-use Rattle.frfcfs.specs.declared.pending.Pending.{Pending}
-use Rattle.frfcfs.specs.Queue.{IsWaiting, Waiting, numbered_from}
+use Rattle.frfcfs.proofs.Common.{IsWaiting, Pending, Waiting, numbered_from}
 use Rattle.frfcfs.proofs.QueueLemmas.{lines}
 
 pub length-numbered : (n : ℕ) (xs : List Pending) → length (numbered_from n xs) ≡ length xs

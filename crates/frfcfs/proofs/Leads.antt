@@ -1,13 +1,8 @@
 -- From which clock on a rank is in lead, and before which one its requests may have their commands.
-use Rattle.std.proofs.Common.{◌≡◌, ℕ, ◌+◌, ◌-◌, ◌*◌, ◌/◌, ◌<◌, ◌≤◌, ◌^◌, ◌↔◌, min, List, IsTrue, inl, inr, arith, refl, length, get_or, set, get_or-set_same, get_or-set_other}
+use Rattle.std.proofs.Common.{◌≡◌, ℕ, ◌+◌, ◌-◌, ◌*◌, ◌/◌, ◌<◌, ◌≤◌, ◌^◌, ◌↔◌, min, List, IsTrue, inl, inr, arith, refl, length, get_or, set, get_or-set_same, get_or-set_other, le-div_iff_mul-le}
 use Rattle.std.proofs.lemmas.Bool.{cases_eq, cases_lt}
-use Rattle.std.proofs.Math.Nat.{le-div_iff_mul-le}
-use Rattle.ddr4_timing.specs.declared.command.Stamped.{Stamped}
-use Rattle.ddr4_timing.specs.declared.timing.Checked.{Checked}
-use Rattle.ddr4_timing.specs.Lawful.{IsLawful, is_asleep, last_ref, ref_count}
+use Rattle.frfcfs.proofs.Common.{Checked, IsEnd, IsInLead, IsLawful, Stamped, is_asleep, last_ref, ref_count}
 use Rattle.bank_core.proofs.Refreshes.{refreshes_keep_pace}
-use Rattle.frfcfs.specs.Candidates.{IsInLead}
-use Rattle.frfcfs.specs.Search.{IsEnd}
 
 -- eight are owed from a clock on
 lead_iff : (t n clock : ℕ) → 1 ≤ t → ((8 ≤ clock / t - n) ↔ ((n + 8) * t ≤ clock))

@@ -1,18 +1,12 @@
 -- Lists of requests, read by their places.
-use Rattle.std.proofs.Common.{◌≡◌, ℕ, zero, suc, ◌<◌, ◌≤◌, List, [], ◌∷◌, Some, refl, inl, inr, arith, ap, ◌∙◌, sym, subst, get_or, length}
+use Rattle.std.proofs.Common.{◌≡◌, ℕ, zero, suc, ◌<◌, ◌≤◌, List, [], ◌∷◌, Some, refl, inl, inr, arith, ap, ◌∙◌, sym, subst, get_or, length, All, slice_get}
 use Rattle.std.proofs.lemmas.Bool.{cases_lt}
 use Rattle.std.proofs.lemmas.Option.{same_Some, slice_get_within, get_or_from_slice_get}
-use Rattle.std.specs.List.{All, slice_get}
-use Rattle.frfcfs.specs.declared.pending.Pending.{Pending}
-use Rattle.frfcfs.specs.Requests.{AreInOrder}
+use Rattle.frfcfs.proofs.Common.{AreInOrder, Pending}
 
 -- what holds of each holds of the one at a place
 pub All-at : {X : Type 0} (P : X → Type 0) (xs : List X) (i : ℕ) (x : X) → All P xs → slice_get xs i ≡ Some x → P x
 All-at P xs i x all at = subst P (get_or_from_slice_get xs i x x at) (all i x (slice_get_within xs i x at))
-
--- what holds of the one at a place holds of what is read there
-pub read_there : {X : Type 0} (P : X → Type 0) (xs : List X) (i : ℕ) (x d : X) → slice_get xs i ≡ Some x → P x → P (get_or xs i d)
-read_there P xs i x d at h = subst P (sym (get_or_from_slice_get xs i x d at)) h
 
 -- one element stands at a place
 pub one_at : {X : Type 0} (xs : List X) (i j : ℕ) (x y : X) → slice_get xs i ≡ Some x → slice_get xs j ≡ Some y → i ≡ j → x ≡ y

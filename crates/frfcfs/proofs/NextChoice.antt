@@ -1,18 +1,7 @@
 -- The first of the ranks' and the requests' commands is the next choice.
-use Rattle.std.proofs.Common.{◌≡◌, ℕ, ◌<◌, ◌≤◌, ◌^◌, min, List, Option, Some, None, arith, refl, sym, subst, length}
+use Rattle.std.proofs.Common.{◌≡◌, ℕ, ◌<◌, ◌≤◌, ◌^◌, min, List, Option, Some, None, arith, refl, sym, subst, length, slice_get}
 use Rattle.std.proofs.lemmas.Option.{slice_get_within}
-use Rattle.std.specs.List.{slice_get}
-use Rattle.ddr4_timing.specs.declared.command.Command.{Command}
-use Rattle.ddr4_timing.specs.declared.command.Stamped.{Stamped}
-use Rattle.ddr4_timing.specs.declared.timing.Checked.{Checked}
-use Rattle.ddr4_timing.specs.Lawful.{IsLawful, with_command}
-use Rattle.frfcfs.specs.declared.best.Bests.{Bests}
-use Rattle.frfcfs.specs.declared.pending.Pending.{Pending}
-use Rattle.frfcfs.specs.declared.next.Next.{Next}
-use Rattle.frfcfs.specs.Requests.{AreInOrder}
-use Rattle.frfcfs.specs.Candidates.{Turn, OfRank, OfColumn, OfRow, HasNoCandidate, IsCandidate, IsChoice, IsLeast, IsNotAfter, MayHave, OffersRank, WantsColumn, WantsRow}
-use Rattle.frfcfs.specs.Next.{IsNextIn, ServesInTurn}
-use Rattle.frfcfs.specs.Search.{AreBest, IsRankNext, limit_of}
+use Rattle.frfcfs.proofs.Common.{AreBest, AreInOrder, Bests, Checked, Command, HasNoCandidate, IsCandidate, IsChoice, IsLawful, IsLeast, IsNextIn, IsNotAfter, IsRankNext, MayHave, Next, OfColumn, OfRank, OfRow, OffersRank, Pending, ServesInTurn, Stamped, Turn, WantsColumn, WantsRow, limit_of, with_command}
 use Rattle.frfcfs.proofs.Lists.{order_upto}
 
 -- the last clock at which a rank comes before the requests

@@ -1,5 +1,5 @@
 -- Queues that grow, shrink and are held, and what their marks say.
-use Rattle.std.proofs.Common.{◌≡◌, ◌≢◌, ℕ, ◌+◌, ◌-◌, ◌<◌, ◌≤◌, ◌↔◌, ◌⊎◌, List, [], ◌∷◌, ◌++◌, Bool, IsTrue, true, false, Option, Some, None, inl, inr, refl, sym, subst, ap, ◌∙◌, arith, map, take, drop, length, length-append, get_or, set, get_or-set_same, get_or-set_other}
+use Rattle.std.proofs.Common.{◌≡◌, ◌≢◌, ℕ, ◌+◌, ◌-◌, ◌<◌, ◌≤◌, ◌↔◌, ◌⊎◌, List, [], ◌∷◌, ◌++◌, Bool, IsTrue, true, false, Option, Some, None, inl, inr, refl, sym, subst, ap, ◌∙◌, arith, map, take, drop, length, length-append, get_or, set, get_or-set_same, get_or-set_other, All, remove, slice_get}
 use Rattle.std.proofs.Math.ListN.{get_or-append}
 use Rattle.std.proofs.Math.Seq.{get_or-append_seam, take-append_seam}
 use Rattle.std.proofs.lemmas.Bool.{cases_eq, cases_lt, cases_order}
@@ -8,13 +8,7 @@ use Rattle.std.proofs.lemmas.List.Edits.{get_or-remove_above, get_or-remove_belo
 use Rattle.std.proofs.lemmas.List.Elements.{All-map, All-push}
 use Rattle.std.proofs.lemmas.List.Quantifiers.{all_pairs_push, all_pairs_remove}
 use Rattle.std.proofs.lemmas.Option.{slice_get_within, get_or_from_slice_get, slice_get-get_or}
-use Rattle.std.specs.List.{All, remove, slice_get}
-use Rattle.ddr4_timing.specs.declared.timing.Geometry.{Geometry}
-use Rattle.ddr4_timing.specs.Places.{LiesIn}
-use Rattle.frfcfs.specs.declared.pending.Pending.{Pending}
-use Rattle.frfcfs.specs.Requests.{AreInOrder, IsFirst}
-use Rattle.frfcfs.specs.Search.{AreMarks}
-use Rattle.frfcfs.specs.Queue.{AreFirsts, IsFirstAt, IsOldestOf, IsWaiting, MarksOldest, Waiting, held_by, is_held, marked_at}
+use Rattle.frfcfs.proofs.Common.{AreFirsts, AreInOrder, AreMarks, Geometry, IsFirst, IsFirstAt, IsOldestOf, IsWaiting, LiesIn, MarksOldest, Pending, Waiting, held_by, is_held, marked_at}
 use Rattle.frfcfs.proofs.Lists.{All-at, order_at, order_upto}
 
 -- the lines of requests

@@ -1,9 +1,7 @@
 -- Where a queue keeps its requests: those from a start on, with room in front of them and behind.
-use Rattle.std.proofs.Common.{◌≡◌, ◌≢◌, ℕ, ◌+◌, ◌-◌, ◌<◌, ◌≤◌, ◌↔◌, List, [], ◌∷◌, ◌++◌, Bool, IsTrue, sym, subst, ap, ◌∙◌, arith, drop, get_or, length, length-append}
+use Rattle.std.proofs.Common.{◌≡◌, ◌≢◌, ℕ, ◌+◌, ◌-◌, ◌<◌, ◌≤◌, ◌↔◌, List, [], ◌∷◌, ◌++◌, Bool, IsTrue, sym, subst, ap, ◌∙◌, arith, drop, get_or, length, length-append, All, remove}
 use Rattle.std.proofs.lemmas.List.{drop-append-le, length-drop}
-use Rattle.std.specs.List.{All, remove}
-use Rattle.frfcfs.specs.declared.pending.Pending.{Pending}
-use Rattle.frfcfs.specs.Queue.{AreFirsts, IsWaiting, MarksOldest}
+use Rattle.frfcfs.proofs.Common.{AreFirsts, IsWaiting, MarksOldest, Pending}
 use Rattle.frfcfs.proofs.QueueLemmas.{firsts_take, lines, request_push, waiting_push, waiting_take}
 
 -- what is true of a queue's fields

@@ -1,16 +1,8 @@
 -- The REF or PREA of a rank in a span, and the one of several ranks that goes first.
-use Rattle.std.proofs.Common.{◌≡◌, ℕ, ◌+◌, ◌*◌, ◌<◌, ◌≤◌, ◌⊎◌, ◌↔◌, max, min, List, Option, Some, None, IsTrue, inl, inr, arith, sym, subst, ◌∙◌}
+use Rattle.std.proofs.Common.{◌≡◌, ℕ, ◌+◌, ◌*◌, ◌<◌, ◌≤◌, ◌⊎◌, ◌↔◌, max, min, List, Option, Some, None, IsTrue, inl, inr, arith, sym, subst, ◌∙◌, IfSome}
 use Rattle.std.proofs.lemmas.Bool.{cases_lt}
-use Rattle.std.specs.Option.{IfSome}
-use Rattle.ddr4_timing.specs.declared.command.Command.{Command}
-use Rattle.ddr4_timing.specs.declared.command.Command.TheVariants.{PreAll, Ref}
-use Rattle.ddr4_timing.specs.declared.command.Stamped.{Stamped}
-use Rattle.ddr4_timing.specs.declared.timing.Checked.{Checked}
-use Rattle.ddr4_timing.specs.Lawful.{AllClosed, IsLawful, KeepsRows, is_asleep, last_ref, ref_count, with_command}
+use Rattle.frfcfs.proofs.Common.{AllClosed, Checked, Command, IsLawful, IsRankNext, IsSoonerOf, KeepsRows, Next, OffersRank, PreAll, Ref, Stamped, is_asleep, last_ref, ref_count, with_command}
 use Rattle.ddr4_timing.proofs.Ready.{ready_lawful}
-use Rattle.frfcfs.specs.declared.next.Next.{Next}
-use Rattle.frfcfs.specs.Candidates.{OffersRank}
-use Rattle.frfcfs.specs.Search.{IsRankNext, IsSoonerOf}
 use Rattle.frfcfs.proofs.Leads.{lead_at}
 
 abbrev IsOfRank : ℕ → Command → Type 0
@@ -51,9 +43,6 @@ offered c list rank lead k x cmd is at h =
     let same = one_kind c list rank k cmd x.cmd h.kind is.closed is.opened h.lawful in
     let span = (is.exact k).0 (subst (λ (y : Command). IsLawful c (with_command list k y)) same h.lawful) in
     record { led = (lead_at c list rank k lead at).0 h.lead; from = span.1; until = span.2 }
-
-abbrev OnlyRank : ℕ → ℕ → Type 0
-OnlyRank rank other = (rank ≤ other) × (other < rank + 1)
 
 only_rank : (c : Checked) (list : List Stamped) (k rank other : ℕ) (cmd : Command) → rank ≤ other → other < rank + 1 → OffersRank c list k other cmd → OffersRank c list k rank cmd
 only_rank c list k rank other cmd l h offers = let e : other ≡ rank = omega (arith, l, h) in subst (λ (r : ℕ). OffersRank c list k r cmd) e offers

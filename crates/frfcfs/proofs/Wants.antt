@@ -1,20 +1,7 @@
 -- What a request wants, and when it may have it.
 use Rattle.std.proofs.Common.{◌≡◌, ◌≢◌, ℕ, ◌+◌, ◌*◌, ◌<◌, ◌≤◌, ◌↔◌, List, Some, None, IsTrue, inl, inr, arith, refl, sym, subst, ap, ◌∙◌}
-use Rattle.ddr4_timing.specs.declared.command.Command.{Command}
-use Rattle.ddr4_timing.specs.declared.command.Stamped.{Stamped}
-use Rattle.ddr4_timing.specs.declared.timing.Checked.{Checked}
-use Rattle.ddr4_timing.specs.declared.timing.Geometry.{Geometry}
-use Rattle.ddr4_timing.specs.Command.{rank_of}
-use Rattle.ddr4_timing.specs.Floors.{least_clock}
-use Rattle.ddr4_timing.specs.Lawful.{FitsRows, IsInGeometry, IsLawful, is_asleep, last_ref, open_row, with_command}
-use Rattle.ddr4_timing.specs.Places.{HasBank, bank_at}
+use Rattle.frfcfs.proofs.Common.{Checked, Command, FitsRows, Geometry, HasBank, IsEligible, IsEnd, IsInGeometry, IsInLead, IsLawful, IsUnhit, Kind, Pending, Read, Stamped, Takes, WantsColumn, WantsRow, Write, act_of, bank_at, column_of, is_asleep, last_ref, least_clock, open_row, pre_of, rank_of, with_command}
 use Rattle.ddr4_timing.proofs.Ready.{lawful_ready, ready_lawful}
-use Rattle.frfcfs.specs.declared.pending.Kind.{Kind}
-use Rattle.frfcfs.specs.declared.pending.Kind.TheVariants.{Read, Write}
-use Rattle.frfcfs.specs.declared.pending.Pending.{Pending}
-use Rattle.frfcfs.specs.Requests.{IsEligible, act_of, column_of, pre_of}
-use Rattle.frfcfs.specs.Candidates.{IsInLead, IsUnhit, WantsColumn, WantsRow}
-use Rattle.frfcfs.specs.Search.{IsEnd, Takes}
 use Rattle.frfcfs.proofs.Leads.{rest_in_time}
 use Rattle.frfcfs.proofs.Lists.{one_at}
 

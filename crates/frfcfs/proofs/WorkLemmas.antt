@@ -1,20 +1,6 @@
 -- Whether a channel has work.
 use Rattle.std.proofs.Common.{◌≡◌, ℕ, ◌<◌, ◌≤◌, ◌⊎◌, ◌↔◌, ◌^◌, ◌-◌, List, Option, Some, None, Bool, IsTrue, IfSome, All, true, false, inl, inr, arith, refl, sym, subst}
-use Rattle.ddr4_timing.specs.Lawful.{IsLawful}
-use Rattle.ddr4_timing.specs.Places.{HasBank, LiesIn, bank_at}
-use Rattle.ddr4_timing.specs.declared.command.Stamped.{Stamped}
-use Rattle.ddr4_timing.specs.declared.timing.Checked.{Checked}
-use Rattle.ddr4_timing.specs.declared.timing.Geometry.{Geometry}
-use Rattle.bank_core.specs.declared.banks.Banks.{Banks}
-use Rattle.bank_core.specs.Stands.{Allows, Stands, with_command}
-use Rattle.frfcfs.specs.declared.next.Next.{Next}
-use Rattle.frfcfs.specs.declared.pending.Pending.{Pending}
-use Rattle.frfcfs.specs.Requests.{AreInOrder, IsEligible}
-use Rattle.frfcfs.specs.Candidates.{IsInLead}
-use Rattle.frfcfs.specs.Next.{HasWork, IsNext}
-use Rattle.frfcfs.specs.Margin.{IsIdle, KeepsMargin, last_clock}
-use Rattle.frfcfs.specs.Search.{AreMarks}
-use Rattle.frfcfs.specs.Queue.{AreFirsts}
+use Rattle.frfcfs.proofs.Common.{Allows, AreFirsts, AreInOrder, AreMarks, Banks, Checked, Geometry, HasBank, HasWork, IsEligible, IsIdle, IsInLead, IsLawful, IsNext, KeepsMargin, LiesIn, Next, Pending, Stamped, Stands, bank_at, last_clock, with_command}
 use Rattle.frfcfs.proofs.Lists.{All-at}
 use Rattle.frfcfs.proofs.NextChoice.{next_lawful}
 use Rattle.frfcfs.proofs.QueueLemmas.{firsts_marks, lines}

@@ -2,9 +2,8 @@
 use Rattle.std.specs.Prelude.{◌≡◌, ◌≢◌, ℕ, ◌<◌, false, List, slice_get, Some, All, AllPairs}
 use Rattle.ddr4_timing.specs.declared.command.Command.{Command}
 use Rattle.ddr4_timing.specs.declared.command.Command.TheVariants.{Act, Rd, Wr, Pre}
-use Rattle.ddr4_timing.specs.declared.timing.Geometry.{Geometry}
 use Rattle.ddr4_timing.specs.declared.place.Place.{Place}
-use Rattle.ddr4_timing.specs.Places.{LiesIn, bank_at}
+use Rattle.ddr4_timing.specs.Places.{bank_at}
 use Rattle.frfcfs.specs.declared.pending.Kind.{Kind}
 use Rattle.frfcfs.specs.declared.pending.Kind.TheVariants.{Read, Write}
 use Rattle.frfcfs.specs.declared.pending.Pending.{Pending}
@@ -22,11 +21,6 @@ pub record IsEligible (pending : List Pending) (i : ℕ) (p : Pending) : Type 0 
   pub here : slice_get pending i ≡ Some p
   pub free : p.held ≡ false
   pub oldest : IsFirst pending p
-
--- The requests of a channel: in order of arrival, each in the geometry.
-pub record IsArrivals (g : Geometry) (pending : List Pending) : Type 0 where
-  pub order : AreInOrder pending
-  pub places : All (λ p. LiesIn g p.place) pending
 
 -- the column command of a request
 abbrev pub column_of : Kind → Place → Command

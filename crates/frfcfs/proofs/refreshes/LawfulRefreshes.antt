@@ -1,13 +1,7 @@
 -- When a rank's REF and PREA are lawful.
 use Rattle.std.proofs.Common.{ℕ, ◌+◌, ◌*◌, ◌≤◌, ◌<◌, List, IsTrue, arith}
-use Rattle.std.specs.Prelude.{max}
-use Rattle.ddr4_timing.specs.declared.command.Command.TheVariants.{PreAll, Ref}
-use Rattle.ddr4_timing.specs.declared.command.Stamped.{Stamped}
-use Rattle.ddr4_timing.specs.declared.timing.Checked.{Checked}
-use Rattle.ddr4_timing.specs.Floors.{floor, least_clock}
-use Rattle.ddr4_timing.specs.Lawful.{AllClosed, IsLawful, last_ref, ref_count, is_asleep}
+use Rattle.frfcfs.proofs.Common.{AllClosed, Checked, IsLawful, PreAll, Ref, Stamped, floor, is_asleep, last_ref, least_clock, ref_count, with_command}
 use Rattle.ddr4_timing.proofs.Ready.{lawful_ready}
-use Rattle.bank_core.specs.Stands.{with_command}
 
 -- the rank is there and awake, and its deadline is to come
 pub record MayStill (c : Checked) (list : List Stamped) (k rank : ℕ) : Type 0 where
@@ -16,15 +10,12 @@ pub record MayStill (c : Checked) (list : List Stamped) (k rank : ℕ) : Type 0 
   pub awake : ¬ IsTrue (is_asleep rank list)
   pub in_time : k ≤ last_ref rank list + 9 * c.timing.t_refi
 
-least_ref : (f n k : ℕ) → f ≤ k → n ≤ k → max f (max 0 n) ≤ k
-least_ref f n k a b = omega arith
-
 pub ref_lawful : (c : Checked) (list : List Stamped) (k rank : ℕ) → MayStill c list k rank → AllClosed c.geometry rank list → floor c.timing list (Ref rank) ≤ k → (ref_count rank list + 1) * c.timing.t_refi ≤ k →
     IsLawful c (with_command list k (Ref rank))
 unfolding least_clock
 ref_lawful c list k rank m closed f n = lawful_ready c list (record { clock = k; cmd = Ref rank }) m.lawful (record {
   rows = record { place = m.within; awake = m.awake; rows = closed };
-  clock = least_ref (floor c.timing list (Ref rank)) ((ref_count rank list + 1) * c.timing.t_refi) k f n;
+  clock = omega (arith, f, n);
   in_time = m.in_time;
 })
 
@@ -33,6 +24,6 @@ pub close_lawful : (c : Checked) (list : List Stamped) (k rank : ℕ) → MaySti
 unfolding least_clock
 close_lawful c list k rank m some f = lawful_ready c list (record { clock = k; cmd = PreAll rank }) m.lawful (record {
   rows = record { place = m.within; awake = m.awake; rows = some };
-  clock = least_ref (floor c.timing list (PreAll rank)) 0 k f (omega arith);
+  clock = omega (arith, f);
   in_time = m.in_time;
 })

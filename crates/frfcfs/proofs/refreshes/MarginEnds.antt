@@ -1,20 +1,8 @@
 -- The margin before the first command and behind a drain, and what it leaves to one.
-use Rattle.std.proofs.Common.{ℕ, ◌+◌, ◌-◌, ◌*◌, ◌≤◌, ◌<◌, List, [], IsTrue, arith}
-use Rattle.std.specs.Prelude.{max}
-use Rattle.ddr4_timing.specs.declared.command.Stamped.{Stamped}
-use Rattle.ddr4_timing.specs.declared.timing.Checked.{Checked}
-use Rattle.ddr4_timing.specs.Floors.{greatest, floor}
-use Rattle.ddr4_timing.specs.Lawful.{last_ref, ref_count, is_asleep}
-use Rattle.ddr4_timing.specs.Limits.{entry_of, close_of}
-use Rattle.frfcfs.specs.Margin.{above, HasTime, KeepsMargin, AreAsleep, last_clock}
+use Rattle.std.proofs.Common.{ℕ, ◌+◌, ◌-◌, ◌*◌, ◌<◌, List, [], IsTrue, arith}
+use Rattle.frfcfs.proofs.Common.{AreAsleep, Checked, HasTime, KeepsMargin, Stamped, close_of, entry_of, floor, greatest, is_asleep, last_clock, last_ref, ref_count}
 use Rattle.frfcfs.proofs.refreshes.IntervalFits.{fits}
 use Rattle.frfcfs.proofs.refreshes.RanksAhead.{above-lt}
-
-one_clock : (t g s p : ℕ) → 1 ≤ p → 0 + 1 ≤ (0 + 8) * t + g + s + p
-one_clock t g s p h = omega arith
-
-first_clock : (t g s : ℕ) → 1 ≤ g → 0 + 1 ≤ (0 + 8) * t + g + s
-first_clock t g s h = omega arith
 
 fresh : (c : Checked) (rank : ℕ) → HasTime c [] 0 rank
 unfolding floor greatest ref_count last_ref
@@ -22,10 +10,10 @@ fresh c rank =
     let f = fits c in record {
       refreshed = omega arith;
       past = omega arith;
-      next = one_clock c.timing.t_refi _ _ c.timing.t_rp f.precharge;
+      next = omega (arith, f.precharge);
       refresh = omega arith;
       close = omega arith;
-      opened = λ _. first_clock c.timing.t_refi _ _ f.some;
+      opened = λ _. omega (arith, f.some);
     }
 
 pub new_keeps : (c : Checked) → KeepsMargin c []
@@ -38,18 +26,10 @@ asleep_keeps c list all rank within awake = absurd (awake (all rank within))
 
 -- a drain
 
-row_close : (a w p f d r rank s : ℕ) → rank < r → s + 1 ≤ r → max a (max p w) + (rank + s) + d < max (max a w) (max p f) + d + 2 * r - 1
-row_close a w p f d r rank s h l = omega arith
-
-until_deadline : (now n t g s p r cl e last : ℕ) → now + 1 ≤ (n + 8) * t + g + s + p → g + s + p < cl → 2 * (e + cl) + 4 * r ≤ t → n * t ≤ last → now + 1 + cl + 2 * e + 4 * r < last + 9 * t
-until_deadline now n t g s p r cl e last h l m o = omega arith
-
 pub drain_has_time : (c : Checked) (list : List Stamped) (rank : ℕ) → KeepsMargin c list → rank < c.geometry.ranks → (¬ IsTrue (is_asleep rank list)) →
     last_clock list + 1 + close_of c.timing c.geometry + 2 * entry_of c.timing c.geometry + 4 * c.geometry.ranks < last_ref rank list + 9 * c.timing.t_refi
 drain_has_time k list rank m within awake =
     let h = m rank within awake in
     let t = k.timing in
     let others = λ (other : ℕ). ref_count other list in
-    until_deadline (last_clock list) (ref_count rank list) t.t_refi _ _ t.t_rp k.geometry.ranks (close_of t k.geometry) (entry_of t k.geometry) (last_ref rank list) h.next
-    (row_close t.t_ras (t.cwl + 4 + t.t_wr) t.t_rtp t.t_rfc t.t_rp k.geometry.ranks rank (above others (ref_count rank list) k.geometry.ranks) within (above-lt others (ref_count rank list) k.geometry.ranks rank within (omega arith)))
-    k.fits_entry h.refreshed
+    omega (arith, h.next, within, above-lt others (ref_count rank list) k.geometry.ranks rank within (omega arith), k.fits_entry, h.refreshed)

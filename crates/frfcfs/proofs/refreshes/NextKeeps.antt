@@ -1,31 +1,12 @@
 -- The scheduler's next command keeps the margin, and there is one as long as a rank is awake.
-use Rattle.std.proofs.Common.{◌≡◌, ℕ, ◌+◌, ◌*◌, ◌≤◌, ◌<◌, ◌⊎◌, ◌^◌, ◌↔◌, Bool, true, false, List, [], ◌∷◌, ◌++◌, length, IsTrue, Option, Some, None, inl, inr, arith, refl, sym, subst, ap, ◌∙◌}
-use Rattle.std.specs.Prelude.{max, ◌||◌}
+use Rattle.std.proofs.Common.{◌≡◌, ℕ, ◌+◌, ◌≤◌, ◌<◌, ◌⊎◌, ◌^◌, ◌↔◌, Bool, true, false, List, [], ◌∷◌, ◌++◌, length, IsTrue, Option, Some, None, inl, inr, arith, refl, sym, subst, ap, ◌∙◌, ◌||◌}
 use Rattle.std.proofs.lemmas.Bool.{cases_lt, cases_eq}
 use Rattle.std.proofs.Math.Seq.{take-append_seam}
-use Rattle.ddr4_timing.specs.declared.command.Command.{Command}
-use Rattle.ddr4_timing.specs.declared.command.Command.TheVariants.{Act, Rd, Wr, Pre, PreAll, Ref, Sre}
-use Rattle.ddr4_timing.specs.declared.command.Stamped.{Stamped}
-use Rattle.ddr4_timing.specs.declared.timing.Geometry.{Geometry}
-use Rattle.ddr4_timing.specs.declared.timing.Checked.{Checked}
-use Rattle.ddr4_timing.specs.Command.{rank_of, is_ref, is_sre_of}
-use Rattle.ddr4_timing.specs.Floors.{floor}
-use Rattle.ddr4_timing.specs.Gaps.{most_gap}
-use Rattle.ddr4_timing.specs.Lawful.{IsInGeometry, IsLawful, last_ref, ref_count, is_asleep}
+use Rattle.frfcfs.proofs.Common.{Act, AreAsleep, Checked, Command, Geometry, HasTime, HasWork, IsCandidate, IsIdle, IsInGeometry, IsInLead, IsLawful, IsNext, IsNotAfter, KeepsMargin, Kind, Next, OfColumn, OfRank, OfRow, OffersRank, Pending, Place, Pre, PreAll, Rd, Read, Ref, Sre, Stamped, Turn, Wr, Write, act_of, column_of, is_asleep, is_ref, is_sre_of, last_clock, lead_clock, pre_of, rank_of, ref_count, refresh_clock, with_command}
 use Rattle.ddr4_timing.proofs.FloorLemmas.{is_asleep_push}
 use Rattle.ddr4_timing.proofs.Ready.{ready_lawful, IsLawful-take}
-use Rattle.bank_core.specs.Stands.{with_command}
-use Rattle.frfcfs.specs.declared.pending.Kind.{Kind}
-use Rattle.frfcfs.specs.declared.pending.Kind.TheVariants.{Read, Write}
-use Rattle.frfcfs.specs.declared.pending.Pending.{Pending}
-use Rattle.ddr4_timing.specs.declared.place.Place.{Place}
-use Rattle.frfcfs.specs.declared.next.Next.{Next}
-use Rattle.frfcfs.specs.Requests.{column_of, act_of, pre_of}
-use Rattle.frfcfs.specs.Candidates.{Turn, OfRank, OfColumn, OfRow, IsInLead, OffersRank, IsCandidate, IsNotAfter}
-use Rattle.frfcfs.specs.Next.{HasWork, IsNext}
-use Rattle.frfcfs.specs.Margin.{row_time, lead_clock, above, refresh_clock, HasTime, KeepsMargin, AreAsleep, IsIdle, last_clock}
 use Rattle.frfcfs.proofs.refreshes.RefreshCounts.{last_clock_push, ref_of_calm, ref_of_other}
-use Rattle.frfcfs.proofs.refreshes.OffersInTime.{IsUp, in_lead, ref_from, close_from, ref_from-le, close_from-le, ref_due, close_due, from-le}
+use Rattle.frfcfs.proofs.refreshes.OffersInTime.{IsUp, in_lead, ref_from, close_from, ref_from-le, close_from-le, ref_due, close_due}
 use Rattle.ddr4_timing.proofs.Bounds.{most_gap-Ref_calm, most_gap-Ref_other}
 use Rattle.frfcfs.proofs.refreshes.OtherRanks.{late, rank_of_offer}
 use Rattle.frfcfs.proofs.refreshes.IntervalFits.{fits}
@@ -110,9 +91,6 @@ own_turn c list now k rank x u s o =
       | inr e ↦ subst (λ (y : Command). HasTime c (with_command list k y) k rank) (sym e) (own_close c list now k rank u (subst (λ (y : Command). IsStep c list now k y) e s))
     ]
 
-small_gap : (gap p : ℕ) → gap ≤ 1 → gap ≤ max 1 p
-small_gap gap p h = omega arith
-
 step_rank : (c : Checked) (list : List Stamped) (k rank : ℕ) (x : Command) → KeepsMargin c list → IsLawful c list → IsStep c list (last_clock list) k x → IsUp c list (last_clock list) rank → HasTime c (with_command list k x) k rank
 step_rank c list k rank x m lawful s u =
     let now = last_clock list in
@@ -125,7 +103,7 @@ step_rank c list k rank x m lawful s u =
         ]
       ]
       | inr other ↦ elim (cases_lt k (lead_clock c.timing list rank)) [
-        | inl l ↦ early c list now k rank x u.time s.from (ref_of_other rank x other) (small_gap (most_gap c.timing x (Ref rank)) c.timing.t_rp (most_gap-Ref_other c.timing x rank other)) l
+        | inl l ↦ early c list now k rank x u.time s.from (ref_of_other rank x other) (omega (arith, most_gap-Ref_other c.timing x rank other)) l
         | inr g ↦ late c list now k rank x (record { up = u; others = λ first o. up_from_offer c list k first x m lawful o; step = s; other = other; lead = g })
       ]
     ]
@@ -141,15 +119,11 @@ next_keeps c list pending next m h rank within awake =
 
 -- where a rank is awake, a candidate comes
 
-early_enough : (n t g p r rank a now last : ℕ) → n * t ≤ last → last ≤ now → now < 2 ^ 62 → t ≤ 1000000 → g + p + 2 * r ≤ t → rank < r → a ≤ r → (n + 8) * t + g + (rank + a) + p < 2 ^ 63
-early_enough n t g p r rank a now last h l m s f w b = omega arith
-
 refresh_early : (c : Checked) (list : List Stamped) (now rank : ℕ) → IsUp c list now rank → now < 2 ^ 62 → refresh_clock c list rank < 2 ^ 63
 refresh_early c list now rank u h =
     let f = fits c in
     let others = λ (other : ℕ). ref_count other list in
-    early_enough (ref_count rank list) c.timing.t_refi (row_time c.timing) c.timing.t_rp c.geometry.ranks rank (above others (ref_count rank list) c.geometry.ranks) now (last_ref rank list)
-    u.time.refreshed u.time.past h c.in_limits.t_refi.1 f.row u.within (above-le others (ref_count rank list) c.geometry.ranks)
+    omega (arith, u.time.refreshed, u.time.past, h, c.in_limits.t_refi.1, f.row, u.within, above-le others (ref_count rank list) c.geometry.ranks)
 
 -- a candidate at a clock from now on, below 2^63
 abbrev Comes : Checked → List Stamped → List Pending → ℕ → Type 0
@@ -161,10 +135,10 @@ candidate_comes c list pending now rank u h =
     elim (closed_or c.geometry rank list) [
       | inl closed ↦
           let l = ref_from-le c list now rank u.time in
-          (ref_from c list now rank, from-le now (floor c.timing list (Ref rank)) (lead_clock c.timing list rank), omega (arith, l, early), (OfRank rank, Ref rank, ref_due c list now rank u closed))
+          (ref_from c list now rank, omega arith, omega (arith, l, early), (OfRank rank, Ref rank, ref_due c list now rank u closed))
       | inr some ↦
           let l = close_from-le c list now rank u.time some in
-          (close_from c list now rank, from-le now (floor c.timing list (PreAll rank)) (lead_clock c.timing list rank), omega (arith, l, early), (OfRank rank, PreAll rank, close_due c list now rank u some))
+          (close_from c list now rank, omega arith, omega (arith, l, early), (OfRank rank, PreAll rank, close_due c list now rank u some))
     ]
 
 -- each candidate goes to a rank that is awake

@@ -1,13 +1,6 @@
 -- A rank that has its time offers its REF, or the PREA before it, at the first clock from now that allows it.
-use Rattle.std.proofs.Common.{ℕ, ◌+◌, ◌*◌, ◌≤◌, ◌<◌, List, IsTrue, inl, inr, arith, refl}
-use Rattle.std.specs.Prelude.{max}
-use Rattle.ddr4_timing.specs.declared.command.Command.TheVariants.{PreAll, Ref}
-use Rattle.ddr4_timing.specs.declared.command.Stamped.{Stamped}
-use Rattle.ddr4_timing.specs.declared.timing.Checked.{Checked}
-use Rattle.ddr4_timing.specs.Floors.{floor}
-use Rattle.ddr4_timing.specs.Lawful.{AllClosed, IsLawful, last_ref, ref_count, is_asleep}
-use Rattle.frfcfs.specs.Candidates.{IsInLead, OffersRank}
-use Rattle.frfcfs.specs.Margin.{row_time, lead_clock, above, commands_before, close_clock, refresh_clock, HasTime}
+use Rattle.std.proofs.Common.{ℕ, ◌+◌, ◌*◌, ◌≤◌, ◌<◌, List, IsTrue, inl, inr, arith, refl, max}
+use Rattle.frfcfs.proofs.Common.{AllClosed, Checked, HasTime, IsInLead, IsLawful, OffersRank, PreAll, Ref, Stamped, above, close_clock, floor, is_asleep, lead_clock, ref_count, refresh_clock, row_time}
 use Rattle.frfcfs.proofs.refreshes.IntervalFits.{fits}
 use Rattle.frfcfs.proofs.Leads.{lead_at}
 use Rattle.frfcfs.proofs.refreshes.LawfulRefreshes.{MayStill, ref_lawful, close_lawful}
@@ -31,15 +24,12 @@ refresh-lt c list rank l =
     (above (λ other. ref_count other list) (ref_count rank list) c.geometry.ranks) f.row l (above-le (λ other. ref_count other list) (ref_count rank list) c.geometry.ranks) in
     omega (arith, e)
 
-late : (n t k last : ℕ) → n * t ≤ last → k < (n + 9) * t → k ≤ last + 9 * t
-late n t k last h l = omega arith
-
 pub in_time : (c : Checked) (list : List Stamped) (now rank k : ℕ) → IsUp c list now rank → k ≤ refresh_clock c list rank → MayStill c list k rank
 in_time c list now rank k u h = record {
   lawful = u.lawful;
   within = u.within;
   awake = u.awake;
-  in_time = late (ref_count rank list) c.timing.t_refi k (last_ref rank list) u.time.refreshed (let l = refresh-lt c list rank u.within in omega (arith, h, l));
+  in_time = omega (arith, u.time.refreshed, refresh-lt c list rank u.within, h);
 }
 
 pub in_lead : (c : Checked) (list : List Stamped) (rank k : ℕ) → lead_clock c.timing list rank ≤ k → IsInLead c.timing list k rank
@@ -48,16 +38,13 @@ in_lead c list rank k h = (lead_at c list rank k (lead_clock c.timing list rank)
 pub from_lead : (c : Checked) (list : List Stamped) (rank k : ℕ) → IsInLead c.timing list k rank → lead_clock c.timing list rank ≤ k
 from_lead c list rank k h = (lead_at c list rank k (lead_clock c.timing list rank) refl).0 h
 
-seven_sooner : (n t k : ℕ) → (n + 8) * t ≤ k → (n + 1) * t ≤ k
-seven_sooner n t k h = omega arith
-
 pub offers_ref : (c : Checked) (list : List Stamped) (now rank k : ℕ) → IsUp c list now rank → AllClosed c.geometry rank list → floor c.timing list (Ref rank) ≤ k → lead_clock c.timing list rank ≤ k → k ≤ refresh_clock c list rank →
     OffersRank c list k rank (Ref rank)
 offers_ref c list now rank k u closed f l h = record {
   within = u.within;
   lead = in_lead c list rank k l;
   kind = inl refl;
-  lawful = ref_lawful c list k rank (in_time c list now rank k u h) closed f (seven_sooner (ref_count rank list) c.timing.t_refi k l);
+  lawful = ref_lawful c list k rank (in_time c list now rank k u h) closed f (omega (arith, l));
 }
 
 pub offers_close : (c : Checked) (list : List Stamped) (now rank k : ℕ) → IsUp c list now rank → (¬ AllClosed c.geometry rank list) → floor c.timing list (PreAll rank) ≤ k → lead_clock c.timing list rank ≤ k → k ≤ refresh_clock c list rank →
@@ -76,31 +63,16 @@ ref_from c list now rank = max now (max (floor c.timing list (Ref rank)) (lead_c
 abbrev pub close_from : Checked → List Stamped → ℕ → ℕ → ℕ
 close_from c list now rank = max now (max (floor c.timing list (PreAll rank)) (lead_clock c.timing list rank))
 
-by_refresh : (now f lead g s p : ℕ) → now + 1 ≤ lead + g + s + p → f ≤ lead + g + s + p → max now (max f lead) ≤ lead + g + s + p
-by_refresh now f lead g s p h l = omega arith
-
-by_close : (now f lead g s : ℕ) → now + 1 ≤ lead + g + s → f ≤ max (now + 1) (lead + g) → max now (max f lead) ≤ lead + g + s
-by_close now f lead g s h l = omega arith
-
 pub ref_from-le : (c : Checked) (list : List Stamped) (now rank : ℕ) → HasTime c list now rank → ref_from c list now rank ≤ refresh_clock c list rank
-ref_from-le c list now rank h = by_refresh now (floor c.timing list (Ref rank)) (lead_clock c.timing list rank) (row_time c.timing) (commands_before c list rank) c.timing.t_rp h.next h.refresh
+ref_from-le c list now rank h = omega (arith, h.next, h.refresh)
 
 pub close_from-le : (c : Checked) (list : List Stamped) (now rank : ℕ) → HasTime c list now rank → (¬ AllClosed c.geometry rank list) → close_from c list now rank ≤ close_clock c list rank
-close_from-le c list now rank h some = by_close now (floor c.timing list (PreAll rank)) (lead_clock c.timing list rank) (row_time c.timing) (commands_before c list rank) (h.opened some) h.close
-
-pub from-le : (now f lead : ℕ) → now ≤ max now (max f lead)
-from-le now f lead = omega arith
-
-max_parts : (a b d : ℕ) → (a ≤ max a (max b d)) × (b ≤ max a (max b d)) × (d ≤ max a (max b d))
-max_parts a b d = omega arith
+close_from-le c list now rank h some = omega (arith, h.opened some, h.close)
 
 pub ref_due : (c : Checked) (list : List Stamped) (now rank : ℕ) → IsUp c list now rank → AllClosed c.geometry rank list → OffersRank c list (ref_from c list now rank) rank (Ref rank)
-ref_due c list now rank u closed =
-    let m = max_parts now (floor c.timing list (Ref rank)) (lead_clock c.timing list rank) in
-    offers_ref c list now rank (ref_from c list now rank) u closed m.1 m.2 (ref_from-le c list now rank u.time)
+ref_due c list now rank u closed = offers_ref c list now rank (ref_from c list now rank) u closed (omega arith) (omega arith) (ref_from-le c list now rank u.time)
 
 pub close_due : (c : Checked) (list : List Stamped) (now rank : ℕ) → IsUp c list now rank → (¬ AllClosed c.geometry rank list) → OffersRank c list (close_from c list now rank) rank (PreAll rank)
 close_due c list now rank u some =
-    let m = max_parts now (floor c.timing list (PreAll rank)) (lead_clock c.timing list rank) in
     let l = close_from-le c list now rank u.time some in
-    offers_close c list now rank (close_from c list now rank) u some m.1 m.2 (omega (arith, l))
+    offers_close c list now rank (close_from c list now rank) u some (omega arith) (omega arith) (omega (arith, l))

@@ -1,16 +1,7 @@
 -- The time of a rank that another command than its own REF leaves.
-use Rattle.std.proofs.Common.{◌≡◌, ℕ, ◌+◌, ◌*◌, ◌≤◌, false, List, arith}
-use Rattle.std.specs.Prelude.{max}
-use Rattle.ddr4_timing.specs.declared.command.Command.{Command}
-use Rattle.ddr4_timing.specs.declared.command.Command.TheVariants.{PreAll, Ref}
-use Rattle.ddr4_timing.specs.declared.command.Stamped.{Stamped}
-use Rattle.ddr4_timing.specs.declared.timing.Checked.{Checked}
-use Rattle.ddr4_timing.specs.Command.{is_ref_of}
-use Rattle.ddr4_timing.specs.Gaps.{most_gap}
-use Rattle.ddr4_timing.specs.Lawful.{AllClosed}
+use Rattle.std.proofs.Common.{◌≡◌, ℕ, ◌+◌, ◌*◌, ◌≤◌, false, List, arith, max}
+use Rattle.frfcfs.proofs.Common.{AllClosed, Checked, Command, HasTime, PreAll, Ref, Stamped, close_clock, is_ref_of, lead_clock, most_gap, refresh_clock, row_time, with_command}
 use Rattle.ddr4_timing.proofs.FloorLemmas.{floor_push}
-use Rattle.bank_core.specs.Stands.{with_command}
-use Rattle.frfcfs.specs.Margin.{lead_clock, row_time, close_clock, refresh_clock, HasTime}
 use Rattle.frfcfs.proofs.refreshes.RefreshCounts.{count_same, last_same, lead_same, before_more}
 
 pub record Calm (c : Checked) (list : List Stamped) (now k rank : ℕ) (x : Command) : Type 0 where
@@ -28,15 +19,6 @@ close_more c list k rank x e = let l = lead_same c.timing rank k list x e in let
 same_product : (a b l m t : ℕ) → a ≡ b → l ≡ m → b * t ≤ m → a * t ≤ l
 same_product a b l m t e f h = rw (e, f) h
 
-new_floor : (f old gap most more : ℕ) → f ≡ max old gap → old ≤ most → most ≤ more → gap ≤ more → f ≤ more
-new_floor f old gap most more e a b d = omega arith
-
-old_close : (f now k lead : ℕ) → f ≤ max (now + 1) lead → now ≤ k → f ≤ max (k + 1) lead
-old_close f now k lead h l = omega arith
-
-next_close : (f old gap now k lead lead' : ℕ) → f ≡ max old gap → old ≤ max (now + 1) lead → now ≤ k → gap ≤ max (k + 1) lead → lead' ≡ lead → f ≤ max (k + 1) lead'
-next_close f old gap now k lead lead' e a b d s = omega arith
-
 pub calm_time : (c : Checked) (list : List Stamped) (now k rank : ℕ) (x : Command) → Calm c list now k rank x → HasTime c (with_command list k x) k rank
 calm_time c list now k rank x h =
     let t = h.time in
@@ -45,9 +27,7 @@ calm_time c list now k rank x h =
       refreshed = same_product _ _ _ _ c.timing.t_refi (count_same rank k list x h.other) last t.refreshed;
       past = let p = t.past in let l = h.from in omega (arith, last, p, l);
       next = h.next;
-      refresh = new_floor _ _ _ (refresh_clock c list rank) _ (floor_push c.timing list (record { clock = k; cmd = x }) (Ref rank)) t.refresh
-          (let m = close_more c list k rank x h.other in omega (arith, m)) h.refresh;
-      close = next_close _ _ _ now k (lead_clock c.timing list rank + row_time c.timing) (lead_clock c.timing (with_command list k x) rank + row_time c.timing)
-          (floor_push c.timing list (record { clock = k; cmd = x }) (PreAll rank)) t.close h.from h.close (omega (arith, lead));
+      refresh = omega (arith, floor_push c.timing list (record { clock = k; cmd = x }) (Ref rank), t.refresh, close_more c list k rank x h.other, h.refresh);
+      close = omega (arith, floor_push c.timing list (record { clock = k; cmd = x }) (PreAll rank), t.close, h.from, h.close, lead);
       opened = h.opened;
     }

@@ -1,19 +1,7 @@
 -- A command to another rank, at a clock at which this one is in lead, leaves it its time.
-use Rattle.std.proofs.Common.{◌≡◌, ◌≢◌, ℕ, ◌+◌, ◌*◌, ◌≤◌, ◌<◌, ◌⊎◌, List, inl, inr, arith, sym, subst, ap, ◌∙◌}
-use Rattle.std.specs.Prelude.{max}
+use Rattle.std.proofs.Common.{◌≡◌, ◌≢◌, ℕ, ◌+◌, ◌*◌, ◌≤◌, ◌<◌, ◌⊎◌, List, inl, inr, arith, sym, subst, ap, ◌∙◌, mul-le-mul_right}
 use Rattle.std.proofs.lemmas.Bool.{cases_lt}
-use Rattle.std.proofs.Math.Nat.{mul-le-mul_right}
-use Rattle.ddr4_timing.specs.declared.command.Command.{Command}
-use Rattle.ddr4_timing.specs.declared.command.Command.TheVariants.{PreAll, Ref}
-use Rattle.ddr4_timing.specs.declared.command.Stamped.{Stamped}
-use Rattle.ddr4_timing.specs.declared.timing.Checked.{Checked}
-use Rattle.ddr4_timing.specs.Command.{rank_of}
-use Rattle.ddr4_timing.specs.Floors.{floor}
-use Rattle.ddr4_timing.specs.Gaps.{most_gap}
-use Rattle.ddr4_timing.specs.Lawful.{AllClosed, ref_count}
-use Rattle.bank_core.specs.Stands.{with_command}
-use Rattle.frfcfs.specs.Candidates.{OffersRank}
-use Rattle.frfcfs.specs.Margin.{row_time, lead_clock, above, commands_before, close_clock, refresh_clock, HasTime}
+use Rattle.frfcfs.proofs.Common.{AllClosed, Checked, Command, HasTime, OffersRank, PreAll, Ref, Stamped, above, close_clock, commands_before, floor, lead_clock, rank_of, ref_count, refresh_clock, row_time, with_command}
 use Rattle.frfcfs.proofs.refreshes.OtherCommands.{calm_time, close_more}
 use Rattle.frfcfs.proofs.refreshes.RefreshCounts.{ref_of_other, act_of_other, lead_same, before_next}
 use Rattle.frfcfs.proofs.refreshes.OffersInTime.{IsUp, refresh-lt, from_lead, offers_ref, offers_close, ref_from-le, close_from-le}
@@ -112,9 +100,6 @@ taken_by c list now k rank x cmd h clock o =
     let n : first ≢ rank = λ e. h.other (rank_of_offer c list k first x offer ∙ e) in
     (first, record { up = h.up; first_up = h.others first offer; step = h.step; below = omega arith; offer = offer; lead = h.lead; clock = clock })
 
-soon : (now k f lead : ℕ) → now ≤ k → lead ≤ k → k ≤ max now (max f lead) → k < f → k + 1 ≤ f
-soon now k f lead a b h l = omega arith
-
 -- one that is closed: it is served by its clock
 late_closed : (c : Checked) (list : List Stamped) (now k rank : ℕ) (x : Command) → IsLate c list now k rank x → AllClosed c.geometry rank list → (k + 1 ≤ refresh_clock c list rank) ⊎ IsServed c list now k rank x
 late_closed c list now k rank x h closed =
@@ -126,21 +111,15 @@ late_closed c list now k rank x h closed =
       | inr g ↦ inr (taken_by c list now k rank x (Ref rank) h clock (offers_ref c list now rank k h.up closed g h.lead clock))
     ]
 
-open_soon : (now k f lead g s : ℕ) → now ≤ k → k < f → f ≤ max (now + 1) (lead + g) → now + 1 ≤ lead + g + s → k + 1 ≤ lead + g + s
-open_soon now k f lead g s h l m e = omega arith
-
 late_opened : (c : Checked) (list : List Stamped) (now k rank : ℕ) (x : Command) → IsLate c list now k rank x → (¬ AllClosed c.geometry rank list) → (k + 1 ≤ close_clock c list rank) ⊎ (IsServed c list now k rank x × (k ≤ close_clock c list rank))
 late_opened c list now k rank x h some =
     let a = by_close_from c list now k rank x h.up h.step some in
     let b = close_from-le c list now rank h.up.time some in
     let clock : k ≤ close_clock c list rank = omega (arith, a, b) in
     elim (cases_lt k (floor c.timing list (PreAll rank))) [
-      | inl l ↦ inl (open_soon now k (floor c.timing list (PreAll rank)) (lead_clock c.timing list rank) (row_time c.timing) (commands_before c list rank) h.step.from l h.up.time.close (h.up.time.opened some))
+      | inl l ↦ inl (omega (arith, h.step.from, l, h.up.time.close, h.up.time.opened some))
       | inr g ↦ inr (taken_by c list now k rank x (PreAll rank) h (omega (arith, clock)) (offers_close c list now rank k h.up some g h.lead (omega (arith, clock))), clock)
     ]
-
-one_more_before : (k lead g s s' lead' : ℕ) → k ≤ lead + g + s → s + 1 ≤ s' → lead' ≡ lead → k + 1 ≤ lead' + g + s'
-one_more_before k lead g s s' lead' h l e = omega arith
 
 late_open : (c : Checked) (list : List Stamped) (now k rank : ℕ) (x : Command) → IsLate c list now k rank x → (¬ AllClosed c.geometry rank list) → k + 1 ≤ close_clock c (with_command list k x) rank
 late_open c list now k rank x h some =
@@ -149,13 +128,10 @@ late_open c list now k rank x h some =
     elim (late_opened c list now k rank x h some) [
       | inl l ↦ omega (arith, l, more)
       | inr s ↦ elim (taken c list now k rank s.0.0 x s.0.1) [
-        | inl t ↦ one_more_before k (lead_clock c.timing list rank) (row_time c.timing) (commands_before c list rank) (commands_before c (with_command list k x) rank) (lead_clock c.timing (with_command list k x) rank) s.1 t (lead_same c.timing rank k list x e)
+        | inl t ↦ omega (arith, s.1, t, lead_same c.timing rank k list x e)
         | inr t ↦ omega (arith, t, more)
       ]
     ]
-
-one_more_closed : (k lead g s s' lead' p : ℕ) → k ≤ lead + g + s + p → s + 1 ≤ s' → lead' ≡ lead → k + 1 ≤ lead' + g + s' + p
-one_more_closed k lead g s s' lead' p h l e = omega arith
 
 late_next : (c : Checked) (list : List Stamped) (now k rank : ℕ) (x : Command) → IsLate c list now k rank x → k + 1 ≤ refresh_clock c (with_command list k x) rank
 late_next c list now k rank x h =
@@ -166,17 +142,11 @@ late_next c list now k rank x h =
       | inl closed ↦ elim (late_closed c list now k rank x h closed) [
         | inl l ↦ omega (arith, l, more)
         | inr s ↦ elim (taken c list now k rank s.0 x s.1) [
-          | inl t ↦ one_more_closed k (lead_clock c.timing list rank) (row_time c.timing) (commands_before c list rank) (commands_before c (with_command list k x) rank) (lead_clock c.timing (with_command list k x) rank) c.timing.t_rp s.1.clock t (lead_same c.timing rank k list x e)
+          | inl t ↦ omega (arith, s.1.clock, t, lead_same c.timing rank k list x e)
           | inr t ↦ omega (arith, t, more)
         ]
       ]
     ]
-
-wait : (k gap most : ℕ) → gap ≤ 1 → k + 1 ≤ most → k + gap ≤ most
-wait k gap most h l = omega arith
-
-wait_close : (k gap lead : ℕ) → gap ≤ 1 → k + gap ≤ max (k + 1) lead
-wait_close k gap lead h = omega arith
 
 pub late : (c : Checked) (list : List Stamped) (now k rank : ℕ) (x : Command) → IsLate c list now k rank x → HasTime c (with_command list k x) k rank
 late c list now k rank x h =
@@ -186,7 +156,7 @@ late c list now k rank x h =
       from = h.step.from;
       other = ref_of_other rank x h.other;
       next = next;
-      refresh = wait k (most_gap c.timing x (Ref rank)) _ (most_gap-Ref_other c.timing x rank h.other) next;
-      close = wait_close k (most_gap c.timing x (PreAll rank)) _ (most_gap-PreAll_other c.timing x rank h.other);
+      refresh = omega (arith, most_gap-Ref_other c.timing x rank h.other, next);
+      close = omega (arith, most_gap-PreAll_other c.timing x rank h.other);
       opened = λ some. late_open c list now k rank x h (λ closed. some (closed_push c.geometry rank list (record { clock = k; cmd = x }) (act_of_other rank x h.other) closed));
     })

@@ -1,20 +1,10 @@
 -- One step of the scheduler leaves each rank its time.
-use Rattle.std.proofs.Common.{◌≡◌, ℕ, ◌+◌, ◌*◌, ◌≤◌, ◌<◌, ◌⊎◌, false, List, inl, inr, arith, refl}
-use Rattle.std.specs.Prelude.{max}
+use Rattle.std.proofs.Common.{◌≡◌, ℕ, ◌+◌, ◌*◌, ◌≤◌, ◌<◌, ◌⊎◌, false, List, inl, inr, arith, refl, max}
 use Rattle.std.proofs.lemmas.Bool.{cases_lt}
-use Rattle.ddr4_timing.specs.declared.command.Command.{Command}
-use Rattle.ddr4_timing.specs.declared.command.Command.TheVariants.{PreAll, Ref}
-use Rattle.ddr4_timing.specs.declared.command.Stamped.{Stamped}
-use Rattle.ddr4_timing.specs.declared.timing.Checked.{Checked}
-use Rattle.ddr4_timing.specs.Command.{rank_of, is_ref, is_ref_of}
-use Rattle.ddr4_timing.specs.Gaps.{most_gap}
-use Rattle.ddr4_timing.specs.Lawful.{AllClosed, IsLawful, ref_count}
+use Rattle.frfcfs.proofs.Common.{AllClosed, Checked, Command, HasTime, IsInLead, IsLawful, OffersRank, PreAll, Ref, Stamped, close_clock, commands_before, is_ref, is_ref_of, lead_clock, most_gap, rank_of, ref_count, refresh_clock, with_command}
 use Rattle.ddr4_timing.proofs.Bounds.{most_gap-PreAll}
 use Rattle.ddr4_timing.proofs.FloorLemmas.{floor_push}
 use Rattle.ddr4_timing.proofs.Ready.{ready_lawful, refresh_lawful}
-use Rattle.bank_core.specs.Stands.{with_command}
-use Rattle.frfcfs.specs.Candidates.{IsInLead, OffersRank}
-use Rattle.frfcfs.specs.Margin.{row_time, lead_clock, commands_before, close_clock, refresh_clock, HasTime}
 use Rattle.frfcfs.proofs.refreshes.OtherCommands.{calm_time, close_more}
 use Rattle.frfcfs.proofs.refreshes.RefreshCounts.{count_next, last_next}
 use Rattle.frfcfs.proofs.refreshes.OffersInTime.{IsUp, refresh-lt, ref_from, close_from, ref_from-le, close_from-le, ref_due, close_due}
@@ -33,34 +23,22 @@ pub record IsStep (c : Checked) (list : List Stamped) (now k : ℕ) (x : Command
 
 -- before the rank comes into lead
 
-early_next : (k lead g s p : ℕ) → k < lead → k + 1 ≤ lead + g + s + p
-early_next k lead g s p h = omega arith
-
-early_gap : (k gap lead g s p : ℕ) → k < lead → gap ≤ max 1 p → k + gap ≤ lead + g + s + p
-early_gap k gap lead g s p h l = omega arith
-
-early_close : (k gap lead g : ℕ) → k < lead → gap ≤ max 1 g → k + gap ≤ max (k + 1) (lead + g)
-early_close k gap lead g h l = omega arith
-
-early_opened : (k lead g s : ℕ) → k < lead → k + 1 ≤ lead + g + s
-early_opened k lead g s h = omega arith
-
 -- any command but its REF
 pub early : (c : Checked) (list : List Stamped) (now k rank : ℕ) (x : Command) → HasTime c list now rank → now ≤ k → is_ref_of rank x ≡ false → most_gap c.timing x (Ref rank) ≤ max 1 c.timing.t_rp → k < lead_clock c.timing list rank →
     HasTime c (with_command list k x) k rank
 early c list now k rank x h from e gap l =
     let more = close_more c list k rank x e in
     let lead = lead_clock c.timing list rank in
-    let next : k + 1 ≤ refresh_clock c list rank = early_next k lead (row_time c.timing) (commands_before c list rank) c.timing.t_rp l in
-    let refresh : k + most_gap c.timing x (Ref rank) ≤ refresh_clock c list rank = early_gap k (most_gap c.timing x (Ref rank)) lead (row_time c.timing) (commands_before c list rank) c.timing.t_rp l gap in
-    let opened : k + 1 ≤ close_clock c list rank = early_opened k lead (row_time c.timing) (commands_before c list rank) l in
+    let next : k + 1 ≤ refresh_clock c list rank = omega (arith, l) in
+    let refresh : k + most_gap c.timing x (Ref rank) ≤ refresh_clock c list rank = omega (arith, l, gap) in
+    let opened : k + 1 ≤ close_clock c list rank = omega (arith, l) in
     calm_time c list now k rank x (record {
       time = h;
       from = from;
       other = e;
       next = omega (arith, more, next);
       refresh = omega (arith, more, refresh);
-      close = early_close k (most_gap c.timing x (PreAll rank)) lead (row_time c.timing) l (most_gap-PreAll c.timing x rank c.fits_faw);
+      close = omega (arith, l, most_gap-PreAll c.timing x rank c.fits_faw);
       opened = λ _. omega (arith, more, opened);
     })
 
@@ -100,25 +78,19 @@ own_close_clock c list now k rank u s =
     let b = close_from-le c list now rank u.time some in
     omega (arith, a, b)
 
-close_gap : (k gap clock p : ℕ) → k ≤ clock → gap ≤ max 1 p → 1 ≤ p → k + gap ≤ clock + p
-close_gap k gap clock p h l m = omega arith
-
-one_gap : (k gap lead : ℕ) → gap ≤ 1 → k + gap ≤ max (k + 1) lead
-one_gap k gap lead h = omega arith
-
 pub after_close : (c : Checked) (list : List Stamped) (now k rank : ℕ) → HasTime c list now rank → now ≤ k → k ≤ close_clock c list rank → HasTime c (with_command list k (PreAll rank)) k rank
 after_close c list now k rank h from clock =
     let more = close_more c list k rank (PreAll rank) refl in
     let p = (fits c).precharge in
     let gap = most_gap-Ref_calm c.timing (PreAll rank) rank refl in
-    let refresh : k + most_gap c.timing (PreAll rank) (Ref rank) ≤ refresh_clock c list rank = close_gap k (most_gap c.timing (PreAll rank) (Ref rank)) (close_clock c list rank) c.timing.t_rp clock gap p in
+    let refresh : k + most_gap c.timing (PreAll rank) (Ref rank) ≤ refresh_clock c list rank = omega (arith, clock, gap, p) in
     calm_time c list now k rank (PreAll rank) (record {
       time = h;
       from = from;
       other = refl;
       next = omega (arith, more, clock, p);
       refresh = omega (arith, more, refresh);
-      close = one_gap k (most_gap c.timing (PreAll rank) (PreAll rank)) _ (most_gap-close c.timing rank rank);
+      close = omega (arith, most_gap-close c.timing rank rank);
       opened = λ some. absurd (some (closed_after c.geometry rank k list));
     })
 
@@ -126,20 +98,11 @@ pub own_close : (c : Checked) (list : List Stamped) (now k rank : ℕ) → IsUp 
 own_close c list now k rank u s = after_close c list now k rank u.time s.from (own_close_clock c list now k rank u s)
 
 -- the clocks after a REF, in the new interval: b is the old clock by which it was due
-new_refresh : (f old gap k n t g s p w r b new : ℕ) → f ≡ max old (k + gap) → old ≤ b → k ≤ b → b ≡ (n + 8) * t + g + s + p → gap ≤ max 1 (max p w) → w + p + 2 * r ≤ t → g + p + 2 * r ≤ t → s ≤ 2 * r → 1 ≤ g → (n + 9) * t + g + p ≤ new → f ≤ new
-new_refresh f old gap k n t g s p w r b new e h l m q x y z o v = omega arith
-
-new_close : (f old gap now k g lead lead' : ℕ) → f ≡ max old (k + gap) → old ≤ max (now + 1) (lead + g) → now ≤ k → gap ≤ max 1 g → lead ≤ lead' → k < lead' → f ≤ max (k + 1) (lead' + g)
-new_close f old gap now k g lead lead' e h l m q o = omega arith
-
 nine : (m n t : ℕ) → m ≡ n + 1 → (m + 8) * t ≡ (n + 9) * t
 nine m n t e = rw e (omega arith)
 
 commands_before-le : (c : Checked) (list : List Stamped) (rank : ℕ) → rank < c.geometry.ranks → commands_before c list rank ≤ 2 * c.geometry.ranks
 commands_before-le c list rank h = let l = above-le (λ other. ref_count other list) (ref_count rank list) c.geometry.ranks in omega (arith, h, l)
-
-one_fewer : (n t : ℕ) → (n + 8) * t ≤ (n + 9) * t
-one_fewer n t = omega arith
 
 refreshed_next : (m n t k last : ℕ) → m ≡ n + 1 → last ≡ k → (n + 1) * t ≤ k → m * t ≤ last
 refreshed_next m n t k last e f h = rw (e, f) h
@@ -155,14 +118,11 @@ own_ref c list now k rank u s =
     let clock = own_ref_clock c list now k rank u s in
     let small = refresh-lt c list rank u.within in
     let lead : lead_clock c.timing (with_command list k (Ref rank)) rank ≡ (n + 9) * t = nine (ref_count rank (with_command list k (Ref rank))) n t count in
-    let fewer = one_fewer n t in
     record {
       refreshed = refreshed_next _ n t k _ count last ((refresh_lawful c list (record { clock = k; cmd = Ref rank }) s.lawful).not_early refl);
       past = omega (arith, last);
       next = omega (arith, clock, small, lead);
-      refresh = new_refresh _ _ (most_gap c.timing (Ref rank) (Ref rank)) k n t (row_time c.timing) (commands_before c list rank) c.timing.t_rp c.timing.t_rfc c.geometry.ranks (refresh_clock c list rank) _
-          (floor_push c.timing list (record { clock = k; cmd = Ref rank }) (Ref rank)) u.time.refresh clock refl (most_gap-Ref c.timing (Ref rank) rank c.fits_faw) f.refresh f.row (commands_before-le c list rank u.within) f.some (omega (arith, lead));
-      close = new_close _ _ (most_gap c.timing (Ref rank) (PreAll rank)) now k (row_time c.timing) (lead_clock c.timing list rank) (lead_clock c.timing (with_command list k (Ref rank)) rank)
-          (floor_push c.timing list (record { clock = k; cmd = Ref rank }) (PreAll rank)) u.time.close s.from (most_gap-PreAll c.timing (Ref rank) rank c.fits_faw) (omega (arith, lead, fewer)) (omega (arith, clock, small, lead));
+      refresh = omega (arith, floor_push c.timing list (record { clock = k; cmd = Ref rank }) (Ref rank), u.time.refresh, clock, most_gap-Ref c.timing (Ref rank) rank c.fits_faw, f.refresh, f.row, commands_before-le c list rank u.within, f.some, lead);
+      close = omega (arith, floor_push c.timing list (record { clock = k; cmd = Ref rank }) (PreAll rank), u.time.close, s.from, most_gap-PreAll c.timing (Ref rank) rank c.fits_faw, clock, small, lead);
       opened = λ some. absurd (some (closed_push c.geometry rank list (record { clock = k; cmd = Ref rank }) refl closed));
     }

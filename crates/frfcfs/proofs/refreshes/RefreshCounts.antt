@@ -1,18 +1,9 @@
 -- What one more command does to the counts of refreshes and to the clocks by which a rank is due.
-use Rattle.std.proofs.Common.{◌≡◌, ◌≢◌, ℕ, ◌+◌, ◌*◌, ◌≤◌, ◌<◌, Bool, true, false, cond, eqb, List, [], ◌∷◌, ◌++◌, arith, ap, ◌∙◌, refl, add-zero}
-use Rattle.std.proofs.lemmas.Bool.{ne_eqb}
+use Rattle.std.proofs.Common.{◌≡◌, ◌≢◌, ℕ, ◌+◌, ◌*◌, ◌≤◌, ◌<◌, Bool, true, false, cond, eqb, List, [], ◌∷◌, ◌++◌, arith, ap, ◌∙◌, refl, add-zero, ne_eqb}
 use Rattle.std.proofs.lemmas.List.Sums.{fold_push}
 use Rattle.std.proofs.lemmas.Bool.Decides.{nat_tests}
-use Rattle.ddr4_timing.specs.declared.command.Command.{Command}
-use Rattle.ddr4_timing.specs.declared.command.Command.TheVariants.{Act, Rd, Wr, Pre, PreAll, Ref, Sre}
-use Rattle.ddr4_timing.specs.declared.command.Stamped.{Stamped}
-use Rattle.ddr4_timing.specs.declared.timing.Timing.{Timing}
-use Rattle.ddr4_timing.specs.declared.timing.Checked.{Checked}
-use Rattle.ddr4_timing.specs.Command.{rank_of, is_ref, is_ref_of, is_act_of}
-use Rattle.ddr4_timing.specs.Lawful.{last_ref, ref_count}
+use Rattle.frfcfs.proofs.Common.{Act, Checked, Command, Pre, PreAll, Rd, Ref, Sre, Stamped, Timing, Wr, above, commands_before, is_act_of, is_ref, is_ref_of, last_clock, last_ref, lead_clock, rank_of, ref_count, with_command}
 use Rattle.ddr4_timing.proofs.FloorLemmas.{last_ref_push, ref_count_push}
-use Rattle.bank_core.specs.Stands.{with_command}
-use Rattle.frfcfs.specs.Margin.{last_clock, lead_clock, above, commands_before}
 use Rattle.frfcfs.proofs.refreshes.RanksAhead.{above_more, above_new}
 
 eqb-same : (n : ℕ) → eqb n n ≡ true

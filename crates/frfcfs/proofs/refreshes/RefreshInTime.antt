@@ -1,14 +1,8 @@
 -- The REF of a rank that is awake can still go before its deadline.
-use Rattle.std.proofs.Common.{ℕ, ◌≤◌, ◌<◌, ◌⊎◌, Bool, true, false, List, IsTrue, inl, inr, subst, sym}
-use Rattle.std.specs.Prelude.{◌||◌}
-use Rattle.ddr4_timing.specs.declared.command.Command.TheVariants.{PreAll}
-use Rattle.ddr4_timing.specs.declared.command.Stamped.{Stamped}
-use Rattle.ddr4_timing.specs.declared.timing.Checked.{Checked}
-use Rattle.ddr4_timing.specs.Lawful.{AllClosed, IsLawful, is_asleep}
+use Rattle.std.proofs.Common.{ℕ, ◌≤◌, ◌<◌, ◌⊎◌, Bool, true, false, List, IsTrue, inl, inr, subst, sym, ◌||◌, arith}
+use Rattle.frfcfs.proofs.Common.{AllClosed, Checked, HasTime, IsLawful, KeepsMargin, MayClose, MayRefresh, PreAll, Stamped, is_asleep, last_clock, with_command}
 use Rattle.ddr4_timing.proofs.FloorLemmas.{is_asleep_push}
-use Rattle.bank_core.specs.Stands.{with_command}
-use Rattle.frfcfs.specs.Margin.{HasTime, KeepsMargin, MayRefresh, MayClose, last_clock}
-use Rattle.frfcfs.proofs.refreshes.OffersInTime.{IsUp, in_time, ref_from, close_from, ref_from-le, close_from-le, ref_due, close_due, from-le}
+use Rattle.frfcfs.proofs.refreshes.OffersInTime.{IsUp, in_time, ref_from, close_from, ref_from-le, close_from-le, ref_due, close_due}
 use Rattle.frfcfs.proofs.refreshes.RefreshCounts.{last_clock_push}
 use Rattle.frfcfs.proofs.refreshes.RowsClosed.{closed_or, closed_after}
 use Rattle.frfcfs.proofs.refreshes.OwnRefreshes.{after_close}
@@ -17,7 +11,7 @@ may_refresh : (c : Checked) (list : List Stamped) (rank : ℕ) → IsUp c list (
 may_refresh c list rank u closed =
     let now = last_clock list in
     let k = ref_from c list now rank in
-    (k, from-le now _ _, (in_time c list now rank k u (ref_from-le c list now rank u.time)).in_time, (ref_due c list now rank u closed).lawful)
+    (k, omega arith, (in_time c list now rank k u (ref_from-le c list now rank u.time)).in_time, (ref_due c list now rank u closed).lawful)
 
 push_none : (b : Bool) → (¬ IsTrue b) → ¬ IsTrue (b || false)
 push_none true h e = h e
@@ -37,7 +31,7 @@ may_close c list rank u some =
     let k = close_from c list now rank in
     let closed = with_command list k (PreAll rank) in
     let lawful = (close_due c list now rank u some).lawful in
-    let from : now ≤ k = from-le now _ _ in
+    let from : now ≤ k = omega arith in
     let after = after_close c list now k rank u.time from (close_from-le c list now rank u.time some) in
     let up = subst (λ (clock : ℕ). IsUp c closed clock rank) (sym (last_clock_push list (record { clock = k; cmd = PreAll rank }))) (after_up c list now k rank u after lawful) in
     (k, from, lawful, may_refresh c closed rank up (closed_after c.geometry rank k list))

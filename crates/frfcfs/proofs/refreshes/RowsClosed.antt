@@ -2,13 +2,7 @@
 use Rattle.std.proofs.Common.{◌≡◌, ℕ, zero, suc, ◌<◌, ◌⊎◌, ◌∙◌, Bool, true, false, cond, eqb, List, [], ◌∷◌, ◌++◌, Option, Some, None, inl, inr, arith, ap, subst, refl}
 use Rattle.std.proofs.lemmas.Bool.{cases_lt}
 use Rattle.std.proofs.lemmas.Bool.Decides.{nat_tests}
-use Rattle.ddr4_timing.specs.declared.command.Command.{Command}
-use Rattle.ddr4_timing.specs.declared.place.BankAddress.{BankAddress}
-use Rattle.ddr4_timing.specs.declared.command.Command.TheVariants.{Act, Rd, Wr, Pre, PreAll, Ref, Sre}
-use Rattle.ddr4_timing.specs.declared.command.Stamped.{Stamped}
-use Rattle.ddr4_timing.specs.declared.timing.Geometry.{Geometry}
-use Rattle.ddr4_timing.specs.Command.{is_act_of}
-use Rattle.ddr4_timing.specs.Lawful.{row_after, open_row, AllClosed}
+use Rattle.frfcfs.proofs.Common.{Act, AllClosed, BankAddress, Command, Geometry, Pre, PreAll, Rd, Ref, Sre, Stamped, Wr, is_act_of, open_row, row_after}
 use Rattle.ddr4_timing.proofs.FloorLemmas.{open_row_push}
 
 same_both : (b : Bool) → cond {A = Option ℕ} b None None ≡ None

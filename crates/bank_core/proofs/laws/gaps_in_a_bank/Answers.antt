@@ -1,6 +1,4 @@
-use Rattle.std.proofs.Common.{◌≡◌, ℕ, true, eqb, refl, arith}
-use Rattle.std.specs.Prelude.{max}
-use Rattle.std.proofs.lemmas.Bool.{eq-eqb}
+use Rattle.std.proofs.Common.{◌≡◌, ℕ, true, eqb, refl, arith, max, eq-eqb}
 use Rattle.ddr4_timing.specs.Gaps.{most_gap, pair_gap}
 use Rattle.bank_core.proofs.laws.gaps_in_a_bank.Goals as goal
 

@@ -1,10 +1,5 @@
-use Rattle.std.proofs.Common.{◌≡◌, ℕ, ◌+◌, ◌*◌, Bool, true, false, cond, List, ◌++◌, ◌∷◌, [], refl, arith}
-use Rattle.std.specs.Prelude.{◌&&◌}
-use Rattle.ddr4_timing.specs.Command.{rank_of, is_act, is_ref, is_ref_of}
-use Rattle.ddr4_timing.specs.Lawful.{ref_count}
-use Rattle.ddr4_timing.specs.Floors.{least_clock}
-use Rattle.ddr4_timing.specs.declared.timing.Timing.{Timing}
-use Rattle.ddr4_timing.specs.declared.command.Stamped.{Stamped}
+use Rattle.std.proofs.Common.{◌≡◌, ℕ, ◌+◌, ◌*◌, Bool, true, false, cond, List, ◌++◌, ◌∷◌, [], refl, arith, ◌&&◌}
+use Rattle.bank_core.proofs.Common.{Stamped, Timing, is_act, is_ref, is_ref_of, least_clock, rank_of, ref_count}
 use Rattle.ddr4_timing.proofs.FloorLemmas.{floor_push, window-yes, window-no, ref_count_push}
 use Rattle.bank_core.proofs.laws.least_clock_after.Goals as goal
 

@@ -1,20 +1,8 @@
-use Rattle.std.proofs.Common.{◌≡◌, ℕ, ◌+◌, ◌/◌, ◌<◌, List, [], false, refl, sym, ap, ◌∙◌, arith}
-use Rattle.std.specs.Prelude.{slice_index_or}
-use Rattle.std.proofs.Math.Nat.{mul-div_cancel}
-use Rattle.ddr4_timing.specs.declared.command.Command.{Command}
-use Rattle.ddr4_timing.specs.declared.command.Command.TheVariants.{Act, Rd, Wr, Pre, PreAll, Ref, Sre}
-use Rattle.ddr4_timing.specs.declared.command.Stamped.{Stamped}
-use Rattle.ddr4_timing.specs.declared.place.BankAddress.{BankAddress}
-use Rattle.ddr4_timing.specs.declared.rank.RankState.{RankState}
-use Rattle.ddr4_timing.specs.Command.{rank_of}
-use Rattle.ddr4_timing.specs.Floors.{floor, window, least_clock}
-use Rattle.ddr4_timing.specs.Lawful.{IsInGeometry, IsLawful, FitsRows, AllClosed, open_row, last_ref, ref_count, is_asleep, with_command}
-use Rattle.ddr4_timing.specs.Machine.{BankStands, RankStands}
-use Rattle.ddr4_timing.specs.Places.{HasBank, slot_of}
+use Rattle.std.proofs.Common.{◌≡◌, ℕ, ◌+◌, ◌/◌, ◌<◌, List, [], false, refl, sym, ap, ◌∙◌, arith, slice_index_or, mul-div_cancel}
+use Rattle.bank_core.proofs.Common.{Act, AllClosed, BankAddress, BankStands, BanksState, Command, FitsRows, HasBank, IsInGeometry, IsLawful, Pre, PreAll, RankStands, RankState, Rd, Ref, Sre, Stamped, Stands, Wr, floor, is_asleep, last_ref, least_clock, open_row, rank_of, ref_count, slot_of, window, with_command}
 use Rattle.ddr4_timing.proofs.FloorLemmas.{floor-Act, floor-Rd, floor-Wr}
 use Rattle.ddr4_timing.proofs.Addresses.{rank_within}
 use Rattle.ddr4_timing.proofs.Ready.{lawful_ready, ready_lawful}
-use Rattle.bank_core.specs.Stands.{BanksState, Stands}
 use Rattle.bank_core.proofs.laws.lists_agree.Goals as goal
 
 abbrev no_rank : RankState

@@ -1,5 +1,4 @@
-use Rattle.std.proofs.Common.{◌≡◌, drop}
-use Rattle.std.specs.List.{filter_map}
+use Rattle.std.proofs.Common.{◌≡◌, drop, filter_map}
 use Rattle.chan_core.specs.State.{placed_write}
 use Rattle.chan_core.proofs.channel_memory.oldest_write.Given as goal
 

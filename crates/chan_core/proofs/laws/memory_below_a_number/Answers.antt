@@ -1,4 +1,4 @@
-use Rattle.chan_core.proofs.Below.{below-all, below-none, below-later}
+use Rattle.chan_core.proofs.Below.{below-all, below-none}
 use Rattle.chan_core.proofs.laws.memory_below_a_number.Goals as goal
 
 pub returns-clause-none : goal.returns-clause-none
@@ -6,6 +6,3 @@ returns-clause-none c = below-none
 
 pub returns-clause-all : goal.returns-clause-all
 returns-clause-all c = below-all
-
-pub returns-clause-later : goal.returns-clause-later
-returns-clause-later c = below-later

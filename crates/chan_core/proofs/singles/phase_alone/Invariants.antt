@@ -1,7 +1,5 @@
 use Rattle.std.proofs.Common.{ℕ, ◌<◌, List, IsTrue}
-use Rattle.ddr4_timing.specs.Lawful.{is_asleep}
-use Rattle.ddr4_timing.specs.declared.command.Stamped.{Stamped}
-use Rattle.bank_core.specs.Stands.{Stands}
+use Rattle.chan_core.proofs.Common.{Stamped, Stands, is_asleep}
 use Rattle.chan_core.proofs.singles.phase_alone.Given as goal
 
 abbrev pub invariant-loop-rank : goal.invariant-loop-rank

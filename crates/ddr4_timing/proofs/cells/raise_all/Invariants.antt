@@ -1,5 +1,4 @@
-use Rattle.std.proofs.Common.{◌≡◌, ℕ, ◌<◌, ◌≤◌, cond, eqb, slice_index_or}
-use Rattle.std.specs.Prelude.{max}
+use Rattle.std.proofs.Common.{◌≡◌, ℕ, ◌<◌, ◌≤◌, cond, eqb, slice_index_or, max}
 use Rattle.ddr4_timing.proofs.cells.raise_all.Given as goal
 
 abbrev pub invariant-loop-number : goal.invariant-loop-number

@@ -1,11 +1,7 @@
 use Rattle.std.proofs.Common.{ℕ, ◌+◌, ◌<◌, List, length, take, get_or, ap, ◌≡◌, true, false, sym, subst, arith, refl}
 use Rattle.std.proofs.lemmas.List.{take_more}
 use Rattle.std.proofs.lemmas.Option.{slice_get_within}
-use Rattle.ddr4_timing.specs.Lawful.{IsLawful, with_command}
-use Rattle.ddr4_timing.specs.declared.command.Stamped.{Stamped}
-use Rattle.ddr4_timing.specs.declared.timing.Checked.{Checked}
-use Rattle.ddr4_timing.specs.declared.machine.Machine.{Machine}
-use Rattle.ddr4_timing.specs.Machine.{StandsFor}
+use Rattle.ddr4_timing.proofs.Common.{Checked, IsLawful, Machine, Stamped, StandsFor, with_command}
 use Rattle.ddr4_timing.proofs.fault.lawful_front.Goals as goal
 
 stands_next : (c : Checked) (m : Machine) (list : List Stamped) (i : ℕ) (d : Stamped) → i < length list → StandsFor c m (with_command (take i list) (get_or list i d).clock (get_or list i d).cmd) → StandsFor c m (take (i + 1) list)

@@ -1,7 +1,6 @@
 use Rattle.std.proofs.Common.{List, ◌∷◌, [], ◌++◌, length, subst}
 use Rattle.std.proofs.Math.Seq.{take-append_seam}
-use Rattle.ddr4_timing.specs.Lawful.{IsLawful}
-use Rattle.ddr4_timing.specs.declared.command.Stamped.{Stamped}
+use Rattle.ddr4_timing.proofs.Common.{IsLawful, Stamped}
 use Rattle.ddr4_timing.proofs.Ready.{admits_from, lawful_from, lawful_ready, ready_lawful, IsLawful-take}
 use Rattle.ddr4_timing.proofs.laws.lawful_with_one_more.Goals as goal
 

@@ -1,8 +1,6 @@
 use Rattle.std.proofs.Common.{◌≡◌, ℕ, true, refl, ap, ◌∙◌, arith, length, length-set, subst, sym}
 use Rattle.std.proofs.lemmas.Option.{slice_get_within}
-use Rattle.ddr4_timing.specs.Places.{HasBank}
-use Rattle.ddr4_timing.specs.declared.place.BankAddress.{BankAddress}
-use Rattle.frfcfs.specs.Search.{AreHits}
+use Rattle.frfcfs.proofs.Common.{AreHits, BankAddress, HasBank}
 use Rattle.frfcfs.proofs.HitLemmas.{hits_none, hits_there, hits_missed, hits_passed, any_set, any_kept, bank_there, never_there}
 use Rattle.frfcfs.proofs.hits.hit_banks.Goals as goal
 use Rattle.frfcfs.proofs.hits.hit_banks.Goals.{then-is_eligible+then-is_hit, then-is_eligible+else-is_hit, else-is_eligible}

@@ -1,10 +1,5 @@
 use Rattle.std.proofs.Common.{◌≡◌, ℕ, ◌<◌, ◌↔◌, List, length, IsTrue}
-use Rattle.bank_core.specs.Stands.{Stands}
-use Rattle.ddr4_timing.specs.declared.command.Stamped.{Stamped}
-use Rattle.frfcfs.specs.declared.pending.Pending.{Pending}
-use Rattle.frfcfs.specs.Requests.{IsEligible}
-use Rattle.ddr4_timing.specs.Places.{HasBank, bank_at}
-use Rattle.frfcfs.specs.Search.{AreHits}
+use Rattle.frfcfs.proofs.Common.{AreHits, HasBank, IsEligible, Pending, Stamped, Stands, bank_at}
 use Rattle.frfcfs.proofs.hits.hit_banks.Given as goal
 
 abbrev pub invariant-loop-i : goal.invariant-loop-i

@@ -1,6 +1,5 @@
 use Rattle.std.proofs.Common.{Option, sym, subst}
-use Rattle.ddr4_timing.specs.declared.command.Command.{Command}
-use Rattle.frfcfs.specs.Candidates.{IsChoice}
+use Rattle.frfcfs.proofs.Common.{Command, IsChoice}
 use Rattle.frfcfs.proofs.NextChoice.{choice_none, choice_some}
 use Rattle.frfcfs.proofs.next.choose.Goals as goal
 

@@ -1,7 +1,5 @@
 use Rattle.std.proofs.Common.{ℕ, ◌<◌, List}
-use Rattle.bank_core.specs.Stands.{Stands}
-use Rattle.ddr4_timing.specs.declared.command.Stamped.{Stamped}
-use Rattle.frfcfs.specs.Candidates.{IsInLead}
+use Rattle.frfcfs.proofs.Common.{IsInLead, Stamped, Stands}
 use Rattle.frfcfs.proofs.next.is_in_lead.Given as goal
 
 abbrev pub invariant-loop-rank : goal.invariant-loop-rank

@@ -1,7 +1,6 @@
 use Rattle.std.proofs.Common.{◌≡◌, ◌-◌, ℕ, List, Option, Some, true, length, take, drop, sym, subst, ap, ◌∙◌, arith}
 use Rattle.std.proofs.lemmas.List.{drop-set-add, length-drop, take_all}
-use Rattle.frfcfs.specs.declared.pending.Pending.{Pending}
-use Rattle.frfcfs.specs.Queue.{IsOldestOf}
+use Rattle.frfcfs.proofs.Common.{IsOldestOf, Pending}
 use Rattle.frfcfs.proofs.queue.mark_oldest.Goals as goal
 
 pub returns-in-Some-clause-marks : goal.returns-in-Some-clause-marks

@@ -1,5 +1,4 @@
-use Rattle.std.proofs.Common.{◌+◌, ℕ, ap, drop, ◌∙◌}
-use Rattle.std.specs.List.{remove}
+use Rattle.std.proofs.Common.{◌+◌, ℕ, ap, drop, ◌∙◌, remove}
 use Rattle.frfcfs.proofs.ShiftedLists.{removed_behind}
 use Rattle.frfcfs.proofs.queue.take_out_towards.Goals as goal
 

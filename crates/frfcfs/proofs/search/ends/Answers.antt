@@ -1,7 +1,5 @@
 use Rattle.std.proofs.Common.{◌≡◌, ◌<◌, ◌≤◌, List, Bool, true, false, IsTrue, ap, ◌∙◌, length, length-set, arith, sym}
-use Rattle.bank_core.specs.Stands.{Stands}
-use Rattle.ddr4_timing.specs.declared.command.Stamped.{Stamped}
-use Rattle.frfcfs.specs.Search.{IsEnd, limit_of}
+use Rattle.frfcfs.proofs.Common.{IsEnd, Stamped, Stands, limit_of}
 use Rattle.frfcfs.proofs.Leads.{early_set, end_asleep, end_awake, ends_set}
 use Rattle.frfcfs.proofs.search.ends.Goals as goal
 use Rattle.frfcfs.proofs.search.ends.Goals.{then-is_asleep, else-is_asleep}

@@ -1,7 +1,5 @@
 use Rattle.std.proofs.Common.{◌≡◌, ℕ, ◌<◌, ◌≤◌, List, length, get_or}
-use Rattle.bank_core.specs.Stands.{Stands}
-use Rattle.ddr4_timing.specs.declared.command.Stamped.{Stamped}
-use Rattle.frfcfs.specs.Search.{IsEnd, limit_of}
+use Rattle.frfcfs.proofs.Common.{IsEnd, Stamped, Stands, limit_of}
 use Rattle.frfcfs.proofs.search.ends.Given as goal
 
 abbrev pub invariant-loop-rank : goal.invariant-loop-rank

@@ -1,10 +1,6 @@
 use Rattle.std.proofs.Common.{ℕ, min, None, Some, refl, ap, ◌∙◌, sym, subst, arith}
 use Rattle.std.proofs.lemmas.Option.{get_or_from_slice_get, slice_get_within}
-use Rattle.ddr4_timing.specs.Places.{HasBank, bank_at}
-use Rattle.frfcfs.specs.declared.pending.Pending.{Pending}
-use Rattle.frfcfs.specs.Requests.{column_of}
-use Rattle.frfcfs.specs.Candidates.{WantsRow}
-use Rattle.frfcfs.specs.Search.{IsRankNext}
+use Rattle.frfcfs.proofs.Common.{HasBank, IsRankNext, Pending, WantsRow, bank_at, column_of}
 use Rattle.frfcfs.proofs.NextChoice.{column_next, none_next, rank_next, row_next}
 use Rattle.frfcfs.proofs.search.search.Goals as goal
 

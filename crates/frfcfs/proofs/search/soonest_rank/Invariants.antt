@@ -1,8 +1,5 @@
-use Rattle.std.proofs.Common.{◌≡◌, ◌≤◌, List, None}
-use Rattle.std.specs.Option.{IfSome}
-use Rattle.bank_core.specs.Stands.{Stands}
-use Rattle.ddr4_timing.specs.declared.command.Stamped.{Stamped}
-use Rattle.frfcfs.specs.Search.{IsRankNext}
+use Rattle.std.proofs.Common.{◌≡◌, ◌≤◌, List, None, IfSome}
+use Rattle.frfcfs.proofs.Common.{IsRankNext, Stamped, Stands}
 use Rattle.frfcfs.proofs.search.soonest_rank.Given as goal
 
 abbrev pub invariant-loop-rank : goal.invariant-loop-rank

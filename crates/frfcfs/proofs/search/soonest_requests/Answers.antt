@@ -1,6 +1,5 @@
 use Rattle.std.proofs.Common.{◌≡◌, ℕ, ◌+◌, ap, arith, length, sym, subst}
-use Rattle.frfcfs.specs.declared.best.Bests.{Bests}
-use Rattle.frfcfs.specs.Search.{AreBest, AreFound, limit_of}
+use Rattle.frfcfs.proofs.Common.{AreBest, AreFound, Bests, limit_of}
 use Rattle.frfcfs.proofs.BestRequests.{best_past}
 use Rattle.frfcfs.proofs.HitLemmas.{bank_there, eligible_there, never_there}
 use Rattle.frfcfs.proofs.search.soonest_requests.Goals as goal

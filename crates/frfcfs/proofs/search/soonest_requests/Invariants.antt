@@ -1,7 +1,5 @@
 use Rattle.std.proofs.Common.{List, length}
-use Rattle.bank_core.specs.Stands.{Stands}
-use Rattle.ddr4_timing.specs.declared.command.Stamped.{Stamped}
-use Rattle.frfcfs.specs.Search.{AreBest, AreFound, AreHits, limit_of}
+use Rattle.frfcfs.proofs.Common.{AreBest, AreFound, AreHits, Stamped, Stands, limit_of}
 use Rattle.frfcfs.proofs.search.soonest_requests.Given as goal
 
 abbrev pub invariant-loop-index : goal.invariant-loop-index

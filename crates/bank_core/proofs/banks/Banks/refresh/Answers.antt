@@ -1,12 +1,6 @@
-use Rattle.std.proofs.Common.{◌≡◌, ℕ, ◌+◌, ◌*◌, ◌≤◌, ◌<◌, ◌↔◌, inl, inr, List, true, false, IsTrue, ap, sym, subst, ◌∙◌, arith}
-use Rattle.ddr4_timing.specs.declared.command.Command.{Command}
-use Rattle.ddr4_timing.specs.declared.command.Stamped.{Stamped}
-use Rattle.ddr4_timing.specs.declared.timing.Checked.{Checked}
-use Rattle.ddr4_timing.specs.Command.{rank_of}
-use Rattle.ddr4_timing.specs.Floors.{least_clock}
-use Rattle.ddr4_timing.specs.Lawful.{IsLawful, KeepsRows, is_asleep, last_ref, with_command}
+use Rattle.std.proofs.Common.{◌≡◌, ℕ, ◌+◌, ◌*◌, ◌≤◌, ◌<◌, ◌↔◌, List, true, false, IsTrue, ap, sym, subst, ◌∙◌, arith}
+use Rattle.bank_core.proofs.Common.{BanksState, Checked, Command, IsLawful, KeepsRows, Stamped, Stands, is_asleep, last_ref, least_clock, rank_of, with_command}
 use Rattle.ddr4_timing.proofs.Ready.{lawful_ready, ready_lawful}
-use Rattle.bank_core.specs.Stands.{BanksState, Stands}
 use Rattle.bank_core.proofs.banks.Banks.refresh.Goals as goal
 use Rattle.bank_core.proofs.banks.Banks.refresh.Goals.{then-all_closed, else-all_closed}
 
@@ -20,9 +14,6 @@ exactly c list rank clock k cmd lawful own e rows =
           (subst (λ (n : ℕ). ¬ IsTrue (is_asleep n list)) own r.rows.awake, omega (arith, e, r.clock), omega (arith, last, r.in_time)),
       λ p. lawful_ready c list x lawful (record { rows = rows p.0; clock = omega (arith, e, p.1); in_time = omega (arith, last, p.2) }),
     )
-
-pub returns-clause-kind : goal.returns-clause-kind
-returns-clause-kind c = elim c.if-all_closed.branch [ then-all_closed w ↦ inl w.cmd-is | else-all_closed w ↦ inr w.cmd-is ]
 
 pub returns-clause-closed : goal.returns-clause-closed
 returns-clause-closed c = rw (← c.self.view_is) (λ list s all. elim c.if-all_closed.branch [

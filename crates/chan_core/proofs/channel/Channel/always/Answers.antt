@@ -1,7 +1,5 @@
 use Rattle.std.proofs.Common.{subst, ◌<◌, ◌^◌, ℕ}
-use Rattle.ddr4_timing.specs.Lawful.{IsLawful}
-use Rattle.ddr4_timing.specs.declared.timing.Checked.{Checked}
-use Rattle.chan_core.specs.Always.{IsChannel}
+use Rattle.chan_core.proofs.Common.{Checked, IsChannel, IsLawful}
 use Rattle.chan_core.proofs.channel.Channel.always.Goals as goal
 
 pub returns : goal.returns

@@ -1,13 +1,5 @@
 use Rattle.std.proofs.Common.{◌≡◌, ℕ, ◌+◌, ◌*◌, ◌≤◌, ◌↔◌, List, Option, Some, None, IfNone, IfSome, subst}
-use Rattle.ddr4_timing.specs.declared.command.Command.{Command}
-use Rattle.ddr4_timing.specs.declared.command.Stamped.{Stamped}
-use Rattle.ddr4_timing.specs.declared.timing.Checked.{Checked}
-use Rattle.ddr4_timing.specs.Command.{rank_of}
-use Rattle.ddr4_timing.specs.Floors.{least_clock}
-use Rattle.ddr4_timing.specs.Lawful.{IsLawful, KeepsRows, last_ref, with_command}
-use Rattle.bank_core.specs.Stands.{BanksState, Stands}
-use Rattle.chan_core.specs.Singles.{IsEarliest}
-use Rattle.chan_core.specs.State.{ChannelState}
+use Rattle.chan_core.proofs.Common.{BanksState, ChannelState, Checked, Command, IsEarliest, IsLawful, KeepsRows, Stamped, Stands, last_ref, least_clock, rank_of, with_command}
 use Rattle.chan_core.proofs.channel.Channel.earliest.Goals as goal
 
 here : (b : BanksState) (list : List Stamped) (cmd : Command) (result : Option ℕ) → Stands b list

@@ -1,10 +1,5 @@
 use Rattle.std.proofs.Common.{◌≡◌, ◌↔◌, ◌++◌, ◌∷◌, [], sym, subst, ◌∙◌}
-use Rattle.ddr4_timing.specs.declared.command.Stamped.{Stamped}
-use Rattle.ddr4_timing.specs.declared.timing.Checked.{Checked}
-use Rattle.ddr4_timing.specs.Lawful.{IsLawful, with_command}
-use Rattle.frfcfs.specs.Margin.{AreAsleep}
-use Rattle.chan_core.specs.declared.phase.Phase.TheVariants.{Asleep}
-use Rattle.chan_core.specs.State.{ChannelState}
+use Rattle.chan_core.proofs.Common.{AreAsleep, Asleep, ChannelState, Checked, IsLawful, Stamped, with_command}
 use Rattle.chan_core.proofs.Going.{running-alone}
 use Rattle.chan_core.proofs.Kept.{refuted}
 use Rattle.chan_core.proofs.channel.Channel.issue.Goals as goal

@@ -1,11 +1,6 @@
 use Rattle.std.proofs.Common.{◌≡◌, List, [], sym, ap, subst, ◌∙◌, arith}
-use Rattle.circular_buffer.specs.Buffer.{Buffer}
-use Rattle.ddr4_timing.specs.declared.command.Stamped.{Stamped}
-use Rattle.frfcfs.specs.Margin.{last_clock}
+use Rattle.chan_core.proofs.Common.{Buffer, ChannelState, IsInPhase, Stamped, Stands, last_clock, last_commands}
 use Rattle.frfcfs.proofs.refreshes.MarginEnds.{new_keeps}
-use Rattle.bank_core.specs.Stands.{Stands}
-use Rattle.chan_core.specs.State.{ChannelState, last_commands}
-use Rattle.chan_core.specs.Phases.{IsInPhase}
 use Rattle.chan_core.proofs.Sleeping.{new-awake}
 use Rattle.chan_core.proofs.channel.Channel.new.Goals as goal
 

@@ -1,13 +1,5 @@
 use Rattle.std.proofs.Common.{◌≡◌, ◌≢◌, ◌↔◌, List, Option, Some, None, subst}
-use Rattle.ddr4_timing.specs.declared.command.Stamped.{Stamped}
-use Rattle.bank_core.specs.Stands.{Stands}
-use Rattle.frfcfs.specs.declared.next.Next.{Next}
-use Rattle.frfcfs.specs.declared.pending.Pending.{Pending}
-use Rattle.frfcfs.specs.Next.{IsNext}
-use Rattle.chan_core.specs.declared.phase.Phase.TheVariants.{Stepping}
-use Rattle.chan_core.specs.declared.answers.Done.{Done}
-use Rattle.chan_core.specs.Calls.{HasNothingToSend, IssuesChoice}
-use Rattle.chan_core.specs.State.{ChannelState}
+use Rattle.chan_core.proofs.Common.{ChannelState, Done, HasNothingToSend, IsNext, IssuesChoice, Next, Pending, Stamped, Stands, Stepping}
 use Rattle.chan_core.proofs.Going.{next-here, none-here, running-on}
 use Rattle.chan_core.proofs.channel.Channel.work.Goals as goal
 

@@ -1,8 +1,5 @@
-use Rattle.std.proofs.Common.{◌+◌, ℕ, List, [], ◌∷◌, length, refl, ap, sym, subst, ◌∙◌, arith}
-use Rattle.std.proofs.lemmas.List.{length-append}
-use Rattle.ddr4_timing.specs.declared.command.Stamped.{Stamped}
-use Rattle.chan_core.specs.Calls.{HasNothingToSend}
-use Rattle.chan_core.specs.State.{ChannelState}
+use Rattle.std.proofs.Common.{◌+◌, ℕ, List, [], ◌∷◌, length, refl, ap, sym, subst, ◌∙◌, arith, length-append}
+use Rattle.chan_core.proofs.Common.{ChannelState, HasNothingToSend, Stamped}
 use Rattle.chan_core.proofs.Running.{HasRun, run-more}
 use Rattle.chan_core.proofs.channel.Channel.work_many.Goals as goal
 

@@ -1,8 +1,5 @@
 use Rattle.std.proofs.Common.{List, subst}
-use Rattle.frfcfs.specs.declared.pending.Pending.{Pending}
-use Rattle.frfcfs.specs.Requests.{AreInOrder}
-use Rattle.chan_core.specs.Always.{IsHeld}
-use Rattle.chan_core.specs.Inside.{contents_of}
+use Rattle.chan_core.proofs.Common.{AreInOrder, IsHeld, Pending, contents_of}
 use Rattle.chan_core.proofs.Held.{held}
 use Rattle.chan_core.proofs.channel_memory.ChannelMemory.always.Goals as goal
 

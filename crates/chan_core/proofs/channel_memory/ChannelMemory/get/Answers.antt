@@ -1,10 +1,5 @@
 use Rattle.std.proofs.Common.{◌≡◌, ℕ, ◌<◌, Some, refl, subst}
-use Rattle.wpq_core.specs.Writes.{IsNewest}
-use Rattle.interleave_map.specs.Cells.{cells_of}
-use Rattle.chan_core.specs.Contents.{seen}
-use Rattle.chan_core.specs.Inside.{contents_of}
-use Rattle.chan_core.specs.State.{ChannelState, cell_in, line_at}
-use Rattle.chan_core.specs.Calls.{IsFullOfReads}
+use Rattle.chan_core.proofs.Common.{ChannelState, IsFullOfReads, IsNewest, cell_in, cells_of, contents_of, line_at, seen}
 use Rattle.chan_core.proofs.Kept.{refuted}
 use Rattle.chan_core.proofs.Telling.{line-here}
 use Rattle.chan_core.proofs.channel_memory.ChannelMemory.get.Goals as goal

@@ -1,15 +1,8 @@
 use Rattle.std.proofs.Common.{◌≡◌, ◌↔◌, ◌++◌, ◌∷◌, ℕ, List, [], All, drop, length, take, sym, ap, subst, ◌∙◌, arith}
 use Rattle.std.specs.Vec.{with_items}
 use Rattle.std.proofs.lemmas.List.{with_items_is}
-use Rattle.frfcfs.specs.Margin.{AreAsleep}
-use Rattle.frfcfs.specs.Queue.{Waiting}
-use Rattle.wpq_core.specs.PendingMemory.{after_pending}
+use Rattle.chan_core.proofs.Common.{AreAsleep, Asleep, ChannelState, FitsOldest, IssuesAlone, Waiting, after_pending, contents_of, seen, writes_by}
 use Rattle.wpq_core.proofs.PendingLaws.{length-after_pending}
-use Rattle.chan_core.specs.declared.phase.Phase.TheVariants.{Asleep}
-use Rattle.chan_core.specs.Contents.{seen}
-use Rattle.chan_core.specs.Inside.{contents_of}
-use Rattle.chan_core.specs.Singles.{FitsOldest, IssuesAlone, writes_by}
-use Rattle.chan_core.specs.State.{ChannelState}
 use Rattle.chan_core.proofs.Alone.{alone, alone-holds, alone-issues, alone-oldest, fits-some, one-write}
 use Rattle.chan_core.proofs.Serving.{line-within}
 use Rattle.chan_core.proofs.channel_memory.ChannelMemory.issue_alone.Goals as goal

@@ -1,8 +1,5 @@
 use Rattle.std.proofs.Common.{◌≡◌, [], slice_set, sym, subst}
-use Rattle.chan_core.specs.Contents.{seen}
-use Rattle.chan_core.specs.Inside.{contents_of}
-use Rattle.chan_core.specs.State.{ChannelState}
-use Rattle.chan_core.specs.Calls.{loaded_at}
+use Rattle.chan_core.proofs.Common.{ChannelState, contents_of, loaded_at, seen}
 use Rattle.chan_core.proofs.Telling.{loads}
 use Rattle.chan_core.proofs.channel_memory.ChannelMemory.load.Goals as goal
 

@@ -1,13 +1,5 @@
-use Rattle.std.proofs.Common.{◌≡◌, ◌<◌, ◌≤◌, ◌-◌, ◌^◌, ◌∙◌, ◌++◌, ◌∷◌, [], Bool, length, ap, sym, subst, arith}
-use Rattle.std.proofs.lemmas.List.{length-append}
-use Rattle.ddr4_timing.specs.Places.{LiesIn}
-use Rattle.frfcfs.specs.declared.pending.Kind.TheVariants.{Write}
-use Rattle.wpq_core.specs.Queue.{Queue}
-use Rattle.wpq_core.specs.Writes.{pending_write}
-use Rattle.chan_core.specs.Contents.{seen}
-use Rattle.chan_core.specs.Inside.{contents_of}
-use Rattle.chan_core.specs.State.{ChannelState}
-use Rattle.chan_core.specs.Calls.{AddsWrite, request}
+use Rattle.std.proofs.Common.{◌≡◌, ◌<◌, ◌≤◌, ◌-◌, ◌^◌, ◌∙◌, ◌++◌, ◌∷◌, [], Bool, length, ap, sym, subst, arith, length-append}
+use Rattle.chan_core.proofs.Common.{AddsWrite, ChannelState, LiesIn, Queue, Write, contents_of, pending_write, request, seen}
 use Rattle.chan_core.proofs.Holding.{put-holds, few-pending}
 use Rattle.chan_core.proofs.Telling.{adds}
 use Rattle.chan_core.proofs.channel_memory.ChannelMemory.put.Goals as goal

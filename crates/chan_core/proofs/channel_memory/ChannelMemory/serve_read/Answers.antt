@@ -1,12 +1,5 @@
 use Rattle.std.proofs.Common.{List, [], sym, subst, arith}
-use Rattle.ddr4_timing.specs.declared.command.Stamped.{Stamped}
-use Rattle.frfcfs.specs.Requests.{IsEligible}
-use Rattle.chan_core.specs.declared.answers.Ticket.{Ticket}
-use Rattle.chan_core.specs.Contents.{AreContents, seen}
-use Rattle.chan_core.specs.Inside.{contents_of}
-use Rattle.chan_core.specs.Reads.{AnswersSeq}
-use Rattle.chan_core.specs.State.{ChannelState}
-use Rattle.chan_core.specs.Calls.{AnswersRead}
+use Rattle.chan_core.proofs.Common.{AnswersRead, AnswersSeq, AreContents, ChannelState, IsEligible, Stamped, Ticket, contents_of, seen}
 use Rattle.chan_core.proofs.Answering.{opened, read-holds, read-answers, read-at}
 use Rattle.chan_core.proofs.Serving.{line-within}
 use Rattle.chan_core.proofs.channel_memory.ChannelMemory.serve_read.Goals as goal

@@ -1,10 +1,5 @@
 use Rattle.std.proofs.Common.{◌≡◌, List, slice_set, Some, refl, ap, sym, subst, ◌∙◌, arith}
-use Rattle.ddr4_timing.specs.declared.command.Stamped.{Stamped}
-use Rattle.frfcfs.specs.Requests.{AreInOrder, IsEligible}
-use Rattle.chan_core.specs.Contents.{AreContents, seen}
-use Rattle.chan_core.specs.Inside.{contents_of}
-use Rattle.chan_core.specs.State.{ChannelState, channel_memory, memory_below}
-use Rattle.chan_core.specs.Calls.{MovesWrite}
+use Rattle.chan_core.proofs.Common.{AreContents, AreInOrder, ChannelState, IsEligible, MovesWrite, Stamped, channel_memory, contents_of, memory_below, seen}
 use Rattle.chan_core.proofs.Serving.{in-queue, line-within, write-below, write-first, write-holds, write-memory, write-tickets, write-unheld}
 use Rattle.chan_core.proofs.channel_memory.ChannelMemory.serve_write.Goals as goal
 

@@ -1,11 +1,6 @@
 use Rattle.std.proofs.Common.{◌≡◌, ◌+◌, ◌-◌, ◌<◌, ◌≤◌, ◌^◌, length, sym, subst, ◌∙◌, arith}
-use Rattle.wpq_core.specs.Writes.{NoWriteNames}
-use Rattle.ddr4_timing.specs.Places.{LiesIn}
+use Rattle.chan_core.proofs.Common.{AddsRead, ChannelState, LiesIn, NoWriteNames, cell_in, contents_of, seen}
 use Rattle.interleave_map.proofs.Numbering.{cell_within}
-use Rattle.chan_core.specs.Contents.{seen}
-use Rattle.chan_core.specs.Inside.{contents_of}
-use Rattle.chan_core.specs.State.{ChannelState, cell_in}
-use Rattle.chan_core.specs.Calls.{AddsRead}
 use Rattle.chan_core.proofs.Holding.{get-holds, few-pending}
 use Rattle.chan_core.proofs.Telling.{asks, opens, room-for-one}
 use Rattle.chan_core.proofs.channel_memory.ChannelMemory.wait.Goals as goal

@@ -1,7 +1,5 @@
 use Rattle.std.proofs.Common.{◌≡◌, ℕ, ◌*◌, ◌/◌, ◌%◌, ◌<◌, Bool, true, false, cond, Some, None, refl, ap, sym, ◌∙◌, arith}
-use Rattle.ddr4_timing.specs.Places.{HasBank, slot_of}
-use Rattle.ddr4_timing.specs.declared.cells.BankCells.{BankCells}
-use Rattle.ddr4_timing.specs.declared.place.BankAddress.{BankAddress}
+use Rattle.ddr4_timing.proofs.Common.{BankAddress, BankCells, HasBank, slot_of}
 use Rattle.ddr4_timing.proofs.machine.Machine.all_closed.Goals as goal
 
 closed_slot : (b : Bool) (row : ℕ) → cond b (Some row) None ≡ None → b ≡ false

@@ -1,7 +1,5 @@
-use Rattle.std.proofs.Common.{subst, sym}
-use Rattle.ddr4_timing.specs.declared.command.Command.{Command}
-use Rattle.ddr4_timing.specs.Lawful.{FitsRows}
-use Rattle.std.specs.Prelude.{◌↔◌, IsTrue, not}
+use Rattle.std.proofs.Common.{subst, sym, ◌↔◌, IsTrue, not}
+use Rattle.ddr4_timing.proofs.Common.{Command, FitsRows}
 use Rattle.ddr4_timing.proofs.Ready.{not_of_iff}
 use Rattle.ddr4_timing.proofs.machine.Machine.fits_rows.Goals as goal
 

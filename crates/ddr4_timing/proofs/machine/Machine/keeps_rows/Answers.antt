@@ -1,6 +1,5 @@
 use Rattle.std.proofs.Common.{◌≡◌, true, false, ap, ◌∙◌, sym, refl}
-use Rattle.ddr4_timing.specs.Command.{rank_of}
-use Rattle.ddr4_timing.specs.Lawful.{is_asleep}
+use Rattle.ddr4_timing.proofs.Common.{is_asleep, rank_of}
 use Rattle.ddr4_timing.proofs.machine.Machine.keeps_rows.Goals as goal
 
 pub returns-clause-rows : goal.returns-clause-rows

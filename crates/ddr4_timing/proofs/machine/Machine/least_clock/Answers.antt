@@ -1,11 +1,5 @@
-use Rattle.std.proofs.Common.{◌≡◌, ℕ, ap, refl, subst, ◌∙◌, arith}
-use Rattle.std.specs.Prelude.{slice_index_or}
-use Rattle.ddr4_timing.specs.declared.cells.BankCells.{BankCells}
-use Rattle.ddr4_timing.specs.declared.command.Command.{Command}
-use Rattle.ddr4_timing.specs.Command.{rank_of}
-use Rattle.ddr4_timing.specs.Floors.{least_clock}
-use Rattle.ddr4_timing.specs.Lawful.{IsInGeometry}
-use Rattle.ddr4_timing.specs.Machine.{RankStands}
+use Rattle.std.proofs.Common.{◌≡◌, ℕ, ap, refl, subst, ◌∙◌, arith, slice_index_or}
+use Rattle.ddr4_timing.proofs.Common.{BankCells, Command, IsInGeometry, RankStands, least_clock, rank_of}
 use Rattle.ddr4_timing.proofs.FloorLemmas.{floor-Act, floor-Rd, floor-Wr}
 use Rattle.ddr4_timing.proofs.machine.Machine.least_clock.Goals as goal
 use Rattle.ddr4_timing.proofs.machine.Machine.least_clock.Goals.{in-Act, in-Rd, in-Wr, in-Pre, in-PreAll, in-Ref, in-Sre}

@@ -1,6 +1,5 @@
-use Rattle.std.proofs.Common.{◌≡◌, ◌<◌, get_or, arith}
+use Rattle.std.proofs.Common.{◌≡◌, ◌<◌, get_or, arith, replicate}
 use Rattle.std.proofs.lemmas.List.{get_or-replicate}
-use Rattle.std.proofs.Math.ListN.{replicate}
 use Rattle.ddr4_timing.proofs.machine.Machine.new.Goals as goal
 
 pub returns : goal.returns

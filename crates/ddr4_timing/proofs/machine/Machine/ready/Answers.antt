@@ -1,7 +1,5 @@
-use Rattle.std.proofs.Common.{◌≡◌, ◌+◌, ◌*◌, ap, ◌∙◌, refl, arith}
-use Rattle.std.proofs.lemmas.Bool.{leb-true, le-leb}
-use Rattle.ddr4_timing.specs.Command.{rank_of}
-use Rattle.ddr4_timing.specs.Lawful.{last_ref}
+use Rattle.std.proofs.Common.{◌≡◌, ◌+◌, ◌*◌, ap, ◌∙◌, refl, arith, leb-true, le-leb}
+use Rattle.ddr4_timing.proofs.Common.{last_ref, rank_of}
 use Rattle.ddr4_timing.proofs.Ready.{lawful_ready, ready_lawful}
 use Rattle.ddr4_timing.proofs.machine.Machine.ready.Goals as goal
 

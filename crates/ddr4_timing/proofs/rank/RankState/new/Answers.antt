@@ -1,10 +1,6 @@
-use Rattle.std.proofs.Common.{◌≡◌, get_or, refl, arith}
+use Rattle.std.proofs.Common.{◌≡◌, get_or, refl, arith, replicate}
 use Rattle.std.proofs.lemmas.List.{get_or-replicate}
-use Rattle.std.proofs.Math.ListN.{replicate}
-use Rattle.ddr4_timing.specs.declared.cells.BankCells.{BankCells}
-use Rattle.ddr4_timing.specs.Lawful.{open_row, last_ref, ref_count, is_asleep}
-use Rattle.ddr4_timing.specs.Floors.{floor, window, greatest}
-use Rattle.ddr4_timing.specs.Places.{slot_of}
+use Rattle.ddr4_timing.proofs.Common.{BankCells, floor, greatest, is_asleep, last_ref, open_row, ref_count, slot_of, window}
 use Rattle.ddr4_timing.proofs.Addresses.{has_slot, slot_small}
 use Rattle.ddr4_timing.proofs.rank.RankState.new.Goals as goal
 

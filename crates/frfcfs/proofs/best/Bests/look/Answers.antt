@@ -1,10 +1,5 @@
 use Rattle.std.proofs.Common.{◌≡◌, ◌≢◌, ℕ, List, Bool, false, true, Option, Some, None, sym, subst, ap, ◌∙◌, arith, get_or, inl, inr}
-use Rattle.ddr4_timing.specs.declared.command.Command.{Command}
-use Rattle.ddr4_timing.specs.declared.command.Stamped.{Stamped}
-use Rattle.ddr4_timing.specs.declared.place.BankAddress.{BankAddress}
-use Rattle.ddr4_timing.specs.declared.timing.Checked.{Checked}
-use Rattle.ddr4_timing.specs.Lawful.{IsInGeometry, open_row}
-use Rattle.ddr4_timing.specs.Places.{bank_index}
+use Rattle.frfcfs.proofs.Common.{BankAddress, Checked, Command, IsInGeometry, Stamped, bank_index, open_row}
 use Rattle.frfcfs.proofs.BestRequests.{look_column, look_past, look_row}
 use Rattle.frfcfs.proofs.HitLemmas.{clear_unhit, set_hit}
 use Rattle.frfcfs.proofs.Wants.{act_row, column_in, column_place, no_row, wishes_act, wishes_column, wishes_pre}

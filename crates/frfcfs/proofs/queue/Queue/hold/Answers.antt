@@ -1,7 +1,6 @@
 use Rattle.std.proofs.Common.{◌≡◌, ◌++◌, List, length, map, take, drop, arith, ap, ◌∙◌}
 use Rattle.std.proofs.lemmas.List.{drop-map, length-map}
-use Rattle.frfcfs.specs.declared.pending.Pending.{Pending}
-use Rattle.frfcfs.specs.Queue.{Waiting, held_by}
+use Rattle.frfcfs.proofs.Common.{Pending, Waiting, held_by}
 use Rattle.frfcfs.proofs.QueueLemmas.{lines_held, waiting_held, written}
 use Rattle.frfcfs.proofs.queue.Queue.hold.Goals as goal
 

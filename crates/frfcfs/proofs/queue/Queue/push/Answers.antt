@@ -1,7 +1,6 @@
 use Rattle.std.proofs.Common.{◌<◌, ◌≤◌, ◌↔◌, ◌≢◌, List, All, IsTrue, length, drop, vec_capacity, arith, refl, sym, subst}
-use Rattle.frfcfs.specs.declared.pending.Pending.{Pending}
+use Rattle.frfcfs.proofs.Common.{Pending, Waiting}
 use Rattle.frfcfs.specs.declared.queue.Queue.TheInside.{Inside}
-use Rattle.frfcfs.specs.Queue.{Waiting}
 use Rattle.frfcfs.proofs.QueueRoom.{IsKept, kept_in_front, kept_push}
 use Rattle.frfcfs.proofs.queue.Queue.push.Goals.{then-len-self, else-len-self}
 use Rattle.frfcfs.proofs.queue.Queue.push.Goals as goal

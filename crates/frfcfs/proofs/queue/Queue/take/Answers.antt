@@ -1,6 +1,5 @@
 use Rattle.std.proofs.Common.{◌≡◌, ◌<◌, List, Bool, length, drop, sym, subst, ap, ◌∙◌, arith}
-use Rattle.frfcfs.specs.declared.pending.Pending.{Pending}
-use Rattle.frfcfs.specs.Queue.{Waiting, MarksOldest}
+use Rattle.frfcfs.proofs.Common.{MarksOldest, Pending, Waiting}
 use Rattle.frfcfs.proofs.QueueLemmas.{line_at, written}
 use Rattle.frfcfs.proofs.QueueRoom.{IsKept, kept_take}
 use Rattle.frfcfs.proofs.queue.Queue.take.Goals as goal
