@@ -33,6 +33,7 @@ pub mod StoppedLives
 pub mod History
 pub mod HonestRuns
 pub mod ToldMarks
+pub mod AddedWrites
 pub mod RisingMarks
 pub mod SurvivedLives
 pub mod ModulesLive

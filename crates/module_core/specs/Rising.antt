@@ -1,9 +1,11 @@
 -- What only grows: the history of a life, and its two marks.
-use Rattle.std.specs.Prelude.{◌≡◌, ℕ, ◌<◌, ◌≤◌, List, [], ◌∷◌, ◌++◌}
+use Rattle.std.specs.Prelude.{◌≡◌, ℕ, ◌<◌, ◌≤◌, List, [], ◌∷◌, ◌++◌, Ok}
 use Rattle.line_memory.specs.declared.Write.{Write}
 use Rattle.line_channels.specs.declared.channels.Channels.{Ghosts}
 use Rattle.module_core.specs.declared.events.Event.{Event}
+use Rattle.module_core.specs.declared.events.Event.TheVariants as events
 use Rattle.module_core.specs.declared.events.Reply.{Reply}
+use Rattle.module_core.specs.declared.events.Reply.TheVariants as replies
 use Rattle.module_core.specs.declared.module.Module.{Module}
 use Rattle.module_core.specs.State.{Setup, Machine, start_of_life, all_of, memory_after}
 use Rattle.module_core.specs.Headline.{Point, Run}
@@ -16,6 +18,11 @@ pub record Rises (old new : Machine) : Type 0 where
   pub history : new.life.writes ≡ old.life.writes ++ more
   pub accepted : all_of old ≤ all_of new
   pub persisted : old.life.persisted ≤ new.life.persisted
+
+-- the write that an event adds to the history, where it was accepted
+abbrev pub added : Event → Reply → List Write
+added (events.Write write) (replies.Write (Ok accepted)) = write ∷ []
+added event reply = []
 
 -- The writes that were accepted are the same, and so is the memory after each number of them.
 pub record KeepsHistory (old new : Machine) : Type 0 where

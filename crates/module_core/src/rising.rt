@@ -1,5 +1,5 @@
 // What only grows.
-ghost use Rattle.std.specs.Prelude.{List};
+ghost use Rattle.std.specs.Prelude.{◌≡◌, ◌++◌, List};
 ghost use Rattle.save_device.specs.Device.{DeviceState};
 ghost use Rattle.energy_budget.specs.Gauge.{Gauge};
 ghost use Rattle.module_core.specs.declared.events.Event.{Event};
@@ -10,17 +10,20 @@ ghost use Rattle.module_core.specs.Machine.{MachineStep};
 ghost use Rattle.module_core.specs.Guard.{IsGuarded};
 ghost use Rattle.module_core.specs.Headline.{Point, Run};
 ghost use Rattle.module_core.specs.Stands.{Stands, Answers, AnswersAll};
-ghost use Rattle.module_core.specs.Rising.{Rises, RisesAlong, KeepsHistory, AreInOrder, MarksRise};
+ghost use Rattle.module_core.specs.Rising.{Rises, RisesAlong, KeepsHistory, AreInOrder, MarksRise, added};
 
 use line_channels::Channels;
 
 /// In any event the history of a life only grows, and what was accepted or persistent is so still: in a step of the machine,
 /// in each event of a run, and from its first moment to its last. So a write that was accepted stands at its number from then
-/// on, and the memory after so many writes stays what it was.
+/// on, and the memory after so many writes stays what it was. An event adds the write that it accepted, and no other.
 pub fn history_grows<C: Channels>()
     ensures event { (setup : Setup) (event : Event) (reply : Reply) (old new : World)
         → MachineStep setup event reply old new
         → IsGuarded old.machine → Rises old.machine new.machine }
+    ensures adds { (setup : Setup) (event : Event) (reply : Reply) (old new : World)
+        → MachineStep setup event reply old new → IsGuarded old.machine
+        → new.machine.life.writes ≡ old.machine.life.writes ++ added event reply }
     ensures along { (setup : Setup) (events : List Event) (replies : List Reply)
         (old new : Point C) (run : Run C.Channels setup events replies old new)
         → IsGuarded old.world.machine

@@ -1,22 +1,27 @@
 // What lies behind the lock.
-ghost use Rattle.std.specs.Prelude.{◌≡◌, IfOk};
+ghost use Rattle.std.specs.Prelude.{◌≡◌, ◌+◌, ◌<◌, ◌++◌, length, IfOk};
 ghost use Rattle.mark_board.specs.SeenMarks.{IsNotAbove};
 ghost use Rattle.std.specs.Arc.{arc_value};
+ghost use Rattle.module_core.specs.Rising.{added};
+ghost use Rattle.nv_workers.specs.Kept.{IsKept};
 ghost use Rattle.nv_workers.specs.Lent.{IsBehind, IsCounted, IsHeld, StandsForSome, lent, marks_of};
 
 use crate::room::Room;
+use crate::tally::Tally;
 use arm_state::{ArmRefusal, ArmReply, DisarmReply};
 use energy_budget::Energy;
+use life_record::LifeRecord;
 use line_channels::{Channels, Collected, Done, Drainable, Got, Ticket};
 use line_memory::Write;
 use mark_board::{BoardSeat, HostSeat, MarkBoard};
 use module_core::{Accepted, Event, Loss, Module, ReadRefusal, Reply, StepReply, WriteRefusal};
 use save_device::SaveDevice;
 use std::alloc::Global;
-use std::marker::PhantomData;
 use std::sync::Arc;
+use std::sync::ledger::Share;
 
-/// The module, its device, its gauge, and the seat that moves the marks, which are the module's two numbers.
+/// The module, its device, its gauge, the seat that moves the marks, which are the module's two numbers, the record of its life,
+/// and how many of the recorded writes are the hosts'.
 #[derive(Drop)]
 pub struct Held<C: Channels, D: SaveDevice, E: Energy, B: Room> {
     pub(crate) running: Module<C>,
@@ -24,14 +29,17 @@ pub struct Held<C: Channels, D: SaveDevice, E: Energy, B: Room> {
     pub(crate) energy: E,
     pub(crate) marks: Arc<MarkBoard, Global>,
     pub(crate) seat: BoardSeat,
-    of: PhantomData<B>,
+    pub(crate) history: LifeRecord,
+    pub(crate) tally: Tally<B>,
     ghost board: { arc_value marks ≡ B.board },
     ghost held: { IsHeld C.Channels B.board
         (lent C.Channels running (D.state device) (E.gauge energy)) seat },
+    ghost kept: { IsKept C.Channels B.before
+        (lent C.Channels running (D.state device) (E.gauge energy)) history tally.book.total },
 }
 
 // The marks follow the module.
-fn publish<C: Channels>(marks: &MarkBoard, seat: &mut BoardSeat, running: &Module<C>)
+pub(crate) fn publish<C: Channels>(marks: &MarkBoard, seat: &mut BoardSeat, running: &Module<C>)
     requires board { seat.old.board ≡ marks.now }
     requires behind { IsBehind C.Channels running.now seat.old }
     ensures { seat.new ≡ marks_of C.Channels marks.now running.now }
@@ -44,19 +52,24 @@ impl<C: Channels, D: SaveDevice, E: Energy, B: Room> Held<C, D, E, B> {
     ghost use Rattle.nv_workers.specs.Steps.{Steps};
     ghost use Rattle.module_core.specs.Stands.{HasDevice, IsChannel, setup_of};
 
-    /// Puts a module together with its device, its gauge and the seat of the board that shows its two numbers.
-    pub fn new(
+    // Puts a module together with its device, its gauge, the seat of the board that shows its two numbers, and the record of
+    // its life.
+    pub(crate) fn new(
         running: Module<C>,
         device: D,
         energy: E,
         marks: Arc<MarkBoard, Global>,
         seat: BoardSeat,
+        history: LifeRecord,
+        tally: Tally<B>,
     ) -> Held<C, D, E, B>
         requires board { arc_value marks ≡ B.board }
         requires seat { seat ≡ marks_of C.Channels B.board running }
         requires stands { StandsForSome C.Channels
             (lent C.Channels running (D.state device) (E.gauge energy)) }
         requires size { HasDevice C.Channels running (D.state device) }
+        requires kept { IsKept C.Channels B.before
+            (lent C.Channels running (D.state device) (E.gauge energy)) history tally.book.total }
         ensures running { result.running ≡ running }
         ensures device { result.device ≡ device }
         ensures energy { result.energy ≡ energy }
@@ -67,19 +80,22 @@ impl<C: Channels, D: SaveDevice, E: Energy, B: Room> Held<C, D, E, B> {
             energy,
             marks,
             seat,
-            of: PhantomData,
+            history,
+            tally,
         }
     }
 
-    /// Writes a line for a host, whose seat then sees the marks.
+    /// Writes a line for a host, whose share counts the write if it was accepted, and whose seat then sees the marks.
     pub(crate) fn write(
         &mut self,
         host: &mut HostSeat,
+        share: &mut Share<B>,
         write: Write,
     ) -> Result<Accepted, WriteRefusal>
         requires reaches { C.reaches }
         requires host { host.old.board ≡ B.board }
-        ensures steps { Steps C.Channels D.SaveDevice E.Energy B.Room
+        requires part { 0 < share.old.parts }
+        ensures steps { Steps C.Channels D.SaveDevice E.Energy B.Room.own
             (Event.Write write) (Reply.Write result) self.old self.new }
         ensures device { self.new.device ≡ self.old.device }
         ensures energy { self.new.energy ≡ self.old.energy }
@@ -89,8 +105,14 @@ impl<C: Channels, D: SaveDevice, E: Energy, B: Room> Held<C, D, E, B> {
             IsCounted C.Channels accepted self.old.running self.new.running) }
         ensures seen { host.new ≡ marks_of C.Channels B.board self.new.running }
         ensures rises { IsNotAbove host.old host.new }
+        ensures history { self.new.history.writes
+            ≡ self.old.history.writes ++ added (Event.Write write) (Reply.Write result) }
+        ensures amount { share.new.amount
+            ≡ share.old.amount + length (added (Event.Write write) (Reply.Write result)) }
+        ensures parts { share.new.parts ≡ share.old.parts }
     {
         let reply = self.running.write(write);
+        self.tally.note(&mut self.history, share, write, reply);
         publish(&self.marks, &mut self.seat, &self.running);
         self.seat.inform(&self.marks, host);
         reply
@@ -100,7 +122,7 @@ impl<C: Channels, D: SaveDevice, E: Energy, B: Room> Held<C, D, E, B> {
     pub(crate) fn read(&mut self, host: &mut HostSeat, line: u64) -> (Result<Got, ReadRefusal>, u64)
         requires reaches { C.reaches }
         requires host { host.old.board ≡ B.board }
-        ensures steps { Steps C.Channels D.SaveDevice E.Energy B.Room
+        ensures steps { Steps C.Channels D.SaveDevice E.Energy B.Room.own
             (Event.Read line) (Reply.Read result.0) self.old self.new }
         ensures device { self.new.device ≡ self.old.device }
         ensures energy { self.new.energy ≡ self.old.energy }
@@ -118,7 +140,7 @@ impl<C: Channels, D: SaveDevice, E: Energy, B: Room> Held<C, D, E, B> {
 
     /// What there is for a ticket; `Unknown` once mains were lost.
     pub fn collect(&mut self, ticket: Ticket) -> Collected
-        ensures steps { Steps C.Channels D.SaveDevice E.Energy B.Room
+        ensures steps { Steps C.Channels D.SaveDevice E.Energy B.Room.own
             (Event.Collect ticket) (Reply.Collect result) self.old self.new }
         ensures device { self.new.device ≡ self.old.device }
         ensures energy { self.new.energy ≡ self.old.energy }
@@ -131,7 +153,7 @@ impl<C: Channels, D: SaveDevice, E: Energy, B: Room> Held<C, D, E, B> {
     /// Issues one command of a channel, where mains are there and it has one.
     pub fn work(&mut self, channel: u64) -> Option<Done>
         requires { IsChannel C.Channels self.old.running channel }
-        ensures steps { Steps C.Channels D.SaveDevice E.Energy B.Room
+        ensures steps { Steps C.Channels D.SaveDevice E.Energy B.Room.own
             (Event.Work channel) (Reply.Work result) self.old self.new }
         ensures device { self.new.device ≡ self.old.device }
         ensures energy { self.new.energy ≡ self.old.energy }
@@ -143,7 +165,7 @@ impl<C: Channels, D: SaveDevice, E: Energy, B: Room> Held<C, D, E, B> {
 
     /// Reads the gauge while disarmed or armed; while armed a low reading begins the disarming.
     pub fn sense(&mut self) -> u64
-        ensures steps { Steps C.Channels D.SaveDevice E.Energy B.Room
+        ensures steps { Steps C.Channels D.SaveDevice E.Energy B.Room.own
             Event.Sense (Reply.Sense result) self.old self.new }
         ensures device { self.new.device ≡ self.old.device }
         ensures setup { setup_of C.Channels self.new.running
@@ -156,7 +178,7 @@ impl<C: Channels, D: SaveDevice, E: Energy, B: Room> Held<C, D, E, B> {
 
     /// Arms the module.
     pub fn arm(&mut self) -> Result<ArmReply, ArmRefusal>
-        ensures steps { Steps C.Channels D.SaveDevice E.Energy B.Room
+        ensures steps { Steps C.Channels D.SaveDevice E.Energy B.Room.own
             Event.Arm (Reply.Arm result) self.old self.new }
         ensures setup { setup_of C.Channels self.new.running
             ≡ setup_of C.Channels self.old.running }
@@ -168,7 +190,7 @@ impl<C: Channels, D: SaveDevice, E: Energy, B: Room> Held<C, D, E, B> {
 
     /// Begins the disarming of an armed module.
     pub fn disarm(&mut self) -> Result<DisarmReply, ArmRefusal>
-        ensures steps { Steps C.Channels D.SaveDevice E.Energy B.Room
+        ensures steps { Steps C.Channels D.SaveDevice E.Energy B.Room.own
             Event.Disarm (Reply.Disarm result) self.old self.new }
         ensures device { self.new.device ≡ self.old.device }
         ensures energy { self.new.energy ≡ self.old.energy }
@@ -182,7 +204,7 @@ impl<C: Channels, D: SaveDevice, E: Energy, B: Room> Held<C, D, E, B> {
 
     /// Begins a save of all writes accepted so far.
     pub fn save_begin(&mut self) -> Result<(), ArmRefusal>
-        ensures steps { Steps C.Channels D.SaveDevice E.Energy B.Room
+        ensures steps { Steps C.Channels D.SaveDevice E.Energy B.Room.own
             Event.SaveBegin (Reply.SaveBegin result) self.old self.new }
         ensures device { self.new.device ≡ self.old.device }
         ensures energy { self.new.energy ≡ self.old.energy }
@@ -197,7 +219,7 @@ impl<C: Channels, D: SaveDevice, E: Energy, B: Room> Held<C, D, E, B> {
     /// Makes the coming step of the save that runs, after a reading of the gauge.
     pub fn save_step(&mut self) -> StepReply
         requires { C.reaches }
-        ensures steps { Steps C.Channels D.SaveDevice E.Energy B.Room
+        ensures steps { Steps C.Channels D.SaveDevice E.Energy B.Room.own
             Event.SaveStep (Reply.SaveStep result) self.old self.new }
         ensures setup { setup_of C.Channels self.new.running
             ≡ setup_of C.Channels self.old.running }
@@ -215,7 +237,7 @@ impl<C: Drainable, D: SaveDevice, E: Energy, B: Room> Held<C, D, E, B> {
     /// Mains were lost: where acknowledged writes are to be saved, all accepted ones are.
     pub fn power_loss(&mut self) -> Loss
         requires { C.reaches }
-        ensures steps { Steps C.Channels D.SaveDevice E.Energy B.Room
+        ensures steps { Steps C.Channels D.SaveDevice E.Energy B.Room.own
             Event.Lose (Reply.Lose result) self.old self.new }
         ensures setup { setup_of C.Channels self.new.running
             ≡ setup_of C.Channels self.old.running }

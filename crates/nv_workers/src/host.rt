@@ -1,5 +1,5 @@
 // Who writes and reads.
-ghost use Rattle.std.specs.Prelude.{◌≡◌, ◌<◌, ◌≤◌, IfOk, IfErr, Ok, Err};
+ghost use Rattle.std.specs.Prelude.{◌≡◌, ◌+◌, ◌<◌, ◌≤◌, ◌++◌, [], ◌∷◌, IfOk, IfErr, Ok, Err};
 ghost use Rattle.std.specs.Arc.{arc_value};
 ghost use Rattle.module_core.specs.Stands.{setup_of};
 ghost use Rattle.nv_workers.specs.Client.{SeesNoLess, client};
@@ -17,7 +17,8 @@ use module_core::{Event, ReadRefusal, Reply, WriteRefusal};
 use notice_book::Persisted;
 use save_device::SaveDevice;
 use std::alloc::Global;
-use std::marker::{Model, PhantomData};
+use std::marker::Model;
+use std::sync::ledger::Share;
 use std::sync::{Arc, Wait};
 
 /// A write that was accepted: its number, and what it wrote.
@@ -43,12 +44,12 @@ pub struct Behind {
     pub found: u64,
 }
 
-/// A host of one board. Contracts see the marks that it has seen.
+/// A host of one board. Contracts see the marks that it has seen, and how many of its writes were accepted.
 #[derive(Drop)]
 pub struct Host<B: Room> {
-    marks: Arc<MarkBoard, Global>,
-    seat: HostSeat,
-    of: PhantomData<B>,
+    pub(crate) marks: Arc<MarkBoard, Global>,
+    pub(crate) seat: HostSeat,
+    pub(crate) share: Share<B>,
 }
 
 impl<B: Room> Model for Host<B> {
@@ -58,23 +59,20 @@ impl<B: Room> Model for Host<B> {
 
     ghost Value = { Client };
 
-    ghost view = { λ h. client h.seat.accepted h.seat.persisted };
+    ghost view = { λ h. client h.seat.accepted h.seat.persisted h.share.amount };
 
-    ghost invariant = { λ h. (arc_value h.marks ≡ B.board) × (h.seat.board ≡ B.board) };
+    ghost invariant = { λ h. (arc_value h.marks ≡ B.board) × (h.seat.board ≡ B.board) × (h.share.parts ≡ 1) };
 }
 
 impl<B: Room> Host<B> {
-    /// A host with a seat of the board.
-    pub fn new(marks: Arc<MarkBoard, Global>, seat: HostSeat) -> Host<B>
+    // A host with a seat of the board and one part of its ledger.
+    pub(crate) fn new(marks: Arc<MarkBoard, Global>, seat: HostSeat, share: Share<B>) -> Host<B>
         requires board { arc_value marks ≡ B.board }
         requires seat { seat.board ≡ B.board }
-        ensures { result ≡ client seat.accepted seat.persisted }
+        requires part { share.parts ≡ 1 }
+        ensures { result ≡ client seat.accepted seat.persisted share.amount }
     {
-        Host {
-            marks,
-            seat,
-            of: PhantomData,
-        }
+        Host { marks, seat, share }
     }
 
     /// Writes a line at the module that is lent.
@@ -84,23 +82,29 @@ impl<B: Room> Host<B> {
         write: Write,
     ) -> Result<Receipt, WriteRefusal>
         requires { C.reaches }
-        ensures ok { IfOk result (λ r. Steps C.Channels D.SaveDevice E.Energy B.Room
+        ensures ok { IfOk result (λ r. Steps C.Channels D.SaveDevice E.Energy B.Room.own
             (Event.Write write) (Reply.Write (Ok (told_at r.number held.new.running.persisted)))
             held.old held.new) }
-        ensures err { IfErr result (λ refusal. Steps C.Channels D.SaveDevice E.Energy B.Room
+        ensures err { IfErr result (λ refusal. Steps C.Channels D.SaveDevice E.Energy B.Room.own
             (Event.Write write) (Reply.Write (Err refusal)) held.old held.new) }
         ensures number { IfOk result (λ r. r.number ≡ held.old.running.accepted) }
         ensures line { IfOk result (λ r. r.line ≡ write.line) }
         ensures data { IfOk result (λ r. r.data ≡ write.data) }
         ensures seen { IfOk result (λ r. r.number < self.new.accepted) }
         ensures rises { SeesNoLess self.old self.new }
+        ensures one { IfOk result (λ r. self.new.writes ≡ self.old.writes + 1) }
+        ensures none { IfErr result (λ e. self.new.writes ≡ self.old.writes) }
+        ensures adds { IfOk result (λ r.
+            held.new.history.writes ≡ held.old.history.writes ++ write ∷ []) }
+        ensures stays { IfErr result (λ e.
+            held.new.history.writes ≡ held.old.history.writes) }
         ensures device { held.new.device ≡ held.old.device }
         ensures energy { held.new.energy ≡ held.old.energy }
         ensures setup { setup_of C.Channels held.new.running
             ≡ setup_of C.Channels held.old.running }
     {
         let data = write.data;
-        match held.write(&mut self.seat, write) {
+        match held.write(&mut self.seat, &mut self.share, write) {
             Ok(accepted) => Ok(Receipt {
                 number: accepted.number,
                 line: write.line,
@@ -122,6 +126,8 @@ impl<B: Room> Host<B> {
         ensures data { IfOk result (λ r. r.data ≡ write.data) }
         ensures seen { IfOk result (λ r. r.number < self.new.accepted) }
         ensures rises { SeesNoLess self.old self.new }
+        ensures one { IfOk result (λ r. self.new.writes ≡ self.old.writes + 1) }
+        ensures none { IfErr result (λ e. self.new.writes ≡ self.old.writes) }
     {
         let mut held = board.held.lock(rt);
         self.write_in(&mut *held, write)
@@ -134,13 +140,14 @@ impl<B: Room> Host<B> {
         line: u64,
     ) -> Result<(Got, u64), ReadRefusal>
         requires { C.reaches }
-        ensures ok { IfOk result (λ r. Steps C.Channels D.SaveDevice E.Energy B.Room
+        ensures ok { IfOk result (λ r. Steps C.Channels D.SaveDevice E.Energy B.Room.own
             (Event.Read line) (Reply.Read (Ok r.0)) held.old held.new) }
-        ensures err { IfErr result (λ refusal. Steps C.Channels D.SaveDevice E.Energy B.Room
+        ensures err { IfErr result (λ refusal. Steps C.Channels D.SaveDevice E.Energy B.Room.own
             (Event.Read line) (Reply.Read (Err refusal)) held.old held.new) }
         ensures at { IfOk result (λ r. r.1 ≡ held.old.running.accepted) }
         ensures seen { IfOk result (λ r. self.old.accepted ≤ r.1) }
         ensures rises { SeesNoLess self.old self.new }
+        ensures writes { self.new.writes ≡ self.old.writes }
         ensures device { held.new.device ≡ held.old.device }
         ensures energy { held.new.energy ≡ held.old.energy }
         ensures setup { setup_of C.Channels held.new.running
@@ -164,6 +171,7 @@ impl<B: Room> Host<B> {
         ensures line { IfOk result (λ s. s.line ≡ line) }
         ensures at { IfOk result (λ s. self.old.accepted ≤ s.at) }
         ensures rises { SeesNoLess self.old self.new }
+        ensures writes { self.new.writes ≡ self.old.writes }
     {
         let (got, at) = self.ask(rt, board, line)?;
         match got {
@@ -185,6 +193,7 @@ impl<B: Room> Host<B> {
         requires { C.reaches }
         ensures at { IfOk result (λ r. self.old.accepted ≤ r.1) }
         ensures rises { SeesNoLess self.old self.new }
+        ensures writes { self.new.writes ≡ self.old.writes }
     {
         let mut held = board.held.lock(rt);
         self.read_in(&mut *held, line)
@@ -193,7 +202,7 @@ impl<B: Room> Host<B> {
     /// Loads how many writes are persistent, with no lock.
     pub fn mark(&mut self) -> u64
         ensures rises { self.old.persisted ≤ result }
-        ensures seen { self.new ≡ client self.old.accepted result }
+        ensures seen { self.new ≡ client self.old.accepted result self.old.writes }
     {
         self.seat.persisted(&self.marks)
     }
@@ -208,6 +217,7 @@ impl<B: Room> Host<B> {
         ensures found { IfErr result (λ b. b.found ≡ self.new.persisted) }
         ensures rises { SeesNoLess self.old self.new }
         ensures accepted { self.new.accepted ≡ self.old.accepted }
+        ensures writes { self.new.writes ≡ self.old.writes }
     {
         let number = receipt.number;
         let mark = self.mark();

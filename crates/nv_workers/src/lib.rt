@@ -6,11 +6,20 @@
 #![tactic(auto)]
 
 mod board;
+mod ending;
 mod held;
 mod host;
+mod life;
+mod opening;
 mod room;
+mod starting;
+mod tally;
 
 pub use board::Board;
+pub use ending::{Closed, Stranger, close, find_stranger};
 pub use held::Held;
 pub use host::{Behind, Host, Receipt, Seen};
+pub use life::Life;
+pub use opening::Opening;
 pub use room::Room;
+pub use starting::start;

@@ -3,6 +3,7 @@ use Rattle.module_core.specs.declared.events.Event.TheVariants as events
 use Rattle.module_core.specs.declared.events.Reply.TheVariants as replies
 use Rattle.nv_workers.specs.Lent.{Lent, lent}
 use Rattle.nv_workers.proofs.Holding.{same_size}
+use Rattle.nv_workers.proofs.Keeping.{keeps_same}
 use Rattle.nv_workers.proofs.Quiet.{keeps_quiet, collect_is_quiet}
 use Rattle.nv_workers.proofs.held.Held.collect.Goals as goal
 
@@ -14,4 +15,5 @@ invariant_of-self g c =
     record {
       board = it.board;
       held = keeps_quiet L g.B.Room.board it.seat _ (events.Collect c.args.ticket) (replies.Collect c.collect.result) old new (collect_is_quiet c.args.ticket c.collect.result) it.held (c.collect.ensures.answers (g.D.SaveDevice.state it.device) (g.E.Energy.gauge it.energy)) (same_size L it.running c.collect.new.self (g.D.SaveDevice.state it.device) it.held.size c.collect.ensures.setup) refl;
+      kept = keeps_same L g.B.Room.before (events.Collect c.args.ticket) (replies.Collect c.collect.result) old new it.history it.tally.book.total refl it.kept (c.collect.ensures.answers (g.D.SaveDevice.state it.device) (g.E.Energy.gauge it.energy)) c.collect.ensures.setup;
     }

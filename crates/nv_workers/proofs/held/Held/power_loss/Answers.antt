@@ -1,8 +1,9 @@
-use Rattle.std.proofs.Common.{◌∙◌}
+use Rattle.std.proofs.Common.{◌∙◌, refl}
 use Rattle.module_core.specs.declared.events.Event.TheVariants as events
 use Rattle.module_core.specs.declared.events.Reply.TheVariants as replies
 use Rattle.nv_workers.specs.Lent.{Lent, lent}
 use Rattle.nv_workers.proofs.Holding.{falls_behind, keeps_held}
+use Rattle.nv_workers.proofs.Keeping.{keeps_same}
 use Rattle.nv_workers.proofs.held.Held.power_loss.Goals as goal
 
 pub publish-requires-clause-behind : goal.publish-requires-clause-behind
@@ -20,4 +21,5 @@ invariant_of-self g c =
     record {
       board = it.board;
       held = keeps_held L g.B.Room.board _ it.seat _ events.Lose (replies.Lose c.power_loss-reply.result) old new it.held c.power_loss-reply.ensures.answers c.power_loss-reply.ensures.size (c.deref.ensures ∙ it.board) c.publish.ensures;
+      kept = keeps_same L g.B.Room.before events.Lose (replies.Lose c.power_loss-reply.result) old new it.history it.tally.book.total refl it.kept c.power_loss-reply.ensures.answers c.power_loss-reply.ensures.setup;
     }

@@ -1,7 +1,9 @@
+use Rattle.std.proofs.Common.{refl}
 use Rattle.module_core.specs.declared.events.Event.TheVariants as events
 use Rattle.module_core.specs.declared.events.Reply.TheVariants as replies
 use Rattle.nv_workers.specs.Lent.{Lent, lent}
 use Rattle.nv_workers.proofs.Holding.{same_size}
+use Rattle.nv_workers.proofs.Keeping.{keeps_same}
 use Rattle.nv_workers.proofs.Quiet.{keeps_quiet, read_is_quiet}
 use Rattle.nv_workers.proofs.held.Held.read.Goals as goal
 
@@ -13,4 +15,5 @@ invariant_of-self g c =
     record {
       board = it.board;
       held = keeps_quiet L g.B.Room.board it.seat _ (events.Read c.args.line) (replies.Read c.read-reply.result) old new (read_is_quiet c.args.line c.read-reply.result) it.held (c.read-reply.ensures.answers (g.D.SaveDevice.state it.device) (g.E.Energy.gauge it.energy)) (same_size L it.running c.read-reply.new.self (g.D.SaveDevice.state it.device) it.held.size c.read-reply.ensures.setup) c.inform.ensures.same;
+      kept = keeps_same L g.B.Room.before (events.Read c.args.line) (replies.Read c.read-reply.result) old new it.history it.tally.book.total refl it.kept (c.read-reply.ensures.answers (g.D.SaveDevice.state it.device) (g.E.Energy.gauge it.energy)) c.read-reply.ensures.setup;
     }

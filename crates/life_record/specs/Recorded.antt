@@ -1,0 +1,20 @@
+-- What is recorded of a life.
+use Rattle.std.specs.Prelude.{ℕ, ◌+◌, ◌<◌, ◌≤◌, List, length}
+use Rattle.line_memory.specs.declared.Write.{Write}
+
+-- the memory that a life began with, the number of its first write, the writes that it accepted since, and how many of them
+-- there is room for
+pub record Recorded : Type 0 where
+  pub base : List (List ℕ)
+  pub start : ℕ
+  pub writes : List Write
+  pub room : ℕ
+
+abbrev pub recorded : List (List ℕ) → ℕ → List Write → ℕ → Recorded
+recorded base start writes room = record { base = base; start = start; writes = writes; room = room }
+
+-- the life has this line, and this number is one from its beginning to all that it accepted
+pub record IsSeenAt (life : Recorded) (line at : ℕ) : Type 0 where
+  pub here : line < length life.base
+  pub least : life.start ≤ at
+  pub most : at ≤ life.start + length life.writes

@@ -1,0 +1,195 @@
+// The end of a board, and the check of receipts and answers.
+ghost use Rattle.std.specs.Prelude.{◌≡◌, ◌+◌, ◌≤◌, ◌↔◌, All, Some, length, sum_by, IfOk, IfErr, IfSome, IfNone, IsTrue};
+ghost use Rattle.life_record.specs.Recorded.{Recorded};
+ghost use Rattle.line_memory.specs.declared.Write.{Write};
+ghost use Rattle.nv_workers.specs.Ending.{IsBorneOut, IsFirstNot, IsFirstStranger, StandsIn, write_of};
+ghost use Rattle.nv_workers.specs.Kept.{IsRecorded};
+ghost use Rattle.nv_workers.specs.Lent.{lent};
+
+use crate::board::Board;
+use crate::held::Held;
+use crate::host::{Host, Receipt, Seen};
+use crate::life::Life;
+use crate::room::Room;
+use crate::tally::Tally;
+use energy_budget::Energy;
+use life_record::LifeRecord;
+use line_channels::Channels;
+use line_memory::Write;
+use mark_board::{BoardSeat, MarkBoard};
+use save_device::SaveDevice;
+use std::sync::ledger::Share;
+
+/// What a board leaves: the life, and how many receipts and answers were checked.
+#[derive(Drop)]
+pub struct Closed<C: Channels, D, E> {
+    pub life: Life<C, D, E>,
+    pub checked: u64,
+}
+
+/// A receipt, or an answer, that the history doesn't bear out, by its place.
+#[derive(Clone, Copy, Debug, PartialEq, Eq)]
+pub struct Stranger {
+    pub answer: bool,
+    pub index: usize,
+}
+
+// Whether a write was found, and is that of a receipt.
+fn is_of(found: Option<Write>, receipt: &Receipt) -> bool
+    ensures { IsTrue result ↔ (found ≡ Some (write_of receipt.now)) }
+{
+    match found {
+        Some(write) => write.line == receipt.line && write.data == receipt.data,
+        None => false,
+    }
+}
+
+// Whether the write of a receipt stands in the history.
+fn stands_in(history: &LifeRecord, receipt: &Receipt) -> bool
+    ensures { IsTrue result ↔ StandsIn history.now receipt.now }
+{
+    is_of(history.accepted_write(receipt.number), receipt)
+}
+
+// Whether an answer is its line after the writes before it.
+#[tactic(auto, unfolding(crate::specs::Ending::IsBorneOut))]
+fn is_borne_out(history: &LifeRecord, answer: &Seen) -> bool
+    ensures { IsTrue result ↔ IsBorneOut history.now answer.now }
+{
+    history.knows(answer.line, answer.at) && history.value_of(answer.line, answer.at) == answer.data
+}
+
+// The first receipt that doesn't stand in the history.
+fn strange_receipt(history: &LifeRecord, receipts: &[Receipt]) -> Option<usize>
+    ensures some { IfSome result (λ i. IsFirstNot (StandsIn history.now) receipts.now i) }
+    ensures none { IfNone result (All (StandsIn history.now) receipts.now) }
+{
+    receipts
+        .iter()
+        .position(|receipt| !stands_in(history, receipt))
+}
+
+// The first answer that the history doesn't bear out.
+fn strange_answer(history: &LifeRecord, answers: &[Seen]) -> Option<usize>
+    ensures some { IfSome result (λ i. IsFirstNot (IsBorneOut history.now) answers.now i) }
+    ensures none { IfNone result (All (IsBorneOut history.now) answers.now) }
+{
+    answers
+        .iter()
+        .position(|answer| !is_borne_out(history, answer))
+}
+
+/// The first receipt, else the first answer, that a life doesn't bear out.
+pub fn find_stranger(
+    history: &LifeRecord,
+    receipts: &[Receipt],
+    answers: &[Seen],
+) -> Option<Stranger>
+    ensures some { IfSome result (λ s.
+        IsFirstStranger history.now receipts.now answers.now s) }
+    ensures receipts { IfNone result (All (StandsIn history.now) receipts.now) }
+    ensures answers { IfNone result (All (IsBorneOut history.now) answers.now) }
+{
+    if let Some(index) = strange_receipt(history, receipts) {
+        return Some(Stranger {
+            answer: false,
+            index,
+        });
+    }
+    if let Some(index) = strange_answer(history, answers) {
+        return Some(Stranger {
+            answer: true,
+            index,
+        });
+    }
+    None
+}
+
+// Ends a host, whose share goes to the others'. It has seen no mark above the words.
+fn end_host<B: Room>(marks: &MarkBoard, seat: &mut BoardSeat, rest: &mut Share<B>, host: Host<B>)
+    requires board { marks.now ≡ B.board }
+    requires seat { seat.old.board ≡ B.board }
+    ensures same { seat.new ≡ seat.old }
+    ensures below { host.persisted ≤ seat.old.persisted }
+    ensures parts { rest.new.parts ≡ rest.old.parts + 1 }
+    ensures amount { rest.new.amount ≡ rest.old.amount + host.writes }
+{
+    let Host {
+        marks: _,
+        seat: host_seat,
+        share,
+    } = host;
+    seat.join(marks, host_seat);
+    rest.merge(share);
+}
+
+impl<C: Channels, D: SaveDevice, E: Energy, B: Room> Held<C, D, E, B> {
+    // Ends the hosts, all those of the board, and gives the life.
+    fn conclude(self, hosts: Vec<Host<B>>) -> Life<C, D, E>
+    where
+        C: Drop,
+        D: Drop,
+        E: Drop,
+        requires { (length hosts.items ≡ B.parts) }
+        ensures running { result.running ≡ self.running }
+        ensures device { result.device ≡ self.device }
+        ensures energy { result.energy ≡ self.energy }
+        ensures history { result.history ≡ self.history }
+        ensures recorded { IsRecorded C.Channels
+            (lent C.Channels result.running (D.state result.device) (E.gauge result.energy)) result.history }
+        ensures shares { length result.history.writes ≡ B.before + sum_by (λ h. h.writes) hosts.items }
+        ensures marks { All (λ h. h.persisted ≤ result.running.persisted) hosts.items }
+    {
+        let Held {
+            running,
+            device,
+            energy,
+            marks,
+            mut seat,
+            history,
+            tally,
+        } = self;
+        let Tally { mut book, mut rest } = tally;
+        for host in hosts {
+            end_host(&marks, &mut seat, &mut rest, host);
+        }
+        book.audit(&mut rest);
+        Life {
+            running,
+            device,
+            energy,
+            history,
+        }
+    }
+}
+
+/// Ends a board once all its threads were joined, with all its hosts: the receipts and the answers are checked against the
+/// history, and the life comes back. A stranger among them gives the board and the hosts back. It takes no memory.
+pub fn close<C: Channels + Drop, D: SaveDevice + Drop, E: Energy + Drop, B: Room>(
+    board: Board<C, D, E, B>,
+    hosts: Vec<Host<B>>,
+    receipts: &[Receipt],
+    answers: &[Seen],
+) -> Result<Closed<C, D, E>, (Board<C, D, E, B>, Vec<Host<B>>, Stranger)>
+    requires { length hosts.items ≡ B.parts }
+    ensures receipts { IfOk result (λ c. All (StandsIn c.life.history) receipts.now) }
+    ensures answers { IfOk result (λ c. All (IsBorneOut c.life.history) answers.now) }
+    ensures shares { IfOk result (λ c. length c.life.history.writes
+        ≡ B.before + sum_by (λ h. h.writes) hosts.items) }
+    ensures marks { IfOk result (λ c.
+        All (λ h. h.persisted ≤ c.life.running.persisted) hosts.items) }
+    ensures recorded { IfOk result (λ c. IsRecorded C.Channels
+        (lent C.Channels c.life.running (D.state c.life.device) (E.gauge c.life.energy))
+        c.life.history) }
+    ensures checked { IfOk result (λ c. c.checked ≡ length receipts.now + length answers.now) }
+    ensures err { IfErr result (λ e. e.1 ≡ hosts) }
+{
+    let Board { held } = board;
+    let held = held.into_inner();
+    if let Some(stranger) = find_stranger(&held.history, receipts, answers) {
+        return Err((Board::new(held), hosts, stranger));
+    }
+    let life = held.conclude(hosts);
+    let checked = receipts.len() as u64 + answers.len() as u64;
+    Ok(Closed { life, checked })
+}

@@ -1,0 +1,91 @@
+// How a board begins.
+ghost use Rattle.std.specs.Prelude.{◌≡◌, ◌≤◌, length, vec_len, All, IfOk, IfErr};
+ghost use Rattle.std.specs.Arc.{arc_value};
+ghost use Rattle.mark_board.specs.SeenMarks.{AllHaveSeen, seen_marks};
+ghost use Rattle.module_core.specs.Stands.{HasDevice};
+ghost use Rattle.nv_workers.specs.Client.{client};
+ghost use Rattle.nv_workers.specs.Kept.{HasRoom, IsRecorded};
+ghost use Rattle.nv_workers.specs.Lent.{lent};
+
+use crate::board::Board;
+use crate::held::{Held, publish};
+use crate::host::Host;
+use crate::life::Life;
+use crate::opening::Opening;
+use crate::room::Room;
+use crate::tally::Tally;
+use energy_budget::Energy;
+use line_channels::Channels;
+use mark_board::{HostSeat, MarkBoard};
+use save_device::SaveDevice;
+use std::alloc::{AllocError, Global};
+use std::sync::Arc;
+use std::sync::ledger::Share;
+
+// A host for each seat, each with one part of the ledger.
+fn seated<B: Room>(
+    alloc: Global,
+    marks: &Arc<MarkBoard, Global>,
+    seats: Vec<HostSeat>,
+    whole: &mut Share<B>,
+    mark: u64,
+) -> Result<Vec<Host<B>>, AllocError>
+    requires board { arc_value marks.now ≡ B.board }
+    requires seats { AllHaveSeen (seen_marks B.board mark mark) seats.items }
+    requires parts { whole.old.parts ≡ vec_len seats }
+    requires amount { whole.old.amount ≡ 0 }
+    ensures number { IfOk result (λ hosts. vec_len hosts ≡ vec_len seats) }
+    ensures hosts { IfOk result (λ hosts. All (λ h. h ≡ client mark mark 0) hosts.items) }
+    ensures rest { IfOk result (λ _. whole.new.parts ≡ 0) }
+    ensures none { IfOk result (λ _. whole.new.amount ≡ 0) }
+{
+    let mut hosts = Vec::with_capacity(alloc, seats.len())?;
+    for seat in seats {
+        let marks = Arc::try_clone(marks)?;
+        let share = whole.split_off(1, 0);
+        hosts.push_reserved(Host::new(marks, seat, share));
+    }
+    Ok(hosts)
+}
+
+/// Puts a life behind a lock, with as many hosts as the opening has seats. The board's name is picked from the opening: a
+/// caller is generic over the room. It refuses only where there is no memory for the hosts, and then gives the life back.
+pub fn start<C: Channels, D: SaveDevice, E: Energy, B: Room>(
+    alloc: Global,
+    opening: Opening,
+    life: Life<C, D, E>,
+) -> Result<(Board<C, D, E, B>, Vec<Host<B>>), (Life<C, D, E>, AllocError)>
+    requires name { opening.name ≡ B.name }
+    requires parts { opening.parts ≡ B.parts }
+    requires board { opening.board ≡ B.board }
+    requires mark { opening.mark ≤ life.running.persisted }
+    requires before { length life.history.writes ≡ B.before }
+    requires recorded { IsRecorded C.Channels
+        (lent C.Channels life.running (D.state life.device) (E.gauge life.energy)) life.history }
+    requires room { HasRoom C.Channels
+        (lent C.Channels life.running (D.state life.device) (E.gauge life.energy)) life.history }
+    requires size { HasDevice C.Channels life.running (D.state life.device) }
+    ensures number { IfOk result (λ s. vec_len s.1 ≡ B.parts) }
+    ensures hosts { IfOk result (λ s.
+        All (λ h. h ≡ client opening.mark opening.mark 0) s.1.items) }
+    ensures err { IfErr result (λ e. e.0 ≡ life) }
+{
+    let (blank, marks, mut seat, seats, mark) = opening.into_parts();
+    let (book, mut rest) = blank.open::<B>();
+    let Ok(marks) = Arc::new(alloc, marks) else {
+        return Err((life, AllocError));
+    };
+    let Ok(hosts) = seated(alloc, &marks, seats, &mut rest, mark) else {
+        return Err((life, AllocError));
+    };
+    publish(&marks, &mut seat, &life.running);
+    let Life {
+        running,
+        device,
+        energy,
+        history,
+    } = life;
+    let tally = Tally { book, rest };
+    let held = Held::new(running, device, energy, marks, seat, history, tally);
+    Ok((Board::new(held), hosts))
+}

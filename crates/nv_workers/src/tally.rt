@@ -1,0 +1,49 @@
+// How many writes of the hosts were accepted.
+ghost use Rattle.std.specs.Prelude.{◌≡◌, ◌+◌, ◌<◌, ◌++◌, ◌↔◌, length, IsTrue};
+ghost use Rattle.std.specs.Result.{IsOk};
+ghost use Rattle.life_record.specs.Recorded.{Recorded};
+ghost use Rattle.module_core.specs.Rising.{added};
+
+use crate::room::Room;
+use life_record::LifeRecord;
+use line_memory::Write;
+use module_core::{Accepted, Event, Reply, WriteRefusal};
+use std::sync::ledger::{Book, Share};
+
+/// The book of a board's ledger, and a share of no parts that the hosts' are merged into when the board is closed. Contracts
+/// see the book's total, how many writes of the hosts were accepted.
+#[derive(Drop)]
+pub struct Tally<B: Room> {
+    pub(crate) book: Book<B>,
+    pub(crate) rest: Share<B>,
+    ghost parts: { rest.parts ≡ 0 },
+    ghost amount: { rest.amount ≡ 0 },
+}
+
+impl<B: Room> Tally<B> {
+    // Takes note of a write where it was accepted: in the history, and in the share of the host that wrote it.
+    pub(crate) fn note(
+        &mut self,
+        history: &mut LifeRecord,
+        share: &mut Share<B>,
+        write: Write,
+        reply: Result<Accepted, WriteRefusal>,
+    )
+        requires room { IsOk reply → length history.old.writes < history.old.room }
+        requires part { 0 < share.old.parts }
+        ensures history { history.new ≡ record history.old {
+          writes
+              = history.old.writes ++ added (Event.Write write) (Reply.Write reply);
+        } }
+        ensures total { self.new.book.total
+            ≡ self.old.book.total + length (added (Event.Write write) (Reply.Write reply)) }
+        ensures amount { share.new.amount
+            ≡ share.old.amount + length (added (Event.Write write) (Reply.Write reply)) }
+        ensures parts { share.new.parts ≡ share.old.parts }
+    {
+        if let Ok(_) = reply {
+            history.push(write);
+            self.book.add(share, 1);
+        }
+    }
+}
