@@ -1,2 +1,4 @@
 pub mod Holding
+pub mod IfOkGives
+pub mod NewestImages
 pub mod Quiet

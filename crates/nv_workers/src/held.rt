@@ -2,7 +2,9 @@
 ghost use Rattle.std.specs.Prelude.{◌≡◌, IfOk};
 ghost use Rattle.mark_board.specs.SeenMarks.{IsNotAbove};
 ghost use Rattle.std.specs.Arc.{arc_value};
-ghost use Rattle.nv_workers.specs.Lent.{IsBehind, IsCounted, IsHeld, StandsForSome, lent, marks_of};
+ghost use Rattle.module_core.specs.Stands.{setup_of};
+ghost use Rattle.nv_workers.specs.Lent.{IsBehind, IsCounted, IsHeld, lent, marks_of};
+ghost use Rattle.nv_workers.specs.Newest.{HasNewest, saved_after};
 
 use crate::room::Room;
 use arm_state::{ArmRefusal, ArmReply, DisarmReply};
@@ -16,7 +18,8 @@ use std::alloc::Global;
 use std::marker::PhantomData;
 use std::sync::Arc;
 
-/// The module, its device, its gauge, and the seat that moves the marks, which are the module's two numbers.
+/// The module, its device, its gauge, and the seat that moves the marks, which are the module's two numbers. `saved` is how
+/// many writes the newest image has.
 #[derive(Drop)]
 pub struct Held<C: Channels, D: SaveDevice, E: Energy, B: Room> {
     pub(crate) running: Module<C>,
@@ -24,8 +27,11 @@ pub struct Held<C: Channels, D: SaveDevice, E: Energy, B: Room> {
     pub(crate) energy: E,
     pub(crate) marks: Arc<MarkBoard, Global>,
     pub(crate) seat: BoardSeat,
+    pub(crate) saved: u64,
     of: PhantomData<B>,
     ghost board: { arc_value marks ≡ B.board },
+    ghost channels: { (setup_of C.Channels running).shape.channels ≡ B.channels },
+    ghost newest: { HasNewest C.Channels saved running (D.state device) },
     ghost held: { IsHeld C.Channels B.board
         (lent C.Channels running (D.state device) (E.gauge energy)) seat },
 }
@@ -40,11 +46,23 @@ fn publish<C: Channels>(marks: &MarkBoard, seat: &mut BoardSeat, running: &Modul
     seat.raise(marks, running.mark());
 }
 
+// How many writes the newest image has after a reply.
+fn saved_after(reply: Reply, saved: u64) -> u64
+    ensures { result ≡ saved_after reply saved }
+{
+    match reply {
+        Reply::SaveStep(StepReply::Saved { count, .. }) | Reply::Lose(Loss::Saved { count, .. }) =>
+            count,
+        _ => saved,
+    }
+}
+
 impl<C: Channels, D: SaveDevice, E: Energy, B: Room> Held<C, D, E, B> {
     ghost use Rattle.nv_workers.specs.Steps.{Steps};
-    ghost use Rattle.module_core.specs.Stands.{HasDevice, IsChannel, setup_of};
+    ghost use Rattle.module_core.specs.Stands.{HasDevice, IsChannel};
 
-    /// Puts a module together with its device, its gauge and the seat of the board that shows its two numbers.
+    /// Puts a module together with its device, its gauge and the seat of the board that shows its two numbers. The writes of
+    /// the newest image are the persistent ones, as in each module that begins.
     pub fn new(
         running: Module<C>,
         device: D,
@@ -54,19 +72,21 @@ impl<C: Channels, D: SaveDevice, E: Energy, B: Room> Held<C, D, E, B> {
     ) -> Held<C, D, E, B>
         requires board { arc_value marks ≡ B.board }
         requires seat { seat ≡ marks_of C.Channels B.board running }
-        requires stands { StandsForSome C.Channels
-            (lent C.Channels running (D.state device) (E.gauge energy)) }
+        requires newest { HasNewest C.Channels running.persisted running (D.state device) }
+        requires channels { (setup_of C.Channels running).shape.channels ≡ B.channels }
         requires size { HasDevice C.Channels running (D.state device) }
         ensures running { result.running ≡ running }
         ensures device { result.device ≡ device }
         ensures energy { result.energy ≡ energy }
     {
+        let saved = running.mark();
         Held {
             running,
             device,
             energy,
             marks,
             seat,
+            saved,
             of: PhantomData,
         }
     }
@@ -203,6 +223,7 @@ impl<C: Channels, D: SaveDevice, E: Energy, B: Room> Held<C, D, E, B> {
             ≡ setup_of C.Channels self.old.running }
     {
         let reply = self.running.save_step(&mut self.device, &mut self.energy);
+        self.saved = saved_after(Reply::SaveStep(reply), self.saved);
         publish(&self.marks, &mut self.seat, &self.running);
         reply
     }
@@ -210,7 +231,6 @@ impl<C: Channels, D: SaveDevice, E: Energy, B: Room> Held<C, D, E, B> {
 
 impl<C: Drainable, D: SaveDevice, E: Energy, B: Room> Held<C, D, E, B> {
     ghost use Rattle.nv_workers.specs.Steps.{Steps};
-    ghost use Rattle.module_core.specs.Stands.{setup_of};
 
     /// Mains were lost: where acknowledged writes are to be saved, all accepted ones are.
     pub fn power_loss(&mut self) -> Loss
@@ -221,6 +241,7 @@ impl<C: Drainable, D: SaveDevice, E: Energy, B: Room> Held<C, D, E, B> {
             ≡ setup_of C.Channels self.old.running }
     {
         let reply = self.running.power_loss(&mut self.device, &mut self.energy);
+        self.saved = saved_after(Reply::Lose(reply), self.saved);
         publish(&self.marks, &mut self.seat, &self.running);
         reply
     }

@@ -6,11 +6,16 @@
 #![tactic(auto)]
 
 mod board;
+mod gate;
 mod held;
 mod host;
 mod room;
+mod saver;
+mod telling;
 
 pub use board::Board;
+pub use gate::{Ended, Gate, Turn, channel_worker, saver_worker};
 pub use held::Held;
 pub use host::{Behind, Host, Receipt, Seen};
 pub use room::Room;
+pub use saver::{SaverTurn, Saving};
