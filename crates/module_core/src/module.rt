@@ -270,8 +270,8 @@ impl<C: Channels> Module<C> {
         Ok(DisarmReply::Disarming)
     }
 
-    // What stands in the way of arming and of a save.
-    pub(crate) fn save_state(&self) -> SaveState
+    /// What may stand in the way of arming and of a save.
+    pub fn save_state(&self) -> SaveState
         ensures state { (m : Machine) → Matches C.Channels self.now m → result ≡ saves_of m }
         ensures spent { result.is_spent ≡ nat_le (2 ^ 62) self.now.saves.newest.generation }
     {

@@ -31,6 +31,10 @@ module _ {C : Type 0} (L : Ghosts C) where
   pub same_size : (old new : Module C L) (device : DeviceState) → HasDevice L old device → setup_of L new ≡ setup_of L old → HasDevice L new device
   same_size old new device size same = subst (λ (lines : ℕ). HasSize lines device) (old.sized ∙ ap (λ (s : Setup). s.shape.lines) (sym same) ∙ sym new.sized) size
 
+  -- the module has as many channels still
+  pub same_channels : (old new : Module C L) (channels : ℕ) → (setup_of L old).shape.channels ≡ channels → setup_of L new ≡ setup_of L old → (setup_of L new).shape.channels ≡ channels
+  same_channels old new channels is same = ap (λ (s : Setup). s.shape.channels) same ∙ is
+
   -- the marks of before aren't above the module's numbers after an event
   pub falls_behind : (board : TableId) (marks : SeenMarks) (event : Event) (reply : Reply) (old new : Lent L) → IsHeld L board old marks → StepsBy L event reply old new
       → IsBehind L new.it marks

@@ -101,10 +101,6 @@ module _ {C : Type 0} (L : Ghosts C) where
       omega (arith, within, kept'.room, count, size)
   has_room before write (Err refusal) old new history total kept steps setup within ok = absurd (let bad : ⊥ = cc in bad)
 
-  -- whose life is recorded stands for a machine
-  pub recorded_stands : (lent : Lent L) (history : Recorded) → IsRecorded L lent history → StandsForSome L lent
-  recorded_stands lent history is = ∥∥₁_map is (λ s. (s.0, s.1.stands))
-
   -- words that show no more than is persistent aren't above the module's two numbers
   pub opened_behind : (lent : Lent L) (history : Recorded) (board : TableId) (mark : ℕ) → IsRecorded L lent history → mark ≤ lent.it.persisted
       → IsBehind L lent.it (seen_marks board mark mark)

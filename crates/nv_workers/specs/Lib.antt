@@ -3,5 +3,8 @@ pub mod Client
 pub mod Ending
 pub mod Kept
 pub mod Lent
+pub mod Newest
 pub mod Opened
+pub mod Savers
 pub mod Steps
+pub mod Turns

@@ -5,6 +5,7 @@ ghost use Rattle.line_memory.specs.declared.Write.{Write};
 ghost use Rattle.nv_workers.specs.Ending.{IsBorneOut, IsFirstNot, IsFirstStranger, StandsIn, write_of};
 ghost use Rattle.nv_workers.specs.Kept.{IsRecorded};
 ghost use Rattle.nv_workers.specs.Lent.{lent};
+ghost use Rattle.nv_workers.specs.Newest.{HasNewest};
 
 use crate::board::Board;
 use crate::held::Held;
@@ -17,13 +18,15 @@ use life_record::LifeRecord;
 use line_channels::Channels;
 use line_memory::Write;
 use mark_board::{BoardSeat, MarkBoard};
+use notice_book::Notices;
 use save_device::SaveDevice;
 use std::sync::ledger::Share;
 
-/// What a board leaves: the life, and how many receipts and answers were checked.
+/// What a board leaves: the life, the notices that were not called, and how many receipts and answers were checked.
 #[derive(Drop)]
-pub struct Closed<C: Channels, D, E> {
+pub struct Closed<C: Channels, D, E, N> {
     pub life: Life<C, D, E>,
+    pub notices: N,
     pub checked: u64,
 }
 
@@ -135,6 +138,7 @@ impl<C: Channels, D: SaveDevice, E: Energy, B: Room> Held<C, D, E, B> {
         ensures device { result.device ≡ self.device }
         ensures energy { result.energy ≡ self.energy }
         ensures history { result.history ≡ self.history }
+        ensures newest { HasNewest C.Channels result.saved result.running (D.state result.device) }
         ensures recorded { IsRecorded C.Channels
             (lent C.Channels result.running (D.state result.device) (E.gauge result.energy)) result.history }
         ensures shares { length result.history.writes ≡ B.before + sum_by (λ h. h.writes) hosts.items }
@@ -146,6 +150,7 @@ impl<C: Channels, D: SaveDevice, E: Energy, B: Room> Held<C, D, E, B> {
             energy,
             marks,
             mut seat,
+            saved,
             history,
             tally,
         } = self;
@@ -158,19 +163,26 @@ impl<C: Channels, D: SaveDevice, E: Energy, B: Room> Held<C, D, E, B> {
             running,
             device,
             energy,
+            saved,
             history,
         }
     }
 }
 
 /// Ends a board once all its threads were joined, with all its hosts: the receipts and the answers are checked against the
-/// history, and the life comes back. A stranger among them gives the board and the hosts back. It takes no memory.
-pub fn close<C: Channels + Drop, D: SaveDevice + Drop, E: Energy + Drop, B: Room>(
-    board: Board<C, D, E, B>,
+/// history, and life and notices come back. A stranger among them gives the board and the hosts back. It takes no memory.
+pub fn close<C, D, E, B, N>(
+    board: Board<C, D, E, B, N>,
     hosts: Vec<Host<B>>,
     receipts: &[Receipt],
     answers: &[Seen],
-) -> Result<Closed<C, D, E>, (Board<C, D, E, B>, Vec<Host<B>>, Stranger)>
+) -> Result<Closed<C, D, E, N>, (Board<C, D, E, B, N>, Vec<Host<B>>, Stranger)>
+where
+    C: Channels + Drop,
+    D: SaveDevice + Drop,
+    E: Energy + Drop,
+    B: Room,
+    N: Notices + Drop,
     requires { length hosts.items ≡ B.parts }
     ensures receipts { IfOk result (λ c. All (StandsIn c.life.history) receipts.now) }
     ensures answers { IfOk result (λ c. All (IsBorneOut c.life.history) answers.now) }
@@ -181,15 +193,22 @@ pub fn close<C: Channels + Drop, D: SaveDevice + Drop, E: Energy + Drop, B: Room
     ensures recorded { IfOk result (λ c. IsRecorded C.Channels
         (lent C.Channels c.life.running (D.state c.life.device) (E.gauge c.life.energy))
         c.life.history) }
+    ensures newest { IfOk result (λ c.
+        HasNewest C.Channels c.life.saved c.life.running (D.state c.life.device)) }
     ensures checked { IfOk result (λ c. c.checked ≡ length receipts.now + length answers.now) }
     ensures err { IfErr result (λ e. e.1 ≡ hosts) }
 {
-    let Board { held } = board;
+    let Board { held, notices } = board;
     let held = held.into_inner();
+    let notices = notices.into_inner();
     if let Some(stranger) = find_stranger(&held.history, receipts, answers) {
-        return Err((Board::new(held), hosts, stranger));
+        return Err((Board::new(held, notices), hosts, stranger));
     }
     let life = held.conclude(hosts);
     let checked = receipts.len() as u64 + answers.len() as u64;
-    Ok(Closed { life, checked })
+    Ok(Closed {
+        life,
+        notices,
+        checked,
+    })
 }

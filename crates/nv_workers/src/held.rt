@@ -3,8 +3,10 @@ ghost use Rattle.std.specs.Prelude.{◌≡◌, ◌+◌, ◌<◌, ◌++◌, lengt
 ghost use Rattle.mark_board.specs.SeenMarks.{IsNotAbove};
 ghost use Rattle.std.specs.Arc.{arc_value};
 ghost use Rattle.module_core.specs.Rising.{added};
+ghost use Rattle.module_core.specs.Stands.{setup_of};
 ghost use Rattle.nv_workers.specs.Kept.{IsKept};
-ghost use Rattle.nv_workers.specs.Lent.{IsBehind, IsCounted, IsHeld, StandsForSome, lent, marks_of};
+ghost use Rattle.nv_workers.specs.Lent.{IsBehind, IsCounted, IsHeld, lent, marks_of};
+ghost use Rattle.nv_workers.specs.Newest.{HasNewest, saved_after};
 
 use crate::room::Room;
 use crate::tally::Tally;
@@ -21,7 +23,7 @@ use std::sync::Arc;
 use std::sync::ledger::Share;
 
 /// The module, its device, its gauge, the seat that moves the marks, which are the module's two numbers, the record of its life,
-/// and how many of the recorded writes are the hosts'.
+/// and how many of the recorded writes are the hosts'. `saved` is how many writes the newest image has.
 #[derive(Drop)]
 pub struct Held<C: Channels, D: SaveDevice, E: Energy, B: Room> {
     pub(crate) running: Module<C>,
@@ -29,9 +31,12 @@ pub struct Held<C: Channels, D: SaveDevice, E: Energy, B: Room> {
     pub(crate) energy: E,
     pub(crate) marks: Arc<MarkBoard, Global>,
     pub(crate) seat: BoardSeat,
+    pub(crate) saved: u64,
     pub(crate) history: LifeRecord,
     pub(crate) tally: Tally<B>,
     ghost board: { arc_value marks ≡ B.board },
+    ghost channels: { (setup_of C.Channels running).shape.channels ≡ B.channels },
+    ghost newest: { HasNewest C.Channels saved running (D.state device) },
     ghost held: { IsHeld C.Channels B.board
         (lent C.Channels running (D.state device) (E.gauge energy)) seat },
     ghost kept: { IsKept C.Channels B.before
@@ -48,25 +53,37 @@ pub(crate) fn publish<C: Channels>(marks: &MarkBoard, seat: &mut BoardSeat, runn
     seat.raise(marks, running.mark());
 }
 
+// How many writes the newest image has after a reply.
+fn saved_after(reply: Reply, saved: u64) -> u64
+    ensures { result ≡ saved_after reply saved }
+{
+    match reply {
+        Reply::SaveStep(StepReply::Saved { count, .. }) | Reply::Lose(Loss::Saved { count, .. }) =>
+            count,
+        _ => saved,
+    }
+}
+
 impl<C: Channels, D: SaveDevice, E: Energy, B: Room> Held<C, D, E, B> {
     ghost use Rattle.nv_workers.specs.Steps.{Steps};
-    ghost use Rattle.module_core.specs.Stands.{HasDevice, IsChannel, setup_of};
+    ghost use Rattle.module_core.specs.Stands.{HasDevice, IsChannel};
 
-    // Puts a module together with its device, its gauge, the seat of the board that shows its two numbers, and the record of
-    // its life.
+    // Puts a module together with its device, its gauge, the seat of the board that shows its two numbers, how many writes the
+    // newest image has, and the record of its life.
     pub(crate) fn new(
         running: Module<C>,
         device: D,
         energy: E,
         marks: Arc<MarkBoard, Global>,
         seat: BoardSeat,
+        saved: u64,
         history: LifeRecord,
         tally: Tally<B>,
     ) -> Held<C, D, E, B>
         requires board { arc_value marks ≡ B.board }
         requires seat { seat ≡ marks_of C.Channels B.board running }
-        requires stands { StandsForSome C.Channels
-            (lent C.Channels running (D.state device) (E.gauge energy)) }
+        requires newest { HasNewest C.Channels saved running (D.state device) }
+        requires channels { (setup_of C.Channels running).shape.channels ≡ B.channels }
         requires size { HasDevice C.Channels running (D.state device) }
         requires kept { IsKept C.Channels B.before
             (lent C.Channels running (D.state device) (E.gauge energy)) history tally.book.total }
@@ -80,6 +97,7 @@ impl<C: Channels, D: SaveDevice, E: Energy, B: Room> Held<C, D, E, B> {
             energy,
             marks,
             seat,
+            saved,
             history,
             tally,
         }
@@ -225,6 +243,7 @@ impl<C: Channels, D: SaveDevice, E: Energy, B: Room> Held<C, D, E, B> {
             ≡ setup_of C.Channels self.old.running }
     {
         let reply = self.running.save_step(&mut self.device, &mut self.energy);
+        self.saved = saved_after(Reply::SaveStep(reply), self.saved);
         publish(&self.marks, &mut self.seat, &self.running);
         reply
     }
@@ -232,7 +251,6 @@ impl<C: Channels, D: SaveDevice, E: Energy, B: Room> Held<C, D, E, B> {
 
 impl<C: Drainable, D: SaveDevice, E: Energy, B: Room> Held<C, D, E, B> {
     ghost use Rattle.nv_workers.specs.Steps.{Steps};
-    ghost use Rattle.module_core.specs.Stands.{setup_of};
 
     /// Mains were lost: where acknowledged writes are to be saved, all accepted ones are.
     pub fn power_loss(&mut self) -> Loss
@@ -243,6 +261,7 @@ impl<C: Drainable, D: SaveDevice, E: Energy, B: Room> Held<C, D, E, B> {
             ≡ setup_of C.Channels self.old.running }
     {
         let reply = self.running.power_loss(&mut self.device, &mut self.energy);
+        self.saved = saved_after(Reply::Lose(reply), self.saved);
         publish(&self.marks, &mut self.seat, &self.running);
         reply
     }

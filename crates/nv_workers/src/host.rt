@@ -14,7 +14,7 @@ use line_channels::{Channels, Got};
 use line_memory::{Line, Write};
 use mark_board::{HostSeat, MarkBoard};
 use module_core::{Event, ReadRefusal, Reply, WriteRefusal};
-use notice_book::Persisted;
+use notice_book::{Notices, Persisted};
 use save_device::SaveDevice;
 use std::alloc::Global;
 use std::marker::Model;
@@ -115,10 +115,10 @@ impl<B: Room> Host<B> {
     }
 
     /// Writes a line.
-    pub fn write<C: Channels, D: SaveDevice, E: Energy>(
+    pub fn write<C: Channels, D: SaveDevice, E: Energy, N: Notices>(
         &mut self,
         rt: &impl Wait,
-        board: &Board<C, D, E, B>,
+        board: &Board<C, D, E, B, N>,
         write: Write,
     ) -> Result<Receipt, WriteRefusal>
         requires { C.reaches }
@@ -161,10 +161,10 @@ impl<B: Room> Host<B> {
     }
 
     /// Reads a line, and waits for the answer.
-    pub fn read<C: Channels, D: SaveDevice, E: Energy>(
+    pub fn read<C: Channels, D: SaveDevice, E: Energy, N: Notices>(
         &mut self,
         rt: &impl Wait,
-        board: &Board<C, D, E, B>,
+        board: &Board<C, D, E, B, N>,
         line: u64,
     ) -> Result<Seen, ReadRefusal>
         requires { C.reaches }
@@ -184,10 +184,10 @@ impl<B: Room> Host<B> {
     }
 
     // Asks under the lock, and lets go of it.
-    fn ask<C: Channels, D: SaveDevice, E: Energy>(
+    fn ask<C: Channels, D: SaveDevice, E: Energy, N: Notices>(
         &mut self,
         rt: &impl Wait,
-        board: &Board<C, D, E, B>,
+        board: &Board<C, D, E, B, N>,
         line: u64,
     ) -> Result<(Got, u64), ReadRefusal>
         requires { C.reaches }

@@ -7,19 +7,24 @@
 
 mod board;
 mod ending;
+mod gate;
 mod held;
 mod host;
 mod life;
 mod opening;
 mod room;
+mod saver;
 mod starting;
 mod tally;
+mod telling;
 
 pub use board::Board;
 pub use ending::{Closed, Stranger, close, find_stranger};
+pub use gate::{Ended, Gate, Turn, channel_worker, saver_worker};
 pub use held::Held;
 pub use host::{Behind, Host, Receipt, Seen};
 pub use life::Life;
 pub use opening::Opening;
 pub use room::Room;
+pub use saver::{SaverTurn, Saving};
 pub use starting::start;

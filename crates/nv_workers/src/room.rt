@@ -2,12 +2,15 @@
 use std::marker::Brand;
 use std::sync::ledger::Ledger;
 
-/// Names one board: the words of its marks, and the ledger of its hosts' writes. Each call of a program picks it.
+/// Names one board: the words of its marks, the ledger of its hosts' writes, and how many channels its module has. Each call of
+/// a program picks it.
 pub trait Room: Ledger {
     ghost use Rattle.std.specs.Prelude.{ℕ};
     ghost use Rattle.atomic_table.specs.Seated.{TableId};
 
     ghost board: { TableId };
+
+    ghost channels: { ℕ };
 
     /// How many writes the life had accepted when the board was opened.
     ghost before: { ℕ };
@@ -17,6 +20,8 @@ impl Room for Brand {
     ghost use Rattle.nv_workers.specs.Boards.{no_board};
 
     ghost board = { no_board };
+
+    ghost channels = { 0 };
 
     ghost before = { 0 };
 }

@@ -2,10 +2,11 @@
 ghost use Rattle.std.specs.Prelude.{◌≡◌, ◌≤◌, length, vec_len, All, IfOk, IfErr};
 ghost use Rattle.std.specs.Arc.{arc_value};
 ghost use Rattle.mark_board.specs.SeenMarks.{AllHaveSeen, seen_marks};
-ghost use Rattle.module_core.specs.Stands.{HasDevice};
+ghost use Rattle.module_core.specs.Stands.{HasDevice, setup_of};
 ghost use Rattle.nv_workers.specs.Client.{client};
 ghost use Rattle.nv_workers.specs.Kept.{HasRoom, IsRecorded};
 ghost use Rattle.nv_workers.specs.Lent.{lent};
+ghost use Rattle.nv_workers.specs.Newest.{HasNewest};
 
 use crate::board::Board;
 use crate::held::{Held, publish};
@@ -17,6 +18,7 @@ use crate::tally::Tally;
 use energy_budget::Energy;
 use line_channels::Channels;
 use mark_board::{HostSeat, MarkBoard};
+use notice_book::Notices;
 use save_device::SaveDevice;
 use std::alloc::{AllocError, Global};
 use std::sync::Arc;
@@ -48,13 +50,14 @@ fn seated<B: Room>(
     Ok(hosts)
 }
 
-/// Puts a life behind a lock, with as many hosts as the opening has seats. The board's name is picked from the opening: a
-/// caller is generic over the room. It refuses only where there is no memory for the hosts, and then gives the life back.
-pub fn start<C: Channels, D: SaveDevice, E: Energy, B: Room>(
+/// Puts a life and a book of notices behind their locks, with as many hosts as the opening has seats. The board's name is picked from the opening: a
+/// caller is generic over the room. It refuses only where there is no memory for the hosts, and then gives life and book back.
+pub fn start<C: Channels, D: SaveDevice, E: Energy, B: Room, N: Notices>(
     alloc: Global,
     opening: Opening,
     life: Life<C, D, E>,
-) -> Result<(Board<C, D, E, B>, Vec<Host<B>>), (Life<C, D, E>, AllocError)>
+    notices: N,
+) -> Result<(Board<C, D, E, B, N>, Vec<Host<B>>), (Life<C, D, E>, N, AllocError)>
     requires name { opening.name ≡ B.name }
     requires parts { opening.parts ≡ B.parts }
     requires board { opening.board ≡ B.board }
@@ -64,28 +67,32 @@ pub fn start<C: Channels, D: SaveDevice, E: Energy, B: Room>(
         (lent C.Channels life.running (D.state life.device) (E.gauge life.energy)) life.history }
     requires room { HasRoom C.Channels
         (lent C.Channels life.running (D.state life.device) (E.gauge life.energy)) life.history }
+    requires newest { HasNewest C.Channels life.saved life.running (D.state life.device) }
+    requires channels { (setup_of C.Channels life.running).shape.channels ≡ B.channels }
     requires size { HasDevice C.Channels life.running (D.state life.device) }
     ensures number { IfOk result (λ s. vec_len s.1 ≡ B.parts) }
     ensures hosts { IfOk result (λ s.
         All (λ h. h ≡ client opening.mark opening.mark 0) s.1.items) }
-    ensures err { IfErr result (λ e. e.0 ≡ life) }
+    ensures life { IfErr result (λ e. e.0 ≡ life) }
+    ensures notices { IfErr result (λ e. e.1 ≡ notices) }
 {
     let (blank, marks, mut seat, seats, mark) = opening.into_parts();
     let (book, mut rest) = blank.open::<B>();
     let Ok(marks) = Arc::new(alloc, marks) else {
-        return Err((life, AllocError));
+        return Err((life, notices, AllocError));
     };
     let Ok(hosts) = seated(alloc, &marks, seats, &mut rest, mark) else {
-        return Err((life, AllocError));
+        return Err((life, notices, AllocError));
     };
     publish(&marks, &mut seat, &life.running);
     let Life {
         running,
         device,
         energy,
+        saved,
         history,
     } = life;
     let tally = Tally { book, rest };
-    let held = Held::new(running, device, energy, marks, seat, history, tally);
-    Ok((Board::new(held), hosts))
+    let held = Held::new(running, device, energy, marks, seat, saved, history, tally);
+    Ok((Board::new(held, notices), hosts))
 }

@@ -2,7 +2,7 @@ use Rattle.std.proofs.Common.{◌≡◌, ℕ, All, subst, sym}
 use Rattle.mark_board.specs.SeenMarks.{SeenMarks}
 use Rattle.nv_workers.specs.Client.{Client, client}
 use Rattle.nv_workers.specs.Lent.{Lent, lent, IsBehind}
-use Rattle.nv_workers.proofs.Keeping.{recorded_stands, opened_behind}
+use Rattle.nv_workers.proofs.Keeping.{opened_behind}
 use Rattle.nv_workers.proofs.starting.start.Goals as goal
 
 pub publish-requires-clause-behind : goal.publish-requires-clause-behind
@@ -10,12 +10,6 @@ publish-requires-clause-behind g c =
     let L = g.C.Channels in let life = c.args.life in
     let it : Lent L = lent L life.running (g.D.SaveDevice.state life.device) (g.E.Energy.gauge life.energy) in
     subst (λ (m : SeenMarks). IsBehind L life.running m) (sym c.into_parts-blank.ensures.seat) (opened_behind L it life.history c.args.opening.board c.args.opening.mark c.requires.recorded c.requires.mark)
-
-pub new-held-requires-clause-stands : goal.new-held-requires-clause-stands
-new-held-requires-clause-stands g c =
-    let L = g.C.Channels in let life = c.args.life in
-    let it : Lent L = lent L life.running (g.D.SaveDevice.state life.device) (g.E.Energy.gauge life.energy) in
-    recorded_stands L it life.history c.requires.recorded
 
 pub returns-clause-hosts : goal.returns-clause-hosts
 returns-clause-hosts g c = subst (λ (m : ℕ). All (λ (h : Client). h ≡ client m m 0) c.in-Ok-seated.hosts.items) c.into_parts-blank.ensures.mark c.in-Ok-seated.ensures.hosts

@@ -2,9 +2,10 @@ use Rattle.std.proofs.Common.{refl}
 use Rattle.module_core.specs.declared.events.Event.TheVariants as events
 use Rattle.module_core.specs.declared.events.Reply.TheVariants as replies
 use Rattle.nv_workers.specs.Lent.{Lent, lent}
-use Rattle.nv_workers.proofs.Holding.{same_size}
+use Rattle.nv_workers.proofs.Holding.{same_size, same_channels}
 use Rattle.nv_workers.proofs.Keeping.{keeps_same}
 use Rattle.nv_workers.proofs.Quiet.{keeps_quiet, work_is_quiet}
+use Rattle.nv_workers.proofs.NewestImages.{keeps_newest}
 use Rattle.nv_workers.proofs.held.Held.work.Goals as goal
 
 pub invariant_of-self : goal.invariant_of-self
@@ -14,6 +15,8 @@ invariant_of-self g c =
     let new : Lent L = lent L c.work.new.self (g.D.SaveDevice.state it.device) (g.E.Energy.gauge it.energy) in
     record {
       board = it.board;
+      channels = same_channels L it.running c.work.new.self g.B.Room.channels it.channels c.work.ensures.setup;
+      newest = keeps_newest L it.saved _ (events.Work c.args.channel) (replies.Work c.work.result) old new it.newest (c.work.ensures.answers (g.D.SaveDevice.state it.device) (g.E.Energy.gauge it.energy)) refl;
       held = keeps_quiet L g.B.Room.board it.seat _ (events.Work c.args.channel) (replies.Work c.work.result) old new (work_is_quiet c.args.channel c.work.result) it.held (c.work.ensures.answers (g.D.SaveDevice.state it.device) (g.E.Energy.gauge it.energy)) (same_size L it.running c.work.new.self (g.D.SaveDevice.state it.device) it.held.size c.work.ensures.setup) refl;
       kept = keeps_same L g.B.Room.before (events.Work c.args.channel) (replies.Work c.work.result) old new it.history it.tally.book.total refl it.kept (c.work.ensures.answers (g.D.SaveDevice.state it.device) (g.E.Energy.gauge it.energy)) c.work.ensures.setup;
     }

@@ -1,10 +1,11 @@
-use Rattle.std.proofs.Common.{◌∙◌}
+use Rattle.std.proofs.Common.{refl, ◌∙◌}
 use Rattle.module_core.specs.declared.events.Event.TheVariants as events
 use Rattle.module_core.specs.declared.events.Reply.TheVariants as replies
 use Rattle.nv_workers.specs.Lent.{Lent, lent}
-use Rattle.nv_workers.proofs.Holding.{same_size, falls_behind, keeps_held}
+use Rattle.nv_workers.proofs.Holding.{same_size, falls_behind, keeps_held, same_channels}
 use Rattle.nv_workers.proofs.Keeping.{keeps_on, has_room}
 use Rattle.nv_workers.proofs.Quiet.{told_counted}
+use Rattle.nv_workers.proofs.NewestImages.{keeps_newest}
 use Rattle.nv_workers.proofs.held.Held.write.Goals as goal
 
 pub note-requires-clause-room : goal.note-requires-clause-room
@@ -28,6 +29,8 @@ invariant_of-self g c =
     let new : Lent L = lent L c.write-reply.new.self (g.D.SaveDevice.state it.device) (g.E.Energy.gauge it.energy) in
     record {
       board = it.board;
+      channels = same_channels L it.running c.write-reply.new.self g.B.Room.channels it.channels c.write-reply.ensures.setup;
+      newest = keeps_newest L it.saved _ (events.Write c.args.write) (replies.Write c.write-reply.result) old new it.newest (c.write-reply.ensures.answers (g.D.SaveDevice.state it.device) (g.E.Energy.gauge it.energy)) refl;
       held = keeps_held L g.B.Room.board _ it.seat _ (events.Write c.args.write) (replies.Write c.write-reply.result) old new it.held (c.write-reply.ensures.answers (g.D.SaveDevice.state it.device) (g.E.Energy.gauge it.energy)) (same_size L it.running c.write-reply.new.self (g.D.SaveDevice.state it.device) it.held.size c.write-reply.ensures.setup) (c.deref.ensures ∙ it.board) (c.inform.ensures.same ∙ c.publish.ensures);
       kept = keeps_on L g.B.Room.before (events.Write c.args.write) (replies.Write c.write-reply.result) old new it.history _ it.tally.book.total _ it.kept (c.write-reply.ensures.answers (g.D.SaveDevice.state it.device) (g.E.Energy.gauge it.energy)) c.write-reply.ensures.setup c.note.ensures.history c.note.ensures.total;
     }

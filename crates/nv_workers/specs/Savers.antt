@@ -1,0 +1,37 @@
+-- What a saver does at its turn.
+use Rattle.std.specs.Prelude.{◌||◌, ℕ, Bool, true, false, nat_lt, if◌then◌else◌}
+use Rattle.arm_state.specs.declared.mode.Mode.{Mode}
+use Rattle.arm_state.specs.declared.mode.Mode.TheVariants.{Disarmed, Armed, Stranded}
+use Rattle.arm_state.specs.declared.refusal.SaveState.{SaveState}
+use Rattle.arm_state.specs.Modes.{has_ended}
+use Rattle.module_core.specs.State.{Machine, all_of}
+use Rattle.module_core.specs.Refusals.{saves_of}
+use Rattle.nv_workers.specs.declared.saver.SaverTurn.{SaverTurn}
+use Rattle.nv_workers.specs.declared.saver.SaverTurn.TheVariants.{Begin, Step, Rest, End}
+use Rattle.nv_workers.specs.declared.saver.Saving.{Saving}
+use Rattle.nv_workers.specs.declared.saver.Saving.TheVariants as savings
+
+-- where no save runs, one is to be begun: while stranded; and while writes are accepted where some were since the newest
+-- image, or where the device failed since a save last ended well
+abbrev pub needs_save : Mode → Bool → ℕ → ℕ → Bool
+needs_save Stranded unsettled saved accepted = true
+needs_save Disarmed unsettled saved accepted = unsettled || nat_lt saved accepted
+needs_save Armed unsettled saved accepted = unsettled || nat_lt saved accepted
+needs_save mode unsettled saved accepted = false
+
+abbrev pub turn_at : Mode → SaveState → ℕ → ℕ → SaverTurn
+turn_at mode saves saved accepted =
+    if has_ended mode then End else
+    if saves.is_running then Step else
+    if needs_save mode saves.is_unsettled saved accepted then Begin else Rest
+
+-- the turn of a machine whose newest image has so many writes
+abbrev pub turn_of : Machine → ℕ → SaverTurn
+turn_of m saved = turn_at m.mode (saves_of m) saved (all_of m)
+
+-- the turn that was taken
+abbrev pub turn_taken : Saving → SaverTurn
+turn_taken (savings.Began result) = Begin
+turn_taken (savings.Stepped reply) = Step
+turn_taken savings.Rested = Rest
+turn_taken savings.Closed = End

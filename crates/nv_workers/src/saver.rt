@@ -1,0 +1,102 @@
+// A saver's turn at what lies behind the lock.
+ghost use Rattle.std.specs.Prelude.{◌≡◌};
+ghost use Rattle.module_core.specs.State.{Machine};
+ghost use Rattle.module_core.specs.Stands.{setup_of};
+ghost use Rattle.nv_workers.specs.Savers.{needs_save, turn_at, turn_of, turn_taken};
+
+use crate::held::Held;
+use crate::room::Room;
+use arm_state::{ArmRefusal, Mode, SaveState};
+use energy_budget::Energy;
+use line_channels::Channels;
+use module_core::StepReply;
+use save_device::SaveDevice;
+
+/// What a saver is to do.
+#[derive(Clone, Copy, Debug, PartialEq, Eq)]
+pub enum SaverTurn {
+    /// Begin a save.
+    Begin,
+    /// Make a step of the save that runs.
+    Step,
+    /// Nothing: all accepted writes are in the newest image.
+    Rest,
+    /// Nothing any more: mains were lost.
+    End,
+}
+
+/// What a saver did.
+#[derive(Clone, Copy, Debug, PartialEq, Eq)]
+pub enum Saving {
+    Began(Result<(), ArmRefusal>),
+    Stepped(StepReply),
+    Rested,
+    /// Mains were lost.
+    Closed,
+}
+
+// Whether a save is to be begun, where none runs.
+fn needs_save(mode: Mode, unsettled: bool, saved: u64, accepted: u64) -> bool
+    ensures { result ≡ needs_save mode unsettled saved accepted }
+{
+    match mode {
+        Mode::Stranded => true,
+        Mode::Disarmed | Mode::Armed => unsettled || saved < accepted,
+        _ => false,
+    }
+}
+
+// What a saver is to do, where the newest image has `saved` of the accepted writes.
+fn turn_at(mode: Mode, saves: SaveState, saved: u64, accepted: u64) -> SaverTurn
+    ensures { result ≡ turn_at mode saves saved accepted }
+{
+    if mode.has_ended() {
+        return SaverTurn::End;
+    }
+    if saves.is_running {
+        return SaverTurn::Step;
+    }
+    if needs_save(mode, saves.is_unsettled, saved, accepted) {
+        return SaverTurn::Begin;
+    }
+    SaverTurn::Rest
+}
+
+impl<C: Channels, D: SaveDevice, E: Energy, B: Room> Held<C, D, E, B> {
+    ghost use Rattle.module_core.specs.Stands.{Matches};
+    ghost use Rattle.nv_workers.specs.Turns.{TakesTurn};
+
+    /// What a saver is to do now.
+    pub fn saver_turn(&self) -> SaverTurn
+        ensures { (m : Machine) → Matches C.Channels self.now.running m
+            → result ≡ turn_of m self.now.saved }
+    {
+        let mode = self.running.mode();
+        let saves = self.running.save_state();
+        turn_at(mode, saves, self.saved, self.running.accepted())
+    }
+
+    /// Takes a saver's turn: it begins a save where one is needed and none runs, makes one step of the save that runs, or
+    /// does nothing.
+    pub fn save(&mut self) -> Saving
+        requires { C.reaches }
+        ensures turn { (m : Machine) → Matches C.Channels self.old.running m
+            → turn_taken result ≡ turn_of m self.old.saved }
+        ensures steps { TakesTurn C.Channels D.SaveDevice E.Energy B.Room.own
+            result self.old self.new }
+        ensures setup { setup_of C.Channels self.new.running
+            ≡ setup_of C.Channels self.old.running }
+    {
+        match self.saver_turn() {
+            SaverTurn::Begin => Saving::Began(self.save_begin()),
+            SaverTurn::Step => Saving::Stepped(self.save_step()),
+            SaverTurn::Rest => Saving::Rested,
+            SaverTurn::End => Saving::Closed,
+        }
+    }
+
+    /// Were mains lost?
+    pub(crate) fn has_ended(&self) -> bool {
+        self.running.mode().has_ended()
+    }
+}

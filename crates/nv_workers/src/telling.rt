@@ -1,0 +1,56 @@
+// The notices of a board.
+ghost use Rattle.std.specs.Prelude.{◌≡◌, ◌≤◌, IfErr, IfOk, OnOk};
+ghost use Rattle.notice_book.specs.NoticeBooks.{refused_notice};
+ghost use Rattle.nv_workers.specs.Client.{client};
+
+use crate::board::Board;
+use crate::host::{Host, Receipt};
+use crate::room::Room;
+use energy_budget::Energy;
+use line_channels::Channels;
+use notice_book::{InsertRefusal, Notices};
+use save_device::SaveDevice;
+use std::alloc::{AllocError, Global};
+use std::sync::Wait;
+
+impl<C: Channels, D: SaveDevice, E: Energy, B: Room, N: Notices> Board<C, D, E, B, N> {
+    /// Calls the notices below a mark that the host loads anew, each once and in rising order, and gives the number and the
+    /// answer of each. It takes the lock of the notices alone. It refuses only where there is no memory for the answers:
+    /// then none was called.
+    pub fn deliver(
+        &self,
+        rt: &impl Wait,
+        alloc: Global,
+        host: &mut Host<B>,
+    ) -> Result<Vec<(u64, u64)>, AllocError>
+        ensures delivered { IfOk result (λ answers. (before : N) × (after : N)
+            × N.delivers host.new.persisted before answers.items after) }
+        ensures rises { host.old.persisted ≤ host.new.persisted }
+        ensures seen { host.new ≡ client host.old.accepted host.new.persisted host.old.writes }
+    {
+        let mark = host.mark();
+        self.notices.lock(rt).deliver_below(alloc, mark)
+    }
+}
+
+impl<B: Room> Host<B> {
+    /// Puts a notice in, to be called once the receipt's write is persistent. It takes the lock of the notices alone. Refused
+    /// `Full` where the book has no room, and else `Taken` where a notice of the number is there: the notice comes back.
+    pub fn notify<C: Channels, D: SaveDevice, E: Energy, N: Notices>(
+        &self,
+        rt: &impl Wait,
+        board: &Board<C, D, E, B, N>,
+        receipt: &Receipt,
+        notice: N::Notice,
+    ) -> Result<(), InsertRefusal<N::Notice>>
+        requires { N.is_callable receipt.now.number notice }
+        ensures added { OnOk result ((before : N) × (after : N)
+            × N.inserts receipt.now.number notice before after) }
+        ensures refused { IfErr result (λ refusal. (book : N)
+            × N.refuses receipt.now.number book refusal) }
+        ensures back { IfErr result (λ refusal. refused_notice refusal ≡ notice) }
+    {
+        let number = receipt.number;
+        board.notices.lock(rt).insert_notice(number, notice)
+    }
+}
