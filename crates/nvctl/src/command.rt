@@ -37,7 +37,7 @@ impl Fault<'_> {
     ghost use Rattle.nvctl.specs.Exit.{status_of};
 
     /// The exit status: 2 for a mistake in the program's words, and else 1.
-    pub fn exit_code(&self) -> ExitCode
+    pub(crate) fn exit_code(&self) -> ExitCode
         ensures { exit_status result ≡ status_of self.now }
     {
         match self {
@@ -60,7 +60,7 @@ impl<'a> From<ScriptFault> for Fault<'a> {
 }
 
 /// The words that the program was called with, its name first.
-pub fn words_of<R: Env + AllocGlobal>(rt: &R) -> Result<Vec<String>, Fault<'static>> {
+pub(crate) fn words_of<R: Env + AllocGlobal>(rt: &R) -> Result<Vec<String>, Fault<'static>> {
     match env::args(rt) {
         Ok(words) => Ok(words.collect(rt.alloc())?),
         Err(error) if error.kind() == io::ErrorKind::OutOfMemory => Err(Fault::Memory),
@@ -73,7 +73,11 @@ pub fn words_of<R: Env + AllocGlobal>(rt: &R) -> Result<Vec<String>, Fault<'stat
 ///
 /// Faults are found in this order: of the words, of the profile, of the script, of its run. Nothing is written before the
 /// last of these.
-pub fn run<'a, R, W>(rt: &R, words: &'a [String], writer: &mut W) -> Result<ExitCode, Fault<'a>>
+pub(crate) fn run<'a, R, W>(
+    rt: &R,
+    words: &'a [String],
+    writer: &mut W,
+) -> Result<ExitCode, Fault<'a>>
 where
     R: Files + Input + Print + Eprint + AllocGlobal,
     W: Write,
@@ -187,7 +191,10 @@ fn usage<'a, R: Print + Eprint>(rt: &R, error: &UsageError) -> Result<ExitCode, 
 }
 
 /// The profile of its word: `tiny`, or a file of TOML.
-pub fn profile_of<'a, R: Files + AllocGlobal>(rt: &R, word: &'a str) -> Result<Profile, Fault<'a>> {
+pub(crate) fn profile_of<'a, R: Files + AllocGlobal>(
+    rt: &R,
+    word: &'a str,
+) -> Result<Profile, Fault<'a>> {
     let read = if word == "tiny" {
         read_profile(rt.alloc(), TINY.as_bytes())
     } else {

@@ -30,7 +30,7 @@ fn say<W: io::Write>(writer: &mut W, answer: &Answer) -> Result<(), ScriptFault>
 
 /// Writes what a restore of a store would answer, and each line of memory that isn't all zero; a size that no store has is
 /// `WrongSize`. Answers whether an image was restored; false where the refusal was written.
-pub fn show_store<W: io::Write>(
+pub(crate) fn show_store<W: io::Write>(
     alloc: Global,
     store: Vec<u8>,
     writer: &mut W,
