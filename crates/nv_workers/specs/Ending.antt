@@ -10,12 +10,12 @@ use Rattle.nv_workers.specs.declared.host.Receipt.{Receipt}
 use Rattle.nv_workers.specs.declared.host.Seen.{Seen}
 
 -- the write that a receipt is for
-abbrev pub write_of : Receipt → Write
-write_of receipt = record { line = receipt.line; «data» = receipt.«data» }
+abbrev pub receipted : Receipt → Write
+receipted receipt = record { line = receipt.line; «data» = receipt.«data» }
 
 -- the write of a receipt stands in the history at its number
 abbrev pub StandsIn : Recorded → Receipt → Type 0
-StandsIn history receipt = write_at history.start history.writes receipt.number ≡ Some (write_of receipt)
+StandsIn history receipt = write_at history.start history.writes receipt.number ≡ Some (receipted receipt)
 
 -- an answer is its line of the memory after the first `at` writes
 unfoldable pub IsBorneOut : Recorded → Seen → Type 0

@@ -9,5 +9,5 @@ pub record Opened : Type 0 where
   pub board : TableId
   pub mark : ℕ
 
-abbrev pub opened : ℕ → ℕ → TableId → ℕ → Opened
-opened name parts board mark = record { name = name; parts = parts; board = board; mark = mark }
+abbrev pub opening : ℕ → ℕ → TableId → ℕ → Opened
+opening name parts board mark = record { name = name; parts = parts; board = board; mark = mark }

@@ -2,7 +2,7 @@
 ghost use Rattle.std.specs.Prelude.{◌≡◌, ◌+◌, ◌≤◌, ◌↔◌, All, Some, length, sum_by, IfOk, IfErr, IfSome, IfNone, IsTrue};
 ghost use Rattle.life_record.specs.Recorded.{Recorded};
 ghost use Rattle.line_memory.specs.declared.Write.{Write};
-ghost use Rattle.nv_workers.specs.Ending.{IsBorneOut, IsFirstNot, IsFirstStranger, StandsIn, write_of};
+ghost use Rattle.nv_workers.specs.Ending.{IsBorneOut, IsFirstNot, IsFirstStranger, StandsIn, receipted};
 ghost use Rattle.nv_workers.specs.Kept.{IsRecorded};
 ghost use Rattle.nv_workers.specs.Lent.{lent};
 ghost use Rattle.nv_workers.specs.Newest.{HasNewest};
@@ -39,7 +39,7 @@ pub struct Stranger {
 
 // Whether a write was found, and is that of a receipt.
 fn is_of(found: Option<Write>, receipt: &Receipt) -> bool
-    ensures { IsTrue result ↔ (found ≡ Some (write_of receipt.now)) }
+    ensures { IsTrue result ↔ (found ≡ Some (receipted receipt.now)) }
 {
     match found {
         Some(write) => write.line == receipt.line && write.data == receipt.data,
@@ -133,15 +133,17 @@ impl<C: Channels, D: SaveDevice, E: Energy, B: Room> Held<C, D, E, B> {
         C: Drop,
         D: Drop,
         E: Drop,
-        requires { (length hosts.items ≡ B.parts) }
+        requires { length hosts.items ≡ B.parts }
         ensures running { result.running ≡ self.running }
         ensures device { result.device ≡ self.device }
         ensures energy { result.energy ≡ self.energy }
         ensures history { result.history ≡ self.history }
         ensures newest { HasNewest C.Channels result.saved result.running (D.state result.device) }
         ensures recorded { IsRecorded C.Channels
-            (lent C.Channels result.running (D.state result.device) (E.gauge result.energy)) result.history }
-        ensures shares { length result.history.writes ≡ B.before + sum_by (λ h. h.writes) hosts.items }
+            (lent C.Channels result.running (D.state result.device) (E.gauge result.energy))
+            result.history }
+        ensures shares { length result.history.writes
+            ≡ B.before + sum_by (λ h. h.writes) hosts.items }
         ensures marks { All (λ h. h.persisted ≤ result.running.persisted) hosts.items }
     {
         let Held {

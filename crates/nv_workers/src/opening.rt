@@ -21,11 +21,11 @@ pub struct Opening {
 impl Model for Opening {
     ghost use Rattle.std.specs.Prelude.{◌≡◌, vec_len};
     ghost use Rattle.mark_board.specs.SeenMarks.{AllHaveSeen, seen_marks};
-    ghost use Rattle.nv_workers.specs.Opened.{Opened, opened};
+    ghost use Rattle.nv_workers.specs.Opened.{Opened, opening};
 
     ghost Value = { Opened };
 
-    ghost view = { λ o. opened o.blank.name o.blank.parts o.marks o.mark };
+    ghost view = { λ o. opening o.blank.name o.blank.parts o.marks o.mark };
 
     ghost invariant = { λ o. (o.seat ≡ seen_marks o.marks o.mark o.mark) × (vec_len o.seats ≡ o.blank.parts) × AllHaveSeen (seen_marks o.marks o.mark o.mark) o.seats.items };
 }
