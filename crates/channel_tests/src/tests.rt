@@ -2,6 +2,7 @@
 
 mod busy;
 mod by_lines;
+mod check;
 mod fixture;
 mod last_start;
 mod picks;

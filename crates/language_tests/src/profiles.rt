@@ -129,65 +129,65 @@ fn limits_of_sizes(rt: HostRuntime) {
     }
 }
 
+const TIMING_KEYS: [&str; 17] = [
+    "tRCD", "tRP", "tRAS", "CL", "CWL", "tCCD_S", "tCCD_L", "tRRD_S", "tRRD_L", "tFAW", "tWR",
+    "tWTR_S", "tWTR_L", "tRTP", "tRTW", "tCS", "tRFC",
+];
+
+// Fails where zero, a negative value or one past the limit isn't refused under a key.
+fn refuses_past_limits<R: Abort + AllocGlobal>(rt: &R, key: &str) {
+    refuses(rt, key, "0");
+    refuses(rt, key, "-1");
+    refuses(rt, key, "100001");
+    refuses(rt, key, "9223372036854775807");
+}
+
 #[test]
 fn limits_of_timing(rt: HostRuntime) {
-    for key in [
-        "tRCD", "tRP", "tRAS", "CL", "CWL", "tCCD_S", "tCCD_L", "tRRD_S", "tRRD_L", "tFAW", "tWR",
-        "tWTR_S", "tWTR_L", "tRTP", "tRTW", "tCS", "tRFC",
-    ] {
-        for value in ["0", "-1", "100001", "9223372036854775807"] {
-            refuses(&rt, key, value);
-        }
+    for key in TIMING_KEYS.iter() {
+        refuses_past_limits(&rt, key);
     }
-    for value in ["100000", "1"] {
-        accepts(&rt, "CL", value);
-    }
-    for (key, value) in [("tREFI", "1850"), ("tREFI", "1000000"), ("tFAW", "55")] {
-        accepts(&rt, key, value);
-    }
-    for (key, value) in [("tREFI", "1849"), ("tREFI", "1000001"), ("tFAW", "56")] {
-        refuses(&rt, key, value);
-    }
+    accepts(&rt, "CL", "100000");
+    accepts(&rt, "CL", "1");
+    accepts(&rt, "tREFI", "1850");
+    accepts(&rt, "tREFI", "1000000");
+    accepts(&rt, "tFAW", "55");
+    refuses(&rt, "tREFI", "1849");
+    refuses(&rt, "tREFI", "1000001");
+    refuses(&rt, "tFAW", "56");
 }
 
 #[test]
 fn limits_of_the_geometry(rt: HostRuntime) {
-    for (key, value) in [
-        ("channels", "1"),
-        ("channels", "8"),
-        ("ranks", "4"),
-        ("groups", "4"),
-        ("rows", "1"),
-        ("rows", "1024"),
-        ("columns", "2048"),
-    ] {
-        accepts(&rt, key, value);
-    }
-    for (key, value) in [
-        ("channels", "0"),
-        ("channels", "3"),
-        ("channels", "16"),
-        ("ranks", "3"),
-        ("ranks", "8"),
-        ("groups", "1"),
-        ("groups", "8"),
-        ("banks", "2"),
-        ("rows", "3"),
-        ("rows", "2048"),
-        ("columns", "1"),
-        ("columns", "4096"),
-    ] {
-        refuses(&rt, key, value);
-    }
-    let (start, end) = (
-        "channels = 2\nranks = 1\ngroups = 2\n",
-        "rows = 2\ncolumns = 4\n",
-    );
-    let numbers = format!(in rt.alloc(); "{start}banks = 4\n{end}").expect(&rt, "memory");
+    accepts(&rt, "channels", "1");
+    accepts(&rt, "channels", "8");
+    accepts(&rt, "ranks", "4");
+    accepts(&rt, "groups", "4");
+    accepts(&rt, "rows", "1");
+    accepts(&rt, "rows", "1024");
+    accepts(&rt, "columns", "2048");
+    refuses(&rt, "channels", "0");
+    refuses(&rt, "channels", "3");
+    refuses(&rt, "channels", "16");
+    refuses(&rt, "ranks", "3");
+    refuses(&rt, "ranks", "8");
+    refuses(&rt, "groups", "1");
+    refuses(&rt, "groups", "8");
+    refuses(&rt, "banks", "2");
+    refuses(&rt, "rows", "3");
+    refuses(&rt, "rows", "2048");
+    refuses(&rt, "columns", "1");
+    refuses(&rt, "columns", "4096");
+}
+
+const GEOMETRY: &str = "channels = 2\nranks = 1\ngroups = 2\nbanks = 4\nrows = 2\ncolumns = 4\n";
+
+#[test]
+fn limits_of_all_lines(rt: HostRuntime) {
     let most = "channels = 8\nranks = 4\ngroups = 4\nbanks = 4\nrows = 16\ncolumns = 8\n";
-    accepts_for(&rt, numbers.as_str(), most);
+    accepts_for(&rt, GEOMETRY, most);
     let past = "channels = 8\nranks = 4\ngroups = 4\nbanks = 4\nrows = 16\ncolumns = 16\n";
-    refuses_for(&rt, numbers.as_str(), past);
+    refuses_for(&rt, GEOMETRY, past);
     refuses_for(&rt, "rows = 2\ncolumns = 4", "rows = 1\ncolumns = 2");
 }
 

@@ -7,7 +7,7 @@ use interleave_map::laws::{inverse_interleaves, lines_is_inverse, places_come_ba
 use interleave_map::line_map::LineMap;
 use interleave_map::lines::{join, split};
 
-#[derive(Clone, Copy, Debug)]
+#[derive(Clone, Copy)]
 pub(crate) struct ByLines {
     pub checked: Checked,
 }

@@ -14,8 +14,7 @@ use energy_budget::{CostNumbers, Costs};
 use interleave_map::cells::cells;
 use interleave_map::line_map::LineMap;
 use line_memory::Line;
-use std::alloc::{AllocError, Global};
-use std::test::Fail;
+use std::process::Abort;
 use wpq_core::Full;
 
 pub(crate) const NUMBERS: CostNumbers = CostNumbers {
@@ -44,24 +43,23 @@ pub struct Fixture {
 
 impl Fixture {
     /// So many writes may be pending, and so many reads.
-    pub(crate) fn new(
-        alloc: Global,
+    pub(crate) fn new<R: Abort + AllocGlobal>(
+        rt: &R,
         timing: &Timing,
         geometry: &Geometry,
         depth: usize,
         reads: usize,
-    ) -> Result<Fixture, Fail> {
-        if depth < 1 || depth > 64 || reads > 64 || !NUMBERS.is_in_limits() {
-            return Err("no such depth".into());
-        }
-        let checked = timing.check(geometry)?;
-        let channel = Channel::new(alloc, &checked, 0, depth, reads)?;
-        Ok(Fixture {
+    ) -> Fixture {
+        assert!(*rt; depth >= 1 && depth <= 64 && reads <= 64);
+        assert!(*rt; NUMBERS.is_in_limits());
+        let checked = timing.check(geometry).expect(rt, "a profile");
+        let channel = Channel::new(rt.alloc(), &checked, 0, depth, reads).expect(rt, "memory");
+        Fixture {
             map: ByLines { checked },
             channel,
             costs: Costs::of(&checked, &NUMBERS),
             number: 0,
-        })
+        }
     }
 
     pub(crate) fn checked(&self) -> Checked {
@@ -84,37 +82,34 @@ impl Fixture {
     }
 
     /// The line at a place.
-    pub(crate) fn line_at(&self, place: Place) -> Result<u64, Fail> {
-        if !place.lies_in(&self.map.checked.geometry) {
-            return Err("no such place".into());
-        }
-        Ok(self.map.line(place))
+    pub(crate) fn line_at<R: Abort>(&self, rt: &R, place: Place) -> u64 {
+        assert!(*rt; place.lies_in(&self.map.checked.geometry));
+        self.map.line(place)
     }
 
     /// Writes a line of one byte: the write's number and place.
-    pub(crate) fn put(&mut self, line: u64, byte: u8) -> Result<Result<(u64, Place), Full>, Fail> {
-        if !self.channel.has_line(&self.map, line) {
-            return Err("no such line".into());
-        }
+    pub(crate) fn put<R: Abort>(
+        &mut self,
+        rt: &R,
+        line: u64,
+        byte: u8,
+    ) -> Result<(u64, Place), Full> {
         let number = self.number;
-        if !self.channel.may_take(number) || number == u64::MAX {
-            return Err("no such number".into());
-        }
+        assert!(*rt; self.channel.has_line(&self.map, line));
+        assert!(*rt; self.channel.may_take(number) && number < u64::MAX);
         let place = self.map.place(line);
         match self.channel.put(&self.map, number, line, [byte; 64]) {
             Ok(()) => {
                 self.number = number + 1;
-                Ok(Ok((number, place)))
+                Ok((number, place))
             }
-            Err(full) => Ok(Err(full)),
+            Err(full) => Err(full),
         }
     }
 
-    pub(crate) fn get(&mut self, line: u64) -> Result<Result<Got, ReadsFull>, Fail> {
-        if !self.channel.has_line(&self.map, line) {
-            return Err("no such line".into());
-        }
-        Ok(self.channel.get(&self.map, line, self.number))
+    pub(crate) fn get<R: Abort>(&mut self, rt: &R, line: u64) -> Result<Got, ReadsFull> {
+        assert!(*rt; self.channel.has_line(&self.map, line));
+        self.channel.get(&self.map, line, self.number)
     }
 
     pub(crate) fn collect(&mut self, ticket: Ticket) -> Collected {
@@ -122,11 +117,9 @@ impl Fixture {
     }
 
     /// A line of the array.
-    pub(crate) fn stored(&self, line: u64) -> Result<Line, Fail> {
-        if !self.channel.has_line(&self.map, line) {
-            return Err("no such line".into());
-        }
-        Ok(self.channel.stored(&self.map, line))
+    pub(crate) fn stored<R: Abort>(&self, rt: &R, line: u64) -> Line {
+        assert!(*rt; self.channel.has_line(&self.map, line));
+        self.channel.stored(&self.map, line)
     }
 
     /// The channel as it is.
@@ -146,39 +139,30 @@ impl Fixture {
         self.channel.work()
     }
 
-    pub(crate) fn work_many(
-        &mut self,
-        alloc: Global,
-        n: usize,
-    ) -> Result<Vec<Stamped>, AllocError> {
-        self.channel.work_many(alloc, n)
+    pub(crate) fn work_many<R: Abort + AllocGlobal>(&mut self, rt: &R, n: usize) -> Vec<Stamped> {
+        self.channel.work_many(rt.alloc(), n).expect(rt, "memory")
     }
 
     /// Drains the channel.
-    pub(crate) fn drain(&mut self) -> Result<DrainReport, Fail> {
-        if !matches!(self.channel.phase(), Phase::Running) || self.channel.clock() >= 1 << 62 {
-            return Err("may not drain".into());
-        }
+    pub(crate) fn drain<R: Abort>(&mut self, rt: &R) -> DrainReport {
+        let is_running = matches!(self.channel.phase(), Phase::Running);
+        assert!(*rt; is_running && self.channel.clock() < 1 << 62);
         self.channel.always();
         running_channel_may_drain();
-        Ok(drain(&mut self.channel, &self.costs))
+        drain(&mut self.channel, &self.costs)
     }
 
     /// The last commands, of those from a clock on.
-    pub(crate) fn recent_from(
-        &self,
-        alloc: Global,
-        clock: u64,
-    ) -> Result<Vec<Stamped>, AllocError> {
-        let mut list = Vec::new(alloc);
+    pub(crate) fn recent_from<R: Abort + AllocGlobal>(&self, rt: &R, clock: u64) -> Vec<Stamped> {
+        let mut list = Vec::new(rt.alloc());
         for i in 0..RECENT {
             if let Some(command) = self.channel.recent(i) {
                 if command.clock >= clock {
-                    list.push(command)?;
+                    list.push(command).expect(rt, "memory");
                 }
             }
         }
-        Ok(list)
+        list
     }
 
     /// The first fault of a list of commands, on its profile.

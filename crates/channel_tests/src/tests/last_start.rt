@@ -6,7 +6,9 @@ ghost use Rattle.energy_budget.specs.Costs.{AreReckonedFor};
 ghost use Rattle.ddr4_timing.specs.declared.command.Command.TheVariants.{Act};
 
 use crate::tests::by_lines::ByLines;
+use crate::tests::check::same;
 use crate::tests::fixture::NUMBERS;
+use crate::tests::profiles::behind;
 use chan_core::Channel;
 use ddr4_timing::command::{Command, Stamped};
 use ddr4_timing::fault::first_fault;
@@ -15,8 +17,7 @@ use ddr4_timing::profiles::{SMALL, TINY};
 use ddr4_timing::timing::Checked;
 use drain_core::{DrainReport, drain};
 use energy_budget::Costs;
-use std::alloc::Global;
-use std::test::Fail;
+use std::process::Abort;
 
 // Opens a row at a clock, as the first command of a channel, and drains it from the next clock on.
 fn drain_opened(
@@ -38,68 +39,94 @@ fn drain_opened(
     drain(channel, costs)
 }
 
-// A drain of one write, behind a row that was opened at the clock: what it took, and the last commands of the channel.
-fn drain_behind(
-    alloc: Global,
+// A channel with one write.
+fn with_a_write<R: Abort + AllocGlobal>(rt: &R, checked: &Checked) -> Channel
+    ensures checked { result.checked ≡ checked.now }
+    ensures new { result.commands ≡ [] }
+{
+    let map = ByLines { checked: *checked };
+    let mut channel = Channel::new(rt.alloc(), checked, 0, 8, 8).expect(rt, "memory");
+    assert!(*rt; channel.has_line(&map, 0));
+    assert!(*rt; channel.put(&map, 0, 0, [0x11; 64]).is_ok());
+    channel
+}
+
+const FIRST_BANK: BankAddress = BankAddress {
+    rank: 0,
+    group: 0,
+    bank: 0,
+};
+
+// Drains a channel of one write, behind a row that was opened at the clock.
+fn drain_behind<R: Abort>(
+    rt: &R,
     checked: &Checked,
+    channel: &mut Channel,
     clock: u64,
-) -> Result<(DrainReport, Vec<Stamped>), Fail> {
-    if !NUMBERS.is_in_limits() || clock >= 1 << 32 {
-        return Err("no such costs".into());
-    }
-    let at = BankAddress {
-        rank: 0,
-        group: 0,
-        bank: 0,
-    };
+) -> DrainReport
+    requires checked { channel.old.checked ≡ checked.now }
+    requires new { channel.old.commands ≡ [] }
+{
+    assert!(*rt; NUMBERS.is_in_limits() && clock < 1 << 32);
+    let costs = Costs::of(checked, &NUMBERS);
+    let end = clock + 1 + (costs.close + costs.ranks);
+    assert!(*rt; end <= 9 * checked.timing.t_refi);
+    let at = FIRST_BANK;
     let opened = Stamped {
         clock,
         cmd: Command::Act { at, row: 1 },
     };
-    let costs = Costs::of(checked, &NUMBERS);
-    if clock + 1 + (costs.close + costs.ranks) > 9 * checked.timing.t_refi {
-        return Err("too late".into());
-    }
-    if first_fault(checked, &[opened]).is_some() {
-        return Err("unlawful".into());
-    }
-    let map = ByLines { checked: *checked };
-    let mut channel = Channel::new(alloc, checked, 0, 8, 8)?;
-    if !channel.has_line(&map, 0) || channel.put(&map, 0, 0, [0x11; 64]).is_err() {
-        return Err("no room".into());
-    }
-    let report = drain_opened(&mut channel, &costs, at, 1, clock);
-    let mut list = Vec::new(alloc);
+    assert!(*rt; first_fault(checked, &[opened]).is_none());
+    drain_opened(channel, &costs, at, 1, clock)
+}
+
+// The last commands of a channel.
+fn recent<R: Abort + AllocGlobal>(rt: &R, channel: &Channel) -> Vec<Stamped> {
+    let mut list = Vec::new(rt.alloc());
     for i in 0..64 {
         if let Some(command) = channel.recent(i) {
-            list.push(command)?;
+            list.push(command).expect(rt, "memory");
         }
     }
-    Ok((report, list))
+    list
 }
+
+const LAST: [(u64, Command); 7] = [
+    (
+        83_801,
+        Command::Act {
+            at: FIRST_BANK,
+            row: 1,
+        },
+    ),
+    (83_840, Command::PreAll { rank: 0 }),
+    (83_856, Command::Ref { rank: 0 }),
+    (
+        84_276,
+        Command::Act {
+            at: FIRST_BANK,
+            row: 0,
+        },
+    ),
+    (
+        84_292,
+        Command::Wr {
+            at: FIRST_BANK,
+            column: 0,
+        },
+    ),
+    (84_326, Command::Pre { at: FIRST_BANK }),
+    (84_342, Command::Sre { rank: 0 }),
+];
 
 // Nine intervals end at 84,240, and a close step of 437 clocks and an SRE fit before that.
 #[test]
-fn a_drain_at_the_last_start(rt: HostRuntime) -> Result<(), Fail> {
-    let checked = TINY.check(&SMALL)?;
-    let (report, list) = drain_behind(rt.alloc(), &checked, 83_801)?;
-    let at = BankAddress {
-        rank: 0,
-        group: 0,
-        bank: 0,
-    };
-    let want = [
-        (83_801, Command::Act { at, row: 1 }),
-        (83_840, Command::PreAll { rank: 0 }),
-        (83_856, Command::Ref { rank: 0 }),
-        (84_276, Command::Act { at, row: 0 }),
-        (84_292, Command::Wr { at, column: 0 }),
-        (84_326, Command::Pre { at }),
-        (84_342, Command::Sre { rank: 0 }),
-    ];
-    let want = want.map(|(clock, cmd)| Stamped { clock, cmd });
-    assert_eq!(rt; list.as_slice(), want.as_slice());
-    assert_eq!(rt; first_fault(&checked, &list), None);
-    assert_eq!(rt; (report.clocks, report.spent), (541, 570));
-    Ok(())
+fn a_drain_at_the_last_start(rt: HostRuntime) {
+    let checked = TINY.check(&SMALL).expect(&rt, "a profile");
+    let mut channel = with_a_write(&rt, &checked);
+    let report = drain_behind(&rt, &checked, &mut channel, 83_801);
+    let list = recent(&rt, &channel);
+    same(&rt, list.as_slice(), behind(&rt, 0, &LAST).as_slice());
+    same(&rt, first_fault(&checked, &list), None);
+    same(&rt, (report.clocks, report.spent), (541, 570));
 }

@@ -4,7 +4,7 @@ use ddr4_timing::command::{Command, Stamped};
 use ddr4_timing::place::Place;
 use ddr4_timing::timing::{Checked, Timing};
 use energy_budget::CostNumbers;
-use std::alloc::AllocError;
+use std::process::Abort;
 
 /// The commands so far, and the clock from which the next may go.
 #[derive(Drop)]
@@ -26,10 +26,9 @@ impl Plain {
         }
     }
 
-    fn send(&mut self, cmd: Command, clock: u64) -> Result<(), AllocError> {
+    fn send<R: Abort>(&mut self, rt: &R, cmd: Command, clock: u64) {
         self.clock = clock.saturating_add(1);
-        self.list.push(Stamped { clock, cmd })?;
-        Ok(())
+        self.list.push(Stamped { clock, cmd }).expect(rt, "memory");
     }
 
     // How many clocks a command keeps its rank from a precharge of all banks.
@@ -106,58 +105,56 @@ impl Plain {
         clock.checked_div(self.timing.t_refi).unwrap_or(0) > refreshes
     }
 
-    fn close(&mut self) -> Result<(), AllocError> {
+    fn close<R: Abort>(&mut self, rt: &R) {
         for rank in 0..self.ranks {
             if self.open_banks(rank) > 0 {
                 let clock = self.close_clock(rank);
-                self.send(Command::PreAll { rank }, clock)?;
+                self.send(rt, Command::PreAll { rank }, clock);
             }
         }
         self.rest();
-        Ok(())
     }
 
-    fn refresh(&mut self) -> Result<(), AllocError> {
+    fn refresh<R: Abort>(&mut self, rt: &R) {
         let start = self.clock;
         for rank in 0..self.ranks {
             if self.owes(rank, start) {
                 let clock = self.clock;
-                self.send(Command::Ref { rank }, clock)?;
+                self.send(rt, Command::Ref { rank }, clock);
             }
         }
         self.rest();
-        Ok(())
     }
 
-    fn enter(&mut self, place: &Place) -> Result<(), AllocError> {
-        self.refresh()?;
+    fn enter<R: Abort>(&mut self, rt: &R, place: &Place) {
+        self.refresh(rt);
         let at = place.bank_address();
         let row = place.row;
         let column = place.column;
         let opened = self.clock;
         let written = opened.saturating_add(self.timing.t_rcd);
         let closed = written.saturating_add(self.write_gap());
-        self.send(Command::Act { at, row }, opened)?;
-        self.send(Command::Wr { at, column }, written)?;
+        self.send(rt, Command::Act { at, row }, opened);
+        self.send(rt, Command::Wr { at, column }, written);
         self.send(
+            rt,
             Command::Pre { at },
             closed.max(opened.saturating_add(self.timing.t_ras)),
-        )?;
+        );
         self.rest();
-        Ok(())
     }
 
     /// All commands, with those of the drain of writes at these places.
-    pub(crate) fn drained(mut self, places: &[Place]) -> Result<Vec<Stamped>, AllocError> {
-        self.close()?;
+    pub(crate) fn drained<R: Abort>(mut self, rt: &R, places: &[Place]) -> Vec<Stamped> {
+        self.close(rt);
         for place in places {
-            self.enter(place)?;
+            self.enter(rt, place);
         }
         for rank in 0..self.ranks {
             let clock = self.clock;
-            self.send(Command::Sre { rank }, clock)?;
+            self.send(rt, Command::Sre { rank }, clock);
         }
-        Ok(self.list)
+        self.list
     }
 }
 

@@ -1,4 +1,5 @@
 // A channel with a plain account of what went into it and what it issued.
+use crate::tests::check::same;
 use crate::tests::fixture::{Fixture, NUMBERS};
 use crate::tests::picks::Picks;
 use crate::tests::plain::{Plain, spent};
@@ -8,14 +9,11 @@ use ddr4_timing::place::Place;
 use ddr4_timing::timing::{Geometry, Timing};
 use drain_core::DrainReport;
 use energy_budget::Action;
-use std::alloc::Global;
 use std::process::Abort;
-use std::test::Fail;
 
 /// A channel, its commands so far, its pending writes and the byte of each of its lines.
 #[derive(Drop)]
 pub struct Run {
-    alloc: Global,
     pub fixture: Fixture,
     commands: Vec<Stamped>,
     pending: Vec<(u64, Place)>,
@@ -34,69 +32,66 @@ pub struct Drained {
 
 impl Run {
     /// Its requests go to lines so many apart.
-    pub(crate) fn new(
-        alloc: Global,
+    pub(crate) fn new<R: Abort + AllocGlobal>(
+        rt: &R,
         timing: &Timing,
         geometry: &Geometry,
         salt: u64,
         apart: u64,
-    ) -> Result<Run, Fail> {
-        let fixture = Fixture::new(alloc, timing, geometry, 8, 8)?;
-        let bytes = Vec::from_elem(alloc, 0, fixture.lines() as usize)?;
-        Ok(Run {
-            alloc,
+    ) -> Run {
+        let fixture = Fixture::new(rt, timing, geometry, 8, 8);
+        let bytes = Vec::from_elem(rt.alloc(), 0, fixture.lines() as usize);
+        Run {
             fixture,
-            commands: Vec::new(alloc),
-            pending: Vec::new(alloc),
-            bytes,
+            commands: Vec::new(rt.alloc()),
+            pending: Vec::new(rt.alloc()),
+            bytes: bytes.expect(rt, "memory"),
             picks: Picks { salt, apart },
-        })
+        }
     }
 
     /// Writes a line that the number picks; false where no further write may wait.
-    pub(crate) fn put(&mut self, pick: u64, byte: u8) -> Result<bool, Fail> {
+    pub(crate) fn put<R: Abort>(&mut self, rt: &R, pick: u64, byte: u8) -> bool {
         let line = self.fixture.line(pick);
-        let Ok(write) = self.fixture.put(line, byte)? else {
-            return Ok(false);
+        let Ok(write) = self.fixture.put(rt, line, byte) else {
+            return false;
         };
-        self.pending.push(write)?;
+        self.pending.push(write).expect(rt, "memory");
         let index = pick.checked_rem(self.fixture.lines()).unwrap_or(0);
         if let Some(old) = self.bytes.get_mut(index as usize) {
             *old = byte;
         }
-        Ok(true)
+        true
     }
 
     // Writes until no further write may wait.
-    fn fill_writes(&mut self) -> Result<(), Fail> {
+    fn fill_writes<R: Abort>(&mut self, rt: &R) {
         for byte in 1..255 {
             let pick = self.picks.next();
-            if !self.put(pick, byte)? {
-                return Ok(());
+            if !self.put(rt, pick, byte) {
+                return;
             }
         }
-        Err("never full".into())
+        panic!(*rt; "never full");
     }
 
     /// Writes and reads until no further request may wait.
-    pub(crate) fn fill(&mut self) -> Result<(), Fail> {
-        self.fill_writes()?;
+    pub(crate) fn fill<R: Abort>(&mut self, rt: &R) {
+        self.fill_writes(rt);
         for _ in 0..1000 {
             let pick = self.picks.next();
             let line = self.fixture.line(pick);
-            if self.fixture.get(line)?.is_err() {
-                return Ok(());
+            if self.fixture.get(rt, line).is_err() {
+                return;
             }
         }
-        Err("never full".into())
+        panic!(*rt; "never full");
     }
 
     /// Issues one command, if there is one, and collects the read that it answered: its clock.
-    pub(crate) fn step(&mut self) -> Result<Option<u64>, Fail> {
-        let Some(done) = self.fixture.work() else {
-            return Ok(None);
-        };
-        self.commands.push(done.command)?;
+    pub(crate) fn step<R: Abort>(&mut self, rt: &R) -> Option<u64> {
+        let done = self.fixture.work()?;
+        self.commands.push(done.command).expect(rt, "memory");
         match done.served {
             Some(Served::Write { number }) => self.pending.retain(|write| write.0 != number),
             Some(Served::Read(ticket)) => {
@@ -104,28 +99,28 @@ impl Run {
             }
             None => {}
         }
-        Ok(Some(done.command.clock))
+        Some(done.command.clock)
     }
 
     /// Works with full queues up to a clock.
-    pub(crate) fn busy_until(&mut self, until: u64) -> Result<(), Fail> {
+    pub(crate) fn busy_until<R: Abort>(&mut self, rt: &R, until: u64) {
         for _ in 0..until {
-            self.fill()?;
-            if self.step()?.ok_or("idle")? >= until {
-                return Ok(());
+            self.fill(rt);
+            if self.step(rt).expect(rt, "a command") >= until {
+                return;
             }
         }
-        Err("not there in time".into())
+        panic!(*rt; "not there in time");
     }
 
     /// Works until nothing waits.
-    pub(crate) fn finish(&mut self) -> Result<(), Fail> {
+    pub(crate) fn finish<R: Abort>(&mut self, rt: &R) {
         for _ in 0..10_000 {
-            if self.step()?.is_none() {
-                return Ok(());
+            if self.step(rt).is_none() {
+                return;
             }
         }
-        Err("never idle".into())
+        panic!(*rt; "never idle");
     }
 
     /// One past the clock of the last command.
@@ -136,62 +131,74 @@ impl Run {
     }
 
     /// Whether the array has the last byte that was written to each line.
-    pub(crate) fn has_bytes(&self) -> Result<bool, Fail> {
+    pub(crate) fn has_bytes<R: Abort>(&self, rt: &R) -> bool {
         for (index, byte) in self.bytes.iter().enumerate() {
             let line = self.fixture.line(index as u64);
-            if self.fixture.stored(line)? != [*byte; 64] {
-                return Ok(false);
+            if self.fixture.stored(rt, line) != [*byte; 64] {
+                return false;
             }
         }
-        Ok(true)
+        true
     }
 
     // The places of the pending writes, oldest first.
-    fn places(&self) -> Result<Vec<Place>, Fail> {
-        let mut places = Vec::new(self.alloc);
+    fn places<R: Abort + AllocGlobal>(&self, rt: &R) -> Vec<Place> {
+        let mut places = Vec::new(rt.alloc());
         for (_, place) in self.pending.iter() {
-            places.push(*place)?;
+            places.push(*place).expect(rt, "memory");
         }
-        Ok(places)
+        places
+    }
+
+    // All commands with those of a drain of the pending writes, reckoned plainly.
+    fn plainly<R: Abort + AllocGlobal>(&self, rt: &R, places: &[Place]) -> Vec<Stamped> {
+        let commands = self.commands.to_vec(rt.alloc()).expect(rt, "memory");
+        Plain::new(&self.fixture.checked(), commands).drained(rt, places)
     }
 
     /// Drains the channel, and checks what the drain issued, took and left.
-    pub(crate) fn drain(&mut self, rt: &impl Abort) -> Result<Drained, Fail> {
+    pub(crate) fn drain<R: Abort + AllocGlobal>(&mut self, rt: &R) -> Drained {
         let start = self.next_clock();
-        let places = self.places()?;
-        let checked = self.fixture.checked();
-        let plain = Plain::new(&checked, self.commands.to_vec(self.alloc)?).drained(&places)?;
-        let report = self.fixture.drain()?;
-        let commands = self.fixture.recent_from(self.alloc, start)?;
-        self.commands.extend_from_slice(&commands)?;
+        let places = self.places(rt);
+        let plain = self.plainly(rt, &places);
+        let report = self.fixture.drain(rt);
+        let commands = self.fixture.recent_from(rt, start);
+        self.commands
+            .extend_from_slice(&commands)
+            .expect(rt, "memory");
         self.pending.clear();
-        assert!(rt; self.commands == plain);
-        assert_eq!(rt; self.fixture.fault(&self.commands), None);
-        assert_eq!(rt; self.fixture.channel().pending(), 0);
-        assert!(rt; self.has_bytes()?);
+        same(rt, self.commands.as_slice(), plain.as_slice());
+        self.check_left(rt);
         let drained = Drained {
             report,
             start,
             commands,
         };
         self.check_report(rt, &drained, places.len() as u64);
-        Ok(drained)
+        drained
+    }
+
+    // No rule is broken, no write is pending, and each line has its last byte.
+    fn check_left<R: Abort>(&self, rt: &R) {
+        same(rt, self.fixture.fault(&self.commands), None);
+        same(rt, self.fixture.channel().pending(), 0);
+        same(rt, self.has_bytes(rt), true);
     }
 
     // The clocks and what was spent are those of the commands, and within their bounds.
-    fn check_report(&self, rt: &impl Abort, drained: &Drained, writes: u64) {
+    fn check_report<R: Abort>(&self, rt: &R, drained: &Drained, writes: u64) {
         let report = drained.report;
         let clocks = self.next_clock().saturating_sub(drained.start);
-        assert_eq!(rt; report.clocks, clocks);
-        assert_eq!(rt; report.spent, spent(&NUMBERS, &drained.commands, clocks));
+        same(rt, report.clocks, clocks);
+        same(rt, report.spent, spent(&NUMBERS, &drained.commands, clocks));
         let costs = self.fixture.costs();
         let most = writes
             .saturating_mul(costs.entry)
             .saturating_add(costs.close);
-        assert!(rt; clocks <= most);
+        same(rt, clocks <= most, true);
         let entries = writes.saturating_mul(costs.cost(Action::EntryStep));
-        let close = costs.cost(Action::CloseStep);
-        assert!(rt; report.spent <= entries.saturating_add(close));
+        let most = entries.saturating_add(costs.cost(Action::CloseStep));
+        same(rt, report.spent <= most, true);
     }
 }
 

@@ -1,6 +1,7 @@
 // The scheduler's choices on a channel of one rank, worked by hand.
 ghost use Rattle.std.specs.Prelude.{◌≡◌, ◌<◌, ◌^◌, IfSome};
 
+use crate::tests::check::same;
 use bank_core::banks::Banks;
 use ddr4_timing::command::Command;
 use ddr4_timing::place::{BankAddress, Place};
@@ -8,9 +9,7 @@ use ddr4_timing::profiles::{SMALL, TINY};
 use frfcfs::next::{Next, choose, next_command};
 use frfcfs::pending::Kind;
 use frfcfs::queue::Queue;
-use std::alloc::Global;
 use std::process::Abort;
-use std::test::Fail;
 
 const BANK: BankAddress = BankAddress {
     rank: 0,
@@ -55,26 +54,27 @@ struct Bench {
 }
 
 impl Bench {
-    // With these requests, each of a line at a place.
-    fn with(alloc: Global, requests: &[(Kind, u64, Place)]) -> Result<Bench, Fail> {
-        let checked = TINY.check(&SMALL)?;
-        let mut bench = Bench {
+    fn new<R: Abort + AllocGlobal>(rt: &R) -> Bench {
+        let checked = TINY.check(&SMALL).expect(rt, "a profile");
+        Bench {
             banks: Banks::new(&checked),
-            queue: Queue::with_room(alloc, 8)?,
+            queue: Queue::with_room(rt.alloc(), 8).expect(rt, "memory"),
             now: 0,
-        };
-        for (kind, line, place) in requests {
-            bench.push(*kind, *line, *place, false)?;
         }
-        Ok(bench)
     }
 
-    fn push(&mut self, kind: Kind, line: u64, place: Place, held: bool) -> Result<(), Fail> {
-        if self.queue.is_full() || self.queue.next() == u64::MAX {
-            return Err("full".into());
-        }
+    fn push<R: Abort>(&mut self, rt: &R, kind: Kind, line: u64, place: Place, held: bool) {
+        assert!(*rt; !self.queue.is_full() && self.queue.next() < u64::MAX);
         self.queue.push(place, line, kind, line, held);
-        Ok(())
+    }
+
+    // A write of a line, which lies at a place.
+    fn writes<R: Abort>(&mut self, rt: &R, line: u64, place: Place) {
+        self.push(rt, Kind::Write, line, place, false);
+    }
+
+    fn reads<R: Abort>(&mut self, rt: &R, line: u64, place: Place) {
+        self.push(rt, Kind::Read, line, place, false);
     }
 
     // Goes to the next command, and takes the request that it serves out.
@@ -91,137 +91,116 @@ impl Bench {
         Some(next)
     }
 
-    // The next commands, at these clocks, serve these requests.
-    fn steps(&mut self, rt: &impl Abort, expected: &[(u64, Command, Option<usize>)]) {
-        for &(clock, cmd, serves) in expected {
-            assert_eq!(rt; self.step(), Some(Next { clock, cmd, serves }));
-        }
+    // The next command, at this clock, serves this request.
+    fn steps<R: Abort>(&mut self, rt: &R, clock: u64, cmd: Command, serves: Option<usize>) {
+        same(rt, self.step(), Some(Next { clock, cmd, serves }));
     }
 
-    // The choices at these clocks.
-    fn chooses(&self, rt: &impl Abort, expected: &[(u64, Option<Command>)]) {
-        for &(clock, cmd) in expected {
-            let chosen = choose(&self.banks, self.queue.requests(), clock);
-            assert_eq!(rt; (clock, chosen), (clock, cmd));
-        }
+    // The choice at this clock.
+    fn chooses<R: Abort>(&self, rt: &R, clock: u64, cmd: Option<Command>) {
+        let chosen = choose(&self.banks, self.queue.requests(), clock);
+        same(rt, (clock, chosen), (clock, cmd));
     }
 
     // No command may go at clock 0, nor later.
-    fn stands(&mut self, rt: &impl Abort) {
-        self.chooses(rt, &[(0, None)]);
-        assert_eq!(rt; self.step(), None);
+    fn stands<R: Abort>(&mut self, rt: &R) {
+        self.chooses(rt, 0, None);
+        same(rt, self.step(), None);
     }
 }
 
 #[test]
-fn the_youngest_goes_before_the_second(rt: HostRuntime) -> Result<(), Fail> {
-    let requests = [
-        (Kind::Write, 0, place(0, 0)),
-        (Kind::Write, 64, place(1, 0)),
-        (Kind::Write, 2, place(0, 1)),
-    ];
-    let mut bench = Bench::with(rt.alloc(), &requests)?;
-    let expected = [
-        (0, act(0), None),
-        (16, write(0), Some(0)),
-        (22, write(1), Some(1)),
-        (56, PRE, None),
-        (72, act(1), None),
-        (88, write(0), Some(0)),
-    ];
-    bench.steps(&rt, &expected);
-    assert_eq!(rt; bench.step(), None);
-    Ok(())
+fn the_youngest_goes_before_the_second(rt: HostRuntime) {
+    let mut bench = Bench::new(&rt);
+    bench.writes(&rt, 0, place(0, 0));
+    bench.writes(&rt, 64, place(1, 0));
+    bench.writes(&rt, 2, place(0, 1));
+    bench.steps(&rt, 0, act(0), None);
+    bench.steps(&rt, 16, write(0), Some(0));
+    bench.steps(&rt, 22, write(1), Some(1));
+    bench.steps(&rt, 56, PRE, None);
+    bench.steps(&rt, 72, act(1), None);
+    bench.steps(&rt, 88, write(0), Some(0));
+    same(&rt, bench.step(), None);
 }
 
 #[test]
-fn a_read_before_a_write(rt: HostRuntime) -> Result<(), Fail> {
-    let requests = [(Kind::Read, 2, place(0, 1)), (Kind::Write, 4, place(0, 2))];
-    let mut bench = Bench::with(rt.alloc(), &requests)?;
-    let expected = [
-        (0, act(0), None),
-        (16, read(1), Some(0)),
-        (26, write(2), Some(0)),
-    ];
-    bench.steps(&rt, &expected);
-    Ok(())
+fn a_read_before_a_write(rt: HostRuntime) {
+    let mut bench = Bench::new(&rt);
+    bench.reads(&rt, 2, place(0, 1));
+    bench.writes(&rt, 4, place(0, 2));
+    bench.steps(&rt, 0, act(0), None);
+    bench.steps(&rt, 16, read(1), Some(0));
+    bench.steps(&rt, 26, write(2), Some(0));
 }
 
 #[test]
-fn a_held_request_waits(rt: HostRuntime) -> Result<(), Fail> {
-    let mut bench = Bench::with(rt.alloc(), &[])?;
-    bench.push(Kind::Write, 0, place(0, 0), true)?;
+fn a_held_request_waits(rt: HostRuntime) {
+    let mut bench = Bench::new(&rt);
+    bench.push(&rt, Kind::Write, 0, place(0, 0), true);
     bench.stands(&rt);
     bench.queue.hold(Some(1));
-    bench.chooses(&rt, &[(0, Some(act(0)))]);
+    bench.chooses(&rt, 0, Some(act(0)));
     bench.queue.hold(Some(0));
     bench.stands(&rt);
     bench.queue.hold(None);
-    bench.steps(&rt, &[(0, act(0), None)]);
-    Ok(())
+    bench.steps(&rt, 0, act(0), None);
 }
 
 #[test]
-fn a_younger_request_of_a_line_waits(rt: HostRuntime) -> Result<(), Fail> {
-    let requests = [
-        (Kind::Write, 2, place(0, 1)),
-        (Kind::Read, 2, place(0, 1)),
-        (Kind::Read, 4, place(0, 2)),
-    ];
-    let mut bench = Bench::with(rt.alloc(), &requests)?;
-    bench.steps(&rt, &[(0, act(0), None)]);
-    bench.chooses(&rt, &[(16, Some(write(1)))]);
+fn a_younger_request_of_a_line_waits(rt: HostRuntime) {
+    let mut bench = Bench::new(&rt);
+    bench.writes(&rt, 2, place(0, 1));
+    bench.reads(&rt, 2, place(0, 1));
+    bench.reads(&rt, 4, place(0, 2));
+    bench.steps(&rt, 0, act(0), None);
+    bench.chooses(&rt, 16, Some(write(1)));
+    bench.steps(&rt, 16, write(1), Some(0));
     // at 41 the read of the written line is the older of two that may go
-    let expected = [
-        (16, write(1), Some(0)),
-        (41, read(1), Some(0)),
-        (47, read(2), Some(0)),
-    ];
-    bench.steps(&rt, &expected);
-    Ok(())
+    bench.steps(&rt, 41, read(1), Some(0));
+    bench.steps(&rt, 47, read(2), Some(0));
 }
 
 #[test]
-fn a_choice_at_each_clock(rt: HostRuntime) -> Result<(), Fail> {
-    let mut bench = Bench::with(rt.alloc(), &[(Kind::Write, 0, place(0, 0))])?;
-    bench.steps(&rt, &[(0, act(0), None)]);
-    let expected = [
-        (15, None),
-        (16, Some(write(0))),
-        (74_879, Some(write(0))),
-        (74_880, Some(PRE_ALL)),
-        (84_240, Some(PRE_ALL)),
-        (84_241, None),
-        (u64::MAX, None),
-    ];
-    bench.chooses(&rt, &expected);
-    Ok(())
+fn a_choice_at_each_clock(rt: HostRuntime) {
+    let mut bench = Bench::new(&rt);
+    bench.writes(&rt, 0, place(0, 0));
+    bench.steps(&rt, 0, act(0), None);
+    bench.chooses(&rt, 15, None);
+    bench.chooses(&rt, 16, Some(write(0)));
+    bench.chooses(&rt, 74_879, Some(write(0)));
+    bench.chooses(&rt, 74_880, Some(PRE_ALL));
+    bench.chooses(&rt, 84_240, Some(PRE_ALL));
+    bench.chooses(&rt, 84_241, None);
+    bench.chooses(&rt, u64::MAX, None);
+}
+
+const OUTSIDE: Place = Place {
+    channel: 0,
+    rank: 1,
+    group: 0,
+    bank: 0,
+    row: 0,
+    column: 0,
+};
+
+#[test]
+fn a_place_outside_is_never_chosen(rt: HostRuntime) {
+    let mut bench = Bench::new(&rt);
+    bench.writes(&rt, 0, OUTSIDE);
+    bench.writes(&rt, 2, place(2, 0));
+    bench.chooses(&rt, 0, None);
+    bench.writes(&rt, 4, place(1, 0));
+    bench.chooses(&rt, 0, Some(act(1)));
 }
 
 #[test]
-fn a_place_outside_is_never_chosen(rt: HostRuntime) -> Result<(), Fail> {
-    let outside = Place {
-        rank: 1,
-        ..place(0, 0)
-    };
-    let requests = [(Kind::Write, 0, outside), (Kind::Write, 2, place(2, 0))];
-    let mut bench = Bench::with(rt.alloc(), &requests)?;
-    bench.chooses(&rt, &[(0, None)]);
-    bench.push(Kind::Write, 4, place(1, 0), false)?;
-    bench.chooses(&rt, &[(0, Some(act(1)))]);
-    Ok(())
-}
-
-#[test]
-fn a_rank_in_lead_comes_first(rt: HostRuntime) -> Result<(), Fail> {
-    let mut bench = Bench::with(rt.alloc(), &[(Kind::Write, 0, place(0, 0))])?;
+fn a_rank_in_lead_comes_first(rt: HostRuntime) {
+    let mut bench = Bench::new(&rt);
+    bench.writes(&rt, 0, place(0, 0));
     bench.now = 74_870;
-    let expected = [
-        (74_870, act(0), None),
-        (74_909, PRE_ALL, None),
-        (74_925, Command::Ref { rank: 0 }, None),
-        (75_345, act(0), None),
-    ];
-    bench.steps(&rt, &expected);
-    Ok(())
+    bench.steps(&rt, 74_870, act(0), None);
+    bench.steps(&rt, 74_909, PRE_ALL, None);
+    bench.steps(&rt, 74_925, Command::Ref { rank: 0 }, None);
+    bench.steps(&rt, 75_345, act(0), None);
 }

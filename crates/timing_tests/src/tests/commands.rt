@@ -1,10 +1,11 @@
 // Commands in short, and their text.
+use crate::tests::check::same;
 use ddr4_timing::command::{Command, Stamped};
 use ddr4_timing::place::BankAddress;
 use ddr4_timing::rules::Rule;
 use ddr4_timing::timing::ProfileError;
-use std::fmt::Write;
-use std::test::Fail;
+use std::fmt::Display;
+use std::process::Abort;
 
 fn bank(rank: u64, group: u64, bank: u64) -> BankAddress {
     BankAddress { rank, group, bank }
@@ -36,42 +37,46 @@ pub(crate) fn at(clock: u64, cmd: Command) -> Stamped {
     Stamped { clock, cmd }
 }
 
+// Fails where a value isn't shown so.
+fn is_shown<R: Abort + AllocGlobal, T: Display>(rt: &R, value: &T, text: &str) {
+    let shown = value.to_string(rt.alloc()).expect(rt, "memory");
+    same(rt, shown.as_str(), text);
+}
+
+const OPEN: Command = Command::Act {
+    at: BankAddress {
+        rank: 0,
+        group: 1,
+        bank: 2,
+    },
+    row: 3,
+};
+
+const READ: Command = Command::Rd {
+    at: BankAddress {
+        rank: 1,
+        group: 0,
+        bank: 3,
+    },
+    column: 2,
+};
+
 #[test]
-fn shows_commands_and_refusals(rt: HostRuntime) -> Result<(), Fail> {
-    let open = Command::Act {
-        at: bank(0, 1, 2),
-        row: 3,
-    };
-    let read = Command::Rd {
-        at: bank(1, 0, 3),
-        column: 2,
-    };
-    let mut said = String::new(rt.alloc());
-    for command in [
-        at(0, open),
-        at(16, read),
-        at(22, wr(0, 0, 0)),
-        at(56, pre(0, 0, 0)),
-    ] {
-        write!(said, "{command}, ")?;
-    }
-    for command in [
-        Command::PreAll { rank: 2 },
-        Command::Ref { rank: 3 },
-        Command::Sre { rank: 0 },
-    ] {
-        write!(said, "{command}, ")?;
-    }
-    let refusal = ProfileError::FawTooLong;
-    write!(said, "{refusal}, {}, {}", Rule::Order, Rule::Refi)?;
-    assert_eq!(rt;
-        said.as_str(),
-        "0 ACT 0 1 2 3, 16 RD 1 0 3 2, 22 WR 0 0 0 0, 56 PRE 0 0 0, PREA 2, REF 3, SRE 0, 2 FawTooLong, 1, 16"
-    );
-    let numbers = [
-        ProfileError::EntryTooLong as u8,
-        ProfileError::Overflow as u8,
-    ];
-    assert_eq!(rt; numbers, [1, 4]);
-    Ok(())
+fn shows_commands(rt: HostRuntime) {
+    is_shown(&rt, &at(0, OPEN), "0 ACT 0 1 2 3");
+    is_shown(&rt, &at(16, READ), "16 RD 1 0 3 2");
+    is_shown(&rt, &at(22, wr(0, 0, 0)), "22 WR 0 0 0 0");
+    is_shown(&rt, &at(56, pre(0, 0, 0)), "56 PRE 0 0 0");
+    is_shown(&rt, &Command::PreAll { rank: 2 }, "PREA 2");
+    is_shown(&rt, &Command::Ref { rank: 3 }, "REF 3");
+    is_shown(&rt, &Command::Sre { rank: 0 }, "SRE 0");
+}
+
+#[test]
+fn shows_refusals(rt: HostRuntime) {
+    is_shown(&rt, &ProfileError::FawTooLong, "2 FawTooLong");
+    is_shown(&rt, &Rule::Order, "1");
+    is_shown(&rt, &Rule::Refi, "16");
+    same(&rt, ProfileError::EntryTooLong as u8, 1);
+    same(&rt, ProfileError::Overflow as u8, 4);
 }

@@ -1,69 +1,88 @@
 // Profiles that the check takes and refuses, and places of a geometry.
+use crate::tests::check::same;
 use ddr4_timing::place::Place;
 use ddr4_timing::profiles::{SMALL, TINY};
 use ddr4_timing::timing::{Geometry, ProfileError, Timing};
+use std::process::Abort;
 
-#[test]
-fn checks_profiles(rt: HostRuntime) {
-    let long = Timing {
-        t_refi: 1849,
-        ..TINY
-    };
-    let fits = Timing {
-        t_refi: 1850,
-        ..TINY
-    };
-    let wide = Timing { t_faw: 56, ..TINY };
-    let narrow = Timing { t_faw: 55, ..TINY };
-    let none = Timing { t_rfc: 0, ..TINY };
-    let huge = Timing {
-        t_rfc: u64::MAX,
-        ..TINY
-    };
-    let both = Timing { t_faw: 56, ..long };
-    let few = Geometry {
-        rows: 1,
-        columns: 2,
-        ..SMALL
-    };
-    let many = Geometry {
-        rows: 1 << 63,
-        columns: 1 << 63,
-        ..SMALL
-    };
-    for (timing, geometry, refused) in [
-        (long, SMALL, Some(ProfileError::EntryTooLong)),
-        (fits, SMALL, None),
-        (wide, SMALL, Some(ProfileError::FawTooLong)),
-        (narrow, SMALL, None),
-        (TINY, few, Some(ProfileError::Geometry)),
-        (none, SMALL, Some(ProfileError::Overflow)),
-        (none, few, Some(ProfileError::Overflow)),
-        (huge, SMALL, Some(ProfileError::Overflow)),
-        (long, many, Some(ProfileError::Geometry)),
-        (both, SMALL, Some(ProfileError::EntryTooLong)),
-    ] {
-        let passed = timing.check(&geometry);
-        assert_eq!(rt;
-            (timing, geometry, passed.err()),
-            (timing, geometry, refused)
-        );
-    }
+const LONG: Timing = Timing {
+    t_refi: 1849,
+    ..TINY
+};
+
+const FITS: Timing = Timing {
+    t_refi: 1850,
+    ..TINY
+};
+
+const WIDE: Timing = Timing { t_faw: 56, ..TINY };
+
+const NARROW: Timing = Timing { t_faw: 55, ..TINY };
+
+const NONE: Timing = Timing { t_rfc: 0, ..TINY };
+
+const HUGE: Timing = Timing {
+    t_rfc: u64::MAX,
+    ..TINY
+};
+
+const BOTH: Timing = Timing {
+    t_faw: 56,
+    t_refi: 1849,
+    ..TINY
+};
+
+const FEW: Geometry = Geometry {
+    rows: 1,
+    columns: 2,
+    ..SMALL
+};
+
+const MANY: Geometry = Geometry {
+    rows: 1 << 63,
+    columns: 1 << 63,
+    ..SMALL
+};
+
+// The check of a profile answers so.
+fn is<R: Abort>(rt: &R, timing: &Timing, geometry: &Geometry, refused: Option<ProfileError>) {
+    same(rt, timing.check(geometry).err(), refused);
 }
 
 #[test]
+fn checks_profiles(rt: HostRuntime) {
+    is(&rt, &LONG, &SMALL, Some(ProfileError::EntryTooLong));
+    is(&rt, &FITS, &SMALL, None);
+    is(&rt, &WIDE, &SMALL, Some(ProfileError::FawTooLong));
+    is(&rt, &NARROW, &SMALL, None);
+    is(&rt, &NONE, &SMALL, Some(ProfileError::Overflow));
+    is(&rt, &HUGE, &SMALL, Some(ProfileError::Overflow));
+    is(&rt, &BOTH, &SMALL, Some(ProfileError::EntryTooLong));
+}
+
+#[test]
+fn checks_geometries(rt: HostRuntime) {
+    is(&rt, &TINY, &FEW, Some(ProfileError::Geometry));
+    is(&rt, &NONE, &FEW, Some(ProfileError::Overflow));
+    is(&rt, &LONG, &MANY, Some(ProfileError::Geometry));
+}
+
+const LAST: Place = Place {
+    channel: 1,
+    rank: 0,
+    group: 1,
+    bank: 3,
+    row: 1,
+    column: 3,
+};
+
+const PAST_RANKS: Place = Place { rank: 1, ..LAST };
+
+const PAST_COLUMNS: Place = Place { column: 4, ..LAST };
+
+#[test]
 fn places_of_a_geometry(rt: HostRuntime) {
-    let last = Place {
-        channel: 1,
-        rank: 0,
-        group: 1,
-        bank: 3,
-        row: 1,
-        column: 3,
-    };
-    let past_ranks = Place { rank: 1, ..last };
-    let past_columns = Place { column: 4, ..last };
-    for (place, lies) in [(last, true), (past_ranks, false), (past_columns, false)] {
-        assert_eq!(rt; (place, place.lies_in(&SMALL)), (place, lies));
-    }
+    same(&rt, LAST.lies_in(&SMALL), true);
+    same(&rt, PAST_RANKS.lies_in(&SMALL), false);
+    same(&rt, PAST_COLUMNS.lies_in(&SMALL), false);
 }
