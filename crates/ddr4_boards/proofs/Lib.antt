@@ -1,0 +1,2 @@
+pub mod NamedPlaces
+pub mod NewLives

@@ -1,0 +1,9 @@
+//! Boards over DDR4 channels: a module on the image of a device, with the record of its life and the words of its marks, ready
+//! to be put behind a lock with hosts, workers and notices.
+#![tactic(auto)]
+
+mod opening;
+mod ready;
+
+pub use opening::{Unfit, formatted, open};
+pub use ready::Ready;
