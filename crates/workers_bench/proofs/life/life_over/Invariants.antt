@@ -1,0 +1,12 @@
+use Rattle.std.specs.Prelude.{length}
+use Rattle.workers_bench.proofs.life.life_over.Given as goal
+
+abbrev pub ghosts-crowd-B-Ledger : goal.ghosts-crowd-B-Ledger
+ghosts-crowd-B-Ledger g a = record { name = a.ready.opening.name; parts = a.ready.opening.parts }
+
+abbrev pub ghosts-crowd-B-Room : goal.ghosts-crowd-B-Room
+ghosts-crowd-B-Room g a = record {
+  board = a.ready.opening.board;
+  channels = a.ready.channels;
+  before = length a.ready.life.history.writes;
+}

@@ -1,0 +1,302 @@
+// Hosts that write and read at once.
+ghost use Rattle.std.specs.Prelude.{◌≡◌, ◌<◌, length};
+
+use crate::gate::UntilDone;
+use ddr4_boards::Ready;
+use energy_budget::Meter;
+use line_channels::Drainable;
+use line_memory::Write;
+use module_core::{ReadRefusal, WriteRefusal};
+use notice_book::{NoticeBook, Notices};
+use nv_workers::{Board, Closed, Ended, Host, Life, Receipt, Room, Seen, channel_worker, close};
+use save_device::SaveDevice;
+use std::alloc::{AllocError, Global};
+use std::sync::Wait;
+use std::thread;
+use std::thread::Threads;
+use std::time::{Clock, Instant};
+use thiserror::Error;
+
+/// What each of so many hosts does: its writes, and then its reads, over the first lines. Mains are lost at the write of a
+/// number, where one is given; the module is armed then.
+#[derive(Clone, Copy)]
+pub(crate) struct Plan {
+    pub hosts: usize,
+    pub writes: u64,
+    pub reads: u64,
+    pub lines: u64,
+    pub lost_at: Option<u64>,
+}
+
+/// What a crowd came to: the life, how many receipts and answers were checked, and how long the hosts took in nanoseconds.
+#[derive(Drop)]
+pub(crate) struct Outcome<C: Drainable, D> {
+    pub life: Life<C, D, Meter>,
+    pub checked: u64,
+    pub nanos: u128,
+}
+
+/// What a crowd never comes to.
+#[derive(Clone, Copy, Debug, PartialEq, Eq, Error)]
+pub(crate) enum Wrong {
+    #[error("a host is missing")]
+    Hosts,
+    #[error("a receipt or an answer is a stranger")]
+    Stranger,
+}
+
+/// What one host was told.
+#[derive(Drop)]
+struct Told<B: Room> {
+    host: Host<B>,
+    receipts: Vec<Receipt>,
+    answers: Vec<Seen>,
+}
+
+/// What all hosts were told.
+#[derive(Drop)]
+struct Gathered<B: Room> {
+    hosts: Vec<Host<B>>,
+    receipts: Vec<Receipt>,
+    answers: Vec<Seen>,
+}
+
+impl Plan {
+    // The line of a host's next call.
+    fn line(&self, count: usize) -> u64 {
+        let mixed = (count as u64).wrapping_mul(0x9E37_79B9_7F4A_7C15) >> 32;
+        mixed.checked_rem(self.lines).unwrap_or(0)
+    }
+}
+
+// The writes of a host. One that finds its channel full is made again; a loss of mains ends them.
+fn write_all<C, D, B, N, R>(
+    rt: &R,
+    alloc: Global,
+    board: &Board<C, D, Meter, B, N>,
+    host: &mut Host<B>,
+    plan: &Plan,
+) -> Result<Vec<Receipt>, AllocError>
+where
+    C: Drainable,
+    D: SaveDevice,
+    B: Room,
+    N: Notices,
+    R: Wait,
+    requires { C.reaches }
+{
+    let mut receipts = Vec::new(alloc);
+    for turn in 0..u64::MAX {
+        if receipts.len() as u64 == plan.writes {
+            break;
+        }
+        let write = Write {
+            line: plan.line(receipts.len()),
+            data: [(turn % 256) as u8; 64],
+        };
+        match host.write(rt, board, write) {
+            Ok(receipt) => {
+                receipts.push(receipt)?;
+                if plan.lost_at == Some(receipt.number) {
+                    board.power_loss(rt);
+                }
+            }
+            Err(WriteRefusal::Full) => thread::yield_now(),
+            Err(_) => break,
+        }
+    }
+    Ok(receipts)
+}
+
+// The reads of a host.
+fn read_all<C, D, B, N, R>(
+    rt: &R,
+    alloc: Global,
+    board: &Board<C, D, Meter, B, N>,
+    host: &mut Host<B>,
+    plan: &Plan,
+) -> Result<Vec<Seen>, AllocError>
+where
+    C: Drainable,
+    D: SaveDevice,
+    B: Room,
+    N: Notices,
+    R: Wait,
+    requires { C.reaches }
+{
+    let mut answers = Vec::new(alloc);
+    for _ in 0..u64::MAX {
+        if answers.len() as u64 == plan.reads {
+            break;
+        }
+        match host.read(rt, board, plan.line(answers.len())) {
+            Ok(seen) => answers.push(seen)?,
+            Err(ReadRefusal::Full) => thread::yield_now(),
+            Err(_) => break,
+        }
+    }
+    Ok(answers)
+}
+
+// All that a host does.
+fn busy<C, D, B, N, R>(
+    rt: &R,
+    alloc: Global,
+    board: &Board<C, D, Meter, B, N>,
+    mut host: Host<B>,
+    plan: &Plan,
+) -> Result<Told<B>, AllocError>
+where
+    C: Drainable,
+    D: SaveDevice,
+    B: Room,
+    N: Notices,
+    R: Wait,
+    requires { C.reaches }
+{
+    let receipts = write_all(rt, alloc, board, &mut host, plan)?;
+    let answers = read_all(rt, alloc, board, &mut host, plan)?;
+    Ok(Told {
+        host,
+        receipts,
+        answers,
+    })
+}
+
+// The hosts at once, with a worker for each channel beside them.
+fn run<C, D, B, N, R>(
+    rt: &R,
+    alloc: Global,
+    board: &Board<C, D, Meter, B, N>,
+    hosts: Vec<Host<B>>,
+    channels: u64,
+    plan: &Plan,
+) -> Result<Vec<Result<Told<B>, AllocError>>, AllocError>
+where
+    C: Drainable + Send,
+    D: SaveDevice + Send,
+    B: Room + Send + Sync,
+    N: Notices + Send,
+    R: Threads + Wait + Sync,
+    requires reaches { C.reaches }
+    requires channels { channels ≡ B.channels }
+{
+    let gate = UntilDone::new();
+    let (ended, told) = thread::join(
+        rt,
+        || -> Result<Vec<Ended>, AllocError>
+            requires { channels ≡ B.channels }
+        { work_all(rt, alloc, board, channels, &gate) },
+        || -> Result<Vec<Result<Told<B>, AllocError>>, AllocError>
+            requires { C.reaches }
+        {
+            let told = thread::map_vec(
+                rt,
+                hosts,
+                &|host: Host<B>| -> Result<Told<B>, AllocError>
+                    requires { C.reaches }
+                { busy(rt, alloc, board, host, plan) },
+            );
+            gate.finish();
+            told
+        },
+    );
+    ended?;
+    told
+}
+
+// A worker for each channel.
+fn work_all<C, D, B, N, R>(
+    rt: &R,
+    alloc: Global,
+    board: &Board<C, D, Meter, B, N>,
+    channels: u64,
+    gate: &UntilDone,
+) -> Result<Vec<Ended>, AllocError>
+where
+    C: Drainable + Send,
+    D: SaveDevice + Send,
+    B: Room + Send + Sync,
+    N: Notices + Send,
+    R: Threads + Wait + Sync,
+    requires { channels ≡ B.channels }
+{
+    thread::map_indices(
+        rt,
+        alloc,
+        channels as usize,
+        &|channel: usize| -> Ended
+            requires { channel < B.channels }
+        { channel_worker(rt, board, channel as u64, gate) },
+    )
+}
+
+// The hosts, and what they were told.
+fn gather<B: Room>(
+    alloc: Global,
+    told: Vec<Result<Told<B>, AllocError>>,
+) -> Result<Gathered<B>, AllocError> {
+    let mut hosts = Vec::new(alloc);
+    let mut receipts = Vec::new(alloc);
+    let mut answers = Vec::new(alloc);
+    for one in told {
+        let one = one?;
+        hosts.push(one.host)?;
+        receipts.extend_from_slice(one.receipts.as_slice())?;
+        answers.extend_from_slice(one.answers.as_slice())?;
+    }
+    Ok(Gathered {
+        hosts,
+        receipts,
+        answers,
+    })
+}
+
+/// A crowd on the board of a life, up to its end: each receipt and each answer was checked.
+pub(crate) fn crowd<C, D, B, R>(
+    rt: &R,
+    alloc: Global,
+    ready: Ready<C, D, Meter>,
+    plan: &Plan,
+) -> anyhow::Result<Outcome<C, D>>
+where
+    C: Drainable + Drop + Send,
+    D: SaveDevice + Drop + Send,
+    B: Room + Send + Sync,
+    R: Threads + Wait + Clock + Sync,
+    requires reaches { C.reaches }
+    requires name { ready.opening.name ≡ B.name }
+    requires parts { ready.opening.parts ≡ B.parts }
+    requires hosts { B.parts ≡ plan.now.hosts }
+    requires board { ready.opening.board ≡ B.board }
+    requires before { length ready.life.history.writes ≡ B.before }
+    requires channels { ready.channels ≡ B.channels }
+{
+    let channels = ready.channels;
+    let book = NoticeBook::with_room(alloc, 1)?;
+    let Ok((board, hosts)) = ready.board::<B, NoticeBook>(alloc, book) else {
+        return Err(AllocError.into());
+    };
+    if plan.lost_at.is_some() {
+        let _armed = board.arm(rt);
+    }
+    let start = Instant::now(rt)?;
+    let told = run(rt, alloc, &board, hosts, channels, plan)?;
+    let nanos = start.elapsed(rt)?.as_nanos();
+    let Gathered {
+        hosts,
+        receipts,
+        answers,
+    } = gather(alloc, told)?;
+    if hosts.len() != plan.hosts {
+        return Err(Wrong::Hosts.into());
+    }
+    match close(board, hosts, receipts.as_slice(), answers.as_slice()) {
+        Ok(Closed { life, checked, .. }) => Ok(Outcome {
+            life,
+            checked,
+            nanos,
+        }),
+        Err(_) => Err(Wrong::Stranger.into()),
+    }
+}
