@@ -1,0 +1,228 @@
+// Boards on one thread. The expected values are worked out by hand.
+ghost use Rattle.std.specs.Prelude.{◌≡◌, ℕ, length};
+
+use crate::cases::{CHANNELS, write_of};
+use crate::check::same;
+use crate::ends::{ends, is_strange};
+use crate::gates::{Always, Holds, Turns};
+use arm_state::ArmReply;
+use energy_budget::Energy;
+use line_channels::Drainable;
+use module_core::{Loss, ReadRefusal, StepReply, WriteRefusal};
+use notice_book::{Notices, Persisted};
+use nv_workers::{
+    Behind, Board, Ended, Host, Receipt, Room, Seen, Stranger, channel_worker, saver_worker,
+};
+use save_device::SaveDevice;
+use std::alloc::Global;
+use std::process::Abort;
+use std::sync::Wait;
+
+// The write of a line with byte 11 that was the first one.
+fn first_receipt(line: u64) -> Receipt {
+    Receipt {
+        number: 0,
+        line,
+        data: [11; 64],
+    }
+}
+
+// So many turns of the saver, and how it ended.
+fn saved<C, D, E, B, N, R>(rt: &R, board: &Board<C, D, E, B, N>, most: u64) -> Ended
+where
+    C: Drainable,
+    D: SaveDevice,
+    E: Energy,
+    B: Room,
+    N: Notices,
+    R: Wait,
+    requires reaches { C.reaches }
+    requires channels { CHANNELS ≡ B.channels }
+{
+    let worker = CHANNELS;
+    saver_worker(rt, board, CHANNELS, &Turns { worker, most })
+}
+
+// So many turns of channel 0, and how its worker ended.
+fn worked<C, D, E, B, N, R>(rt: &R, board: &Board<C, D, E, B, N>, most: u64) -> Ended
+where
+    C: Drainable,
+    D: SaveDevice,
+    E: Energy,
+    B: Room,
+    N: Notices,
+    R: Wait,
+    requires { CHANNELS ≡ B.channels }
+{
+    channel_worker(rt, board, 0, &Turns { worker: 0, most })
+}
+
+// The number and the answer of the first notice that is called.
+fn told<C, D, E, B, N, R>(
+    rt: &R,
+    alloc: Global,
+    board: &Board<C, D, E, B, N>,
+    host: &mut Host<B>,
+) -> Option<(u64, u64)>
+where
+    C: Drainable,
+    D: SaveDevice,
+    E: Energy,
+    B: Room,
+    N: Notices,
+    R: Wait,
+{
+    let answers = board.deliver(rt, alloc, host).ok()?;
+    answers.first().copied()
+}
+
+/// A disarmed write that another host reads; it is persistent once a save ended, and then its notice is called.
+pub(crate) fn write_disarmed<C, D, E, B, N, R>(
+    rt: &R,
+    alloc: Global,
+    board: &Board<C, D, E, B, N>,
+    first: &mut Host<B>,
+    second: &mut Host<B>,
+    notice: N::Notice,
+)
+where
+    C: Drainable,
+    D: SaveDevice,
+    E: Energy,
+    B: Room,
+    N: Notices,
+    N::Notice: Drop,
+    R: Wait + Abort,
+    requires reaches { C.reaches }
+    requires channels { CHANNELS ≡ B.channels }
+    requires notice { (number : ℕ) → N.is_callable number notice }
+{
+    let receipt = first_receipt(0);
+    same(rt, first.write(rt, board, write_of(0, 11)), Ok(receipt));
+    let data = [11; 64];
+    let seen = Seen {
+        line: 0,
+        data,
+        at: 1,
+    };
+    same(rt, second.read(rt, board, 0), Ok(seen));
+    let behind = Err(Behind { seen: 0, found: 0 });
+    same(rt, first.check(&receipt), behind);
+    same(rt, first.notify(rt, board, &receipt, notice).is_ok(), true);
+    same(rt, told(rt, alloc, board, first), None);
+    let turns = (worked(rt, board, 2), saved(rt, board, 8));
+    same(rt, turns, (Ended::Stopped, Ended::Stopped));
+    same(rt, first.check(&receipt), behind);
+    same(rt, saved(rt, board, 1), Ended::Stopped);
+    same(
+        rt,
+        first.check(&receipt),
+        Ok(Persisted { number: 0, mark: 1 }),
+    );
+    same(rt, told(rt, alloc, board, first), Some((0, 1)));
+    same(rt, told(rt, alloc, board, first), None);
+}
+
+/// Arms: a write is persistent at once, and a loss of mains saves it; from then on nothing is taken.
+pub(crate) fn lose_armed<C, D, E, B, N, R>(rt: &R, board: &Board<C, D, E, B, N>, host: &mut Host<B>)
+where
+    C: Drainable,
+    D: SaveDevice,
+    E: Energy,
+    B: Room,
+    N: Notices,
+    R: Wait + Abort,
+    requires { C.reaches }
+{
+    same(rt, board.arm(rt), Ok(ArmReply::Armed));
+    let receipt = first_receipt(0);
+    same(rt, host.write(rt, board, write_of(0, 11)), Ok(receipt));
+    same(rt, host.mark(), 1);
+    same(
+        rt,
+        host.check(&receipt),
+        Ok(Persisted { number: 0, mark: 1 }),
+    );
+    let saved = Loss::Saved {
+        generation: 2,
+        count: 1,
+    };
+    same(rt, board.power_loss(rt), saved);
+    let closed = WriteRefusal::Closed;
+    same(rt, host.write(rt, board, write_of(0, 22)), Err(closed));
+    same(rt, host.read(rt, board, 0), Err(ReadRefusal::Closed));
+    same(rt, (host.mark(), board.power_loss(rt)), (1, Loss::Closed));
+}
+
+/// A line that isn't there; then gates that hold or stop at once, and a loss of mains, end each worker.
+pub(crate) fn end_workers<C, D, E, B, N, R>(
+    rt: &R,
+    board: &Board<C, D, E, B, N>,
+    host: &mut Host<B>,
+)
+where
+    C: Drainable,
+    D: SaveDevice,
+    E: Energy,
+    B: Room,
+    N: Notices,
+    R: Wait + Abort,
+    requires reaches { C.reaches }
+    requires channels { CHANNELS ≡ B.channels }
+{
+    let nowhere = WriteRefusal::NoSuchLine;
+    same(rt, host.write(rt, board, write_of(128, 5)), Err(nowhere));
+    same(rt, host.read(rt, board, 128), Err(ReadRefusal::NoSuchLine));
+    let receipt = first_receipt(0);
+    same(rt, host.write(rt, board, write_of(0, 11)), Ok(receipt));
+    let stopped = (Ended::Stopped, Ended::Stopped);
+    same(rt, (worked(rt, board, 0), saved(rt, board, 0)), stopped);
+    let channel = channel_worker(rt, board, 1, &Holds(100));
+    let saver = saver_worker(rt, board, CHANNELS, &Holds(100));
+    same(rt, (channel, saver), stopped);
+    same(rt, board.save_step(rt), StepReply::NoSave);
+    same(rt, board.power_loss(rt), Loss::Unsaved);
+    let channel = channel_worker(rt, board, 0, &Always);
+    let saver = saver_worker(rt, board, CHANNELS, &Always);
+    same(rt, (channel, saver), (Ended::Closed, Ended::Closed));
+}
+
+/// Ends a board whose one write is that of line 0: a receipt and an answer that nobody was given are found, and the board
+/// and its hosts are left.
+pub(crate) fn end_with_strangers<C, D, E, B, N, R>(
+    rt: &R,
+    board: Board<C, D, E, B, N>,
+    hosts: Vec<Host<B>>,
+)
+where
+    C: Drainable + Drop,
+    D: SaveDevice + Drop,
+    E: Energy + Drop,
+    B: Room,
+    N: Notices + Drop,
+    R: Abort,
+    requires { length hosts.items ≡ B.parts }
+{
+    let receipts = [first_receipt(0), first_receipt(1)];
+    let answers = [answer_at(1), answer_at(0)];
+    let strange = Stranger {
+        answer: false,
+        index: 1,
+    };
+    let (board, hosts) = is_strange(rt, board, hosts, &receipts, &answers, strange);
+    let strange = Stranger {
+        answer: true,
+        index: 1,
+    };
+    let (board, hosts) = is_strange(rt, board, hosts, &receipts[..1], &answers, strange);
+    ends(rt, board, hosts, &receipts[..1], &answers[..1], (2, 1));
+}
+
+// Line 0 as its first write left it, seen after so many writes.
+fn answer_at(at: u64) -> Seen {
+    Seen {
+        line: 0,
+        data: [11; 64],
+        at,
+    }
+}

@@ -1,0 +1,63 @@
+// How the tests end a board.
+ghost use Rattle.std.specs.Prelude.{◌≡◌, length};
+
+use crate::check::same;
+use energy_budget::Energy;
+use line_channels::Channels;
+use notice_book::Notices;
+use nv_workers::{Board, Host, Receipt, Room, Seen, Stranger, close};
+use save_device::SaveDevice;
+use std::process::Abort;
+
+/// Fails where a board isn't closed with these receipts and answers: so many were checked, and so long is the history.
+pub(crate) fn ends<C, D, E, B, N, R>(
+    rt: &R,
+    board: Board<C, D, E, B, N>,
+    hosts: Vec<Host<B>>,
+    receipts: &[Receipt],
+    answers: &[Seen],
+    wanted: (u64, usize),
+)
+where
+    C: Channels + Drop,
+    D: SaveDevice + Drop,
+    E: Energy + Drop,
+    B: Room,
+    N: Notices + Drop,
+    R: Abort,
+    requires { length hosts.items ≡ B.parts }
+{
+    let got = match close(board, hosts, receipts, answers) {
+        Ok(closed) => (closed.checked, closed.life.history.writes().len()),
+        Err(left) => (0, left.2.index),
+    };
+    same(rt, got, wanted);
+}
+
+/// Fails where a board is closed, or where another than this is the stranger. The board and its hosts are left.
+pub(crate) fn is_strange<C, D, E, B, N, R>(
+    rt: &R,
+    board: Board<C, D, E, B, N>,
+    hosts: Vec<Host<B>>,
+    receipts: &[Receipt],
+    answers: &[Seen],
+    wanted: Stranger,
+) -> (Board<C, D, E, B, N>, Vec<Host<B>>)
+where
+    C: Channels + Drop,
+    D: SaveDevice + Drop,
+    E: Energy + Drop,
+    B: Room,
+    N: Notices + Drop,
+    R: Abort,
+    requires { length hosts.items ≡ B.parts }
+    ensures { result.1 ≡ hosts }
+{
+    match close(board, hosts, receipts, answers) {
+        Ok(_) => panic!(*rt; "no stranger"),
+        Err((board, hosts, stranger)) => {
+            same(rt, stranger, wanted);
+            (board, hosts)
+        }
+    }
+}

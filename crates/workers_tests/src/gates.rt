@@ -1,0 +1,140 @@
+// Gates of the tests.
+use nv_workers::{Gate, Turn};
+use std::sync::atomic::{AtomicBool, Ordering};
+use std::thread;
+use std::time::{Clock, Duration};
+
+/// Lets one worker go so many turns, and then stops it. Any other is stopped at once.
+#[derive(Drop)]
+pub struct Turns {
+    pub worker: u64,
+    pub most: u64,
+}
+
+impl Gate for Turns {
+    fn pass(&self, worker: u64, turn: u64) -> Turn {
+        if worker == self.worker && turn < self.most {
+            Turn::Go
+        } else {
+            Turn::Stop
+        }
+    }
+}
+
+/// Holds each worker so many turns, and then stops it.
+pub struct Holds(pub u64);
+
+impl Gate for Holds {
+    fn pass(&self, _worker: u64, turn: u64) -> Turn {
+        if turn < self.0 {
+            Turn::Hold
+        } else {
+            Turn::Stop
+        }
+    }
+}
+
+/// Lets each worker go, at every turn.
+pub struct Always;
+
+impl Gate for Always {
+    fn pass(&self, _worker: u64, _turn: u64) -> Turn {
+        Turn::Go
+    }
+}
+
+/// How often a worker asks before it is told to stop: it waits for what doesn't come.
+const LIMIT: u64 = 10_000;
+
+/// Holds channel 0 until a write on channel 1 was answered and worker 1 has made one work.
+#[derive(Drop)]
+pub struct OtherFirst<C: Clock> {
+    clock: C,
+    answered: AtomicBool,
+    worked: AtomicBool,
+    late: AtomicBool,
+}
+
+impl<C: Clock> OtherFirst<C> {
+    /// Before any write.
+    pub fn new(clock: C) -> OtherFirst<C> {
+        OtherFirst {
+            clock,
+            answered: AtomicBool::new(false),
+            worked: AtomicBool::new(false),
+            late: AtomicBool::new(false),
+        }
+    }
+
+    /// The write on channel 1 was answered.
+    pub fn answer(&self) {
+        self.answered.store(true, Ordering::SeqCst);
+    }
+
+    /// Was a worker stopped while it waited?
+    pub fn is_late(&self) -> bool {
+        self.late.load(Ordering::SeqCst)
+    }
+
+    fn hold(&self, turn: u64) -> Turn {
+        if turn >= LIMIT {
+            self.late.store(true, Ordering::SeqCst);
+            return Turn::Stop;
+        }
+        thread::sleep(&self.clock, Duration::from_millis(1));
+        Turn::Hold
+    }
+}
+
+impl<C: Clock> Gate for OtherFirst<C> {
+    fn pass(&self, worker: u64, turn: u64) -> Turn {
+        let answered = self.answered.load(Ordering::SeqCst);
+        if worker == 0 {
+            if answered && self.worked.load(Ordering::SeqCst) {
+                return Turn::Stop;
+            }
+            return self.hold(turn);
+        }
+        if !answered {
+            return self.hold(turn);
+        }
+        // The first turn behind the answer works, and the next question says that it did.
+        if self.worked.swap(true, Ordering::SeqCst) {
+            return Turn::Stop;
+        }
+        Turn::Go
+    }
+}
+
+/// How often a worker asks before it is stopped, where nobody stops it.
+const MOST: u64 = 100_000_000;
+
+/// Lets each worker go until it is told to stop.
+#[derive(Drop)]
+pub struct UntilStopped {
+    stopped: AtomicBool,
+}
+
+impl UntilStopped {
+    /// Before it is told.
+    pub fn new() -> UntilStopped {
+        UntilStopped {
+            stopped: AtomicBool::new(false),
+        }
+    }
+
+    /// From now on workers are stopped.
+    pub fn stop(&self) {
+        self.stopped.store(true, Ordering::SeqCst);
+    }
+}
+
+impl Gate for UntilStopped {
+    fn pass(&self, _worker: u64, turn: u64) -> Turn {
+        if turn >= MOST || self.stopped.load(Ordering::SeqCst) {
+            return Turn::Stop;
+        }
+        thread::yield_now();
+        Turn::Go
+    }
+}

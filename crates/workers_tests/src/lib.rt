@@ -1,0 +1,18 @@
+//! Tests of boards over DDR4 channels, with their hosts, workers and notices, on one thread and on several: what no clause
+//! says of them.
+#![tactic(auto)]
+
+#[cfg(test)]
+mod alone;
+#[cfg(test)]
+mod cases;
+#[cfg(test)]
+mod check;
+#[cfg(test)]
+mod ends;
+#[cfg(test)]
+mod gates;
+#[cfg(test)]
+mod silent;
+#[cfg(test)]
+mod together;
