@@ -17,6 +17,9 @@ use std::thread::Threads;
 use std::time::{Clock, Instant};
 use thiserror::Error;
 
+/// How often a host tries its calls, all in all: where no thread is to be had, what it waits for doesn't come.
+const TRIES: u64 = 1 << 28;
+
 /// What each of so many hosts does: its writes, and then its reads, over the first lines. Mains are lost at the write of a
 /// number, where one is given; the module is armed then.
 #[derive(Clone, Copy)]
@@ -86,7 +89,7 @@ where
     requires { C.reaches }
 {
     let mut receipts = Vec::new(alloc);
-    for turn in 0..u64::MAX {
+    for turn in 0..TRIES {
         if receipts.len() as u64 == plan.writes {
             break;
         }
@@ -125,7 +128,7 @@ where
     requires { C.reaches }
 {
     let mut answers = Vec::new(alloc);
-    for _ in 0..u64::MAX {
+    for _ in 0..TRIES {
         if answers.len() as u64 == plan.reads {
             break;
         }

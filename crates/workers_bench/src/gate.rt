@@ -2,6 +2,9 @@
 use nv_workers::{Gate, Turn};
 use std::sync::atomic::{AtomicBool, Ordering};
 
+/// How many turns a worker has: where no thread is to be had, the hosts wait for its end.
+const TURNS: u64 = 1 << 28;
+
 /// Lets workers go until the hosts are done.
 #[derive(Drop)]
 pub(crate) struct UntilDone {
@@ -23,8 +26,8 @@ impl UntilDone {
 }
 
 impl Gate for UntilDone {
-    fn pass(&self, _worker: u64, _turn: u64) -> Turn {
-        if self.done.load(Ordering::SeqCst) {
+    fn pass(&self, _worker: u64, turn: u64) -> Turn {
+        if turn >= TURNS || self.done.load(Ordering::SeqCst) {
             Turn::Stop
         } else {
             Turn::Go
