@@ -149,7 +149,7 @@ fn of_gauges_and_fuses(rt: HostRuntime) {
 }
 
 #[test]
-fn of_refused_writes_and_reads(rt: HostRuntime) {
+fn of_refused_writes(rt: HostRuntime) {
     is_shown(
         &rt,
         Answer::WriteRefused(WriteRefusal::Full),
@@ -183,6 +183,10 @@ fn of_refused_writes_and_reads(rt: HostRuntime) {
         Answer::WriteRefused(WriteRefusal::NoSuchLine),
         "refused write 6 NoSuchLine",
     );
+}
+
+#[test]
+fn of_refused_reads(rt: HostRuntime) {
     is_shown(
         &rt,
         Answer::ReadRefused(ReadRefusal::Full),
