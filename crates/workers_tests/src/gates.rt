@@ -57,7 +57,7 @@ pub struct OtherFirst<C: Clock> {
 
 impl<C: Clock> OtherFirst<C> {
     /// Before any write.
-    pub fn new(clock: C) -> OtherFirst<C> {
+    pub(crate) fn new(clock: C) -> OtherFirst<C> {
         OtherFirst {
             clock,
             answered: AtomicBool::new(false),
@@ -67,12 +67,12 @@ impl<C: Clock> OtherFirst<C> {
     }
 
     /// The write on channel 1 was answered.
-    pub fn answer(&self) {
+    pub(crate) fn answer(&self) {
         self.answered.store(true, Ordering::SeqCst);
     }
 
     /// Was a worker stopped while it waited?
-    pub fn is_late(&self) -> bool {
+    pub(crate) fn is_late(&self) -> bool {
         self.late.load(Ordering::SeqCst)
     }
 
@@ -117,14 +117,14 @@ pub struct UntilStopped {
 
 impl UntilStopped {
     /// Before it is told.
-    pub fn new() -> UntilStopped {
+    pub(crate) fn new() -> UntilStopped {
         UntilStopped {
             stopped: AtomicBool::new(false),
         }
     }
 
     /// From now on workers are stopped.
-    pub fn stop(&self) {
+    pub(crate) fn stop(&self) {
         self.stopped.store(true, Ordering::SeqCst);
     }
 }
