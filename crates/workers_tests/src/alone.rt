@@ -1,11 +1,11 @@
 // Boards on one thread. The expected values are worked out by hand.
 ghost use Rattle.std.specs.Prelude.{◌≡◌, ℕ, length};
 
-use crate::cases::{CHANNELS, write_of};
+use crate::cases::{AMPLE, CHANNELS, write_of};
 use crate::check::same;
 use crate::ends::{ends, is_strange};
 use crate::gates::{Always, Holds, Turns};
-use arm_state::ArmReply;
+use arm_state::{ArmRefusal, ArmReply, DisarmReply};
 use energy_budget::Energy;
 use line_channels::Drainable;
 use module_core::{Loss, ReadRefusal, StepReply, WriteRefusal};
@@ -14,6 +14,7 @@ use nv_workers::{
     Behind, Board, Ended, Host, Receipt, Room, Seen, Stranger, channel_worker, saver_worker,
 };
 use save_device::SaveDevice;
+use slot_store::Step;
 use std::alloc::Global;
 use std::process::Abort;
 use std::sync::Wait;
@@ -152,6 +153,48 @@ where
     same(rt, host.write(rt, board, write_of(0, 22)), Err(closed));
     same(rt, host.read(rt, board, 0), Err(ReadRefusal::Closed));
     same(rt, (host.mark(), board.power_loss(rt)), (1, Loss::Closed));
+}
+
+/// A save by hand, and a disarming whose save the saver makes.
+pub(crate) fn save_by_hand<C, D, E, B, N, R>(
+    rt: &R,
+    board: &Board<C, D, E, B, N>,
+    host: &mut Host<B>,
+)
+where
+    C: Drainable,
+    D: SaveDevice,
+    E: Energy,
+    B: Room,
+    N: Notices,
+    R: Wait + Abort,
+    requires reaches { C.reaches }
+    requires channels { CHANNELS ≡ B.channels }
+{
+    same(rt, board.sense(rt), AMPLE - 1);
+    same(rt, board.disarm(rt), Ok(DisarmReply::AlreadyDisarmed));
+    let begun = (board.save_begin(rt), board.save_begin(rt));
+    same(rt, begun, (Ok(()), Err(ArmRefusal::SaveRunning)));
+    same(rt, board.save_step(rt), StepReply::Did(Step::Close));
+    same(rt, saved(rt, board, 6), Ended::Stopped);
+    let done = StepReply::Saved {
+        generation: 2,
+        count: 0,
+    };
+    same(rt, board.save_step(rt), done);
+    same(rt, board.arm(rt), Ok(ArmReply::Armed));
+    same(
+        rt,
+        host.write(rt, board, write_of(0, 11)),
+        Ok(first_receipt(0)),
+    );
+    same(rt, board.disarm(rt), Ok(DisarmReply::Disarming));
+    let disarming = Err(WriteRefusal::Disarming);
+    same(rt, host.write(rt, board, write_of(1, 44)), disarming);
+    let turns = (worked(rt, board, 2), saved(rt, board, 8));
+    same(rt, turns, (Ended::Stopped, Ended::Stopped));
+    same(rt, board.disarm(rt), Ok(DisarmReply::AlreadyDisarmed));
+    same(rt, board.save_step(rt), StepReply::NoSave);
 }
 
 /// A line that isn't there; then gates that hold or stop at once, and a loss of mains, end each worker.

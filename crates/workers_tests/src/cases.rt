@@ -5,7 +5,7 @@ ghost use Rattle.ddr4_timing.specs.Places.{LiesIn};
 ghost use Rattle.interleave_map.specs.Interleaving.{place_by_lines, line_by_lines};
 ghost use Rattle.module_parts.specs.Lines.{HasPlaces};
 
-use crate::alone::{end_with_strangers, end_workers, lose_armed, write_disarmed};
+use crate::alone::{end_with_strangers, end_workers, lose_armed, save_by_hand, write_disarmed};
 use crate::silent::Silent;
 use crate::together::{crowd, lose_threads, work_apart};
 use ddr4_boards::{Ready, formatted, open};
@@ -32,13 +32,14 @@ use std::time::Clock;
 pub(crate) const CHANNELS: u64 = 2;
 
 /// More energy than any save takes, in units.
-const AMPLE: u64 = 1 << 62;
+pub(crate) const AMPLE: u64 = 1 << 62;
 
 /// What is tried of a board.
 #[derive(Clone, Copy, Debug, PartialEq, Eq)]
 enum Case {
     Disarmed,
     Armed,
+    Modes,
     Ends,
     Crowd,
     Apart,
@@ -81,6 +82,7 @@ where
             write_disarmed(rt, alloc, &board, &mut first[0], &mut rest[0], notice);
         }
         Case::Armed => lose_armed(rt, &board, &mut first[0]),
+        Case::Modes => save_by_hand(rt, &board, &mut first[0]),
         _ => end_workers(rt, &board, &mut first[0]),
     }
     end_with_strangers(rt, board, hosts);
@@ -137,7 +139,10 @@ where
     if ready.channels != CHANNELS {
         panic!(*rt; "two channels");
     }
-    if matches!(case, Case::Disarmed | Case::Armed | Case::Ends) {
+    if matches!(
+        case,
+        Case::Disarmed | Case::Armed | Case::Modes | Case::Ends
+    ) {
         try_alone::<C, D, E, B, R>(rt, alloc, ready, case);
     } else {
         try_threads::<C, D, E, B, R>(rt, alloc, ready, case);
@@ -197,6 +202,11 @@ fn a_disarmed_write_and_its_notice(rt: HostRuntime) {
 #[test]
 fn an_armed_write_and_a_loss(rt: HostRuntime) {
     by_lines(&rt, rt.alloc(), small(&rt), Case::Armed);
+}
+
+#[test]
+fn saves_by_hand_and_by_the_saver(rt: HostRuntime) {
+    by_lines(&rt, rt.alloc(), small(&rt), Case::Modes);
 }
 
 #[test]
