@@ -1,18 +1,11 @@
-//! How long a channel's drain of 64 writes takes.
-//!
-//!     drain_bench                 the clocks of each drain, and what it spends
-//!     drain_bench time COUNT      and nanoseconds, the mean of so many
-//!
-//! A channel is rested where no command went before, and busy where it worked with a full queue until each of its ranks owed
-//! nearly eight refreshes.
-#![tactic(auto)]
-
+// How long a channel's drain of 64 writes takes.
+//
+// A channel is rested where no command went before, and busy where it worked with a full queue until each of its ranks owed
+// nearly eight refreshes.
 ghost use Rattle.std.specs.Prelude.{◌≡◌, ◌<◌};
 ghost use Rattle.ddr4_timing.specs.Limits.{lines_of};
 ghost use Rattle.ddr4_timing.specs.Places.{LiesIn};
 ghost use Rattle.interleave_map.specs.Interleaving.{place_by_lines, line_by_lines};
-
-mod load;
 
 use crate::load::{DEPTH, Load};
 use ddr4_timing::place::Place;
@@ -22,7 +15,6 @@ use drain_core::DrainReport;
 use interleave_map::line_map::LineMap;
 use interleave_map::lines;
 use interleave_map::map::Map;
-use std::env;
 use std::time::Instant;
 
 /// What goes before a drain.
@@ -101,16 +93,11 @@ fn show(
     Ok(())
 }
 
-fn main(rt: HostRuntime) -> anyhow::Result<()> {
-    let words: Vec<String> = env::args(&rt)?.collect(rt.alloc())?;
-    let count = match words.as_slice() {
-        [_] => None,
-        [_, word, count] if word.as_str() == "time" => Some(count.as_str().parse()?),
-        _ => anyhow::bail!("no word, or time and a count"),
-    };
+// Prints the clocks of each drain and what it spends, and nanoseconds, the mean of so many, where a count is given.
+pub(crate) fn show_all(rt: &HostRuntime, count: Option<u64>) -> anyhow::Result<()> {
     for (name, geometry) in [("tiny", SMALL), ("largest", WIDEST)] {
         for before in [Before::Rested, Before::Busy] {
-            show(&rt, name, &geometry, before, count)?;
+            show(rt, name, &geometry, before, count)?;
         }
     }
     Ok(())

@@ -1,7 +1,7 @@
 use Rattle.std.proofs.Common.{rules}
 use Rattle.interleave_map.specs.Interleaving.{place_by_xor}
 use Rattle.interleave_map.proofs.Closures.{closures_by_xor}
-use Rattle.map_bench.proofs.measure_xor.Goals as goal
+use Rattle.timing_bench.proofs.maps.measure_xor.Goals as goal
 
 pub new-map-requires : goal.new-map-requires
 new-map-requires c =

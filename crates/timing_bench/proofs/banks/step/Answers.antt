@@ -2,7 +2,7 @@ use Rattle.std.proofs.Common.{◌≡◌, ◌+◌, ◌*◌, ap, ◌∙◌, arith}
 use Rattle.ddr4_timing.specs.Command.{rank_of}
 use Rattle.ddr4_timing.specs.Lawful.{last_ref}
 use Rattle.ddr4_timing.proofs.Addresses.{rank_within}
-use Rattle.bank_bench.proofs.step.Goals as goal
+use Rattle.timing_bench.proofs.banks.step.Goals as goal
 
 pub deadline-last-requires : goal.deadline-last-requires
 deadline-last-requires c = rw c.rank.ensures (rank_within _ c.args.cmd c.in_ok-clock.ensures.place)

@@ -1,7 +1,7 @@
 use Rattle.std.proofs.Common.{rules}
 use Rattle.interleave_map.specs.Interleaving.{place_by_lines}
 use Rattle.interleave_map.proofs.Closures.{closures_by_lines}
-use Rattle.drain_bench.proofs.time.Goals as goal
+use Rattle.timing_bench.proofs.drains.time.Goals as goal
 
 pub new-map-requires : goal.new-map-requires
 new-map-requires c =

@@ -1,9 +1,4 @@
-//! How long a line takes to its place and back, by both maps.
-//!
-//! With no word it takes each line there and back, and prints how many lie on channel 0; `map_bench time`, run by hand,
-//! prints nanoseconds a line.
-#![tactic(auto)]
-
+// How long a line takes to its place and back, by both maps.
 ghost use Rattle.std.specs.Prelude.{◌≡◌, ◌<◌};
 ghost use Rattle.ddr4_timing.specs.Limits.{lines_of};
 ghost use Rattle.ddr4_timing.specs.Places.{LiesIn};
@@ -16,7 +11,6 @@ use interleave_map::cells::line_count;
 use interleave_map::line_map::LineMap;
 use interleave_map::map::Map;
 use interleave_map::{lines, xor};
-use std::env;
 use std::time::Instant;
 
 // How many lines lie on channel 0 and come back.
@@ -87,12 +81,12 @@ fn measure_xor(rt: &HostRuntime, checked: Checked, timed: bool) -> anyhow::Resul
     measure(rt, "xor", &map, &checked, timed)
 }
 
-fn main(rt: HostRuntime) -> anyhow::Result<()> {
-    let timed = env::args(&rt)?.len() > 1;
+// Takes each line there and back, prints how many lie on channel 0, and nanoseconds a line where it is timed.
+pub(crate) fn show(rt: &HostRuntime, timed: bool) -> anyhow::Result<()> {
     for geometry in [SMALL, WIDEST] {
         let checked = TINY.check(&geometry)?;
-        measure_lines(&rt, checked, timed)?;
-        measure_xor(&rt, checked, timed)?;
+        measure_lines(rt, checked, timed)?;
+        measure_xor(rt, checked, timed)?;
     }
     Ok(())
 }

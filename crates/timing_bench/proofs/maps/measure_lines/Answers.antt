@@ -1,7 +1,7 @@
 use Rattle.std.proofs.Common.{rules}
 use Rattle.interleave_map.specs.Interleaving.{place_by_lines}
 use Rattle.interleave_map.proofs.Closures.{closures_by_lines}
-use Rattle.map_bench.proofs.measure_lines.Goals as goal
+use Rattle.timing_bench.proofs.maps.measure_lines.Goals as goal
 
 pub new-map-requires : goal.new-map-requires
 new-map-requires c =

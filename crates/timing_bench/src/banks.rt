@@ -1,8 +1,4 @@
-//! How long the banks of a channel take for a command, and how long a list of commands takes to check.
-//!
-//! With no word it runs the commands and prints the last clock; `bank_bench time`, run by hand, prints nanoseconds.
-#![tactic(auto)]
-
+// How long the banks of a channel take for a command, and how long a list of commands takes to check.
 use bank_core::banks::Banks;
 use ddr4_timing::command::{Command, Stamped};
 use ddr4_timing::fault::first_fault;
@@ -10,7 +6,6 @@ use ddr4_timing::place::BankAddress;
 use ddr4_timing::profiles::{SMALL, TINY};
 use ddr4_timing::timing::{Checked, Geometry};
 use std::alloc::Global;
-use std::env;
 use std::time::Instant;
 
 // A geometry of these ranks and bank groups.
@@ -102,17 +97,17 @@ fn time_lists(rt: &HostRuntime, checked: &Checked, commands: &[Command]) -> anyh
     Ok(())
 }
 
-fn main(rt: HostRuntime) -> anyhow::Result<()> {
-    let timed = env::args(&rt)?.len() > 1;
+// Prints the last clock of rounds on three geometries, and nanoseconds where it is timed.
+pub(crate) fn show(rt: &HostRuntime, timed: bool) -> anyhow::Result<()> {
     for (ranks, groups) in [(1, 2), (2, 4), (4, 4)] {
         let g = geometry(ranks, groups);
         let checked = TINY.check(&g)?;
         let commands = round(rt.alloc(), &g)?;
         let mut banks = Banks::new(&checked);
         let rounds = if timed { 10_000 } else { 10 };
-        let start = Instant::now(&rt)?;
+        let start = Instant::now(rt)?;
         let last = run(&mut banks, &commands, rounds);
-        let nanos = start.elapsed(&rt)?.as_nanos();
+        let nanos = start.elapsed(rt)?.as_nanos();
         println!(rt; "ranks {ranks}, groups {groups}: last clock {last}")?;
         if timed {
             let each = nanos / (rounds as u128 * commands.len().max(1) as u128);
