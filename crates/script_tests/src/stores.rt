@@ -1,8 +1,8 @@
 // Stores that are shown, whole and broken.
-use crate::store::{STORE_BYTES, show_store};
+use crate::check::same;
+use command_line::{STORE_BYTES, show_store};
 use save_device::{MemoryDevice, SaveDevice};
 use slot_store::{device_size, format};
-use std::alloc::Global;
 use std::process::Abort;
 
 const LINES: usize = 128;
@@ -40,13 +40,28 @@ fn copy(store: &mut Vec<u8>) {
     }
 }
 
-// Whether a store is shown so.
-fn is_shown(alloc: Global, store: Vec<u8>, found: bool, text: &str) -> bool {
-    let mut shown = Vec::new(alloc);
-    match show_store(alloc, store, &mut shown) {
-        Ok(answer) => answer == found && shown.as_slice() == text.as_bytes(),
-        Err(_) => false,
-    }
+// Fails where a store isn't shown so, with an image restored or not. A case is named by its number.
+fn is_shown<R>(rt: &R, case: usize, store: Vec<u8>, found: bool, text: &str)
+where
+    R: Abort + AllocGlobal,
+{
+    let mut shown = Vec::new(rt.alloc());
+    let answer = show_store(rt.alloc(), store, &mut shown);
+    same(
+        rt,
+        (case, answer, shown.as_slice()),
+        (case, Ok(found), text.as_bytes()),
+    );
+}
+
+// Fails where a store with these bytes in place of some isn't shown so.
+fn is_shown_with<R>(rt: &R, at: usize, bytes: &[u8], found: bool, text: &str)
+where
+    R: Abort + AllocGlobal,
+{
+    let mut store = formatted(rt);
+    put(&mut store, at, bytes);
+    is_shown(rt, at, store, found, text);
 }
 
 #[test]
