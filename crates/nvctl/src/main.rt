@@ -1,12 +1,7 @@
 //! Runs scripts on an NVDIMM-N controller.
 #![tactic(auto)]
 
-mod command;
-mod store;
-#[cfg(test)]
-mod tests;
-
-use command::{Fault, run, words_of};
+use command_line::{Fault, run, words_of};
 use std::io::{self, BufWriter};
 use std::process::ExitCode;
 

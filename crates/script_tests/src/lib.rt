@@ -1,9 +1,16 @@
-//! Tests of what scripts write, over devices that fail and lose their power too: the texts, and that calls succeed.
+//! Tests of what scripts write, over devices that fail and lose their power too, of the command line and of stores that are
+//! shown: the texts, and that calls succeed.
 #![tactic(auto)]
 
 #[cfg(test)]
+mod check;
+#[cfg(test)]
 mod devices;
+#[cfg(test)]
+mod program;
 #[cfg(test)]
 mod running;
 #[cfg(test)]
 mod scripts;
+#[cfg(test)]
+mod stores;

@@ -1,7 +1,7 @@
 -- How the program ends.
 use Rattle.std.specs.Prelude.{ℕ}
-use Rattle.nvctl.specs.declared.command.Fault.{Fault}
-use Rattle.nvctl.specs.declared.command.Fault.TheVariants.{Words}
+use Rattle.command_line.specs.declared.command.Fault.{Fault}
+use Rattle.command_line.specs.declared.command.Fault.TheVariants.{Words}
 
 -- 2 for a mistake in the program's words, and else 1
 abbrev pub status_of : Fault → ℕ

@@ -34,10 +34,10 @@ pub enum Fault<'a> {
 }
 
 impl Fault<'_> {
-    ghost use Rattle.nvctl.specs.Exit.{status_of};
+    ghost use Rattle.command_line.specs.Exit.{status_of};
 
     /// The exit status: 2 for a mistake in the program's words, and else 1.
-    pub(crate) fn exit_code(&self) -> ExitCode
+    pub fn exit_code(&self) -> ExitCode
         ensures { exit_status result ≡ status_of self.now }
     {
         match self {
@@ -60,7 +60,7 @@ impl<'a> From<ScriptFault> for Fault<'a> {
 }
 
 /// The words that the program was called with, its name first.
-pub(crate) fn words_of<R: Env + AllocGlobal>(rt: &R) -> Result<Vec<String>, Fault<'static>> {
+pub fn words_of<R: Env + AllocGlobal>(rt: &R) -> Result<Vec<String>, Fault<'static>> {
     match env::args(rt) {
         Ok(words) => Ok(words.collect(rt.alloc())?),
         Err(error) if error.kind() == io::ErrorKind::OutOfMemory => Err(Fault::Memory),
@@ -73,16 +73,12 @@ pub(crate) fn words_of<R: Env + AllocGlobal>(rt: &R) -> Result<Vec<String>, Faul
 ///
 /// Faults are found in this order: of the words, of the profile, of the script, of its run. Nothing is written before the
 /// last of these.
-pub(crate) fn run<'a, R, W>(
-    rt: &R,
-    words: &'a [String],
-    writer: &mut W,
-) -> Result<ExitCode, Fault<'a>>
+pub fn run<'a, R, W>(rt: &R, words: &'a [String], writer: &mut W) -> Result<ExitCode, Fault<'a>>
 where
     R: Files + Input + Print + Eprint + AllocGlobal,
     W: Write,
 {
-    let matches = match command_line(rt.alloc())?.try_get_matches_from(words) {
+    let matches = match program(rt.alloc())?.try_get_matches_from(words) {
         Ok(matches) => matches,
         Err(error) => return usage(rt, &error),
     };
@@ -151,32 +147,53 @@ where
     }
 }
 
-fn command_line<'a>(alloc: Global) -> Result<Command<'a>, AllocError> {
-    let profile = Arg::new(alloc, "PROFILE").required(true).help(
-        "The word tiny, a module of 128 lines, or the profile's TOML file",
-    );
-    let script = Arg::new(alloc, "SCRIPT")
-        .required(true)
-        .help("The script's file, or - for standard input");
-    let out = Arg::new(alloc, "STORE")
-        .long("out")
-        .help("A file for the device's bytes after the last line");
-    let run = Command::new(alloc, "run")
-        .about("Runs a script and prints an answer to each line")
-        .arg(profile)?
-        .arg(script)?
-        .arg(out)?;
-    let shown = Arg::new(alloc, "STORE")
-        .required(true)
-        .help("The store's file");
-    let show = Command::new(alloc, "show")
-        .about("Shows what a store restores to")
-        .arg(shown)?;
+// The words that the program takes.
+fn program<'a>(alloc: Global) -> Result<Command<'a>, AllocError> {
+    let run = run_command(alloc)?;
+    let show = show_command(alloc)?;
     Command::new(alloc, "nvctl")
         .about("Runs scripts on an NVDIMM-N controller")
         .subcommand_required(true)
         .subcommand(run)?
         .subcommand(show)
+}
+
+fn run_command<'a>(alloc: Global) -> Result<Command<'a>, AllocError> {
+    Command::new(alloc, "run")
+        .about("Runs a script and prints an answer to each line")
+        .arg(profile_word(alloc))?
+        .arg(script_word(alloc))?
+        .arg(out_word(alloc))
+}
+
+fn profile_word<'a>(alloc: Global) -> Arg<'a> {
+    Arg::new(alloc, "PROFILE").required(true).help(
+        "The word tiny, a module of 128 lines, or the profile's TOML file",
+    )
+}
+
+fn script_word<'a>(alloc: Global) -> Arg<'a> {
+    Arg::new(alloc, "SCRIPT")
+        .required(true)
+        .help("The script's file, or - for standard input")
+}
+
+fn out_word<'a>(alloc: Global) -> Arg<'a> {
+    Arg::new(alloc, "STORE")
+        .long("out")
+        .help("A file for the device's bytes after the last line")
+}
+
+fn show_command<'a>(alloc: Global) -> Result<Command<'a>, AllocError> {
+    Command::new(alloc, "show")
+        .about("Shows what a store restores to")
+        .arg(store_word(alloc))
+}
+
+fn store_word<'a>(alloc: Global) -> Arg<'a> {
+    Arg::new(alloc, "STORE")
+        .required(true)
+        .help("The store's file")
 }
 
 // Tells why the words were refused, or gives the help that they ask for.
@@ -191,10 +208,7 @@ fn usage<'a, R: Print + Eprint>(rt: &R, error: &UsageError) -> Result<ExitCode, 
 }
 
 /// The profile of its word: `tiny`, or a file of TOML.
-pub(crate) fn profile_of<'a, R: Files + AllocGlobal>(
-    rt: &R,
-    word: &'a str,
-) -> Result<Profile, Fault<'a>> {
+pub fn profile_of<'a, R: Files + AllocGlobal>(rt: &R, word: &'a str) -> Result<Profile, Fault<'a>> {
     let read = if word == "tiny" {
         read_profile(rt.alloc(), TINY.as_bytes())
     } else {

@@ -1,5 +1,6 @@
 // The program's words, faults and exit status.
-use crate::command::{Fault, profile_of, run};
+use crate::check::same;
+use command_line::{Fault, profile_of, run};
 use nv_profile::MapWord;
 use nv_script::ScriptFault;
 use std::env::{self, Env};
@@ -39,9 +40,8 @@ where
     given.extend_from_slice(words).expect(rt, "memory");
     let mut written = Vec::new(rt.alloc());
     let (found, told) = outcome(rt, &given, &mut written);
-    assert!(*rt; found == code, "{words:?}");
-    assert!(*rt; told.as_str() == line, "{words:?}: {told}");
-    assert!(*rt; written.as_slice() == text.as_bytes(), "{words:?}");
+    let ended = (words, found, told.as_str(), written.as_slice());
+    same(rt, ended, (words, code, line, text.as_bytes()));
 }
 
 // A file of the test's own.
@@ -142,8 +142,7 @@ fn a_writer_that_takes_no_more(rt: HostRuntime) {
     let mut writer = room.as_mut_slice();
     let words = ["nvctl", "run", "tiny", script.as_str()];
     let (code, line) = outcome(&rt, &words, &mut writer);
-    assert!(rt; code == ExitCode::FAILURE);
-    assert!(rt; line.as_str() == "file -");
+    same(&rt, (code, line.as_str()), (ExitCode::FAILURE, "file -"));
     remove(&rt, script.as_str());
 }
 
@@ -170,8 +169,8 @@ fn texts_of_faults(rt: HostRuntime) {
         ),
         (Fault::Memory, "memory", ExitCode::FAILURE),
     ] {
-        assert!(rt; shown(&rt, &fault).as_str() == text, "{text}");
-        assert!(rt; fault.exit_code() == code, "{text}");
+        let told = shown(&rt, &fault);
+        same(&rt, (told.as_str(), fault.exit_code()), (text, code));
     }
 }
 
@@ -181,7 +180,7 @@ fn has_map<R: Abort + Files + AllocGlobal>(rt: &R, word: &str, wanted: &str) {
         Ok(profile) => profile.map.to_string(rt.alloc()).expect(rt, "memory"),
         Err(fault) => shown(rt, &fault),
     };
-    assert!(*rt; found.as_str() == wanted, "{word}: {found}");
+    same(rt, (word, found.as_str()), (word, wanted));
 }
 
 // The same of a file with these bytes.

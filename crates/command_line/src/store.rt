@@ -1,7 +1,7 @@
 // A store, the bytes of a device, shown as lines.
 ghost use Rattle.std.specs.Prelude.{◌≡◌, true, length, Ok, IfSome, IsNone};
 ghost use Rattle.slot_store.specs.Slots.{IsCapacity, device_size};
-ghost use Rattle.nvctl.specs.Store.{IsStoreOf, HasNoLines, HoldsImage};
+ghost use Rattle.command_line.specs.Store.{IsStoreOf, HasNoLines, HoldsImage};
 
 use nv_script::{Answer, ScriptFault};
 use save_device::MemoryDevice;
@@ -30,7 +30,7 @@ fn say<W: io::Write>(writer: &mut W, answer: &Answer) -> Result<(), ScriptFault>
 
 /// Writes what a restore of a store would answer, and each line of memory that isn't all zero; a size that no store has is
 /// `WrongSize`. Answers whether an image was restored; false where the refusal was written.
-pub(crate) fn show_store<W: io::Write>(
+pub fn show_store<W: io::Write>(
     alloc: Global,
     store: Vec<u8>,
     writer: &mut W,

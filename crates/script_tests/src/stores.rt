@@ -1,8 +1,8 @@
 // Stores that are shown, whole and broken.
-use crate::store::{STORE_BYTES, show_store};
+use crate::check::same;
+use command_line::{STORE_BYTES, show_store};
 use save_device::{MemoryDevice, SaveDevice};
 use slot_store::{device_size, format};
-use std::alloc::Global;
 use std::process::Abort;
 
 const LINES: usize = 128;
@@ -40,28 +40,44 @@ fn copy(store: &mut Vec<u8>) {
     }
 }
 
-// Whether a store is shown so.
-fn is_shown(alloc: Global, store: Vec<u8>, found: bool, text: &str) -> bool {
-    let mut shown = Vec::new(alloc);
-    match show_store(alloc, store, &mut shown) {
-        Ok(answer) => answer == found && shown.as_slice() == text.as_bytes(),
-        Err(_) => false,
-    }
+// Fails where a store isn't shown so, with an image restored or not. A case is named by its number.
+fn is_shown<R>(rt: &R, case: usize, store: Vec<u8>, found: bool, text: &str)
+where
+    R: Abort + AllocGlobal,
+{
+    let mut shown = Vec::new(rt.alloc());
+    let answer = show_store(rt.alloc(), store, &mut shown);
+    same(
+        rt,
+        (case, answer, shown.as_slice()),
+        (case, Ok(found), text.as_bytes()),
+    );
+}
+
+// Fails where a store with these bytes in place of some isn't shown so.
+fn is_shown_with<R>(rt: &R, at: usize, bytes: &[u8], found: bool, text: &str)
+where
+    R: Abort + AllocGlobal,
+{
+    let mut store = formatted(rt);
+    put(&mut store, at, bytes);
+    is_shown(rt, at, store, found, text);
+}
+
+// Fails where a store of so many zeros isn't refused so.
+fn zeros_are_refused<R: Abort + AllocGlobal>(rt: &R, size: usize, text: &str) {
+    let zeros = Vec::from_elem(rt.alloc(), 0, size).expect(rt, "memory");
+    is_shown(rt, size, zeros, false, text);
 }
 
 #[test]
 fn gates_and_arm_bytes(rt: HostRuntime) {
-    let store = formatted(&rt);
-    assert!(rt; is_shown(rt.alloc(), store, true, "restored 1 0 Complete\n"));
+    is_shown(&rt, 0, formatted(&rt), true, "restored 1 0 Complete\n");
     for gate in [0xa4, 0, 0x5a, 0xff] {
-        let mut store = formatted(&rt);
-        put(&mut store, 0, &[gate]);
-        assert!(rt; is_shown(rt.alloc(), store, false, "refused restore 1 NoImage\n"));
+        is_shown_with(&rt, 0, &[gate], false, "refused restore 1 NoImage\n");
     }
     for arm in [0x01, 0x5a, 0xff] {
-        let mut store = formatted(&rt);
-        put(&mut store, 1, &[arm]);
-        assert!(rt; is_shown(rt.alloc(), store, true, "restored 1 0 PossibleLoss\n"));
+        is_shown_with(&rt, 1, &[arm], true, "restored 1 0 PossibleLoss\n");
     }
 }
 
@@ -80,20 +96,13 @@ fn headers_that_are_none(rt: HostRuntime) {
         (39, &[1]),
     ];
     for (at, bytes) in changes {
-        let mut store = formatted(&rt);
-        put(&mut store, at, bytes);
-        assert!(rt;
-            is_shown(rt.alloc(), store, false, "refused restore 2 Damaged 0\n"),
-            "{at}"
-        );
+        let text = "refused restore 2 Damaged 0\n";
+        is_shown_with(&rt, at, bytes, false, text);
         let mut beside = formatted(&rt);
         copy(&mut beside);
         put(&mut beside, SLOT + 16, &[2]);
         put(&mut beside, at, bytes);
-        assert!(rt;
-            is_shown(rt.alloc(), beside, false, "refused restore 2 Damaged 0\n"),
-            "{at}"
-        );
+        is_shown(&rt, at, beside, false, text);
     }
     let mut greatest = formatted(&rt);
     put(
@@ -103,7 +112,7 @@ fn headers_that_are_none(rt: HostRuntime) {
     );
     put(&mut greatest, 24, &[0, 0, 0, 0, 0, 0, 0, 0x40]);
     let text = "restored 9223372036854775807 4611686018427387904 Complete\n";
-    assert!(rt; is_shown(rt.alloc(), greatest, true, text));
+    is_shown(&rt, 16, greatest, true, text);
 }
 
 #[test]
@@ -111,7 +120,7 @@ fn two_slots(rt: HostRuntime) {
     let mut same = formatted(&rt);
     put(&mut same, 16, &[4]);
     copy(&mut same);
-    assert!(rt; is_shown(rt.alloc(), same, false, "refused restore 2 Damaged 1\n"));
+    is_shown(&rt, 0, same, false, "refused restore 2 Damaged 1\n");
     let mut second = formatted(&rt);
     copy(&mut second);
     put(&mut second, SLOT + 16, &[2]);
@@ -123,25 +132,23 @@ fn two_slots(rt: HostRuntime) {
         "restored 2 3 Complete\nline 1 = 11\nline 127 = {zeros}{zeros}00a5\n"
     );
     let text = text.expect(&rt, "memory");
-    assert!(rt; is_shown(rt.alloc(), second, true, text.as_str()));
+    is_shown(&rt, 1, second, true, text.as_str());
 }
 
 #[test]
 fn sizes(rt: HostRuntime) {
+    let text = "refused restore 3 WrongSize\n";
     for size in [
         0, 1, 4096, 8192, 12_288, 16_383, 16_385, 24_575, 24_577, 24_704,
     ] {
         let mut store = formatted(&rt);
         store.resize(size, 0).expect(&rt, "memory");
-        let text = "refused restore 3 WrongSize\n";
-        assert!(rt; is_shown(rt.alloc(), store, false, text), "{size} bytes");
+        is_shown(&rt, size, store, false, text);
     }
     // a page of lines fewer, where the lines in the header don't fit
     let mut small = formatted(&rt);
     small.truncate(16_384);
-    assert!(rt; is_shown(rt.alloc(), small, false, "refused restore 2 Damaged 0\n"));
-    let largest = Vec::from_elem(rt.alloc(), 0, STORE_BYTES as usize).expect(&rt, "memory");
-    assert!(rt; is_shown(rt.alloc(), largest, false, "refused restore 1 NoImage\n"));
-    let larger = Vec::from_elem(rt.alloc(), 0, STORE_BYTES as usize + 8192).expect(&rt, "memory");
-    assert!(rt; is_shown(rt.alloc(), larger, false, "refused restore 3 WrongSize\n"));
+    is_shown(&rt, 16_384, small, false, "refused restore 2 Damaged 0\n");
+    zeros_are_refused(&rt, STORE_BYTES as usize, "refused restore 1 NoImage\n");
+    zeros_are_refused(&rt, STORE_BYTES as usize + 8192, text);
 }
