@@ -25,6 +25,7 @@ pub mod ClosingSteps
 pub mod ClosingStores
 pub mod ClosingSaves
 pub mod Emptied
+pub mod WriteRefusals
 pub mod LossSteps
 pub mod LostModules
 pub mod RunsOn

@@ -1,6 +1,6 @@
 use Rattle.std.proofs.Common.{◌+◌, ◌∙◌, ℕ, List, [], ◌∷◌, length, arith, refl, sym, ap, subst}
 use Rattle.std.specs.Prelude.{take}
-use Rattle.std.proofs.lemmas.List.{length-append}
+use Rattle.std.proofs.lemmas.List.{length-append, take_all}
 use Rattle.std.proofs.lemmas.List.Elements.{All-get_or}
 use Rattle.save_device.specs.Device.{DeviceState}
 use Rattle.energy_budget.specs.Gauge.{Gauge}
@@ -43,3 +43,30 @@ loop-event-preserved g c =
       answers = subst (λ (replies : List Reply). AnswersAll L (take (i + 1) events) replies old first gauge new later gauge'') (sym c.push_reserved.ensures.items)
           (one_more L events i _ c.loop-event.replies.items reply old mid new first now later gauge gauge' gauge'' c.loop-event-test.true inv.setup inv.answers c.apply.ensures.answers);
     }
+
+pub apply-requires-clause-reaches : goal.apply-requires-clause-reaches
+apply-requires-clause-reaches g c = c.requires.reaches
+
+pub push_reserved-requires : goal.push_reserved-requires
+push_reserved-requires g c = omega (arith, c.loop-event.invariant.count, c.loop-event.invariant.room, c.loop-event-test.true)
+
+pub returns-clause-answers : goal.returns-clause-answers
+returns-clause-answers g c =
+    let events : List Event = c.args.events.now in
+    subst (λ (es : List Event). AnswersAll g.C.Channels es c.loop-event.replies.items c.args.self.now (g.D.SaveDevice.state c.args.device.now) (g.E.Energy.gauge c.args.energy.now) c.loop-event.self (g.D.SaveDevice.state c.loop-event.device) (g.E.Energy.gauge c.loop-event.energy))
+    (take_all c.loop-event.event-index events c.loop-event-test.false) c.loop-event.invariant.answers
+
+pub returns-clause-setup : goal.returns-clause-setup
+returns-clause-setup g c = c.loop-event.invariant.setup
+
+pub returns-clause-size : goal.returns-clause-size
+returns-clause-size g c = c.loop-event.invariant.size
+
+pub returns-clause-unchanged : goal.returns-clause-unchanged
+returns-clause-unchanged g c = tt
+
+pub returns-clause-device : goal.returns-clause-device
+returns-clause-device g c = tt
+
+pub returns-clause-energy : goal.returns-clause-energy
+returns-clause-energy g c = tt
