@@ -45,7 +45,7 @@ pub only_other : (lines : ℕ) (slot : Slot) (c : List ℕ) (old : Image) → le
 only_other lines First c old size there here = by_states lines c Closed (Full old) size here there
 only_other lines Second c old size there here = by_states lines c (Full old) Closed size there here
 
-chosen_newer : (one two : Image) → one.generation < two.generation → newer one two ≡ Found Second two
+pub chosen_newer : (one two : Image) → one.generation < two.generation → newer one two ≡ Found Second two
 chosen_newer one two less =
     let differ : (one.generation == two.generation) ≡ false = not_equal one.generation two.generation (λ e. omega (arith, e)) in
     let below : nat_lt one.generation two.generation ≡ true = (Decides-ltb one.generation two.generation).1 less in
@@ -55,7 +55,7 @@ chosen_newer one two less =
 not_below : (a b : ℕ) → b < a → nat_lt a b ≡ false
 not_below a b less = grind (arith, nat_tests)
 
-chosen_older : (one two : Image) → two.generation < one.generation → newer one two ≡ Found First one
+pub chosen_older : (one two : Image) → two.generation < one.generation → newer one two ≡ Found First one
 chosen_older one two less =
     let differ : (one.generation == two.generation) ≡ false = not_equal one.generation two.generation (λ e. omega (arith, e)) in
     ap (λ (b : Bool). if b then Damaged Second else if nat_lt one.generation two.generation then Found Second two else Found First one) differ

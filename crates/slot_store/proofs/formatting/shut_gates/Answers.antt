@@ -1,7 +1,9 @@
-use Rattle.std.proofs.Common.{◌≡◌, [], ◌∷◌, Bool, false, subst, sym, ◌∙◌}
+use Rattle.std.proofs.Common.{◌≡◌, [], ◌∷◌, Bool, false, Result, Ok, Err, OnOk, is_ok, subst, sym, ◌∙◌}
+use Rattle.std.specs.Bool.{OnTrue}
 use Rattle.save_device.specs.declared.calls.CallKind.TheVariants.{Write, Sync}
 use Rattle.save_device.specs.Calls.{MakesCalls}
 use Rattle.save_device.specs.Rows.{overwritten}
+use Rattle.save_device.specs.Device.{IsSettled}
 use Rattle.save_device.proofs.CallLists.{calls_on, one_call, first_fails, on_err}
 use Rattle.save_device.proofs.Moments.{and_then}
 use Rattle.save_device.proofs.Rows.{same_rows}
@@ -10,10 +12,19 @@ use Rattle.slot_store.specs.Formatted.{HasShutGates}
 use Rattle.slot_store.proofs.FirstSave.{sized_within, both_shut, on_any_ok}
 use Rattle.slot_store.proofs.formatting.shut_gates.Goals as goal
 
+when_ok : {T E : Type 0} (r : Result T E) (P : Type 0) → OnTrue (is_ok r) P → OnOk r P
+when_ok (Ok v) P p = p
+when_ok (Err e) P p = tt
+
 pub returns-in_err-write_at-clause-calls : goal.returns-in_err-write_at-clause-calls
 returns-in_err-write_at-clause-calls g c =
     let S = g.D.SaveDevice in let old = (S.state c.args.device.now).calls in let new = (S.state c.write_at.new.self).calls in
     on_err c.from_residual.result (λ (good : Bool). MakesCalls (Write ∷ Write ∷ Sync ∷ []) good old new) c.from_residual.ensures.0 (first_fails Write (Write ∷ Sync ∷ []) old new c.in_err-write_at.ensures.call.counted)
+
+pub returns-in_err-write_at-clause-any_moment : goal.returns-in_err-write_at-clause-any_moment
+returns-in_err-write_at-clause-any_moment g c =
+    let S = g.D.SaveDevice in let lines = c.args.lines in
+    sized_within lines (S.state c.args.device.now) (S.state c.write_at.new.self) c.write_at.ensures.call.time c.requires.size (c.write_at.ensures.outside.size ∙ c.requires.size)
 
 pub returns-in_err-write_at-2-clause-calls : goal.returns-in_err-write_at-2-clause-calls
 returns-in_err-write_at-2-clause-calls g c =
@@ -47,3 +58,9 @@ returns-clause-any_moment g c =
     and_then old two new
     (and_then old one two (sized_within lines old one c.write_at.ensures.call.time c.requires.size first) (sized_within lines one two c.write_at-2.ensures.call.time first second))
     (sized_within lines two new c.sync.ensures.call.time second (c.sync.ensures.outside.size ∙ second))
+
+pub returns-clause-settled : goal.returns-clause-settled
+returns-clause-settled g c = when_ok c.sync.result (IsSettled (g.D.SaveDevice.state c.sync.new.self)) c.sync.ensures.settled
+
+pub returns-clause-size : goal.returns-clause-size
+returns-clause-size g c = c.sync.ensures.outside.size ∙ c.write_at-2.ensures.outside.size ∙ c.write_at.ensures.outside.size ∙ c.requires.size

@@ -1,20 +1,35 @@
-use Rattle.std.proofs.Common.{◌≡◌, ◌+◌, ◌*◌, ◌/◌, ℕ, List, length, drop, true, false, subst, ap, sym, ◌∙◌, arith}
+use Rattle.std.proofs.Common.{◌≡◌, ◌+◌, ◌*◌, ◌/◌, ℕ, List, length, drop, true, false, refl, subst, ap, sym, ◌∙◌, arith}
 use Rattle.std.proofs.lemmas.Result.{err_from_is_err_and}
 use Rattle.save_device.specs.Device.{Moment, DeviceState}
 use Rattle.save_device.proofs.Rows.{same_rows}
 use Rattle.save_device.proofs.ReadRuns.{settled_same, sync_leaves, reads_on}
 use Rattle.save_image.specs.Body.{lines_in}
 use Rattle.line_memory.specs.Memory.{IsMemory}
-use Rattle.slot_store.specs.Slots.{device_size, slot_state, is_closed, other, body_in, image_with}
-use Rattle.slot_store.specs.Outcomes.{restored}
+use Rattle.slot_store.specs.declared.slots.Slot.{Slot}
+use Rattle.slot_store.specs.declared.restoring.RestoreError.{RestoreError}
+use Rattle.slot_store.specs.Slots.{start_of, device_size, slot_state, is_closed, other, body_in, image_with}
+use Rattle.slot_store.specs.Outcomes.{Found, restored}
+use Rattle.slot_store.specs.Told.{Refuses}
 use Rattle.slot_store.proofs.Resting.{rest_restored, found_image}
 use Rattle.slot_store.proofs.Picked.{wrong_size}
 use Rattle.slot_store.proofs.RestoreCalls.{calls_of_fault, calls_of_headers, calls_of_pages, calls_of_all, sync_and_reads}
 use Rattle.slot_store.proofs.restoring.restore.Goals as goal
 
+-- the lines that were read of these bytes are the slot's
+lines_read : (lines start : ℕ) (slot : Slot) (seen bytes : List ℕ) (memory : List (List ℕ)) → 64 * (lines / 64) ≡ lines → start ≡ start_of lines slot → seen ≡ bytes
+    → memory ≡ lines_in (64 * (lines / 64)) (drop (start + 4096) seen) → memory ≡ body_in lines slot bytes
+lines_read lines start slot seen bytes memory whole at same read =
+    read
+    ∙ ap (λ (n : ℕ). lines_in n (drop (start + 4096) seen)) whole
+    ∙ ap (λ (i : ℕ). lines_in lines (drop (i + 4096) seen)) at
+    ∙ ap (λ (row : List ℕ). body_in lines slot row) same
+
 pub returns-then-len-device_size-clause-refused : goal.returns-then-len-device_size-clause-refused
 returns-then-len-device_size-clause-refused g c =
     wrong_size c.args.lines (g.D.SaveDevice.state c.args.device.now).bytes (λ e. omega (arith, e, c.len.ensures, c.device_size.ensures, c.if-len-device_size.true))
+
+pub returns-then-len-device_size-clause-calls : goal.returns-then-len-device_size-clause-calls
+returns-then-len-device_size-clause-calls g c = refl
 
 pub returns-in_default-clause-calls : goal.returns-in_default-clause-calls
 returns-in_default-clause-calls g c =
@@ -34,6 +49,16 @@ returns-in_err-choice-clause-calls g c =
     let p = err_from_is_err_and c.from_residual.result c.from_residual.ensures.1 in
     rw (p.1, p.2) (calls_of_headers c.in_err-choice.field-0.0 c.args.lines (S.state c.args.device.now) (S.state c.sync.new.self) (S.state c.read_both.new.device) c.in_err-choice.ensures.headers c.in-Ok.ensures c.in_err-choice.ensures.reads)
 
+pub returns-in_err-choice-clause-refused : goal.returns-in_err-choice-clause-refused
+returns-in_err-choice-clause-refused g c =
+    let S = g.D.SaveDevice in let error : RestoreError = c.in_err-choice.field-0.0 in
+    let p = err_from_is_err_and c.from_residual.result c.from_residual.ensures.1 in
+    let synced : (S.state c.sync.new.self).bytes ≡ (S.state c.args.device.now).bytes = c.in-Ok.ensures.done in
+    rw (p.1, p.2) (subst (λ (bytes : List ℕ). Refuses error (restored c.args.lines bytes)) synced c.in_err-choice.ensures.newest)
+
+pub returns-in_err-choice-clause-same : goal.returns-in_err-choice-clause-same
+returns-in_err-choice-clause-same g c = ap (λ (moment : Moment). moment.bytes) c.read_both.ensures.reads.same ∙ c.in-Ok.ensures.done
+
 pub returns-in_err-choice-clause-any_moment : goal.returns-in_err-choice-clause-any_moment
 returns-in_err-choice-clause-any_moment g c =
     let S = g.D.SaveDevice in
@@ -45,10 +70,31 @@ returns-in_err-memory-clause-calls g c =
     let p = err_from_is_err_and c.from_residual-in_err-memory.result c.from_residual-in_err-memory.ensures.1 in
     rw (p.1, p.2) (calls_of_pages c.in_err-memory.field-0.0 c.args.lines (S.state c.args.device.now) (S.state c.sync.new.self) (S.state c.read_both.new.device) (S.state c.read_pages.new.device) c.in_err-memory.ensures.failed c.in-Ok.ensures c.in_ok-choice.ensures.reads c.in_err-memory.ensures.reads)
 
+pub returns-in_err-memory-clause-same : goal.returns-in_err-memory-clause-same
+returns-in_err-memory-clause-same g c = ap (λ (moment : Moment). moment.bytes) (c.read_pages.ensures.reads.same ∙ c.read_both.ensures.reads.same) ∙ c.in-Ok.ensures.done
+
 pub returns-in_err-memory-clause-any_moment : goal.returns-in_err-memory-clause-any_moment
 returns-in_err-memory-clause-any_moment g c =
     let S = g.D.SaveDevice in let old = S.state c.args.device.now in let mid = S.state c.sync.new.self in let two = S.state c.read_both.new.device in let new = S.state c.read_pages.new.device in
     sync_and_reads _ old mid new _ c.in-Ok.ensures (reads_on 2 _ _ mid two new c.in_ok-choice.ensures.reads c.read_pages.ensures.reads)
+
+pub returns-clause-found : goal.returns-clause-found
+returns-clause-found g c =
+    let S = g.D.SaveDevice in let lines : ℕ = c.args.lines in let choice = c.in_ok-choice.choice in let newest = c.in_ok-choice.ensures.newest in
+    let first : List ℕ = (S.state c.args.device.now).bytes in let mid : List ℕ = (S.state c.sync.new.self).bytes in let last : List ℕ = (S.state c.read_both.new.device).bytes in
+    let synced : mid ≡ first = c.in-Ok.ensures.done in
+    let same : last ≡ mid = ap (λ (moment : Moment). moment.bytes) c.read_both.ensures.reads.same in
+    let lines_are : c.in_ok-memory.memory.items ≡ body_in lines choice.slot mid =
+    lines_read lines c.start.result choice.slot last mid c.in_ok-memory.memory.items (omega (arith, c.requires.whole)) c.start.ensures same c.in_ok-memory.ensures.lines in
+    record {
+      arm = choice.header.arm;
+      newest = ap (restored lines) (sym synced) ∙ newest.0 ∙ ap (λ (m : List (List ℕ)). Found choice.slot (image_with choice.header m)) (sym lines_are);
+      judged = c.judged.ensures;
+      shut = newest.1 ∙ ap (λ (bytes : List ℕ). is_closed (slot_state lines (other choice.slot) bytes)) synced;
+    }
+
+pub returns-clause-same : goal.returns-clause-same
+returns-clause-same g c = ap (λ (moment : Moment). moment.bytes) (c.read_pages.ensures.reads.same ∙ c.read_both.ensures.reads.same) ∙ c.in-Ok.ensures.done
 
 -- the bytes of the device after the sync, the headers and the pages
 pub returns-clause-sound : goal.returns-clause-sound
@@ -60,10 +106,7 @@ returns-clause-sound g c =
     let size : length first ≡ device_size lines = omega (arith, c.len.ensures, c.device_size.ensures, c.if-len-device_size.false) in
     let image = found_image lines choice.slot (image_with choice.header (body_in lines choice.slot (S.state c.sync.new.self).bytes)) (S.state c.sync.new.self).bytes (ap length synced ∙ size) c.in_ok-choice.ensures.newest.0 in
     let lines_are : c.in_ok-memory.memory.items ≡ body_in lines choice.slot (S.state c.sync.new.self).bytes =
-    c.in_ok-memory.ensures.lines
-    ∙ ap (λ (n : ℕ). lines_in n (drop (c.start.result + 4096) last)) (let e : 64 * (lines / 64) ≡ lines = omega (arith, c.requires.whole) in e)
-    ∙ ap (λ (start : ℕ). lines_in lines (drop (start + 4096) last)) c.start.ensures
-    ∙ ap (λ (bytes : List ℕ). body_in lines choice.slot bytes) same in
+    lines_read lines c.start.result choice.slot last (S.state c.sync.new.self).bytes c.in_ok-memory.memory.items (omega (arith, c.requires.whole)) c.start.ensures same c.in_ok-memory.ensures.lines in
     (subst (λ (m : List (List ℕ)). IsMemory lines m) (sym lines_are) image.memory, image.fits)
 
 pub returns-clause-calls : goal.returns-clause-calls

@@ -1,9 +1,15 @@
-use Rattle.std.proofs.Common.{false, sym, subst}
+use Rattle.std.proofs.Common.{false, refl, sym, subst}
 use Rattle.slot_store.specs.declared.plan.Step.{Step}
 use Rattle.slot_store.specs.Saving.{SlotHas, SavingAt}
 use Rattle.slot_store.proofs.Standing.{stands_next, stands_again}
 use Rattle.slot_store.proofs.Going.{saving_next, saving_again, stop_within}
 use Rattle.slot_store.proofs.saving.SaveRun.step.Goals as goal
+
+pub returns-in-Err-clause-call : goal.returns-in-Err-clause-call
+returns-in-Err-clause-call g c = rw c.in-Err.is at c.call.ensures
+
+pub returns-in-Err-clause-next : goal.returns-in-Err-clause-next
+returns-in-Err-clause-next g c = record { plan = refl; next = refl; tried = refl }
 
 pub returns-in-Err-clause-has : goal.returns-in-Err-clause-has
 returns-in-Err-clause-has g c = λ memory lines gives has.
@@ -19,6 +25,12 @@ pub returns-in-Err-clause-any_moment : goal.returns-in-Err-clause-any_moment
 returns-in-Err-clause-any_moment g c = λ candidates old memory s.
     let S = g.D.SaveDevice in let run = c.args.self.now in
     stop_within candidates old run.plan memory c.args.page.now (S.state c.args.device.now) (S.state c.call.new.device) c.told-page run.next run.tried _ run.place s c.call.ensures
+
+pub returns-in-Ok-clause-call : goal.returns-in-Ok-clause-call
+returns-in-Ok-clause-call g c = rw c.in-Ok.is at c.call.ensures
+
+pub returns-in-Ok-clause-next : goal.returns-in-Ok-clause-next
+returns-in-Ok-clause-next g c = record { plan = refl; next = c.after-self.ensures.after; tried = refl }
 
 pub returns-in-Ok-clause-has : goal.returns-in-Ok-clause-has
 returns-in-Ok-clause-has g c = λ memory lines gives has.

@@ -1,0 +1,5 @@
+use Rattle.std.proofs.Common.{refl}
+use Rattle.slot_store.proofs.restoring.Restored.newest.Goals as goal
+
+pub returns-clause-slot : goal.returns-clause-slot
+returns-clause-slot c = refl

@@ -1,0 +1,5 @@
+use Rattle.std.proofs.Common.{refl}
+use Rattle.slot_store.proofs.saving.SaveRun.begin.Goals as goal
+
+pub returns-clause-count : goal.returns-clause-count
+returns-clause-count c = refl

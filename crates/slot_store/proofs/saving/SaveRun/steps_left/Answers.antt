@@ -1,0 +1,6 @@
+use Rattle.std.proofs.Common.{ap, sym}
+use Rattle.slot_store.specs.Steps.{steps_left}
+use Rattle.slot_store.proofs.saving.SaveRun.steps_left.Goals as goal
+
+pub returns-in-SyncOpen : goal.returns-in-SyncOpen
+returns-in-SyncOpen c = ap (steps_left c.args.self.now.plan.lines) (sym c.in-SyncOpen.is)

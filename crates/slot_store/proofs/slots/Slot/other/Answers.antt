@@ -1,0 +1,6 @@
+use Rattle.std.proofs.Common.{ap, sym}
+use Rattle.slot_store.specs.Slots.{other}
+use Rattle.slot_store.proofs.slots.Slot.other.Goals as goal
+
+pub returns-in-First : goal.returns-in-First
+returns-in-First c = ap other (sym c.in-First.is)
