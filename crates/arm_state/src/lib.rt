@@ -5,8 +5,6 @@ pub mod laws;
 mod mode;
 mod moves;
 mod refusal;
-#[cfg(test)]
-mod tests;
 
 pub use mode::Mode;
 pub use moves::Move;

@@ -10,6 +10,4 @@ pub mod laws;
 pub mod line_map;
 pub mod lines;
 pub mod map;
-#[cfg(test)]
-mod tests;
 pub mod xor;

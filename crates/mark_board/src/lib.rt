@@ -9,8 +9,6 @@
 mod board;
 mod rule;
 mod seats;
-#[cfg(test)]
-mod tests;
 
 pub use board::MarkBoard;
 pub use seats::{BoardSeat, HostSeat};

@@ -7,8 +7,6 @@
 mod book;
 mod entry;
 mod notices;
-#[cfg(test)]
-mod tests;
 
 pub use book::{Full, InsertRefusal, NoticeBook};
 pub use entry::{Entry, Notice, Persisted};

@@ -4,8 +4,6 @@
 
 mod body;
 mod reading;
-#[cfg(test)]
-mod tests;
 mod writing;
 
 pub use body::{page_bytes, page_lines};

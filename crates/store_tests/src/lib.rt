@@ -1,4 +1,4 @@
-//! Tests of devices, of the store's slots on them, and of gauges: what no clause says of them.
+//! Tests of devices, of the store's slots on them, of the bytes of an image, and of gauges: what no clause says of them.
 #![tactic(auto)]
 
 #[cfg(test)]
@@ -7,5 +7,7 @@ mod check;
 mod devices;
 #[cfg(test)]
 mod gauges;
+#[cfg(test)]
+mod images;
 #[cfg(test)]
 mod slots;

@@ -1,5 +1,5 @@
-//! Tests of boards over DDR4 channels, with their hosts, workers and notices, on one thread and on several: what no clause
-//! says of them.
+//! Tests of boards over DDR4 channels, with their hosts, workers and notices, on one thread and on several, and of marks and
+//! books of notices alone: what no clause says of them.
 #![tactic(auto)]
 
 #[cfg(test)]
@@ -12,6 +12,10 @@ mod check;
 mod ends;
 #[cfg(test)]
 mod gates;
+#[cfg(test)]
+mod marks;
+#[cfg(test)]
+mod notices;
 #[cfg(test)]
 mod silent;
 #[cfg(test)]

@@ -1,7 +1,7 @@
 use Rattle.std.proofs.Common.{rules}
 use Rattle.interleave_map.specs.Interleaving.{place_by_lines}
 use Rattle.interleave_map.proofs.Closures.{closures_by_lines}
-use Rattle.interleave_map.proofs.tests.try_lines.Goals as goal
+use Rattle.timing_tests.proofs.tests.maps.try_lines.Goals as goal
 
 pub new-map-requires : goal.new-map-requires
 new-map-requires g c =

@@ -1,6 +1,6 @@
 // A header written out by hand, and what is wrong with pages that are none. The expected bytes come from the format.
-use super::*;
-use std::test::Fail;
+use crate::check::same;
+use save_image::{Header, HeaderFault, header_bytes, page_bytes, page_lines, read_header};
 
 // Generation 2, count 3, 128 lines, armed.
 const ARMED_HEADER: [u8; 40] = [
@@ -17,20 +17,19 @@ fn holds(page: &[u8; 4096], at: usize, bytes: &[u8]) -> bool {
 }
 
 #[test]
-fn a_header_byte_by_byte(rt: HostRuntime) -> Result<(), Fail> {
+fn a_header_byte_by_byte(rt: HostRuntime) {
     let page = header_bytes(2, 3, 128, true);
-    assert!(rt; holds(&page, 0, &ARMED_HEADER));
-    assert!(rt; page.iter().skip(40).all(|b| *b == 0));
+    same(&rt, holds(&page, 0, &ARMED_HEADER), true);
+    same(&rt, page.iter().skip(40).all(|b| *b == 0), true);
     let clear = header_bytes(0x0102_0304_0506_0708, 1 << 62, 65_536, false);
-    assert!(rt; holds(&clear, 0, &[0, 0]));
-    assert!(rt; holds(&clear, 16, &[8, 7, 6, 5, 4, 3, 2, 1]));
-    assert!(rt; holds(&clear, 24, &[0, 0, 0, 0, 0, 0, 0, 0x40]));
-    assert!(rt; holds(&clear, 32, &[0, 0, 1, 0, 0, 0, 0, 0]));
-    Ok(())
+    same(&rt, holds(&clear, 0, &[0, 0]), true);
+    same(&rt, holds(&clear, 16, &[8, 7, 6, 5, 4, 3, 2, 1]), true);
+    same(&rt, holds(&clear, 24, &[0, 0, 0, 0, 0, 0, 0, 0x40]), true);
+    same(&rt, holds(&clear, 32, &[0, 0, 1, 0, 0, 0, 0, 0]), true);
 }
 
 #[test]
-fn a_header_is_read_again(rt: HostRuntime) -> Result<(), Fail> {
+fn a_header_is_read_again(rt: HostRuntime) {
     let mut page = header_bytes(2, 3, 128, true);
     page[0] = 0xa5;
     let header = Header {
@@ -39,9 +38,8 @@ fn a_header_is_read_again(rt: HostRuntime) -> Result<(), Fail> {
         generation: 2,
         count: 3,
     };
-    assert_eq!(rt; read_header(&page, 128), Ok(header));
-    assert_eq!(rt; read_header(&page, 64), Err(HeaderFault::Lines));
-    Ok(())
+    same(&rt, read_header(&page, 128), Ok(header));
+    same(&rt, read_header(&page, 64), Err(HeaderFault::Lines));
 }
 
 // What is read of the header above after one byte was changed.
@@ -54,7 +52,7 @@ fn changed(at: usize, byte: u8) -> Result<Header, HeaderFault> {
 }
 
 #[test]
-fn the_first_fault_is_named(rt: HostRuntime) -> Result<(), Fail> {
+fn the_first_fault_is_named(rt: HostRuntime) {
     for (at, byte, fault) in [
         (15, 0x30, HeaderFault::Magic),
         (33, 0x01, HeaderFault::Lines),
@@ -65,10 +63,10 @@ fn the_first_fault_is_named(rt: HostRuntime) -> Result<(), Fail> {
         (40, 0x01, HeaderFault::Padding),
         (4095, 0xff, HeaderFault::Padding),
     ] {
-        assert_eq!(rt; changed(at, byte), Err(fault), "byte {at}");
+        same(&rt, (at, changed(at, byte)), (at, Err(fault)));
     }
-    assert!(rt; changed(0, 0xff).is_ok());
-    assert!(rt; changed(1, 0xff).is_ok());
+    same(&rt, changed(0, 0xff).is_ok(), true);
+    same(&rt, changed(1, 0xff).is_ok(), true);
     for (fault, number) in [
         (HeaderFault::Magic, 1),
         (HeaderFault::Lines, 2),
@@ -76,18 +74,16 @@ fn the_first_fault_is_named(rt: HostRuntime) -> Result<(), Fail> {
         (HeaderFault::Count, 4),
         (HeaderFault::Padding, 5),
     ] {
-        assert_eq!(rt; fault as u8, number);
+        same(&rt, fault as u8, number);
     }
-    Ok(())
 }
 
 #[test]
-fn lines_and_pages(rt: HostRuntime) -> Result<(), Fail> {
+fn lines_and_pages(rt: HostRuntime) {
     let mut memory = [[0; 64]; 128];
     memory[64][0] = 0x11;
     memory[127][63] = 0x22;
     let page = page_bytes(&memory, 1);
-    assert_eq!(rt; (page[0], page[4095]), (0x11, 0x22));
-    assert_eq!(rt; page_lines(page), &memory[64..]);
-    Ok(())
+    same(&rt, (page[0], page[4095]), (0x11, 0x22));
+    same(&rt, page_lines(page), &memory[64..]);
 }
