@@ -1,6 +1,8 @@
 // The command line: its words, the files that they name, and the exit status.
-ghost use Rattle.std.specs.Prelude.{◌≡◌};
+ghost use Rattle.std.specs.Prelude.{◌≡◌, IfErr, codes};
 ghost use Rattle.std.specs.Process.{exit_status};
+ghost use Rattle.command_line.specs.declared.command.Fault.TheVariants.{Memory};
+ghost use Rattle.command_line.specs.Exit.{IsOfWords, IsOfNoFile};
 
 use crate::store::{STORE_BYTES, show_store};
 use clap::error::ErrorKind;
@@ -48,6 +50,8 @@ impl Fault<'_> {
 }
 
 impl<'a> From<AllocError> for Fault<'a> {
+    ghost from_gives = { λ _ fault. fault ≡ Memory };
+
     fn from(_: AllocError) -> Fault<'a> {
         Fault::Memory
     }
@@ -59,8 +63,10 @@ impl<'a> From<ScriptFault> for Fault<'a> {
     }
 }
 
-/// The words that the program was called with, its name first.
-pub fn words_of<R: Env + AllocGlobal>(rt: &R) -> Result<Vec<String>, Fault<'static>> {
+/// The words that the program was called with, its name first. `Words` where one of them isn't UTF-8.
+pub fn words_of<R: Env + AllocGlobal>(rt: &R) -> Result<Vec<String>, Fault<'static>>
+    ensures { IfErr result IsOfWords }
+{
     match env::args(rt) {
         Ok(words) => Ok(words.collect(rt.alloc())?),
         Err(error) if error.kind() == io::ErrorKind::OutOfMemory => Err(Fault::Memory),
@@ -208,7 +214,9 @@ fn usage<'a, R: Print + Eprint>(rt: &R, error: &UsageError) -> Result<ExitCode, 
 }
 
 /// The profile of its word: `tiny`, or a file of TOML.
-pub fn profile_of<'a, R: Files + AllocGlobal>(rt: &R, word: &'a str) -> Result<Profile, Fault<'a>> {
+pub fn profile_of<'a, R: Files + AllocGlobal>(rt: &R, word: &'a str) -> Result<Profile, Fault<'a>>
+    ensures tiny { word.entry.now ≡ codes "tiny" → IfErr result IsOfNoFile }
+{
     let read = if word == "tiny" {
         read_profile(rt.alloc(), TINY.as_bytes())
     } else {

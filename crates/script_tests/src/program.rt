@@ -1,7 +1,7 @@
 // The program's words, faults and exit status.
 use crate::check::same;
 use command_line::{Fault, profile_of, run};
-use nv_profile::MapWord;
+use nv_profile::{MapWord, TINY};
 use nv_script::ScriptFault;
 use std::env::{self, Env};
 use std::fs;
@@ -10,15 +10,15 @@ use std::process::{self, Abort, ExitCode};
 use std::rt::Files;
 
 // What the program does: its exit status, and its line on standard error but for the name in front.
-fn outcome<R, W>(rt: &R, words: &[&str], writer: &mut W) -> (ExitCode, String)
+fn outcome<R, W>(rt: &R, place: &str, words: &[&str], writer: &mut W) -> (ExitCode, String)
 where
     R: Abort + Files + Input + Print + Eprint + AllocGlobal,
     W: Write,
 {
     let mut given = Vec::new(rt.alloc());
+    given.push(named(rt, place, "nvctl")).expect(rt, "memory");
     for word in words {
-        let word = String::from_str(rt.alloc(), word).expect(rt, "memory");
-        given.push(word).expect(rt, "memory");
+        given.push(named(rt, place, word)).expect(rt, "memory");
     }
     match run(rt, &given, writer) {
         Ok(code) => (code, String::new(rt.alloc())),
@@ -30,120 +30,150 @@ fn shown<R: Abort + AllocGlobal>(rt: &R, fault: &Fault<'_>) -> String {
     fault.to_string(rt.alloc()).expect(rt, "memory")
 }
 
-// Fails where the words behind the program's name don't end with this status and line, and this text written.
-fn ends<R>(rt: &R, words: &[&str], code: ExitCode, line: &str, text: &str)
+// Fails where the words behind the program's name don't end with this status and line, and this text written. The words
+// begin the names of a test's own files by a %, which stands for their place.
+fn ends<R>(rt: &R, place: &str, words: &[&str], code: ExitCode, line: &str, text: &str)
 where
     R: Abort + Files + Input + Print + Eprint + AllocGlobal,
 {
-    let mut given = Vec::new(rt.alloc());
-    given.push("nvctl").expect(rt, "memory");
-    given.extend_from_slice(words).expect(rt, "memory");
     let mut written = Vec::new(rt.alloc());
-    let (found, told) = outcome(rt, &given, &mut written);
+    let (found, told) = outcome(rt, place, words, &mut written);
     let ended = (words, found, told.as_str(), written.as_slice());
     same(rt, ended, (words, code, line, text.as_bytes()));
 }
 
-// A file of the test's own.
-fn file<R>(rt: &R, process: u32, name: &str, bytes: &[u8]) -> String
-where
-    R: Abort + Env + Files + AllocGlobal,
-{
+// How the names of a test's own files begin.
+fn place<R: Abort + Env + AllocGlobal>(rt: &R, process: u32) -> String {
     let folder = env::temp_dir(rt).expect(rt, "a folder");
-    let path = format!(in rt.alloc(); "{}/nvctl-{process}-{name}", folder.display());
-    let path = path.expect(rt, "memory");
-    fs::write(rt, path.as_str(), bytes).expect(rt, "a file");
-    path
+    let place = format!(in rt.alloc(); "{}/nvctl-{process}-", folder.display());
+    place.expect(rt, "memory")
 }
 
-fn remove<R: Abort + Files>(rt: &R, path: &str) {
-    fs::remove_file(rt, path).expect(rt, "a file");
+fn named<R: Abort + AllocGlobal>(rt: &R, place: &str, word: &str) -> String {
+    word.replace(rt.alloc(), "%", place).expect(rt, "memory")
 }
+
+fn make<R: Abort + Files + AllocGlobal>(rt: &R, place: &str, name: &str, bytes: &[u8]) {
+    fs::write(rt, named(rt, place, name).as_str(), bytes).expect(rt, "a file");
+}
+
+fn remove<R: Abort + Files + AllocGlobal>(rt: &R, place: &str, name: &str) {
+    fs::remove_file(rt, named(rt, place, name).as_str()).expect(rt, "a file");
+}
+
+const NO_USAGE: [&[&str]; 9] = [
+    &[],
+    &["run"],
+    &["run", "tiny"],
+    &["run", "tiny", "-", "-"],
+    &["run", "tiny", "-", "--out"],
+    &["show"],
+    &["show", "store", "store"],
+    &["walk"],
+    &["--walk"],
+];
 
 #[test]
 fn words_that_are_no_usage(rt: HostRuntime) {
-    let cases: [&[&str]; 9] = [
-        &[],
-        &["run"],
-        &["run", "tiny"],
-        &["run", "tiny", "-", "-"],
-        &["run", "tiny", "-", "--out"],
-        &["show"],
-        &["show", "store", "store"],
-        &["walk"],
-        &["--walk"],
-    ];
-    for words in cases {
-        ends(&rt, words, ExitCode::from(2), "", "");
+    for words in NO_USAGE {
+        ends(&rt, "", words, ExitCode::from(2), "", "");
     }
-    ends(&rt, &["--help"], ExitCode::SUCCESS, "", "");
+    ends(&rt, "", &["--help"], ExitCode::SUCCESS, "", "");
 }
 
 #[test]
 fn a_script_that_runs(rt: HostRuntime) {
-    let script = file(&rt, process::id(rt.process()), "good", b"format\nrestore\n");
-    let words = ["run", "tiny", script.as_str()];
+    let place = place(&rt, process::id(rt.process()));
+    let place = place.as_str();
+    make(&rt, place, "%good", b"format\nrestore\n");
     let text = "formatted\nrestored 1 0 Complete\n";
-    ends(&rt, &words, ExitCode::SUCCESS, "", text);
-    remove(&rt, script.as_str());
+    ends(
+        &rt,
+        place,
+        &["run", "tiny", "%good"],
+        ExitCode::SUCCESS,
+        "",
+        text,
+    );
+    remove(&rt, place, "%good");
 }
+
+const FAULTS: [(&[&str], &str); 4] = [
+    (&["run", "/no/profile", "/no/such/file"], "file /no/profile"),
+    (&["run", "%bad", "/no/such/file"], "profile"),
+    (&["run", "tiny", "/no/such/file"], "file /no/such/file"),
+    (&["run", "tiny", "%bad"], "script line 2"),
+];
 
 #[test]
 fn faults_in_their_order(rt: HostRuntime) {
-    let bad = file(
-        &rt,
-        process::id(rt.process()),
-        "bad",
-        b"format\nwirte 0 11\n",
-    );
-    for (words, fault) in [
-        (["run", "/no/profile", "/no/such/file"], "file /no/profile"),
-        (["run", bad.as_str(), "/no/such/file"], "profile"),
-        (["run", "tiny", "/no/such/file"], "file /no/such/file"),
-        (["run", "tiny", bad.as_str()], "script line 2"),
-    ] {
-        ends(&rt, &words, ExitCode::FAILURE, fault, "");
+    let place = place(&rt, process::id(rt.process()));
+    let place = place.as_str();
+    make(&rt, place, "%bad", b"format\nwirte 0 11\n");
+    for (words, fault) in FAULTS {
+        ends(&rt, place, words, ExitCode::FAILURE, fault, "");
     }
-    remove(&rt, bad.as_str());
+    remove(&rt, place, "%bad");
 }
+
+const SAVING: &str = "formatted\naccepted 0 mark 0\nsaved 2 1\naccepted 1 mark 1\n";
+
+// Words one after another, with the status, the line and the text.
+const STORES: [(&[&str], ExitCode, &str, &str); 4] = [
+    (
+        &["run", "tiny", "%saving", "--out", "%store"],
+        ExitCode::SUCCESS,
+        "",
+        SAVING,
+    ),
+    (
+        &["show", "%store"],
+        ExitCode::SUCCESS,
+        "",
+        "restored 2 1 Complete\nline 5 = a5\n",
+    ),
+    (
+        &["show", "%saving"],
+        ExitCode::FAILURE,
+        "",
+        "refused restore 3 WrongSize\n",
+    ),
+    (
+        &["run", "tiny", "%saving", "--out", "/no/store"],
+        ExitCode::FAILURE,
+        "file /no/store",
+        SAVING,
+    ),
+];
 
 #[test]
 fn a_store_that_is_shown(rt: HostRuntime) {
-    let script = file(
+    let place = place(&rt, process::id(rt.process()));
+    let place = place.as_str();
+    make(
         &rt,
-        process::id(rt.process()),
-        "saving",
+        place,
+        "%saving",
         b"format\nwrite 5 a5\nsave\nwrite 6 11\n",
     );
-    let text = "formatted\naccepted 0 mark 0\nsaved 2 1\naccepted 1 mark 1\n";
-    let store = file(&rt, process::id(rt.process()), "store", b"");
-    let words = ["run", "tiny", script.as_str(), "--out", store.as_str()];
-    ends(&rt, &words, ExitCode::SUCCESS, "", text);
-    let image = "restored 2 1 Complete\nline 5 = a5\n";
-    ends(&rt, &["show", store.as_str()], ExitCode::SUCCESS, "", image);
-    let refused = "refused restore 3 WrongSize\n";
-    ends(
-        &rt,
-        &["show", script.as_str()],
-        ExitCode::FAILURE,
-        "",
-        refused,
-    );
-    let words = ["run", "tiny", script.as_str(), "--out", "/no/store"];
-    ends(&rt, &words, ExitCode::FAILURE, "file /no/store", text);
-    remove(&rt, script.as_str());
-    remove(&rt, store.as_str());
+    make(&rt, place, "%store", b"");
+    for (words, code, line, text) in STORES {
+        ends(&rt, place, words, code, line, text);
+    }
+    remove(&rt, place, "%saving");
+    remove(&rt, place, "%store");
 }
 
 #[test]
 fn a_writer_that_takes_no_more(rt: HostRuntime) {
-    let script = file(&rt, process::id(rt.process()), "full", b"format\nformat\n");
+    let place = place(&rt, process::id(rt.process()));
+    let place = place.as_str();
+    make(&rt, place, "%full", b"format\nformat\n");
     let mut room = [0; 12];
     let mut writer = room.as_mut_slice();
-    let words = ["nvctl", "run", "tiny", script.as_str()];
-    let (code, line) = outcome(&rt, &words, &mut writer);
+    let (code, line) = outcome(&rt, place, &["run", "tiny", "%full"], &mut writer);
     same(&rt, (code, line.as_str()), (ExitCode::FAILURE, "file -"));
-    remove(&rt, script.as_str());
+    remove(&rt, place, "%full");
 }
 
 #[test]
@@ -184,37 +214,48 @@ fn has_map<R: Abort + Files + AllocGlobal>(rt: &R, word: &str, wanted: &str) {
 }
 
 // The same of a file with these bytes.
-fn file_has_map<R>(rt: &R, process: u32, name: &str, bytes: &[u8], wanted: &str)
+fn file_has_map<R>(rt: &R, place: &str, name: &str, bytes: &[u8], wanted: &str)
 where
-    R: Abort + Env + Files + AllocGlobal,
+    R: Abort + Files + AllocGlobal,
 {
-    let path = file(rt, process, name, bytes);
-    has_map(rt, path.as_str(), wanted);
-    remove(rt, path.as_str());
+    make(rt, place, name, bytes);
+    has_map(rt, named(rt, place, name).as_str(), wanted);
+    remove(rt, place, name);
+}
+
+// The text of the small profile with spaces behind it, up to so many bytes.
+fn longer<R: Abort + AllocGlobal>(rt: &R, len: usize) -> Vec<u8> {
+    let mut text = TINY.as_bytes().to_vec(rt.alloc()).expect(rt, "memory");
+    text.push(b'#').expect(rt, "memory");
+    text.resize(len, b' ').expect(rt, "memory");
+    text
 }
 
 #[test]
 fn profiles(rt: HostRuntime) {
-    let text = nv_profile::TINY.as_bytes();
-    let (head, _) = nv_profile::TINY.split_once("map").expect(&rt, "a map");
+    let place = place(&rt, process::id(rt.process()));
+    let place = place.as_str();
+    let (head, _) = TINY.split_once("map").expect(&rt, "a map");
     let other = format!(in rt.alloc(); "{head}map = \"{}\"\n", MapWord::Xor);
     let other = other.expect(&rt, "memory");
-    let mut long = text.to_vec(rt.alloc()).expect(&rt, "memory");
-    long.push(b'#').expect(&rt, "memory");
-    long.resize(65_537, b' ').expect(&rt, "memory");
-    let process = process::id(rt.process());
-    file_has_map(&rt, process, "tiny", text, "lines");
-    file_has_map(&rt, process, "xor", other.as_bytes(), "xor");
+    file_has_map(&rt, place, "%tiny", TINY.as_bytes(), "lines");
+    file_has_map(&rt, place, "%xor", other.as_bytes(), "xor");
     file_has_map(
         &rt,
-        process,
-        "longest",
-        &long[..long.len().min(65_536)],
+        place,
+        "%longest",
+        longer(&rt, 65_536).as_slice(),
         "lines",
     );
-    file_has_map(&rt, process, "long", long.as_slice(), "profile");
-    file_has_map(&rt, process, "short", head.as_bytes(), "profile");
-    file_has_map(&rt, process, "empty", b"".as_slice(), "profile");
+    file_has_map(
+        &rt,
+        place,
+        "%long",
+        longer(&rt, 65_537).as_slice(),
+        "profile",
+    );
+    file_has_map(&rt, place, "%short", head.as_bytes(), "profile");
+    file_has_map(&rt, place, "%empty", b"".as_slice(), "profile");
     has_map(&rt, "tiny", "lines");
     has_map(&rt, "/no/such", "file /no/such");
 }
