@@ -1,13 +1,7 @@
 // A queue from empty to full and back. The expected values are worked out by hand.
-use super::*;
+use crate::tests::check::same;
 use line_memory::{Line, Write};
-use std::fmt::Debug;
-use std::process::Abort;
-
-// Fails where a value isn't the wanted one.
-fn same<R: Abort, T: PartialEq + Debug + Drop>(rt: &R, got: T, wanted: T) {
-    assert_eq!(*rt; got, wanted);
-}
+use wpq_core::{Full, PendingWrite, Wpq};
 
 // A line of this byte.
 const fn of(byte: u8) -> Line {
