@@ -1,4 +1,4 @@
-// Channel 0 of a profile and its drains, worked by hand and busy for long.
+// Channel 0 of a profile and its drains, worked by hand and busy for long, and its queue of writes alone.
 
 mod busy;
 mod by_lines;
@@ -8,6 +8,7 @@ mod last_start;
 mod picks;
 mod plain;
 mod profiles;
+mod queues;
 mod refreshes;
 mod requests;
 mod run;

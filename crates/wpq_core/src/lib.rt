@@ -6,8 +6,6 @@
 
 mod laws;
 mod queue;
-#[cfg(test)]
-mod tests;
 
 pub use laws::{early_write, line_of_memory, pushed_write};
 pub use queue::{Full, PendingWrite, Wpq};

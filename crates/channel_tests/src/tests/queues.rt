@@ -1,25 +1,26 @@
 // A queue from empty to full and back. The expected values are worked out by hand.
-use super::*;
+use crate::tests::check::same;
 use line_memory::{Line, Write};
-use std::fmt::Debug;
 use std::process::Abort;
-
-// Fails where a value isn't the wanted one.
-fn same<R: Abort, T: PartialEq + Debug + Drop>(rt: &R, got: T, wanted: T) {
-    assert_eq!(*rt; got, wanted);
-}
+use wpq_core::{Full, PendingWrite, Wpq};
 
 // A line of this byte.
 const fn of(byte: u8) -> Line {
     [byte; 64]
 }
 
+// The queue takes a write of a line of this byte.
+fn takes<R: Abort>(rt: &R, queue: &mut Wpq, number: u64, line: u64, byte: u8) {
+    assert!(*rt; queue.may_take(number));
+    same(rt, queue.try_push(number, line, of(byte)).is_ok(), true);
+}
+
 #[test]
 fn a_full_queue_hands_the_write_back(rt: HostRuntime) {
     let mut queue = Wpq::with_depth(rt.alloc(), 2).expect(&rt, "memory");
     same(&rt, (queue.is_empty(), queue.is_full()), (true, false));
-    assert!(rt; queue.try_push(3, 0, of(0x11)).is_ok());
-    assert!(rt; queue.try_push(5, 64, of(0x22)).is_ok());
+    takes(&rt, &mut queue, 3, 0, 0x11);
+    takes(&rt, &mut queue, 5, 64, 0x22);
     same(&rt, (queue.is_empty(), queue.is_full()), (false, true));
     let refused = PendingWrite {
         number: 6,
@@ -28,6 +29,7 @@ fn a_full_queue_hands_the_write_back(rt: HostRuntime) {
             data: of(0x33),
         },
     };
+    assert!(rt; queue.may_take(6));
     same(&rt, queue.try_push(6, 2, of(0x33)), Err(Full { refused }));
     same(&rt, queue.len(), 2);
     same(&rt, queue.newest_for(2), None);
@@ -36,9 +38,9 @@ fn a_full_queue_hands_the_write_back(rt: HostRuntime) {
 #[test]
 fn the_newest_write_of_a_line_is_found(rt: HostRuntime) {
     let mut queue = Wpq::with_depth(rt.alloc(), 64).expect(&rt, "memory");
-    assert!(rt; queue.try_push(0, 7, of(0x11)).is_ok());
-    assert!(rt; queue.try_push(1, 7, of(0x22)).is_ok());
-    assert!(rt; queue.try_push(4, 8, of(0x33)).is_ok());
+    takes(&rt, &mut queue, 0, 7, 0x11);
+    takes(&rt, &mut queue, 1, 7, 0x22);
+    takes(&rt, &mut queue, 4, 8, 0x33);
     same(&rt, queue.newest_for(7), Some(of(0x22)));
     same(&rt, queue.newest_for(8), Some(of(0x33)));
     same(&rt, queue.newest_for(9), None);
@@ -47,9 +49,9 @@ fn the_newest_write_of_a_line_is_found(rt: HostRuntime) {
 #[test]
 fn a_write_is_taken_by_its_number(rt: HostRuntime) {
     let mut queue = Wpq::with_depth(rt.alloc(), 3).expect(&rt, "memory");
-    assert!(rt; queue.try_push(10, 1, of(0x11)).is_ok());
-    assert!(rt; queue.try_push(12, 2, of(0x22)).is_ok());
-    assert!(rt; queue.try_push(15, 3, of(0x33)).is_ok());
+    takes(&rt, &mut queue, 10, 1, 0x11);
+    takes(&rt, &mut queue, 12, 2, 0x22);
+    takes(&rt, &mut queue, 15, 3, 0x33);
     same(&rt, queue.take(11), None);
     same(&rt, queue.take(12), Some(of(0x22)));
     same(&rt, queue.take(12), None);
@@ -65,9 +67,9 @@ fn a_write_is_taken_by_its_number(rt: HostRuntime) {
 #[test]
 fn the_writes_below_a_number_are_counted(rt: HostRuntime) {
     let mut queue = Wpq::with_depth(rt.alloc(), 3).expect(&rt, "memory");
-    assert!(rt; queue.try_push(3, 0, of(0)).is_ok());
-    assert!(rt; queue.try_push(5, 0, of(0)).is_ok());
-    assert!(rt; queue.try_push(8, 0, of(0)).is_ok());
+    takes(&rt, &mut queue, 3, 0, 0);
+    takes(&rt, &mut queue, 5, 0, 0);
+    takes(&rt, &mut queue, 8, 0, 0);
     same(&rt, queue.below(3), 0);
     same(&rt, queue.below(4), 1);
     same(&rt, queue.below(5), 1);
@@ -80,8 +82,8 @@ fn the_writes_below_a_number_are_counted(rt: HostRuntime) {
 #[test]
 fn the_room_serves_again(rt: HostRuntime) {
     let mut queue = Wpq::with_depth(rt.alloc(), 1).expect(&rt, "memory");
-    assert!(rt; queue.try_push(0, 9, of(0x5a)).is_ok());
+    takes(&rt, &mut queue, 0, 9, 0x5a);
     same(&rt, queue.take(0), Some(of(0x5a)));
-    assert!(rt; queue.try_push(1, 9, of(0xa5)).is_ok());
+    takes(&rt, &mut queue, 1, 9, 0xa5);
     same(&rt, queue.take(1), Some(of(0xa5)));
 }
