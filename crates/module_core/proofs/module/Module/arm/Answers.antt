@@ -27,9 +27,9 @@ use Rattle.module_core.proofs.StoreSteps.{at_rest}
 use Rattle.module_core.proofs.Leaving.{left_marking}
 use Rattle.module_core.proofs.Applying.{alone, unmoved, asked}
 use Rattle.arm_state.specs.declared.refusal.SaveState.{SaveState}
-use Rattle.std.specs.Prelude.{nat_le, ◌^◌, is_some, if◌then◌else◌}
+use Rattle.std.specs.Prelude.{◌^◌, if◌then◌else◌}
 use Rattle.std.proofs.lemmas.Bool.{leb-false}
-use Rattle.arm_state.specs.Modes.{is_disarming, is_backed}
+use Rattle.arm_state.specs.Modes.{is_disarming}
 use Rattle.module_core.proofs.Guarding.{unless, rest_of}
 use Rattle.module_core.proofs.module.Module.arm.Goals as goal
 
@@ -166,7 +166,7 @@ free_to mode s off is =
     (unless (has_ended mode) _ _ first, unless s.is_running _ _ third, unless s.is_spent _ _ fifth)
 
 pub invariant_of-self : goal.invariant_of-self
-invariant_of-self g c = let old = c.args.self.now in record { sized = old.sized; priced = old.priced; shaped = old.shaped; from = old.from; kept = old.kept; numbers = old.numbers; below = old.below; awake = old.awake; capacity = old.capacity; unspent = old.unspent; running = old.running; most = old.most; }
+invariant_of-self g c = let old = c.args.self.now in record { sized = old.sized; priced = old.priced; shaped = old.shaped; from = old.from; kept = old.kept; numbers = old.numbers; below = old.below; awake = old.awake; capacity = old.capacity; unspent = old.unspent; running = old.running; most = old.most }
 
 pub invariant_of-self-2 : goal.invariant_of-self-2
 invariant_of-self-2 g c =

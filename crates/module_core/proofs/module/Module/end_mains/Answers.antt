@@ -1,4 +1,4 @@
-use Rattle.std.proofs.Common.{◌≡◌, ◌∙◌, refl, sym, ap, subst}
+use Rattle.std.proofs.Common.{◌∙◌, refl, sym, ap, subst}
 use Rattle.line_channels.specs.View.{ChannelsView, IsShape}
 use Rattle.line_channels.specs.Waits.{AllBelow}
 use Rattle.module_core.proofs.module.Module.end_mains.Goals as goal

@@ -29,7 +29,6 @@ use Rattle.arm_state.specs.Modes.{is_armed, is_backed, has_ended}
 use Rattle.slot_store.specs.Runs.{plan_of}
 use Rattle.line_channels.specs.View.{ChannelsView, IsShape}
 use Rattle.line_channels.specs.Waits.{AllBelow}
-use Rattle.module_core.specs.State.{Setup}
 use Rattle.module_core.proofs.Applying.{same_setup}
 use Rattle.module_core.proofs.module.Module.make_step.Goals as goal
 

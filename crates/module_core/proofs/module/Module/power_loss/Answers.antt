@@ -17,7 +17,6 @@ use Rattle.module_core.proofs.Applying.{unmoved}
 use Rattle.module_core.proofs.LossSteps.{saved_on, all_saved, dark, fault}
 use Rattle.module_core.proofs.LostModules.{is_lost, ready, carried, shape, waiting, closes_here, same_setup, here, answers_loss, answers_unsaved}
 use Rattle.slot_store.specs.Slots.{HasSize}
-use Rattle.line_channels.specs.View.{ChannelsView}
 use Rattle.module_core.proofs.module.Module.power_loss.Goals as goal
 
 pub returns-then-has_ended-clause-answers : goal.returns-then-has_ended-clause-answers
