@@ -57,7 +57,10 @@ impl<C: Channels> Module<C> {
     fn release_behind_pages(&mut self)
         ensures { SameButHold C.Channels self.old self.new }
     {
-        if matches!(self.saves.next(), Some(Step::SyncBody)) {
+        let Some(step) = self.saves.next() else {
+            return;
+        };
+        if matches!(step, Step::SyncBody) {
             self.channels.release();
         }
     }

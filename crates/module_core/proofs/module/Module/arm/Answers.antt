@@ -1,4 +1,4 @@
-use Rattle.std.proofs.Common.{◌≡◌, ◌∙◌, ℕ, ◌<◌, ◌≤◌, length, true, false, refl, sym, ap, subst, inl, None}
+use Rattle.std.proofs.Common.{◌≡◌, ◌∙◌, ℕ, ◌<◌, ◌≤◌, length, true, false, refl, sym, ap, subst, inl, Bool, Some, None, arith}
 use Rattle.std.specs.Prelude.{Ok, Err}
 use Rattle.save_device.specs.Device.{DeviceState}
 use Rattle.save_device.proofs.Moments.{weaker}
@@ -26,6 +26,11 @@ use Rattle.module_core.proofs.Guarding.{arms_where}
 use Rattle.module_core.proofs.StoreSteps.{at_rest}
 use Rattle.module_core.proofs.Leaving.{left_marking}
 use Rattle.module_core.proofs.Applying.{alone, unmoved, asked}
+use Rattle.arm_state.specs.declared.refusal.SaveState.{SaveState}
+use Rattle.std.specs.Prelude.{◌^◌, if◌then◌else◌}
+use Rattle.std.proofs.lemmas.Bool.{leb-false}
+use Rattle.arm_state.specs.Modes.{is_disarming}
+use Rattle.module_core.proofs.Guarding.{unless, rest_of}
 use Rattle.module_core.proofs.module.Module.arm.Goals as goal
 
 pub returns-then-is_armed-clause-answers : goal.returns-then-is_armed-clause-answers
@@ -149,3 +154,61 @@ returns-clause-answers g c = λ m stands.
     left_marking (replies.Arm (Ok arm.Armed)) m n refl (calm_disarmed m a.disarmed (stands.guarded.running running)) stands.guarded (restored lines image)
     (any_arm_in m (restored lines image) (subst (λ (x : Slot). IsAmong (with_any_arm x (newest_of m)) (restored lines image)) h.knows.slot left)))
     (c.mark_armed.ensures.any_moment (newest_of m) lines m.store.closed alone_there))
+
+-- what a life that may be armed is like
+free_to : (mode : Mode) (s : SaveState) → is_armed mode ≡ false → arm_refusal mode s ≡ None → (has_ended mode ≡ false) × (s.is_running ≡ false) × (s.is_spent ≡ false)
+free_to mode s off is =
+    let first : (if has_ended mode then Some refusals.Closed else if is_disarming mode then Some refusals.Disarming else if s.is_running then Some refusals.SaveRunning
+    else if s.is_unsettled then Some refusals.Unsettled else if s.is_spent then Some refusals.Spent else None) ≡ None =
+    subst (λ (b : Bool). (if b then None else if has_ended mode then Some refusals.Closed else if is_disarming mode then Some refusals.Disarming else if s.is_running then Some refusals.SaveRunning
+    else if s.is_unsettled then Some refusals.Unsettled else if s.is_spent then Some refusals.Spent else None) ≡ None) off is in
+    let second = rest_of (has_ended mode) _ _ first in let third = rest_of (is_disarming mode) _ _ second in let fourth = rest_of s.is_running _ _ third in let fifth = rest_of s.is_unsettled _ _ fourth in
+    (unless (has_ended mode) _ _ first, unless s.is_running _ _ third, unless s.is_spent _ _ fifth)
+
+pub invariant_of-self : goal.invariant_of-self
+invariant_of-self g c = let old = c.args.self.now in record { sized = old.sized; priced = old.priced; shaped = old.shaped; from = old.from; kept = old.kept; numbers = old.numbers; below = old.below; awake = old.awake; capacity = old.capacity; unspent = old.unspent; running = old.running; most = old.most }
+
+pub invariant_of-self-2 : goal.invariant_of-self-2
+invariant_of-self-2 g c =
+    let old = c.args.self.now in
+    let off : is_armed old.mode ≡ false = cc in
+    let free = free_to old.mode c.save_state.result off (sym c.arm_refusal.ensures ∙ c.in_default.is) in
+    let low : old.saves.newest.generation < 2 ^ 62 = leb-false (2 ^ 62) old.saves.newest.generation (sym c.save_state.ensures.spent ∙ free.2) in
+    record {
+      sized = old.sized;
+      priced = old.priced;
+      shaped = old.shaped;
+      from = old.from;
+      kept = old.kept;
+      numbers = old.numbers;
+      below = old.below;
+      awake = λ running. old.awake free.0;
+      capacity = old.capacity;
+      unspent = λ backed. omega (arith, low);
+      running = old.running;
+      most = λ armed run some. omega (arith, low, old.saves.rises run some);
+    }
+
+pub returns-then-is_armed-clause-setup : goal.returns-then-is_armed-clause-setup
+returns-then-is_armed-clause-setup g c = refl
+
+pub returns-then-is_armed-clause-size : goal.returns-then-is_armed-clause-size
+returns-then-is_armed-clause-size g c = c.requires
+
+pub returns-in-Some-clause-setup : goal.returns-in-Some-clause-setup
+returns-in-Some-clause-setup g c = refl
+
+pub returns-in-Some-clause-size : goal.returns-in-Some-clause-size
+returns-in-Some-clause-size g c = c.requires
+
+pub returns-in-Some-energy_refusal-clause-setup : goal.returns-in-Some-energy_refusal-clause-setup
+returns-in-Some-energy_refusal-clause-setup g c = refl
+
+pub returns-in-Some-energy_refusal-clause-size : goal.returns-in-Some-energy_refusal-clause-size
+returns-in-Some-energy_refusal-clause-size g c = c.requires
+
+pub returns-in_default-mark_armed-clause-setup : goal.returns-in_default-mark_armed-clause-setup
+returns-in_default-mark_armed-clause-setup g c = refl
+
+pub returns-clause-setup : goal.returns-clause-setup
+returns-clause-setup g c = refl

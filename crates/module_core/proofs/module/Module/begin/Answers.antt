@@ -3,7 +3,7 @@ use Rattle.slot_store.specs.declared.plan.Newest.{Newest}
 use Rattle.slot_store.specs.declared.saving.SaveRun.{SaveRun}
 use Rattle.arm_state.specs.Modes.{is_armed}
 use Rattle.line_channels.specs.Memory.{WaitsFrom}
-use Rattle.module_core.specs.State.{RunningSave, Machine, all_of, base_of_life, start_of_life, made_of, begun_save}
+use Rattle.module_core.specs.State.{RunningSave, all_of, base_of_life, start_of_life, made_of, begun_save}
 use Rattle.module_core.specs.Moves.{begun}
 use Rattle.module_core.specs.Saving.{RunsAs}
 use Rattle.module_core.specs.Begins.{Begins}

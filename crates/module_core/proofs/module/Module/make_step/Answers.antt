@@ -1,4 +1,4 @@
-use Rattle.std.proofs.Common.{◌≡◌, ◌∙◌, ℕ, refl, sym, ap, subst, Option, Some, None, arith}
+use Rattle.std.proofs.Common.{◌≡◌, ◌∙◌, ℕ, ◌+◌, ◌≤◌, true, refl, sym, ap, subst, Option, Some, None, arith}
 use Rattle.std.specs.Prelude.{Ok, ◌^◌}
 use Rattle.std.specs.Option.{ForSome, option_map}
 use Rattle.save_device.specs.declared.device.DeviceFault.{DeviceFault}
@@ -21,9 +21,15 @@ use Rattle.module_core.specs.Moves.{step_failed, saved_in, stepped, advanced, fi
 use Rattle.module_core.specs.Saving.{after_step, IsDone, Knows, RunsAs}
 use Rattle.module_core.specs.Begins.{StepTold, ReachesStore}
 use Rattle.module_core.specs.Stands.{hold_behind}
-use Rattle.module_core.proofs.ModeLaws.{failed_ended, ended_ended}
+use Rattle.module_core.proofs.ModeLaws.{failed_armed, failed_backed, failed_ended, ended_armed, ended_backed, ended_ended}
 use Rattle.module_core.proofs.GuardLaws.{for_none}
 use Rattle.module_core.proofs.RunningSaves.{failed_none, holds_runs, the_run, counts_as, stepped_is, hold_next, held_next}
+use Rattle.std.specs.Prelude.{IsSome}
+use Rattle.arm_state.specs.Modes.{is_armed, is_backed, has_ended}
+use Rattle.slot_store.specs.Runs.{plan_of}
+use Rattle.line_channels.specs.View.{ChannelsView, IsShape}
+use Rattle.line_channels.specs.Waits.{AllBelow}
+use Rattle.module_core.proofs.Applying.{same_setup}
 use Rattle.module_core.proofs.module.Module.make_step.Goals as goal
 
 pub returns-in-Err-clause-made : goal.returns-in-Err-clause-made
@@ -155,3 +161,70 @@ invariant_of-self-in-Some-this g c =
       running = c.in-Ok-Some.ensures.lines old.lines old.running;
       most = λ armed. c.in-Ok-Some.ensures.most (2 ^ 62) (old.most armed);
     }
+
+-- the generation of a save that may be armed
+next_fits : (o : Option SaveRun) (generation : ℕ) → IsSome o → ForSome o (λ run. (plan_of run).generation ≡ generation + 1) → ForSome o (λ run. (plan_of run).generation ≤ 2 ^ 62) → generation + 1 ≤ 2 ^ 62
+next_fits None generation some rises most = absurd (let bad : ⊥ = cc some in bad)
+next_fits (Some run) generation some rises most = subst (λ (k : ℕ). k ≤ 2 ^ 62) (rises run refl) (most run refl)
+
+pub invariant_of-self : goal.invariant_of-self
+invariant_of-self g c =
+    let old = c.args.self.now in let is = c.release.ensures.released in let mode = c.after-self.result in
+    let told : (c.step.new.self.saving ≡ None) × (c.step.new.self.newest ≡ old.saves.newest) = c.in-Err.ensures.told in
+    record {
+      sized = old.sized ∙ ap (λ (v : ChannelsView). v.shape.lines) (sym is);
+      priced = old.priced ∙ ap (λ (v : ChannelsView). v.shape.costs) (sym is);
+      shaped = subst (λ (v : ChannelsView). IsShape v.shape) (sym is) old.shaped;
+      from = old.from;
+      kept = old.kept;
+      numbers = old.numbers;
+      below = subst (λ (v : ChannelsView). AllBelow old.accepted v.waits.writes) (sym is) old.below;
+      awake = λ running. ap (λ (v : ChannelsView). v.drained) is ∙ old.awake (sym (failed_ended old.mode) ∙ ap has_ended (sym c.after-self.ensures) ∙ running);
+      capacity = old.capacity;
+      unspent = λ backed. subst (λ (n : Newest). n.generation ≤ 2 ^ 62) (sym told.1) (old.unspent (sym (failed_backed old.mode) ∙ ap is_backed (sym c.after-self.ensures) ∙ backed));
+      running = c.in-Err.ensures.lines old.lines old.running;
+      most = λ armed. c.in-Err.ensures.most (2 ^ 62) (old.most (sym (failed_armed old.mode) ∙ ap is_armed (sym c.after-self.ensures) ∙ armed));
+    }
+
+pub invariant_of-self-in-Ok-None : goal.invariant_of-self-in-Ok-None
+invariant_of-self-in-Ok-None g c =
+    let old = c.args.self.now in
+    let told = subst (λ (x : Option Step). StepTold {E = DeviceFault} (Ok x) old.saves c.step.new.self) c.in-Ok-None.field-0-is c.in-Ok-None.ensures.told in
+    record {
+      sized = old.sized;
+      priced = old.priced;
+      shaped = old.shaped;
+      from = old.from;
+      kept = old.kept;
+      numbers = old.numbers;
+      below = old.below;
+      awake = λ running. old.awake (sym (ended_ended old.mode) ∙ ap has_ended (sym c.after-self-in-Ok-None.ensures) ∙ running);
+      capacity = old.capacity;
+      unspent = λ backed.
+          let armed : is_armed old.mode ≡ true = sym (ended_backed old.mode) ∙ ap is_backed (sym c.after-self-in-Ok-None.ensures) ∙ backed in
+          subst (λ (k : ℕ). k ≤ 2 ^ 62) (sym told.1) (next_fits old.saves.saving old.saves.newest.generation c.requires.runs old.saves.rises (old.most armed));
+      running = c.in-Ok-None.ensures.lines old.lines old.running;
+      most = λ armed. c.in-Ok-None.ensures.most (2 ^ 62) (old.most (sym (ended_armed old.mode) ∙ ap is_armed (sym c.after-self-in-Ok-None.ensures) ∙ armed));
+    }
+
+pub returns-in-Err-clause-call : goal.returns-in-Err-clause-call
+returns-in-Err-clause-call g c = c.in-Err.ensures.call
+
+pub returns-in-Ok-None-clause-call : goal.returns-in-Ok-None-clause-call
+returns-in-Ok-None-clause-call g c = c.in-Ok-None.ensures.call
+
+pub returns-in-Ok-Some-clause-call : goal.returns-in-Ok-Some-clause-call
+returns-in-Ok-Some-clause-call g c = c.in-Ok-Some.ensures.call
+
+pub returns-in-Err-clause-setup : goal.returns-in-Err-clause-setup
+returns-in-Err-clause-setup g c =
+    let old = c.args.self.now in same_setup (g.C.Channels.view old.channels) (g.C.Channels.view c.release.new.self) old.trail (ap (λ (v : ChannelsView). v.shape) c.release.ensures.released)
+
+pub returns-in-Ok-None-clause-setup : goal.returns-in-Ok-None-clause-setup
+returns-in-Ok-None-clause-setup g c = refl
+
+pub returns-in-Ok-Some-clause-setup : goal.returns-in-Ok-Some-clause-setup
+returns-in-Ok-Some-clause-setup g c =
+    let old = c.args.self.now in let new = c.release_behind_pages.new.self in let rest = c.release_behind_pages.ensures in
+    same_setup (g.C.Channels.view old.channels) (g.C.Channels.view new.channels) new.trail (ap (λ (v : ChannelsView). v.shape) rest.channels.is)
+    ∙ ap (λ (k : ℕ). record { shape = (g.C.Channels.view old.channels).shape; trail = k }) rest.trail

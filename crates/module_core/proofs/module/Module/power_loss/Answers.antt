@@ -16,6 +16,7 @@ use Rattle.module_core.specs.Stands.{setup_of}
 use Rattle.module_core.proofs.Applying.{unmoved}
 use Rattle.module_core.proofs.LossSteps.{saved_on, all_saved, dark, fault}
 use Rattle.module_core.proofs.LostModules.{is_lost, ready, carried, shape, waiting, closes_here, same_setup, here, answers_loss, answers_unsaved}
+use Rattle.slot_store.specs.Slots.{HasSize}
 use Rattle.module_core.proofs.module.Module.power_loss.Goals as goal
 
 pub returns-then-has_ended-clause-answers : goal.returns-then-has_ended-clause-answers
@@ -79,3 +80,24 @@ returns-in-Err-Fault-clause-answers g c = λ m stands.
     (shape L old m device stands begun reading ends begins) (waiting L old m device stands begun reading ends begins) done.saves device' later closes in
     answers_loss L old m device stands done reading modes.Closing refl (is_lost L old begun done reading ends c.close.ensures.same short.rest) loss.Fault short.store short.none device' short.makes before later
     (c.close.ensures.setup ∙ same_setup L old m device stands begun reading ends begins) short.step
+
+pub returns-then-has_ended-clause-setup : goal.returns-then-has_ended-clause-setup
+returns-then-has_ended-clause-setup g c = refl
+
+pub returns-then-has_ended-clause-size : goal.returns-then-has_ended-clause-size
+returns-then-has_ended-clause-size g c = c.requires.size
+
+pub returns-in-Ok-clause-size : goal.returns-in-Ok-clause-size
+returns-in-Ok-clause-size g c = c.close.ensures.size
+
+pub returns-in-Err-Dark-clause-size : goal.returns-in-Err-Dark-clause-size
+returns-in-Err-Dark-clause-size g c = c.close.ensures.size
+
+pub returns-in-Err-Fault-clause-size : goal.returns-in-Err-Fault-clause-size
+returns-in-Err-Fault-clause-size g c = c.close.ensures.size
+
+pub close-requires-clause-reaches : goal.close-requires-clause-reaches
+close-requires-clause-reaches g c = c.requires.reaches
+
+pub close-requires-clause-size : goal.close-requires-clause-size
+close-requires-clause-size g c = subst (λ (k : ℕ). HasSize k (g.D.SaveDevice.state c.args.device.now)) (sym c.begin_closing.ensures.ends.lines) c.requires.size

@@ -30,6 +30,7 @@ use Rattle.module_core.proofs.Knowing.{holds_moved}
 use Rattle.module_core.proofs.Leaving.{left_within}
 use Rattle.module_core.proofs.Continuing.{continues_save_step}
 use Rattle.module_core.proofs.Applying.{same_lines, alone, unmoved, asked}
+use Rattle.slot_store.specs.Slots.{HasSize}
 use Rattle.module_core.proofs.module.Module.save_step.Goals as goal
 
 pub returns-in_default-clause-answers : goal.returns-in_default-clause-answers
@@ -98,3 +99,35 @@ returns-clause-answers g c = λ m stands.
     left_within (replies.SaveStep c.make_step.result) m n refl stands.guarded guarded (continues_save_step setup c.make_step.result oldw neww step stands.guarded) (restored old.lines image)
     (subst (λ (k : ℕ). IsAmong m.store.maybe (restored k image) ⊎ IsAmong n.store.maybe (restored k image)) same either))
     made.3.moments)
+
+pub returns-in_default-clause-setup : goal.returns-in_default-clause-setup
+returns-in_default-clause-setup g c = refl
+
+pub returns-in_default-clause-size : goal.returns-in_default-clause-size
+returns-in_default-clause-size g c = c.requires.size
+
+pub returns-then-must_wait-clause-setup : goal.returns-then-must_wait-clause-setup
+returns-then-must_wait-clause-setup g c = refl
+
+pub returns-then-must_wait-clause-size : goal.returns-then-must_wait-clause-size
+returns-then-must_wait-clause-size g c = c.requires.size
+
+pub returns-then-take_reading-clause-setup : goal.returns-then-take_reading-clause-setup
+returns-then-take_reading-clause-setup g c = c.take_reading.ensures.setup
+
+pub returns-then-take_reading-clause-size : goal.returns-then-take_reading-clause-size
+returns-then-take_reading-clause-size g c =
+    subst (λ (k : ℕ). HasSize k (g.D.SaveDevice.state c.args.device.now)) (sym (same_lines g.C.Channels c.args.self.now c.take_reading.new.self c.take_reading.ensures.setup)) c.requires.size
+
+pub make_step-requires-clause-size : goal.make_step-requires-clause-size
+make_step-requires-clause-size g c =
+    subst (λ (k : ℕ). HasSize k (g.D.SaveDevice.state c.args.device.now)) (sym (same_lines g.C.Channels c.args.self.now c.take_reading.new.self c.take_reading.ensures.setup)) c.requires.size
+
+pub page_for-page-requires-clause-reaches : goal.page_for-page-requires-clause-reaches
+page_for-page-requires-clause-reaches g c = c.requires.reaches
+
+pub returns-clause-setup : goal.returns-clause-setup
+returns-clause-setup g c = c.make_step.ensures.setup ∙ c.take_reading.ensures.setup
+
+pub returns-clause-size : goal.returns-clause-size
+returns-clause-size g c = c.make_step.ensures.size

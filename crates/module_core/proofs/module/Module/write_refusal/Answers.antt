@@ -1,5 +1,5 @@
-use Rattle.std.proofs.Common.{◌≡◌, ◌∙◌, ℕ, ◌+◌, ◌-◌, Bool, true, false, length, refl, sym, ap, arith}
-use Rattle.std.specs.Prelude.{nat_le, ◌||◌, ◌==◌, ◌^◌, Some}
+use Rattle.std.proofs.Common.{◌≡◌, ◌∙◌, ℕ, ◌+◌, ◌-◌, Bool, true, false, length, sym, ap, arith}
+use Rattle.std.specs.Prelude.{◌||◌, ◌==◌, ◌^◌, Some}
 use Rattle.std.proofs.lemmas.Bool.{ne_eqb, le-leb, lt-leb}
 use Rattle.arm_state.specs.declared.mode.Mode.{Mode}
 use Rattle.arm_state.specs.Modes.{is_disarming, has_ended, is_short}

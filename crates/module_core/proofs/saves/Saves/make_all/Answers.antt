@@ -105,3 +105,18 @@ returns-clause-lines g c = c.loop-done.invariant.plan
 
 pub returns-clause-size : goal.returns-clause-size
 returns-clause-size g c = c.loop-done.invariant.size
+
+pub returns-in_default-clause-lines : goal.returns-in_default-clause-lines
+returns-in_default-clause-lines g c = c.loop-done.invariant.plan
+
+pub returns-in_default-step-clause-lines : goal.returns-in_default-step-clause-lines
+returns-in_default-step-clause-lines g c = c.step.ensures.lines (g.C.Channels.view c.args.channels.now).shape.lines c.loop-done.invariant.plan
+
+pub page_for-page-requires-clause-reaches : goal.page_for-page-requires-clause-reaches
+page_for-page-requires-clause-reaches g c = c.requires.reaches
+
+pub returns-in_default-pay-clause-lines : goal.returns-in_default-pay-clause-lines
+returns-in_default-pay-clause-lines g c = λ run some. absurd (let bad : ⊥ = cc some in bad)
+
+pub invariant_of-self : goal.invariant_of-self
+invariant_of-self g c = record { generation = c.loop-done.self.generation; rises = λ run some. absurd (let bad : ⊥ = cc some in bad) }
