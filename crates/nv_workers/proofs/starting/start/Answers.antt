@@ -1,4 +1,4 @@
-use Rattle.std.proofs.Common.{◌≡◌, ℕ, All, subst, sym}
+use Rattle.std.proofs.Common.{◌≡◌, ℕ, All, arith, subst, sym}
 use Rattle.mark_board.specs.SeenMarks.{SeenMarks}
 use Rattle.nv_workers.specs.Client.{Client, client}
 use Rattle.nv_workers.specs.Lent.{Lent, lent, IsBehind}
@@ -13,3 +13,12 @@ publish-requires-clause-behind g c =
 
 pub returns-clause-hosts : goal.returns-clause-hosts
 returns-clause-hosts g c = subst (λ (m : ℕ). All (λ (h : Client). h ≡ client m m 0) c.in-Ok-seated.hosts.items) c.into_parts-blank.ensures.mark c.in-Ok-seated.ensures.hosts
+
+pub new-held-requires-clause-newest : goal.new-held-requires-clause-newest
+new-held-requires-clause-newest g c = c.requires.newest
+
+pub new-held-requires-clause-size : goal.new-held-requires-clause-size
+new-held-requires-clause-size g c = c.requires.size
+
+pub new-held-requires-clause-kept : goal.new-held-requires-clause-kept
+new-held-requires-clause-kept g c = record { recorded = c.requires.recorded; room = c.requires.room; counts = omega (arith, c.requires.before) }

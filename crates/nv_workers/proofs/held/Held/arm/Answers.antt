@@ -26,3 +26,6 @@ invariant_of-self g c =
       held = keeps_held L g.B.Room.board _ it.seat _ events.Arm (replies.Arm c.arm-reply.result) old new it.held c.arm-reply.ensures.answers c.arm-reply.ensures.size (c.deref.ensures ∙ it.board) c.publish.ensures;
       kept = keeps_same L g.B.Room.before events.Arm (replies.Arm c.arm-reply.result) old new it.history it.tally.book.total refl it.kept c.arm-reply.ensures.answers c.arm-reply.ensures.setup;
     }
+
+pub returns-clause-steps : goal.returns-clause-steps
+returns-clause-steps g c = c.arm-reply.ensures.answers

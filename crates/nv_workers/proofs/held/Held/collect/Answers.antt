@@ -20,3 +20,6 @@ invariant_of-self g c =
       held = keeps_quiet L g.B.Room.board it.seat _ (events.Collect c.args.ticket) (replies.Collect c.collect.result) old new (collect_is_quiet c.args.ticket c.collect.result) it.held (c.collect.ensures.answers (g.D.SaveDevice.state it.device) (g.E.Energy.gauge it.energy)) (same_size L it.running c.collect.new.self (g.D.SaveDevice.state it.device) it.held.size c.collect.ensures.setup) refl;
       kept = keeps_same L g.B.Room.before (events.Collect c.args.ticket) (replies.Collect c.collect.result) old new it.history it.tally.book.total refl it.kept (c.collect.ensures.answers (g.D.SaveDevice.state it.device) (g.E.Energy.gauge it.energy)) c.collect.ensures.setup;
     }
+
+pub returns-clause-steps : goal.returns-clause-steps
+returns-clause-steps g c = c.collect.ensures.answers (g.D.SaveDevice.state c.args.self.now.device) (g.E.Energy.gauge c.args.self.now.energy)

@@ -26,3 +26,6 @@ invariant_of-self g c =
       held = keeps_held L g.B.Room.board _ it.seat _ events.Lose (replies.Lose c.power_loss-reply.result) old new it.held c.power_loss-reply.ensures.answers c.power_loss-reply.ensures.size (c.deref.ensures ∙ it.board) c.publish.ensures;
       kept = keeps_same L g.B.Room.before events.Lose (replies.Lose c.power_loss-reply.result) old new it.history it.tally.book.total refl it.kept c.power_loss-reply.ensures.answers c.power_loss-reply.ensures.setup;
     }
+
+pub returns-clause-steps : goal.returns-clause-steps
+returns-clause-steps g c = c.power_loss-reply.ensures.answers

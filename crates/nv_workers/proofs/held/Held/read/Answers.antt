@@ -20,3 +20,6 @@ invariant_of-self g c =
       held = keeps_quiet L g.B.Room.board it.seat _ (events.Read c.args.line) (replies.Read c.read-reply.result) old new (read_is_quiet c.args.line c.read-reply.result) it.held (c.read-reply.ensures.answers (g.D.SaveDevice.state it.device) (g.E.Energy.gauge it.energy)) (same_size L it.running c.read-reply.new.self (g.D.SaveDevice.state it.device) it.held.size c.read-reply.ensures.setup) c.inform.ensures.same;
       kept = keeps_same L g.B.Room.before (events.Read c.args.line) (replies.Read c.read-reply.result) old new it.history it.tally.book.total refl it.kept (c.read-reply.ensures.answers (g.D.SaveDevice.state it.device) (g.E.Energy.gauge it.energy)) c.read-reply.ensures.setup;
     }
+
+pub returns-clause-steps : goal.returns-clause-steps
+returns-clause-steps g c = c.read-reply.ensures.answers (g.D.SaveDevice.state c.args.self.now.device) (g.E.Energy.gauge c.args.self.now.energy)

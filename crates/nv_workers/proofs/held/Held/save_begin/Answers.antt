@@ -26,3 +26,6 @@ invariant_of-self g c =
       held = keeps_held L g.B.Room.board _ it.seat _ events.SaveBegin (replies.SaveBegin c.save_begin-reply.result) old new it.held (c.save_begin-reply.ensures.answers (g.D.SaveDevice.state it.device) (g.E.Energy.gauge it.energy)) (same_size L it.running c.save_begin-reply.new.self (g.D.SaveDevice.state it.device) it.held.size c.save_begin-reply.ensures.setup) (c.deref.ensures ∙ it.board) c.publish.ensures;
       kept = keeps_same L g.B.Room.before events.SaveBegin (replies.SaveBegin c.save_begin-reply.result) old new it.history it.tally.book.total refl it.kept (c.save_begin-reply.ensures.answers (g.D.SaveDevice.state it.device) (g.E.Energy.gauge it.energy)) c.save_begin-reply.ensures.setup;
     }
+
+pub returns-clause-steps : goal.returns-clause-steps
+returns-clause-steps g c = c.save_begin-reply.ensures.answers (g.D.SaveDevice.state c.args.self.now.device) (g.E.Energy.gauge c.args.self.now.energy)

@@ -26,3 +26,6 @@ invariant_of-self g c =
       held = keeps_held L g.B.Room.board _ it.seat _ events.SaveStep (replies.SaveStep c.save_step-reply.result) old new it.held c.save_step-reply.ensures.answers c.save_step-reply.ensures.size (c.deref.ensures ∙ it.board) c.publish.ensures;
       kept = keeps_same L g.B.Room.before events.SaveStep (replies.SaveStep c.save_step-reply.result) old new it.history it.tally.book.total refl it.kept c.save_step-reply.ensures.answers c.save_step-reply.ensures.setup;
     }
+
+pub returns-clause-steps : goal.returns-clause-steps
+returns-clause-steps g c = c.save_step-reply.ensures.answers

@@ -26,3 +26,6 @@ invariant_of-self g c =
       held = keeps_held L g.B.Room.board _ it.seat _ events.Sense (replies.Sense c.sense-reply.result) old new it.held (c.sense-reply.ensures.answers (g.D.SaveDevice.state it.device)) (same_size L it.running c.sense-reply.new.self (g.D.SaveDevice.state it.device) it.held.size c.sense-reply.ensures.setup) (c.deref.ensures ∙ it.board) c.publish.ensures;
       kept = keeps_same L g.B.Room.before events.Sense (replies.Sense c.sense-reply.result) old new it.history it.tally.book.total refl it.kept (c.sense-reply.ensures.answers (g.D.SaveDevice.state it.device)) c.sense-reply.ensures.setup;
     }
+
+pub returns-clause-steps : goal.returns-clause-steps
+returns-clause-steps g c = c.sense-reply.ensures.answers (g.D.SaveDevice.state c.args.self.now.device)

@@ -20,3 +20,6 @@ invariant_of-self g c =
       held = keeps_quiet L g.B.Room.board it.seat _ (events.Work c.args.channel) (replies.Work c.work.result) old new (work_is_quiet c.args.channel c.work.result) it.held (c.work.ensures.answers (g.D.SaveDevice.state it.device) (g.E.Energy.gauge it.energy)) (same_size L it.running c.work.new.self (g.D.SaveDevice.state it.device) it.held.size c.work.ensures.setup) refl;
       kept = keeps_same L g.B.Room.before (events.Work c.args.channel) (replies.Work c.work.result) old new it.history it.tally.book.total refl it.kept (c.work.ensures.answers (g.D.SaveDevice.state it.device) (g.E.Energy.gauge it.energy)) c.work.ensures.setup;
     }
+
+pub returns-clause-steps : goal.returns-clause-steps
+returns-clause-steps g c = c.work.ensures.answers (g.D.SaveDevice.state c.args.self.now.device) (g.E.Energy.gauge c.args.self.now.energy)

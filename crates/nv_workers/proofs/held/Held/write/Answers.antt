@@ -41,3 +41,6 @@ returns-clause-counted g c =
     let old : Lent L = lent L it.running (g.D.SaveDevice.state it.device) (g.E.Energy.gauge it.energy) in
     let new : Lent L = lent L c.write-reply.new.self (g.D.SaveDevice.state it.device) (g.E.Energy.gauge it.energy) in
     told_counted L c.args.write c.write-reply.result old new it.held.stands (c.write-reply.ensures.answers (g.D.SaveDevice.state it.device) (g.E.Energy.gauge it.energy))
+
+pub returns-clause-steps : goal.returns-clause-steps
+returns-clause-steps g c = c.write-reply.ensures.answers (g.D.SaveDevice.state c.args.self.now.device) (g.E.Energy.gauge c.args.self.now.energy)

@@ -1,9 +1,11 @@
-use Rattle.std.proofs.Common.{subst}
+use Rattle.std.proofs.Common.{ap, arith, subst}
 use Rattle.std.specs.Prelude.{Result}
 use Rattle.line_channels.specs.declared.answers.Got.{Got}
+use Rattle.mark_board.specs.SeenMarks.{SeenMarks}
 use Rattle.module_core.specs.declared.events.ReadRefusal.{ReadRefusal}
 use Rattle.module_core.specs.declared.events.Event.TheVariants as events
 use Rattle.module_core.specs.declared.events.Reply.TheVariants as replies
+use Rattle.nv_workers.specs.Client.{Client}
 use Rattle.nv_workers.specs.Steps.{Steps}
 use Rattle.nv_workers.proofs.host.Host.read_in.Goals.{in-Ok, in-Err}
 use Rattle.nv_workers.proofs.host.Host.read_in.Goals as goal
@@ -17,3 +19,12 @@ pub returns-clause-err : goal.returns-clause-err
 returns-clause-err g c =
     let Stepped : Result Got ReadRefusal → Type 0 = λ r. Steps g.C.Channels g.D.SaveDevice g.E.Energy g.B.Room (events.Read c.args.line) (replies.Read r) c.args.held.now c.read-reply.new.self in
     elim c.match-reply.branch [ in-Ok w ↦ rw w.result-is tt | in-Err w ↦ rw w.result-is (subst Stepped w.in-Err.is c.read-reply.ensures.steps) ]
+
+pub returns-clause-at : goal.returns-clause-at
+returns-clause-at g c = elim c.match-reply.branch [ in-Ok w ↦ rw w.result-is c.read-reply.ensures.at | in-Err w ↦ rw w.result-is tt ]
+
+pub returns-clause-seen : goal.returns-clause-seen
+returns-clause-seen g c =
+    let now = ap (λ (host : Client). host.accepted) c.self.view_is in
+    let new = ap (λ (marks : SeenMarks). marks.accepted) c.read-reply.ensures.seen in
+    elim c.match-reply.branch [ in-Ok w ↦ rw w.result-is (omega (arith, c.read-reply.ensures.at, c.read-reply.ensures.rises.accepted, now, new)) | in-Err w ↦ rw w.result-is tt ]

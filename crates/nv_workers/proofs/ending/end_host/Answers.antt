@@ -1,0 +1,9 @@
+use Rattle.std.proofs.Common.{◌≡◌, ◌+◌, subst, arith}
+use Rattle.nv_workers.specs.Client.{Client}
+use Rattle.nv_workers.proofs.ending.end_host.Goals as goal
+
+pub returns-clause-parts : goal.returns-clause-parts
+returns-clause-parts g c = omega (arith, c.merge.ensures.parts, c.host.invariant.2)
+
+pub returns-clause-amount : goal.returns-clause-amount
+returns-clause-amount g c = subst (λ (host : Client). c.merge.new.self.amount ≡ c.args.rest.now.amount + host.writes) c.host.view_is c.merge.ensures.amount

@@ -1,0 +1,8 @@
+use Rattle.std.proofs.Common.{refl, ◌∙◌}
+use Rattle.nv_workers.specs.Savers.{turn_of}
+use Rattle.nv_workers.proofs.held.Held.saver_turn.Goals as goal
+
+pub returns : goal.returns
+returns g c m matches =
+    c.turn_at.ensures
+    ∙ rw (c.mode-mode.ensures ∙ matches.mode, c.save_state-saves.ensures.state m matches, c.accepted.ensures.is ∙ matches.accepted) (refl {a = turn_of m c.args.self.now.saved})
