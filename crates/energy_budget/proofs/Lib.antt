@@ -1,2 +1,3 @@
 pub mod Totals
 pub mod Rising
+pub mod Counting

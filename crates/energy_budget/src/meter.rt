@@ -98,8 +98,9 @@ impl Energy for Meter {
         ensures lie { lie_of self.new ≡ lie_of self.old }
     {
         self.calls.note(&());
-        self.level = self.level.saturating_sub(self.leak);
-        self.level
+        let shown = self.level.saturating_sub(self.leak);
+        self.level = shown;
+        shown
     }
 
     fn tick(&mut self) -> u64

@@ -22,7 +22,12 @@ module _ {C D : Type 0} (L : Ghosts C) (M : Ghosts D) where
   life_retold Told Next (Lines old) (Xor new) device device' gauge gauge' comes tells = absurd comes
   life_retold Told Next (Xor old) (Lines new) device device' gauge gauge' comes tells = absurd comes
 
+  pub goes_on_by : (Told : Setup → Tale) (life : Option (Life C D L M)) (old new : Life C D L M) (device device' : DeviceState) (gauge gauge' : Gauge) → life ≡ Some old
+      → LifeComes L M (Told (setup_of_life L M old)) old device gauge new device' gauge' → setup_of_life L M new ≡ setup_of_life L M old → GoesOnBy L M Told life device gauge (Some new) device' gauge'
+  goes_on_by Told life old new device device' gauge gauge' is comes same =
+      subst (λ (o : Option (Life C D L M)). GoesOnBy L M Told o device gauge (Some new) device' gauge') (sym is) (comes, same)
+
   pub goes_on_alone : (Told : Setup → Tale) (life : Option (Life C D L M)) (old new : Life C D L M) → life ≡ Some old
       → LifeComesAlone L M (Told (setup_of_life L M old)) old new → setup_of_life L M new ≡ setup_of_life L M old → GoesOnAlone L M Told life (Some new)
   goes_on_alone Told life old new is comes same =
-      λ device gauge. subst (λ (o : Option (Life C D L M)). GoesOnBy L M Told o device gauge (Some new) device gauge) (sym is) (comes device gauge, same)
+      λ device gauge. goes_on_by Told life old new device device gauge gauge is (comes device gauge) same

@@ -79,7 +79,8 @@ where
     pub fn into_device(self) -> MemoryDevice
         ensures { result ≡ self.device.device }
     {
-        self.device.device
+        let fuse = self.device;
+        fuse.device
     }
 
     /// How many lines the memory has.

@@ -3,6 +3,10 @@ use Rattle.std.proofs.Math.Nat.{mul-le-mul_left}
 use Rattle.energy_budget.specs.Sums.{backing_level}
 use Rattle.energy_budget.proofs.laws.honest_readings.Goals as goal
 
+pub returns-clause-falls : goal.returns-clause-falls
+returns-clause-falls c leak answer old new reads honest =
+    let kept = reads.breach.0 honest.faultless in omega (arith, kept.falls, honest.bounded)
+
 pub returns-clause-backs : goal.returns-clause-backs
 unfolding backing_level
 returns-clause-backs c costs k ticks answer old new reads honest enough =

@@ -6,7 +6,14 @@ use Rattle.module_core.specs.declared.events.Event.TheVariants as events
 use Rattle.module_core.specs.declared.events.Reply.TheVariants as replies
 use Rattle.nv_session.specs.Living.{IsOneEvent}
 use Rattle.nv_session.proofs.InLife.{stays_fitting, stays_in_life, stays_sized}
+use Rattle.nv_session.proofs.Going.{goes_on_by}
 use Rattle.nv_session.proofs.session.Session.arm.Goals as goal
+
+pub returns-in-Some-clause-comes : goal.returns-in-Some-clause-comes
+returns-in-Some-clause-comes g c =
+    let it = c.args.self.now in
+    let device : DeviceState = with_calls (state_of it.device.device) it.device.calls in let device' : DeviceState = with_calls (state_of c.arm.new.device.device) c.arm.new.device.calls in
+    goes_on_by g.C.Channels g.D.Channels (λ setup. IsOneEvent events.Arm (replies.Arm c.arm.result)) it.life c.in-Some.life c.arm.new.self device device' (meter_gauge it.gauge) (meter_gauge c.arm.new.energy) c.in-Some.is c.arm.ensures.comes c.arm.ensures.setup
 
 pub invariant_of-self : goal.invariant_of-self
 invariant_of-self g c =

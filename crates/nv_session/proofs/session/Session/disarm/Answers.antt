@@ -6,7 +6,12 @@ use Rattle.module_core.specs.declared.events.Event.TheVariants as events
 use Rattle.module_core.specs.declared.events.Reply.TheVariants as replies
 use Rattle.nv_session.specs.Living.{IsOneEvent}
 use Rattle.nv_session.proofs.InLife.{stays_fitting, stays_in_life}
+use Rattle.nv_session.proofs.Going.{goes_on_alone}
 use Rattle.nv_session.proofs.session.Session.disarm.Goals as goal
+
+pub returns-in-Some-clause-comes : goal.returns-in-Some-clause-comes
+returns-in-Some-clause-comes g c =
+    goes_on_alone g.C.Channels g.D.Channels (λ setup. IsOneEvent events.Disarm (replies.Disarm c.disarm.result)) c.args.self.now.life c.in-Some.life c.disarm.new.self c.in-Some.is c.disarm.ensures.comes c.disarm.ensures.setup
 
 pub invariant_of-self : goal.invariant_of-self
 invariant_of-self g c =

@@ -6,7 +6,14 @@ use Rattle.module_core.specs.declared.events.Event.TheVariants as events
 use Rattle.module_core.specs.declared.events.Reply.TheVariants as replies
 use Rattle.nv_session.specs.Living.{IsOneEvent}
 use Rattle.nv_session.proofs.InLife.{stays_fitting, stays_in_life, stays_sized}
+use Rattle.nv_session.proofs.Going.{goes_on_by}
 use Rattle.nv_session.proofs.session.Session.lose.Goals as goal
+
+pub returns-in-Some-clause-comes : goal.returns-in-Some-clause-comes
+returns-in-Some-clause-comes g c =
+    let it = c.args.self.now in
+    let device : DeviceState = with_calls (state_of it.device.device) it.device.calls in let device' : DeviceState = with_calls (state_of c.lose.new.device.device) c.lose.new.device.calls in
+    goes_on_by g.C.Channels g.D.Channels (λ setup. IsOneEvent events.Lose (replies.Lose c.lose.result)) it.life c.in-Some.life c.lose.new.self device device' (meter_gauge it.gauge) (meter_gauge c.lose.new.energy) c.in-Some.is c.lose.ensures.comes c.lose.ensures.setup
 
 pub invariant_of-self : goal.invariant_of-self
 invariant_of-self g c =

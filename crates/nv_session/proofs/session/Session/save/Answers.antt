@@ -4,7 +4,14 @@ use Rattle.energy_budget.specs.Gauge.{Gauge}
 use Rattle.energy_budget.specs.Meter.{meter_gauge}
 use Rattle.nv_session.specs.Turns.{GoesOnSaving}
 use Rattle.nv_session.proofs.InLife.{stays_fitting, stays_in_life, stays_sized}
+use Rattle.nv_session.proofs.Going.{goes_on_by}
 use Rattle.nv_session.proofs.session.Session.save.Goals as goal
+
+pub returns-in-Some-clause-comes : goal.returns-in-Some-clause-comes
+returns-in-Some-clause-comes g c =
+    let it = c.args.self.now in
+    let device : DeviceState = with_calls (state_of it.device.device) it.device.calls in let device' : DeviceState = with_calls (state_of c.save.new.device.device) c.save.new.device.calls in
+    goes_on_by g.C.Channels g.D.Channels (λ setup. GoesOnSaving c.save.result) it.life c.in-Some.life c.save.new.self device device' (meter_gauge it.gauge) (meter_gauge c.save.new.energy) c.in-Some.is c.save.ensures.comes c.save.ensures.setup
 
 pub invariant_of-self : goal.invariant_of-self
 invariant_of-self g c =

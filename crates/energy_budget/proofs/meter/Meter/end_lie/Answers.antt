@@ -1,0 +1,5 @@
+use Rattle.std.proofs.Common.{refl}
+use Rattle.energy_budget.proofs.meter.Meter.end_lie.Goals as goal
+
+pub returns-clause-lie : goal.returns-clause-lie
+returns-clause-lie c = refl

@@ -1,0 +1,13 @@
+use Rattle.energy_budget.proofs.meter.MeterEnergy.tick.Goals as goal
+
+pub returns-clause-reads : goal.returns-clause-reads
+returns-clause-reads c = c.sense.ensures.reads
+
+pub returns-clause-level : goal.returns-clause-level
+returns-clause-level c = c.sense.ensures.level
+
+pub returns-clause-faults : goal.returns-clause-faults
+returns-clause-faults c = c.sense.ensures.faults
+
+pub returns-clause-lie : goal.returns-clause-lie
+returns-clause-lie c = c.sense.ensures.lie
