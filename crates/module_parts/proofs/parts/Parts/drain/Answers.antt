@@ -136,3 +136,10 @@ returns-clause-keeps g c =
     subst (λ (q : PartsState). Keeps (CarryWritten place_of q) (CarryWritten place_of (record p { channels = slice_set p.channels i t; drained = c.match-result.self }))) c.self.view_is
     (subst (λ (d : Option ℕ). Keeps (CarryWritten place_of p) (CarryWritten place_of (record p { channels = slice_set p.channels i t; drained = d }))) (sym counted)
     (drain-keeps place_of p i drain.takes.0 s t (drained_after i result) at drain.takes.1 c.self.invariant.0 parts))
+
+pub returns-clause-drained : goal.returns-clause-drained
+returns-clause-drained g c =
+    elim c.match-result.branch [
+      | in-Ok w ↦ w.self-is ∙ sym (ap (drained_after c.args.channel) w.in-Ok.is)
+      | in-Err w ↦ w.self-is ∙ sym (ap (drained_after c.args.channel) w.in-Err.is)
+    ]
