@@ -20,8 +20,6 @@ mod opening;
 mod picks;
 mod plain;
 mod rounds;
-#[cfg(test)]
-mod tests;
 
 use crate::armed::{Armed, armed_life};
 use crate::rounds::{Amount, Nanos, Tally, module_rounds, plain_rounds};

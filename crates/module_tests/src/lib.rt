@@ -1,0 +1,14 @@
+//! The tests of a module (`module_core`) on DDR4 channels (`module_parts`), from a formatted device on. They stand apart from
+//! both, since a crate with tests is proved a second time with them.
+#![tactic(auto)]
+
+#[cfg(test)]
+mod cases;
+#[cfg(test)]
+mod check;
+#[cfg(test)]
+mod load;
+#[cfg(test)]
+mod notices;
+#[cfg(test)]
+mod runs;

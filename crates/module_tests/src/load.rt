@@ -1,0 +1,125 @@
+// A module of two channels with its device, and what the device restores to.
+ghost use Rattle.std.specs.Prelude.{◌≡◌, length};
+ghost use Rattle.module_core.specs.Stands.{HasDevice, setup_of};
+
+use crate::check::same;
+use energy_budget::Meter;
+use line_channels::Channels;
+use line_memory::{Line, Write};
+use module_core::{Module, StepReply};
+use save_device::SaveDevice;
+use slot_store::{Restored, Verdict, device_size, format, restore};
+use std::alloc::Global;
+use std::process::Abort;
+
+/// The lines of the small profile.
+const LINES: usize = 128;
+
+/// How many turns a save may take.
+const TURNS: u64 = 1 << 20;
+
+/// A module, its device and its gauge.
+#[derive(Drop)]
+pub struct Load<C: Channels, D: SaveDevice> {
+    pub running: Module<C>,
+    pub device: D,
+    pub gauge: Meter,
+    ghost counted: { (setup_of C.Channels running).shape.channels ≡ 2 },
+    ghost sized: { HasDevice C.Channels running (D.state device) },
+}
+
+impl<C: Channels, D: SaveDevice> Load<C, D> {
+    // Issues a command of each channel, where it has one, and makes a step of the save that runs.
+    fn turn(&mut self) -> StepReply
+        requires { C.reaches }
+    {
+        let _issued = self.running.work(0);
+        let _issued = self.running.work(1);
+        self.running.save_step(&mut self.device, &mut self.gauge)
+    }
+
+    // Makes a whole save; its generation.
+    fn save<R: Abort>(&mut self, rt: &R) -> u64
+        requires { C.reaches }
+    {
+        same(rt, self.running.save_begin(), Ok(()));
+        for _turn in 0..TURNS {
+            match self.turn() {
+                StepReply::Saved { generation, .. } => return generation,
+                StepReply::Did(_) | StepReply::Waiting => {}
+                _ => panic!(*rt; "no save"),
+            }
+        }
+        panic!(*rt; "not there in time")
+    }
+
+    fn write<R: Abort>(&mut self, rt: &R, line: u64)
+        requires { C.reaches }
+    {
+        let data = [0x44; 64];
+        same(rt, self.running.write(Write { line, data }).is_ok(), true);
+    }
+
+    /// Writes three lines, and saves them as the second image.
+    pub(crate) fn save_three_writes<R: Abort>(&mut self, rt: &R)
+        requires { C.reaches }
+    {
+        self.write(rt, 0);
+        self.write(rt, 64);
+        self.write(rt, 127);
+        same(rt, self.save(rt), 2);
+    }
+}
+
+/// What a device restores to.
+#[derive(Clone, Copy, Debug, PartialEq, Eq)]
+pub struct Image {
+    pub generation: u64,
+    pub count: u64,
+    pub verdict: Verdict,
+    /// The bytes of the first line and of the last one.
+    pub first: u8,
+    pub last: u8,
+}
+
+fn byte_of(line: Option<&Line>) -> u8 {
+    match line {
+        Some(bytes) => bytes[0],
+        None => 0xff,
+    }
+}
+
+fn image_of(restored: &Restored) -> Image {
+    Image {
+        generation: restored.generation,
+        count: restored.count,
+        verdict: restored.verdict,
+        first: byte_of(restored.lines.first()),
+        last: byte_of(restored.lines.last()),
+    }
+}
+
+/// Fails where a device doesn't restore to this image.
+pub(crate) fn restores_to<D: SaveDevice, R: Abort>(
+    rt: &R,
+    alloc: Global,
+    device: &mut D,
+    image: Image,
+)
+    ensures same { (D.state device.new).bytes ≡ (D.state device.old).bytes }
+{
+    let Ok(restored) = restore(alloc, device, LINES) else {
+        panic!(*rt; "an image");
+    };
+    same(rt, image_of(&restored), image);
+}
+
+/// Formats the device, as another writer does.
+pub(crate) fn format_again<D: SaveDevice, R: Abort>(rt: &R, device: &mut D)
+    ensures size { length (D.state device.new).bytes ≡ length (D.state device.old).bytes }
+{
+    if device.len() != device_size(LINES) {
+        panic!(*rt; "another device");
+    }
+    same(rt, format(device, LINES).is_ok(), true);
+}
