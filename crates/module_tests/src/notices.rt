@@ -14,15 +14,21 @@ use slot_store::Verdict;
 use std::alloc::Global;
 use std::process::Abort;
 
-// A full book for two notices, and a third one that came back.
-fn full_book<R: Abort>(rt: &R, alloc: Global) -> (NoticeBook, Notice)
+// A book for two notices, full, and the third one, which came back.
+fn full_book<R: Abort>(
+    rt: &R,
+    alloc: Global,
+    first: Notice,
+    second: Notice,
+    third: Notice,
+) -> (NoticeBook, Notice)
+    requires first { IsCallableAbove (λ told. Notice.pre first told) 0 }
+    requires second { IsCallableAbove (λ told. Notice.pre second told) 1 }
+    requires third { IsCallableAbove (λ told. Notice.pre third told) 2 }
     ensures numbers { AreNumbersBelow number_of_notice 2 (entries_of result.0) }
-    ensures callable { IsCallableAbove (λ told. Notice.pre result.1 told) 2 }
+    ensures back { result.1 ≡ third }
 {
     let mut book = NoticeBook::with_room(alloc, 2).expect(rt, "memory");
-    let first: Notice = Box::new(alloc, |told: Persisted| told.mark).expect(rt, "memory");
-    let second: Notice = Box::new(alloc, |told: Persisted| told.number).expect(rt, "memory");
-    let third: Notice = Box::new(alloc, |told: Persisted| told.mark).expect(rt, "memory");
     same(rt, book.register(0, first).is_ok(), true);
     same(rt, book.register(1, second).is_ok(), true);
     let Err(full) = book.register(2, third) else {
@@ -55,7 +61,10 @@ pub(crate) fn notify_of_a_save<C: Drainable, D: SaveDevice, R: Abort>(
 )
     requires { C.reaches }
 {
-    let (mut book, third) = full_book(rt, alloc);
+    let first: Notice = Box::new(alloc, |told: Persisted| told.mark).expect(rt, "memory");
+    let second: Notice = Box::new(alloc, |told: Persisted| told.number).expect(rt, "memory");
+    let third: Notice = Box::new(alloc, |told: Persisted| told.mark).expect(rt, "memory");
+    let (mut book, third) = full_book(rt, alloc, first, second, third);
     notifies(rt, alloc, &load.running, &mut book, &[]);
     load.save_three_writes(rt);
     notifies(rt, alloc, &load.running, &mut book, &[(0, 3), (1, 1)]);
