@@ -22,9 +22,15 @@ passed b x y unmet = ap (λ (t : Bool). if t then x else y) unmet
 met : {X : Type 0} (b : Bool) (x y : X) → b ≡ true → (if b then x else y) ≡ x
 met b x y holds = ap (λ (t : Bool). if t then x else y) holds
 
--- a write past the last line
-pub no_line : (setup : Setup) (m : Machine) (line : ℕ) → nat_le setup.shape.lines line ≡ true → write_refusal setup m line ≡ Some write.NoSuchLine
-no_line setup m line past = met (nat_le setup.shape.lines line) (Some write.NoSuchLine) _ past
+-- a write to a channel with no room
+pub full : (setup : Setup) (m : Machine) (line : ℕ) → nat_le setup.shape.lines line ≡ false → has_ended m.mode ≡ false → is_disarming m.mode ≡ false → is_trail_full setup m ≡ false → is_full setup.shape m.waits line ≡ true
+    → write_refusal setup m line ≡ Some write.Full
+full setup m line there runs calm unfilled crowded =
+    passed (nat_le setup.shape.lines line) (Some write.NoSuchLine) _ there
+    ∙ passed (has_ended m.mode) (Some write.Closed) _ runs
+    ∙ passed (is_disarming m.mode) (Some write.Disarming) _ calm
+    ∙ passed (is_trail_full setup m) (Some write.TrailFull) _ unfilled
+    ∙ met (is_full setup.shape m.waits line) (Some write.Full) _ crowded
 
 by_energy : (setup : Setup) (m : Machine) (line : ℕ) → MayCome setup m line
     → write_refusal setup m line ≡ (if lacks_energy setup m then Some (write.EnergyLow (need_for setup (pending_of m + 1)) m.reading) else None)
