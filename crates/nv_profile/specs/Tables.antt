@@ -1,5 +1,6 @@
 -- What a TOML table has under a key.
-use Rattle.std.specs.Prelude.{◌≡◌, ℕ, ◌+◌, ◌≤◌, List, ℤ, pos, negsuc, Option, Some, None, option_and_then}
+use Rattle.std.specs.Prelude.{◌≡◌, ℕ, ◌+◌, ◌≤◌, List, map, ℤ, pos, negsuc, Option, Some, None, option_and_then}
+use Rattle.std.specs.Borrow.{Bor}
 use Rattle.toml.specs.Data.{Members, no_members, member, get_member, as_str, as_table, as_integer}
 use Rattle.nv_profile.specs.Nothing.{HoldsOfNone}
 
@@ -16,6 +17,10 @@ natural (negsuc n) = None
 -- the whole number under the key, where that is what stands there
 abbrev pub number_at : List ℕ → Members → Option ℕ
 number_at key table = option_and_then natural (option_and_then as_integer (get_member key table))
+
+-- these whole numbers stand under the keys, one under each
+pub record HasNumbers (keys : List (Bor (List ℕ))) (table : Members) (numbers : List ℕ) : Type 0 where
+  pub found : map (λ key. number_at key.now table) keys ≡ map Some numbers
 
 -- a whole number from the least to the most stands under the key
 abbrev pub HasNumber : List ℕ → Members → ℕ → ℕ → ℕ → Type 0

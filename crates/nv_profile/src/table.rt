@@ -2,7 +2,8 @@
 ghost use Rattle.std.specs.Prelude.{◌≡◌, option_map, IfSome, IsNone};
 ghost use Rattle.toml.specs.Data.{get_member};
 ghost use Rattle.toml.specs.View.{view, table_view};
-ghost use Rattle.nv_profile.specs.Tables.{size_of, number_at, HasNumber, HasNoNumber, word_at, table_at};
+ghost use Rattle.nv_profile.specs.Nothing.{HoldsOfNone};
+ghost use Rattle.nv_profile.specs.Tables.{size_of, number_at, HasNumber, HasNoNumber, HasNumbers, word_at, table_at};
 
 use toml::{Table, Value};
 
@@ -26,6 +27,18 @@ pub(crate) fn number(table: &Table, key: &str) -> Option<u64>
 {
     let number = at(table, key)?.as_integer()?;
     u64::try_from(number).ok()
+}
+
+/// The numbers under six keys, in the order of the keys, where a whole number stands under each.
+pub(crate) fn numbers(table: &Table, keys: [&str; 6]) -> Option<[u64; 6]>
+    ensures some { IfSome result (HasNumbers keys.entry (table_view table.now)) }
+    ensures none { IsNone result → HoldsOfNone (HasNumbers keys.entry (table_view table.now)) }
+{
+    let mut numbers = [0; 6];
+    for (place, key) in keys.iter().enumerate() {
+        numbers[place] = number(table, key)?;
+    }
+    Some(numbers)
 }
 
 /// The number under the key, where a whole number from `least` to `most` stands there.

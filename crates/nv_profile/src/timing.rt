@@ -4,7 +4,7 @@ ghost use Rattle.toml.specs.View.{table_view};
 ghost use Rattle.nv_profile.specs.Nothing.{HoldsOfNone};
 ghost use Rattle.nv_profile.specs.Profile.{SaysTiming, SaysGeometry};
 
-use crate::table::{number, size};
+use crate::table::{numbers, size};
 use ddr4_timing::timing::{Geometry, Timing};
 use toml::Table;
 
@@ -16,25 +16,37 @@ pub(crate) fn read_timing(table: &Table) -> Option<Timing>
     if size(table) != 18 {
         return None;
     }
+    let [t_rcd, t_rp, t_ras, cl, cwl, t_ccd_s] = numbers(
+        table,
+        ["tRCD", "tRP", "tRAS", "CL", "CWL", "tCCD_S"],
+    )?;
+    let [t_ccd_l, t_rrd_s, t_rrd_l, t_faw, t_wr, t_wtr_s] = numbers(
+        table,
+        ["tCCD_L", "tRRD_S", "tRRD_L", "tFAW", "tWR", "tWTR_S"],
+    )?;
+    let [t_wtr_l, t_rtp, t_rtw, t_cs, t_rfc, t_refi] = numbers(
+        table,
+        ["tWTR_L", "tRTP", "tRTW", "tCS", "tRFC", "tREFI"],
+    )?;
     Some(Timing {
-        t_rcd: number(table, "tRCD")?,
-        t_rp: number(table, "tRP")?,
-        t_ras: number(table, "tRAS")?,
-        cl: number(table, "CL")?,
-        cwl: number(table, "CWL")?,
-        t_ccd_s: number(table, "tCCD_S")?,
-        t_ccd_l: number(table, "tCCD_L")?,
-        t_rrd_s: number(table, "tRRD_S")?,
-        t_rrd_l: number(table, "tRRD_L")?,
-        t_faw: number(table, "tFAW")?,
-        t_wr: number(table, "tWR")?,
-        t_wtr_s: number(table, "tWTR_S")?,
-        t_wtr_l: number(table, "tWTR_L")?,
-        t_rtp: number(table, "tRTP")?,
-        t_rtw: number(table, "tRTW")?,
-        t_cs: number(table, "tCS")?,
-        t_rfc: number(table, "tRFC")?,
-        t_refi: number(table, "tREFI")?,
+        t_rcd,
+        t_rp,
+        t_ras,
+        cl,
+        cwl,
+        t_ccd_s,
+        t_ccd_l,
+        t_rrd_s,
+        t_rrd_l,
+        t_faw,
+        t_wr,
+        t_wtr_s,
+        t_wtr_l,
+        t_rtp,
+        t_rtw,
+        t_cs,
+        t_rfc,
+        t_refi,
     })
 }
 
@@ -46,12 +58,16 @@ pub(crate) fn read_geometry(table: &Table) -> Option<Geometry>
     if size(table) != 6 {
         return None;
     }
+    let [channels, ranks, groups, banks, rows, columns] = numbers(
+        table,
+        ["channels", "ranks", "groups", "banks", "rows", "columns"],
+    )?;
     Some(Geometry {
-        channels: number(table, "channels")?,
-        ranks: number(table, "ranks")?,
-        groups: number(table, "groups")?,
-        banks: number(table, "banks")?,
-        rows: number(table, "rows")?,
-        columns: number(table, "columns")?,
+        channels,
+        ranks,
+        groups,
+        banks,
+        rows,
+        columns,
     })
 }

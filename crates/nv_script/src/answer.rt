@@ -135,17 +135,25 @@ impl fmt::Display for Answer {
                 verdict,
             } => write!(f, "restored {generation} {count} {verdict}"),
             Answer::Mark { mark } => write!(f, "mark {mark}"),
-            Answer::WriteRefused(refusal) => write!(f, "refused write {refusal}"),
-            Answer::ReadRefused(refusal) => write!(f, "refused read {refusal}"),
-            Answer::ArmRefused(refusal) => write!(f, "refused arm {refusal}"),
-            Answer::DisarmRefused(refusal) => write!(f, "refused disarm {refusal}"),
-            Answer::SaveRefused(refusal) => write!(f, "refused save {refusal}"),
-            Answer::RestoreRefused(error) => write!(f, "refused restore {error}"),
+            Answer::WriteRefused(refusal) => write_refused(f, "write", &refusal),
+            Answer::ReadRefused(refusal) => write_refused(f, "read", &refusal),
+            Answer::ArmRefused(refusal) => write_refused(f, "arm", &refusal),
+            Answer::DisarmRefused(refusal) => write_refused(f, "disarm", &refusal),
+            Answer::SaveRefused(refusal) => write_refused(f, "save", &refusal),
+            Answer::RestoreRefused(error) => write_refused(f, "restore", &error),
             Answer::FormatFault => f.write_str("fault format"),
             Answer::ArmFault => f.write_str("fault arm"),
             Answer::SaveFault => f.write_str("fault save"),
         }
     }
+}
+
+fn write_refused<W: fmt::Write, R: fmt::Display>(
+    f: &mut fmt::Formatter<W>,
+    call: &str,
+    refusal: &R,
+) -> fmt::Result {
+    write!(f, "refused {call} {refusal}")
 }
 
 fn write_level<W: fmt::Write>(
