@@ -1,4 +1,4 @@
-use Rattle.std.proofs.Common.{◌≡◌, ◌+◌, subst, arith}
+use Rattle.std.proofs.Common.{◌≡◌, ◌+◌, ap, subst, arith}
 use Rattle.nv_workers.specs.Client.{Client}
 use Rattle.nv_workers.proofs.ending.end_host.Goals as goal
 
@@ -7,3 +7,6 @@ returns-clause-parts g c = omega (arith, c.merge.ensures.parts, c.host.invariant
 
 pub returns-clause-amount : goal.returns-clause-amount
 returns-clause-amount g c = subst (λ (host : Client). c.merge.new.self.amount ≡ c.args.rest.now.amount + host.writes) c.host.view_is c.merge.ensures.amount
+
+pub returns-clause-below : goal.returns-clause-below
+returns-clause-below g c = let seen = ap (λ (host : Client). host.persisted) c.host.view_is in omega (arith, seen)
