@@ -50,8 +50,3 @@ KeepsFaults old new = old.faults ≤ new.faults
 pub record IsHonestThrough (leak : ℕ) (old new : Gauge) : Type 0 where
   pub bounded : old.leak ≤ leak
   pub faultless : new.faults ≡ old.faults
-
--- Between the end of a call and the beginning of the next one the gauge is honest: its level doesn't fall either.
-pub record IsHonestBetween (leak : ℕ) (old new : Gauge) : Type 0 where
-  pub through : IsHonestThrough leak old new
-  pub keeps : old.level ≤ new.level
