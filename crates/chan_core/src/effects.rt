@@ -7,7 +7,7 @@ ghost use Rattle.chan_core.specs.State.{channel_memory};
 ghost use Rattle.chan_core.specs.Singles.{FitsOldest, IssuesAlone};
 ghost use Rattle.chan_core.specs.declared.phase.Phase.TheVariants.{Running};
 ghost use Rattle.chan_core.specs.Phases.{TellsSleep};
-ghost use Rattle.chan_core.specs.Calls.{AnswersRead, KeepsBelow, MovesWrite, ServesAt, ServesIndex, after_command};
+ghost use Rattle.chan_core.specs.Calls.{AnswersRead, KeepsBelow, MovesWrite, ServesIndex, after_command};
 
 use crate::answers::{Served, Ticket};
 use crate::channel_memory::ChannelMemory;

@@ -1,4 +1,4 @@
-use Rattle.std.proofs.Common.{◌≡◌, ◌<◌, ℕ, Option, Some, length, ap, subst, ◌∙◌}
+use Rattle.std.proofs.Common.{◌≡◌, ◌<◌, Option, Some, length, ap, subst, ◌∙◌}
 use Rattle.chan_core.proofs.Common.{Pending}
 use Rattle.chan_core.proofs.moves.store_oldest.Goals as goal
 
