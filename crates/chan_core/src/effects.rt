@@ -7,7 +7,7 @@ ghost use Rattle.chan_core.specs.State.{channel_memory};
 ghost use Rattle.chan_core.specs.Singles.{FitsOldest, IssuesAlone};
 ghost use Rattle.chan_core.specs.declared.phase.Phase.TheVariants.{Running};
 ghost use Rattle.chan_core.specs.Phases.{TellsSleep};
-ghost use Rattle.chan_core.specs.Calls.{AnswersRead, KeepsBelow, MovesWrite, ServesAt, ServesIndex, after_command};
+ghost use Rattle.chan_core.specs.Calls.{AnswersRead, KeepsBelow, MovesWrite, ServesIndex, after_command};
 
 use crate::answers::{Served, Ticket};
 use crate::channel_memory::ChannelMemory;
@@ -27,12 +27,19 @@ impl ChannelMemory {
         ensures memory { channel_memory self.new ≡ channel_memory self.old }
         ensures below { KeepsBelow self.old self.new }
     {
-        match index {
-            Some(index) => Some(self.serve(index, command)),
-            None => {
-                self.issued.note(&command);
-                None
+        let Some(index) = index else {
+            self.issued.note(&command);
+            return None;
+        };
+        let request = self.waiting.requests()[index];
+        match request.kind {
+            Kind::Write => {
+                self.serve_write(index, request, command);
+                Some(Served::Write {
+                    number: request.number,
+                })
             }
+            Kind::Read => Some(Served::Read(self.serve_read(index, request, command))),
         }
     }
 
@@ -54,26 +61,6 @@ impl ChannelMemory {
         );
         self.issued.note(&command);
         self.phase = phase;
-    }
-
-    // The command of an eligible request goes, and serves it.
-    fn serve(&mut self, index: usize, command: Stamped) -> Served
-        requires { IsServable self.old.requests index }
-        ensures same { self.new ≡ after_command self.old command self.new }
-        ensures serves { ServesAt self.old index result self.new }
-        ensures memory { channel_memory self.new ≡ channel_memory self.old }
-        ensures below { KeepsBelow self.old self.new }
-    {
-        let request = self.waiting.requests()[index];
-        match request.kind {
-            Kind::Write => {
-                self.serve_write(index, request, command);
-                Served::Write {
-                    number: request.number,
-                }
-            }
-            Kind::Read => Served::Read(self.serve_read(index, request, command)),
-        }
     }
 
     fn serve_write(&mut self, index: usize, request: Pending, command: Stamped)

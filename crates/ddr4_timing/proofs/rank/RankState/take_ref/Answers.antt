@@ -1,5 +1,6 @@
-use Rattle.ddr4_timing.proofs.RankSteps.{takes}
+use Rattle.ddr4_timing.proofs.Common.{Ref}
+use Rattle.ddr4_timing.proofs.RankSteps.{banks_kept, groups_kept, kept, takes}
 use Rattle.ddr4_timing.proofs.rank.RankState.take_ref.Goals as goal
 
 pub returns : goal.returns
-returns c = record { rows = search takes; cells = search takes; history = record { windows = search takes; refreshes = search takes; asleep = search takes } }
+returns c = record { rows = search takes; cells = record { banks = banks_kept _ _ _; group_act = groups_kept _ (Ref c.args.rank) _; group_rd = groups_kept _ (Ref c.args.rank) _; group_wr = groups_kept _ (Ref c.args.rank) _; act = search takes; pre_all = kept _ _; idle = search takes }; history = record { windows = search takes; refreshes = search takes; asleep = search takes } }
