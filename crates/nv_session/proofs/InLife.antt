@@ -1,5 +1,5 @@
 -- The life that runs stands with the device for some machine.
-use Rattle.std.proofs.Common.{◌≡◌, ℕ, List, ap, sym, subst, Option, Some, None}
+use Rattle.std.proofs.Common.{◌≡◌, ℕ, List, ap, sym, subst, Option, Some, None, Result, Ok, Err, IfErr}
 use Rattle.std.proofs.Math.Logic.{∥∥₁_map}
 use Rattle.std.proofs.lemmas.Grind.{merely}
 use Rattle.save_device.specs.Device.{DeviceState}
@@ -67,3 +67,8 @@ module _ {C D : Type 0} (L : Ghosts C) (M : Ghosts D) where
       → setup_of_life L M new ≡ setup_of_life L M old → HasSize (setup_of_life L M new).shape.lines device → HasSize (lines_of profile.checked.geometry) device
   stays_sized profile life old new device is fits same size =
       subst (λ (n : ℕ). HasSize n device) (let fit : IsShapeFor profile (setup_of_life L M new).shape = still_fits profile life old new is fits same in fit.lines) size
+
+-- what holds whatever the error
+pub if_err_holds : {A E P : Type 0} (result : Result A E) → P → IfErr result (λ error. P)
+if_err_holds (Ok value) holds = tt
+if_err_holds (Err error) holds = holds

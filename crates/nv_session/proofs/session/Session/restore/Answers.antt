@@ -6,7 +6,7 @@ use Rattle.nv_profile.specs.declared.profile.Profile.{Profile}
 use Rattle.nv_session.specs.Sessions.{IsOverMap}
 use Rattle.nv_session.proofs.Beginning.{revives_still}
 use Rattle.std.proofs.Common.{refl}
-use Rattle.nv_session.proofs.InLife.{revived_stands}
+use Rattle.nv_session.proofs.InLife.{revived_stands, if_err_holds}
 use Rattle.nv_session.proofs.session.Session.restore.Goals as goal
 
 pub returns-clause-revives : goal.returns-clause-revives
@@ -22,3 +22,6 @@ returns-clause-revives g c =
 
 pub begin-requires-clause-stands : goal.begin-requires-clause-stands
 begin-requires-clause-stands g c = revived_stands g.C.Channels g.D.Channels c.in_ok-life.life _ _ c.in_ok-life.found _ _ c.in_ok-life.ensures.revives refl
+
+pub returns-in_err-life-clause-none : goal.returns-in_err-life-clause-none
+returns-in_err-life-clause-none g c = if_err_holds c.from_residual.result (c.revive.ensures.life ∙ c.stop.ensures.life)
