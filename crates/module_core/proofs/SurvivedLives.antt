@@ -23,7 +23,7 @@ use Rattle.module_core.proofs.ToldMarks.{told_along}
 use Rattle.module_core.proofs.History.{last_is, kept_memory, kept_count}
 
 -- the arm byte is 0 exactly where the verdict is Complete
-clear_where : (arm count : ℕ) → verdict_of arm count ≡ Complete → arm ≡ 0
+pub clear_where : (arm count : ℕ) → verdict_of arm count ≡ Complete → arm ≡ 0
 clear_where arm count = by_test (eqb arm 0) refl
   where
     by_test : (b : Bool) → eqb arm 0 ≡ b → (if b then Complete else PossibleLoss count) ≡ Complete → arm ≡ 0

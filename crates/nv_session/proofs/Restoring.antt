@@ -1,5 +1,5 @@
--- A restore after a save that is done.
-use Rattle.std.proofs.Common.{◌≡◌, ◌∙◌, ℕ, List, false, inl, inr, refl, sym, ap, subst, Option, Some, None}
+-- A restore after a save that is done, and after a stop at any time.
+use Rattle.std.proofs.Common.{◌≡◌, ◌≢◌, ◌∙◌, ℕ, ◌≤◌, List, false, inl, inr, refl, sym, ap, subst, arith, Option, Some, None}
 use Rattle.save_device.specs.Device.{DeviceState, present, MayLeave}
 use Rattle.save_image.specs.Image.{Image}
 use Rattle.slot_store.specs.declared.slots.Slot.{Slot}
@@ -12,7 +12,12 @@ use Rattle.line_channels.specs.declared.channels.Channels.{Ghosts}
 use Rattle.module_core.specs.declared.module.Module.{Module}
 use Rattle.module_core.specs.State.{Machine, RunningSave, Store, newest_of, memory_after}
 use Rattle.module_core.specs.Device.{Holds, HoldsWhile, IsResting}
+use Rattle.module_core.specs.Guard.{IsPrefix, HasCause}
+use Rattle.module_core.specs.Headline.{LeftAfter}
 use Rattle.module_core.specs.Stands.{Stands, setup_of}
+use Rattle.module_core.proofs.Leaving.{left_after}
+use Rattle.module_core.proofs.StoreSteps.{stop_now}
+use Rattle.module_core.proofs.SurvivedLives.{clear_where}
 use Rattle.nv_session.specs.declared.life.Life.{Life}
 use Rattle.nv_session.specs.declared.life.Life.TheVariants.{Lines, Xor}
 use Rattle.nv_session.specs.declared.opening.Found.{Found}
@@ -20,7 +25,7 @@ use Rattle.nv_session.specs.Turns.{HasSaved}
 use Rattle.nv_session.specs.Living.{LifeStands, setup_of_life}
 use Rattle.nv_session.specs.Wired.{Revives}
 use Rattle.nv_session.specs.Sessions.{LifeRevives}
-use Rattle.nv_session.specs.Restoring.{FindsSaved}
+use Rattle.nv_session.specs.Restoring.{FindsSaved, FindsPrefix, TellsPrefix}
 
 -- no save runs: the device rests
 resting : (run : Option SaveRun) (lines : ℕ) (s : Store) (state : DeviceState) → s.saving ≡ None → Holds lines s run state → IsResting lines s state
@@ -43,7 +48,36 @@ image_in image outcome.WrongSize = image
 image_in image outcome.NoImage = image
 image_in image (outcome.Damaged slot) = image
 
+-- what is told of the image that a stop leaves
+tells_prefix : (m : Machine) (found : Found) (image : Image) (what : Outcome) (slot : Slot)
+    → found.generation ≡ image.generation → found.count ≡ image.count → found.verdict ≡ verdict_of image.arm image.count
+    → what ≡ outcome.Found slot image → LeftAfter m what → TellsPrefix m found image
+tells_prefix m found image what slot generation count verdict is left =
+    let r = left.recovers in
+    let same : r.image ≡ image = ap (image_in image) (sym r.found ∙ is) in
+    record {
+      generation_is = generation;
+      count_is = count;
+      prefix = subst (λ (i : Image). IsPrefix m i) same r.prefix;
+      complete = λ told.
+          omega (arith, count, subst (λ (i : Image). i.arm ≡ 0 → m.life.persisted ≤ i.count) same r.complete (clear_where image.arm image.count (sym verdict ∙ told)));
+      whole = λ calm. omega (arith, count, subst (λ (i : Image). m.life.persisted ≤ i.count) same (r.whole calm));
+      cause = λ other.
+          subst (λ (i : Image). i.arm ≢ 0 → HasCause m i) same r.cause (λ clear. other (verdict ∙ ap (λ (a : ℕ). verdict_of a image.count) clear));
+    }
+
 module _ {C : Type 0} (L : Ghosts C) where
+  module_stopped : (it : Module C L) (m : Machine) (device : DeviceState) (bytes : List ℕ) → Stands L it device m → MayLeave (present device) bytes
+      → LeftAfter m (restored (setup_of L it).shape.lines bytes)
+  module_stopped it m device bytes stands left =
+      left_after m stands.guarded (restored (setup_of L it).shape.lines bytes)
+      (subst (λ (n : ℕ). IsAmong m.store.maybe (restored n bytes)) it.sized (stop_now it.lines m.store it.saves.saving device stands.holds bytes left))
+
+  module_tells : (it : Module C L) (m : Machine) (lines : ℕ) (bytes : List ℕ) (found : Found) (device : DeviceState)
+      → LeftAfter m (restored lines bytes) → (revives : Revives L lines bytes found it device) → TellsPrefix m found revives.image
+  module_tells it m lines bytes found device left revives =
+      tells_prefix m found revives.image (restored lines bytes) revives.opened.newest.slot revives.generation_is revives.count_is revives.verdict_is revives.finds left
+
   module_left : (it : Module C L) (m : Machine) (device : DeviceState) (generation count : ℕ) (bytes : List ℕ) → Stands L it device m → HasSaved generation count m
       → MayLeave (present device) bytes → restored (setup_of L it).shape.lines bytes ≡ outcome.Found m.store.maybe.slot (newest_of m)
   module_left it m device generation count bytes stands saved left =
@@ -94,3 +128,29 @@ module _ {C D : Type 0} (L : Ghosts C) (M : Ghosts D) where
   save_restored old new m generation count device device' bytes found stands saved unarmed left revives =
       finds_image new m generation count (setup_of_life L M old).shape.lines bytes found device' saved unarmed
       (life_left old m device generation count bytes stands saved left) revives
+
+  life_stopped : (it : Life C D L M) (m : Machine) (device : DeviceState) (bytes : List ℕ) → LifeStands L M it device m → MayLeave (present device) bytes
+      → LeftAfter m (restored (setup_of_life L M it).shape.lines bytes)
+  life_stopped (Lines it) m device bytes stands left = module_stopped L it m device bytes stands left
+  life_stopped (Xor it) m device bytes stands left = module_stopped M it m device bytes stands left
+
+  finds_prefix : (it : Life C D L M) (m : Machine) (lines : ℕ) (bytes : List ℕ) (found : Found) (device : DeviceState) → LeftAfter m (restored lines bytes)
+      → LifeRevives L M lines bytes found it device → FindsPrefix L M m found it device
+  finds_prefix (Lines it) m lines bytes found device left revives = record {
+    opened = revives.opened;
+    image = revives.image;
+    stands = revives.stands;
+    tells = module_tells L it m lines bytes found device left revives;
+  }
+  finds_prefix (Xor it) m lines bytes found device left revives = record {
+    opened = revives.opened;
+    image = revives.image;
+    stands = revives.stands;
+    tells = module_tells M it m lines bytes found device left revives;
+  }
+
+  pub stop_restored : (old new : Life C D L M) (m : Machine) (device device' : DeviceState) (bytes : List ℕ) (found : Found)
+      → LifeStands L M old device m → MayLeave (present device) bytes → LifeRevives L M (setup_of_life L M old).shape.lines bytes found new device'
+      → FindsPrefix L M m found new device'
+  stop_restored old new m device device' bytes found stands left revives =
+      finds_prefix new m (setup_of_life L M old).shape.lines bytes found device' (life_stopped old m device bytes stands left) revives

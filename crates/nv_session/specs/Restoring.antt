@@ -1,16 +1,36 @@
--- What a restore makes of a save.
-use Rattle.std.specs.Prelude.{◌≡◌, ℕ, List}
+-- What a restore makes of a save, and of a life that was stopped at any time.
+use Rattle.std.specs.Prelude.{◌≡◌, ◌≢◌, ℕ, ◌≤◌, false, List}
 use Rattle.save_device.specs.Device.{DeviceState}
 use Rattle.save_image.specs.Image.{Image}
 use Rattle.slot_store.specs.declared.restoring.Verdict.TheVariants.{Complete}
 use Rattle.line_channels.specs.declared.channels.Channels.{Ghosts}
 use Rattle.module_core.specs.declared.opening.Opened.{Opened}
+use Rattle.module_core.specs.State.{Machine}
+use Rattle.module_core.specs.Guard.{IsPrefix, HasCause, may_lack}
 use Rattle.module_core.specs.Opening.{new_life}
 use Rattle.nv_session.specs.declared.life.Life.{Life}
 use Rattle.nv_session.specs.declared.opening.Found.{Found}
 use Rattle.nv_session.specs.Living.{LifeStands}
 
+-- What is told of an image is its numbers, and its memory is the one after the first writes of those that a machine had accepted.
+-- Complete, it holds each write that was persistent; where nothing could be lacking it does whatever is told; and where it isn't
+-- complete there was a cause.
+pub record TellsPrefix (m : Machine) (found : Found) (image : Image) : Type 0 where
+  pub generation_is : found.generation ≡ image.generation
+  pub count_is : found.count ≡ image.count
+  pub prefix : IsPrefix m image
+  pub complete : found.verdict ≡ Complete → m.life.persisted ≤ found.count
+  pub whole : may_lack m ≡ false → m.life.persisted ≤ found.count
+  pub cause : found.verdict ≢ Complete → HasCause m image
+
 module _ {C D : Type 0} (L : Ghosts C) (M : Ghosts D) where
+  -- a restore found such an image, and the life that it began is new with it
+  pub record FindsPrefix (m : Machine) (found : Found) (it : Life C D L M) (device : DeviceState) : Type 0 where
+    pub opened : Opened
+    pub image : Image
+    pub stands : LifeStands L M it device (new_life opened image)
+    pub tells : TellsPrefix m found image
+
   -- A restore found an image of this generation and count, complete, and the life that it began is new with this memory.
   pub record FindsSaved (generation count : ℕ) (memory : List (List ℕ)) (found : Found) (it : Life C D L M) (device : DeviceState) : Type 0 where
     pub generation_is : found.generation ≡ generation

@@ -12,7 +12,7 @@ mod session;
 mod turns;
 mod wires;
 
-pub use laws::restore_after_save;
+pub use laws::{restore_after_any_stop, restore_after_save};
 pub use life::Life;
 pub use lives::FormatError;
 pub use opening::Found;

@@ -1,0 +1,5 @@
+use Rattle.nv_session.proofs.Restoring.{stop_restored}
+use Rattle.nv_session.proofs.laws.restore_after_any_stop.Goals as goal
+
+pub returns : goal.returns
+returns g c = stop_restored g.C.Channels g.D.Channels
