@@ -20,12 +20,16 @@ use Rattle.module_core.proofs.StoreSteps.{stop_now}
 use Rattle.module_core.proofs.SurvivedLives.{clear_where}
 use Rattle.nv_session.specs.declared.life.Life.{Life}
 use Rattle.nv_session.specs.declared.life.Life.TheVariants.{Lines, Xor}
+use Rattle.ddr4_timing.specs.Limits.{lines_of}
+use Rattle.nv_profile.specs.declared.profile.MapWord.{MapWord}
+use Rattle.nv_profile.specs.declared.profile.Profile.{Profile}
 use Rattle.nv_session.specs.declared.opening.Found.{Found}
 use Rattle.nv_session.specs.Turns.{HasSaved}
 use Rattle.nv_session.specs.Living.{LifeStands, setup_of_life}
 use Rattle.nv_session.specs.Wired.{Revives}
-use Rattle.nv_session.specs.Sessions.{LifeRevives}
-use Rattle.nv_session.specs.Restoring.{FindsSaved, FindsPrefix, TellsPrefix}
+use Rattle.nv_session.specs.Fitting.{IsShapeFor, FitsLife}
+use Rattle.nv_session.specs.Sessions.{LifeRevives, RunsOver}
+use Rattle.nv_session.specs.Restoring.{FindsSaved, FindsPrefix, FindsPrefixOf, TellsPrefix}
 
 -- no save runs: the device rests
 resting : (run : Option SaveRun) (lines : ℕ) (s : Store) (state : DeviceState) → s.saving ≡ None → Holds lines s run state → IsResting lines s state
@@ -154,3 +158,17 @@ module _ {C D : Type 0} (L : Ghosts C) (M : Ghosts D) where
       → FindsPrefix L M m found new device'
   stop_restored old new m device device' bytes found stands left revives =
       finds_prefix new m (setup_of_life L M old).shape.lines bytes found device' (life_stopped old m device bytes stands left) revives
+
+  -- a session's restore: its life before fitted the profile, and what began runs over a map
+  pub session_finds : (map : MapWord) (profile : Profile) (life life' : Option (Life C D L M)) (device device' : DeviceState) (bytes : List ℕ) (found : Found)
+      → FitsLife L M profile life → MayLeave (present device) bytes
+      → RunsOver L M map (λ it. LifeRevives L M (lines_of profile.checked.geometry) bytes found it device') life'
+      → FindsPrefixOf L M map life device found life' device'
+  session_finds map profile life life' device device' bytes found fits left runs it m is stands = record {
+    it = runs.it;
+    runs = runs.runs;
+    over = runs.over;
+    holds = finds_prefix runs.it m (lines_of profile.checked.geometry) bytes found device'
+        (subst (λ (n : ℕ). LeftAfter m (restored n bytes)) (let fit : IsShapeFor profile (setup_of_life L M it).shape = fits it is in fit.lines)
+        (life_stopped it m device bytes stands left)) runs.holds;
+  }

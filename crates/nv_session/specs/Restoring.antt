@@ -1,5 +1,5 @@
 -- What a restore makes of a save, and of a life that was stopped at any time.
-use Rattle.std.specs.Prelude.{◌≡◌, ◌≢◌, ℕ, ◌≤◌, false, List}
+use Rattle.std.specs.Prelude.{◌≡◌, ◌≢◌, ℕ, ◌≤◌, false, List, Option, Some}
 use Rattle.save_device.specs.Device.{DeviceState}
 use Rattle.save_image.specs.Image.{Image}
 use Rattle.slot_store.specs.declared.restoring.Verdict.TheVariants.{Complete}
@@ -8,9 +8,11 @@ use Rattle.module_core.specs.declared.opening.Opened.{Opened}
 use Rattle.module_core.specs.State.{Machine}
 use Rattle.module_core.specs.Guard.{IsPrefix, HasCause, may_lack}
 use Rattle.module_core.specs.Opening.{new_life}
+use Rattle.nv_profile.specs.declared.profile.MapWord.{MapWord}
 use Rattle.nv_session.specs.declared.life.Life.{Life}
 use Rattle.nv_session.specs.declared.opening.Found.{Found}
 use Rattle.nv_session.specs.Living.{LifeStands}
+use Rattle.nv_session.specs.Sessions.{RunsOver}
 
 -- What is told of an image is its numbers, and its memory is the one after the first writes of those that a machine had accepted.
 -- Complete, it holds each write that was persistent; where nothing could be lacking it does whatever is told; and where it isn't
@@ -30,6 +32,12 @@ module _ {C D : Type 0} (L : Ghosts C) (M : Ghosts D) where
     pub image : Image
     pub stands : LifeStands L M it device (new_life opened image)
     pub tells : TellsPrefix m found image
+
+  -- the same of each machine that the life may have stood for that a stop ended, if one ran: the new one runs over this map
+  abbrev pub FindsPrefixOf : MapWord → Option (Life C D L M) → DeviceState → Found → Option (Life C D L M) → DeviceState → Type 0
+  FindsPrefixOf map life device found life' device' =
+      (it : Life C D L M) (m : Machine) → life ≡ Some it → LifeStands L M it device m
+      → RunsOver L M map (λ new. FindsPrefix m found new device') life'
 
   -- A restore found an image of this generation and count, complete, and the life that it began is new with this memory.
   pub record FindsSaved (generation count : ℕ) (memory : List (List ℕ)) (found : Found) (it : Life C D L M) (device : DeviceState) : Type 0 where

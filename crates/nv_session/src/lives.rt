@@ -11,6 +11,7 @@ ghost use Rattle.energy_budget.specs.Meter.{meter_gauge, lie_of};
 ghost use Rattle.module_core.specs.Opening.{new_life};
 ghost use Rattle.nv_session.specs.Living.{LifeStands, StandsForSome, setup_of_life};
 ghost use Rattle.nv_session.specs.Fitting.{IsShapeFor};
+ghost use Rattle.nv_session.specs.Restoring.{FindsPrefixOf};
 ghost use Rattle.nv_session.specs.Sessions.{IsOverMap, LifeBegins, LifeRevives, RunsOver, formatted};
 
 use crate::life::Life;
@@ -179,7 +180,8 @@ where
     }
 
     /// A stop, which leaves of the unsettled bytes what the pick says, and a life on the newest image, over a map or the
-    /// profile's. A refused restore leaves no life. The device keeps the bytes that the stop left.
+    /// profile's: the memory after a prefix of the writes that the life before had accepted, and told Complete one that holds
+    /// every write that was persistent. A refused restore leaves no life. The device keeps the bytes that the stop left.
     pub fn restore(
         &mut self,
         alloc: Global,
@@ -195,6 +197,10 @@ where
             (lines_of self.old.profile.checked.geometry)
             (state_of self.new.device.device).bytes found it
             (⟦<Fuse<MemoryDevice> as SaveDevice>⟧.state self.new.device)) self.new.life) }
+        ensures finds { IfOk result (λ found. FindsPrefixOf C.Channels D.Channels
+            (unwrap_or map self.old.profile.map)
+            self.old.life (⟦<Fuse<MemoryDevice> as SaveDevice>⟧.state self.old.device) found
+            self.new.life (⟦<Fuse<MemoryDevice> as SaveDevice>⟧.state self.new.device)) }
         ensures refused { IfErr result (λ error. Refuses error (restored
             (lines_of self.old.profile.checked.geometry) (state_of self.new.device.device).bytes)) }
         ensures none { IfErr result (λ error. self.new.life ≡ None) }

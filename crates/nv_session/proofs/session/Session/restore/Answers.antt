@@ -1,12 +1,14 @@
-use Rattle.std.proofs.Common.{◌∙◌, ap, sym, subst, unwrap_or}
+use Rattle.std.proofs.Common.{◌∙◌, ℕ, List, ap, sym, subst, unwrap_or}
 use Rattle.ddr4_timing.specs.Limits.{lines_of}
-use Rattle.save_device.specs.Device.{DeviceState}
+use Rattle.save_device.specs.Device.{DeviceState, MayLeave, present, with_calls}
+use Rattle.save_device.specs.Memory.{state_of}
 use Rattle.nv_profile.specs.declared.profile.MapWord.{MapWord}
 use Rattle.nv_profile.specs.declared.profile.Profile.{Profile}
 use Rattle.nv_session.specs.Sessions.{IsOverMap}
 use Rattle.nv_session.proofs.Beginning.{revives_still}
 use Rattle.std.proofs.Common.{refl}
 use Rattle.nv_session.proofs.InLife.{revived_stands, if_err_holds}
+use Rattle.nv_session.proofs.Restoring.{session_finds}
 use Rattle.nv_session.proofs.session.Session.restore.Goals as goal
 
 pub returns-clause-revives : goal.returns-clause-revives
@@ -19,6 +21,13 @@ returns-clause-revives g c =
       holds = revives_still L M it c.in_ok-life.found _ _ _ _ _ _ c.in_ok-life.ensures.revives (ap (λ (p : Profile). lines_of p.checked.geometry) same)
           (sym (ap (λ (s : DeviceState). s.bytes) c.begin.ensures.device ∙ c.revive.ensures.same)) (sym c.begin.ensures.device);
     }
+
+pub returns-clause-finds : goal.returns-clause-finds
+returns-clause-finds g c =
+    let old = c.args.self.now in
+    let same = sym (ap (λ (s : DeviceState). s.bytes) c.begin.ensures.device ∙ c.revive.ensures.same) in
+    session_finds g.C.Channels g.D.Channels (unwrap_or c.args.map old.profile.map) old.profile old.life _ (with_calls (state_of old.device.device) old.device.calls) _ _ c.in_ok-life.found old.life_fits
+    (subst (λ (bytes : List ℕ). MayLeave (present (state_of old.device.device)) bytes) same c.stop.ensures.left) (returns-clause-revives g c)
 
 pub begin-requires-clause-stands : goal.begin-requires-clause-stands
 begin-requires-clause-stands g c = revived_stands g.C.Channels g.D.Channels c.in_ok-life.life _ _ c.in_ok-life.found _ _ c.in_ok-life.ensures.revives refl
