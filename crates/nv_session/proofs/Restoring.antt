@@ -1,17 +1,15 @@
 -- A restore after a save that is done, and after a stop at any time.
-use Rattle.std.proofs.Common.{◌≡◌, ◌≢◌, ◌∙◌, ℕ, ◌≤◌, List, false, inl, inr, refl, sym, ap, subst, arith, Option, Some, None}
+use Rattle.std.proofs.Common.{◌≡◌, ◌≢◌, ◌∙◌, ℕ, ◌≤◌, List, false, inl, inr, refl, sym, ap, subst, arith, Option}
 use Rattle.save_device.specs.Device.{DeviceState, present, MayLeave}
 use Rattle.save_image.specs.Image.{Image}
 use Rattle.slot_store.specs.declared.slots.Slot.{Slot}
-use Rattle.slot_store.specs.declared.saving.SaveRun.{SaveRun}
 use Rattle.slot_store.specs.Outcomes.{Outcome, restored, verdict_of}
 use Rattle.slot_store.specs.Outcomes as outcome
 use Rattle.slot_store.specs.Rest.{Candidates, IsAmong, only, rearmed}
 use Rattle.arm_state.specs.Modes.{is_armed}
 use Rattle.line_channels.specs.declared.channels.Channels.{Ghosts}
 use Rattle.module_core.specs.declared.module.Module.{Module}
-use Rattle.module_core.specs.State.{Machine, RunningSave, Store, newest_of, memory_after}
-use Rattle.module_core.specs.Device.{Holds, HoldsWhile, IsResting}
+use Rattle.module_core.specs.State.{Machine, newest_of, memory_after}
 use Rattle.module_core.specs.Guard.{IsPrefix, HasCause}
 use Rattle.module_core.specs.Headline.{LeftAfter}
 use Rattle.module_core.specs.Stands.{Stands, setup_of}
@@ -30,16 +28,6 @@ use Rattle.nv_session.specs.Wired.{Revives}
 use Rattle.nv_session.specs.Fitting.{IsShapeFor, FitsLife}
 use Rattle.nv_session.specs.Sessions.{LifeRevives, RunsOver}
 use Rattle.nv_session.specs.Restoring.{FindsSaved, FindsPrefix, FindsPrefixOf, TellsPrefix}
-
--- no save runs: the device rests
-resting : (run : Option SaveRun) (lines : ℕ) (s : Store) (state : DeviceState) → s.saving ≡ None → Holds lines s run state → IsResting lines s state
-resting None lines s state idle holds = subst (λ (o : Option RunningSave). HoldsWhile o None lines s state) idle holds
-resting (Some run) lines s state idle holds = absurd (subst (λ (o : Option RunningSave). HoldsWhile o (Some run) lines s state) idle holds)
-
-stop_among : (lines : ℕ) (s : Store) (state : DeviceState) (bytes : List ℕ) → IsResting lines s state → MayLeave (present state) bytes → IsAmong s.maybe (restored lines bytes)
-stop_among lines s state bytes resting left =
-    resting.among (restored lines bytes)
-    (resting.rest.harmless bytes (record { size = left.size; outside = λ place not. left.outside place (λ unsettled. not (inl unsettled)) }))
 
 among_only : (slot : Slot) (image : Image) (found : Outcome) → IsAmong (only slot image) found → found ≡ outcome.Found slot image
 among_only slot image found (inl r) = r.found ∙ ap (λ (arm : ℕ). outcome.Found slot (rearmed image arm)) (r.own refl)
@@ -88,7 +76,7 @@ module _ {C : Type 0} (L : Ghosts C) where
       subst (λ (n : ℕ). restored n bytes ≡ outcome.Found m.store.maybe.slot (newest_of m)) it.sized
       (among_only m.store.maybe.slot (newest_of m) (restored it.lines bytes)
       (subst (λ (c : Candidates). IsAmong c (restored it.lines bytes)) saved.alone
-      (stop_among it.lines m.store device bytes (resting it.saves.saving it.lines m.store device saved.idle stands.holds) left)))
+      (stop_now it.lines m.store it.saves.saving device stands.holds bytes left)))
 
   image_is : (lines : ℕ) (bytes : List ℕ) (found : Found) (it : Module C L) (device : DeviceState) (slot : Slot) (image : Image)
       → restored lines bytes ≡ outcome.Found slot image → (revives : Revives L lines bytes found it device) → revives.image ≡ image
