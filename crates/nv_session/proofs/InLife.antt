@@ -72,3 +72,7 @@ module _ {C D : Type 0} (L : Ghosts C) (M : Ghosts D) where
 pub if_err_holds : {A E P : Type 0} (result : Result A E) → P → IfErr result (λ error. P)
 if_err_holds (Ok value) holds = tt
 if_err_holds (Err error) holds = holds
+
+pub if_err_tells : {A E : Type 0} (result : Result A E) (P Q : E → Type 0) → IfErr result P → ((error : E) → P error → Q error) → IfErr result Q
+if_err_tells (Ok value) P Q holds tells = tt
+if_err_tells (Err error) P Q holds tells = tells error holds

@@ -1,10 +1,14 @@
 -- A restore after a save that is done, and after a stop at any time.
-use Rattle.std.proofs.Common.{◌≡◌, ◌≢◌, ◌∙◌, ℕ, ◌≤◌, List, false, inl, inr, refl, sym, ap, subst, arith, Option}
+use Rattle.std.proofs.Common.{◌≡◌, ◌≢◌, ◌∙◌, ℕ, ◌≤◌, List, false, inl, inr, refl, sym, ap, subst, arith, Option, Some, None}
+use Rattle.std.proofs.Math.Logic.{∥∥₁_map, ∥∥₁_elim}
 use Rattle.save_device.specs.Device.{DeviceState, present, MayLeave}
 use Rattle.save_image.specs.Image.{Image}
 use Rattle.slot_store.specs.declared.slots.Slot.{Slot}
 use Rattle.slot_store.specs.Outcomes.{Outcome, restored, verdict_of}
 use Rattle.slot_store.specs.Outcomes as outcome
+use Rattle.slot_store.specs.Told.{Refuses, IsFailure}
+use Rattle.slot_store.specs.declared.restoring.RestoreError.{RestoreError}
+use Rattle.slot_store.specs.declared.restoring.RestoreError.TheVariants as errors
 use Rattle.slot_store.specs.Rest.{Candidates, IsAmong, only, rearmed}
 use Rattle.arm_state.specs.Modes.{is_armed}
 use Rattle.line_channels.specs.declared.channels.Channels.{Ghosts}
@@ -23,7 +27,7 @@ use Rattle.nv_profile.specs.declared.profile.MapWord.{MapWord}
 use Rattle.nv_profile.specs.declared.profile.Profile.{Profile}
 use Rattle.nv_session.specs.declared.opening.Found.{Found}
 use Rattle.nv_session.specs.Turns.{HasSaved}
-use Rattle.nv_session.specs.Living.{LifeStands, setup_of_life}
+use Rattle.nv_session.specs.Living.{LifeStands, IsInLife, setup_of_life}
 use Rattle.nv_session.specs.Wired.{Revives}
 use Rattle.nv_session.specs.Fitting.{IsShapeFor, FitsLife}
 use Rattle.nv_session.specs.Sessions.{LifeRevives, RunsOver}
@@ -57,6 +61,21 @@ tells_prefix m found image what slot generation count verdict is left =
       cause = λ other.
           subst (λ (i : Image). i.arm ≢ 0 → HasCause m i) same r.cause (λ clear. other (verdict ∙ ap (λ (a : ℕ). verdict_of a image.count) clear));
     }
+
+-- no image was found
+abbrev IsNotFound : Outcome → Type 0
+IsNotFound (outcome.Found slot image) = ⊥
+IsNotFound outcome.WrongSize = Unit {0}
+IsNotFound outcome.NoImage = Unit {0}
+IsNotFound (outcome.Damaged slot) = Unit {0}
+
+-- where some image was found only a failure refuses
+only_fails : (error : RestoreError) (what : Outcome) → ∥ ((slot : Slot) × (image : Image) × (what ≡ outcome.Found slot image)) ∥₁ → Refuses error what → IsFailure error
+only_fails errors.Device what found refuses = tt
+only_fails errors.Memory what found refuses = tt
+only_fails errors.NoImage what found refuses = ∥∥₁_elim found (λ x y. absurd x) (λ f. subst IsNotFound (sym refuses ∙ f.2) tt)
+only_fails errors.WrongSize what found refuses = ∥∥₁_elim found (λ x y. absurd x) (λ f. subst IsNotFound (sym refuses ∙ f.2) tt)
+only_fails (errors.Damaged slot) what found refuses = ∥∥₁_elim found (λ x y. absurd x) (λ f. subst IsNotFound (sym refuses ∙ f.2) tt)
 
 module _ {C : Type 0} (L : Ghosts C) where
   module_stopped : (it : Module C L) (m : Machine) (device : DeviceState) (bytes : List ℕ) → Stands L it device m → MayLeave (present device) bytes
@@ -160,3 +179,16 @@ module _ {C D : Type 0} (L : Ghosts C) (M : Ghosts D) where
         (subst (λ (n : ℕ). LeftAfter m (restored n bytes)) (let fit : IsShapeFor profile (setup_of_life L M it).shape = fits it is in fit.lines)
         (life_stopped it m device bytes stands left)) runs.holds;
   }
+
+  -- where a life ran its stop left an image
+  pub session_fails : (profile : Profile) (life : Option (Life C D L M)) (device : DeviceState) (bytes : List ℕ) (error : RestoreError) → FitsLife L M profile life → IsInLife L M life device
+      → MayLeave (present device) bytes → Refuses error (restored (lines_of profile.checked.geometry) bytes) → life ≢ None → IsFailure error
+  session_fails profile None device bytes error fits in_life left refuses runs = absurd (runs refl)
+  session_fails profile (Some it) device bytes error fits in_life left refuses runs =
+      only_fails error (restored (lines_of profile.checked.geometry) bytes)
+      (∥∥₁_map (in_life it refl)
+      (λ stood.
+      let fit : IsShapeFor profile (setup_of_life L M it).shape = fits it refl in
+      let after = subst (λ (n : ℕ). LeftAfter stood.0 (restored n bytes)) fit.lines (life_stopped it stood.0 device bytes stood.1 left) in
+      (after.recovers.slot, after.recovers.image, after.recovers.found)))
+      refuses

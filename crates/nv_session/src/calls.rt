@@ -201,6 +201,8 @@ where
     pub fn fuse(&mut self, calls: Option<u64>)
         ensures passes { self.new.device.left ≡ unwrap_or calls ALL_CALLS }
         ensures device { self.new.device.device ≡ self.old.device.device }
+        ensures state { ⟦<Fuse<MemoryDevice> as SaveDevice>⟧.state self.new.device
+            ≡ ⟦<Fuse<MemoryDevice> as SaveDevice>⟧.state self.old.device }
         ensures gauge { self.new.gauge ≡ self.old.gauge }
         ensures life { self.new.life ≡ self.old.life }
         ensures profile { self.new.profile ≡ self.old.profile }

@@ -1,12 +1,12 @@
 // How a session's lives begin: a format, and a restore.
-ghost use Rattle.std.specs.Prelude.{◌≡◌, unwrap_or, None, Some, IfErr, IfOk, OnOk};
+ghost use Rattle.std.specs.Prelude.{◌≡◌, ◌≢◌, unwrap_or, None, Some, IfErr, IfOk, OnOk};
 ghost use Rattle.ddr4_timing.specs.Limits.{lines_of};
 ghost use Rattle.line_memory.specs.Memory.{IsMemory, zero_lines};
 ghost use Rattle.save_image.specs.Header.{Fits};
 ghost use Rattle.save_device.specs.Device.{MayLeave, present};
 ghost use Rattle.save_device.specs.Memory.{state_of, IsPicked};
 ghost use Rattle.slot_store.specs.Outcomes.{first_image, restored};
-ghost use Rattle.slot_store.specs.Told.{Refuses};
+ghost use Rattle.slot_store.specs.Told.{Refuses, IsFailure};
 ghost use Rattle.energy_budget.specs.Meter.{meter_gauge, lie_of};
 ghost use Rattle.module_core.specs.Opening.{new_life};
 ghost use Rattle.nv_session.specs.Living.{LifeStands, StandsForSome, setup_of_life};
@@ -181,7 +181,8 @@ where
 
     /// A stop, which leaves of the unsettled bytes what the pick says, and a life on the newest image, over a map or the
     /// profile's: the memory after a prefix of the writes that the life before had accepted, and told Complete one that holds
-    /// every write that was persistent. A refused restore leaves no life. The device keeps the bytes that the stop left.
+    /// every write that was persistent. Where a life ran, nothing but a fault of the device or want of memory refuses it. A refused
+    /// restore leaves no life. The device keeps the bytes that the stop left.
     pub fn restore(
         &mut self,
         alloc: Global,
@@ -203,6 +204,7 @@ where
             self.new.life (⟦<Fuse<MemoryDevice> as SaveDevice>⟧.state self.new.device)) }
         ensures refused { IfErr result (λ error. Refuses error (restored
             (lines_of self.old.profile.checked.geometry) (state_of self.new.device.device).bytes)) }
+        ensures fails { IfErr result (λ error. self.old.life ≢ None → IsFailure error) }
         ensures none { IfErr result (λ error. self.new.life ≡ None) }
         ensures lie { lie_of self.new.gauge ≡ None }
         ensures gauge { meter_gauge self.new.gauge ≡ meter_gauge self.old.gauge }

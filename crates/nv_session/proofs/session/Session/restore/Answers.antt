@@ -6,9 +6,13 @@ use Rattle.nv_profile.specs.declared.profile.MapWord.{MapWord}
 use Rattle.nv_profile.specs.declared.profile.Profile.{Profile}
 use Rattle.nv_session.specs.Sessions.{IsOverMap}
 use Rattle.nv_session.proofs.Beginning.{revives_still}
-use Rattle.std.proofs.Common.{refl}
-use Rattle.nv_session.proofs.InLife.{revived_stands, if_err_holds}
-use Rattle.nv_session.proofs.Restoring.{session_finds}
+use Rattle.std.proofs.Common.{refl, rules, ◌≢◌, None}
+use Rattle.std.specs.Prelude.{IfErr}
+use Rattle.slot_store.specs.Outcomes.{restored}
+use Rattle.slot_store.specs.Told.{Refuses, IsFailure}
+use Rattle.slot_store.specs.declared.restoring.RestoreError.{RestoreError}
+use Rattle.nv_session.proofs.InLife.{revived_stands, if_err_holds, if_err_tells}
+use Rattle.nv_session.proofs.Restoring.{session_finds, session_fails}
 use Rattle.nv_session.proofs.session.Session.restore.Goals as goal
 
 pub returns-clause-revives : goal.returns-clause-revives
@@ -34,3 +38,13 @@ begin-requires-clause-stands g c = revived_stands g.C.Channels g.D.Channels c.in
 
 pub returns-in_err-life-clause-none : goal.returns-in_err-life-clause-none
 returns-in_err-life-clause-none g c = if_err_holds c.from_residual.result (c.revive.ensures.life ∙ c.stop.ensures.life)
+
+pub returns-in_err-life-clause-fails : goal.returns-in_err-life-clause-fails
+returns-in_err-life-clause-fails g c =
+    let old = c.args.self.now in
+    let bytes : List ℕ = (state_of c.revive.new.self.device.device).bytes in
+    let Told : RestoreError → Type 0 = λ error. Refuses error (restored (lines_of old.profile.checked.geometry) bytes) in
+    let refused : IfErr c.from_residual.result Told = search rules in
+    if_err_tells c.from_residual.result Told (λ error. old.life ≢ None → IsFailure error) refused
+    (λ error refuses. session_fails g.C.Channels g.D.Channels old.profile old.life (with_calls (state_of old.device.device) old.device.calls) bytes error old.life_fits old.stands
+    (subst (λ (bytes : List ℕ). MayLeave (present (state_of old.device.device)) bytes) (sym c.revive.ensures.same) c.stop.ensures.left) refuses)
