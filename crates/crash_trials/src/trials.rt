@@ -2,7 +2,7 @@
 use crate::judging::{Restored, Wrong, judged};
 use crate::ledger::Ledger;
 use nv_profile::Profile;
-use script_runner::run_on_maps;
+use script_runner::run_script;
 use std::alloc::Global;
 
 /// The words of restores: what becomes of each byte that is unsettled.
@@ -71,7 +71,7 @@ impl<'p> Trials<'p> {
     /// What a script answers.
     pub(crate) fn answers(&self, script: &str) -> anyhow::Result<String> {
         let mut bytes = Vec::new(self.alloc);
-        let _device = run_on_maps(self.alloc, self.profile, script.as_bytes(), &mut bytes)?;
+        let _device = run_script(self.alloc, self.profile, script.as_bytes(), &mut bytes)?;
         Ok(String::from_utf8(bytes)?)
     }
 

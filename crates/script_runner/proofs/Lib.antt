@@ -1,2 +1,8 @@
 pub mod Naming
 pub mod Results
+pub mod Later
+pub mod Bearing
+pub mod Answering
+pub mod Telling
+pub mod Turns
+pub mod Stories

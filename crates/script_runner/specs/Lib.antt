@@ -1,1 +1,5 @@
 pub mod Wiring
+pub mod Replies
+pub mod Ledger
+pub mod Story
+pub mod Keeping

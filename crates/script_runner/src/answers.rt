@@ -1,14 +1,18 @@
 // The answers to a script's lines, from what the session replies.
-ghost use Rattle.std.specs.Prelude.{◌≡◌, IfErr};
+ghost use Rattle.std.specs.Prelude.{◌≡◌};
+ghost use Rattle.script_runner.specs.Replies.{write_told, read_told, work_told, step_told, save_told, arm_told, disarm_told, loss_told, restore_told};
 
-use arm_state::{ArmRefusal, ArmReply, DisarmReply, Mode};
+use arm_state::{ArmRefusal, ArmReply, DisarmReply};
+use ddr4_timing::command::Stamped;
 use module_core::{Accepted, Loss, ReadRefusal, StepReply, WriteRefusal};
 use nv_script::{self, Answer};
 use nv_session::{Found, Seen};
 use slot_store::RestoreError;
 
 /// The answer to a write.
-pub(crate) fn write_answer(reply: Result<Accepted, WriteRefusal>) -> Answer {
+pub(crate) fn write_answer(reply: Result<Accepted, WriteRefusal>) -> Answer
+    ensures { result ≡ write_told reply }
+{
     match reply {
         Ok(Accepted { number, mark }) => Answer::Accepted { number, mark },
         Err(refusal) => Answer::WriteRefused(match refusal {
@@ -25,7 +29,9 @@ pub(crate) fn write_answer(reply: Result<Accepted, WriteRefusal>) -> Answer {
 }
 
 /// The answer to a read of a line.
-pub(crate) fn read_answer(line: u64, reply: Result<Seen, ReadRefusal>) -> Answer {
+pub(crate) fn read_answer(line: u64, reply: Result<Seen, ReadRefusal>) -> Answer
+    ensures { result ≡ read_told line reply }
+{
     match reply {
         Ok(Seen::Content(bytes)) => Answer::Content { line, bytes },
         Ok(Seen::Waiting) => Answer::ReadWaiting { line },
@@ -37,8 +43,20 @@ pub(crate) fn read_answer(line: u64, reply: Result<Seen, ReadRefusal>) -> Answer
     }
 }
 
+/// The answer to one work on a channel.
+pub(crate) fn work_answer(channel: u64, command: Option<Stamped>) -> Answer
+    ensures { result ≡ work_told channel command }
+{
+    match command {
+        Some(command) => Answer::Issued { channel, command },
+        None => Answer::Idle { channel },
+    }
+}
+
 /// The answer to a step of a save. A save that isn't over after its turns is waiting, whatever its last step was.
-pub(crate) fn step_answer(reply: Result<StepReply, ArmRefusal>) -> Answer {
+pub(crate) fn step_answer(reply: Result<StepReply, ArmRefusal>) -> Answer
+    ensures { result ≡ step_told reply }
+{
     match reply {
         Ok(StepReply::Did(step)) => Answer::Stepped(step),
         Ok(StepReply::Saved { generation, count }) => Answer::Saved { generation, count },
@@ -50,21 +68,19 @@ pub(crate) fn step_answer(reply: Result<StepReply, ArmRefusal>) -> Answer {
 }
 
 /// The answer to a whole save.
-pub(crate) fn save_answer(reply: Result<StepReply, ArmRefusal>) -> Answer {
+pub(crate) fn save_answer(reply: Result<StepReply, ArmRefusal>) -> Answer
+    ensures { result ≡ save_told reply }
+{
     match reply {
         Ok(StepReply::Did(_)) => Answer::Waiting,
         _ => step_answer(reply),
     }
 }
 
-/// The answer to a reading of the gauge.
-pub(crate) fn level_answer(reply: (u64, Option<Mode>)) -> Answer {
-    let (reading, mode) = reply;
-    Answer::Level { reading, mode }
-}
-
 /// The answer to arming.
-pub(crate) fn arm_answer(reply: Result<ArmReply, ArmRefusal>) -> Answer {
+pub(crate) fn arm_answer(reply: Result<ArmReply, ArmRefusal>) -> Answer
+    ensures { result ≡ arm_told reply }
+{
     match reply {
         Ok(ArmReply::Armed) => Answer::Armed,
         Ok(ArmReply::AlreadyArmed) => Answer::ArmedAlready,
@@ -74,7 +90,9 @@ pub(crate) fn arm_answer(reply: Result<ArmReply, ArmRefusal>) -> Answer {
 }
 
 /// The answer to disarming.
-pub(crate) fn disarm_answer(reply: Result<DisarmReply, ArmRefusal>) -> Answer {
+pub(crate) fn disarm_answer(reply: Result<DisarmReply, ArmRefusal>) -> Answer
+    ensures { result ≡ disarm_told reply }
+{
     match reply {
         Ok(DisarmReply::Disarming) => Answer::Disarming,
         Ok(DisarmReply::AlreadyDisarmed) => Answer::DisarmedAlready,
@@ -83,7 +101,9 @@ pub(crate) fn disarm_answer(reply: Result<DisarmReply, ArmRefusal>) -> Answer {
 }
 
 /// The answer to a loss of mains.
-pub(crate) fn loss_answer(loss: Loss) -> Answer {
+pub(crate) fn loss_answer(loss: Loss) -> Answer
+    ensures { result ≡ loss_told loss }
+{
     Answer::Lost(match loss {
         Loss::Saved { generation, count } => nv_script::Loss::Saved { generation, count },
         Loss::Unsaved => nv_script::Loss::Unsaved,
@@ -95,7 +115,7 @@ pub(crate) fn loss_answer(loss: Loss) -> Answer {
 
 /// The answer to a restore.
 pub(crate) fn restore_answer(reply: Result<Found, RestoreError>) -> Answer
-    ensures refused { IfErr reply (λ error. result ≡ Answer.RestoreRefused error) }
+    ensures { result ≡ restore_told reply }
 {
     match reply {
         Ok(

@@ -1,53 +1,37 @@
 // Scripts, run on a session.
-ghost use Rattle.std.specs.Prelude.{◌≡◌, ◌<◌, All};
+ghost use Rattle.std.specs.Prelude.{◌≡◌, ◌<◌, IfErr, IfOk, OnOk, All};
+ghost use Rattle.ddr4_timing.specs.Limits.{lines_of};
 ghost use Rattle.interleave_map.specs.Inverse.{NamesPlaces};
 ghost use Rattle.nv_script.specs.Line.{NamesChannelOf};
+ghost use Rattle.script_runner.specs.Story.{AreAllAnswered, AreCutShort};
+ghost use Rattle.script_runner.specs.Keeping.{AnswersTruly, AnswersPart, AnswersWhole};
 
 use crate::answers::{
-    arm_answer, disarm_answer, level_answer, loss_answer, read_answer, restore_answer, save_answer,
-    step_answer, write_answer,
+    arm_answer, disarm_answer, loss_answer, read_answer, restore_answer, save_answer, step_answer,
+    work_answer, write_answer,
 };
+use crate::report::Report;
 use crate::wiring::Wiring;
 use interleave_map::line_map::{LineMap, Places};
-use line_channels::{Channels, Drainable};
+use line_channels::Drainable;
 use nv_profile::Profile;
-use nv_script::{Answer, ScriptFault, ScriptLine, read_script};
+use nv_script::{Answer, ScriptFault, ScriptLine};
 use nv_session::{FormatError, Session, Wires};
-use save_device::{MemoryDevice, Pick};
+use save_device::{Fuse, MemoryDevice, Pick, SaveDevice};
 use std::alloc::Global;
-use std::io;
 
-/// Reads a script, runs it on a session over two lawful maps of the profile's geometry, and writes each answer as a line.
-/// Answers the device as the script left it. A script with a bad line writes nothing.
-pub fn run_script<L: LineMap, X: LineMap, P: Places, Q: Places, W: io::Write>(
-    alloc: Global,
-    profile: &Profile,
-    script: &[u8],
-    lines_map: &L,
-    xor_map: &X,
-    writer: &mut W,
-) -> Result<MemoryDevice, ScriptFault>
-    requires lines_map { L.is_lawful lines_map.now }
-    requires lines_geometry { L.geometry_of lines_map.now ≡ profile.now.checked.geometry }
-    requires lines_names { NamesPlaces profile.now.checked.geometry (L.lies_at lines_map.now)
-        P.place_of }
-    requires xor_map { X.is_lawful xor_map.now }
-    requires xor_geometry { X.geometry_of xor_map.now ≡ profile.now.checked.geometry }
-    requires xor_names { NamesPlaces profile.now.checked.geometry (X.lies_at xor_map.now)
-        Q.place_of }
-{
-    let lines = read_script(alloc, script, &profile.checked.geometry)?;
-    run_lines::<L, X, P, Q, W>(alloc, profile, &lines, lines_map, xor_map, writer)
-}
-
-/// Runs the lines of a script, which name channels that exist, and writes each answer as a line.
-pub fn run_lines<L: LineMap, X: LineMap, P: Places, Q: Places, W: io::Write>(
+/// Runs lines, which name channels that exist, on a session over two lawful maps of the profile's geometry, and reports their
+/// answers. Each answer is true by the ones before it: a write's number is its place among the accepted writes, a read has
+/// its line of the memory after them, within a life no mark falls, and a restore finds a prefix of them, told Complete one
+/// that holds all that were told to be persistent. Each line has all its answers; where the report or memory gives out,
+/// so have the lines before that one. Answers the device as the lines left it.
+pub fn run_lines<L: LineMap, X: LineMap, P: Places, Q: Places, R: Report>(
     alloc: Global,
     profile: &Profile,
     lines: &[ScriptLine],
     lines_map: &L,
     xor_map: &X,
-    writer: &mut W,
+    report: &mut R,
 ) -> Result<MemoryDevice, ScriptFault>
     requires lines { All (NamesChannelOf profile.now.checked.geometry) lines.now }
     requires lines_map { L.is_lawful lines_map.now }
@@ -58,83 +42,107 @@ pub fn run_lines<L: LineMap, X: LineMap, P: Places, Q: Places, W: io::Write>(
     requires xor_geometry { X.geometry_of xor_map.now ≡ profile.now.checked.geometry }
     requires xor_names { NamesPlaces profile.now.checked.geometry (X.lies_at xor_map.now)
         Q.place_of }
+    ensures answered { OnOk result (AreAllAnswered (lines_of profile.now.checked.geometry)
+        lines.now (R.answers report.old) (R.answers report.new)) }
+    ensures cut { IfErr result (λ fault. AreCutShort (lines_of profile.now.checked.geometry)
+        lines.now (R.answers report.old) (R.answers report.new)) }
 {
     let by_lines: Wiring<'_, L, P> = Wiring::new(lines_map, profile);
     let by_xor: Wiring<'_, X, Q> = Wiring::new(xor_map, profile);
     let mut session = Session::new(alloc, profile, by_lines, by_xor)?;
-    for line in lines {
-        answer_line(alloc, &mut session, *line, writer)?;
-    }
+    answer_lines(alloc, &mut session, lines, report)?;
     Ok(session.into_device())
 }
 
-fn say<W: io::Write>(writer: &mut W, answer: Answer) -> Result<(), ScriptFault> {
-    writeln!(writer, "{answer}").map_err(|_| ScriptFault::Writer)
-}
-
-// Runs one line and writes its answers.
-fn answer_line<C, D, A, B, W>(
+// Runs lines, and reports their answers.
+fn answer_lines<C, D, A, B, R>(
     alloc: Global,
     session: &mut Session<C, D, A, B>,
-    line: ScriptLine,
-    writer: &mut W,
+    lines: &[ScriptLine],
+    report: &mut R,
 ) -> Result<(), ScriptFault>
 where
     C: Drainable + Drop,
     D: Drainable + Drop,
     A: Wires<C> + Drop,
     B: Wires<D> + Drop,
-    W: io::Write,
+    R: Report,
     requires lines { C.reaches }
     requires xor { D.reaches }
-    requires line { NamesChannelOf session.old.profile.checked.geometry line }
-    ensures profile { session.new.profile ≡ session.old.profile }
+    requires names { All (NamesChannelOf session.old.profile.checked.geometry) lines.now }
+    ensures answered { OnOk result (AreAllAnswered
+        (lines_of session.old.profile.checked.geometry)
+        lines.now (R.answers report.old) (R.answers report.new)) }
+    ensures cut { IfErr result (λ fault. AreCutShort
+        (lines_of session.old.profile.checked.geometry)
+        lines.now (R.answers report.old) (R.answers report.new)) }
+{
+    for line in lines {
+        answer_line(alloc, session, *line, report)?;
+    }
+    Ok(())
+}
+
+// How many answers a line may have.
+fn turns_of(line: ScriptLine) -> u64
+    ensures { result ≡ Rattle.script_runner.specs.Story.turns_of line }
 {
     match line {
-        ScriptLine::Format => match session.format(alloc) {
-            Ok(()) => say(writer, Answer::Formatted),
-            Err(FormatError::Device) => say(writer, Answer::FormatFault),
-            Err(FormatError::Memory) => Err(ScriptFault::Memory),
-        },
-        ScriptLine::Restore { pick, map } => {
-            let reply = session.restore(alloc, pick.unwrap_or(Pick::Old), map);
-            say(writer, restore_answer(reply))
-        }
-        ScriptLine::Work { channel, most } => work(session, channel, most, writer),
-        _ => match answer_of(session, line) {
-            Some(answer) => say(writer, answer),
-            None => Ok(()),
-        },
+        ScriptLine::Work { most, .. } => most,
+        _ => 1,
     }
 }
 
-// Up to so many commands of a channel, each as a line, or that it is idle.
-fn work<C, D, A, B, W>(
+// Whether more commands may follow this answer.
+fn is_busy(answer: Answer) -> bool
+    ensures { result ≡ Rattle.script_runner.specs.Story.is_busy answer }
+{
+    !matches!(answer, Answer::Idle { .. })
+}
+
+// Runs one line and reports its answers.
+fn answer_line<C, D, A, B, R>(
+    alloc: Global,
     session: &mut Session<C, D, A, B>,
-    channel: u64,
-    most: u64,
-    writer: &mut W,
+    line: ScriptLine,
+    report: &mut R,
 ) -> Result<(), ScriptFault>
 where
-    C: Channels + Drop,
-    D: Channels + Drop,
+    C: Drainable + Drop,
+    D: Drainable + Drop,
     A: Wires<C> + Drop,
     B: Wires<D> + Drop,
-    W: io::Write,
-    requires channel { channel < session.old.profile.checked.geometry.channels }
+    R: Report,
+    requires lines { C.reaches }
+    requires xor { D.reaches }
+    requires line { NamesChannelOf session.old.profile.checked.geometry line }
+    ensures whole { OnOk result (AnswersWhole C.Channels D.Channels
+        (lines_of session.old.profile.checked.geometry) line
+        (R.answers report.old) (R.answers report.new)
+        session.old.life (⟦<Fuse<MemoryDevice> as SaveDevice>⟧.state session.old.device)
+        session.new.life (⟦<Fuse<MemoryDevice> as SaveDevice>⟧.state session.new.device)) }
+    ensures part { IfErr result (λ fault. AnswersPart C.Channels D.Channels
+        (lines_of session.old.profile.checked.geometry) line
+        (R.answers report.old) (R.answers report.new)
+        session.old.life (⟦<Fuse<MemoryDevice> as SaveDevice>⟧.state session.old.device)) }
     ensures profile { session.new.profile ≡ session.old.profile }
 {
-    for _turn in 0..most {
-        match session.work(channel) {
-            Some(command) => say(writer, Answer::Issued { channel, command })?,
-            None => return say(writer, Answer::Idle { channel }),
+    for _turn in 0..turns_of(line) {
+        let answer = answer_of(alloc, session, line)?;
+        report.answer(answer)?;
+        if !is_busy(answer) {
+            return Ok(());
         }
     }
     Ok(())
 }
 
-// The answer to a line that takes no memory and has one answer. None for any other.
-fn answer_of<C, D, A, B>(session: &mut Session<C, D, A, B>, line: ScriptLine) -> Option<Answer>
+// The answer to a turn of a line. It refuses only where there is no memory for a life.
+fn answer_of<C, D, A, B>(
+    alloc: Global,
+    session: &mut Session<C, D, A, B>,
+    line: ScriptLine,
+) -> Result<Answer, ScriptFault>
 where
     C: Drainable + Drop,
     D: Drainable + Drop,
@@ -142,14 +150,31 @@ where
     B: Wires<D> + Drop,
     requires lines { C.reaches }
     requires xor { D.reaches }
+    requires line { NamesChannelOf session.old.profile.checked.geometry line }
+    ensures truly { IfOk result (λ answer. AnswersTruly C.Channels D.Channels
+        (lines_of session.old.profile.checked.geometry) line answer
+        session.old.life (⟦<Fuse<MemoryDevice> as SaveDevice>⟧.state session.old.device)
+        session.new.life (⟦<Fuse<MemoryDevice> as SaveDevice>⟧.state session.new.device)) }
     ensures profile { session.new.profile ≡ session.old.profile }
 {
-    Some(match line {
+    Ok(match line {
+        ScriptLine::Format => match session.format(alloc) {
+            Ok(()) => Answer::Formatted,
+            Err(FormatError::Device) => Answer::FormatFault,
+            Err(FormatError::Memory) => return Err(ScriptFault::Memory),
+        },
+        ScriptLine::Restore { pick, map } => {
+            restore_answer(session.restore(alloc, pick.unwrap_or(Pick::Old), map))
+        }
         ScriptLine::Write(write) => write_answer(session.write(write)),
         ScriptLine::Read { line } => read_answer(line, session.read(line)),
+        ScriptLine::Work { channel, .. } => work_answer(channel, session.work(channel)),
         ScriptLine::Save => save_answer(session.save()),
         ScriptLine::Step => step_answer(session.step()),
-        ScriptLine::Sense { level } => level_answer(session.sense(level)),
+        ScriptLine::Sense { level } => {
+            let (reading, mode) = session.sense(level);
+            Answer::Level { reading, mode }
+        }
         ScriptLine::Arm => arm_answer(session.arm()),
         ScriptLine::Disarm => disarm_answer(session.disarm()),
         ScriptLine::Lose => loss_answer(session.lose()),
@@ -164,6 +189,5 @@ where
         ScriptLine::Mark => Answer::Mark {
             mark: session.mark(),
         },
-        _ => return None,
     })
 }

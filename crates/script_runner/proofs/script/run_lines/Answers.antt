@@ -1,13 +1,18 @@
-use Rattle.std.proofs.Common.{get_or, sym, subst}
-use Rattle.std.proofs.lemmas.List.Elements.{All-get_or}
+use Rattle.std.proofs.Common.{refl, sym, subst, All}
+use Rattle.ddr4_timing.specs.Limits.{lines_of}
 use Rattle.nv_profile.specs.declared.profile.Profile.{Profile}
 use Rattle.nv_script.specs.Line.{NamesChannelOf}
-use Rattle.nv_script.specs.declared.line.ScriptLine.TheVariants.{Format}
+use Rattle.script_runner.specs.Story.{AreCutShort}
+use Rattle.script_runner.proofs.Results.{if_err_so}
+use Rattle.script_runner.proofs.Stories.{cut_first}
 use Rattle.script_runner.proofs.script.run_lines.Goals as goal
 
-pub answer_line-requires-clause-line : goal.answer_line-requires-clause-line
-answer_line-requires-clause-line g c =
-    let lines = c.args.lines.now in let index = c.loop-line.line-index in
-    let Names : Profile → Type 0 = λ profile. NamesChannelOf profile.checked.geometry (get_or lines index Format) in
-    subst Names (sym c.loop-line.invariant)
-    (All-get_or (NamesChannelOf c.args.profile.now.checked.geometry) lines index Format c.loop-line-test.true c.requires.lines)
+pub returns-in_err-session-clause-cut : goal.returns-in_err-session-clause-cut
+returns-in_err-session-clause-cut g c =
+    let lines = lines_of c.args.profile.now.checked.geometry in let said = g.R.Report.answers c.args.report.now in
+    if_err_so c.from_residual.result (AreCutShort lines c.args.lines.now said said) (cut_first lines c.args.lines.now said said refl)
+
+pub answer_lines-requires-clause-names : goal.answer_lines-requires-clause-names
+answer_lines-requires-clause-names g c =
+    let Names : Profile → Type 0 = λ profile. All (NamesChannelOf profile.checked.geometry) c.args.lines.now in
+    subst Names (sym c.in_ok-session.ensures.profile) c.requires.lines

@@ -1,0 +1,125 @@
+-- What a session holds of what is known, after an answer.
+use Rattle.std.proofs.Common.{◌≡◌, ◌∙◌, ℕ, ◌+◌, ◌-◌, ◌≤◌, List, ◌++◌, length, take, Option, Some, None, refl, sym, ap, subst, arith}
+use Rattle.std.specs.Prelude.{unwrap_or}
+use Rattle.std.specs.Option.{option_map}
+use Rattle.std.proofs.Math.Nat.{max-le}
+use Rattle.std.proofs.Math.Seq.{take-append-add}
+use Rattle.std.proofs.lemmas.List.{append-nil, append_assoc, length-append, length-take-le}
+use Rattle.std.proofs.lemmas.List.Sums.{fold-append}
+use Rattle.std.proofs.lemmas.Option.{none-some}
+use Rattle.line_memory.specs.declared.Write.{Write}
+use Rattle.line_memory.specs.Memory.{after, after_write, zero_lines}
+use Rattle.save_image.specs.Image.{Image}
+use Rattle.save_device.specs.Device.{DeviceState}
+use Rattle.line_channels.specs.declared.channels.Channels.{Ghosts}
+use Rattle.module_core.specs.declared.opening.Opened.{Opened}
+use Rattle.module_core.specs.State.{Machine, all_of, memory_of, start_of_life}
+use Rattle.module_core.specs.Guard.{IsPrefix}
+use Rattle.module_core.specs.Opening.{new_life}
+use Rattle.nv_session.specs.declared.life.Life.{Life}
+use Rattle.nv_session.specs.Living.{LifeStands}
+use Rattle.nv_script.specs.declared.line.ScriptLine.{ScriptLine}
+use Rattle.nv_script.specs.declared.answer.Answer.{Answer}
+use Rattle.script_runner.specs.Ledger.{Ledger, memory_by, told_by, accepted_by, grown, first_of, known_behind, IsTrueBy, IsOfLine}
+use Rattle.script_runner.specs.Keeping.{IsKeptBy, Bears, TellsTruly, AnswersTruly}
+
+-- a machine that has accepted the ledger's writes has accepted as many, and its memory is the one after them
+pub kept_all : (lines : ℕ) (ledger : Ledger) (m : Machine) → IsKeptBy lines ledger m → length ledger.writes ≡ all_of m
+kept_all lines ledger m kept =
+    let size = ap length kept.writes ∙ length-append kept.before m.life.writes in omega (arith, size, kept.start)
+
+pub kept_memory : (lines : ℕ) (ledger : Ledger) (m : Machine) → IsKeptBy lines ledger m → memory_of m ≡ memory_by lines ledger
+kept_memory lines ledger m kept =
+    ap (λ (memory : List (List ℕ)). after memory m.life.writes) kept.base ∙ sym (fold-append after_write (zero_lines lines) kept.before m.life.writes)
+    ∙ ap (λ (writes : List Write). after (zero_lines lines) writes) (sym kept.writes)
+
+-- it goes on with the writes that an answer adds
+kept_on : (lines : ℕ) (ledger : Ledger) (m n : Machine) (asked : ScriptLine) (given : Answer) → IsKeptBy lines ledger m → n.life.opened ≡ m.life.opened
+    → n.life.writes ≡ m.life.writes ++ accepted_by asked given → m.life.persisted ≤ n.life.persisted → told_by given ≤ n.life.persisted → IsKeptBy lines (grown asked given ledger) n
+kept_on lines ledger m n asked given kept opened writes rises told = record {
+  before = kept.before;
+  writes = ap (λ (ws : List Write). ws ++ accepted_by asked given) kept.writes ∙ append_assoc kept.before m.life.writes (accepted_by asked given)
+      ∙ ap (λ (ws : List Write). kept.before ++ ws) (sym writes);
+  start = ap (λ (i : Image). i.count) opened ∙ kept.start;
+  base = ap (λ (i : Image). i.memory) opened ∙ kept.base;
+  told = max-le (omega (arith, kept.told, rises)) told;
+}
+
+-- a new life began with a prefix of its writes
+pub first_kept : (lines : ℕ) (ledger : Ledger) (m : Machine) (found : Opened) (image : Image) (count : ℕ) → IsKeptBy lines ledger m → count ≡ image.count → IsPrefix m image
+    → IsKeptBy lines (first_of count ledger) (new_life found image)
+first_kept lines ledger m found image count kept is prefix =
+    let all = kept_all lines ledger m kept in
+    let few : count ≤ length ledger.writes = omega (arith, all, is, prefix.to) in
+    let over : ℕ = image.count - start_of_life m.life in
+    let seam : count ≡ length kept.before + over = omega (arith, is, kept.start, prefix.from) in
+    let taken : take count ledger.writes ≡ kept.before ++ take over m.life.writes =
+    ap (λ (n : ℕ). take n ledger.writes) seam ∙ ap (λ (ws : List Write). take (length kept.before + over) ws) kept.writes ∙ take-append-add kept.before m.life.writes over in
+    record {
+      before = take count ledger.writes;
+      writes = sym (append-nil (take count ledger.writes));
+      start = sym is ∙ sym (length-take-le count ledger.writes few);
+      base = prefix.memory ∙ ap (λ (memory : List (List ℕ)). after memory (take over m.life.writes)) kept.base
+          ∙ sym (fold-append after_write (zero_lines lines) kept.before (take over m.life.writes)) ∙ ap (λ (ws : List Write). after (zero_lines lines) ws) (sym taken);
+      told = omega (arith, is);
+    }
+
+-- a ledger that is known is the one
+pub the_ledger : (ledger other : Ledger) → Some ledger ≡ Some other → ledger ≡ other
+the_ledger ledger other is = ap (λ (known : Option Ledger). unwrap_or known ledger) is
+
+module _ {C D : Type 0} (L : Ghosts C) (M : Ghosts D) where
+  -- What an answer to a line comes to where the life stood for a machine.
+  pub record GoneOn (asked : ScriptLine) (given : Answer) (m : Machine) (life' : Option (Life C D L M)) (device' : DeviceState) : Type 0 where
+    pub it : Life C D L M
+    pub runs : life' ≡ Some it
+    pub n : Machine
+    pub stands : LifeStands L M it device' n
+    pub opened : n.life.opened ≡ m.life.opened
+    pub writes : n.life.writes ≡ m.life.writes ++ accepted_by asked given
+    pub rises : m.life.persisted ≤ n.life.persisted
+    pub told : told_by given ≤ n.life.persisted
+    pub most : n.life.persisted ≤ all_of n
+    pub holds : (lines : ℕ) (ledger : Ledger) → IsKeptBy lines ledger m → IsTrueBy lines given ledger
+
+  -- the same of each machine that it may have stood for
+  abbrev pub GoesOnWith : ScriptLine → Answer → Option (Life C D L M) → DeviceState → Option (Life C D L M) → DeviceState → Type 0
+  GoesOnWith asked given life device life' device' = (it : Life C D L M) (m : Machine) → life ≡ Some it → LifeStands L M it device m → GoneOn asked given m life' device'
+
+  grown_truly : (lines : ℕ) (asked : ScriptLine) (given : Answer) (life life' : Option (Life C D L M)) (device device' : DeviceState) (ledger : Ledger) → IsOfLine asked given
+      → known_behind asked given (Some ledger) ≡ Some (grown asked given ledger) → GoesOnWith asked given life device life' device' → Bears L M lines ledger life device
+      → TellsTruly L M lines asked given (Some ledger) life' device'
+  grown_truly lines asked given life life' device device' ledger of behind goes bears =
+      let gone : GoneOn asked given bears.m life' device' = goes bears.it bears.m bears.runs bears.stands in
+      let kept : IsKeptBy lines (grown asked given ledger) gone.n = kept_on lines ledger bears.m gone.n asked given bears.kept gone.opened gone.writes gone.rises gone.told in
+      let borne : Bears L M lines (grown asked given ledger) life' device' = record { it = gone.it; runs = gone.runs; m = gone.n; stands = gone.stands; kept = kept } in
+      let most : told_by given ≤ length (grown asked given ledger).writes = omega (arith, kept_all lines (grown asked given ledger) gone.n kept, gone.told, gone.most) in
+      let same : (other : Ledger) → known_behind asked given (Some ledger) ≡ Some other → grown asked given ledger ≡ other = λ other is. the_ledger (grown asked given ledger) other (sym behind ∙ is) in
+      record {
+        holds = record {
+          of = of;
+          holds = λ other is. subst (λ (l : Ledger). IsTrueBy lines given l) (the_ledger ledger other is) (gone.holds lines ledger bears.kept);
+          within = λ other is. subst (λ (l : Ledger). told_by given ≤ length l.writes) (same other is) most;
+        };
+        bears = λ other is. subst (λ (l : Ledger). Bears L M lines l life' device') (same other is) borne;
+      }
+
+  -- where nothing was known an answer tells nothing to be borne out
+  pub nothing_known : (lines : ℕ) (asked : ScriptLine) (given : Answer) (life' : Option (Life C D L M)) (device' : DeviceState) → IsOfLine asked given
+      → known_behind asked given None ≡ None → TellsTruly L M lines asked given None life' device'
+  nothing_known lines asked given life' device' of behind = record {
+    holds = record {
+      of = of;
+      holds = λ other is. absurd (none-some other is);
+      within = λ other is. absurd (none-some other (sym behind ∙ is));
+    };
+    bears = λ other is. absurd (none-some other (sym behind ∙ is));
+  }
+
+  -- an answer after which what was known has grown
+  pub goes_truly : (lines : ℕ) (asked : ScriptLine) (given : Answer) (life life' : Option (Life C D L M)) (device device' : DeviceState) → IsOfLine asked given
+      → ((known : Option Ledger) → known_behind asked given known ≡ option_map (grown asked given) known) → GoesOnWith asked given life device life' device'
+      → AnswersTruly L M lines asked given life device life' device'
+  goes_truly lines asked given life life' device device' of behind goes None bears = nothing_known lines asked given life' device' of (behind None)
+  goes_truly lines asked given life life' device device' of behind goes (Some ledger) bears =
+      grown_truly lines asked given life life' device device' ledger of (behind (Some ledger)) goes (bears ledger refl)

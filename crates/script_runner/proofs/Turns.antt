@@ -1,0 +1,93 @@
+-- The answers to one line, one more at a time.
+use Rattle.std.proofs.Common.{◌≡◌, ◌∙◌, ℕ, ◌+◌, ◌<◌, true, false, List, [], ◌∷◌, ◌++◌, Option, refl, sym, ap, subst, inl, inr, arith}
+use Rattle.std.proofs.lemmas.List.{append-nil, append_assoc, length-append}
+use Rattle.std.proofs.lemmas.List.Elements.{All-append, All-cons, All-nil}
+use Rattle.std.proofs.lemmas.List.Sums.{fold-append}
+use Rattle.save_device.specs.Device.{DeviceState}
+use Rattle.line_channels.specs.declared.channels.Channels.{Ghosts}
+use Rattle.nv_session.specs.declared.life.Life.{Life}
+use Rattle.nv_script.specs.declared.line.ScriptLine.{ScriptLine}
+use Rattle.nv_script.specs.declared.answer.Answer.{Answer}
+use Rattle.script_runner.specs.Ledger.{Ledger, known_behind, IsTrueOf}
+use Rattle.script_runner.specs.Story.{TakesTurns, AreTrueOf, known_behind_all, turns_of, is_busy}
+use Rattle.script_runner.specs.Keeping.{BearsOut, TellsTruly, AnswersTruly, AnswersPart, AnswersLine, AnswersTurns, AnswersWhole}
+
+-- one true answer more
+pub true_push : (lines : ℕ) (known : Option Ledger) (asked : ScriptLine) (given : List Answer) (answer : Answer) → AreTrueOf lines known asked given
+    → IsTrueOf lines (known_behind_all asked given known) asked answer → AreTrueOf lines known asked (given ++ answer ∷ [])
+true_push lines known asked [] answer so_far next = (next, tt)
+true_push lines known asked (first ∷ given) answer so_far next = (so_far.0, true_push lines (known_behind asked first known) asked given answer so_far.1 next)
+
+pub known_push : (asked : ScriptLine) (given : List Answer) (answer : Answer) (known : Option Ledger)
+    → known_behind_all asked (given ++ answer ∷ []) known ≡ known_behind asked answer (known_behind_all asked given known)
+known_push asked given answer known = fold-append (λ (k : Option Ledger) (a : Answer). known_behind asked a k) known given (answer ∷ [])
+
+module _ {C D : Type 0} (L : Ghosts C) (M : Ghosts D) (lines : ℕ) (asked : ScriptLine) where
+  abbrev pub line_grows : (answer : Answer) (old mid new : List Answer) (life life' life'' : Option (Life C D L M)) (device device' device'' : DeviceState)
+      → AnswersLine L M lines asked old mid life device life' device' → AnswersTruly L M lines asked answer life' device' life'' device'' → new ≡ mid ++ answer ∷ []
+      → AnswersLine L M lines asked old new life device life'' device''
+  line_grows answer old mid new life life' life'' device device' device'' line truly more =
+      let given : List Answer = line.part.given in
+      let next : (known : Option Ledger) → BearsOut L M lines known life device → TellsTruly L M lines asked answer (known_behind_all asked given known) life'' device'' =
+      λ known bears. truly (known_behind_all asked given known) (line.keeps known bears) in
+      record {
+        part = record {
+          given = given ++ answer ∷ [];
+          grown_by = more ∙ ap (λ (list : List Answer). list ++ answer ∷ []) line.part.grown_by ∙ append_assoc old given (answer ∷ []);
+          holds = λ known bears. true_push lines known asked given answer (line.part.holds known bears) (next known bears).holds;
+        };
+        keeps = λ known bears. subst (λ (k : Option Ledger). BearsOut L M lines k life'' device'') (sym (known_push asked given answer known)) (next known bears).bears;
+      }
+
+  pub turns_begin : (old : List Answer) (life : Option (Life C D L M)) (device : DeviceState) → AnswersTurns L M lines 0 asked old old life device life device
+  turns_begin old life device = record {
+    line = record {
+      part = record { given = []; grown_by = sym (append-nil old); holds = λ known bears. tt };
+      keeps = λ known bears. bears;
+    };
+    taken = record { busy = All-nil (λ (answer : Answer). is_busy answer ≡ true); count = refl };
+  }
+
+  pub turns_grow : (other : ℕ) → other ≡ lines → (turns : ℕ) (answer : Answer) (old mid new : List Answer) {life life' life'' : Option (Life C D L M)} {device device' device'' : DeviceState}
+      → AnswersTurns L M lines turns asked old mid life device life' device' → AnswersTruly L M other asked answer life' device' life'' device'' → new ≡ mid ++ answer ∷ [] → is_busy answer ≡ true
+      → AnswersTurns L M lines (turns + 1) asked old new life device life'' device''
+  turns_grow other same turns answer old mid new {life} {life'} {life''} {device} {device'} {device''} so_far truly more busy =
+      let given : List Answer = so_far.line.part.given in
+      let IsBusy : Answer → Type 0 = λ answer. is_busy answer ≡ true in
+      record {
+        line = line_grows answer old mid new life life' life'' device device' device'' so_far.line (subst (λ (n : ℕ). AnswersTruly L M n asked answer life' device' life'' device'') same truly) more;
+        taken = record {
+          busy = All-append IsBusy given (answer ∷ []) so_far.taken.busy (All-cons IsBusy answer [] busy (All-nil IsBusy));
+          count = let size = length-append given (answer ∷ []) in omega (arith, size, so_far.taken.count);
+        };
+      }
+
+  pub turns_end : (turns : ℕ) (old new : List Answer) {life life' : Option (Life C D L M)} {device device' : DeviceState}
+      → AnswersTurns L M lines turns asked old new life device life' device' → turns ≡ turns_of asked → AnswersWhole L M lines asked old new life device life' device'
+  turns_end turns old new so_far all = record {
+    line = so_far.line;
+    whole = inl (subst (λ (n : ℕ). TakesTurns n so_far.line.part.given) all so_far.taken);
+  }
+
+  pub turns_idle : (other : ℕ) → other ≡ lines → (turns : ℕ) (answer : Answer) (old mid new : List Answer) {life life' life'' : Option (Life C D L M)} {device device' device'' : DeviceState}
+      → AnswersTurns L M lines turns asked old mid life device life' device' → AnswersTruly L M other asked answer life' device' life'' device'' → new ≡ mid ++ answer ∷ [] → is_busy answer ≡ false
+      → turns < turns_of asked → AnswersWhole L M lines asked old new life device life'' device''
+  turns_idle other same turns answer old mid new {life} {life'} {life''} {device} {device'} {device''} so_far truly more idle early = record {
+    line = line_grows answer old mid new life life' life'' device device' device'' so_far.line (subst (λ (n : ℕ). AnswersTruly L M n asked answer life' device' life'' device'') same truly) more;
+    whole = inr (record {
+      before = so_far.line.part.given;
+      last = answer;
+      is = refl;
+      idle = idle;
+      busy = so_far.taken.busy;
+      early = omega (arith, so_far.taken.count, early);
+    });
+  }
+
+  pub turns_cut : (turns : ℕ) (old mid new : List Answer) {life life' : Option (Life C D L M)} {device device' : DeviceState}
+      → AnswersTurns L M lines turns asked old mid life device life' device' → new ≡ mid → AnswersPart L M lines asked old new life device
+  turns_cut turns old mid new so_far same = record {
+    given = so_far.line.part.given;
+    grown_by = same ∙ so_far.line.part.grown_by;
+    holds = so_far.line.part.holds;
+  }
