@@ -18,3 +18,9 @@ new-xor_map-requires g c =
       closures_by_xor geometry checked.is_small checked.is_geometry (search rules)
           (record { callable = search rules; value = search rules; only = search rules }),
     )
+
+pub returns-clause-answered : goal.returns-clause-answered
+returns-clause-answered g c = c.run_lines.ensures.answered
+
+pub returns-clause-cut : goal.returns-clause-cut
+returns-clause-cut g c = c.run_lines.ensures.cut
