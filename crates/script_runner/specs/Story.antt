@@ -5,6 +5,8 @@ use Rattle.nv_script.specs.declared.line.ScriptLine.{ScriptLine}
 use Rattle.nv_script.specs.declared.line.ScriptLine.TheVariants as line
 use Rattle.nv_script.specs.declared.answer.Answer.{Answer}
 use Rattle.nv_script.specs.declared.answer.Answer.TheVariants as answer
+use Rattle.nv_script.specs.declared.reading.ScriptFault.{ScriptFault}
+use Rattle.nv_script.specs.declared.reading.ScriptFault.TheVariants as fault
 use Rattle.script_runner.specs.Ledger.{Ledger, known_behind, IsTrueOf}
 
 -- a line, and the answers to it
@@ -81,3 +83,9 @@ pub record AreNearlyAnswered (lines : ℕ) (asked : List ScriptLine) (old new : 
 pub record AreCutShort (lines : ℕ) (asked : List ScriptLine) (old new : List Answer) : Type 0 where
   pub run : ℕ
   pub nearly : AreNearlyAnswered lines (take run asked) old new
+
+-- the report or memory gave out
+abbrev pub GivesOut : ScriptFault → Type 0
+GivesOut fault.Writer = Unit {0}
+GivesOut fault.Memory = Unit {0}
+GivesOut (fault.Line number) = ⊥

@@ -4,7 +4,7 @@ ghost use Rattle.ddr4_timing.specs.Limits.{lines_of};
 ghost use Rattle.ddr4_timing.specs.Places.{LiesIn};
 ghost use Rattle.interleave_map.specs.Interleaving.{place_by_lines, line_by_lines, place_by_xor, line_by_xor};
 ghost use Rattle.nv_script.specs.Line.{NamesChannelOf};
-ghost use Rattle.script_runner.specs.Story.{AreAllAnswered, AreCutShort};
+ghost use Rattle.script_runner.specs.Story.{AreAllAnswered, AreCutShort, GivesOut};
 
 use crate::report::{Printer, Report};
 use crate::script::run_lines;
@@ -43,6 +43,7 @@ pub fn run_on_maps<R: Report>(
         lines.now (R.answers report.old) (R.answers report.new)) }
     ensures cut { IfErr result (λ fault. AreCutShort (lines_of profile.now.checked.geometry)
         lines.now (R.answers report.old) (R.answers report.new)) }
+    ensures fault { IfErr result GivesOut }
 {
     let checked = profile.checked;
     let split_lines = move |line: u64| -> Place

@@ -1,6 +1,7 @@
 // Where the answers to a script go.
 ghost use Rattle.std.specs.Prelude.{◌≡◌, List, [], ◌∷◌, ◌++◌, OnOk, IfErr};
 ghost use Rattle.nv_script.specs.declared.answer.Answer.{Answer};
+ghost use Rattle.script_runner.specs.Story.{GivesOut};
 
 use nv_script::{Answer, ScriptFault};
 use past::Past;
@@ -11,10 +12,11 @@ pub trait Report {
     /// The answers that were taken, the oldest first.
     ghost answers: { Self → List Answer };
 
-    /// Takes the next answer. Refused, it takes nothing: `Writer` is for one that couldn't be written.
+    /// Takes the next answer. Refused, it takes nothing: by `Writer` where it couldn't be written, by `Memory` for want of that.
     fn answer(&mut self, answer: Answer) -> Result<(), ScriptFault>
         ensures taken { OnOk result (answers self.new ≡ answers self.old ++ answer ∷ []) }
-        ensures refused { IfErr result (λ fault. answers self.new ≡ answers self.old) };
+        ensures refused { IfErr result (λ fault. answers self.new ≡ answers self.old) }
+        ensures fault { IfErr result GivesOut };
 }
 
 /// Writes each answer as a line.

@@ -3,7 +3,7 @@ ghost use Rattle.std.specs.Prelude.{◌≡◌, ◌<◌, IfErr, IfOk, OnOk, All};
 ghost use Rattle.ddr4_timing.specs.Limits.{lines_of};
 ghost use Rattle.interleave_map.specs.Inverse.{NamesPlaces};
 ghost use Rattle.nv_script.specs.Line.{NamesChannelOf};
-ghost use Rattle.script_runner.specs.Story.{AreAllAnswered, AreCutShort};
+ghost use Rattle.script_runner.specs.Story.{AreAllAnswered, AreCutShort, GivesOut};
 ghost use Rattle.script_runner.specs.Keeping.{AnswersTruly, AnswersPart, AnswersWhole};
 
 use crate::answers::{
@@ -46,6 +46,7 @@ pub fn run_lines<L: LineMap, X: LineMap, P: Places, Q: Places, R: Report>(
         lines.now (R.answers report.old) (R.answers report.new)) }
     ensures cut { IfErr result (λ fault. AreCutShort (lines_of profile.now.checked.geometry)
         lines.now (R.answers report.old) (R.answers report.new)) }
+    ensures fault { IfErr result GivesOut }
 {
     let by_lines: Wiring<'_, L, P> = Wiring::new(lines_map, profile);
     let by_xor: Wiring<'_, X, Q> = Wiring::new(xor_map, profile);
@@ -76,6 +77,7 @@ where
     ensures cut { IfErr result (λ fault. AreCutShort
         (lines_of session.old.profile.checked.geometry)
         lines.now (R.answers report.old) (R.answers report.new)) }
+    ensures fault { IfErr result GivesOut }
 {
     for line in lines {
         answer_line(alloc, session, *line, report)?;
@@ -125,6 +127,7 @@ where
         (lines_of session.old.profile.checked.geometry) line
         (R.answers report.old) (R.answers report.new)
         session.old.life (⟦<Fuse<MemoryDevice> as SaveDevice>⟧.state session.old.device)) }
+    ensures fault { IfErr result GivesOut }
     ensures profile { session.new.profile ≡ session.old.profile }
 {
     for _turn in 0..turns_of(line) {
@@ -155,6 +158,7 @@ where
         (lines_of session.old.profile.checked.geometry) line answer
         session.old.life (⟦<Fuse<MemoryDevice> as SaveDevice>⟧.state session.old.device)
         session.new.life (⟦<Fuse<MemoryDevice> as SaveDevice>⟧.state session.new.device)) }
+    ensures fault { IfErr result GivesOut }
     ensures profile { session.new.profile ≡ session.old.profile }
 {
     Ok(match line {
