@@ -7,7 +7,7 @@ ghost use Rattle.module_parts.specs.Lines.{HasPlaces};
 
 use crate::alone::{end_with_strangers, end_workers, lose_armed, save_by_hand, write_disarmed};
 use crate::silent::Silent;
-use crate::together::{crowd, lose_threads, work_apart};
+use crate::together::{lose_threads, work_apart};
 use ddr4_boards::{Ready, formatted, open};
 use ddr4_timing::place::Place;
 use ddr4_timing::profiles::{SMALL, TINY};
@@ -41,7 +41,6 @@ enum Case {
     Armed,
     Modes,
     Ends,
-    Crowd,
     Apart,
     Parted,
 }
@@ -108,10 +107,6 @@ where
     let Ok((board, mut hosts)) = ready.board::<B, Silent>(alloc, Silent) else {
         panic!(*rt; "memory");
     };
-    if case == Case::Crowd {
-        crowd(rt, alloc, board, hosts);
-        return;
-    }
     let host = hosts.pop().expect(rt, "a host");
     if case == Case::Apart {
         work_apart(rt, &board, host);
@@ -212,11 +207,6 @@ fn saves_by_hand_and_by_the_saver(rt: HostRuntime) {
 #[test]
 fn workers_end(rt: HostRuntime) {
     by_lines(&rt, rt.alloc(), small(&rt), Case::Ends);
-}
-
-#[test]
-fn four_hosts_at_once(rt: HostRuntime) {
-    by_lines(&rt, rt.alloc(), small(&rt), Case::Crowd);
 }
 
 #[test]

@@ -105,36 +105,3 @@ impl<C: Clock> Gate for OtherFirst<C> {
         Turn::Go
     }
 }
-
-/// How often a worker asks before it is stopped, where nobody stops it.
-const MOST: u64 = 100_000_000;
-
-/// Lets each worker go until it is told to stop.
-#[derive(Drop)]
-pub struct UntilStopped {
-    stopped: AtomicBool,
-}
-
-impl UntilStopped {
-    /// Before it is told.
-    pub(crate) fn new() -> UntilStopped {
-        UntilStopped {
-            stopped: AtomicBool::new(false),
-        }
-    }
-
-    /// From now on workers are stopped.
-    pub(crate) fn stop(&self) {
-        self.stopped.store(true, Ordering::SeqCst);
-    }
-}
-
-impl Gate for UntilStopped {
-    fn pass(&self, _worker: u64, turn: u64) -> Turn {
-        if turn >= MOST || self.stopped.load(Ordering::SeqCst) {
-            return Turn::Stop;
-        }
-        thread::yield_now();
-        Turn::Go
-    }
-}

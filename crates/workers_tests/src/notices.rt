@@ -1,5 +1,5 @@
 // Books from their first notice to its call. The expected values are worked out by hand.
-ghost use Rattle.std.specs.Prelude.{◌≡◌, ◌<◌, []};
+ghost use Rattle.std.specs.Prelude.{◌≡◌, ◌<◌, ℕ, []};
 ghost use Rattle.notice_book.specs.NoticeBooks.{entries_of};
 ghost use Rattle.notice_book.specs.Told.{IsCallableAbove};
 
@@ -9,6 +9,45 @@ use std::alloc::{AllocError, Global};
 use std::process::Abort;
 use std::sync::Arc;
 use std::sync::atomic::{AtomicU64, Ordering};
+
+// A notice that answers the mark.
+fn tells_mark<R: Abort>(rt: &R, alloc: Global) -> Notice
+    ensures { (number : ℕ) → IsCallableAbove (λ told. Notice.pre result told) number }
+{
+    Box::new(alloc, |told: Persisted| told.mark).expect(rt, "memory")
+}
+
+// A notice that answers its number.
+fn tells_number<R: Abort>(rt: &R, alloc: Global) -> Notice
+    ensures { (number : ℕ) → IsCallableAbove (λ told. Notice.pre result told) number }
+{
+    Box::new(alloc, |told: Persisted| told.number).expect(rt, "memory")
+}
+
+// A notice that answers how far the mark is above its number, and may be called only below it.
+fn tells_distance<R: Abort>(rt: &R, alloc: Global) -> Notice
+    ensures { (number : ℕ) → IsCallableAbove (λ told. Notice.pre result told) number }
+{
+    let notice: Notice = Box::new(
+        alloc,
+        |told: Persisted| -> u64
+            requires { told.number < told.mark }
+        { told.mark - told.number },
+    )
+    .expect(rt, "memory");
+    notice
+}
+
+// A notice that counts its call, and answers how many there were before.
+fn counts<R: Abort>(rt: &R, alloc: Global, calls: &Arc<AtomicU64>) -> Notice
+    ensures { (number : ℕ) → IsCallableAbove (λ told. Notice.pre result told) number }
+{
+    let counter = calls.clone().expect(rt, "memory");
+    let notice: Notice = Box::new(alloc, move |_| counter.fetch_add(1, Ordering::SeqCst)).expect(
+        rt, "memory",
+    );
+    notice
+}
 
 // Two notices fill a book, a third one comes back, and the two are called.
 fn fills<R: Abort>(
@@ -40,16 +79,8 @@ fn fills<R: Abort>(
 #[test]
 fn a_full_book_hands_the_notice_back(rt: HostRuntime) {
     let alloc = rt.alloc();
-    let first: Notice = Box::new(alloc, |told: Persisted| told.mark).expect(&rt, "memory");
-    let second: Notice = Box::new(alloc, |told: Persisted| told.number).expect(&rt, "memory");
-    let third: Notice = Box::new(
-        alloc,
-        |told: Persisted| -> u64
-            requires { told.number < told.mark }
-        { told.mark - told.number },
-    )
-    .expect(&rt, "memory");
-    let (mut book, back) = fills(&rt, alloc, first, second, third);
+    let (first, second) = (tells_mark(&rt, alloc), tells_number(&rt, alloc));
+    let (mut book, back) = fills(&rt, alloc, first, second, tells_distance(&rt, alloc));
     same(&rt, book.register(2, back).is_ok(), true);
     same(&rt, book.len(), 1);
     answered(&rt, book.deliver(alloc, 5), &[(2, 3)]);
@@ -67,11 +98,7 @@ fn a_mark_calls_those_below_it(rt: HostRuntime) {
     let mut book = NoticeBook::with_room(alloc, 4).expect(&rt, "memory");
     let calls = Arc::new(alloc, AtomicU64::new(0)).expect(&rt, "memory");
     for number in [3, 0, 2, 1] {
-        let counter = calls.clone().expect(&rt, "memory");
-        let notice: Notice = Box::new(
-            alloc,
-            move |_| counter.fetch_add(1, Ordering::SeqCst),
-        ).expect(&rt, "memory");
+        let notice = counts(&rt, alloc, &calls);
         same(&rt, book.insert(number, notice).is_ok(), true);
     }
     answered(&rt, book.deliver(alloc, 0), &[]);
@@ -103,8 +130,6 @@ fn inserts<R: Abort>(rt: &R, alloc: Global, first: Notice, second: Notice, third
 #[test]
 fn an_insert_is_refused_by_its_reason(rt: HostRuntime) {
     let alloc = rt.alloc();
-    let first: Notice = Box::new(alloc, |told: Persisted| told.mark).expect(&rt, "memory");
-    let second: Notice = Box::new(alloc, |told: Persisted| told.number).expect(&rt, "memory");
-    let third: Notice = Box::new(alloc, |told: Persisted| told.number).expect(&rt, "memory");
-    inserts(&rt, alloc, first, second, third);
+    let (first, second) = (tells_mark(&rt, alloc), tells_number(&rt, alloc));
+    inserts(&rt, alloc, first, second, tells_number(&rt, alloc));
 }
