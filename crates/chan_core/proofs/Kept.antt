@@ -99,17 +99,6 @@ map-from f (x ∷ xs) (suc k) y at = map-from f xs k y at
 pub refuted : {A : Type 0} (b : Bool) → (IsTrue b ↔ A) → b ≡ false → ¬ A
 refuted b tells is a = let t : b ≡ true = tells.1 a in absurd cc
 
--- f does to each element of one list what g does to that of the other
-pub map_both : {X Y Z : Type 0} (f : X → Z) (g : Y → Z) (xs : List X) (ys : List Y) → length xs ≡ length ys → ((k : ℕ) (x : X) (y : Y) → slice_get xs k ≡ Some x → slice_get ys k ≡ Some y → f x ≡ g y) → map f xs ≡ map g ys
-map_both f g [] [] size same = refl
-map_both f g [] (y ∷ ys) size same = absurd (omega (arith, size))
-map_both f g (x ∷ xs) [] size same = absurd (omega (arith, size))
-map_both f g (x ∷ xs) (y ∷ ys) size same = let head : f x ≡ g y = same zero x y refl refl in rw head (ap (λ rest. g y ∷ rest) (map_both f g xs ys (omega (arith, size)) (λ k a b s t. same (suc k) a b s t)))
-
-pub map_twice : {X Y Z : Type 0} (f : Y → Z) (g : X → Y) (xs : List X) → map (λ x. f (g x)) xs ≡ map f (map g xs)
-map_twice f g [] = refl
-map_twice f g (x ∷ xs) = ap (λ rest. f (g x) ∷ rest) (map_twice f g xs)
-
 -- what is kept doesn't see the change of each element
 pub filter_map-unseen : {X Y : Type 0} (h : X → Option Y) (f : X → X) → ((x : X) → h (f x) ≡ h x) → (xs : List X) → filter_map h (map f xs) ≡ filter_map h xs
 filter_map-unseen h f same [] = refl

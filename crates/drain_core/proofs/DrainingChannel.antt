@@ -23,7 +23,7 @@ use Rattle.chan_core.specs.declared.phase.Phase.TheVariants.{Asleep}
 use Rattle.drain_core.specs.declared.steps.StepEnd.{StepEnd}
 use Rattle.drain_core.specs.Drain.{Progress, drain_start, close_step_of, entry_step_of, entry_steps_of, after_self_refresh, drain_of, drain_commands, drain_clocks, drain_spent}
 use Rattle.drain_core.specs.Standing.{CanDrain}
-use Rattle.drain_core.specs.Steps.{EntersOldest, GoesTo, IsEarly, IsStepped, IssuesFor, MayEnter, TakesOldest, commands_cost, drain_of_channel, drain_start_of, drained, pending_places, progress_of, clocks_of, most_clocks, spent_by}
+use Rattle.drain_core.specs.Steps.{EntersOldest, GoesTo, IsStepped, IssuesFor, MayEnter, TakesOldest, commands_cost, drain_of_channel, drain_start_of, drained, pending_places, progress_of, clocks_of, most_clocks, spent_by}
 use Rattle.drain_core.proofs.Parts.{issues_then, takes_then, takes_checked}
 use Rattle.drain_core.proofs.PendingPlaces.{all_lie, placed_length, places_length}
 use Rattle.drain_core.proofs.ClocksRise.{drain_rises}
@@ -65,10 +65,6 @@ draining_first n first now end few goes enter clock cost =
           (sum_small end.clock (drain_start first.commands) e (close_of c.timing c.geometry) c.geometry.ranks c.timing.t_refi (length (pending_places first)) clock c.fits_entry c.in_limits.t_refi.1 few (grind (arith, mul-le-mul_left e few)));
       spent = subst (λ (k : ℕ). end.cost + k * 7000000 ≤ 452000000) (sym (ap length places)) (cost_small end.cost (length (pending_places first)) cost few);
     }
-
--- it may go on
-pub draining_early : (n : CostNumbers) (first now : ChannelState) (end : StepEnd) → CanDrain first.checked first.commands → IsDraining n first now end → IsEarly end.clock
-draining_early n first now end can i = omega (arith, i.clocks, can.early)
 
 one_less : (a b k e most : ℕ) → a + suc k * e ≤ most → b ≤ a + e → b + k * e ≤ most
 one_less a b k e most h l = omega (arith, h, l)

@@ -2,10 +2,9 @@
 use Rattle.std.proofs.Common.{◌≡◌, ℕ, ◌<◌, List, Option, Some, None, inl, inr, sym}
 use Rattle.std.specs.Prelude.{is_some}
 use Rattle.std.proofs.lemmas.Bool.{cases_Bool}
-use Rattle.ddr4_timing.specs.declared.command.Command.TheVariants.{PreAll, Sre}
+use Rattle.ddr4_timing.specs.declared.command.Command.TheVariants.{PreAll}
 use Rattle.ddr4_timing.specs.declared.command.Stamped.{Stamped}
 use Rattle.ddr4_timing.specs.declared.timing.Checked.{Checked}
-use Rattle.ddr4_timing.specs.Lawful.{AllClosed}
 use Rattle.chan_core.specs.Phases.{AreAwake}
 use Rattle.chan_core.specs.Singles.{IsEarliest}
 use Rattle.drain_core.specs.Drain.{has_open_bank}
@@ -23,7 +22,3 @@ tells_open_bank c list rank (Some clock) within awake e =
       | inl some ↦ sym some
       | inr none ↦ absurd (e.0.rows (has_open_bank-false c.geometry rank list none))
     ]
-
--- an SRE may go where none is
-pub no_sleep : (c : Checked) (list : List Stamped) (rank : ℕ) → rank < c.geometry.ranks → AreAwake c list → AllClosed c.geometry rank list → IsEarliest c list (Sre rank) None → ⊥
-no_sleep c list rank within awake closed e = e.0 (record { place = within; awake = awake rank within; rows = closed })

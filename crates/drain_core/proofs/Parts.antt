@@ -1,7 +1,6 @@
 -- One part of a drain behind another.
 use Rattle.std.proofs.Common.{◌≡◌, ℕ, zero, suc, ◌+◌, List, [], ◌∷◌, ◌++◌, append_assoc, take, drop, arith, refl, sym, ap, subst, ◌∙◌}
 use Rattle.std.specs.Prelude.{max}
-use Rattle.std.proofs.lemmas.List.{append-nil}
 use Rattle.std.proofs.lemmas.List.Sums.{sum_by-append}
 use Rattle.ddr4_timing.specs.declared.command.Command.{Command}
 use Rattle.ddr4_timing.specs.declared.command.Stamped.{Stamped}
@@ -19,9 +18,6 @@ use Rattle.drain_core.specs.Steps.{GoesNext, GoesTo, IssuesFor, TakesOldest, pro
 
 -- commands
 
-pub issues_nothing : (n : CostNumbers) (list : List Stamped) → IssuesFor n 0 list list
-issues_nothing n list = record { commands = []; list = sym (append-nil list); is = refl }
-
 pub issues_then : (n : CostNumbers) (first second : ℕ) (old mid new : List Stamped) → IssuesFor n first old mid → IssuesFor n second mid new → IssuesFor n (first + second) old new
 issues_then n first second old mid new i j = record {
   commands = i.commands ++ j.commands;
@@ -34,9 +30,6 @@ unfolding with_earliest
 issues_one n t cmd p = record { commands = _; list = refl; is = omega arith }
 
 -- writes
-
-pub takes_nothing : (s : ChannelState) → TakesOldest 0 s s
-takes_nothing s = record { same = refl; placed = refl }
 
 drop_drop : {X : Type 0} (a b k : ℕ) (xs : List X) → k ≡ a + b → drop b (drop a xs) ≡ drop k xs
 drop_drop zero b k xs e = ap (λ (n : ℕ). drop n xs) (let l : b ≡ k = omega (arith, e) in l)
@@ -79,9 +72,6 @@ pub takes_checked : (count : ℕ) (old new : ChannelState) → TakesOldest count
 takes_checked count old new i = ap (λ (s : ChannelState). s.checked) i.same
 
 -- both
-
-pub goes_nowhere : (n : CostNumbers) (s : ChannelState) (clock : ℕ) → GoesTo n (progress_of s clock) 0 s s (record { clock = clock; cost = 0 })
-goes_nowhere n s clock = record { progress = refl; cost = issues_nothing n s.commands; takes = takes_nothing s }
 
 pub goes_then : (n : CostNumbers) (p : Progress) (a k : ℕ) (cmd : Command) (old mid new : ChannelState) (before after : StepEnd) → k ≡ a + writes_by cmd → GoesTo n p a old mid before → GoesNext n cmd mid new before after →
     GoesTo n (with_earliest old.checked.timing cmd p) k old new after

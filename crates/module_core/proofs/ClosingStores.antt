@@ -43,16 +43,6 @@ stage_at lines s made (suc i) = let at = after_steps lines s made i in stage_nex
 abbrev pub running : Option RunningSave → Store → Store
 running save s = record s { saving = save }
 
-pub stepped_running : (save : Option RunningSave) (s : Store) (made : Image) (next : Step) → stepped (running save s) made next ≡ running save (stepped s made next)
-stepped_running save s made Close = refl
-stepped_running save s made SyncClosed = refl
-stepped_running save s made Header = refl
-stepped_running save s made (Page k) = refl
-stepped_running save s made SyncBody = refl
-stepped_running save s made Open = refl
-stepped_running save s made SyncOpen = refl
-stepped_running save s made Done = refl
-
 pub failed_running : (save : Option RunningSave) (s : Store) (made : Image) (next : Step) → step_failed (running save s) made next ≡ step_failed s made next
 failed_running save s made Close = refl
 failed_running save s made SyncClosed = refl

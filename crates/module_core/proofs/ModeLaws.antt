@@ -24,14 +24,6 @@ armed_backed Stranded is = refl
 armed_backed Closing is = absurd (let bad : ⊥ = cc in bad)
 armed_backed Saved is = absurd (let bad : ⊥ = cc in bad)
 
-pub armed_disarms : (mode : Mode) → is_armed mode ≡ true → is_disarming mode ≡ false
-armed_disarms Armed is = refl
-armed_disarms Disarmed is = refl
-armed_disarms Disarming is = absurd (let bad : ⊥ = cc in bad)
-armed_disarms Stranded is = absurd (let bad : ⊥ = cc in bad)
-armed_disarms Closing is = refl
-armed_disarms Saved is = refl
-
 -- a mode of a module that runs is backed where it is armed or disarming
 pub unbacked : (mode : Mode) → is_armed mode ≡ false → is_disarming mode ≡ false → is_backed mode ≡ false
 unbacked Armed off calm = absurd (let bad : ⊥ = cc in bad)

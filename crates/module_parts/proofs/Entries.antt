@@ -7,9 +7,8 @@ use Rattle.chan_core.specs.Always.{IsHeld}
 use Rattle.chan_core.specs.State.{ChannelState, placed_writes}
 use Rattle.drain_core.specs.declared.steps.StepEnd.{StepEnd}
 use Rattle.drain_core.specs.Drain.{after_self_refresh, close_step_of, entry_step_of}
-use Rattle.drain_core.specs.Standing.{CanDrain}
-use Rattle.drain_core.specs.Steps.{EntersOldest, GoesTo, IsEarly, MayEnter, TakesOldest, closed_by, drain_start_of, entered_by, progress_of}
-use Rattle.drain_core.proofs.DrainingChannel.{IsDraining, draining_early, draining_first, draining_next, few_places}
+use Rattle.drain_core.specs.Steps.{EntersOldest, GoesTo, MayEnter, TakesOldest, closed_by, drain_start_of, entered_by, progress_of}
+use Rattle.drain_core.proofs.DrainingChannel.{IsDraining, draining_first, draining_next, few_places}
 use Rattle.drain_core.proofs.Parts.{takes_then}
 
 -- So many entries of a channel's drain were made, and the next may begin at the clock.
@@ -26,9 +25,6 @@ entering-first n first now end held goes enter clocks cost = record {
   draining = draining_first n first now end (few_places first held) goes enter clocks cost;
   takes = goes.takes;
 }
-
-pub entering-early : (n : CostNumbers) (first now : ChannelState) (clock count : ℕ) → CanDrain first.checked first.commands → IsEntering n first now clock count → IsEarly clock
-entering-early n first now clock count can i = draining_early n first now (record { clock = clock; cost = i.cost }) can i.draining
 
 -- after one more entry
 pub entering-next : (n : CostNumbers) (first now new : ChannelState) (clock count more : ℕ) (entry : StepEnd) (number : ℕ) (place : Place) (rest : List (ℕ × Place)) → more ≡ count + 1 → IsEntering n first now clock count

@@ -6,8 +6,8 @@ use Rattle.line_channels.specs.declared.channels.Channels.{Ghosts}
 use Rattle.module_core.specs.declared.module.Module.{Module}
 use Rattle.module_core.specs.declared.events.Event.{Event}
 use Rattle.module_core.specs.declared.events.Reply.{Reply}
-use Rattle.module_core.specs.Stands.{Answers, AnswersAlone, point_of}
-use Rattle.nv_session.specs.Coming.{Comes, ComesAlone}
+use Rattle.module_core.specs.Stands.{Answers, point_of}
+use Rattle.nv_session.specs.Coming.{Comes}
 use Rattle.nv_session.specs.Living.{IsOneEvent}
 
 module _ {C : Type 0} (L : Ghosts C) where
@@ -23,6 +23,3 @@ module _ {C : Type 0} (L : Ghosts C) where
         stands = after.1;
         run = (point_of L new after.0 device' gauge', after.2, refl);
       }
-
-  pub one_event_alone : (event : Event) (reply : Reply) (old new : Module C L) → AnswersAlone L event reply old new → ComesAlone L (IsOneEvent event reply) old new
-  one_event_alone event reply old new answers device gauge = one_event event reply old new device device gauge gauge (answers device gauge)

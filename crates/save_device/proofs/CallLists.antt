@@ -1,5 +1,5 @@
 -- Calls that were made one after another.
-use Rattle.std.proofs.Common.{◌≡◌, ◌+◌, ◌≤◌, Bool, true, false, not, List, [], ◌∷◌, ◌++◌, refl, sym, ◌∙◌, ap, arith, append_assoc}
+use Rattle.std.proofs.Common.{◌≡◌, ◌+◌, Bool, true, false, not, List, [], ◌∷◌, ◌++◌, refl, sym, ◌∙◌, ap, arith, append_assoc}
 use Rattle.std.specs.Prelude.{cond, Result, Ok, Err, IsErr, is_ok}
 use Rattle.std.proofs.lemmas.List.{map-append, append-nil}
 use Rattle.std.proofs.lemmas.List.Sums.{sum_by-append}
@@ -38,20 +38,11 @@ no_faults (kind ∷ kinds) = no_faults kinds
 faults_in-append : (old more : List Call) → faults_in (old ++ more) ≡ faults_in old + faults_in more
 faults_in-append old more = sum_by-append (λ (call : Call). cond (not call.is_good) 1 0) old more
 
--- no fault is counted where all went well
-pub faults_same : (kinds : List CallKind) (old new : List Call) → MakesCalls kinds true old new → faults_in new ≡ faults_in old
-faults_same kinds old new made = ap faults_in made ∙ faults_in-append old (all_good kinds) ∙ omega (arith, no_faults kinds)
-
 -- one fault is counted where one failed
 pub faults_more : (kinds : List CallKind) (old new : List Call) → MakesCalls kinds false old new → faults_in new ≡ faults_in old + 1
 faults_more kinds old new made =
     ap faults_in made.made ∙ faults_in-append (old ++ all_good made.done) (called made.fails false ∷ [])
     ∙ (let first : faults_in (old ++ all_good made.done) ≡ faults_in old + faults_in (all_good made.done) = faults_in-append old (all_good made.done) in omega (arith, first, no_faults made.done))
-
--- the count of faults doesn't fall
-pub faults_later : (kinds : List CallKind) (good : Bool) (old new : List Call) → MakesCalls kinds good old new → faults_in old ≤ faults_in new
-faults_later kinds true old new made = omega (arith, faults_same kinds old new made)
-faults_later kinds false old new made = omega (arith, faults_more kinds old new made)
 
 -- of these calls the ones before `left` were made, and went well
 pub record MadeSoFar (kinds left : List CallKind) (old now : List Call) : Type 0 where
@@ -61,9 +52,6 @@ pub record MadeSoFar (kinds left : List CallKind) (old now : List Call) : Type 0
 
 pub none_made : (kinds : List CallKind) (old : List Call) → MadeSoFar kinds kinds old old
 none_made kinds old = record { done = []; in_order = refl; made = sym (append-nil old) }
-
-pub all_made : (kinds : List CallKind) (old now : List Call) → MadeSoFar kinds [] old now → MakesCalls kinds true old now
-all_made kinds old now so = so.made ∙ ap (λ (done : List CallKind). old ++ all_good done) (sym (append-nil so.done) ∙ sym so.in_order)
 
 -- one call more
 pub made_more : (kinds left : List CallKind) (kind : CallKind) (old now next : List Call) → MadeSoFar kinds (kind ∷ left) old now → next ≡ now ++ called kind true ∷ [] → MadeSoFar kinds left old next

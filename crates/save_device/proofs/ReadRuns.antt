@@ -1,14 +1,14 @@
 -- Reads, and a sync before them.
-use Rattle.std.proofs.Common.{◌≡◌, ⊎_elim, ℕ, ◌+◌, ◌-◌, ◌≤◌, Bool, true, false, List, replicate, refl, sym, ◌∙◌, ap, subst, arith}
+use Rattle.std.proofs.Common.{◌≡◌, ⊎_elim, ℕ, ◌+◌, ◌-◌, ◌≤◌, Bool, true, false, List, replicate, sym, ◌∙◌, ap, subst, arith}
 use Rattle.std.specs.Prelude.{IsTrue}
-use Rattle.std.proofs.lemmas.List.{append-nil, replicate-append-replicate}
+use Rattle.std.proofs.lemmas.List.{replicate-append-replicate}
 use Rattle.save_device.specs.declared.calls.CallKind.{CallKind}
 use Rattle.save_device.specs.declared.calls.CallKind.TheVariants.{Read}
 use Rattle.save_device.specs.Calls.{MakesCalls}
 use Rattle.save_device.specs.Device.{Moment, DeviceState, present, IsSettled, MayLeave, LeavesOnly}
 use Rattle.save_device.specs.Changes.{Settle, IsCall, Makes, OnlyReads}
 use Rattle.save_device.proofs.CallLists.{calls_on, one_call, more_planned}
-use Rattle.save_device.proofs.Moments.{started, and_then, weaker, within_call}
+use Rattle.save_device.proofs.Moments.{and_then, weaker, within_call}
 
 -- what a stop leaves of a device that is the same
 pub leaves_same : (old new : DeviceState) → present new ≡ present old → (image : List ℕ) → MayLeave (present new) image → MayLeave (present old) image
@@ -16,9 +16,6 @@ leaves_same old new same image left = subst (λ (moment : Moment). MayLeave mome
 
 pub settled_same : (old new : DeviceState) → present new ≡ present old → IsSettled old → IsSettled new
 settled_same old new same settled = subst (λ (moment : Moment). (place : ℕ) → ¬ IsTrue (moment.unsettled place)) (sym same) settled
-
-pub no_reads : (old : DeviceState) → OnlyReads 0 true old old
-no_reads old = record { calls = sym (append-nil old.calls); same = refl; time = started old (λ image left. left) }
 
 pub one_read : (good : Bool) (old new : DeviceState) → IsCall Read good old new → present new ≡ present old → OnlyReads 1 good old new
 one_read good old new call same = record {

@@ -1,5 +1,5 @@
 -- Lines and their bytes.
-use Rattle.std.proofs.Common.{◌≡◌, ℕ, zero, suc, ◌+◌, ◌*◌, ◌-◌, ◌≤◌, List, [], ◌∷◌, ◌++◌, length, take, drop, refl, sym, ◌∙◌, ap, arith, length-append, append_assoc}
+use Rattle.std.proofs.Common.{◌≡◌, ℕ, zero, suc, ◌+◌, ◌*◌, ◌-◌, ◌≤◌, List, [], ◌∷◌, ◌++◌, length, take, drop, refl, sym, ◌∙◌, ap, arith, append_assoc}
 use Rattle.std.specs.Prelude.{All, slice_range}
 use Rattle.std.specs.List.{flat_map}
 use Rattle.std.proofs.Math.Seq.{take-append_seam, drop-append_seam, take-add}
@@ -13,11 +13,6 @@ flat_map-same (line ∷ lines) = ap (λ (bytes : List ℕ). line ++ bytes) (flat
 
 abbrev IsLine : List ℕ → Type 0
 IsLine line = length line ≡ 64
-
-pub length-bytes_of : (lines : List (List ℕ)) → All (λ line. length line ≡ 64) lines → length (bytes_of lines) ≡ 64 * length lines
-length-bytes_of [] whole = refl
-length-bytes_of (line ∷ lines) whole =
-    omega (arith, length-append line (bytes_of lines), All-head IsLine line lines whole, length-bytes_of lines (All-tail IsLine line lines whole))
 
 take_line : (line rest : List ℕ) → length line ≡ 64 → take 64 (line ++ rest) ≡ line
 take_line line rest long = ap (λ (n : ℕ). take n (line ++ rest)) (sym long) ∙ take-append_seam line rest

@@ -10,7 +10,7 @@ use Rattle.nv_script.specs.declared.line.ScriptLine.{ScriptLine}
 use Rattle.nv_script.specs.declared.answer.Answer.{Answer}
 use Rattle.script_runner.specs.Ledger.{Ledger, known_behind, IsTrueOf}
 use Rattle.script_runner.specs.Story.{TakesTurns, AreTrueOf, known_behind_all, turns_of, is_busy}
-use Rattle.script_runner.specs.Keeping.{BearsOut, TellsTruly, AnswersTruly, AnswersPart, AnswersLine, AnswersTurns, AnswersWhole}
+use Rattle.script_runner.specs.Keeping.{BearsOut, TellsTruly, AnswersTruly, AnswersLine, AnswersTurns, AnswersWhole}
 
 -- one true answer more
 pub true_push : (lines : ℕ) (known : Option Ledger) (asked : ScriptLine) (given : List Answer) (answer : Answer) → AreTrueOf lines known asked given
@@ -82,12 +82,4 @@ module _ {C D : Type 0} (L : Ghosts C) (M : Ghosts D) (lines : ℕ) (asked : Scr
       busy = so_far.taken.busy;
       early = omega (arith, so_far.taken.count, early);
     });
-  }
-
-  pub turns_cut : (turns : ℕ) (old mid new : List Answer) {life life' : Option (Life C D L M)} {device device' : DeviceState}
-      → AnswersTurns L M lines turns asked old mid life device life' device' → new ≡ mid → AnswersPart L M lines asked old new life device
-  turns_cut turns old mid new so_far same = record {
-    given = so_far.line.part.given;
-    grown_by = same ∙ so_far.line.part.grown_by;
-    holds = so_far.line.part.holds;
   }

@@ -1,5 +1,5 @@
 -- Which slot's image two readings pick.
-use Rattle.std.proofs.Common.{◌≡◌, ◌≢◌, ℕ, List, length, Result, Ok, Err, IfErr, if◌then◌else◌, refl, sym, ◌∙◌, ap, Bool, false}
+use Rattle.std.proofs.Common.{◌≡◌, ◌≢◌, ℕ, List, length, Result, Ok, Err, if◌then◌else◌, refl, sym, ◌∙◌, ap, Bool, false}
 use Rattle.slot_store.specs.declared.slots.Slot.{Slot}
 use Rattle.slot_store.specs.declared.slots.Slot.TheVariants.{First, Second}
 use Rattle.slot_store.specs.declared.restoring.Choice.{Choice}
@@ -52,7 +52,3 @@ failed (errors.Damaged slot) o f = absurd f
 failed errors.WrongSize o f = absurd f
 failed errors.Device o f = tt
 failed errors.Memory o f = tt
-
-pub err_failed : {T : Type 0} (r : Result T RestoreError) (o : Outcome) → IfErr r IsFailure → IfErr r (λ e. Refuses e o)
-err_failed (Ok v) o f = tt
-err_failed (Err e) o f = failed e o f

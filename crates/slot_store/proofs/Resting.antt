@@ -160,10 +160,6 @@ found_only slot image outcome (inl is) =
     is.found ∙ ap (λ (arm : ℕ). Found slot (rearmed image arm)) own
 found_only slot image outcome (inr none) = absurd none
 
--- where one image alone may be left, it is found
-pub rest_only : {slot at : Slot} {image newest : Image} {lines : ℕ} {closed : Bool} (state : DeviceState) → IsAtRest (only slot image) newest at lines closed state → restored lines state.bytes ≡ Found slot image
-rest_only {slot} {at} {image} {newest} {lines} {closed} state rest = found_only slot image (restored lines state.bytes) (rest_finds state rest)
-
 -- The newest image of a device at rest is one of the candidates: it is found where the gate of the other slot is closed.
 pub newest_among : (candidates : Candidates) (newest : Image) (slot : Slot) (lines : ℕ) (closed : Bool) (state : DeviceState) → IsAtRest candidates newest slot lines closed state → IsAmong candidates (Found slot newest)
 newest_among candidates newest slot lines true state rest =

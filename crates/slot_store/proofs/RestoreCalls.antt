@@ -1,11 +1,10 @@
 -- The calls of a restore, by its answer.
-use Rattle.std.proofs.Common.{◌≡◌, ℕ, ◌/◌, Bool, true, false, not, [], ◌∷◌, replicate, ◌+◌, ap, Result, Ok, Err}
-use Rattle.std.specs.Prelude.{if◌then◌else◌}
+use Rattle.std.proofs.Common.{ℕ, ◌/◌, Bool, true, false, not, [], ◌∷◌, replicate, Err}
 use Rattle.save_device.specs.declared.calls.CallKind.TheVariants.{Read, Sync}
 use Rattle.save_device.specs.Calls.{MakesCalls}
-use Rattle.save_device.specs.Device.{DeviceState, faults_of, IsSettled, present, MayLeave, LeavesOnly}
+use Rattle.save_device.specs.Device.{DeviceState, IsSettled, present, MayLeave, LeavesOnly}
 use Rattle.save_device.specs.Changes.{Settle, Makes, OnlyReads}
-use Rattle.save_device.proofs.CallLists.{calls_on, first_fails, more_planned, faults_same, faults_more}
+use Rattle.save_device.proofs.CallLists.{calls_on, first_fails, more_planned}
 use Rattle.save_device.proofs.ReadRuns.{settled_same, reads_on, sync_leaves}
 use Rattle.save_device.proofs.Moments.{last_within, and_then, weaker}
 use Rattle.slot_store.specs.declared.restoring.RestoreError.{RestoreError}
@@ -51,13 +50,3 @@ pub sync_and_reads : (good : Bool) (old mid new : DeviceState) (n : ℕ) → Mak
 sync_and_reads good old mid new n synced reads =
     let first = sync_leaves true old mid synced in
     and_then old mid new first (weaker mid new (last_within old mid first) reads.time)
-
--- how many faults a restore counts
-pub faults_of_restore : (result : Result Restored RestoreError) (lines : ℕ) (old new : DeviceState) → CallsOfRestore lines result old new
-    → faults_of new ≡ (if is_fault result then faults_of old + 1 else faults_of old)
-faults_of_restore (Ok restored) lines old new calls = faults_same (restore_calls lines) old.calls new.calls calls.0
-faults_of_restore (Err errors.NoImage) lines old new calls = faults_same header_calls old.calls new.calls calls.0
-faults_of_restore (Err (errors.Damaged slot)) lines old new calls = faults_same header_calls old.calls new.calls calls.0
-faults_of_restore (Err errors.WrongSize) lines old new same = ap faults_of same
-faults_of_restore (Err errors.Device) lines old new calls = faults_more (restore_calls lines) old.calls new.calls calls
-faults_of_restore (Err errors.Memory) lines old new calls = faults_same header_calls old.calls new.calls calls.0
