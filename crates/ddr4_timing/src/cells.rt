@@ -2,7 +2,7 @@
 ghost use Rattle.std.specs.Prelude.{◌≡◌, ℕ, ◌<◌, ◌==◌, if◌then◌else◌, max, length, slice_index_or};
 
 /// The least clocks of the commands to a bank behind the commands to it; `column` is that of a RD or WR.
-#[derive(Clone, Copy, Debug)]
+#[derive(Clone, Copy)]
 pub struct BankCells {
     pub act: u64,
     pub column: u64,

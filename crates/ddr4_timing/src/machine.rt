@@ -15,7 +15,7 @@ use crate::timing::{Checked, Timing};
 /// What is open, and the least clock of each kind of command to each bank and rank.
 ///
 /// Each call is given the profile for which the machine was made.
-#[derive(Clone, Copy, Debug)]
+#[derive(Clone, Copy)]
 pub struct Machine {
     ranks: [RankState; 4],
     columns: [u64; 4],

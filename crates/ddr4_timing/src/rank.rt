@@ -11,7 +11,7 @@ use crate::rows::Rows;
 use crate::timing::Checked;
 
 /// tFAW after each of a rank's last four ACT, 0 where it had fewer.
-#[derive(Clone, Copy, Debug)]
+#[derive(Clone, Copy)]
 pub struct Window {
     pub fourth: u64,
     pub third: u64,
@@ -20,7 +20,7 @@ pub struct Window {
 }
 
 /// The least clock of a rank's next REF, and the last clock of any command before it.
-#[derive(Clone, Copy, Debug)]
+#[derive(Clone, Copy)]
 pub struct Refresh {
     pub next: u64,
     pub deadline: u64,
@@ -28,7 +28,7 @@ pub struct Refresh {
 
 /// A rank: its open rows, the least clocks that its own commands leave to the commands of its banks, of its groups and of
 /// itself, and what its ACT, REF and SRE leave. `idle` is the least clock of a REF or SRE.
-#[derive(Clone, Copy, Debug)]
+#[derive(Clone, Copy)]
 pub struct RankState {
     pub rows: Rows,
     pub banks: [BankCells; 16],

@@ -6,7 +6,7 @@ ghost use Rattle.ddr4_timing.specs.declared.place.BankAddress.{BankAddress};
 use crate::place::BankAddress;
 
 /// Which banks of a rank are open, and the row last opened in each.
-#[derive(Clone, Copy, Debug)]
+#[derive(Clone, Copy)]
 pub struct Rows {
     is_open: [bool; 16],
     rows: [u64; 16],

@@ -12,7 +12,7 @@ use bank_core::banks::Banks;
 
 /// The first clock at which a request may have its command of one class, RD and WR or ACT and PRE, and the index of the
 /// oldest request that may have it then. Where none may before a limit the clock is that limit.
-#[derive(Clone, Copy, Debug)]
+#[derive(Clone, Copy)]
 pub(crate) struct Best {
     pub(crate) clock: u64,
     pub(crate) index: usize,
@@ -30,7 +30,7 @@ impl Best {
 }
 
 /// The best of each class.
-#[derive(Clone, Copy, Debug)]
+#[derive(Clone, Copy)]
 pub(crate) struct Bests {
     /// RD or WR.
     pub(crate) column: Best,

@@ -18,7 +18,7 @@ use save_device::SaveDevice;
 use slot_store::Step;
 
 /// What cut a closing save short.
-#[derive(Clone, Copy, Debug, PartialEq, Eq)]
+#[derive(Clone, Copy)]
 pub enum Cut {
     /// A payment was refused.
     Dark,

@@ -7,7 +7,7 @@ use slot_store::{RestoreError, Step, Verdict};
 use std::fmt;
 
 /// What became of a loss of mains.
-#[derive(Clone, Copy, Debug, PartialEq, Eq)]
+#[derive(Clone, Copy)]
 pub enum Loss {
     /// All accepted writes were saved on backup.
     Saved { generation: u64, count: u64 },
@@ -33,8 +33,8 @@ impl fmt::Display for Loss {
     }
 }
 
-/// One line of the program's output. It is shown without a newline.
-#[derive(Clone, Copy, Debug, PartialEq, Eq)]
+/// One line of the program's output. It is shown without a newline, and nothing else is done with it.
+#[derive(Clone, Copy)]
 pub enum Answer {
     Formatted,
     /// The write's number, its place among the accepted writes, and the number of those that are persistent.

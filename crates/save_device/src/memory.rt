@@ -45,7 +45,7 @@ struct Content {
 }
 
 /// The places that a sync has to visit, from `low` on and below `high`.
-#[derive(Clone, Copy, Debug, PartialEq, Eq)]
+#[derive(Clone, Copy)]
 struct Span {
     low: usize,
     high: usize,

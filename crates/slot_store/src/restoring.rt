@@ -71,7 +71,7 @@ pub enum RestoreError {
 }
 
 // What the header page of a slot says.
-#[derive(Clone, Copy, Debug, PartialEq, Eq)]
+#[derive(Clone, Copy)]
 enum Reading {
     Shut,
     Broken,
@@ -79,7 +79,7 @@ enum Reading {
 }
 
 // The slot of the newest image.
-#[derive(Clone, Copy, Debug, PartialEq, Eq)]
+#[derive(Clone, Copy)]
 struct Choice {
     slot: Slot,
     header: Header,

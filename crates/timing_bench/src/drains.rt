@@ -18,7 +18,7 @@ use interleave_map::map::Map;
 use std::time::Instant;
 
 /// What goes before a drain.
-#[derive(Clone, Copy, Debug, PartialEq, Eq)]
+#[derive(Clone, Copy)]
 enum Before {
     /// No command.
     Rested,
