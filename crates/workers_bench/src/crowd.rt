@@ -192,19 +192,37 @@ where
         { work_all(rt, alloc, board, channels, &gate) },
         || -> Result<Vec<Result<Told<B>, AllocError>>, AllocError>
             requires { C.reaches }
-        {
-            let told = thread::map_vec(
-                rt,
-                hosts,
-                &|host: Host<B>| -> Result<Told<B>, AllocError>
-                    requires { C.reaches }
-                { busy(rt, alloc, board, host, plan) },
-            );
-            gate.finish();
-            told
-        },
+        { host_all(rt, alloc, board, hosts, &gate, plan) },
     );
     ended?;
+    told
+}
+
+// The hosts at once; then the workers may end.
+fn host_all<C, D, B, N, R>(
+    rt: &R,
+    alloc: Global,
+    board: &Board<C, D, Meter, B, N>,
+    hosts: Vec<Host<B>>,
+    gate: &UntilDone,
+    plan: &Plan,
+) -> Result<Vec<Result<Told<B>, AllocError>>, AllocError>
+where
+    C: Drainable + Send,
+    D: SaveDevice + Send,
+    B: Room + Send + Sync,
+    N: Notices + Send,
+    R: Threads + Wait + Sync,
+    requires { C.reaches }
+{
+    let told = thread::map_vec(
+        rt,
+        hosts,
+        &|host: Host<B>| -> Result<Told<B>, AllocError>
+            requires { C.reaches }
+        { busy(rt, alloc, board, host, plan) },
+    );
+    gate.finish();
     told
 }
 
