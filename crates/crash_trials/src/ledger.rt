@@ -1,5 +1,6 @@
 // What the answers of a script tell of its writes.
 use std::alloc::{AllocError, Global};
+use std::slice;
 
 /// A write, by the words of its script.
 #[derive(Clone, Copy, Drop)]
@@ -52,25 +53,35 @@ impl<'a> Ledger<'a> {
             told: 0,
         };
         for answer in answers.split('\n') {
-            let mut words = answer.split(' ');
-            let first = words.next();
-            let second = words.next();
-            let third = words.next();
-            let fourth = words.next();
-            if first == Some("accepted") {
-                if let Some(entry) = next.next() {
-                    ledger.writes.push(*entry)?;
-                }
-                ledger.tell(fourth);
-            } else if first == Some("refused") && second == Some("write") {
-                let _refused = next.next();
-            } else if first == Some("saved") {
-                ledger.tell(third);
-            } else if first == Some("lost") && second == Some("saved") {
-                ledger.tell(fourth);
-            }
+            ledger.note(answer, &mut next)?;
         }
         Ok(ledger)
+    }
+
+    // Takes an answer in; `next` gives the writes that weren't answered yet.
+    fn note<'b>(
+        &mut self,
+        answer: &str,
+        next: &mut slice::Iter<'b, Entry<'a>>,
+    ) -> Result<(), AllocError> {
+        let mut words = answer.split(' ');
+        let first = words.next();
+        let second = words.next();
+        let third = words.next();
+        let fourth = words.next();
+        if first == Some("accepted") {
+            if let Some(entry) = next.next() {
+                self.writes.push(*entry)?;
+            }
+            self.tell(fourth);
+        } else if first == Some("refused") && second == Some("write") {
+            let _refused = next.next();
+        } else if first == Some("saved") {
+            self.tell(third);
+        } else if first == Some("lost") && second == Some("saved") {
+            self.tell(fourth);
+        }
+        Ok(())
     }
 
     fn tell(&mut self, count: Option<&str>) {

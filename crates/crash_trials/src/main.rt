@@ -53,15 +53,26 @@ fn try_scripts(rt: &HostRuntime, setting: &Setting, apart: u64) -> anyhow::Resul
     for script in SCRIPTS {
         println!(rt; "{}, {}", script.name, setting.name)?;
         let text = setting.script(rt.alloc(), script.text)?;
-        show(rt, "a device that fails", trials.stops(&text)?)?;
-        show(rt, "mains lost", trials.losses(&text)?)?;
-        show(
-            rt,
-            "mains lost under a lie",
-            trials.lies(&text, setting.unit, apart)?,
-        )?;
+        try_script(rt, &trials, &text, setting.unit, apart)?;
     }
     Ok(())
+}
+
+// The trials of one script.
+fn try_script(
+    rt: &HostRuntime,
+    trials: &Trials<'_>,
+    text: &str,
+    unit: u64,
+    apart: u64,
+) -> anyhow::Result<()> {
+    show(rt, "a device that fails", trials.stops(text)?)?;
+    show(rt, "mains lost", trials.losses(text)?)?;
+    show(
+        rt,
+        "mains lost under a lie",
+        trials.lies(text, unit, apart)?,
+    )
 }
 
 fn main(rt: HostRuntime) -> anyhow::Result<()> {

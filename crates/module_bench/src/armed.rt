@@ -20,7 +20,7 @@ use std::time::Instant;
 const ENERGY: u64 = 1 << 62;
 
 /// What an armed life did, and how many nanoseconds that took.
-#[derive(Clone, Copy, Debug)]
+#[derive(Clone, Copy)]
 pub struct Armed {
     pub writes: u128,
     pub loss: u128,

@@ -1,14 +1,14 @@
 // Which lines are written and read.
 
 /// A line, and the byte that a write gives it.
-#[derive(Clone, Copy, Debug, PartialEq, Eq)]
+#[derive(Clone, Copy)]
 pub struct Pick {
     pub line: u64,
     pub byte: u8,
 }
 
 /// Pseudo-random lines of a memory, one after another.
-#[derive(Clone, Copy, Debug)]
+#[derive(Clone, Copy)]
 pub struct Picks {
     salt: u64,
     lines: u64,

@@ -14,7 +14,7 @@ use std::alloc::Global;
 use std::time::Instant;
 
 /// How much is measured.
-#[derive(Clone, Copy, Debug, PartialEq, Eq)]
+#[derive(Clone, Copy)]
 pub struct Amount {
     pub rounds: u64,
     /// The writes of a round, and its reads.
@@ -22,7 +22,7 @@ pub struct Amount {
 }
 
 /// Nanoseconds of all rounds.
-#[derive(Clone, Copy, Debug, PartialEq, Eq)]
+#[derive(Clone, Copy)]
 pub struct Nanos {
     pub writes: u128,
     pub reads: u128,
@@ -31,7 +31,7 @@ pub struct Nanos {
 }
 
 /// What the rounds of a memory answered, and how long they took.
-#[derive(Clone, Copy, Debug)]
+#[derive(Clone, Copy)]
 pub struct Tally {
     picks: Picks,
     /// What was read, as one number.
