@@ -87,7 +87,7 @@ fn rate(lived: &Lived) -> u128 {
 // A small board, and one whose mains are lost at last.
 fn small_plans() -> [(&'static str, Plan); 2] {
     [
-        ("small", plan_of(4, 100, 1, None)),
+        ("small", plan_of(4, 100, 50, None)),
         ("small, lost", plan_of(1, 100, 0, Some(39))),
     ]
 }
