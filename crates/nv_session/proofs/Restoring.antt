@@ -1,7 +1,10 @@
 -- A restore after a save that is done, and after a stop at any time.
 use Rattle.std.proofs.Common.{◌≡◌, ◌≢◌, ◌∙◌, ℕ, ◌≤◌, List, false, inl, inr, refl, sym, ap, subst, arith, Option, Some, None}
 use Rattle.std.proofs.Math.Logic.{∥∥₁_map, ∥∥₁_elim}
-use Rattle.save_device.specs.Device.{DeviceState, present, MayLeave}
+use Rattle.std.proofs.lemmas.Grind.{merely}
+use Rattle.save_device.specs.Device.{DeviceState, present, MayLeave, LeavesOnly, IsSettled}
+use Rattle.save_device.proofs.Moments.{last_within}
+use Rattle.save_device.proofs.Rows.{same_rows}
 use Rattle.save_image.specs.Image.{Image}
 use Rattle.slot_store.specs.declared.slots.Slot.{Slot}
 use Rattle.slot_store.specs.Outcomes.{Outcome, restored, verdict_of}
@@ -31,7 +34,7 @@ use Rattle.nv_session.specs.Living.{LifeStands, IsInLife, setup_of_life}
 use Rattle.nv_session.specs.Wired.{Revives}
 use Rattle.nv_session.specs.Fitting.{IsShapeFor, FitsLife}
 use Rattle.nv_session.specs.Sessions.{LifeRevives, RunsOver}
-use Rattle.nv_session.specs.Restoring.{FindsSaved, FindsPrefix, FindsPrefixOf, TellsPrefix}
+use Rattle.nv_session.specs.Restoring.{FindsSaved, FindsPrefix, FindsPrefixOf, GoesBackTo, IsLeftBy, KeepsPrefixOf, TellsPrefix}
 
 among_only : (slot : Slot) (image : Image) (found : Outcome) → IsAmong (only slot image) found → found ≡ outcome.Found slot image
 among_only slot image found (inl r) = r.found ∙ ap (λ (arm : ℕ). outcome.Found slot (rearmed image arm)) (r.own refl)
@@ -61,6 +64,10 @@ tells_prefix m found image what slot generation count verdict is left =
       cause = λ other.
           subst (λ (i : Image). i.arm ≢ 0 → HasCause m i) same r.cause (λ clear. other (verdict ∙ ap (λ (a : ℕ). verdict_of a image.count) clear));
     }
+
+-- a stop of a settled device leaves its bytes
+settled_bytes : (device : DeviceState) (bytes : List ℕ) → IsSettled device → MayLeave (present device) bytes → bytes ≡ device.bytes
+settled_bytes device bytes settled left = same_rows device.bytes bytes (record { size = left.size; outside = λ place here. left.outside place (settled place) })
 
 -- no image was found
 abbrev IsNotFound : Outcome → Type 0
@@ -166,19 +173,40 @@ module _ {C D : Type 0} (L : Ghosts C) (M : Ghosts D) where
   stop_restored old new m device device' bytes found stands left revives =
       finds_prefix new m (setup_of_life L M old).shape.lines bytes found device' (life_stopped old m device bytes stands left) revives
 
+  -- a stop of a session, whose life fits the profile if one runs
+  life_leaves : (profile : Profile) (life : Option (Life C D L M)) (m : Machine) (device : DeviceState) → FitsLife L M profile life
+      → GoesBackTo L M (lines_of profile.checked.geometry) life device m → IsLeftBy (lines_of profile.checked.geometry) m device
+  life_leaves profile (Some it) m device fits stands = λ bytes left.
+      subst (λ (n : ℕ). LeftAfter m (restored n bytes)) (let fit : IsShapeFor profile (setup_of_life L M it).shape = fits it refl in fit.lines)
+      (life_stopped it m device bytes stands left)
+  life_leaves profile None m device fits left_by = left_by
+
   -- a session's restore: its life before fitted the profile, and what began runs over a map
   pub session_finds : (map : MapWord) (profile : Profile) (life life' : Option (Life C D L M)) (device device' : DeviceState) (bytes : List ℕ) (found : Found)
       → FitsLife L M profile life → MayLeave (present device) bytes
       → RunsOver L M map (λ it. LifeRevives L M (lines_of profile.checked.geometry) bytes found it device') life'
-      → FindsPrefixOf L M map life device found life' device'
-  session_finds map profile life life' device device' bytes found fits left runs it m is stands = record {
+      → FindsPrefixOf L M (lines_of profile.checked.geometry) map life device found life' device'
+  session_finds map profile life life' device device' bytes found fits left runs m is = record {
     it = runs.it;
     runs = runs.runs;
     over = runs.over;
-    holds = finds_prefix runs.it m (lines_of profile.checked.geometry) bytes found device'
-        (subst (λ (n : ℕ). LeftAfter m (restored n bytes)) (let fit : IsShapeFor profile (setup_of_life L M it).shape = fits it is in fit.lines)
-        (life_stopped it m device bytes stands left)) runs.holds;
+    holds = finds_prefix runs.it m (lines_of profile.checked.geometry) bytes found device' (life_leaves profile life m device fits is bytes left) runs.holds;
   }
+
+  -- refused, it settled no more than the stop had
+  pub session_keeps : (profile : Profile) (life : Option (Life C D L M)) (device stopped device' : DeviceState) (error : RestoreError) → FitsLife L M profile life
+      → MayLeave (present device) stopped.bytes → IsSettled stopped → LeavesOnly stopped device' (MayLeave (present stopped))
+      → Refuses error (restored (lines_of profile.checked.geometry) stopped.bytes) → KeepsPrefixOf L M (lines_of profile.checked.geometry) life device error device'
+  session_keeps profile life device stopped device' error fits left settled within refuses =
+      let lines : ℕ = lines_of profile.checked.geometry in
+      record {
+        leaves = λ m is bytes again.
+            subst (λ (bs : List ℕ). LeftAfter m (restored lines bs)) (sym (settled_bytes stopped bytes settled (last_within stopped device' within bytes again)))
+            (life_leaves profile life m device fits is stopped.bytes left);
+        fails = λ m is.
+            let after : LeftAfter m (restored lines stopped.bytes) = life_leaves profile life m device fits is stopped.bytes left in
+            only_fails error (restored lines stopped.bytes) (merely (after.recovers.slot, after.recovers.image, after.recovers.found)) refuses;
+      }
 
   -- where a life ran its stop left an image
   pub session_fails : (profile : Profile) (life : Option (Life C D L M)) (device : DeviceState) (bytes : List ℕ) (error : RestoreError) → FitsLife L M profile life → IsInLife L M life device

@@ -3,7 +3,7 @@ ghost use Rattle.std.specs.Prelude.{◌≡◌, ◌≢◌, unwrap_or, None, Some,
 ghost use Rattle.ddr4_timing.specs.Limits.{lines_of};
 ghost use Rattle.line_memory.specs.Memory.{IsMemory, zero_lines};
 ghost use Rattle.save_image.specs.Header.{Fits};
-ghost use Rattle.save_device.specs.Device.{MayLeave, present};
+ghost use Rattle.save_device.specs.Device.{LeavesOnly, MayLeave, present};
 ghost use Rattle.save_device.specs.Memory.{state_of, IsPicked};
 ghost use Rattle.slot_store.specs.Outcomes.{first_image, restored};
 ghost use Rattle.slot_store.specs.Told.{Refuses, IsFailure};
@@ -11,7 +11,7 @@ ghost use Rattle.energy_budget.specs.Meter.{meter_gauge, lie_of};
 ghost use Rattle.module_core.specs.Opening.{new_life};
 ghost use Rattle.nv_session.specs.Living.{LifeStands, StandsForSome, setup_of_life};
 ghost use Rattle.nv_session.specs.Fitting.{IsShapeFor};
-ghost use Rattle.nv_session.specs.Restoring.{FindsPrefixOf};
+ghost use Rattle.nv_session.specs.Restoring.{FindsPrefixOf, KeepsPrefixOf};
 ghost use Rattle.nv_session.specs.Sessions.{IsOverMap, LifeBegins, LifeRevives, RunsOver, formatted};
 
 use crate::life::Life;
@@ -145,6 +145,10 @@ where
             (state_of self.old.device.device).bytes)) }
         ensures same { (state_of self.new.device.device).bytes
             ≡ (state_of self.old.device.device).bytes }
+        ensures any_moment { LeavesOnly
+            (⟦<Fuse<MemoryDevice> as SaveDevice>⟧.state self.old.device)
+            (⟦<Fuse<MemoryDevice> as SaveDevice>⟧.state self.new.device)
+            (MayLeave (present (state_of self.old.device.device))) }
         ensures life { self.new.life ≡ self.old.life }
         ensures gauge { self.new.gauge ≡ self.old.gauge }
         ensures profile { self.new.profile ≡ self.old.profile }
@@ -182,7 +186,7 @@ where
     /// A stop, which leaves of the unsettled bytes what the pick says, and a life on the newest image, over a map or the
     /// profile's: the memory after a prefix of the writes that the life before had accepted, and told Complete one that holds
     /// every write that was persistent. Where a life ran, nothing but a fault of the device or want of memory refuses it. A refused
-    /// restore leaves no life. The device keeps the bytes that the stop left.
+    /// restore leaves no life, and the next one finds such a prefix too. The device keeps the bytes that the stop left.
     pub fn restore(
         &mut self,
         alloc: Global,
@@ -199,12 +203,16 @@ where
             (state_of self.new.device.device).bytes found it
             (⟦<Fuse<MemoryDevice> as SaveDevice>⟧.state self.new.device)) self.new.life) }
         ensures finds { IfOk result (λ found. FindsPrefixOf C.Channels D.Channels
-            (unwrap_or map self.old.profile.map)
+            (lines_of self.old.profile.checked.geometry) (unwrap_or map self.old.profile.map)
             self.old.life (⟦<Fuse<MemoryDevice> as SaveDevice>⟧.state self.old.device) found
             self.new.life (⟦<Fuse<MemoryDevice> as SaveDevice>⟧.state self.new.device)) }
         ensures refused { IfErr result (λ error. Refuses error (restored
             (lines_of self.old.profile.checked.geometry) (state_of self.new.device.device).bytes)) }
         ensures fails { IfErr result (λ error. self.old.life ≢ None → IsFailure error) }
+        ensures keeps { IfErr result (λ error. KeepsPrefixOf C.Channels D.Channels
+            (lines_of self.old.profile.checked.geometry)
+            self.old.life (⟦<Fuse<MemoryDevice> as SaveDevice>⟧.state self.old.device) error
+            (⟦<Fuse<MemoryDevice> as SaveDevice>⟧.state self.new.device)) }
         ensures none { IfErr result (λ error. self.new.life ≡ None) }
         ensures lie { lie_of self.new.gauge ≡ None }
         ensures gauge { meter_gauge self.new.gauge ≡ meter_gauge self.old.gauge }

@@ -4,6 +4,7 @@ ghost use Rattle.line_memory.specs.Memory.{IsMemory};
 ghost use Rattle.save_image.specs.Header.{Fits};
 ghost use Rattle.line_channels.specs.View.{IsShape};
 ghost use Rattle.module_core.specs.Stands.{setup_of};
+ghost use Rattle.save_device.specs.Device.{LeavesOnly, MayLeave, present};
 ghost use Rattle.slot_store.specs.Outcomes.{restored};
 ghost use Rattle.slot_store.specs.Told.{Refuses};
 ghost use Rattle.nv_session.specs.Wired.{BeginsLife, Revives};
@@ -69,6 +70,8 @@ pub(crate) fn revive<C: Channels, A: Wires<C>, D: SaveDevice>(
     ensures refused { IfErr result
         (λ error. Refuses error (restored lines (D.state device.old).bytes)) }
     ensures same { (D.state device.new).bytes ≡ (D.state device.old).bytes }
+    ensures any_moment { LeavesOnly (D.state device.old) (D.state device.new)
+        (MayLeave (present (D.state device.old))) }
 {
     let restored = match restore(alloc, device, lines) {
         Ok(restored) => restored,

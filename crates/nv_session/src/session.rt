@@ -1,7 +1,7 @@
 // What a script talks to.
 ghost use Rattle.std.specs.Prelude.{◌≡◌, ◌≤◌, replicate, None, IfOk};
 ghost use Rattle.ddr4_timing.specs.Limits.{lines_of};
-ghost use Rattle.save_device.specs.Device.{MayLeave, present};
+ghost use Rattle.save_device.specs.Device.{IsSettled, MayLeave, present};
 ghost use Rattle.save_device.specs.Memory.{state_of, IsPicked};
 ghost use Rattle.slot_store.specs.Slots.{HasSize, device_size};
 ghost use Rattle.energy_budget.specs.Meter.{meter_gauge, level_of, lie_of};
@@ -101,6 +101,7 @@ where
             (state_of self.new.device.device).bytes }
         ensures picked { IsPicked pick self.old.device.device
             (state_of self.new.device.device).bytes }
+        ensures settled { IsSettled (state_of self.new.device.device) }
         ensures profile { self.new.profile ≡ self.old.profile }
     {
         self.life = None;

@@ -1,6 +1,6 @@
 -- What a session holds of what is known, after an answer.
-use Rattle.std.proofs.Common.{◌≡◌, ◌∙◌, ℕ, ◌+◌, ◌-◌, ◌≤◌, List, ◌++◌, length, take, Option, Some, None, refl, sym, ap, subst, arith}
-use Rattle.std.specs.Prelude.{unwrap_or}
+use Rattle.std.proofs.Common.{◌≡◌, ◌∙◌, ℕ, ◌+◌, ◌-◌, ◌≤◌, List, [], ◌++◌, false, length, take, Option, Some, None, refl, sym, ap, subst, arith}
+use Rattle.std.specs.Prelude.{unwrap_or, is_some}
 use Rattle.std.specs.Option.{option_map}
 use Rattle.std.proofs.Math.Nat.{max-le}
 use Rattle.std.proofs.Math.Seq.{take-append-add}
@@ -18,6 +18,7 @@ use Rattle.module_core.specs.Guard.{IsPrefix}
 use Rattle.module_core.specs.Opening.{new_life}
 use Rattle.nv_session.specs.declared.life.Life.{Life}
 use Rattle.nv_session.specs.Living.{LifeStands}
+use Rattle.nv_session.specs.Restoring.{GoesBackTo, IsLeftBy}
 use Rattle.nv_script.specs.declared.line.ScriptLine.{ScriptLine}
 use Rattle.nv_script.specs.declared.answer.Answer.{Answer}
 use Rattle.script_runner.specs.Ledger.{Ledger, memory_by, told_by, accepted_by, grown, first_of, known_behind, IsTrueBy, IsOfLine}
@@ -86,23 +87,68 @@ module _ {C D : Type 0} (L : Ghosts C) (M : Ghosts D) where
   abbrev pub GoesOnWith : ScriptLine → Answer → Option (Life C D L M) → DeviceState → Option (Life C D L M) → DeviceState → Type 0
   GoesOnWith asked given life device life' device' = (it : Life C D L M) (m : Machine) → life ≡ Some it → LifeStands L M it device m → GoneOn asked given m life' device'
 
-  grown_truly : (lines : ℕ) (asked : ScriptLine) (given : Answer) (life life' : Option (Life C D L M)) (device device' : DeviceState) (ledger : Ledger) → IsOfLine asked given
-      → known_behind asked given (Some ledger) ≡ Some (grown asked given ledger) → GoesOnWith asked given life device life' device' → Bears L M lines ledger life device
-      → TellsTruly L M lines asked given (Some ledger) life' device'
-  grown_truly lines asked given life life' device device' ledger of behind goes bears =
-      let gone : GoneOn asked given bears.m life' device' = goes bears.it bears.m bears.runs bears.stands in
-      let kept : IsKeptBy lines (grown asked given ledger) gone.n = kept_on lines ledger bears.m gone.n asked given bears.kept gone.opened gone.writes gone.rises gone.told in
-      let borne : Bears L M lines (grown asked given ledger) life' device' = record { it = gone.it; runs = gone.runs; m = gone.n; stands = gone.stands; kept = kept } in
-      let most : told_by given ≤ length (grown asked given ledger).writes = omega (arith, kept_all lines (grown asked given ledger) gone.n kept, gone.told, gone.most) in
+  -- What one comes to where no life runs: it tells of nothing that is accepted or persistent.
+  pub record StayedAtRest (asked : ScriptLine) (given : Answer) (device : DeviceState) (life' : Option (Life C D L M)) (device' : DeviceState) : Type 0 where
+    pub none : life' ≡ None
+    pub same : device' ≡ device
+    pub adds : accepted_by asked given ≡ []
+    pub tells : told_by given ≡ 0
+    pub holds : (lines : ℕ) (ledger : Ledger) → ledger.runs ≡ false → IsTrueBy lines given ledger
+
+  abbrev pub StaysAtRest : ScriptLine → Answer → Option (Life C D L M) → DeviceState → Option (Life C D L M) → DeviceState → Type 0
+  StaysAtRest asked given life device life' device' = life ≡ None → StayedAtRest asked given device life' device'
+
+  -- the answer was true, and what is known has grown and is borne out
+  told_truly : (lines : ℕ) (asked : ScriptLine) (given : Answer) (life' : Option (Life C D L M)) (device' : DeviceState) (ledger : Ledger) → IsOfLine asked given
+      → known_behind asked given (Some ledger) ≡ Some (grown asked given ledger) → IsTrueBy lines given ledger → told_by given ≤ length (grown asked given ledger).writes
+      → Bears L M lines (grown asked given ledger) life' device' → TellsTruly L M lines asked given (Some ledger) life' device'
+  told_truly lines asked given life' device' ledger of behind is_true most borne =
       let same : (other : Ledger) → known_behind asked given (Some ledger) ≡ Some other → grown asked given ledger ≡ other = λ other is. the_ledger (grown asked given ledger) other (sym behind ∙ is) in
       record {
         holds = record {
           of = of;
-          holds = λ other is. subst (λ (l : Ledger). IsTrueBy lines given l) (the_ledger ledger other is) (gone.holds lines ledger bears.kept);
+          holds = λ other is. subst (λ (l : Ledger). IsTrueBy lines given l) (the_ledger ledger other is) is_true;
           within = λ other is. subst (λ (l : Ledger). told_by given ≤ length l.writes) (same other is) most;
         };
         bears = λ other is. subst (λ (l : Ledger). Bears L M lines l life' device') (same other is) borne;
       }
+
+  grown_truly : (lines : ℕ) (asked : ScriptLine) (given : Answer) (life life' : Option (Life C D L M)) (device device' : DeviceState) (ledger : Ledger) → IsOfLine asked given
+      → known_behind asked given (Some ledger) ≡ Some (grown asked given ledger) → GoesOnWith asked given life device life' device' → StaysAtRest asked given life device life' device'
+      → Bears L M lines ledger life device → TellsTruly L M lines asked given (Some ledger) life' device'
+  grown_truly lines asked given (Some it) life' device device' ledger of behind goes stays bears =
+      let gone : GoneOn asked given bears.m life' device' = goes it bears.m refl bears.back in
+      let kept : IsKeptBy lines (grown asked given ledger) gone.n = kept_on lines ledger bears.m gone.n asked given bears.kept gone.opened gone.writes gone.rises gone.told in
+      told_truly lines asked given life' device' ledger of behind (gone.holds lines ledger bears.kept)
+      (omega (arith, kept_all lines (grown asked given ledger) gone.n kept, gone.told, gone.most))
+      (record {
+        runs = bears.runs ∙ sym (ap is_some gone.runs);
+        m = gone.n;
+        back = subst (λ (l : Option (Life C D L M)). GoesBackTo L M lines l device' gone.n) (sym gone.runs) gone.stands;
+        kept = kept;
+      })
+  grown_truly lines asked given None life' device device' ledger of behind goes stays bears =
+      let stayed : StayedAtRest asked given device life' device' = stays refl in
+      let m : Machine = bears.m in
+      let nothing : m.life.writes ≡ m.life.writes ++ accepted_by asked given = sym (append-nil m.life.writes) ∙ ap (λ (ws : List Write). m.life.writes ++ ws) (sym stayed.adds) in
+      told_truly lines asked given life' device' ledger of behind (stayed.holds lines ledger bears.runs) (omega (arith, stayed.tells))
+      (record {
+        runs = bears.runs ∙ sym (ap is_some stayed.none);
+        m = m;
+        back = subst (λ (l : Option (Life C D L M)). GoesBackTo L M lines l device' m) (sym stayed.none) (subst (λ (d : DeviceState). IsLeftBy lines m d) (sym stayed.same) bears.back);
+        kept = kept_on lines ledger m m asked given bears.kept refl nothing (omega arith) (omega (arith, stayed.tells));
+      })
+
+  -- an answer for which nothing has to be shown
+  pub stays_quiet : (asked : ScriptLine) (given : Answer) (life life' : Option (Life C D L M)) (device device' : DeviceState) → (life ≡ None → (life' ≡ None) × (device' ≡ device))
+      → accepted_by asked given ≡ [] → (life ≡ None → told_by given ≡ 0) → ((lines : ℕ) (ledger : Ledger) → IsTrueBy lines given ledger) → StaysAtRest asked given life device life' device'
+  stays_quiet asked given life life' device device' stays adds tells holds none = record {
+    none = (stays none).0;
+    same = (stays none).1;
+    adds = adds;
+    tells = tells none;
+    holds = λ lines ledger rests. holds lines ledger;
+  }
 
   -- where nothing was known an answer tells nothing to be borne out
   pub nothing_known : (lines : ℕ) (asked : ScriptLine) (given : Answer) (life' : Option (Life C D L M)) (device' : DeviceState) → IsOfLine asked given
@@ -119,7 +165,7 @@ module _ {C D : Type 0} (L : Ghosts C) (M : Ghosts D) where
   -- an answer after which what was known has grown
   pub goes_truly : (lines : ℕ) (asked : ScriptLine) (given : Answer) (life life' : Option (Life C D L M)) (device device' : DeviceState) → IsOfLine asked given
       → ((known : Option Ledger) → known_behind asked given known ≡ option_map (grown asked given) known) → GoesOnWith asked given life device life' device'
-      → AnswersTruly L M lines asked given life device life' device'
-  goes_truly lines asked given life life' device device' of behind goes None bears = nothing_known lines asked given life' device' of (behind None)
-  goes_truly lines asked given life life' device device' of behind goes (Some ledger) bears =
-      grown_truly lines asked given life life' device device' ledger of (behind (Some ledger)) goes (bears ledger refl)
+      → StaysAtRest asked given life device life' device' → AnswersTruly L M lines asked given life device life' device'
+  goes_truly lines asked given life life' device device' of behind goes stays None bears = nothing_known lines asked given life' device' of (behind None)
+  goes_truly lines asked given life life' device device' of behind goes stays (Some ledger) bears =
+      grown_truly lines asked given life life' device device' ledger of (behind (Some ledger)) goes stays (bears ledger refl)

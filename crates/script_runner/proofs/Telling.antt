@@ -2,13 +2,12 @@
 use Rattle.std.proofs.Common.{◌≡◌, ◌∙◌, ℕ, ◌≤◌, List, [], ◌++◌, Result, Ok, Err, Option, Some, None, refl, sym, ap, subst, arith}
 use Rattle.std.proofs.lemmas.List.{append-nil}
 use Rattle.std.proofs.lemmas.Option.{none-some}
-use Rattle.std.specs.Prelude.{◌≢◌, unwrap_or, IfOk, IfErr}
+use Rattle.std.specs.Prelude.{unwrap_or, is_some, IfOk, IfErr}
 use Rattle.std.specs.Option.{option_map}
 use Rattle.line_memory.specs.declared.Write.{Write}
 use Rattle.save_device.specs.Device.{DeviceState}
 use Rattle.save_device.specs.declared.memory.Pick.{Pick}
 use Rattle.slot_store.specs.Outcomes.{first_image}
-use Rattle.slot_store.specs.Told.{IsFailure}
 use Rattle.slot_store.specs.declared.restoring.RestoreError.{RestoreError}
 use Rattle.line_channels.specs.declared.channels.Channels.{Ghosts}
 use Rattle.module_core.specs.State.{Machine, all_of}
@@ -18,16 +17,16 @@ use Rattle.nv_session.specs.declared.life.Life.{Life}
 use Rattle.nv_session.specs.declared.life.Life.TheVariants.{Lines, Xor}
 use Rattle.nv_session.specs.declared.opening.Found.{Found}
 use Rattle.nv_session.specs.Living.{LifeStands, persisted_in}
-use Rattle.nv_session.specs.Restoring.{FindsPrefix, FindsPrefixOf}
+use Rattle.nv_session.specs.Restoring.{FindsPrefix, FindsPrefixOf, GoesBackTo, IsLeftBy, KeepsPrefixOf}
 use Rattle.nv_session.specs.Sessions.{RunsOver, formatted}
 use Rattle.nv_script.specs.declared.line.ScriptLine.{ScriptLine}
 use Rattle.nv_script.specs.declared.line.ScriptLine.TheVariants as line
 use Rattle.nv_script.specs.declared.answer.Answer.{Answer}
 use Rattle.nv_script.specs.declared.answer.Answer.TheVariants as answer
 use Rattle.script_runner.specs.Replies.{restore_told}
-use Rattle.script_runner.specs.Ledger.{Ledger, blank, told_by, accepted_by, first_of, IsTrueBy}
+use Rattle.script_runner.specs.Ledger.{Ledger, blank, told_by, accepted_by, at_rest, first_of, IsTrueBy}
 use Rattle.script_runner.specs.Keeping.{IsKeptBy, Bears, TellsTruly, AnswersTruly}
-use Rattle.script_runner.proofs.Bearing.{GoneOn, goes_truly, nothing_known, first_kept, kept_all, the_ledger}
+use Rattle.script_runner.proofs.Bearing.{GoneOn, goes_truly, nothing_known, first_kept, kept_all, stays_quiet, the_ledger}
 
 module _ {C D : Type 0} (L : Ghosts C) (M : Ghosts D) where
   life_most : (it : Life C D L M) (device : DeviceState) (m : Machine) → LifeStands L M it device m → m.life.persisted ≤ all_of m
@@ -67,12 +66,14 @@ module _ {C D : Type 0} (L : Ghosts C) (M : Ghosts D) where
   lie_truly lines units {life} {life'} {device} {device'} same same_device =
       goes_truly L M lines (line.Lie units) (answer.Lie units) life life' device device' refl (λ known. refl)
       (λ it m runs stands. still (line.Lie units) (answer.Lie units) it m life life' device device' runs stands refl (omega arith) (λ lines ledger kept. tt) same same_device)
+      (stays_quiet L M (line.Lie units) (answer.Lie units) life life' device device' (λ none. (same ∙ none, same_device)) refl (λ none. refl) (λ lines ledger. tt))
 
   pub fuse_truly : (lines : ℕ) (calls : Option ℕ) {life life' : Option (Life C D L M)} {device device' : DeviceState} → life' ≡ life → device' ≡ device
       → AnswersTruly L M lines (line.Fuse calls) (answer.Fuse calls) life device life' device'
   fuse_truly lines calls {life} {life'} {device} {device'} same same_device =
       goes_truly L M lines (line.Fuse calls) (answer.Fuse calls) life life' device device' refl (λ known. refl)
       (λ it m runs stands. still (line.Fuse calls) (answer.Fuse calls) it m life life' device device' runs stands refl (omega arith) (λ lines ledger kept. tt) same same_device)
+      (stays_quiet L M (line.Fuse calls) (answer.Fuse calls) life life' device device' (λ none. (same ∙ none, same_device)) refl (λ none. refl) (λ lines ledger. tt))
 
   pub mark_truly : (lines mark : ℕ) {life : Option (Life C D L M)} {device : DeviceState} → mark ≡ unwrap_or (option_map (persisted_in L M) life) 0
       → AnswersTruly L M lines line.Mark (answer.Mark mark) life device life device
@@ -80,14 +81,26 @@ module _ {C D : Type 0} (L : Ghosts C) (M : Ghosts D) where
       goes_truly L M lines line.Mark (answer.Mark mark) life life device device tt (λ known. refl)
       (λ it m runs stands.
       let marked : mark ≡ m.life.persisted = is ∙ ap (λ (l : Option (Life C D L M)). unwrap_or (option_map (persisted_in L M) l) 0) runs ∙ life_mark it device m stands in
-      still line.Mark (answer.Mark mark) it m life life device device runs stands refl (omega (arith, marked)) (λ lines ledger kept. omega (arith, marked, kept.told)) refl refl)
+      still line.Mark (answer.Mark mark) it m life life device device runs stands refl (omega (arith, marked)) (λ lines ledger kept runs. omega (arith, marked, kept.told)) refl refl)
+      (λ none. record {
+        none = none;
+        same = refl;
+        adds = refl;
+        tells = is ∙ ap (λ (l : Option (Life C D L M)). unwrap_or (option_map (persisted_in L M) l) 0) none;
+        holds = λ lines ledger rests runs. let e = sym rests ∙ runs in absurd cc;
+      })
 
   pub format_truly : (lines : ℕ) (map : MapWord) {life life' : Option (Life C D L M)} {device device' : DeviceState}
       → RunsOver L M map (λ it. LifeStands L M it device' (new_life formatted (first_image lines))) life'
       → AnswersTruly L M lines line.Format answer.Formatted life device life' device'
   format_truly lines map {life} {life'} {device} {device'} runs known bears =
       let kept : IsKeptBy lines blank (new_life formatted (first_image lines)) = record { before = []; writes = refl; start = refl; base = refl; told = omega arith } in
-      let borne : Bears L M lines blank life' device' = record { it = runs.it; runs = runs.runs; m = new_life formatted (first_image lines); stands = runs.holds; kept = kept } in
+      let borne : Bears L M lines blank life' device' = record {
+        runs = sym (ap is_some runs.runs);
+        m = new_life formatted (first_image lines);
+        back = subst (λ (l : Option (Life C D L M)). GoesBackTo L M lines l device' (new_life formatted (first_image lines))) (sym runs.runs) runs.holds;
+        kept = kept;
+      } in
       record {
         holds = record { of = tt; holds = λ ledger is. tt; within = λ ledger is. omega arith };
         bears = λ ledger is. subst (λ (l : Ledger). Bears L M lines l life' device') (the_ledger blank ledger is) borne;
@@ -101,18 +114,17 @@ module _ {C D : Type 0} (L : Ghosts C) (M : Ghosts D) where
 
   -- a restore of what was known finds a prefix of it
   found_truly : (lines : ℕ) (pick : Option Pick) (map : Option MapWord) (over : MapWord) (found : Found) (life life' : Option (Life C D L M)) (device device' : DeviceState) (ledger : Ledger)
-      → FindsPrefixOf L M over life device found life' device' → Bears L M lines ledger life device
+      → FindsPrefixOf L M lines over life device found life' device' → Bears L M lines ledger life device
       → TellsTruly L M lines (line.Restore pick map) (restore_told (Ok found)) (Some ledger) life' device'
   found_truly lines pick map over found life life' device device' ledger finds bears =
-      let runs = finds bears.it bears.m bears.runs bears.stands in
+      let runs = finds bears.m bears.back in
       let holds : FindsPrefix L M bears.m found runs.it device' = runs.holds in
       let tells = holds.tells in
       let all = kept_all lines ledger bears.m bears.kept in
       let borne : Bears L M lines (first_of found.count ledger) life' device' = record {
-        it = runs.it;
-        runs = runs.runs;
+        runs = sym (ap is_some runs.runs);
         m = new_life holds.opened holds.image;
-        stands = holds.stands;
+        back = subst (λ (l : Option (Life C D L M)). GoesBackTo L M lines l device' (new_life holds.opened holds.image)) (sym runs.runs) holds.stands;
         kept = first_kept lines ledger bears.m holds.opened holds.image found.count bears.kept tells.count_is tells.prefix;
       } in
       let is_true : IsTrueBy lines (restore_told (Ok found)) ledger = (omega (arith, all, tells.count_is, tells.prefix.to), λ complete. omega (arith, bears.kept.told, tells.complete complete)) in
@@ -126,24 +138,35 @@ module _ {C D : Type 0} (L : Ghosts C) (M : Ghosts D) where
       }
 
   restore_truly : (lines : ℕ) (pick : Option Pick) (map : Option MapWord) (over : MapWord) (found : Found) (life life' : Option (Life C D L M)) (device device' : DeviceState)
-      → FindsPrefixOf L M over life device found life' device' → AnswersTruly L M lines (line.Restore pick map) (restore_told (Ok found)) life device life' device'
+      → FindsPrefixOf L M lines over life device found life' device' → AnswersTruly L M lines (line.Restore pick map) (restore_told (Ok found)) life device life' device'
   restore_truly lines pick map over found life life' device device' finds None bears = nothing_known L M lines (line.Restore pick map) (restore_told (Ok found)) life' device' tt refl
   restore_truly lines pick map over found life life' device device' finds (Some ledger) bears =
       found_truly lines pick map over found life life' device device' ledger finds (bears ledger refl)
 
+  -- a refused one leaves it to the next
   refused_truly : (lines : ℕ) (pick : Option Pick) (map : Option MapWord) (error : RestoreError) (life life' : Option (Life C D L M)) (device device' : DeviceState)
-      → (life ≢ None → IsFailure error) → AnswersTruly L M lines (line.Restore pick map) (restore_told (Err error)) life device life' device'
-  refused_truly lines pick map error life life' device device' fails known bears = record {
-    holds = record {
-      of = tt;
-      holds = λ ledger is. let borne : Bears L M lines ledger life device = bears ledger is in fails (λ none. none-some borne.it (sym none ∙ borne.runs));
-      within = λ ledger is. omega arith;
-    };
-    bears = λ ledger is. absurd (none-some ledger is);
-  }
+      → KeepsPrefixOf L M lines life device error device' → life' ≡ None → AnswersTruly L M lines (line.Restore pick map) (restore_told (Err error)) life device life' device'
+  refused_truly lines pick map error life life' device device' keeps none None bears = nothing_known L M lines (line.Restore pick map) (restore_told (Err error)) life' device' tt refl
+  refused_truly lines pick map error life life' device device' keeps none (Some ledger) bears =
+      let before : Bears L M lines ledger life device = bears ledger refl in
+      let kept : IsKeptBy lines ledger before.m = before.kept in
+      let borne : Bears L M lines (at_rest ledger) life' device' = record {
+        runs = sym (ap is_some none);
+        m = before.m;
+        back = subst (λ (l : Option (Life C D L M)). GoesBackTo L M lines l device' before.m) (sym none) (keeps.leaves before.m before.back);
+        kept = record { before = kept.before; writes = kept.writes; start = kept.start; base = kept.base; told = kept.told };
+      } in
+      record {
+        holds = record {
+          of = tt;
+          holds = λ other is. keeps.fails before.m before.back;
+          within = λ other is. omega arith;
+        };
+        bears = λ other is. subst (λ (l : Ledger). Bears L M lines l life' device') (the_ledger (at_rest ledger) other is) borne;
+      }
 
   pub restored_truly : (lines : ℕ) (pick : Option Pick) (map : Option MapWord) (over : MapWord) (reply : Result Found RestoreError) {life life' : Option (Life C D L M)} {device device' : DeviceState}
-      → IfOk reply (λ found. FindsPrefixOf L M over life device found life' device') → IfErr reply (λ error. life ≢ None → IsFailure error)
-      → AnswersTruly L M lines (line.Restore pick map) (restore_told reply) life device life' device'
-  restored_truly lines pick map over (Ok found) {life} {life'} {device} {device'} finds fails = restore_truly lines pick map over found life life' device device' finds
-  restored_truly lines pick map over (Err error) {life} {life'} {device} {device'} finds fails = refused_truly lines pick map error life life' device device' fails
+      → IfOk reply (λ found. FindsPrefixOf L M lines over life device found life' device') → IfErr reply (λ error. KeepsPrefixOf L M lines life device error device')
+      → IfErr reply (λ error. life' ≡ None) → AnswersTruly L M lines (line.Restore pick map) (restore_told reply) life device life' device'
+  restored_truly lines pick map over (Ok found) {life} {life'} {device} {device'} finds keeps none = restore_truly lines pick map over found life life' device device' finds
+  restored_truly lines pick map over (Err error) {life} {life'} {device} {device'} finds keeps none = refused_truly lines pick map error life life' device device' keeps none

@@ -1,12 +1,12 @@
 -- What the session holds of what a reader of its answers knows.
-use Rattle.std.specs.Prelude.{◌≡◌, ℕ, ◌≤◌, List, ◌++◌, length, All, Option, Some, None}
+use Rattle.std.specs.Prelude.{◌≡◌, ℕ, ◌≤◌, List, ◌++◌, length, All, Option, Some, None, is_some}
 use Rattle.line_memory.specs.declared.Write.{Write}
 use Rattle.line_memory.specs.Memory.{after, zero_lines}
 use Rattle.save_device.specs.Device.{DeviceState}
 use Rattle.line_channels.specs.declared.channels.Channels.{Ghosts}
 use Rattle.module_core.specs.State.{Machine, start_of_life, base_of_life}
 use Rattle.nv_session.specs.declared.life.Life.{Life}
-use Rattle.nv_session.specs.Living.{LifeStands}
+use Rattle.nv_session.specs.Restoring.{GoesBackTo}
 use Rattle.nv_script.specs.declared.line.ScriptLine.{ScriptLine}
 use Rattle.nv_script.specs.declared.answer.Answer.{Answer}
 use Rattle.script_runner.specs.Ledger.{Ledger, known_behind, IsTrueOf}
@@ -22,12 +22,11 @@ pub record IsKeptBy (lines : ℕ) (ledger : Ledger) (m : Machine) : Type 0 where
   pub told : ledger.told ≤ m.life.persisted
 
 module _ {C D : Type 0} (L : Ghosts C) (M : Ghosts D) (lines : ℕ) where
-  -- the life that runs stands with the device for such a machine
+  -- the life that runs stands with the device for such a machine, or where none runs the device is left by one
   pub record Bears (ledger : Ledger) (life : Option (Life C D L M)) (device : DeviceState) : Type 0 where
-    pub it : Life C D L M
-    pub runs : life ≡ Some it
+    pub runs : ledger.runs ≡ is_some life
     pub m : Machine
-    pub stands : LifeStands L M it device m
+    pub back : GoesBackTo L M lines life device m
     pub kept : IsKeptBy lines ledger m
 
   -- the same of what is known, where anything is

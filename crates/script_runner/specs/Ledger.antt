@@ -1,5 +1,5 @@
 -- What a reader of the answers knows of the memory, and which answers are true by it.
-use Rattle.std.specs.Prelude.{◌≡◌, ℕ, ◌≤◌, max, List, [], ◌∷◌, ◌++◌, length, take, Option, Some, None}
+use Rattle.std.specs.Prelude.{◌≡◌, ℕ, ◌≤◌, max, Bool, true, false, List, [], ◌∷◌, ◌++◌, length, take, Option, Some, None}
 use Rattle.std.specs.Option.{option_map}
 use Rattle.line_memory.specs.declared.Write.{Write}
 use Rattle.line_memory.specs.Memory.{after, zero_lines}
@@ -12,15 +12,16 @@ use Rattle.nv_script.specs.declared.answer.Answer.{Answer}
 use Rattle.nv_script.specs.declared.answer.Answer.TheVariants as answer
 use Rattle.nv_script.specs.declared.answer.Loss.TheVariants as lost
 
--- the writes that were accepted since the device was formatted, without those that a restore didn't find, and how many of
--- them were told to be persistent
+-- the writes that were accepted since the device was formatted, without those that a restore didn't find, how many of them
+-- were told to be persistent, and whether a life runs
 pub record Ledger : Type 0 where
   pub writes : List Write
   pub told : ℕ
+  pub runs : Bool
 
 -- the one of a device that was formatted
 abbrev pub blank : Ledger
-blank = record { writes = []; told = 0 }
+blank = record { writes = []; told = 0; runs = true }
 
 -- the memory after its writes, of so many lines
 abbrev pub memory_by : ℕ → Ledger → List (List ℕ)
@@ -40,27 +41,31 @@ accepted_by (line.Write write) (answer.Accepted number mark) = write ∷ []
 accepted_by asked other = []
 
 abbrev pub grown : ScriptLine → Answer → Ledger → Ledger
-grown asked given ledger = record { writes = ledger.writes ++ accepted_by asked given; told = max ledger.told (told_by given) }
+grown asked given ledger = record ledger { writes = ledger.writes ++ accepted_by asked given; told = max ledger.told (told_by given) }
 
 -- what a restore found of it: its first writes, which are persistent
 abbrev pub first_of : ℕ → Ledger → Ledger
-first_of count ledger = record { writes = take count ledger.writes; told = count }
+first_of count ledger = record { writes = take count ledger.writes; told = count; runs = true }
 
--- What is known after an answer. After a format or a restore that failed nothing is.
+-- the same where none was begun
+abbrev pub at_rest : Ledger → Ledger
+at_rest ledger = record ledger { runs = false }
+
+-- What is known after an answer. After a format that failed nothing is.
 abbrev pub known_behind : ScriptLine → Answer → Option Ledger → Option Ledger
 known_behind asked answer.Formatted known = Some blank
 known_behind asked answer.FormatFault known = None
 known_behind asked (answer.Restored generation count verdict) known = option_map (first_of count) known
-known_behind asked (answer.RestoreRefused error) known = None
+known_behind asked (answer.RestoreRefused error) known = option_map at_rest known
 known_behind asked given known = option_map (grown asked given) known
 
 -- An answer is true by what was known. A write's number is its place among the accepted writes, a read has its line of the
--- memory after them, and no mark is below what was told. A restore finds a prefix of them, called complete one that holds all
--- that were told to be persistent; and only a fault of the device or want of memory refuses it.
+-- memory after them, and while a life runs no mark is below what was told. A restore finds a prefix of them, called complete
+-- one that holds all that were told to be persistent; and only a fault of the device or want of memory refuses it.
 abbrev pub IsTrueBy : ℕ → Answer → Ledger → Type 0
 IsTrueBy lines (answer.Accepted number mark) ledger = (number ≡ length ledger.writes) × (ledger.told ≤ mark)
 IsTrueBy lines (answer.Content at bytes) ledger = bytes ≡ line_of (memory_by lines ledger) at
-IsTrueBy lines (answer.Mark mark) ledger = ledger.told ≤ mark
+IsTrueBy lines (answer.Mark mark) ledger = ledger.runs ≡ true → ledger.told ≤ mark
 IsTrueBy lines (answer.Restored generation count verdict) ledger = (count ≤ length ledger.writes) × (verdict ≡ Complete → ledger.told ≤ count)
 IsTrueBy lines (answer.RestoreRefused error) ledger = IsFailure error
 IsTrueBy lines other ledger = Unit {0}

@@ -23,9 +23,8 @@ use std::alloc::Global;
 /// Runs lines, which name channels that exist, on a session over two lawful maps of the profile's geometry, and reports their
 /// answers. From a format on each answer is true by the ones before it: a write's number is its place among the accepted
 /// writes, a read has its line of the memory after them, within a life no mark falls, and a restore finds a prefix of them,
-/// told Complete one that holds all that were told to be persistent. After a restore that was refused nothing is said until
-/// the next format. Each line has all its answers; where the report or memory gives out, so have the lines before that one.
-/// Answers the device as the lines left it.
+/// told Complete one that holds all that were told to be persistent, also behind one that was refused. Each line has all its
+/// answers; where the report or memory gives out, so have the lines before that one. Answers the device as the lines left it.
 pub fn run_lines<L: LineMap, X: LineMap, P: Places, Q: Places, R: Report>(
     alloc: Global,
     profile: &Profile,

@@ -17,12 +17,12 @@ returns-in-Err-Device-clause-truly g c =
 pub returns-in-Write-clause-truly : goal.returns-in-Write-clause-truly
 returns-in-Write-clause-truly g c =
     let L = g.C.Channels in let M = g.D.Channels in let lines = lines_of c.args.session.now.profile.checked.geometry in
-    truly_as L M c.in-Write.is c.write_answer.ensures (write_truly L M lines c.in-Write.write c.write.result (search (rules, c.write.ensures.device)) c.write.ensures.comes)
+    truly_as L M c.in-Write.is c.write_answer.ensures (write_truly L M lines c.in-Write.write c.write.result _ (search (rules, c.write.ensures.device)) c.write.ensures.none c.write.ensures.comes)
 
 pub returns-in-Read-clause-truly : goal.returns-in-Read-clause-truly
 returns-in-Read-clause-truly g c =
     let L = g.C.Channels in let M = g.D.Channels in let lines = lines_of c.args.session.now.profile.checked.geometry in
-    truly_as L M c.in-Read.is c.read_answer.ensures (read_truly L M lines c.in-Read.line c.read.result (search (rules, c.read.ensures.device)) c.read.ensures.comes)
+    truly_as L M c.in-Read.is c.read_answer.ensures (read_truly L M lines c.in-Read.line c.read.result _ (search (rules, c.read.ensures.device)) c.read.ensures.none c.read.ensures.comes)
 
 pub returns-in-Work-clause-truly : goal.returns-in-Work-clause-truly
 returns-in-Work-clause-truly g c =
@@ -32,12 +32,12 @@ returns-in-Work-clause-truly g c =
 pub returns-in-Save-clause-truly : goal.returns-in-Save-clause-truly
 returns-in-Save-clause-truly g c =
     let L = g.C.Channels in let M = g.D.Channels in let lines = lines_of c.args.session.now.profile.checked.geometry in
-    truly_as L M c.in-Save.is c.save_answer.ensures (save_truly L M lines c.save.result _ _ c.save.ensures.comes)
+    truly_as L M c.in-Save.is c.save_answer.ensures (save_truly L M lines c.save.result _ _ c.save.ensures.none c.save.ensures.comes)
 
 pub returns-in-Step-clause-truly : goal.returns-in-Step-clause-truly
 returns-in-Step-clause-truly g c =
     let L = g.C.Channels in let M = g.D.Channels in let lines = lines_of c.args.session.now.profile.checked.geometry in
-    truly_as L M c.in-Step.is c.step_answer.ensures (step_truly L M lines c.step.result _ _ c.step.ensures.comes)
+    truly_as L M c.in-Step.is c.step_answer.ensures (step_truly L M lines c.step.result _ _ c.step.ensures.none c.step.ensures.comes)
 
 pub returns-in-Arm-clause-truly : goal.returns-in-Arm-clause-truly
 returns-in-Arm-clause-truly g c =
@@ -52,7 +52,7 @@ returns-in-Disarm-clause-truly g c =
 pub returns-in-Lose-clause-truly : goal.returns-in-Lose-clause-truly
 returns-in-Lose-clause-truly g c =
     let L = g.C.Channels in let M = g.D.Channels in let lines = lines_of c.args.session.now.profile.checked.geometry in
-    truly_as L M c.in-Lose.is c.loss_answer.ensures (lose_truly L M lines c.lose.result _ _ c.lose.ensures.comes)
+    truly_as L M c.in-Lose.is c.loss_answer.ensures (lose_truly L M lines c.lose.result _ _ c.lose.ensures.none c.lose.ensures.comes)
 
 pub returns-in-Lie-clause-truly : goal.returns-in-Lie-clause-truly
 returns-in-Lie-clause-truly g c =
@@ -77,4 +77,4 @@ returns-in-Sense-clause-truly g c =
 pub returns-in-Restore-clause-truly : goal.returns-in-Restore-clause-truly
 returns-in-Restore-clause-truly g c =
     let L = g.C.Channels in let M = g.D.Channels in let lines = lines_of c.args.session.now.profile.checked.geometry in
-    truly_as L M c.in-Restore.is c.restore_answer.ensures (restored_truly L M lines c.in-Restore.pick c.in-Restore.map _ c.restore.result c.restore.ensures.finds c.restore.ensures.fails)
+    truly_as L M c.in-Restore.is c.restore_answer.ensures (restored_truly L M lines c.in-Restore.pick c.in-Restore.map _ c.restore.result c.restore.ensures.finds c.restore.ensures.keeps c.restore.ensures.none)

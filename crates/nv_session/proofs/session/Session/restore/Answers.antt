@@ -12,7 +12,8 @@ use Rattle.slot_store.specs.Outcomes.{restored}
 use Rattle.slot_store.specs.Told.{Refuses, IsFailure}
 use Rattle.slot_store.specs.declared.restoring.RestoreError.{RestoreError}
 use Rattle.nv_session.proofs.InLife.{revived_stands, if_err_holds, if_err_tells}
-use Rattle.nv_session.proofs.Restoring.{session_finds, session_fails}
+use Rattle.nv_session.specs.Restoring.{KeepsPrefixOf}
+use Rattle.nv_session.proofs.Restoring.{session_finds, session_fails, session_keeps}
 use Rattle.nv_session.proofs.session.Session.restore.Goals as goal
 
 pub returns-clause-revives : goal.returns-clause-revives
@@ -48,3 +49,16 @@ returns-in_err-life-clause-fails g c =
     if_err_tells c.from_residual.result Told (λ error. old.life ≢ None → IsFailure error) refused
     (λ error refuses. session_fails g.C.Channels g.D.Channels old.profile old.life (with_calls (state_of old.device.device) old.device.calls) bytes error old.life_fits old.stands
     (subst (λ (bytes : List ℕ). MayLeave (present (state_of old.device.device)) bytes) (sym c.revive.ensures.same) c.stop.ensures.left) refuses)
+
+pub returns-in_err-life-clause-keeps : goal.returns-in_err-life-clause-keeps
+returns-in_err-life-clause-keeps g c =
+    let L = g.C.Channels in let M = g.D.Channels in let old = c.args.self.now in
+    let device : DeviceState = with_calls (state_of old.device.device) old.device.calls in
+    let stopped : DeviceState = with_calls (state_of c.stop.new.self.device.device) c.stop.new.self.device.calls in
+    let device' : DeviceState = with_calls (state_of c.revive.new.self.device.device) c.revive.new.self.device.calls in
+    let lines : ℕ = lines_of old.profile.checked.geometry in
+    let Told : RestoreError → Type 0 = λ error. Refuses error (restored lines device'.bytes) in
+    let refused : IfErr c.from_residual.result Told = search rules in
+    if_err_tells c.from_residual.result Told (λ error. KeepsPrefixOf L M lines old.life device error device') refused
+    (λ error refuses. session_keeps L M old.profile old.life device stopped device' error old.life_fits c.stop.ensures.left c.stop.ensures.settled c.revive.ensures.any_moment
+    (subst (λ (bytes : List ℕ). Refuses error (restored lines bytes)) c.revive.ensures.same refuses))
