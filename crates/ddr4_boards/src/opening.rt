@@ -1,8 +1,14 @@
 // A module on the image of a device.
-ghost use Rattle.std.specs.Prelude.{◌≡◌, [], length, IfOk};
+ghost use Rattle.std.specs.Prelude.{◌≡◌, ℕ, [], length, IfOk};
 ghost use Rattle.ddr4_timing.specs.Limits.{lines_of};
 ghost use Rattle.life_record.specs.Recorded.{recorded};
+ghost use Rattle.line_channels.specs.View.{IsShape};
+ghost use Rattle.module_core.specs.Opening.{BeginsOn, IsUnasked, new_life, setup_with};
+ghost use Rattle.module_core.specs.Stands.{Stands, setup_of};
 ghost use Rattle.module_parts.specs.Lines.{HasPlaces};
+ghost use Rattle.save_device.specs.Device.{DeviceState};
+ghost use Rattle.save_image.specs.Header.{Fits};
+ghost use Rattle.save_image.specs.Image.{Image};
 ghost use Rattle.slot_store.specs.Slots.{IsCapacity};
 
 use crate::ready::Ready;
@@ -11,12 +17,13 @@ use energy_budget::{CostNumbers, Costs, Energy};
 use interleave_map::cells::line_count;
 use interleave_map::line_map::{LineMap, Places};
 use life_record::LifeRecord;
+use line_channels::Channels;
 use line_memory::Line;
 use module_core::{Module, Opened};
 use module_parts::Parts;
 use nv_workers::{Life, Opening};
 use save_device::{MemoryDevice, SaveDevice};
-use slot_store::{Restored, device_size, format, restore};
+use slot_store::{device_size, format, restore};
 use std::alloc::{AllocError, Global};
 use thiserror::Error;
 
@@ -84,6 +91,36 @@ fn record_of(
     }
 }
 
+// The life of a module over channels that begin with what a restore found, the words of its board, and its record.
+fn begin<C: Channels + Drop>(
+    alloc: Global,
+    channels: C,
+    found: Opened,
+    memory: Vec<Line>,
+    costs: Costs,
+    trail: u64,
+    hosts: usize,
+) -> Result<(Opening, Module<C>, LifeRecord), AllocError>
+    requires lines { length memory.items ≡ (C.view channels).shape.lines }
+    requires costs { costs ≡ (C.view channels).shape.costs }
+    requires shape { IsShape (C.view channels).shape }
+    requires unasked { IsUnasked (C.view channels) }
+    requires numbers { Fits found.newest.generation found.count }
+    ensures parts { IfOk result (λ it. it.0.parts ≡ hosts) }
+    ensures mark { IfOk result (λ it. it.0.mark ≡ it.1.persisted) }
+    ensures begins { IfOk result (λ it. (image : Image) (device : DeviceState)
+        → BeginsOn C.Channels channels found image device
+        → Stands C.Channels it.1 device (new_life found image)) }
+    ensures setup { IfOk result (λ it.
+        setup_of C.Channels it.1 ≡ setup_with C.Channels channels trail) }
+    ensures history { IfOk result (λ it. it.2 ≡ recorded memory.items found.count [] trail) }
+{
+    let running = Module::open(channels, found, memory.len(), costs, trail);
+    let opening = Opening::new(alloc, running.mark(), hosts)?;
+    let history = record_of(alloc, memory, found.count, trail)?;
+    Ok((opening, running, history))
+}
+
 /// A module over channels with the memory that a device restores to, which may accept `trail` writes; and the words of its
 /// board, for so many hosts.
 pub fn open<'m, M: LineMap, P: Places, D: SaveDevice + Drop, E: Energy + Drop>(
@@ -111,18 +148,23 @@ pub fn open<'m, M: LineMap, P: Places, D: SaveDevice + Drop, E: Energy + Drop>(
     let restored = restore(alloc, &mut device, lines)?;
     let memory = &restored.lines;
     let parts = Parts::with_memory(alloc, map, checked, memory, DEPTH, DEPTH, costs)?;
-    let running = Module::open(parts, Opened::of(&restored), lines, costs, trail);
-    let opening = Opening::new(alloc, running.mark(), hosts)?;
-    let saved = running.mark();
-    let Restored { lines, count, .. } = restored;
-    let history = record_of(alloc, lines, count, trail)?;
+    let found = Opened::of(&restored);
+    let (opening, running, history) = begin(
+        alloc,
+        parts,
+        found,
+        restored.lines,
+        costs,
+        trail,
+        hosts,
+    )?;
     Ok(Ready {
         opening,
         life: Life {
+            saved: running.mark(),
             running,
             device,
             energy,
-            saved,
             history,
         },
         channels: checked.geometry.channels,
