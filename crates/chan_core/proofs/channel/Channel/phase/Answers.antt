@@ -1,0 +1,4 @@
+use Rattle.chan_core.proofs.channel.Channel.phase.Goals as goal
+
+pub returns : goal.returns
+returns c = rw (← c.self.view_is) c.phase.ensures
