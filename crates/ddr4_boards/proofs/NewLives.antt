@@ -1,5 +1,5 @@
 -- A module that begins on what a restore found: its newest image has the persistent writes, which are all.
-use Rattle.std.proofs.Common.{◌≡◌, ◌∙◌, ℕ, Bool, List, [], sym, ap, subst, arith}
+use Rattle.std.proofs.Common.{◌≡◌, ◌∙◌, ℕ, Bool, [], sym, ap, subst, arith}
 use Rattle.std.proofs.lemmas.Grind.{merely}
 use Rattle.line_memory.specs.Memory.{IsMemory}
 use Rattle.energy_budget.specs.Gauge.{Gauge}
@@ -8,9 +8,8 @@ use Rattle.save_device.specs.Device.{DeviceState}
 use Rattle.save_image.specs.Image.{Image}
 use Rattle.slot_store.specs.declared.slots.Slot.{Slot}
 use Rattle.slot_store.specs.declared.restoring.Restored.{Restored}
-use Rattle.slot_store.specs.Outcomes.{restored, Found}
 use Rattle.slot_store.specs.Rest.{IsAtRestOn}
-use Rattle.slot_store.specs.Told.{IsRestored, image_of_restored}
+use Rattle.slot_store.specs.Told.{image_of_restored}
 use Rattle.line_channels.specs.declared.channels.Channels.{Ghosts}
 use Rattle.module_core.specs.declared.module.Module.{Module}
 use Rattle.module_core.specs.declared.opening.Opened.{Opened}

@@ -1,4 +1,4 @@
-use Rattle.std.proofs.Common.{rules, ◌≡◌, ◌∙◌, ℕ, List, [], sym, ap, subst}
+use Rattle.std.proofs.Common.{rules, ◌∙◌, ℕ, List, [], sym, ap, subst}
 use Rattle.save_device.specs.Device.{DeviceState}
 use Rattle.save_image.specs.Image.{Image}
 use Rattle.slot_store.specs.Told.{image_of_restored}
