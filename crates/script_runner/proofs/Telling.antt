@@ -17,7 +17,7 @@ use Rattle.nv_session.specs.declared.life.Life.{Life}
 use Rattle.nv_session.specs.declared.life.Life.TheVariants.{Lines, Xor}
 use Rattle.nv_session.specs.declared.opening.Found.{Found}
 use Rattle.nv_session.specs.Living.{LifeStands, persisted_in}
-use Rattle.nv_session.specs.Restoring.{FindsPrefix, FindsPrefixOf, GoesBackTo, IsLeftBy, KeepsPrefixOf}
+use Rattle.nv_session.specs.Restoring.{FindsPrefix, FindsPrefixOf, GoesBackTo, KeepsPrefixOf}
 use Rattle.nv_session.specs.Sessions.{RunsOver, formatted}
 use Rattle.nv_script.specs.declared.line.ScriptLine.{ScriptLine}
 use Rattle.nv_script.specs.declared.line.ScriptLine.TheVariants as line
