@@ -1,5 +1,5 @@
 -- A channel's drain, entry by entry.
-use Rattle.std.proofs.Common.{◌≡◌, ℕ, zero, suc, ◌+◌, ◌-◌, ◌*◌, ◌≤◌, List, [], ◌∷◌, length, map, take, drop, None, arith, refl, sym, ap, subst, ◌∙◌}
+use Rattle.std.proofs.Common.{◌≡◌, ℕ, zero, suc, ◌+◌, ◌-◌, ◌*◌, ◌≤◌, List, [], ◌∷◌, length, map, take, drop, arith, refl, sym, ap, subst, ◌∙◌}
 use Rattle.std.specs.Prelude.{All}
 use Rattle.std.specs.List.{filter_map, cons_option}
 use Rattle.std.proofs.Math.Nat.{mul-le-mul_left}
@@ -23,7 +23,7 @@ use Rattle.chan_core.specs.declared.phase.Phase.TheVariants.{Asleep}
 use Rattle.drain_core.specs.declared.steps.StepEnd.{StepEnd}
 use Rattle.drain_core.specs.Drain.{Progress, drain_start, close_step_of, entry_step_of, entry_steps_of, after_self_refresh, drain_of, drain_commands, drain_clocks, drain_spent}
 use Rattle.drain_core.specs.Standing.{CanDrain}
-use Rattle.drain_core.specs.Steps.{EntersOldest, GoesTo, IsStepped, IssuesFor, MayEnter, TakesOldest, commands_cost, drain_of_channel, drain_start_of, drained, pending_places, progress_of, clocks_of, most_clocks, spent_by}
+use Rattle.drain_core.specs.Steps.{GoesTo, IsStepped, IssuesFor, MayEnter, TakesOldest, commands_cost, drain_of_channel, drain_start_of, drained, pending_places, progress_of, clocks_of, most_clocks, spent_by}
 use Rattle.drain_core.proofs.Parts.{issues_then, takes_then, takes_checked}
 use Rattle.drain_core.proofs.PendingPlaces.{all_lie, placed_length, places_length}
 use Rattle.drain_core.proofs.ClocksRise.{drain_rises}
@@ -116,12 +116,52 @@ nothing : {X : Type 0} (xs : List X) → length xs ≡ 0 → xs ≡ []
 nothing [] e = refl
 nothing (x ∷ xs) e = absurd (omega (arith, e))
 
-module _ (n : CostNumbers) (first now final : ChannelState) (end slept : StepEnd) (i : IsDraining n first now end) (none : now.writes ≡ []) (held : IsHeld now)
+pub few_places : (s : ChannelState) → IsHeld s → length (pending_places s) ≤ 64
+few_places s held = let many = places_length s held in omega (arith, many, held.writes.few, held.writes.most)
+
+-- its clocks are few
+few_clocks : (s : ChannelState) → CanDrain s.checked s.commands → IsHeld s → clocks_of s ≤ 32500000
+few_clocks s can held =
+    let c = s.checked in
+    let e = entry_of c.timing c.geometry in
+    let few = few_places s held in
+    let most = drain_clocks-le c s.commands (pending_places s) can (all_lie s held) in
+    let small = total_small e (close_of c.timing c.geometry) c.geometry.ranks c.timing.t_refi (length (pending_places s)) c.fits_entry c.in_limits.t_refi.1 few (grind (arith, mul-le-mul_left e few)) in
+    omega (arith, most, small)
+
+few_units : (e clocks : ℕ) → e ≤ 1000000 → clocks ≤ 32500000 → e * clocks ≤ 32500000000000
+few_units e clocks h l = let m = mul-le-mul_left e l in omega (arith, m, h)
+
+its_clocks : (first final : ChannelState) (slept : StepEnd) (start : ℕ) → progress_of final slept.clock ≡ drain_of_channel first → start ≡ drain_start first.commands → slept.clock - start ≡ clocks_of first
+unfolding drain_clocks
+its_clocks first final slept start e s = ap (λ (p : Progress). p.clock - start) e ∙ ap (λ (k : ℕ). (drain_of_channel first).clock - k) s
+
+from_start : (first final : ChannelState) (slept : StepEnd) (start : ℕ) → progress_of final slept.clock ≡ drain_of_channel first → start ≡ drain_start first.commands → start ≤ slept.clock
+from_start first final slept start e s =
+    let clock = ap (λ (p : Progress). p.clock) e in
+    let rises = drain_rises first.checked.timing first.checked.geometry first.commands (pending_places first) in
+    omega (arith, clock, rises, s)
+
+its_most_clocks : (first : ChannelState) (clocks : ℕ) → CanDrain first.checked first.commands → IsHeld first → clocks ≡ clocks_of first → clocks ≤ most_clocks first
+its_most_clocks first clocks can held e =
+    let c = first.checked in
+    let most = drain_clocks-le c first.commands (pending_places first) can (all_lie first held) in
+    let same = ap (λ (k : ℕ). close_of c.timing c.geometry + k * entry_of c.timing c.geometry) (places_length first held) in
+    omega (arith, most, same, e)
+
+-- behind the last look for a write, which found none
+module _ {n : CostNumbers} {first old now final : ChannelState} {end slept : StepEnd} (before : IsDraining n first old end) (look : (old.writes ≡ []) × (now ≡ old)) (held : IsHeld now)
     (goes : GoesTo n (after_self_refresh now.checked.timing now.checked.geometry (progress_of now end.clock)) 0 now final slept) where
+  none : now.writes ≡ []
+  none = ap (λ (s : ChannelState). s.writes) look.1 ∙ look.0
+
+  i : IsDraining n first now end
+  i = subst (λ (s : ChannelState). IsDraining n first s end) (sym look.1) before
+
   none_placed : placed_writes now ≡ []
   none_placed = nothing (placed_writes now) (placed_length now held ∙ ap length none)
 
-  pub drained_progress : progress_of final slept.clock ≡ drain_of_channel first
+  drained_progress : progress_of final slept.clock ≡ drain_of_channel first
   unfolding drain_of
   drained_progress =
       let c = first.checked in
@@ -145,52 +185,28 @@ module _ (n : CostNumbers) (first now final : ChannelState) (end slept : StepEnd
       ∙ ap (λ (commands : List Stamped). record first { array = channel_memory first; writes = []; tickets = []; requests = []; commands = commands; phase = final.phase }) commands
       ∙ ap (λ phase. record first { array = channel_memory first; writes = []; tickets = []; requests = []; commands = (drain_of_channel first).list; phase = phase }) asleep
 
-  pub drained_cost : end.cost + slept.cost ≡ commands_cost n (drop (length first.commands) (drain_of_channel first).list)
+  drained_cost : end.cost + slept.cost ≡ commands_cost n (drop (length first.commands) (drain_of_channel first).list)
   drained_cost =
       let cost = issues_then n end.cost slept.cost first.commands now.commands final.commands i.cost goes.cost in
       let list = sym (ap (λ (p : Progress). p.list) drained_progress) ∙ cost.list in
       cost.is ∙ sym (ap (λ (list : List Stamped). commands_cost n (drop (length first.commands) list)) list ∙ ap (commands_cost n) (drop-append_seam first.commands cost.commands))
 
-  pub drained_spent : (clocks : ℕ) → clocks ≡ clocks_of first → end.cost + slept.cost + n.e_clk * clocks ≡ spent_by n first
-  unfolding drain_spent drain_commands
-  drained_spent clocks e = ap (λ (cost : ℕ). cost + n.e_clk * clocks) drained_cost ∙ ap (λ (clocks : ℕ). commands_cost n (drop (length first.commands) (drain_of_channel first).list) + n.e_clk * clocks) e
+  module _ {start : ℕ} (begun : start ≡ drain_start first.commands) where
+    pub drained_from : start ≤ slept.clock
+    drained_from = from_start first final slept start drained_progress begun
 
--- a last look finds no write
-pub none_left : (n : CostNumbers) (first old new : ChannelState) (clock : ℕ) (end : StepEnd) → EntersOldest n old clock None new → IsDraining n first old end → (new.writes ≡ []) × IsDraining n first new end
-none_left n first old new clock end e i = (ap (λ (s : ChannelState). s.writes) e.1 ∙ e.0, subst (λ (s : ChannelState). IsDraining n first s end) (sym e.1) i)
+    pub drained_clocks : slept.clock - start ≡ clocks_of first
+    drained_clocks = its_clocks first final slept start drained_progress begun
 
-pub few_places : (s : ChannelState) → IsHeld s → length (pending_places s) ≤ 64
-few_places s held = let many = places_length s held in omega (arith, many, held.writes.few, held.writes.most)
+    pub drained_most_clocks : CanDrain first.checked first.commands → IsHeld first → slept.clock - start ≤ most_clocks first
+    drained_most_clocks can first_held = its_most_clocks first (slept.clock - start) can first_held drained_clocks
 
--- its clocks are few
-pub few_clocks : (s : ChannelState) → CanDrain s.checked s.commands → IsHeld s → clocks_of s ≤ 32500000
-few_clocks s can held =
-    let c = s.checked in
-    let e = entry_of c.timing c.geometry in
-    let few = few_places s held in
-    let most = drain_clocks-le c s.commands (pending_places s) can (all_lie s held) in
-    let small = total_small e (close_of c.timing c.geometry) c.geometry.ranks c.timing.t_refi (length (pending_places s)) c.fits_entry c.in_limits.t_refi.1 few (grind (arith, mul-le-mul_left e few)) in
-    omega (arith, most, small)
+    pub drained_units : CanDrain first.checked first.commands → IsHeld first → n.e_clk ≤ 1000000 → n.e_clk * (slept.clock - start) ≤ 32500000000000
+    drained_units can first_held least = let few = few_clocks first can first_held in few_units n.e_clk (slept.clock - start) least (omega (arith, drained_clocks, few))
 
-pub few_units : (e clocks : ℕ) → e ≤ 1000000 → clocks ≤ 32500000 → e * clocks ≤ 32500000000000
-few_units e clocks h l = let m = mul-le-mul_left e l in omega (arith, m, h)
-
-pub its_clocks : (first final : ChannelState) (slept : StepEnd) (start : ℕ) → progress_of final slept.clock ≡ drain_of_channel first → start ≡ drain_start first.commands → slept.clock - start ≡ clocks_of first
-unfolding drain_clocks
-its_clocks first final slept start e s = ap (λ (p : Progress). p.clock - start) e ∙ ap (λ (k : ℕ). (drain_of_channel first).clock - k) s
-
-pub from_start : (first final : ChannelState) (slept : StepEnd) (start : ℕ) → progress_of final slept.clock ≡ drain_of_channel first → start ≡ drain_start first.commands → start ≤ slept.clock
-from_start first final slept start e s =
-    let clock = ap (λ (p : Progress). p.clock) e in
-    let rises = drain_rises first.checked.timing first.checked.geometry first.commands (pending_places first) in
-    omega (arith, clock, rises, s)
-
-pub its_most_clocks : (first : ChannelState) (clocks : ℕ) → CanDrain first.checked first.commands → IsHeld first → clocks ≡ clocks_of first → clocks ≤ most_clocks first
-its_most_clocks first clocks can held e =
-    let c = first.checked in
-    let most = drain_clocks-le c first.commands (pending_places first) can (all_lie first held) in
-    let same = ap (λ (k : ℕ). close_of c.timing c.geometry + k * entry_of c.timing c.geometry) (places_length first held) in
-    omega (arith, most, same, e)
+    pub drained_spent : end.cost + slept.cost + n.e_clk * (slept.clock - start) ≡ spent_by n first
+    unfolding drain_spent drain_commands
+    drained_spent = ap (λ (cost : ℕ). cost + n.e_clk * (slept.clock - start)) drained_cost ∙ ap (λ (clocks : ℕ). commands_cost n (drop (length first.commands) (drain_of_channel first).list) + n.e_clk * clocks) drained_clocks
 
 pub its_most_spent : (costs : Costs) (first : ChannelState) (spent : ℕ) → AreReckonedFor first.checked costs → CanDrain first.checked first.commands → IsHeld first → spent ≡ spent_by costs.numbers first → spent ≤ close_cost costs + length first.writes * entry_cost costs
 its_most_spent costs first spent for can held e =

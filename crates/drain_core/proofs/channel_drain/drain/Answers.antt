@@ -1,5 +1,5 @@
-use Rattle.std.proofs.Common.{◌-◌, arith}
-use Rattle.drain_core.proofs.DrainingChannel.{draining_first, draining_next, drained_progress, drained_channel, drained_spent, none_left, few_places, few_clocks, few_units, its_clocks, from_start, its_most_clocks, its_most_spent}
+use Rattle.std.proofs.Common.{arith}
+use Rattle.drain_core.proofs.DrainingChannel.{draining_first, draining_next, drained_channel, drained_from, drained_clocks, drained_most_clocks, drained_units, drained_spent, few_places, its_most_spent}
 use Rattle.drain_core.proofs.channel_drain.drain.Goals as goal
 
 pub loop-entry-init : goal.loop-entry-init
@@ -16,106 +16,35 @@ loop-entry-preserved c =
 
 pub overflow_sub-clocks : goal.overflow_sub-clocks
 overflow_sub-clocks c =
-    let n = c.args.costs.now.numbers in
-    let s = c.args.channel.now in
-    let now = c.entry_step.new.channel in
-    let end = c.loop-entry.end in
-    let slept = c.self_refresh-slept.result in
-    let final = c.self_refresh-slept.new.channel in
-    let left = none_left n s c.loop-entry.channel now end.clock end c.in_default.ensures.enters c.loop-entry.invariant in
-    let at = drained_progress n s now final end slept left.1 left.0 c.always-2.ensures.held c.self_refresh-slept.ensures.goes in
-    from_start s final slept c.start_clock-start.result at c.start_clock-start.ensures
+    drained_from c.loop-entry.invariant c.in_default.ensures.enters c.always-2.ensures.held c.self_refresh-slept.ensures.goes c.start_clock-start.ensures
 
 pub overflow_mul-result : goal.overflow_mul-result
 overflow_mul-result c =
-    let n = c.args.costs.now.numbers in
-    let s = c.args.channel.now in
-    let now = c.entry_step.new.channel in
-    let end = c.loop-entry.end in
-    let slept = c.self_refresh-slept.result in
-    let final = c.self_refresh-slept.new.channel in
-    let left = none_left n s c.loop-entry.channel now end.clock end c.in_default.ensures.enters c.loop-entry.invariant in
-    let at = drained_progress n s now final end slept left.1 left.0 c.always-2.ensures.held c.self_refresh-slept.ensures.goes in
-    let clocks = its_clocks s final slept c.start_clock-start.result at c.start_clock-start.ensures in
-    let few = few_clocks s c.requires.can c.always.ensures.held in
-    let units = few_units n.e_clk (slept.clock - c.start_clock-start.result) c.args.costs.now.in_limits.e_clk (omega (arith, clocks, few)) in
+    let units = drained_units c.loop-entry.invariant c.in_default.ensures.enters c.always-2.ensures.held c.self_refresh-slept.ensures.goes c.start_clock-start.ensures c.requires.can c.always.ensures.held c.args.costs.now.in_limits.e_clk in
     omega (arith, units)
 
 pub overflow_add-result-2 : goal.overflow_add-result-2
 overflow_add-result-2 c =
-    let n = c.args.costs.now.numbers in
-    let s = c.args.channel.now in
-    let now = c.entry_step.new.channel in
-    let end = c.loop-entry.end in
-    let slept = c.self_refresh-slept.result in
-    let final = c.self_refresh-slept.new.channel in
-    let left = none_left n s c.loop-entry.channel now end.clock end c.in_default.ensures.enters c.loop-entry.invariant in
-    let at = drained_progress n s now final end slept left.1 left.0 c.always-2.ensures.held c.self_refresh-slept.ensures.goes in
-    let clocks = its_clocks s final slept c.start_clock-start.result at c.start_clock-start.ensures in
-    let few = few_clocks s c.requires.can c.always.ensures.held in
-    let units = few_units n.e_clk (slept.clock - c.start_clock-start.result) c.args.costs.now.in_limits.e_clk (omega (arith, clocks, few)) in
+    let units = drained_units c.loop-entry.invariant c.in_default.ensures.enters c.always-2.ensures.held c.self_refresh-slept.ensures.goes c.start_clock-start.ensures c.requires.can c.always.ensures.held c.args.costs.now.in_limits.e_clk in
     omega (arith, units, c.loop-entry.invariant.spent, c.self_refresh-slept.ensures.cost)
 
 pub returns-clause-drains : goal.returns-clause-drains
 returns-clause-drains c =
-    let n = c.args.costs.now.numbers in
-    let s = c.args.channel.now in
-    let now = c.entry_step.new.channel in
-    let end = c.loop-entry.end in
-    let slept = c.self_refresh-slept.result in
-    let final = c.self_refresh-slept.new.channel in
-    let left = none_left n s c.loop-entry.channel now end.clock end c.in_default.ensures.enters c.loop-entry.invariant in
-    let at = drained_progress n s now final end slept left.1 left.0 c.always-2.ensures.held c.self_refresh-slept.ensures.goes in
-    drained_channel n s now final end slept left.1 left.0 c.always-2.ensures.held c.self_refresh-slept.ensures.goes c.self_refresh-slept.ensures.stepped c.self_refresh-slept.ensures.asleep
+    drained_channel c.loop-entry.invariant c.in_default.ensures.enters c.always-2.ensures.held c.self_refresh-slept.ensures.goes c.self_refresh-slept.ensures.stepped c.self_refresh-slept.ensures.asleep
 
 pub returns-clause-clocks : goal.returns-clause-clocks
 returns-clause-clocks c =
-    let n = c.args.costs.now.numbers in
-    let s = c.args.channel.now in
-    let now = c.entry_step.new.channel in
-    let end = c.loop-entry.end in
-    let slept = c.self_refresh-slept.result in
-    let final = c.self_refresh-slept.new.channel in
-    let left = none_left n s c.loop-entry.channel now end.clock end c.in_default.ensures.enters c.loop-entry.invariant in
-    let at = drained_progress n s now final end slept left.1 left.0 c.always-2.ensures.held c.self_refresh-slept.ensures.goes in
-    let clocks = its_clocks s final slept c.start_clock-start.result at c.start_clock-start.ensures in
-    clocks
+    drained_clocks c.loop-entry.invariant c.in_default.ensures.enters c.always-2.ensures.held c.self_refresh-slept.ensures.goes c.start_clock-start.ensures
 
 pub returns-clause-spent : goal.returns-clause-spent
 returns-clause-spent c =
-    let n = c.args.costs.now.numbers in
-    let s = c.args.channel.now in
-    let now = c.entry_step.new.channel in
-    let end = c.loop-entry.end in
-    let slept = c.self_refresh-slept.result in
-    let final = c.self_refresh-slept.new.channel in
-    let left = none_left n s c.loop-entry.channel now end.clock end c.in_default.ensures.enters c.loop-entry.invariant in
-    let at = drained_progress n s now final end slept left.1 left.0 c.always-2.ensures.held c.self_refresh-slept.ensures.goes in
-    let clocks = its_clocks s final slept c.start_clock-start.result at c.start_clock-start.ensures in
-    drained_spent n s now final end slept left.1 left.0 c.always-2.ensures.held c.self_refresh-slept.ensures.goes (slept.clock - c.start_clock-start.result) clocks
+    drained_spent c.loop-entry.invariant c.in_default.ensures.enters c.always-2.ensures.held c.self_refresh-slept.ensures.goes c.start_clock-start.ensures
 
 pub returns-clause-most_clocks : goal.returns-clause-most_clocks
 returns-clause-most_clocks c =
-    let n = c.args.costs.now.numbers in
-    let s = c.args.channel.now in
-    let now = c.entry_step.new.channel in
-    let end = c.loop-entry.end in
-    let slept = c.self_refresh-slept.result in
-    let final = c.self_refresh-slept.new.channel in
-    let left = none_left n s c.loop-entry.channel now end.clock end c.in_default.ensures.enters c.loop-entry.invariant in
-    let at = drained_progress n s now final end slept left.1 left.0 c.always-2.ensures.held c.self_refresh-slept.ensures.goes in
-    let clocks = its_clocks s final slept c.start_clock-start.result at c.start_clock-start.ensures in
-    its_most_clocks s (slept.clock - c.start_clock-start.result) c.requires.can c.always.ensures.held clocks
+    drained_most_clocks c.loop-entry.invariant c.in_default.ensures.enters c.always-2.ensures.held c.self_refresh-slept.ensures.goes c.start_clock-start.ensures c.requires.can c.always.ensures.held
 
 pub returns-clause-most_spent : goal.returns-clause-most_spent
 returns-clause-most_spent c =
-    let n = c.args.costs.now.numbers in
-    let s = c.args.channel.now in
-    let now = c.entry_step.new.channel in
-    let end = c.loop-entry.end in
-    let slept = c.self_refresh-slept.result in
-    let final = c.self_refresh-slept.new.channel in
-    let left = none_left n s c.loop-entry.channel now end.clock end c.in_default.ensures.enters c.loop-entry.invariant in
-    let at = drained_progress n s now final end slept left.1 left.0 c.always-2.ensures.held c.self_refresh-slept.ensures.goes in
-    let clocks = its_clocks s final slept c.start_clock-start.result at c.start_clock-start.ensures in
-    its_most_spent c.args.costs.now s _ c.requires.costs c.requires.can c.always.ensures.held (drained_spent n s now final end slept left.1 left.0 c.always-2.ensures.held c.self_refresh-slept.ensures.goes (slept.clock - c.start_clock-start.result) clocks)
+    let spent = drained_spent c.loop-entry.invariant c.in_default.ensures.enters c.always-2.ensures.held c.self_refresh-slept.ensures.goes c.start_clock-start.ensures in
+    its_most_spent c.args.costs.now c.args.channel.now _ c.requires.costs c.requires.can c.always.ensures.held spent
