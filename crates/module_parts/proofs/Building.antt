@@ -32,6 +32,7 @@ use Rattle.module_parts.specs.Seen.{line_there, line_with, open_on, open_read_of
 use Rattle.module_parts.proofs.Changing.{awake-dry, get-set, parts-set}
 use Rattle.module_parts.proofs.EarlyClocks.{early-kept}
 use Rattle.module_parts.proofs.Settling.{carried}
+use Rattle.module_parts.proofs.Untouched.{set-elsewhere, set-here}
 
 range-at : (a n k x : ℕ) → slice_get (range_with_len a n) k ≡ Some x → x ≡ a + k
 range-at a zero k x at = absurd cc
@@ -64,7 +65,7 @@ zero-parts checked depth reads costs held = record {
         most_reads = ap (λ (x : ChannelState). x.most_reads) is;
         hold = ap (λ (x : ChannelState). x.hold) is;
         running = λ n e less. (ap (λ (x : ChannelState). x.phase) is, subst (λ (x : ChannelState). clock_of x < 2 ^ 62 + 2 ^ 24) (sym is) zero-clock);
-        dry = λ n e less. awake-dry (zero_parts checked depth reads costs) number s refl n e less;
+        dry = λ n e less. awake-dry {p = zero_parts checked depth reads costs} s refl refl n e less;
       };
 }
 
@@ -77,19 +78,6 @@ zero-fresh checked depth reads number s at =
       requests = ap (λ (x : ChannelState). x.requests) is;
     }
 
-pub set-here : {X : Type 0} (xs : List X) (i : ℕ) (x y : X) → slice_get xs i ≡ Some x → slice_get (slice_set xs i y) i ≡ Some y
-set-here [] i x y at = absurd cc
-set-here (z ∷ xs) zero x y at = refl
-set-here (z ∷ xs) (suc i) x y at = set-here xs i x y at
-
-pub set-elsewhere : {X : Type 0} (xs : List X) (i j : ℕ) (y : X) → j ≢ i → slice_get (slice_set xs i y) j ≡ slice_get xs j
-set-elsewhere [] i j y apart = refl
-set-elsewhere (z ∷ xs) zero zero y apart = absurd (apart refl)
-set-elsewhere (z ∷ xs) zero (suc j) y apart = refl
-set-elsewhere (z ∷ xs) (suc i) zero y apart = refl
-set-elsewhere (z ∷ xs) (suc i) (suc j) y apart = set-elsewhere xs i j y (λ e. apart (ap suc e))
-
--- a channel whose array alone has changed waits for no more than before
 pub loaded-fresh : (old new : PartsState) (place : Place) (bytes : List ℕ) → AreFresh old.channels → LoadsPlace old place bytes new → AreFresh new.channels
 loaded-fresh old new place bytes fresh (s, at, is) j t there =
     let set = get-set old.channels place.channel (loaded_at s place bytes) j t (ap (λ (p : PartsState). slice_get p.channels j) (sym is) ∙ there) in

@@ -33,9 +33,9 @@ pub record Keeps (s new : ChannelState) : Type 0 where
   pub runs : RunsEarly s → RunsEarly new
 
 -- before the first drain no channel has to be dry
-pub awake-dry : (p : PartsState) (i : ℕ) (t : ChannelState) → p.drained ≡ Some 0 → (n : ℕ) → p.drained ≡ Some n → i < n → IsDry t
-awake-dry p i t awake n e less =
-    let both : Some 0 ≡ Some n = sym awake ∙ e in
+pub awake-dry : {p q : PartsState} {i : ℕ} (t : ChannelState) → p ≡ q → q.drained ≡ Some 0 → (n : ℕ) → p.drained ≡ Some n → i < n → IsDry t
+awake-dry t is awake n e less =
+    let both : Some 0 ≡ Some n = sym awake ∙ sym (ap (λ (parts : PartsState). parts.drained) is) ∙ e in
     let same : 0 ≡ n = cc in
     absurd (omega (arith, same, less))
 

@@ -4,7 +4,6 @@ use Rattle.std.specs.List.{flat_map}
 use Rattle.std.proofs.lemmas.Bool.Decides.{eqb_tells}
 use Rattle.std.proofs.lemmas.List.Elements.{All-append, All-nil}
 use Rattle.std.proofs.lemmas.Option.{slice_get-get_or}
-use Rattle.ddr4_timing.specs.Limits.{lines_of}
 use Rattle.ddr4_timing.specs.declared.place.Place.{Place}
 use Rattle.chan_core.specs.Always.{IsHeld}
 use Rattle.chan_core.specs.Calls.{AnswersCollect}
@@ -22,10 +21,10 @@ use Rattle.line_channels.specs.Waits.{Goes, Has, IsNewTicket, OpenRead, Remain, 
 use Rattle.module_parts.specs.Carrying.{CarryWritten}
 use Rattle.module_parts.specs.Collecting.{reads_of, told_collected}
 use Rattle.module_parts.specs.Parts.{AreParts, IsDry, PartsState}
-use Rattle.module_parts.specs.Seen.{open_on, open_read_of, seen_by_lines, waiting_on, waits_in}
+use Rattle.module_parts.specs.Seen.{open_on, open_read_of, waiting_on, waits_in}
 use Rattle.module_parts.proofs.Changing.{parts-set}
 use Rattle.module_parts.proofs.EarlyClocks.{early-kept}
-use Rattle.module_parts.proofs.Keeping.{array-same, written-kept}
+use Rattle.module_parts.proofs.Keeping.{written-kept}
 use Rattle.module_parts.proofs.Piles.{one-goes, one-stays}
 
 pub map-removed : {X Y : Type 0} (f : X → Y) (xs : List X) (i : ℕ) → map f (remove xs i) ≡ remove (map f xs) i
@@ -160,14 +159,6 @@ module _ (p : PartsState) (i : ℕ) (s t : ChannelState) where
     hold = ap (λ (x : ChannelState). x.hold) rest;
     runs = early-kept s t (ap (λ (x : ChannelState). x.phase) rest) (ap (λ (x : ChannelState). x.commands) rest);
   }) (λ n e less. dry ((are.each i s at).dry n e less))
-
-pub collected-rest : (place_of : ℕ → Place) (p : PartsState) (i : ℕ) (s t : ChannelState) → slice_get p.channels i ≡ Some s → t ≡ record s { tickets = t.tickets }
-    → seen_by_lines place_of (record p { channels = slice_set p.channels i t })
-    ≡ record (seen_by_lines place_of p) { waits = (seen_by_lines place_of (record p { channels = slice_set p.channels i t })).waits }
-collected-rest place_of p i s t at rest =
-    let new : PartsState = record p { channels = slice_set p.channels i t } in
-    ap (λ (lines : List (List ℕ)). record (seen_by_lines place_of new) { array = lines })
-    (array-same place_of p.checked.geometry (lines_of p.checked.geometry) p.channels i s t at (ap (λ (x : ChannelState). x.array) rest))
 
 pub collected-keeps : (place_of : ℕ → Place) (p : PartsState) (i : ℕ) (s t : ChannelState) → slice_get p.channels i ≡ Some s → t ≡ record s { tickets = t.tickets }
     → AreParts (record p { channels = slice_set p.channels i t }) → Keeps (CarryWritten place_of p) (CarryWritten place_of (record p { channels = slice_set p.channels i t }))

@@ -1,43 +1,22 @@
 -- What channels carry is carried still where one of them has fewer pending writes, and the memory below each number stays.
-use Rattle.std.proofs.Common.{rules, ◌≡◌, ◌==◌, ◌||◌, ℕ, zero, suc, ◌+◌, Bool, true, false, List, [], ◌∷◌, length, map, slice_get, slice_index_or, slice_set, Some, refl, sym, ap, ◌∙◌, ⊎_elim}
-use Rattle.std.specs.List.{list_any, range_with_len}
+use Rattle.std.proofs.Common.{rules, ◌≡◌, ◌==◌, ◌||◌, ℕ, zero, suc, ◌+◌, Bool, true, false, List, [], ◌∷◌, length, map, slice_get, slice_set, Some, refl, sym, ap, ◌∙◌, ⊎_elim}
+use Rattle.std.specs.List.{list_any}
 use Rattle.std.proofs.lemmas.Bool.{eqb-true}
 use Rattle.std.proofs.lemmas.Bool.Decides.{eqb_tells}
 use Rattle.line_memory.specs.declared.Write.{Write}
 use Rattle.ddr4_timing.specs.declared.place.Place.{Place}
-use Rattle.ddr4_timing.specs.declared.timing.Geometry.{Geometry}
-use Rattle.interleave_map.specs.Cells.{cell_of}
 use Rattle.wpq_core.specs.declared.queue.PendingWrite.{PendingWrite}
 use Rattle.chan_core.specs.State.{ChannelState, memory_below}
-use Rattle.chan_core.proofs.Kept.{map_alike}
 use Rattle.line_channels.specs.Memory.{WaitsFrom}
 use Rattle.line_channels.specs.Waits.{Remain}
 use Rattle.module_parts.specs.Carrying.{CarryWrites, CarryWritten}
 use Rattle.module_parts.specs.Lines.{line_in}
 use Rattle.module_parts.specs.Parts.{AreParts, PartsState}
-use Rattle.module_parts.specs.Seen.{line_there, line_with, waiting_on, waiting_write, waits_in}
-use Rattle.module_parts.proofs.Building.{set-elsewhere, set-here}
+use Rattle.module_parts.specs.Seen.{waiting_on, waiting_write, waits_in}
 use Rattle.module_parts.proofs.Changing.{get-set}
 use Rattle.module_parts.proofs.Piles.{any-pile}
 use Rattle.module_parts.proofs.Settling.{carried}
-
--- the line at a place, where one channel has changed and these lines of it have not
-pub line-same : (lines : ChannelState → List (List ℕ)) (g : Geometry) (channels : List ChannelState) (i : ℕ) (s t : ChannelState) (place : Place) → slice_get channels i ≡ Some s → lines t ≡ lines s
-    → line_there lines g (slice_set channels i t) place ≡ line_there lines g channels place
-line-same lines g channels i s t place at same =
-    let cell = cell_of g place in
-    ⊎_elim
-    (λ here. ap (line_with lines cell) (ap (slice_get (slice_set channels i t)) here.1 ∙ set-here channels i s t at)
-    ∙ ap (λ (ls : List (List ℕ)). slice_index_or ls cell []) same
-    ∙ sym (ap (line_with lines cell) (ap (slice_get channels) here.1 ∙ at)))
-    (λ other. ap (line_with lines cell) (set-elsewhere channels i place.channel t other.1))
-    (eqb_tells place.channel i)
-
-pub array-same : (place_of : ℕ → Place) (g : Geometry) (n : ℕ) (channels : List ChannelState) (i : ℕ) (s t : ChannelState) → slice_get channels i ≡ Some s → t.array ≡ s.array
-    → map (λ line. line_there (λ s. s.array) g (slice_set channels i t) (place_of line)) (range_with_len 0 n) ≡ map (λ line. line_there (λ s. s.array) g channels (place_of line)) (range_with_len 0 n)
-array-same place_of g n channels i s t at same =
-    map_alike (λ (line : ℕ). line_there (λ s. s.array) g (slice_set channels i t) (place_of line)) (λ (line : ℕ). line_there (λ s. s.array) g channels (place_of line)) (range_with_len 0 n)
-    (λ k line there. line-same (λ s. s.array) g channels i s t (place_of line) at same)
+use Rattle.module_parts.proofs.Untouched.{line-stays}
 
 -- an element of a list that passes a test
 pub record Passing {A : Type 0} (p : A → Bool) (xs : List A) : Type 0 where
@@ -134,7 +113,7 @@ module _ (p : PartsState) (i : ℕ) (s t : ChannelState) (at : slice_get p.chann
         let other = was-there l b v y at_v at_y in
         carry.apart j l was.index other.index was.state other.state x y was.stands other.stands was.there other.there same;
     lines = λ n within waits line less.
-        line-same (memory_below n) p.checked.geometry p.channels i s t (place_of line) at (keeps n waits)
+        line-stays (memory_below n) p i s t (place_of line) at (keeps n waits)
         ∙ carry.lines n within (waited (line_in p.checked.geometry place_of) n (start + length writes) waits) line less;
   }
 

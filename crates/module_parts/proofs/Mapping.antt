@@ -32,12 +32,60 @@ any-below-is line_at n (x ∷ xs) =
     ∙ ap (λ b. list_any (λ w. nat_lt w.number n) (waiting_on line_at x) || b) (any-below-is line_at n xs)
     ∙ sym (list_any-append (λ w. nat_lt w.number n) (waiting_on line_at x) (flat_map (waiting_on line_at) xs))
 
-pub lies-on : (is_lawful : Type 0) (geometry : Geometry) (lies_at : ℕ → Place → Type 0) (place_of : ℕ → Place) (p : PartsState) (i line : ℕ) (s : ChannelState)
-    → HasPlaces is_lawful geometry p.checked.geometry lies_at place_of → IsPart p i s → i ≡ (place_of line).channel → line < lines_of p.checked.geometry → LiesOn lies_at s line
-lies-on is_lawful geometry lies_at place_of p i line s has part number less = record {
-  below = subst (λ (k : Checked). line < lines_of k.geometry) (sym part.checked) less;
-  here = λ place lies. ap (λ (x : Place). x.channel) (has.only line place less lies) ∙ sym number ∙ sym part.channel;
+-- A channel of the parts as they are inside a call (p), which the call's clauses have as q.
+pub record StandsIn (p q : PartsState) (i : ℕ) (s : ChannelState) : Type 0 where
+  pub is : p ≡ q
+  pub are : AreParts p
+  pub at : slice_get p.channels i ≡ Some s
+
+pub stands-among : {p q : PartsState} {i : ℕ} {s : ChannelState} → p ≡ q → AreParts p → i < length p.channels → s ≡ get_or p.channels i s → StandsIn p q i s
+stands-among {p} {q} {i} {s} is are less value = record { is = is; are = are; at = stands-at p.channels i s less value }
+
+pub stands-in : {p q : PartsState} {i : ℕ} {s : ChannelState} → p ≡ q → AreParts p → i < q.checked.geometry.channels → s ≡ get_or p.channels i s → StandsIn p q i s
+stands-in {p} {q} {i} {s} is are less value =
+    let below = subst (λ (q : PartsState). i < q.checked.geometry.channels) (sym is) less in
+    stands-among is are (omega (arith, below, are.count)) value
+
+abbrev pub inside : {p q : PartsState} {i : ℕ} {s : ChannelState} → StandsIn p q i s → PartsState
+inside {p} stands = p
+
+-- the one of a line
+pub record StandsFor (place_of : ℕ → Place) (p q : PartsState) (line i : ℕ) (s : ChannelState) : Type 0 where
+  pub is : p ≡ q
+  pub are : AreParts p
+  pub at : slice_get p.channels i ≡ Some s
+  pub on : i ≡ (place_of line).channel
+  pub less : line < lines_of p.checked.geometry
+
+pub stands-for : (place_of : ℕ → Place) {p q : PartsState} {line i : ℕ} {s : ChannelState} → p ≡ q → AreParts p → line < lines_of q.checked.geometry → i ≡ (place_of line).channel → i < length q.channels
+    → s ≡ get_or p.channels i s → StandsFor place_of p q line i s
+stands-for place_of {p} {q} {line} {i} {s} is are less on within value = record {
+  is = is;
+  are = are;
+  at = stands-at p.channels i s (subst (λ (q : PartsState). i < length q.channels) (sym is) within) value;
+  on = on;
+  less = subst (λ (q : PartsState). line < lines_of q.checked.geometry) (sym is) less;
 }
+
+abbrev pub inside-for : {place_of : ℕ → Place} {p q : PartsState} {line i : ℕ} {s : ChannelState} → StandsFor place_of p q line i s → PartsState
+inside-for {place_of} {p} stands = p
+
+module _ {place_of : ℕ → Place} {p q : PartsState} {line i : ℕ} {s : ChannelState} (stands : StandsFor place_of p q line i s) where
+  pub there : slice_get p.channels (place_of line).channel ≡ Some s
+  there = subst (λ (n : ℕ). slice_get p.channels n ≡ Some s) stands.on stands.at
+
+  part : IsPart p i s
+  part = stands.are.each i s stands.at
+
+  module _ {is_lawful : Type 0} {geometry : Geometry} {lies_at : ℕ → Place → Type 0} (has : HasPlaces is_lawful geometry p.checked.geometry lies_at place_of) where
+    pub same-geometry : geometry ≡ s.checked.geometry
+    same-geometry = has.geometry_is ∙ sym (ap (λ (k : Checked). k.geometry) part.checked)
+
+    pub lies-on : LiesOn lies_at s line
+    lies-on = record {
+      below = subst (λ (k : Checked). line < lines_of k.geometry) (sym part.checked) stands.less;
+      here = λ place lies. ap (λ (x : Place). x.channel) (has.only line place stands.less lies) ∙ sym stands.on ∙ sym part.channel;
+    }
 
 pub stored-there : (p : PartsState) (i : ℕ) (s : ChannelState) (place : Place) → slice_get p.channels i ≡ Some s → i ≡ place.channel → s.checked ≡ p.checked
     → slice_index_or s.array (cell_of s.checked.geometry place) [] ≡ line_there (λ s. s.array) p.checked.geometry p.channels place

@@ -41,6 +41,7 @@ use Rattle.module_parts.proofs.Changing.{get-set, parts-set}
 use Rattle.module_parts.proofs.Collecting.{map-removed}
 use Rattle.module_parts.proofs.Keeping.{numbered, was-there, written-kept}
 use Rattle.module_parts.proofs.Piles.{one-becomes, one-goes, one-stays}
+use Rattle.module_parts.proofs.Untouched.{set-same}
 
 greatest-head : (test : ℕ → Bool) (n k : ℕ) (b : Bool) → test n ≡ b → k < suc n → test k ≡ true → (k < n → test (greatest_below test n) ≡ true) → test (if b then n else greatest_below test n) ≡ true
 greatest-head test n k true is less passes rest = is
@@ -259,12 +260,6 @@ issued-parts p i s t are at done issues held early dry = parts-set p i s t are a
 }) dry
 
 -- a list in which an element is set to itself
-pub set-same : {X : Type 0} (xs : List X) (i : ℕ) (x : X) → slice_get xs i ≡ Some x → slice_set xs i x ≡ xs
-set-same [] i x at = absurd cc
-set-same (y ∷ xs) zero x at = let same : x ≡ y = cc in ap (λ z. z ∷ xs) same
-set-same (y ∷ xs) (suc i) x at = ap (λ rest. y ∷ rest) (set-same xs i x at)
-
--- What follows of a channel's work for all of them.
 module _ (place_of : ℕ → Place) (p : PartsState) (i : ℕ) (s t : ChannelState) (are : AreParts p) (at : slice_get p.channels i ≡ Some s) (held : IsHeld t) where
   pub work-parts : (result : Option Done) → IfNone result (t ≡ s) → IfSome result (λ done. (issued : ChannelDone) × IssuesChoice s issued t × (done ≡ told_done issued))
       → (RunsEarly s → RunsEarly t) → ((n : ℕ) → p.drained ≡ Some n → i < n → IsDry t) → AreParts (record p { channels = slice_set p.channels i t })
