@@ -13,7 +13,7 @@ ghost use Rattle.slot_store.specs.Slots.{IsCapacity};
 
 use crate::ready::Ready;
 use ddr4_timing::timing::Checked;
-use energy_budget::{CostNumbers, Costs, Energy};
+use energy_budget::{Costs, Energy, TINY_COSTS};
 use interleave_map::cells::line_count;
 use interleave_map::line_map::{LineMap, Places};
 use life_record::LifeRecord;
@@ -29,19 +29,6 @@ use thiserror::Error;
 
 /// How many writes may wait in a channel, and how many of its reads may be open.
 const DEPTH: usize = 8;
-
-const NUMBERS: CostNumbers = CostNumbers {
-    e_act: 4,
-    e_col: 2,
-    e_pre: 1,
-    e_ref: 20,
-    e_sre: 1,
-    e_clk: 1,
-    e_mark: 50,
-    e_sync: 100,
-    e_page: 1000,
-    leak: 1,
-};
 
 /// Why there is no module for a profile and a device.
 #[derive(Clone, Copy, Debug, PartialEq, Eq, Error)]
@@ -137,10 +124,10 @@ pub fn open<'m, M: LineMap, P: Places, D: SaveDevice + Drop, E: Energy + Drop>(
     ensures parts { IfOk result (λ ready. ready.opening.parts ≡ hosts) }
     ensures new { IfOk result (λ ready. ready.life.history.writes ≡ []) }
 {
-    if !NUMBERS.is_in_limits() {
+    if !TINY_COSTS.is_in_limits() {
         return Err(Unfit::Costs.into());
     }
-    let costs = Costs::of(checked, &NUMBERS);
+    let costs = Costs::of(checked, &TINY_COSTS);
     let lines = capacity_of(checked)?;
     if device.len() != device_size(lines) {
         return Err(Unfit::Device.into());

@@ -32,6 +32,20 @@ pub struct CostNumbers {
     pub leak: u64,
 }
 
+/// The costs of the profile `tiny`.
+pub const TINY_COSTS: CostNumbers = CostNumbers {
+    e_act: 4,
+    e_col: 2,
+    e_pre: 1,
+    e_ref: 20,
+    e_sre: 1,
+    e_clk: 1,
+    e_mark: 50,
+    e_sync: 100,
+    e_page: 1000,
+    leak: 1,
+};
+
 /// The costs of a closing save on one profile.
 #[derive(Clone, Copy, Debug, PartialEq, Eq)]
 pub struct Costs {

@@ -1,7 +1,7 @@
 // Profiles at their limits and one past them, and texts that are none.
 use crate::check::same;
 use ddr4_timing::profiles;
-use energy_budget::CostNumbers;
+use energy_budget::TINY_COSTS;
 use nv_profile::{MapWord, ModuleSizes, Profile, ProfileFault, TINY, read_profile};
 use std::alloc::Global;
 use std::process::Abort;
@@ -74,18 +74,6 @@ fn timing_of_tiny(rt: HostRuntime) {
 
 #[test]
 fn costs_and_sizes_of_tiny(rt: HostRuntime) {
-    let costs = CostNumbers {
-        e_act: 4,
-        e_col: 2,
-        e_pre: 1,
-        e_ref: 20,
-        e_sre: 1,
-        e_clk: 1,
-        e_mark: 50,
-        e_sync: 100,
-        e_page: 1000,
-        leak: 1,
-    };
     let sizes = ModuleSizes {
         depth: 8,
         reads: 8,
@@ -93,7 +81,7 @@ fn costs_and_sizes_of_tiny(rt: HostRuntime) {
         notices: 64,
     };
     let profile = tiny(&rt);
-    same(&rt, profile.costs, costs);
+    same(&rt, profile.costs, TINY_COSTS);
     same(&rt, profile.sizes, sizes);
     same(&rt, profile.map, MapWord::Lines);
 }

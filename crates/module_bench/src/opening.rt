@@ -7,7 +7,7 @@ ghost use Rattle.ddr4_timing.specs.Limits.{lines_of};
 use crate::load::Load;
 use crate::measured::Stall;
 use ddr4_timing::timing::Checked;
-use energy_budget::{CostNumbers, Costs};
+use energy_budget::{Costs, TINY_COSTS};
 use interleave_map::cells::line_count;
 use interleave_map::line_map::{LineMap, Places};
 use module_core::{Module, Opened};
@@ -21,19 +21,6 @@ pub const DEPTH: usize = 64;
 
 /// How many writes a module may accept.
 const TRAIL: u64 = 1 << 40;
-
-const NUMBERS: CostNumbers = CostNumbers {
-    e_act: 4,
-    e_col: 2,
-    e_pre: 1,
-    e_ref: 20,
-    e_sre: 1,
-    e_clk: 1,
-    e_mark: 50,
-    e_sync: 100,
-    e_page: 1000,
-    leak: 1,
-};
 
 /// How many lines a profile has, where they make whole pages.
 pub(crate) fn capacity_of(checked: &Checked) -> Result<usize, Stall>
@@ -58,10 +45,10 @@ pub(crate) fn open<'m, M: LineMap, P: Places, D: SaveDevice + Drop>(
     requires places { HasPlaces (M.is_lawful map.now) (M.geometry_of map.now)
         checked.now.geometry (M.lies_at map.now) P.place_of }
 {
-    if !NUMBERS.is_in_limits() {
+    if !TINY_COSTS.is_in_limits() {
         return Err(Stall::Costs.into());
     }
-    let costs = Costs::of(checked, &NUMBERS);
+    let costs = Costs::of(checked, &TINY_COSTS);
     let lines = capacity_of(checked)?;
     if device.len() != device_size(lines) {
         return Err(Stall::Device.into());

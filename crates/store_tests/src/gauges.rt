@@ -5,25 +5,12 @@ use crate::check::same;
 use ddr4_timing::command::Command;
 use ddr4_timing::profiles::{SMALL, TINY};
 use ddr4_timing::timing::Checked;
-use energy_budget::{Action, CostNumbers, Costs, Dark, Energy, Meter, Wild};
+use energy_budget::{Action, CostNumbers, Costs, Dark, Energy, Meter, TINY_COSTS, Wild};
 use std::process::Abort;
 
 fn tiny<R: Abort>(rt: &R) -> Checked {
     TINY.check(&SMALL).expect(rt, "a profile")
 }
-
-const NUMBERS: CostNumbers = CostNumbers {
-    e_act: 4,
-    e_col: 2,
-    e_pre: 1,
-    e_ref: 20,
-    e_sre: 1,
-    e_clk: 1,
-    e_mark: 50,
-    e_sync: 100,
-    e_page: 1000,
-    leak: 1,
-};
 
 // All ten of them alike.
 fn alike(e: u64) -> CostNumbers
@@ -47,7 +34,7 @@ fn alike(e: u64) -> CostNumbers
 
 #[test]
 fn worked_sums(rt: HostRuntime) {
-    let costs = Costs::of(&tiny(&rt), &NUMBERS);
+    let costs = Costs::of(&tiny(&rt), &TINY_COSTS);
     same(&rt, costs.cost(Action::EntryStep), 513);
     same(&rt, costs.cost(Action::CloseStep), 439);
     let frame = [
@@ -158,9 +145,13 @@ fn other_costs_past_their_limit(rt: HostRuntime) {
 
 #[test]
 fn costs_of_commands(rt: HostRuntime) {
-    same(&rt, NUMBERS.command_cost(&Command::PreAll { rank: 0 }), 1);
-    same(&rt, NUMBERS.command_cost(&Command::Ref { rank: 0 }), 20);
-    same(&rt, NUMBERS.command_cost(&Command::Sre { rank: 0 }), 1);
+    same(
+        &rt,
+        TINY_COSTS.command_cost(&Command::PreAll { rank: 0 }),
+        1,
+    );
+    same(&rt, TINY_COSTS.command_cost(&Command::Ref { rank: 0 }), 20);
+    same(&rt, TINY_COSTS.command_cost(&Command::Sre { rank: 0 }), 1);
 }
 
 // Pays the costs in turn until one is refused, and answers how many were paid.

@@ -5,7 +5,7 @@ use chan_core::{Channel, Phase, Served};
 use ddr4_timing::timing::Checked;
 use drain_core::laws::running_channel_may_drain;
 use drain_core::{DrainReport, drain};
-use energy_budget::{CostNumbers, Costs};
+use energy_budget::{Costs, TINY_COSTS};
 use interleave_map::cells::cells;
 use interleave_map::line_map::LineMap;
 use std::alloc::Global;
@@ -13,19 +13,6 @@ use std::marker::Model;
 
 /// How many writes are pending.
 pub(crate) const DEPTH: usize = 64;
-
-const NUMBERS: CostNumbers = CostNumbers {
-    e_act: 4,
-    e_col: 2,
-    e_pre: 1,
-    e_ref: 20,
-    e_sre: 1,
-    e_clk: 1,
-    e_mark: 50,
-    e_sync: 100,
-    e_page: 1000,
-    leak: 1,
-};
 
 /// Channel 0 of a profile, with the number of its next write and the stream that its writes come from.
 #[derive(Drop)]
@@ -57,14 +44,14 @@ impl<'m, M: LineMap> Load<'m, M> {
         requires lawful { M.is_lawful map.now }
         requires geometry { M.geometry_of map.now ≡ checked.now.geometry }
     {
-        if !NUMBERS.is_in_limits() {
+        if !TINY_COSTS.is_in_limits() {
             anyhow::bail!("no such costs");
         }
         let mut load = Load {
             map,
             checked: *checked,
             channel: Channel::new(alloc, checked, 0, DEPTH, 1)?,
-            costs: Costs::of(checked, &NUMBERS),
+            costs: Costs::of(checked, &TINY_COSTS),
             number: 0,
             salt: 7,
         };

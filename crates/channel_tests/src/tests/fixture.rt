@@ -10,25 +10,12 @@ use ddr4_timing::place::Place;
 use ddr4_timing::timing::{Checked, Geometry, Timing};
 use drain_core::laws::running_channel_may_drain;
 use drain_core::{DrainReport, drain};
-use energy_budget::{CostNumbers, Costs};
+use energy_budget::{Costs, TINY_COSTS};
 use interleave_map::cells::cells;
 use interleave_map::line_map::LineMap;
 use line_memory::Line;
 use std::process::Abort;
 use wpq_core::Full;
-
-pub(crate) const NUMBERS: CostNumbers = CostNumbers {
-    e_act: 4,
-    e_col: 2,
-    e_pre: 1,
-    e_ref: 20,
-    e_sre: 1,
-    e_clk: 1,
-    e_mark: 50,
-    e_sync: 100,
-    e_page: 1000,
-    leak: 1,
-};
 
 /// Channel 0 of a profile, with the map `lines`, its costs and the number of its next write.
 #[derive(Drop)]
@@ -51,13 +38,13 @@ impl Fixture {
         reads: usize,
     ) -> Fixture {
         assert!(*rt; depth >= 1 && depth <= 64 && reads <= 64);
-        assert!(*rt; NUMBERS.is_in_limits());
+        assert!(*rt; TINY_COSTS.is_in_limits());
         let checked = timing.check(geometry).expect(rt, "a profile");
         let channel = Channel::new(rt.alloc(), &checked, 0, depth, reads).expect(rt, "memory");
         Fixture {
             map: ByLines { checked },
             channel,
-            costs: Costs::of(&checked, &NUMBERS),
+            costs: Costs::of(&checked, &TINY_COSTS),
             number: 0,
         }
     }

@@ -7,7 +7,6 @@ ghost use Rattle.ddr4_timing.specs.declared.command.Command.TheVariants.{Act};
 
 use crate::tests::by_lines::ByLines;
 use crate::tests::check::same;
-use crate::tests::fixture::NUMBERS;
 use crate::tests::profiles::behind;
 use chan_core::Channel;
 use ddr4_timing::command::{Command, Stamped};
@@ -16,7 +15,7 @@ use ddr4_timing::place::BankAddress;
 use ddr4_timing::profiles::{SMALL, TINY};
 use ddr4_timing::timing::Checked;
 use drain_core::{DrainReport, drain};
-use energy_budget::Costs;
+use energy_budget::{Costs, TINY_COSTS};
 use std::process::Abort;
 
 // Opens a row at a clock, as the first command of a channel, and drains it from the next clock on.
@@ -67,8 +66,8 @@ fn drain_behind<R: Abort>(
     requires checked { channel.old.checked ≡ checked.now }
     requires new { channel.old.commands ≡ [] }
 {
-    assert!(*rt; NUMBERS.is_in_limits() && clock < 1 << 32);
-    let costs = Costs::of(checked, &NUMBERS);
+    assert!(*rt; TINY_COSTS.is_in_limits() && clock < 1 << 32);
+    let costs = Costs::of(checked, &TINY_COSTS);
     let end = clock + 1 + (costs.close + costs.ranks);
     assert!(*rt; end <= 9 * checked.timing.t_refi);
     let at = FIRST_BANK;

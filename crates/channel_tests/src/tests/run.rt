@@ -1,6 +1,6 @@
 // A channel with a plain account of what went into it and what it issued.
 use crate::tests::check::same;
-use crate::tests::fixture::{Fixture, NUMBERS};
+use crate::tests::fixture::Fixture;
 use crate::tests::picks::Picks;
 use crate::tests::plain::{Plain, spent};
 use chan_core::Served;
@@ -8,7 +8,7 @@ use ddr4_timing::command::{Command, Stamped};
 use ddr4_timing::place::Place;
 use ddr4_timing::timing::{Geometry, Timing};
 use drain_core::DrainReport;
-use energy_budget::Action;
+use energy_budget::{Action, TINY_COSTS};
 use std::process::Abort;
 
 /// A channel, its commands so far, its pending writes and the byte of each of its lines.
@@ -190,7 +190,11 @@ impl Run {
         let report = drained.report;
         let clocks = self.next_clock().saturating_sub(drained.start);
         same(rt, report.clocks, clocks);
-        same(rt, report.spent, spent(&NUMBERS, &drained.commands, clocks));
+        same(
+            rt,
+            report.spent,
+            spent(&TINY_COSTS, &drained.commands, clocks),
+        );
         let costs = self.fixture.costs();
         let most = writes
             .saturating_mul(costs.entry)
