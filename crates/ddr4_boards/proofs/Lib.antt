@@ -1,2 +1,1 @@
-pub mod NamedPlaces
 pub mod NewLives

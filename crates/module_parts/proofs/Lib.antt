@@ -18,3 +18,4 @@ pub mod Working
 pub mod Paying
 pub mod Entries
 pub mod Drained
+pub mod NamedPlaces

@@ -1,7 +1,7 @@
 use Rattle.std.proofs.Common.{rules}
 use Rattle.interleave_map.specs.Interleaving.{place_by_lines}
 use Rattle.interleave_map.proofs.Closures.{closures_by_lines}
-use Rattle.module_bench.proofs.NamedPlaces.{has_places}
+use Rattle.module_parts.proofs.NamedPlaces.{has_places}
 use Rattle.module_bench.proofs.by_lines.Goals as goal
 
 pub new-map-requires : goal.new-map-requires
