@@ -8,7 +8,9 @@ use line_channels::Drainable;
 use line_memory::Write;
 use module_core::{ReadRefusal, WriteRefusal};
 use notice_book::{NoticeBook, Notices};
-use nv_workers::{Board, Closed, Ended, Host, Life, Receipt, Room, Seen, channel_worker, close};
+use nv_workers::{
+    Board, Closed, Ended, Host, Life, Receipt, Room, Seen, channel_worker, close, saver_worker,
+};
 use save_device::SaveDevice;
 use std::alloc::{AllocError, Global};
 use std::sync::Wait;
@@ -20,14 +22,15 @@ use thiserror::Error;
 /// How often a host tries its calls, all in all: where no thread is to be had, what it waits for doesn't come.
 const TRIES: u64 = 1 << 28;
 
-/// What each of so many hosts does: its writes, and then its reads, over the first lines. Mains are lost at the write of a
-/// number, where one is given; the module is armed then.
+/// What each of so many hosts does: its writes, and then its reads, over the first lines. A saver goes on beside them, where
+/// one is wanted. Mains are lost at the write of a number, where one is given; the module is armed then.
 #[derive(Clone, Copy)]
 pub(crate) struct Plan {
     pub hosts: usize,
     pub writes: u64,
     pub reads: u64,
     pub lines: u64,
+    pub saves: bool,
     pub lost_at: Option<u64>,
 }
 
@@ -166,7 +169,7 @@ where
     })
 }
 
-// The hosts at once, with a worker for each channel beside them.
+// The hosts at once, with the workers beside them.
 fn run<C, D, B, N, R>(
     rt: &R,
     alloc: Global,
@@ -188,8 +191,8 @@ where
     let (ended, told) = thread::join(
         rt,
         || -> Result<Vec<Ended>, AllocError>
-            requires { channels ≡ B.channels }
-        { work_all(rt, alloc, board, channels, &gate) },
+            requires { C.reaches × (channels ≡ B.channels) }
+        { work_all(rt, alloc, board, channels, &gate, plan) },
         || -> Result<Vec<Result<Told<B>, AllocError>>, AllocError>
             requires { C.reaches }
         { host_all(rt, alloc, board, hosts, &gate, plan) },
@@ -226,13 +229,38 @@ where
     told
 }
 
-// A worker for each channel.
+// A channel's worker, or behind those the saver.
+fn work_one<C, D, B, N, R>(
+    rt: &R,
+    board: &Board<C, D, Meter, B, N>,
+    channels: u64,
+    worker: u64,
+    gate: &UntilDone,
+) -> Ended
+where
+    C: Drainable,
+    D: SaveDevice,
+    B: Room,
+    N: Notices,
+    R: Wait,
+    requires reaches { C.reaches }
+    requires channels { channels ≡ B.channels }
+{
+    if worker < channels {
+        channel_worker(rt, board, worker, gate)
+    } else {
+        saver_worker(rt, board, channels, gate)
+    }
+}
+
+// A worker for each channel, and a saver where the plan has one.
 fn work_all<C, D, B, N, R>(
     rt: &R,
     alloc: Global,
     board: &Board<C, D, Meter, B, N>,
     channels: u64,
     gate: &UntilDone,
+    plan: &Plan,
 ) -> Result<Vec<Ended>, AllocError>
 where
     C: Drainable + Send,
@@ -240,15 +268,17 @@ where
     B: Room + Send + Sync,
     N: Notices + Send,
     R: Threads + Wait + Sync,
-    requires { channels ≡ B.channels }
+    requires reaches { C.reaches }
+    requires channels { channels ≡ B.channels }
 {
+    let workers = channels.saturating_add(u64::from(plan.saves));
     thread::map_indices(
         rt,
         alloc,
-        channels as usize,
-        &|channel: usize| -> Ended
-            requires { channel < B.channels }
-        { channel_worker(rt, board, channel as u64, gate) },
+        workers as usize,
+        &|worker: usize| -> Ended
+            requires { C.reaches × (channels ≡ B.channels) }
+        { work_one(rt, board, channels, worker as u64, gate) },
     )
 }
 

@@ -56,7 +56,7 @@ fn differing(earlier: &LifeRecord, later: &LifeRecord, lines: u64, count: u64) -
     differ
 }
 
-/// A life of a board from a formatted device on; where its mains were lost, what the next life begins with.
+/// A life of a board from a formatted device on; where it was saved or its mains were lost, what the next life begins with.
 pub(crate) fn life_over<M, P, R>(
     rt: &R,
     alloc: Global,
@@ -85,7 +85,7 @@ where
         nanos: outcome.nanos,
         back: None,
     };
-    if plan.lost_at.is_some() {
+    if plan.saves || plan.lost_at.is_some() {
         let meter = Meter::with(AMPLE, 1);
         let device = life.device;
         let next = open::<M, P, MemoryDevice, Meter>(alloc, map, checked, device, meter, TRAIL, 1)?;

@@ -1,12 +1,12 @@
 //! How fast hosts write and read at a board, beside one host alone, and a board that loses its mains amid its writes.
 //!
-//!     workers_bench         a small board, whose mains are lost at last: the same each time
+//!     workers_bench         a small board, with a saver, and with its mains lost at last: the same each time
 //!     workers_bench time    writes and reads a second of 1, 2, 4 and 8 hosts on the largest profile
 //!     workers_bench loss    10,000 writes of four hosts on the largest profile, the mains lost amid them
 //!
 //! Each host writes and reads in a pseudo-random order, with a worker for each channel beside the hosts. At the end each receipt
-//! and each answer is checked against the history; after a loss the device is restored, and its lines are compared with the
-//! history's.
+//! and each answer is checked against the history; after a saver or a loss the device is restored, and its lines are compared with
+//! the history's.
 #![tactic(auto)]
 
 ghost use Rattle.std.specs.Prelude.{◌≡◌, ◌<◌};
@@ -51,13 +51,14 @@ fn by_lines<R: Threads + Wait + Clock + Sync>(
     life_over::<_, Brand, R>(rt, alloc, &map, &checked, plan)
 }
 
-// A plan of so many hosts.
+// A plan of so many hosts, without a saver.
 fn plan_of(hosts: usize, writes: u64, reads: u64, lost_at: Option<u64>) -> Plan {
     Plan {
         hosts,
         writes,
         reads,
         lines: 128,
+        saves: false,
         lost_at,
     }
 }
@@ -74,7 +75,11 @@ fn show(rt: &HostRuntime, name: &str, plan: &Plan, lived: &Lived) -> anyhow::Res
         "{name}: {hosts} hosts, {accepted} writes accepted, {checked} receipts and answers checked"
     )?;
     if let Some(Back { count, differ }) = lived.back {
-        println!(rt; "{name}: restored {count} writes, {differ} lines differ")?;
+        if plan.lost_at.is_some() {
+            println!(rt; "{name}: restored {count} writes, {differ} lines differ")?;
+        } else {
+            println!(rt; "{name}: restored, {differ} lines differ")?;
+        }
     }
     Ok(())
 }
@@ -84,10 +89,13 @@ fn rate(lived: &Lived) -> u128 {
     (lived.checked as u128).saturating_mul(1_000_000_000) / lived.nanos.max(1)
 }
 
-// A small board, and one whose mains are lost at last.
-fn small_plans() -> [(&'static str, Plan); 2] {
+// A small board, one that is saved meanwhile, and one whose mains are lost at last.
+fn small_plans() -> [(&'static str, Plan); 3] {
+    let mut saved = plan_of(4, 100, 50, None);
+    saved.saves = true;
     [
         ("small", plan_of(4, 100, 50, None)),
+        ("small, saved", saved),
         ("small, lost", plan_of(1, 100, 0, Some(39))),
     ]
 }
