@@ -29,6 +29,7 @@ pub mod WriteRefusals
 pub mod LossSteps
 pub mod LostModules
 pub mod RunsOn
+pub mod QuietEvents
 pub mod OpenedStays
 pub mod StoppedLives
 pub mod History

@@ -1,22 +1,8 @@
 -- In any event a life stays the one that it was opened as, and but for the loss of mains what that loss was answered stays too.
-use Rattle.std.proofs.Common.{◌≡◌, ℕ, List, [], ◌∷◌, Bool, true, false, refl, ◌∙◌, ap}
-use Rattle.std.specs.Prelude.{Result, Ok, Err, Option, Some, None, MatchBool, if◌then◌else◌}
+use Rattle.std.proofs.Common.{◌≡◌, ℕ, List, [], ◌∷◌, false, ◌∙◌, ap}
+use Rattle.std.specs.Prelude.{Option}
 use Rattle.save_image.specs.Image.{Image}
-use Rattle.arm_state.specs.declared.refusal.ArmRefusal.{ArmRefusal}
-use Rattle.arm_state.specs.declared.refusal.ArmRefusal.TheVariants as refusals
-use Rattle.arm_state.specs.declared.refusal.ArmReply.{ArmReply}
-use Rattle.arm_state.specs.declared.refusal.ArmReply.TheVariants as arm
-use Rattle.arm_state.specs.declared.refusal.DisarmReply.{DisarmReply}
-use Rattle.arm_state.specs.declared.refusal.DisarmReply.TheVariants as disarm
-use Rattle.arm_state.specs.Modes.{reads_gauge}
-use Rattle.energy_budget.specs.Gauge.{Gauge, ReadsLevel}
-use Rattle.line_channels.specs.declared.answers.Done.{Done}
-use Rattle.line_channels.specs.declared.answers.Got.{Got}
 use Rattle.line_channels.specs.declared.channels.Channels.{Ghosts}
-use Rattle.line_memory.specs.declared.Write as line_write
-use Rattle.module_core.specs.declared.events.Accepted.{Accepted}
-use Rattle.module_core.specs.declared.events.WriteRefusal.{WriteRefusal}
-use Rattle.module_core.specs.declared.events.ReadRefusal.{ReadRefusal}
 use Rattle.module_core.specs.declared.events.StepReply.{StepReply}
 use Rattle.module_core.specs.declared.events.StepReply.TheVariants as step
 use Rattle.module_core.specs.declared.events.Loss.{Loss}
@@ -26,82 +12,36 @@ use Rattle.module_core.specs.declared.events.Event.TheVariants as events
 use Rattle.module_core.specs.declared.events.Reply.{Reply}
 use Rattle.module_core.specs.declared.events.Reply.TheVariants as replies
 use Rattle.module_core.specs.State.{Setup, RunningSave, Machine, World}
-use Rattle.module_core.specs.Refusals.{is_low}
-use Rattle.module_core.specs.Moves.{read_as, sensed, disarming}
+use Rattle.module_core.specs.Moves.{read_as}
 use Rattle.module_core.specs.Losses.{LoseStep, LosesMains}
-use Rattle.module_core.specs.Machine.{WriteStep, ReadStep, WorkStep, SenseStep, DisarmStep, SaveBeginStep, ArmStep, MadeStep, SaveStepStep, MachineStep}
+use Rattle.module_core.specs.Machine.{MadeStep, SaveStepStep, MachineStep}
 use Rattle.module_core.specs.Guard.{is_cut_short}
 use Rattle.module_core.specs.Headline.{Point, Run, SavesAllWritten}
 use Rattle.module_core.specs.Honesty.{SavesAllAlong}
-
--- what a machine was opened with, and what the loss of mains was answered
-abbrev kept_of : Machine → Image × Option Loss
-kept_of m = (m.life.opened, m.lost)
+use Rattle.module_core.proofs.QuietEvents.{IsQuiet, Kept, kept_of, quiet_keeps, write_keeps}
 
 abbrev pub opened_as : Machine → Image
 opened_as m = m.life.opened
 
-write_stays : (setup : Setup) (write : line_write.Write) (result : Result Accepted WriteRefusal) (m n : Machine) → WriteStep setup write result m n → kept_of n ≡ kept_of m
-write_stays setup write (Ok accepted) m n done = ap kept_of done.1.is
-write_stays setup write (Err refusal) m n done = ap kept_of done.1
+-- what a machine was opened with, and what the loss of mains was answered
+abbrev answered_of : Machine → Image × Option Loss
+answered_of m = (m.life.opened, m.lost)
 
-read_stays : (setup : Setup) (line : ℕ) (result : Result Got ReadRefusal) (m n : Machine) → ReadStep setup line result m n → kept_of n ≡ kept_of m
-read_stays setup line (Ok got) m n done = ap kept_of done.2
-read_stays setup line (Err refusal) m n done = ap kept_of done.1
+abbrev answered_in : World → Image × Option Loss
+answered_in w = answered_of w.machine
 
-work_stays : (setup : Setup) (channel : ℕ) (result : Option Done) (m n : Machine) → WorkStep setup channel result m n → kept_of n ≡ kept_of m
-work_stays setup channel None m n done = ap kept_of done
-work_stays setup channel (Some command) m n done = ap kept_of done.2
-
-sensed_stays : (setup : Setup) (m : Machine) → kept_of (sensed setup m) ≡ kept_of m
-sensed_stays setup m = by_level (is_low setup m)
-  where
-    by_level : (b : Bool) → kept_of (if b then disarming m else m) ≡ kept_of m
-    by_level true = refl
-    by_level false = refl
-
-sense_stays : (setup : Setup) (level : ℕ) (m : Machine) (before : Gauge) (n : Machine) (later : Gauge) → SenseStep setup level m before n later → kept_of n ≡ kept_of m
-sense_stays setup level m before n later done = by_mode (reads_gauge m.mode) done
-  where
-    by_mode : (b : Bool) → MatchBool b (ReadsLevel before level later × (n ≡ sensed setup (read_as level m))) ((level ≡ m.reading) × (n ≡ m) × (later ≡ before)) → kept_of n ≡ kept_of m
-    by_mode true d = ap kept_of d.1 ∙ sensed_stays setup (read_as level m)
-    by_mode false d = ap kept_of d.1
-
-disarm_stays : (result : Result DisarmReply ArmRefusal) (m n : Machine) → DisarmStep result m n → kept_of n ≡ kept_of m
-disarm_stays (Ok disarm.AlreadyDisarmed) m n done = ap kept_of done.1
-disarm_stays (Ok disarm.Disarming) m n done = ap kept_of done.1
-disarm_stays (Err refusal) m n done = ap kept_of done.1
-
-save_begin_stays : (result : Result (Unit {0}) ArmRefusal) (m n : Machine) → SaveBeginStep result m n → kept_of n ≡ kept_of m
-save_begin_stays (Ok begins) m n done = ap kept_of done.1
-save_begin_stays (Err refusal) m n done = ap kept_of done.1
-
-abbrev kept_in : World → Image × Option Loss
-kept_in w = kept_of w.machine
-
-arm_stays : (setup : Setup) (result : Result ArmReply ArmRefusal) (old new : World) → ArmStep setup result old new → kept_in new ≡ kept_in old
-arm_stays setup (Ok arm.AlreadyArmed) old new done = ap kept_in done.1
-arm_stays setup (Ok arm.Armed) old new done = ap kept_of done.2
-arm_stays setup (Err refusals.Device) old new done = ap kept_of done.2
-arm_stays setup (Err (refusals.NeedEnergy need has)) old new done = ap kept_in done.5
-arm_stays setup (Err refusals.SaveRunning) old new done = ap kept_in done.2
-arm_stays setup (Err refusals.Unsettled) old new done = ap kept_in done.2
-arm_stays setup (Err refusals.Disarming) old new done = ap kept_in done.2
-arm_stays setup (Err refusals.Closed) old new done = ap kept_in done.2
-arm_stays setup (Err refusals.Spent) old new done = ap kept_in done.2
-
-made_stays : (lines reading : ℕ) (save : RunningSave) (reply : StepReply) (m n : Machine) → MadeStep lines save reply (read_as reading m) n → kept_of n ≡ kept_of m
-made_stays lines reading save (step.Did made) m n done = ap kept_of done.2
-made_stays lines reading save (step.Saved generation count) m n done = ap kept_of done.3
-made_stays lines reading save step.Fault m n done = ap kept_of done
+made_stays : (lines reading : ℕ) (save : RunningSave) (reply : StepReply) (m n : Machine) → MadeStep lines save reply (read_as reading m) n → answered_of n ≡ answered_of m
+made_stays lines reading save (step.Did made) m n done = ap answered_of done.2
+made_stays lines reading save (step.Saved generation count) m n done = ap answered_of done.3
+made_stays lines reading save step.Fault m n done = ap answered_of done
 made_stays lines reading save step.NoSave m n none = absurd none
 made_stays lines reading save step.Waiting m n none = absurd none
 made_stays lines reading save step.Turned m n none = absurd none
 
-save_step_stays : (setup : Setup) (reply : StepReply) (old new : World) → SaveStepStep setup reply old new → kept_in new ≡ kept_in old
-save_step_stays setup step.NoSave old new done = ap kept_in done.1
-save_step_stays setup step.Waiting old new done = ap kept_in done.3
-save_step_stays setup step.Turned old new done = ap kept_in done.5
+save_step_stays : (setup : Setup) (reply : StepReply) (old new : World) → SaveStepStep setup reply old new → answered_in new ≡ answered_in old
+save_step_stays setup step.NoSave old new done = ap answered_in done.1
+save_step_stays setup step.Waiting old new done = ap answered_in done.3
+save_step_stays setup step.Turned old new done = ap answered_in done.5
 save_step_stays setup (step.Did made) old new done = made_stays setup.shape.lines done.2 done.0 (step.Did made) old.machine new.machine done.6
 save_step_stays setup (step.Saved generation count) old new done = made_stays setup.shape.lines done.2 done.0 (step.Saved generation count) old.machine new.machine done.6
 save_step_stays setup step.Fault old new done = made_stays setup.shape.lines done.2 done.0 step.Fault old.machine new.machine done.6
@@ -132,19 +72,25 @@ record Stays (reply : Reply) (old new : World) : Type 0 where
   opened : of_world new ≡ of_world old
   calm : SavesAllWritten old.machine reply → is_cut_short old.machine.lost ≡ false → is_cut_short new.machine.lost ≡ false
 
-kept : (reply : Reply) (old new : World) → kept_in new ≡ kept_in old → Stays reply old new
-kept reply old new is = record { opened = ap (λ (k : Image × Option Loss). k.0) is; calm = λ saves calm. ap (λ (k : Image × Option Loss). is_cut_short k.1) is ∙ calm }
+answered : (reply : Reply) (old new : World) → answered_in new ≡ answered_in old → Stays reply old new
+answered reply old new is = record { opened = ap (λ (k : Image × Option Loss). k.0) is; calm = λ saves calm. ap (λ (k : Image × Option Loss). is_cut_short k.1) is ∙ calm }
+
+kept : (reply : Reply) (old new : World) → kept_of new.machine ≡ kept_of old.machine → Stays reply old new
+kept reply old new is = answered reply old new (ap (λ (k : Kept). (k.opened, k.lost)) is)
+
+quiet_stays : (setup : Setup) (event : Event) (reply : Reply) (old new : World) → MachineStep setup event reply old new → IsQuiet event → Stays reply old new
+quiet_stays setup event reply old new done quiet = kept reply old new (quiet_keeps setup event reply old new done quiet)
 
 event_stays : (setup : Setup) (event : Event) (reply : Reply) (old new : World) → MachineStep setup event reply old new → Stays reply old new
-event_stays setup (events.Write write) (replies.Write result) old new done = kept (replies.Write result) old new (write_stays setup write result old.machine new.machine done.1)
-event_stays setup (events.Read line) (replies.Read result) old new done = kept (replies.Read result) old new (read_stays setup line result old.machine new.machine done.1)
-event_stays setup (events.Collect ticket) (replies.Collect collected) old new done = kept (replies.Collect collected) old new (ap kept_of done.1.1)
-event_stays setup (events.Work channel) (replies.Work result) old new done = kept (replies.Work result) old new (work_stays setup channel result old.machine new.machine done.1)
-event_stays setup events.Sense (replies.Sense level) old new done = kept (replies.Sense level) old new (sense_stays setup level old.machine old.gauge new.machine new.gauge done.1)
-event_stays setup events.Arm (replies.Arm result) old new done = kept (replies.Arm result) old new (arm_stays setup result old new done)
-event_stays setup events.Disarm (replies.Disarm result) old new done = kept (replies.Disarm result) old new (disarm_stays result old.machine new.machine done.1)
-event_stays setup events.SaveBegin (replies.SaveBegin result) old new done = kept (replies.SaveBegin result) old new (save_begin_stays result old.machine new.machine done.1)
-event_stays setup events.SaveStep (replies.SaveStep reply) old new done = kept (replies.SaveStep reply) old new (save_step_stays setup reply old new done)
+event_stays setup (events.Write write) (replies.Write result) old new done = kept (replies.Write result) old new (write_keeps setup write result old.machine new.machine done.1)
+event_stays setup (events.Read line) reply old new done = quiet_stays setup (events.Read line) reply old new done tt
+event_stays setup (events.Collect ticket) reply old new done = quiet_stays setup (events.Collect ticket) reply old new done tt
+event_stays setup (events.Work channel) reply old new done = quiet_stays setup (events.Work channel) reply old new done tt
+event_stays setup events.Sense reply old new done = quiet_stays setup events.Sense reply old new done tt
+event_stays setup events.Arm reply old new done = quiet_stays setup events.Arm reply old new done tt
+event_stays setup events.Disarm reply old new done = quiet_stays setup events.Disarm reply old new done tt
+event_stays setup events.SaveBegin reply old new done = quiet_stays setup events.SaveBegin reply old new done tt
+event_stays setup events.SaveStep (replies.SaveStep reply) old new done = answered (replies.SaveStep reply) old new (save_step_stays setup reply old new done)
 event_stays setup events.Lose (replies.Lose reply) old new done = record { opened = lose_stays setup reply old new done; calm = lose_calm setup reply old new done }
 event_stays setup event reply old new none = absurd none
 

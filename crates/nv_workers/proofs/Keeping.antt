@@ -24,7 +24,7 @@ use Rattle.module_core.specs.Stands.{Stands, setup_of, point_of}
 use Rattle.module_core.proofs.RisingMarks.{event_rises, in_order}
 use Rattle.module_core.proofs.AddedWrites.{event_adds}
 use Rattle.nv_workers.specs.Kept.{StandsWith, IsRecorded, IsKept}
-use Rattle.nv_workers.specs.Lent.{Lent, StepsBy, StandsForSome, IsBehind}
+use Rattle.nv_workers.specs.Lent.{Lent, StepsBy, IsBehind}
 
 -- the record with the write that an event accepted
 abbrev pub recorded_after : Event → Reply → Recorded → Recorded

@@ -1,25 +1,10 @@
 -- An event changes how many writes the newest image has only where its reply says that a save ended.
-use Rattle.std.proofs.Common.{◌≡◌, ◌-◌, ℕ, zero, suc, Bool, true, false, refl, sym, ap, ◌∙◌}
-use Rattle.std.specs.Prelude.{Result, Ok, Err, Option, Some, None, MatchBool, if◌then◌else◌}
+use Rattle.std.proofs.Common.{◌≡◌, ◌-◌, ℕ, zero, suc, false, refl, sym, ap, ◌∙◌}
 use Rattle.std.proofs.Math.Logic.{∥∥₁_map}
 use Rattle.save_image.specs.Image.{Image}
 use Rattle.slot_store.specs.declared.plan.Step.{Step}
 use Rattle.slot_store.specs.declared.plan.Step.TheVariants.{Close, SyncClosed, Header, Page, SyncBody, Open, SyncOpen, Done}
-use Rattle.arm_state.specs.declared.refusal.ArmRefusal.{ArmRefusal}
-use Rattle.arm_state.specs.declared.refusal.ArmRefusal.TheVariants as refusals
-use Rattle.arm_state.specs.declared.refusal.ArmReply.{ArmReply}
-use Rattle.arm_state.specs.declared.refusal.ArmReply.TheVariants as arm
-use Rattle.arm_state.specs.declared.refusal.DisarmReply.{DisarmReply}
-use Rattle.arm_state.specs.declared.refusal.DisarmReply.TheVariants as disarm
-use Rattle.arm_state.specs.Modes.{reads_gauge}
-use Rattle.energy_budget.specs.Gauge.{Gauge, ReadsLevel}
-use Rattle.line_channels.specs.declared.answers.Done as command
-use Rattle.line_channels.specs.declared.answers.Got.{Got}
 use Rattle.line_channels.specs.declared.channels.Channels.{Ghosts}
-use Rattle.line_memory.specs.declared.Write as line_write
-use Rattle.module_core.specs.declared.events.Accepted.{Accepted}
-use Rattle.module_core.specs.declared.events.WriteRefusal.{WriteRefusal}
-use Rattle.module_core.specs.declared.events.ReadRefusal.{ReadRefusal}
 use Rattle.module_core.specs.declared.events.StepReply.{StepReply}
 use Rattle.module_core.specs.declared.events.StepReply.TheVariants as step
 use Rattle.module_core.specs.declared.events.Loss.{Loss}
@@ -29,11 +14,10 @@ use Rattle.module_core.specs.declared.events.Event.TheVariants as events
 use Rattle.module_core.specs.declared.events.Reply.{Reply}
 use Rattle.module_core.specs.declared.events.Reply.TheVariants as replies
 use Rattle.module_core.specs.State.{Setup, RunningSave, Store, Machine, World, newest_of, made_of}
-use Rattle.module_core.specs.Refusals.{is_low}
-use Rattle.module_core.specs.Moves.{read_as, sensed, disarming, stepped, step_failed, after_steps}
+use Rattle.module_core.specs.Moves.{read_as, stepped, step_failed, after_steps}
 use Rattle.module_core.specs.Losses.{LoseStep, drain_count}
-use Rattle.module_core.specs.Machine.{WriteStep, ReadStep, WorkStep, SenseStep, DisarmStep, SaveBeginStep, ArmStep, MadeStep, SaveStepStep, MachineStep}
-use Rattle.module_core.specs.Stands.{Stands}
+use Rattle.module_core.specs.Machine.{MadeStep, SaveStepStep, MachineStep}
+use Rattle.module_core.proofs.QuietEvents.{IsQuiet, Kept, quiet_keeps, write_keeps}
 use Rattle.nv_workers.specs.Lent.{Lent, StepsBy, StandsForSome}
 use Rattle.nv_workers.specs.Newest.{HasNewest, saved_after}
 
@@ -46,52 +30,6 @@ count_in w = count_of w.machine
 
 abbrev count_at : Store → ℕ
 count_at s = s.maybe.newest.count
-
-write_keeps : (setup : Setup) (write : line_write.Write) (result : Result Accepted WriteRefusal) (m n : Machine) → WriteStep setup write result m n → count_of n ≡ count_of m
-write_keeps setup write (Ok accepted) m n done = ap count_of done.1.is
-write_keeps setup write (Err refusal) m n done = ap count_of done.1
-
-read_keeps : (setup : Setup) (line : ℕ) (result : Result Got ReadRefusal) (m n : Machine) → ReadStep setup line result m n → count_of n ≡ count_of m
-read_keeps setup line (Ok got) m n done = ap count_of done.2
-read_keeps setup line (Err refusal) m n done = ap count_of done.1
-
-work_keeps : (setup : Setup) (channel : ℕ) (result : Option command.Done) (m n : Machine) → WorkStep setup channel result m n → count_of n ≡ count_of m
-work_keeps setup channel None m n done = ap count_of done
-work_keeps setup channel (Some issued) m n done = ap count_of done.2
-
-sensed_keeps : (setup : Setup) (m : Machine) → count_of (sensed setup m) ≡ count_of m
-sensed_keeps setup m = by_level (is_low setup m)
-  where
-    by_level : (b : Bool) → count_of (if b then disarming m else m) ≡ count_of m
-    by_level true = refl
-    by_level false = refl
-
-sense_keeps : (setup : Setup) (level : ℕ) (m : Machine) (before : Gauge) (n : Machine) (later : Gauge) → SenseStep setup level m before n later → count_of n ≡ count_of m
-sense_keeps setup level m before n later done = by_mode (reads_gauge m.mode) done
-  where
-    by_mode : (b : Bool) → MatchBool b (ReadsLevel before level later × (n ≡ sensed setup (read_as level m))) ((level ≡ m.reading) × (n ≡ m) × (later ≡ before)) → count_of n ≡ count_of m
-    by_mode true d = ap count_of d.1 ∙ sensed_keeps setup (read_as level m)
-    by_mode false d = ap count_of d.1
-
-disarm_keeps : (result : Result DisarmReply ArmRefusal) (m n : Machine) → DisarmStep result m n → count_of n ≡ count_of m
-disarm_keeps (Ok disarm.AlreadyDisarmed) m n done = ap count_of done.1
-disarm_keeps (Ok disarm.Disarming) m n done = ap count_of done.1
-disarm_keeps (Err refusal) m n done = ap count_of done.1
-
-save_begin_keeps : (result : Result (Unit {0}) ArmRefusal) (m n : Machine) → SaveBeginStep result m n → count_of n ≡ count_of m
-save_begin_keeps (Ok begins) m n done = ap count_of done.1
-save_begin_keeps (Err refusal) m n done = ap count_of done.1
-
-arm_keeps : (setup : Setup) (result : Result ArmReply ArmRefusal) (old new : World) → ArmStep setup result old new → count_in new ≡ count_in old
-arm_keeps setup (Ok arm.AlreadyArmed) old new done = ap count_in done.1
-arm_keeps setup (Ok arm.Armed) old new done = ap count_of done.2
-arm_keeps setup (Err refusals.Device) old new done = ap count_of done.2
-arm_keeps setup (Err (refusals.NeedEnergy need has)) old new done = ap count_in done.5
-arm_keeps setup (Err refusals.SaveRunning) old new done = ap count_in done.2
-arm_keeps setup (Err refusals.Unsettled) old new done = ap count_in done.2
-arm_keeps setup (Err refusals.Disarming) old new done = ap count_in done.2
-arm_keeps setup (Err refusals.Closed) old new done = ap count_in done.2
-arm_keeps setup (Err refusals.Spent) old new done = ap count_in done.2
 
 step_keeps : (s : Store) (made : Image) (next : Step) → count_at (stepped s made next) ≡ count_at s
 step_keeps s made Close = refl
@@ -148,16 +86,19 @@ loss_saves setup saved loss.Fault old new done is =
     let made = made_of false old.machine in let before = after_steps setup.shape.lines old.machine.store made done.steps in
     ap count_at done.saved ∙ failure_keeps before.1 made before.0 ∙ steps_keep setup.shape.lines old.machine.store made done.steps ∙ is
 
+quiet : (setup : Setup) (event : Event) (reply : Reply) (old new : World) → MachineStep setup event reply old new → IsQuiet event → count_in new ≡ count_in old
+quiet setup event reply old new done is_quiet = ap (λ (k : Kept). k.count) (quiet_keeps setup event reply old new done is_quiet)
+
 event_saves : (setup : Setup) (saved : ℕ) (event : Event) (reply : Reply) (old new : World) → MachineStep setup event reply old new → count_in old ≡ saved
     → count_in new ≡ saved_after reply saved
-event_saves setup saved (events.Write write) (replies.Write result) old new done is = write_keeps setup write result old.machine new.machine done.1 ∙ is
-event_saves setup saved (events.Read line) (replies.Read result) old new done is = read_keeps setup line result old.machine new.machine done.1 ∙ is
-event_saves setup saved (events.Collect ticket) (replies.Collect collected) old new done is = ap count_of done.1.1 ∙ is
-event_saves setup saved (events.Work channel) (replies.Work result) old new done is = work_keeps setup channel result old.machine new.machine done.1 ∙ is
-event_saves setup saved events.Sense (replies.Sense level) old new done is = sense_keeps setup level old.machine old.gauge new.machine new.gauge done.1 ∙ is
-event_saves setup saved events.Arm (replies.Arm result) old new done is = arm_keeps setup result old new done ∙ is
-event_saves setup saved events.Disarm (replies.Disarm result) old new done is = disarm_keeps result old.machine new.machine done.1 ∙ is
-event_saves setup saved events.SaveBegin (replies.SaveBegin result) old new done is = save_begin_keeps result old.machine new.machine done.1 ∙ is
+event_saves setup saved (events.Write write) (replies.Write result) old new done is = ap (λ (k : Kept). k.count) (write_keeps setup write result old.machine new.machine done.1) ∙ is
+event_saves setup saved (events.Read line) (replies.Read result) old new done is = quiet setup (events.Read line) (replies.Read result) old new done tt ∙ is
+event_saves setup saved (events.Collect ticket) (replies.Collect collected) old new done is = quiet setup (events.Collect ticket) (replies.Collect collected) old new done tt ∙ is
+event_saves setup saved (events.Work channel) (replies.Work result) old new done is = quiet setup (events.Work channel) (replies.Work result) old new done tt ∙ is
+event_saves setup saved events.Sense (replies.Sense level) old new done is = quiet setup events.Sense (replies.Sense level) old new done tt ∙ is
+event_saves setup saved events.Arm (replies.Arm result) old new done is = quiet setup events.Arm (replies.Arm result) old new done tt ∙ is
+event_saves setup saved events.Disarm (replies.Disarm result) old new done is = quiet setup events.Disarm (replies.Disarm result) old new done tt ∙ is
+event_saves setup saved events.SaveBegin (replies.SaveBegin result) old new done is = quiet setup events.SaveBegin (replies.SaveBegin result) old new done tt ∙ is
 event_saves setup saved events.SaveStep (replies.SaveStep reply) old new done is = step_saves setup saved reply old new done is
 event_saves setup saved events.Lose (replies.Lose reply) old new done is = loss_saves setup saved reply old new done is
 event_saves setup saved event reply old new none is = absurd none
