@@ -43,26 +43,20 @@ pub fn steps_of_a_drain()
 {}
 
 /// A whole drain of writes at places of the geometry is lawful, takes no longer than a close step and an entry for each of
-/// them, and puts every rank to sleep.
+/// them, and puts every rank to sleep (`lawful`). Its clocks go from its start to one past its last command (`clocks`); of at
+/// most 64 writes they don't run past 2^63 (`ends`). It spends no more than a close step and an entry for each of the writes
+/// cost (`cost`).
 pub fn whole_drain()
-    ensures { (c : Checked) (list : List Stamped) (places : List Place) → CanDrain c list
+    ensures lawful { (c : Checked) (list : List Stamped) (places : List Place) → CanDrain c list
         → All (LiesIn c.geometry) places
         → AfterDrain c list (length places) (drain_of c.timing c.geometry list places) }
-{}
-
-/// Its clocks, from its start to one past its last command; of at most 64 writes they don't run past 2^63.
-pub fn clocks_of_a_drain()
     ensures clocks { (c : Checked) (list : List Stamped) (places : List Place) → CanDrain c list
         → All (LiesIn c.geometry) places → drain_clocks c.timing c.geometry list places
         ≤ close_of c.timing c.geometry + length places * entry_of c.timing c.geometry }
     ensures ends { (c : Checked) (list : List Stamped) (places : List Place) → CanDrain c list
         → All (LiesIn c.geometry) places → length places ≤ 64
         → (drain_of c.timing c.geometry list places).clock < 2 ^ 63 }
-{}
-
-/// What it spends: no more than a close step and an entry for each of them cost.
-pub fn cost_of_a_drain()
-    ensures { (c : Checked) (costs : Costs) (list : List Stamped) (places : List Place)
+    ensures cost { (c : Checked) (costs : Costs) (list : List Stamped) (places : List Place)
         → AreReckonedFor c costs → CanDrain c list → All (LiesIn c.geometry) places
         → drain_spent costs.numbers c.timing c.geometry list places
         ≤ close_cost costs + length places * entry_cost costs }

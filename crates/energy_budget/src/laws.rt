@@ -9,7 +9,7 @@ ghost use Rattle.energy_budget.specs.Costs.{close_cost, entry_cost};
 ghost use Rattle.energy_budget.specs.Actions.{cost_of, total_cost, drain_actions, page_actions, save_actions, closing_actions};
 ghost use Rattle.energy_budget.specs.Sums.{reserve, steps, backing_level, floor_level, needed_level};
 
-/// The sums in closed form.
+/// The sums in closed form. With one more pending write there is one more entry step to pay, and the leak of one more tick.
 pub fn sums_in_closed_form()
     ensures reserve { (costs : Costs) (k : ℕ)
         → reserve costs k ≡ costs.channels * close_cost costs + k * entry_cost costs
@@ -20,21 +20,19 @@ pub fn sums_in_closed_form()
         → floor_level costs k ≡ reserve costs k + costs.numbers.leak * (steps costs k + 1) }
     ensures need { (costs : Costs) (k : ℕ)
         → needed_level costs k ≡ floor_level costs k + costs.numbers.leak }
-{}
-
-/// With one more pending write there is one more entry step to pay, and the leak of one more tick.
-pub fn sums_with_one_more()
-    ensures reserve { (costs : Costs) (k : ℕ)
+    ensures next_reserve { (costs : Costs) (k : ℕ)
         → reserve costs (k + 1) ≡ reserve costs k + entry_cost costs }
-    ensures steps { (costs : Costs) (k : ℕ) → steps costs (k + 1) ≡ steps costs k + 1 }
-    ensures floor { (costs : Costs) (k : ℕ)
+    ensures next_steps { (costs : Costs) (k : ℕ) → steps costs (k + 1) ≡ steps costs k + 1 }
+    ensures next_floor { (costs : Costs) (k : ℕ)
         → floor_level costs (k + 1) ≡ floor_level costs k + entry_cost costs + costs.numbers.leak }
-    ensures need { (costs : Costs) (k : ℕ)
+    ensures next_need { (costs : Costs) (k : ℕ)
         → needed_level costs (k + 1)
         ≡ needed_level costs k + entry_cost costs + costs.numbers.leak }
 {}
 
-/// With no fewer pending writes no sum is smaller, and with no fewer ticks no backing.
+/// With no fewer pending writes no sum is smaller, and with no fewer ticks no backing. The floor backs a disarming save, of
+/// which each step ticks once: a mark and a sync three times, and the pages (`floor_backs`). A reading that is enough to
+/// acknowledge writes backs it after one more reading too (`need_backs`).
 pub fn sums_rise()
     ensures reserve { (costs : Costs) (j k : ℕ) → j ≤ k → reserve costs j ≤ reserve costs k }
     ensures backing { (costs : Costs) (j k ticks : ℕ) → j ≤ k
@@ -43,19 +41,19 @@ pub fn sums_rise()
         → backing_level costs k fewer ≤ backing_level costs k ticks }
     ensures floor { (costs : Costs) (j k : ℕ) → j ≤ k → floor_level costs j ≤ floor_level costs k }
     ensures need { (costs : Costs) (j k : ℕ) → j ≤ k → needed_level costs j ≤ needed_level costs k }
+    ensures floor_backs { (costs : Costs) (k : ℕ)
+        → backing_level costs k (costs.pages + 6) ≤ floor_level costs k }
+    ensures need_backs { (costs : Costs) (k : ℕ)
+        → backing_level costs k (costs.pages + 7) ≤ needed_level costs k }
 {}
 
 /// Whichever channels the writes are pending on, the reserve is the cost of the closing save's actions, and the steps are
-/// their number.
-pub fn sums_of_each_closing_save()
+/// their number. Of those that are still to come each one that is paid for comes off.
+pub fn cost_of_a_closing_save()
     ensures reserve { (costs : Costs) (pending : List ℕ) → length pending ≡ costs.channels
         → total_cost costs (closing_actions costs.pages pending) ≡ reserve costs (sum pending) }
     ensures steps { (costs : Costs) (pending : List ℕ) → length pending ≡ costs.channels
         → length (closing_actions costs.pages pending) ≡ steps costs (sum pending) }
-{}
-
-/// What the actions that are still to come cost: each one that is paid for comes off.
-pub fn cost_of_what_remains()
     ensures action { (costs : Costs) (action : Action) (rest : List Action)
         → total_cost costs (action ∷ rest) ≡ cost_of costs action + total_cost costs rest }
     ensures lists { (costs : Costs) (first rest : List Action)
@@ -70,18 +68,11 @@ pub fn cost_of_what_remains()
         ≡ pages * page_cost_of costs.numbers + frame_cost_of costs.numbers }
 {}
 
-/// The floor backs a disarming save, of which each step ticks once: a mark and a sync three times, and the pages. A reading
-/// that is enough to acknowledge writes backs it after one more reading too.
-pub fn floor_backs_a_disarming_save()
-    ensures floor { (costs : Costs) (k : ℕ)
-        → backing_level costs k (costs.pages + 6) ≤ floor_level costs k }
-    ensures need { (costs : Costs) (k : ℕ)
-        → backing_level costs k (costs.pages + 7) ≤ needed_level costs k }
-{}
-
 /// An honest reading answers the level, which has fallen by no more than the leak. So it takes one tick from a backing, and
-/// leaves the reserve of any.
-pub fn honest_readings()
+/// leaves the reserve of any. An honest gauge that has the cost of an action and of the rest pays it, and then has that of
+/// the rest. A gauge that is honest through calls, none of which lowers its count of faults, is honest through the first and
+/// the last of them.
+pub fn honest_gauges()
     ensures falls { (leak answer : ℕ) (old new : Gauge)
         → ReadsLevel old answer new → IsHonestThrough leak old new → old.level ≤ new.level + leak }
     ensures told { (leak answer : ℕ) (old new : Gauge)
@@ -92,21 +83,12 @@ pub fn honest_readings()
     ensures reserves { (costs : Costs) (k ticks answer : ℕ) (old new : Gauge)
         → ReadsLevel old answer new → IsHonestThrough costs.numbers.leak old new
         → backing_level costs k ticks ≤ old.level → reserve costs k ≤ new.level }
-{}
-
-/// An honest gauge that has the cost of an action and of the rest pays it, and then has that of the rest.
-pub fn honest_payments()
     ensures paid { (leak cost rest : ℕ) (result : Result (Unit {0}) Dark) (old new : Gauge)
         → PaysCost old cost result new → IsHonestThrough leak old new
         → cost + rest ≤ old.level → IsOk result }
     ensures rest { (leak cost rest : ℕ) (result : Result (Unit {0}) Dark) (old new : Gauge)
         → PaysCost old cost result new → IsHonestThrough leak old new
         → cost + rest ≤ old.level → rest ≤ new.level }
-{}
-
-/// A gauge that is honest through calls, none of which lowers its count of faults, is honest through the first and the last
-/// of them.
-pub fn honest_by_parts()
     ensures first { (leak : ℕ) (old mid new : Gauge) → KeepsFaults old mid → KeepsFaults mid new
         → IsHonestThrough leak old new → IsHonestThrough leak old mid }
     ensures last { (leak : ℕ) (old mid new : Gauge) → KeepsFaults old mid → KeepsFaults mid new

@@ -1,4 +1,4 @@
-// What the definitions say. The functions have no code: a crate above calls one to know its law.
+// What the definitions say. The function has no code: a crate above calls it to know its law.
 ghost use Rattle.std.specs.Prelude.{◌≡◌, ◌≢◌, ℕ, ◌<◌, List, Some, slice_get};
 ghost use Rattle.ddr4_timing.specs.declared.command.Command.{Command};
 ghost use Rattle.ddr4_timing.specs.declared.command.Stamped.{Stamped};
@@ -7,16 +7,13 @@ ghost use Rattle.frfcfs.specs.declared.pending.Pending.{Pending};
 ghost use Rattle.frfcfs.specs.Requests.{AreInOrder, IsEligible};
 ghost use Rattle.frfcfs.specs.Candidates.{Turn, IsLeast};
 
-/// No request at an earlier place of the list names the line of an eligible one.
-pub fn eligible_is_first()
-    ensures { (pending : List Pending) (i j : ℕ) (p q : Pending) → AreInOrder pending →
+/// No request at an earlier place of the list names the line of an eligible one (`first`), and there is one choice at a clock
+/// (`one`).
+pub fn one_choice()
+    ensures first { (pending : List Pending) (i j : ℕ) (p q : Pending) → AreInOrder pending →
         IsEligible pending i p → j < i →
         slice_get pending j ≡ Some q → q.line ≢ p.line }
-{}
-
-/// There is one choice at a clock.
-pub fn one_choice()
-    ensures { (c : Checked) (list : List Stamped) (pending : List Pending) (clock : ℕ) (s t : Turn)
-        (a b : Command) → AreInOrder pending → IsLeast c list pending clock s a →
+    ensures one { (c : Checked) (list : List Stamped) (pending : List Pending) (clock : ℕ)
+        (s t : Turn) (a b : Command) → AreInOrder pending → IsLeast c list pending clock s a →
         IsLeast c list pending clock t b → (s ≡ t) × (a ≡ b) }
 {}

@@ -48,18 +48,11 @@ pub fn cell_of(checked: &Checked, place: &Place) -> usize
     cell as usize
 }
 
-/// Each place has a cell.
-pub fn places_have_cells()
-    ensures { (g : Geometry) (place : Place) → LiesIn g place → cell_of g place < cells_of g }
-{}
-
-/// Places of one channel with the same cell are the same place.
-pub fn cell_tells_place()
-    ensures { (g : Geometry) (p q : Place) → LiesIn g p → LiesIn g q → p.channel ≡ q.channel
+/// Each place has a cell (`have`), and places of one channel with the same cell are the same place (`tell`). The channels have
+/// as many lines together as the geometry (`make`).
+pub fn cells_of_places()
+    ensures have { (g : Geometry) (place : Place) → LiesIn g place → cell_of g place < cells_of g }
+    ensures tell { (g : Geometry) (p q : Place) → LiesIn g p → LiesIn g q → p.channel ≡ q.channel
         → cell_of g p ≡ cell_of g q → p ≡ q }
-{}
-
-/// The channels have as many lines together as the geometry.
-pub fn cells_make_lines()
-    ensures { (g : Geometry) → g.channels * cells_of g ≡ lines_of g }
+    ensures make { (g : Geometry) → g.channels * cells_of g ≡ lines_of g }
 {}

@@ -7,5 +7,5 @@
 mod laws;
 mod queue;
 
-pub use laws::{early_write, line_of_memory, pushed_write};
+pub use laws::pending_writes;
 pub use queue::{Full, PendingWrite, Wpq};

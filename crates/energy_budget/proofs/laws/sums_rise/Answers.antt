@@ -1,4 +1,4 @@
-use Rattle.energy_budget.proofs.Rising.{reserve-le, backing_level-le, backing_level-ticks, floor_level-le, needed_level-le}
+use Rattle.energy_budget.proofs.Rising.{reserve-le, backing_level-le, backing_level-ticks, floor_level-le, needed_level-le, floor_backs, need_backs}
 use Rattle.energy_budget.proofs.laws.sums_rise.Goals as goal
 
 pub returns-clause-reserve : goal.returns-clause-reserve
@@ -15,3 +15,9 @@ returns-clause-need c = needed_level-le
 
 pub returns-clause-ticks : goal.returns-clause-ticks
 returns-clause-ticks c = backing_level-ticks
+
+pub returns-clause-floor_backs : goal.returns-clause-floor_backs
+returns-clause-floor_backs c = floor_backs
+
+pub returns-clause-need_backs : goal.returns-clause-need_backs
+returns-clause-need_backs c = need_backs

@@ -1,0 +1,1 @@
+-- No goal wants an answer: the prover finds each by itself.
