@@ -1,1 +1,5 @@
--- No goal wants an answer: the prover finds each by itself.
+use Rattle.std.proofs.Common.{rules}
+use Rattle.arm_state.proofs.refusal.energy_refusal.Goals as goal
+
+pub returns-then-has-need : goal.returns-then-has-need
+returns-then-has-need c = search rules

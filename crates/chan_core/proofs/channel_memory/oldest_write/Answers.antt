@@ -1,1 +1,6 @@
--- No goal wants an answer: the prover finds each by itself.
+use Rattle.std.proofs.Common.{rules, arith}
+use Rattle.std.proofs.lemmas.Grind.{common_steps}
+use Rattle.chan_core.proofs.channel_memory.oldest_write.Goals as goal
+
+pub loop-p-preserved : goal.loop-p-preserved
+loop-p-preserved c = grind (arith, common_steps)

@@ -1,3 +1,5 @@
+use Rattle.std.proofs.Common.{rules, arith}
+use Rattle.std.proofs.lemmas.Grind.{common_steps}
 use Rattle.chan_core.proofs.Below.{below-all, below-none}
 use Rattle.chan_core.proofs.laws.memory_below_a_number.Goals as goal
 
@@ -6,3 +8,6 @@ returns-clause-none c = below-none
 
 pub returns-clause-all : goal.returns-clause-all
 returns-clause-all c = below-all
+
+pub returns-clause-later : goal.returns-clause-later
+returns-clause-later c = grind (arith, common_steps)

@@ -1,1 +1,5 @@
--- No goal wants an answer: the prover finds each by itself.
+use Rattle.std.proofs.Common.{rules}
+use Rattle.frfcfs.proofs.queue.is_held.Goals as goal
+
+pub returns-in-Some-Write : goal.returns-in-Some-Write
+returns-in-Some-Write c = search rules

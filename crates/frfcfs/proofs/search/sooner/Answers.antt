@@ -1,1 +1,5 @@
--- No goal wants an answer: the prover finds each by itself.
+use Rattle.std.proofs.Common.{rules}
+use Rattle.frfcfs.proofs.search.sooner.Goals as goal
+
+pub returns-else-x-y : goal.returns-else-x-y
+returns-else-x-y c = search rules

@@ -1,1 +1,5 @@
--- No goal wants an answer: the prover finds each by itself.
+use Rattle.std.proofs.Common.{rules}
+use Rattle.save_image.proofs.reading.fields.Goals as goal
+
+pub returns-clause-ok : goal.returns-clause-ok
+returns-clause-ok c = search rules

@@ -1,1 +1,5 @@
--- No goal wants an answer: the prover finds each by itself.
+use Rattle.std.proofs.Common.{rules}
+use Rattle.arm_state.proofs.mode.Mode.save_refusal.Goals as goal
+
+pub returns : goal.returns
+returns c = search rules

@@ -1,1 +1,5 @@
--- No goal wants an answer: the prover finds each by itself.
+use Rattle.std.proofs.Common.{rules}
+use Rattle.bank_core.proofs.banks.Banks.least_clock.Goals as goal
+
+pub returns : goal.returns
+returns c = search rules

@@ -1,4 +1,4 @@
-use Rattle.std.proofs.Common.{◌+◌, ℕ, List, [], ◌∷◌, length, refl, ap, sym, subst, ◌∙◌, arith, length-append}
+use Rattle.std.proofs.Common.{◌+◌, ℕ, List, [], ◌∷◌, length, refl, ap, sym, subst, ◌∙◌, arith, length-append, rules}
 use Rattle.chan_core.proofs.Common.{ChannelState, HasNothingToSend, Stamped}
 use Rattle.chan_core.proofs.Running.{HasRun, run-more}
 use Rattle.chan_core.proofs.channel.Channel.work_many.Goals as goal
@@ -17,3 +17,6 @@ pub returns-in-None-clause-ended : goal.returns-in-None-clause-ended
 returns-in-None-clause-ended c less not =
     let phase = ap (λ (s : ChannelState). s.phase) c.loop-turn.invariant.ran.rest in
     subst HasNothingToSend (sym c.in-None.ensures.stays) ((c.in-None.ensures.none (λ e. not (sym phase ∙ e))).0 refl)
+
+pub returns-clause-ended : goal.returns-clause-ended
+returns-clause-ended c = search rules

@@ -1,1 +1,6 @@
--- No goal wants an answer: the prover finds each by itself.
+use Rattle.std.proofs.Common.{rules, arith}
+use Rattle.std.proofs.lemmas.Grind.{common_steps}
+use Rattle.chan_core.proofs.channel_memory.ChannelMemory.is_full_of_reads.Goals as goal
+
+pub returns : goal.returns
+returns c = grind (arith, common_steps)

@@ -1,1 +1,4 @@
--- No goal wants an answer: the prover finds each by itself.
+use Rattle.ddr4_timing.proofs.place.Place.bank_address.Goals as goal
+
+pub returns : goal.returns
+returns c = search

@@ -1,1 +1,4 @@
--- No goal wants an answer: the prover finds each by itself.
+use Rattle.life_record.proofs.record.LifeRecord.writes.Goals as goal
+
+pub returns : goal.returns
+returns c = search

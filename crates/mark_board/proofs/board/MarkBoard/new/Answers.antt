@@ -1,1 +1,5 @@
--- No goal wants an answer: the prover finds each by itself.
+use Rattle.std.proofs.Common.{rules}
+use Rattle.mark_board.proofs.board.MarkBoard.new.Goals as goal
+
+pub of_words-requires : goal.of_words-requires
+of_words-requires c = search rules

@@ -1,1 +1,5 @@
--- No goal wants an answer: the prover finds each by itself.
+use Rattle.std.proofs.Common.{rules}
+use Rattle.notice_book.proofs.book.NoticeBook.len.Goals as goal
+
+pub returns : goal.returns
+returns g c = search rules

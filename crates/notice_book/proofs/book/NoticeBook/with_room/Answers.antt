@@ -1,1 +1,5 @@
--- No goal wants an answer: the prover finds each by itself.
+use Rattle.std.proofs.Common.{rules}
+use Rattle.notice_book.proofs.book.NoticeBook.with_room.Goals as goal
+
+pub invariant_of-result : goal.invariant_of-result
+invariant_of-result g c = search rules

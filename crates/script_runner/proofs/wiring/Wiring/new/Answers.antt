@@ -20,3 +20,6 @@ returns-clause-fits g c =
       lines = refl;
       channels = refl;
     }
+
+pub returns-clause-costs : goal.returns-clause-costs
+returns-clause-costs g c = search

@@ -1,1 +1,5 @@
--- No goal wants an answer: the prover finds each by itself.
+use Rattle.std.proofs.Common.{rules}
+use Rattle.wpq_core.proofs.queue.Wpq.below.Goals as goal
+
+pub returns : goal.returns
+returns c = search rules

@@ -1,1 +1,4 @@
--- No goal wants an answer: the prover finds each by itself.
+use Rattle.wpq_core.proofs.queue.Wpq.writes.Goals as goal
+
+pub returns-clause-writes : goal.returns-clause-writes
+returns-clause-writes c = search

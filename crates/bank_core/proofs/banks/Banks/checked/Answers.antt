@@ -1,1 +1,0 @@
--- No goal wants an answer: the prover finds each by itself.
