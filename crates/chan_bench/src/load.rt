@@ -2,7 +2,8 @@
 ghost use Rattle.std.specs.Prelude.{◌≡◌};
 
 use crate::stream::Picks;
-use chan_core::{Channel, Got, Served};
+use chan_core::Channel;
+use channel_answers::{Got, Served};
 use ddr4_timing::place::Place;
 use ddr4_timing::timing::Checked;
 use interleave_map::line_map::LineMap;

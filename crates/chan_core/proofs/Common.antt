@@ -29,9 +29,9 @@ pub use Rattle.wpq_core.specs.declared.queue.PendingWrite.{PendingWrite}
 pub use Rattle.wpq_core.specs.PendingMemory.{after_pending, data_or}
 pub use Rattle.wpq_core.specs.Queue.{IsWriteQueue, Queue}
 pub use Rattle.wpq_core.specs.Writes.{ComeBefore, IsFirstOfItsLine, IsNewest, NoWriteNames, NumbersRise, TakesWrite, pending_write}
-pub use Rattle.chan_core.specs.declared.answers.Done.{Done}
-pub use Rattle.chan_core.specs.declared.answers.Served.{Served}
-pub use Rattle.chan_core.specs.declared.answers.Ticket.{Ticket}
+pub use Rattle.channel_answers.specs.declared.answers.Done.{Done}
+pub use Rattle.channel_answers.specs.declared.answers.Served.{Served}
+pub use Rattle.channel_answers.specs.declared.answers.Ticket.{Ticket}
 pub use Rattle.chan_core.specs.declared.phase.Phase.{Phase}
 pub use Rattle.chan_core.specs.declared.phase.Phase.TheVariants.{Asleep, Running, Stepping}
 pub use Rattle.chan_core.specs.declared.reads.OpenRead.{OpenRead}

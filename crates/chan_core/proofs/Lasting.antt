@@ -1,8 +1,8 @@
 -- What a run of commands leaves of a channel.
 use Rattle.std.proofs.Common.{◌≡◌, ℕ, suc, ◌<◌, inl, inr, List, [], ◌∷◌, length, remove, Option, Some, None, ap, sym, subst, ◌∙◌}
 use Rattle.std.proofs.lemmas.Option.{slice_get_within}
+use Rattle.channel_answers.specs.declared.answers.Served.TheVariants as served
 use Rattle.chan_core.proofs.Common.{ChannelState, ComeBefore, Done, IssuesChoice, IssuesChoices, Pending, PendingWrite, Served, ServesIndex, ServesRequest, Stamped}
-use Rattle.chan_core.specs.declared.answers.Served.TheVariants as served
 use Rattle.chan_core.proofs.Taken.{before_removal}
 
 -- The profile and the channel stay, and no later write comes.

@@ -11,15 +11,15 @@ use Rattle.frfcfs.specs.Queue.{held_by, is_held}
 use Rattle.frfcfs.specs.Requests.{IsEligible}
 use Rattle.wpq_core.specs.declared.queue.PendingWrite.{PendingWrite}
 use Rattle.wpq_core.specs.Writes.{IsFirstOfItsLine, IsNewest, NoWriteNames, TakesWrite, pending_write}
-use Rattle.chan_core.specs.declared.answers.Got.{Got}
-use Rattle.chan_core.specs.declared.answers.Got.TheVariants.{Now, Later}
-use Rattle.chan_core.specs.declared.answers.ReadsFull.{ReadsFull}
-use Rattle.chan_core.specs.declared.answers.Ticket.{Ticket}
-use Rattle.chan_core.specs.declared.answers.Served.{Served}
-use Rattle.chan_core.specs.declared.answers.Served.TheVariants as served
-use Rattle.chan_core.specs.declared.answers.Collected.{Collected}
-use Rattle.chan_core.specs.declared.answers.Collected.TheVariants as collected
-use Rattle.chan_core.specs.declared.answers.Done.{Done}
+use Rattle.channel_answers.specs.declared.answers.Got.{Got}
+use Rattle.channel_answers.specs.declared.answers.Got.TheVariants.{Now, Later}
+use Rattle.channel_answers.specs.declared.answers.Ticket.{Ticket}
+use Rattle.channel_answers.specs.declared.answers.Served.{Served}
+use Rattle.channel_answers.specs.declared.answers.Served.TheVariants as served
+use Rattle.channel_answers.specs.declared.answers.Collected.{Collected}
+use Rattle.channel_answers.specs.declared.answers.Collected.TheVariants as collected
+use Rattle.channel_answers.specs.declared.answers.Done.{Done}
+use Rattle.chan_core.specs.declared.reads.ReadsFull.{ReadsFull}
 use Rattle.chan_core.specs.Reads.{OpenTicket}
 use Rattle.chan_core.specs.State.{ChannelState, cell_in, channel_memory, clock_of, line_at, memory_below}
 

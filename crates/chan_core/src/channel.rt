@@ -9,10 +9,11 @@ ghost use Rattle.chan_core.specs.Calls.{AddsWrite, AnswersCollect, AnswersGet, H
 ghost use Rattle.chan_core.specs.declared.phase.Phase.TheVariants.{Stepping};
 ghost use Rattle.chan_core.specs.Always.{IsChannel};
 
-use crate::answers::{Collected, Done, Got, ReadsFull, Ticket};
 use crate::channel_memory::ChannelMemory;
 use crate::phase::Phase;
+use crate::reads::ReadsFull;
 use bank_core::banks::Banks;
+use channel_answers::{Collected, Done, Got, Ticket};
 use circular_buffer::HeapCircularBuffer;
 use ddr4_timing::command::Stamped;
 use ddr4_timing::timing::Checked;

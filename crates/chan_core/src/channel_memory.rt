@@ -9,9 +9,9 @@ ghost use Rattle.chan_core.specs.State.{cell_in, new_channel, placed_write, plac
 ghost use Rattle.chan_core.specs.Always.{IsHeld};
 ghost use Rattle.chan_core.specs.Calls.{AddsRead, AddsWrite, AnswersCollect, AnswersGet, IsFullOfReads, IsFullOfWrites, WritesAt, after_get, after_put, loaded_at, with_hold};
 
-use crate::answers::{Collected, Got, ReadsFull, Ticket};
 use crate::phase::Phase;
-use crate::reads::{OpenRead, index_of_serial};
+use crate::reads::{OpenRead, ReadsFull, index_of_serial};
+use channel_answers::{Collected, Got, Ticket};
 use ddr4_timing::command::Stamped;
 use ddr4_timing::place::Place;
 use ddr4_timing::timing::Checked;

@@ -9,11 +9,11 @@ ghost use Rattle.chan_core.specs.declared.phase.Phase.TheVariants.{Running};
 ghost use Rattle.chan_core.specs.Phases.{TellsSleep};
 ghost use Rattle.chan_core.specs.Calls.{AnswersRead, KeepsBelow, MovesWrite, ServesIndex, after_command};
 
-use crate::answers::{Served, Ticket};
 use crate::channel_memory::ChannelMemory;
 use crate::moves::{store_by, take_write};
 use crate::phase::Phase;
 use crate::reads::answer;
+use channel_answers::{Served, Ticket};
 use ddr4_timing::command::Stamped;
 use frfcfs::pending::{Kind, Pending};
 

@@ -5,7 +5,6 @@
 //! and what is true of every channel (`Always.antt`); a line and its place (`Mapped.antt`) and the open reads (`Reads.antt`). The rest of `specs` is for the crate's own functions.
 #![tactic(auto)]
 
-mod answers;
 mod channel;
 mod channel_memory;
 mod effects;
@@ -15,7 +14,7 @@ mod phase;
 mod reads;
 mod singles;
 
-pub use answers::{Collected, Done, Got, ReadsFull, Served, Ticket};
 pub use channel::{Channel, RECENT};
 pub use laws::{commands_keep, memory_below_a_number};
 pub use phase::Phase;
+pub use reads::ReadsFull;

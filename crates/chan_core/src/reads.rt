@@ -21,6 +21,10 @@ pub struct OpenRead {
     pub bytes: Option<Line>,
 }
 
+/// As many reads as may be are pending or not collected.
+#[derive(Clone, Copy, Debug, PartialEq, Eq)]
+pub struct ReadsFull;
+
 /// Where the read of a serial stands.
 pub(crate) fn index_of_serial(reads: &[OpenRead], serial: u128) -> Option<usize>
     ensures { IsIndexOfSerial serial reads.now result }

@@ -1,12 +1,12 @@
 -- What the calls of the channels answer, and what they change of what waits.
 use Rattle.std.specs.Prelude.{◌≡◌, ℕ, ◌<◌, Bool, true, false, List, slice_get, slice_set, slice_index_or, [], Option, Some, None}
-use Rattle.line_channels.specs.declared.answers.Ticket.{Ticket}
-use Rattle.line_channels.specs.declared.answers.Got.{Got}
-use Rattle.line_channels.specs.declared.answers.Got.TheVariants.{Now, Later}
-use Rattle.line_channels.specs.declared.answers.Collected.{Collected}
-use Rattle.line_channels.specs.declared.answers.Collected.TheVariants.{Data, Pending, Unknown}
-use Rattle.line_channels.specs.declared.answers.Served.{Served}
-use Rattle.line_channels.specs.declared.answers.Served.TheVariants as served
+use Rattle.channel_answers.specs.declared.answers.Ticket.{Ticket}
+use Rattle.channel_answers.specs.declared.answers.Got.{Got}
+use Rattle.channel_answers.specs.declared.answers.Got.TheVariants.{Now, Later}
+use Rattle.channel_answers.specs.declared.answers.Collected.{Collected}
+use Rattle.channel_answers.specs.declared.answers.Collected.TheVariants.{Data, Pending, Unknown}
+use Rattle.channel_answers.specs.declared.answers.Served.{Served}
+use Rattle.channel_answers.specs.declared.answers.Served.TheVariants as served
 use Rattle.line_channels.specs.Waits.{OpenRead, Waits, Has, Joins, Goes, IsNewTicket}
 
 -- a line of the memory

@@ -3,7 +3,7 @@
 use Rattle.std.specs.Prelude.{◌≡◌, ◌==◌, ℕ, ◌-◌, ◌<◌, ◌≤◌, true, false, List, nat_lt, slice_get, Option, None, if◌then◌else◌}
 use Rattle.std.specs.List.{list_any}
 use Rattle.line_memory.specs.declared.Write.{Write}
-use Rattle.line_channels.specs.declared.answers.Waiting.{Waiting}
+use Rattle.line_channels.specs.declared.waiting.Waiting.{Waiting}
 
 -- what was carried is carried still
 abbrev pub Keeps : (List (List ℕ) → ℕ → List Write → Type 0) → (List (List ℕ) → ℕ → List Write → Type 0) → Type 0

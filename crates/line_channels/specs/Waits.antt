@@ -1,7 +1,7 @@
 -- What waits in the channels: writes that aren't in an array yet, and reads that were not collected.
 use Rattle.std.specs.Prelude.{◌≡◌, ◌≢◌, ◌==◌, ℕ, ◌<◌, ◌≤◌, Bool, List, [], length, insert, remove, count_by, slice_get, All, Some}
-use Rattle.line_channels.specs.declared.answers.Waiting.{Waiting}
-use Rattle.line_channels.specs.declared.answers.Ticket.{Ticket}
+use Rattle.channel_answers.specs.declared.answers.Ticket.{Ticket}
+use Rattle.line_channels.specs.declared.waiting.Waiting.{Waiting}
 
 -- a read that waits, or was answered and not collected: the bytes that it has or is to have, those of its line after the
 -- first `at` writes

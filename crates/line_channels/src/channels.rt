@@ -11,7 +11,7 @@ ghost use Rattle.line_channels.specs.Answers.{Puts, IsGot, IsCollected, IsServed
 ghost use Rattle.line_channels.specs.Memory.{Keeps, NoneBelow, WaitsFrom};
 ghost use Rattle.line_channels.specs.Draining.{PaysInTurn, Drains, LosesReads, drained_after};
 
-use crate::{Collected, Done, Got, Ticket};
+use channel_answers::{Collected, Done, Got, Ticket};
 use energy_budget::{Costs, Dark, Energy};
 use line_memory::Write;
 

@@ -2,10 +2,10 @@
 //! arrays hold the memory after the writes. A module is proved once, against the trait `Channels`.
 #![tactic(auto)]
 
-mod answers;
 mod channels;
 mod recorded;
+mod waiting;
 
-pub use answers::{Collected, Done, Got, Served, Ticket, Waiting};
 pub use channels::{Channels, Drainable};
 pub use recorded::Recorded;
+pub use waiting::Waiting;

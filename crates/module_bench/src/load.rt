@@ -3,8 +3,9 @@ ghost use Rattle.std.specs.Prelude.{◌≡◌};
 ghost use Rattle.module_core.specs.Stands.{HasDevice, setup_of};
 
 use crate::measured::{Measured, Stall};
+use channel_answers::{Collected, Got, Ticket};
 use energy_budget::Meter;
-use line_channels::{Channels, Collected, Got, Ticket};
+use line_channels::Channels;
 use line_memory::{Line, Write};
 use module_core::{Module, StepReply, WriteRefusal};
 use save_device::SaveDevice;

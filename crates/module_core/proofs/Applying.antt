@@ -11,10 +11,10 @@ use Rattle.slot_store.specs.Steps.{reach_of}
 use Rattle.slot_store.specs.Rest.{IsAmong}
 use Rattle.slot_store.specs.Runs.{plan_of}
 use Rattle.energy_budget.specs.Gauge.{Gauge}
+use Rattle.channel_answers.specs.declared.answers.Done.{Done}
 use Rattle.line_channels.specs.View.{ChannelsView}
 use Rattle.line_channels.specs.declared.channels.Channels.{Ghosts}
 use Rattle.module_core.specs.declared.module.Module.{Module}
-use Rattle.line_channels.specs.declared.answers.Done.{Done}
 use Rattle.module_core.specs.declared.events.Event.{Event}
 use Rattle.module_core.specs.declared.events.Event.TheVariants as events
 use Rattle.module_core.specs.declared.events.Reply.TheVariants as replies

@@ -1,8 +1,8 @@
 -- Reads change nothing of the writes that wait.
 use Rattle.std.proofs.Common.{◌≡◌, ap}
-use Rattle.line_channels.specs.declared.answers.Ticket.{Ticket}
-use Rattle.line_channels.specs.declared.answers.Collected.{Collected}
-use Rattle.line_channels.specs.declared.answers.Collected.TheVariants.{Data, Pending, Unknown}
+use Rattle.channel_answers.specs.declared.answers.Ticket.{Ticket}
+use Rattle.channel_answers.specs.declared.answers.Collected.{Collected}
+use Rattle.channel_answers.specs.declared.answers.Collected.TheVariants.{Data, Pending, Unknown}
 use Rattle.line_channels.specs.Waits.{Waits}
 use Rattle.line_channels.specs.Answers.{IsCollected}
 

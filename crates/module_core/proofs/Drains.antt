@@ -12,7 +12,7 @@ use Rattle.energy_budget.specs.declared.costs.Costs.{Costs}
 use Rattle.energy_budget.specs.declared.energy.Dark.{Dark}
 use Rattle.energy_budget.specs.Actions.{drain_actions}
 use Rattle.energy_budget.specs.Gauge.{Gauge}
-use Rattle.line_channels.specs.declared.answers.Waiting.{Waiting}
+use Rattle.line_channels.specs.declared.waiting.Waiting.{Waiting}
 use Rattle.line_channels.specs.Waits.{Waits, Remain, is_write_on, writes_on, nothing}
 use Rattle.line_channels.specs.View.{Shape, ChannelsView}
 use Rattle.line_channels.specs.Draining.{Paid, PaysInTurn, Drains}

@@ -13,10 +13,10 @@ use Rattle.arm_state.specs.declared.refusal.DisarmReply.TheVariants as disarm
 use Rattle.arm_state.specs.Modes.{is_armed, is_disarming, has_ended, reads_gauge}
 use Rattle.arm_state.specs.Refusals.{arm_refusal}
 use Rattle.energy_budget.specs.Gauge.{Gauge, ReadsLevel}
-use Rattle.line_channels.specs.declared.answers.Done.{Done}
-use Rattle.line_channels.specs.declared.answers.Got.{Got}
-use Rattle.line_channels.specs.declared.answers.Ticket.{Ticket}
-use Rattle.line_channels.specs.declared.answers.Collected.{Collected}
+use Rattle.channel_answers.specs.declared.answers.Done.{Done}
+use Rattle.channel_answers.specs.declared.answers.Got.{Got}
+use Rattle.channel_answers.specs.declared.answers.Ticket.{Ticket}
+use Rattle.channel_answers.specs.declared.answers.Collected.{Collected}
 use Rattle.module_core.specs.declared.events.Accepted.{Accepted}
 use Rattle.module_core.specs.declared.events.WriteRefusal.{WriteRefusal}
 use Rattle.module_core.specs.declared.events.ReadRefusal.{ReadRefusal}

@@ -14,13 +14,13 @@ use Rattle.arm_state.specs.Modes.{is_armed, is_backed, is_disarming, has_ended}
 use Rattle.energy_budget.specs.Gauge.{Gauge, ReadsLevel, IsHonestThrough}
 use Rattle.energy_budget.specs.Sums.{backing_level}
 use Rattle.energy_budget.proofs.Rising.{need_backs}
-use Rattle.line_channels.specs.declared.answers.Done.{Done}
-use Rattle.line_channels.specs.declared.answers.Served.{Served}
-use Rattle.line_channels.specs.declared.answers.Served.TheVariants as served
-use Rattle.line_channels.specs.declared.answers.Got.{Got}
-use Rattle.line_channels.specs.declared.answers.Got.TheVariants as got
-use Rattle.line_channels.specs.declared.answers.Ticket.{Ticket}
-use Rattle.line_channels.specs.declared.answers.Collected.{Collected}
+use Rattle.channel_answers.specs.declared.answers.Done.{Done}
+use Rattle.channel_answers.specs.declared.answers.Served.{Served}
+use Rattle.channel_answers.specs.declared.answers.Served.TheVariants as served
+use Rattle.channel_answers.specs.declared.answers.Got.{Got}
+use Rattle.channel_answers.specs.declared.answers.Got.TheVariants as got
+use Rattle.channel_answers.specs.declared.answers.Ticket.{Ticket}
+use Rattle.channel_answers.specs.declared.answers.Collected.{Collected}
 use Rattle.line_channels.specs.Waits.{Waits, Goes}
 use Rattle.line_channels.specs.View.{IsShape, is_full}
 use Rattle.line_channels.specs.Answers.{IsServed, IsGot}

@@ -20,7 +20,7 @@ use Rattle.energy_budget.specs.declared.costs.Costs.{Costs}
 use Rattle.energy_budget.specs.declared.energy.Dark.{Dark}
 use Rattle.energy_budget.specs.Actions.{cost_of, drain_actions, save_actions, closing_actions}
 use Rattle.energy_budget.specs.Gauge.{Gauge, ReadsLevel, PaysCost}
-use Rattle.line_channels.specs.declared.answers.Waiting.{Waiting}
+use Rattle.line_channels.specs.declared.waiting.Waiting.{Waiting}
 use Rattle.line_channels.specs.Waits.{Waits, Remain}
 use Rattle.line_channels.specs.View.{Shape, ChannelsView}
 use Rattle.line_channels.specs.Draining.{Paid, PaysInTurn}

@@ -9,7 +9,7 @@ use Rattle.energy_budget.specs.declared.costs.Costs.{Costs}
 use Rattle.energy_budget.specs.Actions.{cost_of, total_cost}
 use Rattle.energy_budget.specs.Gauge.{Gauge}
 use Rattle.energy_budget.proofs.Totals.{total_cost-cons, total_cost-append}
-use Rattle.line_channels.specs.declared.answers.Waiting.{Waiting}
+use Rattle.line_channels.specs.declared.waiting.Waiting.{Waiting}
 use Rattle.line_channels.specs.Waits.{writes_on}
 use Rattle.line_channels.specs.Draining.{Paid, PaysInTurn}
 use Rattle.module_core.specs.Losses.{pending_each}

@@ -10,8 +10,8 @@ use Rattle.arm_state.specs.declared.refusal.DisarmReply.{DisarmReply}
 use Rattle.arm_state.specs.declared.refusal.DisarmReply.TheVariants as disarm
 use Rattle.arm_state.specs.Modes.{reads_gauge}
 use Rattle.energy_budget.specs.Gauge.{Gauge, ReadsLevel}
-use Rattle.line_channels.specs.declared.answers.Done.{Done}
-use Rattle.line_channels.specs.declared.answers.Got.{Got}
+use Rattle.channel_answers.specs.declared.answers.Done.{Done}
+use Rattle.channel_answers.specs.declared.answers.Got.{Got}
 use Rattle.line_memory.specs.declared.Write as line_write
 use Rattle.module_core.specs.declared.events.Accepted.{Accepted}
 use Rattle.module_core.specs.declared.events.WriteRefusal.{WriteRefusal}

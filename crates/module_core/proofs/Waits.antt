@@ -9,10 +9,10 @@ use Rattle.std.proofs.lemmas.Option.{slice_get_within, get_or_from_slice_get}
 use Rattle.std.proofs.lemmas.List.{take-append-drop}
 use Rattle.std.proofs.lemmas.List.Elements.{All-append, All-take, All-drop}
 use Rattle.std.proofs.lemmas.List.Folds.{list_any-append}
-use Rattle.line_channels.specs.declared.answers.Waiting.{Waiting}
-use Rattle.line_channels.specs.declared.answers.Done.{Done}
-use Rattle.line_channels.specs.declared.answers.Served.{Served}
-use Rattle.line_channels.specs.declared.answers.Served.TheVariants as served
+use Rattle.channel_answers.specs.declared.answers.Done.{Done}
+use Rattle.channel_answers.specs.declared.answers.Served.{Served}
+use Rattle.channel_answers.specs.declared.answers.Served.TheVariants as served
+use Rattle.line_channels.specs.declared.waiting.Waiting.{Waiting}
 use Rattle.line_channels.specs.Waits.{Waits, Joins, Goes, AllBelow}
 use Rattle.line_channels.specs.View.{Shape, ChannelsView}
 use Rattle.line_channels.specs.Answers.{IsServed, IsBelowHold}

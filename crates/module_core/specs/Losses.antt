@@ -11,7 +11,7 @@ use Rattle.energy_budget.specs.declared.energy.Dark.{Dark}
 use Rattle.std.specs.List.{flat_map}
 use Rattle.energy_budget.specs.Actions.{cost_of, drain_actions, closing_actions}
 use Rattle.energy_budget.specs.Gauge.{Gauge, ReadsLevel, PaysCost}
-use Rattle.line_channels.specs.declared.answers.Waiting.{Waiting}
+use Rattle.line_channels.specs.declared.waiting.Waiting.{Waiting}
 use Rattle.line_channels.specs.Waits.{Remain, nothing, writes_on}
 use Rattle.line_channels.specs.Draining.{PaysInTurn}
 use Rattle.module_core.specs.declared.events.Loss.{Loss}

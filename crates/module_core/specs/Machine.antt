@@ -19,10 +19,10 @@ use Rattle.arm_state.specs.declared.moves.Move.TheVariants.{FailSave}
 use Rattle.arm_state.specs.Moves.{mode_after}
 use Rattle.arm_state.specs.Refusals.{arm_refusal, disarm_refusal, save_refusal}
 use Rattle.energy_budget.specs.Gauge.{Gauge, ReadsLevel}
-use Rattle.line_channels.specs.declared.answers.Ticket.{Ticket}
-use Rattle.line_channels.specs.declared.answers.Got.{Got}
-use Rattle.line_channels.specs.declared.answers.Collected.{Collected}
-use Rattle.line_channels.specs.declared.answers.Done.{Done}
+use Rattle.channel_answers.specs.declared.answers.Ticket.{Ticket}
+use Rattle.channel_answers.specs.declared.answers.Got.{Got}
+use Rattle.channel_answers.specs.declared.answers.Collected.{Collected}
+use Rattle.channel_answers.specs.declared.answers.Done.{Done}
 use Rattle.line_channels.specs.Answers.{Puts, IsGot, IsCollected, IsServed, line_of}
 use Rattle.module_core.specs.declared.events.Accepted.{Accepted}
 use Rattle.module_core.specs.declared.events.WriteRefusal.{WriteRefusal}

@@ -13,8 +13,9 @@ ghost use Rattle.module_core.specs.Saving.{IsOfLines};
 use crate::saves::Saves;
 use crate::{Accepted, Event, ReadRefusal, Reply, WriteRefusal};
 use arm_state::{ArmRefusal, DisarmReply, Mode, SaveState};
+use channel_answers::{Collected, Done, Got, Ticket};
 use energy_budget::{Costs, Energy};
-use line_channels::{Channels, Collected, Done, Got, Ticket};
+use line_channels::Channels;
 use line_memory::Write;
 
 /// No save is begun over a newest image of this generation or a greater one.

@@ -22,7 +22,7 @@ use Rattle.frfcfs.specs.Margin.{last_clock}
 use Rattle.chan_core.specs.State.{ChannelState, clock_of, memory_below, new_channel}
 use Rattle.chan_core.proofs.Kept.{map-from}
 use Rattle.line_channels.specs.Answers.{line_of}
-use Rattle.line_channels.specs.declared.answers.Waiting.{Waiting}
+use Rattle.line_channels.specs.declared.waiting.Waiting.{Waiting}
 use Rattle.line_channels.specs.Waits.{OpenRead, nothing}
 use Rattle.module_parts.specs.Beginning.{AreFresh, IsFresh, LoadsPlace, zero_channels, zero_parts}
 use Rattle.module_parts.specs.Carrying.{CarryWritten}

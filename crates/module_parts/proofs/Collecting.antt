@@ -5,23 +5,20 @@ use Rattle.std.proofs.lemmas.Bool.Decides.{eqb_tells}
 use Rattle.std.proofs.lemmas.List.Elements.{All-append, All-nil}
 use Rattle.std.proofs.lemmas.Option.{slice_get-get_or}
 use Rattle.ddr4_timing.specs.declared.place.Place.{Place}
+use Rattle.channel_answers.specs.declared.answers.Collected.{Collected}
+use Rattle.channel_answers.specs.declared.answers.Collected.TheVariants.{Data, Pending, Unknown}
+use Rattle.channel_answers.specs.declared.answers.Ticket.{Ticket}
 use Rattle.chan_core.specs.Always.{IsHeld}
 use Rattle.chan_core.specs.Calls.{AnswersCollect}
-use Rattle.chan_core.specs.declared.answers.Collected.{Collected as ChannelCollected}
-use Rattle.chan_core.specs.declared.answers.Collected.TheVariants as core_collected
 use Rattle.chan_core.specs.State.{ChannelState, memory_below}
 use Rattle.chan_core.proofs.Kept.{map-at, map-from}
-use Rattle.line_channels.specs.declared.answers.Collected.{Collected}
-use Rattle.line_channels.specs.declared.answers.Collected.TheVariants.{Data, Pending, Unknown}
-use Rattle.line_channels.specs.declared.answers.Ticket.{Ticket}
-use Rattle.line_channels.specs.declared.answers.Waiting.{Waiting}
+use Rattle.line_channels.specs.declared.waiting.Waiting.{Waiting}
 use Rattle.line_channels.specs.Answers.{IsCollected, open_read}
 use Rattle.line_channels.specs.Memory.{Keeps}
 use Rattle.line_channels.specs.Waits.{Goes, Has, IsNewTicket, OpenRead, Remain, Waits}
 use Rattle.module_parts.specs.Carrying.{CarryWritten}
-use Rattle.module_parts.specs.Collecting.{reads_of, told_collected}
 use Rattle.module_parts.specs.Parts.{AreParts, IsDry, PartsState}
-use Rattle.module_parts.specs.Seen.{open_on, open_read_of, waiting_on, waits_in}
+use Rattle.module_parts.specs.Seen.{open_on, open_read_of, reads_of, waiting_on, waits_in}
 use Rattle.module_parts.proofs.Changing.{parts-set}
 use Rattle.module_parts.proofs.EarlyClocks.{early-kept}
 use Rattle.module_parts.proofs.Keeping.{written-kept}
@@ -40,8 +37,8 @@ module _ (s t : ChannelState) (ticket : Ticket) (here : ticket.channel ≡ s.cha
   same-reads : t.tickets ≡ s.tickets → reads_of t ≡ reads_of s
   same-reads same = ap (λ (rs : List OpenRead). record { writes = []; reads = rs }) (ap (λ (x : ChannelState). map (open_read_of x.channel) t.tickets) rest ∙ ap (map (open_read_of s.channel)) same)
 
-  pub tells-collected : (r : ChannelCollected) → AnswersCollect s (record { channel = ticket.channel; serial = ticket.serial }) r t.tickets → IsCollected ticket (told_collected r) (reads_of s) (reads_of t)
-  tells-collected (core_collected.Data line bytes at) (e, i, stands, is) = (
+  pub tells-collected : (r : Collected) → AnswersCollect s ticket r t.tickets → IsCollected ticket r (reads_of s) (reads_of t)
+  tells-collected (Data line bytes at) (e, i, stands, is) = (
     (
       i,
       map-at (open_read_of s.channel) s.tickets i (record { serial = ticket.serial; line = line; at = at; bytes = bytes; answered = true }) stands
@@ -50,14 +47,14 @@ module _ (s t : ChannelState) (ticket : Ticket) (here : ticket.channel ≡ s.cha
     ),
     refl,
   )
-  tells-collected core_collected.Pending (e, i, read, stands, serial, answered, same) = (
+  tells-collected Pending (e, i, read, stands, serial, answered, same) = (
     open_read_of s.channel read,
     (i, map-at (open_read_of s.channel) s.tickets i read stands),
     ap (λ (n : ℕ). record { channel = s.channel; serial = n }) serial ∙ ap (λ (c : ℕ). record { channel = c; serial = ticket.serial }) (sym here),
     answered,
     same-reads same,
   )
-  tells-collected core_collected.Unknown (none, same) = (
+  tells-collected Unknown (none, same) = (
     all-from (λ (r : OpenRead). r.ticket ≢ ticket) (open_on s) (λ k r there named.
         let (read, stands, is) = map-from (open_read_of s.channel) s.tickets k r there in
         none here k read stands (ap (λ (x : OpenRead). x.ticket.serial) is ∙ ap (λ (x : Ticket). x.serial) named)),

@@ -15,7 +15,7 @@ use Rattle.wpq_core.specs.PendingMemory.{after_pending}
 use Rattle.chan_core.specs.Always.{IsHeld}
 use Rattle.chan_core.specs.State.{ChannelState, memory_below}
 use Rattle.drain_core.specs.Steps.{TakesOldest}
-use Rattle.line_channels.specs.declared.answers.Waiting.{Waiting}
+use Rattle.line_channels.specs.declared.waiting.Waiting.{Waiting}
 use Rattle.line_channels.specs.Draining.{Drains, LosesReads, Paid, drained_after}
 use Rattle.line_channels.specs.Memory.{Keeps, WaitsFrom}
 use Rattle.line_channels.specs.Waits.{Has, OpenRead, Remain, is_read_on, is_write_on, writes_on, nothing}

@@ -1,6 +1,6 @@
 -- How far the clock of a running channel goes, and that it may be drained there.
 use Rattle.std.proofs.Common.{◌≡◌, ◌≢◌, ◌↔◌, ℕ, ◌+◌, ◌-◌, ◌*◌, ◌^◌, ◌<◌, ◌≤◌, List, [], ◌∷◌, ◌++◌, fold, refl, sym, ap, subst, ◌∙◌, inl, inr, arith}
-use Rattle.std.specs.Prelude.{Some, None}
+use Rattle.std.specs.Prelude.{IfNone, IfSome, Option, Some, None}
 use Rattle.std.proofs.lemmas.Bool.{cases_order}
 use Rattle.ddr4_timing.specs.declared.command.Command.{Command}
 use Rattle.ddr4_timing.specs.declared.command.Command.TheVariants.{Act, Rd, Wr, Pre, PreAll, Ref, Sre}
@@ -15,7 +15,7 @@ use Rattle.ddr4_timing.proofs.Ready.{admits_from}
 use Rattle.frfcfs.specs.Margin.{KeepsMargin, last_clock}
 use Rattle.frfcfs.proofs.refreshes.MarginEnds.{drain_has_time}
 use Rattle.frfcfs.proofs.refreshes.RefreshCounts.{last_clock_push}
-use Rattle.chan_core.specs.declared.answers.Done.{Done as ChannelDone}
+use Rattle.channel_answers.specs.declared.answers.Done.{Done}
 use Rattle.chan_core.specs.declared.phase.Phase.TheVariants.{Running, Stepping}
 use Rattle.chan_core.specs.Always.{IsChannel}
 use Rattle.chan_core.specs.Calls.{HasNothingToSend, IssuesChoice}
@@ -46,7 +46,7 @@ clock-bound : (x last now t : ℕ) → x - last ≤ 9 * t → last ≤ now → n
 clock-bound x last now t h l m k = omega arith
 
 -- A command of the scheduler goes at most nine refresh intervals behind the clock.
-issue-early : (s t : ChannelState) (done : ChannelDone) → IsChannel s → IsChannel t → s.phase ≡ Running → clock_of s < 2 ^ 62 → IssuesChoice s done t → clock_of t < 2 ^ 62 + 2 ^ 24
+issue-early : (s t : ChannelState) (done : Done) → IsChannel s → IsChannel t → s.phase ≡ Running → clock_of s < 2 ^ 62 → IssuesChoice s done t → clock_of t < 2 ^ 62 + 2 ^ 24
 issue-early s t done is new running early issues =
     let x = done.command in
     let commands : t.commands ≡ s.commands ++ x ∷ [] = ap (λ (u : ChannelState). u.commands) issues.same in
@@ -67,12 +67,16 @@ sends-early s sends = elim (cases_order (clock_of s) (2 ^ 62)) [
   | inr (inr above) ↦ absurd (sends (inr (omega (arith, above))))
 ]
 
+-- A running channel that issues a command has something to send.
+pub work-sends : (s : ChannelState) (result : Option Done) → s.phase ≡ Running → (s.phase ≢ Stepping → ((result ≡ None) ↔ HasNothingToSend s)) → IfSome result (λ done. HasNothingToSend s → ⊥)
+work-sends s None running sends = tt
+work-sends s (Some done) running sends = λ has. let none : Some done ≡ None = (sends (still-running s running)).1 has in cc
+
 -- A channel's work.
-pub work-early : (s t : ChannelState) (done : ChannelDone) → IsChannel s → IsChannel t → s.phase ≡ Running → (s.phase ≢ Stepping → ((Some done ≡ None) ↔ HasNothingToSend s)) → IssuesChoice s done t → RunsEarly t
-work-early s t done is new running sends choice = (
-  ap (λ (u : ChannelState). u.phase) choice.same ∙ running,
-  issue-early s t done is new running (sends-early s (λ has. let none : Some done ≡ None = (sends (still-running s running)).1 has in cc)) choice,
-)
+pub work-early : (s t : ChannelState) (result : Option Done) → IsChannel s → IsChannel t → s.phase ≡ Running → IfSome result (λ done. HasNothingToSend s → ⊥) → IfNone result (t ≡ s)
+    → IfSome result (λ done. IssuesChoice s done t) → RunsEarly s → RunsEarly t
+work-early s t None is new running sends stays issues early = subst RunsEarly (sym stays) early
+work-early s t (Some done) is new running sends stays issues early = (ap (λ (u : ChannelState). u.phase) issues.same ∙ running, issue-early s t done is new running (sends-early s sends) issues)
 
 start-behind : (s l : ℕ) (list : List Stamped) → s ≤ l + 1 → fold (λ _ x. x.clock + 1) s list ≤ fold (λ _ x. x.clock) l list + 1
 start-behind s l [] h = h

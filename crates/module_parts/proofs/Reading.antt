@@ -12,23 +12,22 @@ use Rattle.ddr4_timing.specs.declared.timing.Checked.{Checked}
 use Rattle.interleave_map.specs.Cells.{cell_of}
 use Rattle.wpq_core.specs.Writes.{ComeBefore}
 use Rattle.frfcfs.proofs.Lists.{All-at, one_at}
+use Rattle.channel_answers.specs.declared.answers.Got.{Got}
+use Rattle.channel_answers.specs.declared.answers.Got.TheVariants.{Later, Now}
+use Rattle.channel_answers.specs.declared.answers.Ticket.{Ticket}
 use Rattle.chan_core.specs.Always.{IsHeld}
 use Rattle.chan_core.specs.Calls.{AddsRead, AnswersGet, after_get}
 use Rattle.chan_core.specs.State.{ChannelState, channel_memory, line_at, memory_below}
-use Rattle.chan_core.specs.declared.answers.Got as channel
-use Rattle.chan_core.specs.declared.answers.Got.TheVariants as channel_got
-use Rattle.chan_core.specs.declared.answers.Ticket as channel_ticket
 use Rattle.chan_core.proofs.Below.{below-all}
 use Rattle.chan_core.proofs.Kept.{map-from}
 use Rattle.chan_core.proofs.Taken.{all-of}
 use Rattle.line_channels.specs.Answers.{IsGot, line_of, open_read}
 use Rattle.line_channels.specs.Memory.{WaitsFrom}
 use Rattle.line_channels.specs.Waits.{IsNewTicket, Joins, OpenRead}
-use Rattle.line_channels.specs.declared.answers.Ticket.{Ticket}
 use Rattle.module_parts.specs.Carrying.{CarryWrites, CarryWritten}
 use Rattle.module_parts.specs.Lines.{line_in}
 use Rattle.module_parts.specs.Parts.{AreParts, IsDry, PartsState}
-use Rattle.module_parts.specs.Seen.{got_of, line_with, open_on, open_read_of, seen_by_lines, waiting_on, waits_in}
+use Rattle.module_parts.specs.Seen.{line_with, open_on, open_read_of, seen_by_lines, waiting_on, waits_in}
 use Rattle.module_parts.proofs.Changing.{Keeps, get-set, parts-set}
 use Rattle.module_parts.proofs.EarlyClocks.{early-kept}
 use Rattle.module_parts.proofs.Piles.{from-pile, one-joins, one-stays}
@@ -130,19 +129,16 @@ module _ (place_of : ℕ → Place) (p : PartsState) (i : ℕ) (s new : ChannelS
             ∙ sym (insert_end (open_on s) r),
       )
 
-  pub answer-after-get : (line number : ℕ) (bytes : List ℕ) (got : channel.Got) → AreParts p → i ≡ (place_of line).channel → line_at s (place_of line) ≡ bytes → AnswersGet s (place_of line) line number (Ok got) new
-      → IsGot bytes line number (place_of line).channel (got_of got) (seen_by_lines place_of p).waits (seen_by_lines place_of (with_channel p i new)).waits
-  answer-after-get line number bytes (channel_got.Now given) are on value answers =
+  pub answer-after-get : (line number : ℕ) (bytes : List ℕ) (got : Got) → AreParts p → i ≡ (place_of line).channel → line_at s (place_of line) ≡ bytes → AnswersGet s (place_of line) line number (Ok got) new
+      → IsGot bytes line number (place_of line).channel got (seen_by_lines place_of p).waits (seen_by_lines place_of (with_channel p i new)).waits
+  answer-after-get line number bytes (Now given) are on value answers =
       let stays : slice_set p.channels i new ≡ p.channels = ap (slice_set p.channels i) answers.3 ∙ set-same p.channels i s at in
       (answers.2 ∙ value, ap (waits_in (line_in p.checked.geometry place_of)) stays)
-  answer-after-get line number bytes (channel_got.Later ticket) are on value answers =
+  answer-after-get line number bytes (Later ticket) are on value answers =
       let named : ticket ≡ record { channel = s.channel; serial = s.serial } = answers.2 in
-      let of_channel : ticket.channel ≡ s.channel = ap (λ (t : channel_ticket.Ticket). t.channel) named in
-      let of_serial : ticket.serial ≡ s.serial = ap (λ (t : channel_ticket.Ticket). t.serial) named in
-      let given : Ticket = record { channel = ticket.channel; serial = ticket.serial } in
-      let given_is : given ≡ record { channel = s.channel; serial = s.serial } = ap (λ (t : channel_ticket.Ticket). record { channel = t.channel; serial = t.serial }) named in (
+      let of_channel : ticket.channel ≡ s.channel = ap (λ (t : Ticket). t.channel) named in (
         of_channel ∙ (are.each i s at).channel ∙ on,
-        new-ticket given are of_channel of_serial,
-        read-joins (place_of line) line number bytes given answers.3 given_is value,
+        new-ticket ticket are of_channel (ap (λ (t : Ticket). t.serial) named),
+        read-joins (place_of line) line number bytes ticket answers.3 named value,
         writes-after-get,
       )

@@ -15,7 +15,7 @@ use Rattle.chan_core.specs.State.{ChannelState}
 use Rattle.chan_core.proofs.Kept.{map-from}
 use Rattle.line_channels.specs.View.{is_full, is_full_of_reads}
 use Rattle.line_channels.specs.Waits.{OpenRead, is_read_on, is_write_on, reads_on, writes_on}
-use Rattle.line_channels.specs.declared.answers.Waiting.{Waiting}
+use Rattle.line_channels.specs.declared.waiting.Waiting.{Waiting}
 use Rattle.module_parts.specs.Lines.{ArePlaces, line_in}
 use Rattle.module_parts.specs.Parts.{AreParts, PartsState}
 use Rattle.module_parts.specs.Seen.{open_on, open_read_of, seen_by_lines, waiting_on, waiting_write}

@@ -13,7 +13,7 @@ use Rattle.interleave_map.specs.Cells.{cell_of}
 use Rattle.wpq_core.specs.declared.queue.PendingWrite.{PendingWrite}
 use Rattle.chan_core.specs.State.{ChannelState, memory_below}
 use Rattle.chan_core.proofs.Below.{below-none}
-use Rattle.line_channels.specs.declared.answers.Waiting.{Waiting}
+use Rattle.line_channels.specs.declared.waiting.Waiting.{Waiting}
 use Rattle.module_parts.specs.Carrying.{CarryWrites, CarryWritten, SettlesAt}
 use Rattle.module_parts.specs.Lines.{line_in}
 use Rattle.module_parts.specs.Parts.{PartsState}

@@ -18,17 +18,16 @@ use Rattle.wpq_core.specs.declared.queue.PendingWrite.{PendingWrite}
 use Rattle.wpq_core.specs.Writes.{NumbersRise}
 use Rattle.frfcfs.specs.declared.pending.Pending.{Pending}
 use Rattle.frfcfs.proofs.Lists.{All-at}
-use Rattle.chan_core.specs.declared.answers.Done.{Done as ChannelDone}
-use Rattle.chan_core.specs.declared.answers.Served.{Served as ChannelServed}
-use Rattle.chan_core.specs.declared.answers.Served.TheVariants as core_served
-use Rattle.chan_core.specs.declared.answers.Ticket.{Ticket as ChannelTicket}
+use Rattle.channel_answers.specs.declared.answers.Done.{Done}
+use Rattle.channel_answers.specs.declared.answers.Served.{Served}
+use Rattle.channel_answers.specs.declared.answers.Served.TheVariants as served
+use Rattle.channel_answers.specs.declared.answers.Ticket.{Ticket}
 use Rattle.chan_core.specs.Always.{IsHeld}
-use Rattle.chan_core.specs.Calls.{HasNothingToSend, IssuesChoice, MovesWrite, ServesIndex, ServesRequest}
+use Rattle.chan_core.specs.Calls.{HasNothingToSend, IssuesChoice, MovesWrite, ServesIndex, ServesRequest, after_commands}
 use Rattle.chan_core.specs.State.{ChannelState, memory_below}
 use Rattle.chan_core.proofs.Kept.{map-at}
 use Rattle.chan_core.proofs.Taken.{before_removal}
-use Rattle.line_channels.specs.declared.answers.Done.{Done}
-use Rattle.line_channels.specs.declared.answers.Waiting.{Waiting}
+use Rattle.line_channels.specs.declared.waiting.Waiting.{Waiting}
 use Rattle.line_channels.specs.Answers.{IsBelowHold, IsServed}
 use Rattle.line_channels.specs.Memory.{Keeps, WaitsFrom}
 use Rattle.line_channels.specs.Waits.{OpenRead, Remain}
@@ -36,7 +35,6 @@ use Rattle.module_parts.specs.Carrying.{CarryWrites, CarryWritten}
 use Rattle.module_parts.specs.Lines.{ArePlaces, greatest_below, is_in_cell, line_in}
 use Rattle.module_parts.specs.Parts.{AreParts, IsDry, PartsState, RunsEarly}
 use Rattle.module_parts.specs.Seen.{HasNoCommand, open_on, open_read_of, seen_by_lines, waiting_on, waiting_write, waits_in}
-use Rattle.module_parts.specs.Working.{told_done, told_served}
 use Rattle.module_parts.proofs.Changing.{get-set, parts-set}
 use Rattle.module_parts.proofs.Collecting.{map-removed}
 use Rattle.module_parts.proofs.Keeping.{numbered, was-there, written-kept}
@@ -132,9 +130,9 @@ module _ (place_of : ℕ → Place) (p : PartsState) (i : ℕ) (s t : ChannelSta
       ap (λ (ws : List Waiting). record { writes = ws; reads = flat_map open_on (slice_set p.channels i t) }) (writes-stay at channel writes) in
       first ∙ ap (λ (rs : List OpenRead). record { writes = flat_map (waiting_on line_at) p.channels; reads = rs }) (reads-stay at channel tickets)
 
-  serves : AreParts p → ArePlaces p.checked.geometry place_of → i < p.checked.geometry.channels → slice_get p.channels i ≡ Some s → t.channel ≡ s.channel → (request : Pending) (served : ChannelServed) → ServesRequest s request served t
-      → IsServed (channels_of place_of) p.hold i (told_served (Some served)) (waits_in line_at p.channels) (waits_in line_at (slice_set p.channels i t))
-  serves are places less at channel request (core_served.Write number) moves =
+  serves : AreParts p → ArePlaces p.checked.geometry place_of → i < p.checked.geometry.channels → slice_get p.channels i ≡ Some s → t.channel ≡ s.channel → (request : Pending) (served : Served) → ServesRequest s request served t
+      → IsServed (channels_of place_of) p.hold i (Some served) (waits_in line_at p.channels) (waits_in line_at (slice_set p.channels i t))
+  serves are places less at channel request (served.Write number) moves =
       let part = are.each i s at in
       let (k, w, stands, named, bytes, gone) = moves.writes in
       let cell = w.write.line in
@@ -152,7 +150,7 @@ module _ (place_of : ℕ → Place) (p : PartsState) (i : ℕ) (s t : ChannelSta
         unheld = below-hold p.hold number (λ n held. moves.unheld n (part.hold ∙ held));
         reads = reads-stay at channel moves.tickets;
       }
-  serves are places less at channel request (core_served.Read ticket) answers =
+  serves are places less at channel request (served.Read ticket) answers =
       let part = are.each i s at in
       let read = open_read_of s.channel answers.read in
       let (place, stands, is) = one-becomes read (record read { answered = true }) open_on p.channels i s t at (
@@ -164,35 +162,31 @@ module _ (place_of : ℕ → Place) (p : PartsState) (i : ℕ) (s t : ChannelSta
         read = read;
         place = place;
         stands = stands;
-        named = sym (ap (λ (x : ChannelTicket). record { channel = x.channel; serial = x.serial }) answers.named);
+        named = sym answers.named;
         waited = answers.waits;
-        here = ap (λ (x : ChannelTicket). x.channel) answers.named ∙ part.channel;
+        here = ap (λ (x : Ticket). x.channel) answers.named ∙ part.channel;
         reads = is;
         writes = writes-stay at channel answers.writes;
       }
 
-  serves-index : AreParts p → ArePlaces p.checked.geometry place_of → i < p.checked.geometry.channels → slice_get p.channels i ≡ Some s → t.channel ≡ s.channel → (index : Option ℕ) (served : Option ChannelServed) → ServesIndex index served s t
-      → IsServed (channels_of place_of) p.hold i (told_served served) (waits_in line_at p.channels) (waits_in line_at (slice_set p.channels i t))
+  serves-index : AreParts p → ArePlaces p.checked.geometry place_of → i < p.checked.geometry.channels → slice_get p.channels i ≡ Some s → t.channel ≡ s.channel → (index : Option ℕ) (served : Option Served) → ServesIndex index served s t
+      → IsServed (channels_of place_of) p.hold i served (waits_in line_at p.channels) (waits_in line_at (slice_set p.channels i t))
   serves-index are places less at channel (Some index) (Some served) is = serves are places less at channel is.p served is.serves
   serves-index are places less at channel (Some index) None is = absurd is
   serves-index are places less at channel None (Some served) is = absurd is
   serves-index are places less at channel None None is = waits-stay at channel is.writes is.tickets
 
-  pub issue-serves : AreParts p → ArePlaces p.checked.geometry place_of → i < p.checked.geometry.channels → slice_get p.channels i ≡ Some s → (done : ChannelDone) → IssuesChoice s done t
-      → IsServed (channels_of place_of) p.hold i (told_served done.served) (waits_in line_at p.channels) (waits_in line_at (slice_set p.channels i t))
-  issue-serves are places less at done issues = serves-index are places less at (ap (λ (x : ChannelState). x.channel) issues.same) issues.index done.served issues.serves
-
   -- no write comes
-  request-remain : (request : Pending) (served : ChannelServed) → ServesRequest s request served t → Remain s.writes t.writes
-  request-remain request (core_served.Write number) moves w (m, there) =
+  request-remain : (request : Pending) (served : Served) → ServesRequest s request served t → Remain s.writes t.writes
+  request-remain request (served.Write number) moves w (m, there) =
       let (k, v, stands, named, bytes, gone) = moves.writes in
       elim (before_removal s.writes k m w (slice_get_within s.writes k v stands) (ap (λ (ws : List PendingWrite). slice_get ws m) (sym gone) ∙ there)) [
         | inl b ↦ (m, b.1)
         | inr b ↦ (suc m, b.1)
       ]
-  request-remain request (core_served.Read ticket) answers w (m, there) = (m, ap (λ (ws : List PendingWrite). slice_get ws m) (sym answers.writes) ∙ there)
+  request-remain request (served.Read ticket) answers w (m, there) = (m, ap (λ (ws : List PendingWrite). slice_get ws m) (sym answers.writes) ∙ there)
 
-  index-remain : (index : Option ℕ) (served : Option ChannelServed) → ServesIndex index served s t → Remain s.writes t.writes
+  index-remain : (index : Option ℕ) (served : Option Served) → ServesIndex index served s t → Remain s.writes t.writes
   index-remain (Some index) (Some served) is w has = request-remain is.p served is.serves w has
   index-remain (Some index) None is w has = absurd is
   index-remain None (Some served) is w has = absurd is
@@ -225,60 +219,38 @@ module _ (place_of : ℕ → Place) (p : PartsState) (i : ℕ) (s t : ChannelSta
       (ap (λ (ws : List PendingWrite). slice_get ws has.index) (sym (ap (λ (x : ChannelState). x.writes) state ∙ gone)) ∙ has.there) has.named
 
   request-below : (n : ℕ) → WaitsFrom n (start + length writes) (waits_in (line_in p.checked.geometry place_of) (slice_set p.channels i t)).writes
-      → (request : Pending) (served : ChannelServed) → ServesRequest s request served t → memory_below n t ≡ memory_below n s
-  request-below n waits request (core_served.Write number) moves =
+      → (request : Pending) (served : Served) → ServesRequest s request served t → memory_below n t ≡ memory_below n s
+  request-below n waits request (served.Write number) moves =
       elim (cases_order number n) [
         | inl e ↦ absurd (still-waits n waits request number moves (omega (arith, e)))
         | inr (inl below) ↦ moves.below n below
         | inr (inr above) ↦ absurd (still-waits n waits request number moves (omega (arith, above)))
       ]
-  request-below n waits request (core_served.Read ticket) answers = same-below place_of p i s t n answers.array answers.writes
+  request-below n waits request (served.Read ticket) answers = same-below place_of p i s t n answers.array answers.writes
 
   index-below : (n : ℕ) → WaitsFrom n (start + length writes) (waits_in (line_in p.checked.geometry place_of) (slice_set p.channels i t)).writes
-      → (index : Option ℕ) (served : Option ChannelServed) → ServesIndex index served s t → memory_below n t ≡ memory_below n s
+      → (index : Option ℕ) (served : Option Served) → ServesIndex index served s t → memory_below n t ≡ memory_below n s
   index-below n waits (Some index) (Some served) is = request-below n waits is.p served is.serves
   index-below n waits (Some index) None is = absurd is
   index-below n waits None (Some served) is = absurd is
   index-below n waits None None is = same-below place_of p i s t n is.array is.writes
 
-pub issue-keeps : (place_of : ℕ → Place) (p : PartsState) (i : ℕ) (s t : ChannelState) → slice_get p.channels i ≡ Some s → (done : ChannelDone) → IssuesChoice s done t
-    → AreParts (record p { channels = slice_set p.channels i t }) → Keeps (CarryWritten place_of p) (CarryWritten place_of (record p { channels = slice_set p.channels i t }))
-issue-keeps place_of p i s t at done issues parts base start writes written =
-    let remain = index-remain place_of p i s t issues.index done.served issues.serves in
-    written-kept p i s t at remain place_of base start writes parts
-    (λ n waits. index-below place_of p i s t base start writes written.carry at remain n waits issues.index done.served issues.serves) written
-
--- the channel's parts stay what they have to be
-pub issued-parts : (p : PartsState) (i : ℕ) (s t : ChannelState) → AreParts p → slice_get p.channels i ≡ Some s → (done : ChannelDone) → IssuesChoice s done t → IsHeld t → (RunsEarly s → RunsEarly t) → ((n : ℕ) → p.drained ≡ Some n → i < n → IsDry t) → AreParts (record p { channels = slice_set p.channels i t })
-issued-parts p i s t are at done issues held early dry = parts-set p i s t are at held (record {
-  checked = ap (λ (x : ChannelState). x.checked) issues.same;
-  channel = ap (λ (x : ChannelState). x.channel) issues.same;
-  depth = ap (λ (x : ChannelState). x.depth) issues.same;
-  most_reads = ap (λ (x : ChannelState). x.most_reads) issues.same;
-  hold = ap (λ (x : ChannelState). x.hold) issues.same;
-  runs = early;
-}) dry
-
--- a list in which an element is set to itself
+-- The work of one channel, which issues a command or none.
 module _ (place_of : ℕ → Place) (p : PartsState) (i : ℕ) (s t : ChannelState) (are : AreParts p) (at : slice_get p.channels i ≡ Some s) (held : IsHeld t) where
-  pub work-parts : (result : Option Done) → IfNone result (t ≡ s) → IfSome result (λ done. (issued : ChannelDone) × IssuesChoice s issued t × (done ≡ told_done issued))
-      → (RunsEarly s → RunsEarly t) → ((n : ℕ) → p.drained ≡ Some n → i < n → IsDry t) → AreParts (record p { channels = slice_set p.channels i t })
-  work-parts None stays issues early dry = parts-set p i s t are at held (record {
-    checked = ap (λ (x : ChannelState). x.checked) stays;
-    channel = ap (λ (x : ChannelState). x.channel) stays;
-    depth = ap (λ (x : ChannelState). x.depth) stays;
-    most_reads = ap (λ (x : ChannelState). x.most_reads) stays;
-    hold = ap (λ (x : ChannelState). x.hold) stays;
+  pub work-parts : t ≡ after_commands s t → (RunsEarly s → RunsEarly t) → ((n : ℕ) → p.drained ≡ Some n → i < n → IsDry t) → AreParts (record p { channels = slice_set p.channels i t })
+  work-parts rest early dry = parts-set p i s t are at held (record {
+    checked = ap (λ (x : ChannelState). x.checked) rest;
+    channel = ap (λ (x : ChannelState). x.channel) rest;
+    depth = ap (λ (x : ChannelState). x.depth) rest;
+    most_reads = ap (λ (x : ChannelState). x.most_reads) rest;
+    hold = ap (λ (x : ChannelState). x.hold) rest;
     runs = early;
   }) dry
-  work-parts (Some done) stays (issued, issues, is) early dry = issued-parts p i s t are at issued issues held early dry
 
-  pub work-serves : ArePlaces p.checked.geometry place_of → i < p.checked.geometry.channels → (result : Option Done) → IfSome result (λ done. (issued : ChannelDone) × IssuesChoice s issued t × (done ≡ told_done issued))
+  pub work-serves : ArePlaces p.checked.geometry place_of → i < p.checked.geometry.channels → (result : Option Done) → IfSome result (λ done. IssuesChoice s done t)
       → IfSome result (λ done. IsServed (channels_of place_of) p.hold i done.served (waits_in (line_in p.checked.geometry place_of) p.channels) (waits_in (line_in p.checked.geometry place_of) (slice_set p.channels i t)))
   work-serves places less None issues = tt
-  work-serves places less (Some done) (issued, issues, is) =
-      subst (λ (d : Done). IsServed (channels_of place_of) p.hold i d.served (waits_in (line_in p.checked.geometry place_of) p.channels) (waits_in (line_in p.checked.geometry place_of) (slice_set p.channels i t))) (sym is)
-      (issue-serves place_of p i s t are places less at issued issues)
+  work-serves places less (Some done) issues = serves-index place_of p i s t are places less at (ap (λ (x : ChannelState). x.channel) issues.same) issues.index done.served issues.serves
 
   pub work-busy : (result : Option Done) → IfSome result (λ done. HasNothingToSend s → ⊥) → IfSome result (λ done. HasNoCommand p i → ⊥)
   work-busy None busy = tt
@@ -298,7 +270,9 @@ module _ (place_of : ℕ → Place) (p : PartsState) (i : ℕ) (s t : ChannelSta
   work-stays None stays = ap (seen_by_lines place_of) (same-parts stays)
   work-stays (Some done) stays = tt
 
-  pub work-keeps : (result : Option Done) → IfNone result (t ≡ s) → IfSome result (λ done. (issued : ChannelDone) × IssuesChoice s issued t × (done ≡ told_done issued))
+  pub work-keeps : (result : Option Done) → IfNone result (t ≡ s) → IfSome result (λ done. IssuesChoice s done t)
       → AreParts (record p { channels = slice_set p.channels i t }) → Keeps (CarryWritten place_of p) (CarryWritten place_of (record p { channels = slice_set p.channels i t }))
   work-keeps None stays issues parts base start writes written = subst (λ (q : PartsState). CarryWritten place_of q base start writes) (sym (same-parts stays)) written
-  work-keeps (Some done) stays (issued, issues, is) parts base start writes written = issue-keeps place_of p i s t at issued issues parts base start writes written
+  work-keeps (Some done) stays issues parts base start writes written =
+      let remain = index-remain place_of p i s t issues.index done.served issues.serves in
+      written-kept p i s t at remain place_of base start writes parts (λ n waits. index-below place_of p i s t base start writes written.carry at remain n waits issues.index done.served issues.serves) written

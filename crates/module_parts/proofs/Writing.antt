@@ -26,7 +26,7 @@ use Rattle.chan_core.proofs.Taken.{appended}
 use Rattle.line_channels.specs.Answers.{Puts, line_of}
 use Rattle.line_channels.specs.Memory.{WaitsFrom}
 use Rattle.line_channels.specs.Waits.{AllBelow, Joins}
-use Rattle.line_channels.specs.declared.answers.Waiting.{Waiting}
+use Rattle.line_channels.specs.declared.waiting.Waiting.{Waiting}
 use Rattle.module_parts.specs.Carrying.{AreNumbersApart, CarryWrites, CarryWritten, MakeMemoryAt}
 use Rattle.module_parts.specs.Lines.{ArePlaces, line_in}
 use Rattle.module_parts.specs.Parts.{AreParts, IsDry, PartsState}

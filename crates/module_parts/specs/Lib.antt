@@ -3,5 +3,3 @@ pub mod Parts
 pub mod Seen
 pub mod Carrying
 pub mod Beginning
-pub mod Collecting
-pub mod Working

@@ -1,8 +1,9 @@
 // The parts are the channels of a module, and can be drained.
 use crate::Parts;
+use channel_answers::{Collected, Done, Got, Ticket};
 use energy_budget::{Costs, Dark, Energy};
 use interleave_map::line_map::{LineMap, Places};
-use line_channels::{Channels, Collected, Done, Drainable, Got, Ticket};
+use line_channels::{Channels, Drainable};
 use line_memory::Write;
 
 impl<'m, M: LineMap, P: Places> Channels for Parts<'m, M, P> {

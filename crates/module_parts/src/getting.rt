@@ -9,15 +9,15 @@ ghost use Rattle.line_channels.specs.Answers.{IsGot, line_of};
 ghost use Rattle.line_channels.specs.Memory.{Keeps};
 ghost use Rattle.line_channels.specs.View.{is_full_of_reads};
 ghost use Rattle.module_parts.specs.Carrying.{CarryWritten};
-ghost use Rattle.module_parts.specs.Seen.{got_of, seen_by_lines};
+ghost use Rattle.module_parts.specs.Seen.{seen_by_lines};
 
 use crate::Parts;
 use chan_core::Channel;
+use channel_answers::Got;
 use interleave_map::line_map::{LineMap, Places};
-use line_channels::{Got, Ticket};
 
 // Reads one of its lines from a channel.
-fn get_on<M: LineMap>(channel: &mut Channel, map: &M, line: u64, at: u64) -> chan_core::Got
+fn get_on<M: LineMap>(channel: &mut Channel, map: &M, line: u64, at: u64) -> Got
     requires lawful { M.is_lawful map.now }
     requires geometry { M.geometry_of map.now ≡ channel.old.checked.geometry }
     requires line { LiesOn (M.lies_at map.now) channel.old line }
@@ -33,19 +33,6 @@ fn get_on<M: LineMap>(channel: &mut Channel, map: &M, line: u64, at: u64) -> cha
     match got {
         Ok(got) => got,
         Err(_) => unreachable!(),
-    }
-}
-
-// A channel's answer, as a module has it.
-fn answer_of(got: chan_core::Got) -> Got
-    ensures { result ≡ got_of got }
-{
-    match got {
-        chan_core::Got::Now(bytes) => Got::Now(bytes),
-        chan_core::Got::Later(ticket) => Got::Later(Ticket {
-            channel: ticket.channel,
-            serial: ticket.serial,
-        }),
     }
 }
 
@@ -72,6 +59,6 @@ impl<'m, M: LineMap, P: Places> Parts<'m, M, P> {
             (CarryWritten P.place_of self.new) }
     {
         let index = self.number_of(line);
-        answer_of(get_on(&mut self.channels[index], self.map, line, at))
+        get_on(&mut self.channels[index], self.map, line, at)
     }
 }

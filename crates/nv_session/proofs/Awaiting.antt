@@ -1,10 +1,10 @@
 -- A read that is awaited, by the calls that are made meanwhile.
 use Rattle.std.proofs.Common.{◌≡◌, ℕ, List, [], ◌∷◌, ◌++◌, ◌∙◌, refl, sym, ap, subst, Option, Some, None}
+use Rattle.channel_answers.specs.declared.answers.Ticket.{Ticket}
+use Rattle.channel_answers.specs.declared.answers.Collected.{Collected}
+use Rattle.channel_answers.specs.declared.answers.Collected.TheVariants.{Data}
+use Rattle.channel_answers.specs.declared.answers.Done.{Done}
 use Rattle.line_channels.specs.declared.channels.Channels.{Ghosts}
-use Rattle.line_channels.specs.declared.answers.Ticket.{Ticket}
-use Rattle.line_channels.specs.declared.answers.Collected.{Collected}
-use Rattle.line_channels.specs.declared.answers.Collected.TheVariants.{Data}
-use Rattle.line_channels.specs.declared.answers.Done.{Done}
 use Rattle.module_core.specs.declared.module.Module.{Module}
 use Rattle.module_core.specs.declared.events.Event.{Event}
 use Rattle.module_core.specs.declared.events.Event.TheVariants as events

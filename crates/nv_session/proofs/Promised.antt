@@ -3,11 +3,11 @@ use Rattle.std.proofs.Common.{◌≡◌, ℕ, List, ◌∷◌, suc, refl, sym, s
 use Rattle.std.specs.Prelude.{insert, remove}
 use Rattle.std.proofs.lemmas.List.Elements.{All-append, All-take, All-drop, All-cons, All-set, All-get_or}
 use Rattle.std.proofs.lemmas.Option.{slice_get_within, get_or_from_slice_get}
-use Rattle.line_channels.specs.declared.answers.Ticket.{Ticket}
-use Rattle.line_channels.specs.declared.answers.Collected.{Collected}
-use Rattle.line_channels.specs.declared.answers.Collected.TheVariants.{Data, Pending, Unknown}
-use Rattle.line_channels.specs.declared.answers.Served.{Served}
-use Rattle.line_channels.specs.declared.answers.Served.TheVariants as served
+use Rattle.channel_answers.specs.declared.answers.Ticket.{Ticket}
+use Rattle.channel_answers.specs.declared.answers.Collected.{Collected}
+use Rattle.channel_answers.specs.declared.answers.Collected.TheVariants.{Data, Pending, Unknown}
+use Rattle.channel_answers.specs.declared.answers.Served.{Served}
+use Rattle.channel_answers.specs.declared.answers.Served.TheVariants as served
 use Rattle.line_channels.specs.Waits.{OpenRead, Waits, IsNewTicket}
 use Rattle.line_channels.specs.Answers.{IsCollected, IsServed, open_read}
 

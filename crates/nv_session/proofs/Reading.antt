@@ -1,8 +1,8 @@
 -- A read, at once or awaited.
 use Rattle.std.proofs.Common.{◌≡◌, ℕ, List, [], ◌∷◌, ◌++◌, refl, sym, subst, None, Ok, Err}
+use Rattle.channel_answers.specs.declared.answers.Ticket.{Ticket}
+use Rattle.channel_answers.specs.declared.answers.Got.TheVariants.{Now, Later}
 use Rattle.line_channels.specs.declared.channels.Channels.{Ghosts}
-use Rattle.line_channels.specs.declared.answers.Ticket.{Ticket}
-use Rattle.line_channels.specs.declared.answers.Got.TheVariants.{Now, Later}
 use Rattle.line_channels.specs.Waits.{OpenRead}
 use Rattle.line_channels.specs.Answers.{line_of}
 use Rattle.std.proofs.Common.{All}

@@ -2,8 +2,8 @@
 use Rattle.std.proofs.Common.{◌≡◌, ℕ, List, [], ◌∷◌, ◌++◌, ◌∙◌, refl, sym, ap, subst, Option, Some, None, Result, Ok}
 use Rattle.save_device.specs.Device.{DeviceState}
 use Rattle.energy_budget.specs.Gauge.{Gauge}
+use Rattle.channel_answers.specs.declared.answers.Done.{Done}
 use Rattle.line_channels.specs.declared.channels.Channels.{Ghosts}
-use Rattle.line_channels.specs.declared.answers.Done.{Done}
 use Rattle.arm_state.specs.declared.refusal.ArmRefusal.{ArmRefusal}
 use Rattle.module_core.specs.declared.module.Module.{Module}
 use Rattle.module_core.specs.declared.events.Event.{Event}

@@ -5,9 +5,9 @@ use Rattle.ddr4_timing.specs.declared.command.Stamped.{Stamped}
 use Rattle.save_device.specs.Device.{DeviceState}
 use Rattle.slot_store.specs.declared.slots.Slot.TheVariants.{First}
 use Rattle.energy_budget.specs.Gauge.{Gauge}
+use Rattle.channel_answers.specs.declared.answers.Done.{Done}
 use Rattle.line_channels.specs.declared.channels.Channels.{Ghosts}
 use Rattle.module_core.specs.declared.opening.Opened.{Opened}
-use Rattle.line_channels.specs.declared.answers.Done.{Done}
 use Rattle.module_core.specs.State.{Setup, Machine}
 use Rattle.module_core.specs.declared.events.Event.{Event}
 use Rattle.module_core.specs.declared.events.Event.TheVariants as event

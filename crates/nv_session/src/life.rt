@@ -6,8 +6,9 @@ ghost use Rattle.nv_session.specs.Turns.{SeesLine, MakesStep, GoesOnSaving};
 
 use crate::turns::{Seen, read, save, step};
 use arm_state::{ArmRefusal, ArmReply, DisarmReply, Mode};
+use channel_answers::Done;
 use energy_budget::Energy;
-use line_channels::{Channels, Done, Drainable};
+use line_channels::{Channels, Drainable};
 use line_memory::Write;
 use module_core::{Accepted, Event, Loss, Module, ReadRefusal, Reply, StepReply, WriteRefusal};
 use save_device::SaveDevice;

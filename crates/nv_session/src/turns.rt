@@ -5,8 +5,9 @@ ghost use Rattle.nv_session.specs.Coming.{Comes, ComesAlone};
 ghost use Rattle.nv_session.specs.Turns.{SeesPromised, SeesLine, MakesStep, OnlyWorks, GoesOnSaving};
 
 use arm_state::ArmRefusal;
+use channel_answers::{Collected, Got, Ticket};
 use energy_budget::Energy;
-use line_channels::{Channels, Collected, Got, Ticket};
+use line_channels::Channels;
 use line_memory::Line;
 use module_core::{Module, ReadRefusal, StepReply};
 use save_device::SaveDevice;

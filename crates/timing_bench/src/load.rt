@@ -1,7 +1,8 @@
 // A channel whose write queue is full.
 ghost use Rattle.std.specs.Prelude.{◌≡◌};
 
-use chan_core::{Channel, Phase, Served};
+use chan_core::{Channel, Phase};
+use channel_answers::Served;
 use ddr4_timing::timing::Checked;
 use drain_core::laws::running_channel_may_drain;
 use drain_core::{DrainReport, drain};

@@ -3,7 +3,8 @@ ghost use Rattle.std.specs.Prelude.{◌≡◌};
 ghost use Rattle.energy_budget.specs.Costs.{AreReckonedFor};
 
 use crate::tests::by_lines::ByLines;
-use chan_core::{Channel, Collected, Done, Got, Phase, RECENT, ReadsFull, Ticket};
+use chan_core::{Channel, Phase, RECENT, ReadsFull};
+use channel_answers::{Collected, Done, Got, Ticket};
 use ddr4_timing::command::Stamped;
 use ddr4_timing::fault::{Fault, first_fault};
 use ddr4_timing::place::Place;

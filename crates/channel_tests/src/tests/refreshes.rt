@@ -4,7 +4,7 @@ use crate::tests::fixture::Fixture;
 use crate::tests::picks::Picks;
 use crate::tests::profiles::{FOUR_RANKS, NARROW, TIGHT};
 use crate::tests::run::refreshes;
-use chan_core::{Collected, Got, Served, Ticket};
+use channel_answers::{Collected, Got, Served, Ticket};
 use ddr4_timing::command::Stamped;
 use ddr4_timing::profiles::{SMALL, TINY};
 use std::process::Abort;

@@ -2,7 +2,8 @@
 use crate::tests::check::same;
 use crate::tests::fixture::Fixture;
 use crate::tests::profiles::text;
-use chan_core::{Collected, Got, ReadsFull, Ticket};
+use chan_core::ReadsFull;
+use channel_answers::{Collected, Got, Ticket};
 use ddr4_timing::command::Stamped;
 use ddr4_timing::profiles::{SMALL, TINY};
 use std::process::Abort;

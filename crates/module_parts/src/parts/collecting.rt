@@ -4,13 +4,12 @@ ghost use Rattle.chan_core.specs.Always.{IsHeld};
 ghost use Rattle.line_channels.specs.Answers.{IsCollected};
 ghost use Rattle.line_channels.specs.Memory.{Keeps};
 ghost use Rattle.module_parts.specs.Carrying.{CarryWritten};
-ghost use Rattle.module_parts.specs.Collecting.{reads_of, told_collected};
-ghost use Rattle.module_parts.specs.Seen.{seen_by_lines};
+ghost use Rattle.module_parts.specs.Seen.{reads_of, seen_by_lines};
 
 use super::Parts;
 use chan_core::Channel;
+use channel_answers::{Collected, Ticket};
 use interleave_map::line_map::{LineMap, Places};
-use line_channels::{Collected, Ticket};
 
 impl<'m, M: LineMap, P: Places> Parts<'m, M, P> {
     /// What there is for a ticket. It costs the number of its channel's open reads.
@@ -38,21 +37,7 @@ fn collect_from(channel: &mut Channel, ticket: Ticket) -> Collected
     ensures rest { channel.new ≡ record channel.old { tickets = channel.new.tickets } }
     ensures held { IsHeld channel.new }
 {
-    let collected = channel.collect(chan_core::Ticket {
-        channel: ticket.channel,
-        serial: ticket.serial,
-    });
+    let collected = channel.collect(ticket);
     channel.always();
-    told(collected)
-}
-
-// What a channel collected, as the module is told of it.
-fn told(collected: chan_core::Collected) -> Collected
-    ensures { result ≡ told_collected collected }
-{
-    match collected {
-        chan_core::Collected::Data { line, bytes, at } => Collected::Data { line, bytes, at },
-        chan_core::Collected::Pending => Collected::Pending,
-        chan_core::Collected::Unknown => Collected::Unknown,
-    }
+    collected
 }

@@ -1,20 +1,18 @@
 // The commands of the channels.
 ghost use Rattle.std.specs.Prelude.{◌≡◌, ◌<◌, Some, IfNone, IfSome};
 ghost use Rattle.chan_core.specs.Always.{IsHeld};
-ghost use Rattle.chan_core.specs.Calls.{HasNothingToSend, IssuesChoice};
-ghost use Rattle.chan_core.specs.declared.answers.Done.{Done as ChannelDone};
+ghost use Rattle.chan_core.specs.Calls.{HasNothingToSend, IssuesChoice, after_commands};
 ghost use Rattle.chan_core.specs.declared.phase.Phase.TheVariants.{Running};
 ghost use Rattle.line_channels.specs.Answers.{IsServed};
 ghost use Rattle.line_channels.specs.Memory.{Keeps};
 ghost use Rattle.module_parts.specs.Carrying.{CarryWritten};
 ghost use Rattle.module_parts.specs.Parts.{RunsEarly};
 ghost use Rattle.module_parts.specs.Seen.{HasNoCommand, seen_by_lines};
-ghost use Rattle.module_parts.specs.Working.{told_done, told_served};
 
 use super::Parts;
 use chan_core::Channel;
+use channel_answers::Done;
 use interleave_map::line_map::{LineMap, Places};
-use line_channels::{Done, Served, Ticket};
 
 impl<'m, M: LineMap, P: Places> Parts<'m, M, P> {
     /// Issues one command of a channel, where it has one. It costs the number of the channel's pending requests.
@@ -47,40 +45,13 @@ fn work_on(channel: &mut Channel) -> Option<Done>
     ensures busy { IfSome result (λ done. HasNothingToSend channel.old → ⊥) }
     ensures idle { IfNone result (HasNothingToSend channel.old) }
     ensures stays { IfNone result (channel.new ≡ channel.old) }
-    ensures issues { IfSome result (λ done. (issued : ChannelDone)
-        × IssuesChoice channel.old issued channel.new × (done ≡ told_done issued)) }
+    ensures issues { IfSome result (λ done. IssuesChoice channel.old done channel.new) }
+    ensures rest { channel.new ≡ after_commands channel.old channel.new }
     ensures held { IsHeld channel.new }
     ensures early { RunsEarly channel.old → RunsEarly channel.new }
 {
     channel.always();
-    let issued = channel.work();
+    let done = channel.work();
     channel.always();
-    match issued {
-        Some(done) => Some(told(done)),
-        None => None,
-    }
-}
-
-// What a command did, as the module is told of it.
-fn told(done: chan_core::Done) -> Done
-    ensures { result ≡ told_done done }
-{
-    Done {
-        command: done.command,
-        served: told_served(done.served),
-    }
-}
-
-// Whom it served.
-fn told_served(served: Option<chan_core::Served>) -> Option<Served>
-    ensures { result ≡ told_served served }
-{
-    match served {
-        None => None,
-        Some(chan_core::Served::Write { number }) => Some(Served::Write { number }),
-        Some(chan_core::Served::Read(ticket)) => Some(Served::Read(Ticket {
-            channel: ticket.channel,
-            serial: ticket.serial,
-        })),
-    }
+    done
 }

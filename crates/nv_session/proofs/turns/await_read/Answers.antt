@@ -1,5 +1,5 @@
 use Rattle.std.proofs.Common.{◌<◌, ◌∙◌, refl, sym, subst}
-use Rattle.line_channels.specs.declared.answers.Collected.{Collected}
+use Rattle.channel_answers.specs.declared.answers.Collected.{Collected}
 use Rattle.module_core.specs.declared.events.Event.TheVariants as events
 use Rattle.module_core.specs.declared.events.Reply.TheVariants as replies
 use Rattle.module_core.specs.State.{Setup}

@@ -1,5 +1,5 @@
 use Rattle.std.proofs.Common.{◌∙◌, ap, subst, Result, Ok}
-use Rattle.line_channels.specs.declared.answers.Got.{Got}
+use Rattle.channel_answers.specs.declared.answers.Got.{Got}
 use Rattle.module_core.specs.declared.events.ReadRefusal.{ReadRefusal}
 use Rattle.module_core.specs.declared.events.Event.TheVariants as events
 use Rattle.module_core.specs.declared.events.Reply.TheVariants as replies

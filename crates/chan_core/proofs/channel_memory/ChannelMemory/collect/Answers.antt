@@ -1,7 +1,7 @@
 use Rattle.std.proofs.Common.{◌≡◌, ℕ, List, Some, None, length, map, slice_get, get_or, refl, sym, ap, subst, ◌∙◌, arith}
 use Rattle.std.proofs.lemmas.Option.{slice_get_within, slice_get_read}
+use Rattle.channel_answers.specs.declared.answers.Collected.TheVariants as collected
 use Rattle.chan_core.proofs.Common.{AnswersCollect, ChannelState, IsIndexOfSerial, OpenRead, contents_of, ticket_of}
-use Rattle.chan_core.specs.declared.answers.Collected.TheVariants as collected
 use Rattle.chan_core.proofs.Answering.{collect-holds}
 use Rattle.chan_core.proofs.Telling.{collect-data, collect-pending, collect-unknown}
 use Rattle.chan_core.proofs.channel_memory.ChannelMemory.collect.Goals as goal

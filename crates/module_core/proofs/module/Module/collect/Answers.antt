@@ -2,8 +2,8 @@ use Rattle.std.proofs.Common.{◌≡◌, ◌≢◌, ◌∙◌, List, true, false
 use Rattle.std.specs.Option.{ForSome}
 use Rattle.std.proofs.lemmas.List.Elements.{All-nil}
 use Rattle.arm_state.specs.Modes.{has_ended}
-use Rattle.line_channels.specs.declared.answers.Waiting.{Waiting}
-use Rattle.line_channels.specs.declared.answers.Collected.TheVariants as collected
+use Rattle.channel_answers.specs.declared.answers.Collected.TheVariants as collected
+use Rattle.line_channels.specs.declared.waiting.Waiting.{Waiting}
 use Rattle.line_channels.specs.View.{ChannelsView}
 use Rattle.line_channels.specs.Waits.{OpenRead, Waits, IsNewTicket}
 use Rattle.line_channels.specs.Answers.{IsCollected}

@@ -5,7 +5,7 @@ use Rattle.std.specs.Option.{option_map}
 use Rattle.slot_store.specs.declared.plan.Step.{Step}
 use Rattle.slot_store.specs.declared.plan.Step.TheVariants.{Close, SyncClosed, Header, Page, SyncBody, Open, SyncOpen, Done}
 use Rattle.slot_store.specs.declared.saving.SaveRun.{SaveRun}
-use Rattle.line_channels.specs.declared.answers.Waiting.{Waiting}
+use Rattle.line_channels.specs.declared.waiting.Waiting.{Waiting}
 use Rattle.module_core.specs.State.{RunningSave, Machine}
 use Rattle.module_core.specs.Machine.{waits_at}
 use Rattle.module_core.specs.Saving.{RunsAs, count_in}

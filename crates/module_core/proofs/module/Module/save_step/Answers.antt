@@ -12,7 +12,7 @@ use Rattle.slot_store.specs.Outcomes.{restored}
 use Rattle.slot_store.specs.Rest.{IsAmong}
 use Rattle.slot_store.specs.Runs.{plan_of, next_of}
 use Rattle.energy_budget.specs.Gauge.{Gauge}
-use Rattle.line_channels.specs.declared.answers.Waiting.{Waiting}
+use Rattle.line_channels.specs.declared.waiting.Waiting.{Waiting}
 use Rattle.line_channels.specs.Memory.{WaitsFrom, NoneBelow}
 use Rattle.module_core.specs.declared.events.StepReply.TheVariants as step
 use Rattle.module_core.specs.declared.events.Event.TheVariants as events

@@ -2,7 +2,7 @@ use Rattle.std.proofs.Common.{◌≡◌, ◌∙◌, ℕ, List, true, false, refl
 use Rattle.std.specs.Prelude.{Option, None}
 use Rattle.std.specs.Option.{ForSome}
 use Rattle.arm_state.specs.Modes.{has_ended}
-use Rattle.line_channels.specs.declared.answers.Waiting.{Waiting}
+use Rattle.line_channels.specs.declared.waiting.Waiting.{Waiting}
 use Rattle.line_channels.specs.View.{ChannelsView}
 use Rattle.line_channels.specs.Waits.{Waits}
 use Rattle.line_channels.specs.Memory.{WaitsFrom}

@@ -1,7 +1,7 @@
 use Rattle.std.proofs.Common.{◌≡◌, refl, sym, ap, subst, arith}
 use Rattle.std.proofs.lemmas.Option.{slice_get_within}
+use Rattle.channel_answers.specs.declared.answers.Collected.TheVariants.{Unknown}
 use Rattle.chan_core.specs.State.{ChannelState}
-use Rattle.line_channels.specs.declared.answers.Collected.TheVariants.{Unknown}
 use Rattle.line_channels.specs.Answers.{IsCollected}
 use Rattle.line_channels.specs.Memory.{Keeps}
 use Rattle.module_parts.specs.Carrying.{CarryWritten}

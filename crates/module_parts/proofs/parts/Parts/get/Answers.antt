@@ -3,7 +3,6 @@ use Rattle.line_memory.specs.Memory.{after}
 use Rattle.chan_core.specs.State.{ChannelState}
 use Rattle.line_channels.specs.Answers.{IsGot, line_of}
 use Rattle.line_channels.specs.View.{is_full_of_reads}
-use Rattle.line_channels.specs.declared.answers.Got.{Got}
 use Rattle.module_parts.specs.Carrying.{CarryWritten}
 use Rattle.module_parts.specs.Parts.{PartsState}
 use Rattle.module_parts.specs.Seen.{seen_by_lines}
@@ -42,13 +41,12 @@ returns-clause-got g c =
     let line = c.args.line in
     let p = inside-for f in
     let new = with_channel p c.number_of-index.result c.get_on.new.channel in
-    λ base start writes. subst (λ (q : PartsState). CarryWritten place_of q base start writes → IsGot (line_of (after base writes) line) line c.args.at (place_of line).channel c.answer_of.result (seen_by_lines place_of q).waits (seen_by_lines place_of new).waits) f.is
+    λ base start writes. subst (λ (q : PartsState). CarryWritten place_of q base start writes → IsGot (line_of (after base writes) line) line c.args.at (place_of line).channel c.get_on.result (seen_by_lines place_of q).waits (seen_by_lines place_of new).waits) f.is
     (λ written.
     let bytes = line_of (after base writes) line in
     let value = whole-line place_of p base start writes line _ written.carry f.less (there f) in
     let answers = c.get_on.ensures.answers (place_of line) (c.self.invariant.1.named line f.less) in
-    subst (λ (r : Got). IsGot bytes line c.args.at (place_of line).channel r (seen_by_lines place_of p).waits (seen_by_lines place_of new).waits) (sym c.answer_of.ensures)
-    (answer-after-get place_of p _ _ _ f.at c.get_on.ensures.rest line c.args.at bytes c.get_on.result f.are f.on value answers))
+    answer-after-get place_of p _ _ _ f.at c.get_on.ensures.rest line c.args.at bytes c.get_on.result f.are f.on value answers)
 
 pub returns-clause-rest : goal.returns-clause-rest
 returns-clause-rest g c =

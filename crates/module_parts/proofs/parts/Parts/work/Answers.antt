@@ -1,5 +1,5 @@
 use Rattle.std.proofs.Common.{◌≡◌, ◌<◌, IfNone, IfSome, Some, sym, subst, arith}
-use Rattle.line_channels.specs.declared.answers.Done.{Done}
+use Rattle.channel_answers.specs.declared.answers.Done.{Done}
 use Rattle.line_channels.specs.Answers.{IsServed}
 use Rattle.line_channels.specs.Memory.{Keeps}
 use Rattle.module_parts.specs.Carrying.{CarryWritten}
@@ -21,7 +21,7 @@ pub invariant_of-self : goal.invariant_of-self
 invariant_of-self g c =
     let f = stands-in c.self.view_is c.self.invariant.0 c.requires.channel c.index_mut.ensures.value in
     let work = c.work_on.ensures in
-    (work-parts g.P.Places.place_of (inside f) _ _ _ f.are f.at work.held c.work_on.result work.stays work.issues work.early (awake-dry c.work_on.new.channel c.self.view_is c.requires.awake), c.self.invariant.1)
+    (work-parts g.P.Places.place_of (inside f) _ _ _ f.are f.at work.held work.rest work.early (awake-dry c.work_on.new.channel c.self.view_is c.requires.awake), c.self.invariant.1)
 
 pub returns-clause-served : goal.returns-clause-served
 returns-clause-served g c =
@@ -59,5 +59,5 @@ returns-clause-keeps g c =
     let place_of = g.P.Places.place_of in
     let work = c.work_on.ensures in
     let new = with_channel (inside f) c.args.channel c.work_on.new.channel in
-    let parts = work-parts g.P.Places.place_of (inside f) _ _ _ f.are f.at work.held c.work_on.result work.stays work.issues work.early (awake-dry c.work_on.new.channel c.self.view_is c.requires.awake) in
+    let parts = work-parts g.P.Places.place_of (inside f) _ _ _ f.are f.at work.held work.rest work.early (awake-dry c.work_on.new.channel c.self.view_is c.requires.awake) in
     subst (λ (q : PartsState). Keeps (CarryWritten place_of q) (CarryWritten place_of new)) f.is (work-keeps g.P.Places.place_of (inside f) _ _ _ f.are f.at work.held c.work_on.result work.stays work.issues parts)

@@ -1,6 +1,6 @@
 use Rattle.std.proofs.Common.{ap, arith, subst}
 use Rattle.std.specs.Prelude.{Result}
-use Rattle.line_channels.specs.declared.answers.Got.{Got}
+use Rattle.channel_answers.specs.declared.answers.Got.{Got}
 use Rattle.mark_board.specs.SeenMarks.{SeenMarks}
 use Rattle.module_core.specs.declared.events.ReadRefusal.{ReadRefusal}
 use Rattle.module_core.specs.declared.events.Event.TheVariants as events

@@ -2,14 +2,7 @@
 use ddr4_timing::command::Stamped;
 use line_memory::Line;
 
-/// A write that isn't in an array yet: its number, which is its place among the accepted writes, and its line.
-#[derive(Clone, Copy, Debug, PartialEq, Eq)]
-pub struct Waiting {
-    pub number: u64,
-    pub line: u64,
-}
-
-/// A read that was accepted and not collected yet.
+/// A read that was accepted and not collected yet, by its channel and its serial there.
 #[derive(Clone, Copy, Debug, PartialEq, Eq)]
 pub struct Ticket {
     pub channel: u64,
@@ -22,7 +15,7 @@ pub struct Ticket {
 pub enum Got {
     /// The line's bytes.
     Now(Line),
-    /// The bytes come with a command of the channel, and are to be collected.
+    /// The bytes come with an RD of the channel, and are to be collected.
     Later(Ticket),
 }
 
@@ -31,13 +24,13 @@ pub enum Got {
 pub enum Collected {
     /// The read's line, its bytes, and how many writes were accepted before it. The ticket is gone.
     Data { line: u64, bytes: Line, at: u64 },
-    /// The read waits.
+    /// Its RD wasn't issued yet.
     Pending,
     /// It is no ticket, or was collected or lost.
     Unknown,
 }
 
-/// Whom a command served.
+/// Whom a RD or WR served.
 #[derive(Clone, Copy, Debug, PartialEq, Eq)]
 pub enum Served {
     /// The write of this number is in its array now.
@@ -50,6 +43,6 @@ pub enum Served {
 #[derive(Clone, Copy, Debug, PartialEq, Eq)]
 pub struct Done {
     pub command: Stamped,
-    /// The write or read that it served, where it moves a line.
+    /// The write or read that it served, where it is a RD or WR.
     pub served: Option<Served>,
 }
