@@ -1,6 +1,6 @@
 -- Banks are the same where their numbers are.
 use Rattle.std.proofs.Common.{◌≡◌, ℕ, ◌<◌, ap, ◌∙◌, arith}
-use Rattle.ddr4_timing.proofs.Common.{Act, BankAddress, Command, Geometry, HasBank, HasSlot, IsInGeometry, IsSmall, Pre, PreAll, Rd, Ref, Sre, Wr, rank_of, slot_of}
+use Rattle.ddr4_timing.proofs.Common.{Act, BankAddress, Command, Geometry, HasBank, HasSlot, IsInGeometry, IsSmall, rank_of, slot_of}
 
 pub same_address : (a b : BankAddress) → a.rank ≡ b.rank → a.group ≡ b.group → a.bank ≡ b.bank → a ≡ b
 same_address a b rank group bank =
@@ -24,10 +24,5 @@ same_slot a b x y rank slot =
     same_address a b rank (omega (arith, slot)) (omega (arith, slot))
 
 pub rank_within : (g : Geometry) (x : Command) → IsInGeometry g x → rank_of x < g.ranks
-rank_within g (Act at row) h = h.0.rank
-rank_within g (Rd at column) h = h.0.rank
-rank_within g (Wr at column) h = h.0.rank
-rank_within g (Pre at) h = h.rank
-rank_within g (PreAll rank) h = h
-rank_within g (Ref rank) h = h
-rank_within g (Sre rank) h = h
+rank_within g (Act at row) h = omega arith
+rank_within g x h = omega arith

@@ -1,6 +1,6 @@
 -- How long a command may have to wait, by its kind.
 use Rattle.std.proofs.Common.{◌≡◌, ◌≢◌, ℕ, ◌+◌, ◌≤◌, Bool, true, false, cond, eqb, rules, arith, max, ne_eqb}
-use Rattle.ddr4_timing.proofs.Common.{Act, BankAddress, Command, Demand, FitsFaw, Pre, PreAll, Rd, Ref, Sre, Timing, Wr, bank_of, demand_of, is_bank, is_group, is_ref, most_gap, rank_of}
+use Rattle.ddr4_timing.proofs.Common.{Act, Command, Demand, FitsFaw, PreAll, Ref, Timing, demand_of, is_ref, most_gap, rank_of}
 use Rattle.ddr4_timing.proofs.GapParts.{tells_gaps}
 
 -- no command asks for longer gaps
@@ -10,12 +10,7 @@ record IsBounded (t : Timing) (d : Demand) : Type 0 where
 
 bounded : (t : Timing) (a : Command) → FitsFaw t → IsBounded t (demand_of t a)
 bounded t (Act at row) h = search rules
-bounded t (Rd at column) h = search rules
-bounded t (Wr at column) h = search rules
-bounded t (Pre at) h = search rules
-bounded t (PreAll rank) h = search rules
-bounded t (Ref rank) h = search rules
-bounded t (Sre rank) h = search rules
+bounded t a h = search rules
 
 cond-le : (b : Bool) (v : ℕ) → cond b v 0 ≤ v
 cond-le true v = omega arith
@@ -29,19 +24,13 @@ most_gap-PreAll t a rank h = omega (arith, (tells_gaps t a).pre_all rank, cond-l
 pub most_gap-Ref : (t : Timing) (a : Command) (rank : ℕ) → FitsFaw t → most_gap t a (Ref rank) ≤ max 1 (max t.t_rp t.t_rfc)
 most_gap-Ref t a rank h = omega (arith, (tells_gaps t a).refresh rank, cond-le (eqb (rank_of a) rank) (demand_of t a).rank_idle, (bounded t a h).idle)
 
+idle_calm : (t : Timing) (a : Command) → is_ref a ≡ false → (demand_of t a).rank_idle ≤ t.t_rp
+idle_calm t (Ref rank) calm = absurd cc
+idle_calm t a calm = omega arith
+
 -- no command but a REF holds a REF up for longer than a precharge
 pub most_gap-Ref_calm : (t : Timing) (a : Command) (rank : ℕ) → is_ref a ≡ false → most_gap t a (Ref rank) ≤ max 1 t.t_rp
-most_gap-Ref_calm t a rank n =
-    let idle : (demand_of t a).rank_idle ≤ t.t_rp = elim a as (λ a. is_ref a ≡ false → (demand_of t a).rank_idle ≤ t.t_rp) [
-      | Act at row ↦ λ _. omega arith
-      | Rd at column ↦ λ _. omega arith
-      | Wr at column ↦ λ _. omega arith
-      | Pre at ↦ λ _. omega arith
-      | PreAll r ↦ λ _. omega arith
-      | Ref r ↦ λ e. absurd cc
-      | Sre r ↦ λ _. omega arith
-    ] n in
-    omega (arith, (tells_gaps t a).refresh rank, cond-le (eqb (rank_of a) rank) (demand_of t a).rank_idle, idle)
+most_gap-Ref_calm t a rank calm = omega (arith, (tells_gaps t a).refresh rank, cond-le (eqb (rank_of a) rank) (demand_of t a).rank_idle, idle_calm t a calm)
 
 -- a PREA closes banks, so it holds no other PREA up
 pub most_gap-close : (t : Timing) (r rank : ℕ) → most_gap t (PreAll r) (PreAll rank) ≤ 1

@@ -1,5 +1,6 @@
 -- What one more command does to the floors, the windows and the rows.
-use Rattle.std.proofs.Common.{◌≡◌, ℕ, ◌+◌, Bool, true, false, cond, eqb, List, [], ◌∷◌, ◌++◌, None, refl, ap, ◌∙◌, arith, add-zero, max, count_by, ◌&&◌, ◌||◌}
+use Rattle.std.proofs.Common.{◌≡◌, ℕ, ◌+◌, Bool, true, false, cond, eqb, List, [], ◌∷◌, ◌++◌, None, refl, ap, ◌∙◌, arith, add-zero, max, count_by, ◌||◌}
+use Rattle.std.proofs.Math.Bool.{and-false, or-false}
 use Rattle.std.proofs.lemmas.List.Sums.{fold_push}
 use Rattle.std.proofs.lemmas.Bool.Decides.{nat_tests}
 use Rattle.std.proofs.lemmas.List.Folds.{list_any-append}
@@ -19,10 +20,6 @@ pub open_row_push : (bank : BankAddress) (list : List Stamped) (x : Stamped) →
 unfolding open_row
 open_row_push bank list x = fold_push (λ row x. row_after bank row x.cmd) None list x
 
--- The window for a test p and a value v.
-abbrev pub window_by : (Stamped → Bool) → (Stamped → ℕ) → ℕ → List Stamped → ℕ
-window_by p v n list = greatest (λ a later. cond (p a && eqb (count_by p later) n) (v a) 0) list
-
 count_push : (p : Stamped → Bool) (list : List Stamped) (x : Stamped) → count_by p (list ++ x ∷ []) ≡ count_by p list + cond (p x) 1 0
 count_push p list x = fold_push (λ n x. n + cond (p x) 1 0) 0 list x
 
@@ -35,46 +32,26 @@ eqb_zero k = grind (arith, nat_tests)
 eqb_first : (n : ℕ) → eqb 0 (n + 1) ≡ false
 eqb_first n = grind (arith, nat_tests)
 
-window_by-yes : (p : Stamped → Bool) (v : Stamped → ℕ) (n : ℕ) (list : List Stamped) (x : Stamped) → p x ≡ true → window_by p v (n + 1) (list ++ x ∷ []) ≡ window_by p v n list
-unfolding greatest
-window_by-yes p v n [] x e = rw e (rw (eqb_first n) refl)
-window_by-yes p v n (a ∷ list) x e =
-    let h = window_by-yes p v n list x e in
-    let k : count_by p (list ++ x ∷ []) ≡ count_by p list + 1 = count_push p list x ∙ ap (λ b. count_by p list + cond b 1 0) e in
-    ap (λ (m : ℕ). max (cond (p a && eqb m (n + 1)) (v a) 0) (window_by p v (n + 1) (list ++ x ∷ []))) k
-    ∙ ap (λ (b : Bool). max (cond (p a && b) (v a) 0) (window_by p v (n + 1) (list ++ x ∷ []))) (eqb_next (count_by p list) n)
-    ∙ ap (λ (m : ℕ). max (cond (p a && eqb (count_by p list) n) (v a) 0) m) h
-
-window_by-first : (p : Stamped → Bool) (v : Stamped → ℕ) (list : List Stamped) (x : Stamped) → p x ≡ true → window_by p v 0 (list ++ x ∷ []) ≡ v x
-unfolding greatest
-window_by-first p v [] x e = rw e (omega arith)
-window_by-first p v (a ∷ list) x e =
-    let h = window_by-first p v list x e in
-    let k : count_by p (list ++ x ∷ []) ≡ count_by p list + 1 = count_push p list x ∙ ap (λ b. count_by p list + cond b 1 0) e in
-    ap (λ (m : ℕ). max (cond (p a && eqb m 0) (v a) 0) (window_by p v 0 (list ++ x ∷ []))) k
-    ∙ ap (λ (b : Bool). max (cond (p a && b) (v a) 0) (window_by p v 0 (list ++ x ∷ []))) (eqb_zero (count_by p list))
-    ∙ (elim (p a) as (λ b. max (cond (b && false) (v a) 0) (window_by p v 0 (list ++ x ∷ [])) ≡ v x) [ true ↦ omega (arith, h) | false ↦ omega (arith, h) ])
-
-window_by-no : (p : Stamped → Bool) (v : Stamped → ℕ) (n : ℕ) (list : List Stamped) (x : Stamped) → p x ≡ false → window_by p v n (list ++ x ∷ []) ≡ window_by p v n list
-unfolding greatest
-window_by-no p v n [] x e = rw e refl
-window_by-no p v n (a ∷ list) x e =
-    let h = window_by-no p v n list x e in
-    let k : count_by p (list ++ x ∷ []) ≡ count_by p list = count_push p list x ∙ ap (λ b. count_by p list + cond b 1 0) e ∙ add-zero (count_by p list) in
-    ap (λ (m : ℕ). max (cond (p a && eqb m n) (v a) 0) (window_by p v n (list ++ x ∷ []))) k
-    ∙ ap (λ (m : ℕ). max (cond (p a && eqb (count_by p list) n) (v a) 0) m) h
-
 pub window-yes : (t : Timing) (rank n : ℕ) (list : List Stamped) (x : Stamped) → is_act_of rank x.cmd ≡ true → window t rank (n + 1) (list ++ x ∷ []) ≡ window t rank n list
-unfolding window
-window-yes t rank n list x e = window_by-yes (λ a. is_act_of rank a.cmd) (λ a. a.clock + t.t_faw) n list x e
+unfolding window greatest
+window-yes t rank n [] x e = rw (e, eqb_first n) refl
+window-yes t rank n (a ∷ list) x e =
+    let h = window-yes t rank n list x e in
+    simp (count_push (λ y. is_act_of rank y.cmd) list x, e, eqb_next, h) refl
 
 pub window-first : (t : Timing) (rank : ℕ) (list : List Stamped) (x : Stamped) → is_act_of rank x.cmd ≡ true → window t rank 0 (list ++ x ∷ []) ≡ x.clock + t.t_faw
-unfolding window
-window-first t rank list x e = window_by-first (λ a. is_act_of rank a.cmd) (λ a. a.clock + t.t_faw) list x e
+unfolding window greatest
+window-first t rank [] x e = rw e (omega arith)
+window-first t rank (a ∷ list) x e =
+    let h = window-first t rank list x e in
+    simp (count_push (λ y. is_act_of rank y.cmd) list x, e, eqb_zero, and-false, h) (omega arith)
 
 pub window-no : (t : Timing) (rank n : ℕ) (list : List Stamped) (x : Stamped) → is_act_of rank x.cmd ≡ false → window t rank n (list ++ x ∷ []) ≡ window t rank n list
-unfolding window
-window-no t rank n list x e = window_by-no (λ a. is_act_of rank a.cmd) (λ a. a.clock + t.t_faw) n list x e
+unfolding window greatest
+window-no t rank n [] x e = rw e refl
+window-no t rank n (a ∷ list) x e =
+    let h = window-no t rank n list x e in
+    simp (count_push (λ y. is_act_of rank y.cmd) list x, e, add-zero, h) refl
 
 pub last_ref_push : (rank : ℕ) (list : List Stamped) (x : Stamped) → last_ref rank (list ++ x ∷ []) ≡ cond (is_ref_of rank x.cmd) x.clock (last_ref rank list)
 unfolding last_ref
@@ -84,13 +61,9 @@ pub ref_count_push : (rank : ℕ) (list : List Stamped) (x : Stamped) → ref_co
 unfolding ref_count
 ref_count_push rank list x = count_push (λ x. is_ref_of rank x.cmd) list x
 
-pub or_false : (b : Bool) → (b || false) ≡ b
-or_false true = refl
-or_false false = refl
-
 pub is_asleep_push : (rank : ℕ) (list : List Stamped) (x : Stamped) → is_asleep rank (list ++ x ∷ []) ≡ (is_asleep rank list || is_sre_of rank x.cmd)
 unfolding is_asleep
-is_asleep_push rank list x = list_any-append (λ x. is_sre_of rank x.cmd) list (x ∷ []) ∙ ap (λ b. is_asleep rank list || b) (or_false _)
+is_asleep_push rank list x = list_any-append (λ x. is_sre_of rank x.cmd) list (x ∷ []) ∙ ap (λ b. is_asleep rank list || b) (or-false _)
 
 -- no rule on two commands looks at a row or a column
 pub floor-Act : (t : Timing) (list : List Stamped) (bank : BankAddress) (row : ℕ) → floor t list (Act bank row) ≡ floor t list (Act bank 0)

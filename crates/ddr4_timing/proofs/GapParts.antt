@@ -1,16 +1,11 @@
 -- The gap between two commands comes apart by what they share.
-use Rattle.std.proofs.Common.{◌≡◌, ℕ, ◌+◌, Bool, true, false, cond, eqb, refl, arith, ap, max, not}
+use Rattle.std.proofs.Common.{◌≡◌, ℕ, ◌+◌, Bool, true, false, cond, eqb, refl, arith, max, not}
+use Rattle.std.proofs.Math.Nat.{max-zero, zero-max}
 use Rattle.std.proofs.lemmas.Bool.Decides.{nat_tests}
-use Rattle.ddr4_timing.proofs.Common.{Act, BankAddress, Command, Pre, PreAll, Rd, Ref, Sre, TellsGaps, Timing, Wr, demand_of, is_bank, is_group, most_gap, pair_gap}
-use Rattle.ddr4_timing.specs.declared.rules.Rule.TheVariants as rules
+use Rattle.ddr4_timing.proofs.Common.{Act, BankAddress, Command, Demand, Pre, PreAll, Rd, Ref, Sre, TellsGaps, Timing, Wr, beyond_rank, demand_of, in_groups, in_rank, is_bank, most_gap, pair_gap}
+use Rattle.ddr4_timing.specs.Demands.{in_bank}
 
-max_none : (k : ℕ) → max k 0 ≡ k
-max_none k = omega arith
-
-max_zero : (k : ℕ) → max 0 k ≡ k
-max_zero k = omega arith
-
-cond_same : (b : Bool) (k : ℕ) → cond b k k ≡ k
+pub cond_same : (b : Bool) (k : ℕ) → cond b k k ≡ k
 cond_same true k = refl
 cond_same false k = refl
 
@@ -29,68 +24,39 @@ eqb_back m n = grind (arith, nat_tests)
 bank_back : (a b : BankAddress) → is_bank a b ≡ is_bank b a
 bank_back a b = let r = eqb_back a.rank b.rank in let g = eqb_back a.group b.group in let k = eqb_back a.bank b.bank in cc
 
-pub tells_gaps : (t : Timing) (a : Command) → TellsGaps t a (demand_of t a)
+-- what a demand asks of a command
+abbrev asked : Demand → Command → Command → ℕ
+asked d a (Act at row) = max (in_bank a at d.bank_act) (max (in_groups a at d.near_act d.far_act) (in_rank a at.rank d.rank_act))
+asked d a (Rd at column) = max (beyond_rank a at.rank d.beyond) (max (in_bank a at d.bank_column) (in_groups a at d.near_rd d.far_rd))
+asked d a (Wr at column) = max (beyond_rank a at.rank d.beyond) (max d.write (max (in_bank a at d.bank_column) (in_groups a at d.near_wr d.far_wr)))
+asked d a (Pre at) = in_bank a at d.bank_pre
+asked d a (PreAll rank) = in_rank a rank d.rank_pre_all
+asked d a (Ref rank) = in_rank a rank d.rank_idle
+asked d a (Sre rank) = in_rank a rank d.rank_idle
+
+ruleset gap_terms = (max-zero, zero-max, cond_same, cond_not, add_cond)
+
+gap_parts : (t : Timing) (a b : Command) → most_gap t a b ≡ max 1 (asked (demand_of t a) a b)
 unfolding most_gap pair_gap
-tells_gaps t (Act a v) = record {
-  act = λ b w. let e0 : pair_gap t rules.Rc (Act a v) (Act b w) ≡ cond (is_bank a b) (t.t_ras + t.t_rp) 0 = refl in let e1 : pair_gap t rules.Rrd (Act a v) (Act b w) ≡ cond (eqb a.rank b.rank) (cond (is_group a b) t.t_rrd_l t.t_rrd_s) 0 = refl in simp (max_none, max_zero, cond_same) (omega (arith, e0, e1));
-  rd = λ b w. let e0 : pair_gap t rules.Rcd (Act a v) (Rd b w) ≡ cond (is_bank a b) t.t_rcd 0 = refl in simp (max_none, max_zero, cond_same) (omega (arith, e0));
-  wr = λ b w. let e0 : pair_gap t rules.Rcd (Act a v) (Wr b w) ≡ cond (is_bank a b) t.t_rcd 0 = refl in simp (max_none, max_zero, cond_same) (omega (arith, e0));
-  pre = λ b. let e0 : pair_gap t rules.Ras (Act a v) (Pre b) ≡ cond (is_bank a b) t.t_ras 0 = ap (λ p. cond p t.t_ras 0) (bank_back b a) in simp (max_none, max_zero, cond_same) (omega (arith, e0));
-  pre_all = λ rank. let e0 : pair_gap t rules.Ras (Act a v) (PreAll rank) ≡ cond (eqb a.rank rank) t.t_ras 0 = ap (λ p. cond p t.t_ras 0) (eqb_back rank a.rank) in simp (max_none, max_zero, cond_same) (omega (arith, e0));
-  refresh = λ rank. simp (max_none, max_zero, cond_same) (omega arith);
-  sleep = λ rank. simp (max_none, max_zero, cond_same) (omega arith);
-}
-tells_gaps t (Rd a v) = record {
-  act = λ b w. simp (max_none, max_zero, cond_same) (omega arith);
-  rd = λ b w. let e0 : pair_gap t rules.Ccd (Rd a v) (Rd b w) ≡ cond (eqb a.rank b.rank) (cond (is_group a b) t.t_ccd_l t.t_ccd_s) 0 = refl in let e1 : pair_gap t rules.Cs (Rd a v) (Rd b w) ≡ cond (eqb a.rank b.rank) 0 (4 + t.t_cs) = cond_not (eqb a.rank b.rank) (4 + t.t_cs) in simp (max_none, max_zero, cond_same) (omega (arith, e0, e1));
-  wr = λ b w. let e0 : pair_gap t rules.Rtw (Rd a v) (Wr b w) ≡ t.t_rtw = refl in let e1 : pair_gap t rules.Cs (Rd a v) (Wr b w) ≡ cond (eqb a.rank b.rank) 0 (4 + t.t_cs) = cond_not (eqb a.rank b.rank) (4 + t.t_cs) in simp (max_none, max_zero, cond_same) (omega (arith, e0, e1));
-  pre = λ b. let e0 : pair_gap t rules.Rtp (Rd a v) (Pre b) ≡ cond (is_bank a b) t.t_rtp 0 = ap (λ p. cond p t.t_rtp 0) (bank_back b a) in simp (max_none, max_zero, cond_same) (omega (arith, e0));
-  pre_all = λ rank. let e0 : pair_gap t rules.Rtp (Rd a v) (PreAll rank) ≡ cond (eqb a.rank rank) t.t_rtp 0 = ap (λ p. cond p t.t_rtp 0) (eqb_back rank a.rank) in simp (max_none, max_zero, cond_same) (omega (arith, e0));
-  refresh = λ rank. simp (max_none, max_zero, cond_same) (omega arith);
-  sleep = λ rank. simp (max_none, max_zero, cond_same) (omega arith);
-}
-tells_gaps t (Wr a v) = record {
-  act = λ b w. simp (max_none, max_zero, cond_same) (omega arith);
-  rd = λ b w. let e0 : pair_gap t rules.Wtr (Wr a v) (Rd b w) ≡ cond (eqb a.rank b.rank) (cond (is_group a b) (t.cwl + 4 + t.t_wtr_l) (t.cwl + 4 + t.t_wtr_s)) 0 = add_cond (eqb a.rank b.rank) (is_group a b) (t.cwl + 4) t.t_wtr_l t.t_wtr_s in let e1 : pair_gap t rules.Cs (Wr a v) (Rd b w) ≡ cond (eqb a.rank b.rank) 0 (4 + t.t_cs) = cond_not (eqb a.rank b.rank) (4 + t.t_cs) in simp (max_none, max_zero, cond_same) (omega (arith, e0, e1));
-  wr = λ b w. let e0 : pair_gap t rules.Ccd (Wr a v) (Wr b w) ≡ cond (eqb a.rank b.rank) (cond (is_group a b) t.t_ccd_l t.t_ccd_s) 0 = refl in let e1 : pair_gap t rules.Cs (Wr a v) (Wr b w) ≡ cond (eqb a.rank b.rank) 0 (4 + t.t_cs) = cond_not (eqb a.rank b.rank) (4 + t.t_cs) in simp (max_none, max_zero, cond_same) (omega (arith, e0, e1));
-  pre = λ b. let e0 : pair_gap t rules.Wr (Wr a v) (Pre b) ≡ cond (is_bank a b) (t.cwl + 4 + t.t_wr) 0 = ap (λ p. cond p (t.cwl + 4 + t.t_wr) 0) (bank_back b a) in simp (max_none, max_zero, cond_same) (omega (arith, e0));
-  pre_all = λ rank. let e0 : pair_gap t rules.Wr (Wr a v) (PreAll rank) ≡ cond (eqb a.rank rank) (t.cwl + 4 + t.t_wr) 0 = ap (λ p. cond p (t.cwl + 4 + t.t_wr) 0) (eqb_back rank a.rank) in simp (max_none, max_zero, cond_same) (omega (arith, e0));
-  refresh = λ rank. simp (max_none, max_zero, cond_same) (omega arith);
-  sleep = λ rank. simp (max_none, max_zero, cond_same) (omega arith);
-}
-tells_gaps t (Pre a) = record {
-  act = λ b w. let e0 : pair_gap t rules.Rp (Pre a) (Act b w) ≡ cond (is_bank a b) t.t_rp 0 = refl in simp (max_none, max_zero, cond_same) (omega (arith, e0));
-  rd = λ b w. simp (max_none, max_zero, cond_same) (omega arith);
-  wr = λ b w. simp (max_none, max_zero, cond_same) (omega arith);
-  pre = λ b. simp (max_none, max_zero, cond_same) (omega arith);
-  pre_all = λ rank. simp (max_none, max_zero, cond_same) (omega arith);
-  refresh = λ rank. let e0 : pair_gap t rules.Rp (Pre a) (Ref rank) ≡ cond (eqb a.rank rank) t.t_rp 0 = refl in simp (max_none, max_zero, cond_same) (omega (arith, e0));
-  sleep = λ rank. let e0 : pair_gap t rules.Rp (Pre a) (Sre rank) ≡ cond (eqb a.rank rank) t.t_rp 0 = refl in simp (max_none, max_zero, cond_same) (omega (arith, e0));
-}
-tells_gaps t (PreAll r) = record {
-  act = λ b w. let e0 : pair_gap t rules.Rp (PreAll r) (Act b w) ≡ cond (eqb r b.rank) t.t_rp 0 = refl in simp (max_none, max_zero, cond_same) (omega (arith, e0));
-  rd = λ b w. simp (max_none, max_zero, cond_same) (omega arith);
-  wr = λ b w. simp (max_none, max_zero, cond_same) (omega arith);
-  pre = λ b. simp (max_none, max_zero, cond_same) (omega arith);
-  pre_all = λ rank. simp (max_none, max_zero, cond_same) (omega arith);
-  refresh = λ rank. let e0 : pair_gap t rules.Rp (PreAll r) (Ref rank) ≡ cond (eqb r rank) t.t_rp 0 = refl in simp (max_none, max_zero, cond_same) (omega (arith, e0));
-  sleep = λ rank. let e0 : pair_gap t rules.Rp (PreAll r) (Sre rank) ≡ cond (eqb r rank) t.t_rp 0 = refl in simp (max_none, max_zero, cond_same) (omega (arith, e0));
-}
-tells_gaps t (Ref r) = record {
-  act = λ b w. let e0 : pair_gap t rules.Rfc (Ref r) (Act b w) ≡ cond (eqb r b.rank) t.t_rfc 0 = refl in simp (max_none, max_zero, cond_same) (omega (arith, e0));
-  rd = λ b w. simp (max_none, max_zero, cond_same) (omega arith);
-  wr = λ b w. simp (max_none, max_zero, cond_same) (omega arith);
-  pre = λ b. simp (max_none, max_zero, cond_same) (omega arith);
-  pre_all = λ rank. simp (max_none, max_zero, cond_same) (omega arith);
-  refresh = λ rank. let e0 : pair_gap t rules.Rfc (Ref r) (Ref rank) ≡ cond (eqb r rank) t.t_rfc 0 = refl in simp (max_none, max_zero, cond_same) (omega (arith, e0));
-  sleep = λ rank. let e0 : pair_gap t rules.Rfc (Ref r) (Sre rank) ≡ cond (eqb r rank) t.t_rfc 0 = refl in simp (max_none, max_zero, cond_same) (omega (arith, e0));
-}
-tells_gaps t (Sre r) = record {
-  act = λ b w. simp (max_none, max_zero, cond_same) (omega arith);
-  rd = λ b w. simp (max_none, max_zero, cond_same) (omega arith);
-  wr = λ b w. simp (max_none, max_zero, cond_same) (omega arith);
-  pre = λ b. simp (max_none, max_zero, cond_same) (omega arith);
-  pre_all = λ rank. simp (max_none, max_zero, cond_same) (omega arith);
-  refresh = λ rank. simp (max_none, max_zero, cond_same) (omega arith);
-  sleep = λ rank. simp (max_none, max_zero, cond_same) (omega arith);
+gap_parts t (Act a v) (Pre b) = rw (bank_back a b) (simp gap_terms (omega arith))
+gap_parts t (Rd a v) (Pre b) = rw (bank_back a b) (simp gap_terms (omega arith))
+gap_parts t (Wr a v) (Pre b) = rw (bank_back a b) (simp gap_terms (omega arith))
+gap_parts t (Act a v) (PreAll rank) = rw (eqb_back a.rank rank) (simp gap_terms (omega arith))
+gap_parts t (Rd a v) (PreAll rank) = rw (eqb_back a.rank rank) (simp gap_terms (omega arith))
+gap_parts t (Wr a v) (PreAll rank) = rw (eqb_back a.rank rank) (simp gap_terms (omega arith))
+gap_parts t (Pre a) (Act b v) = simp gap_terms (omega arith)
+gap_parts t (PreAll rank) (Act b v) = simp gap_terms (omega arith)
+gap_parts t (Ref rank) (Act b v) = simp gap_terms (omega arith)
+gap_parts t (Sre rank) (Act b v) = simp gap_terms (omega arith)
+gap_parts t a b = simp gap_terms (omega arith)
+
+pub tells_gaps : (t : Timing) (a : Command) → TellsGaps t a (demand_of t a)
+tells_gaps t a = record {
+  act = λ at row. gap_parts t a (Act at row);
+  rd = λ at column. gap_parts t a (Rd at column);
+  wr = λ at column. gap_parts t a (Wr at column);
+  pre = λ at. gap_parts t a (Pre at);
+  pre_all = λ rank. gap_parts t a (PreAll rank);
+  refresh = λ rank. gap_parts t a (Ref rank);
+  sleep = λ rank. gap_parts t a (Sre rank);
 }

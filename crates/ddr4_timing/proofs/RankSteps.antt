@@ -1,12 +1,14 @@
 -- What one more command does to the least clocks of a rank.
 use Rattle.std.proofs.Common.{◌≡◌, ◌≢◌, ℕ, ◌+◌, ◌<◌, ◌≤◌, Bool, true, false, cond, eqb, List, length, get_or, set, get_or-set_other, refl, ap, sym, subst, ◌∙◌, inl, inr, arith, rules, max, min, ◌*◌, ◌^◌, ◌&&◌, ◌||◌, Option}
-use Rattle.std.proofs.lemmas.Bool.{cases_eq, cases_Bool, eq-eqb, ne_eqb, eqb-true, and_parts}
+use Rattle.std.proofs.Math.Bool.{and-true, or-false, or-true}
+use Rattle.std.proofs.lemmas.Bool.{cases_eq, cases_Bool, eq-eqb, ne_eqb, and_right}
+use Rattle.std.proofs.lemmas.Bool.Decides.{nat_tests}
 use Rattle.std.proofs.lemmas.Grind.{get_or-set_at}
 use Rattle.std.proofs.lemmas.List.{get_or_default}
-use Rattle.ddr4_timing.proofs.Common.{Act, BankAddress, BankCells, BankRises, BankStands, BanksRise, ChannelTakes, Checked, ClockRises, Command, GroupsRise, HasSlot, KeepsRefresh, Machine, Pre, PreAll, RankStands, RankState, RankTakes, Rd, Ref, Refresh, RefreshStands, Sre, Stamped, Timing, Window, WindowStands, Wr, bank_of, beyond_rank, demand_of, in_groups, in_rank, is_act, is_act_of, is_asleep, is_bank, is_group, is_ref, is_ref_of, is_sre, rank_of, row_after, row_in, slot_of, with_command}
+use Rattle.ddr4_timing.proofs.Common.{Act, BankAddress, BankCells, BankRises, BankStands, BanksRise, ChannelTakes, Checked, ClockRises, Command, GroupsRise, HasSlot, KeepsRefresh, Machine, Pre, PreAll, RankStands, RankState, RankTakes, Rd, Ref, Refresh, RefreshStands, Sre, Stamped, Timing, Window, WindowStands, Wr, bank_of, beyond_rank, demand_of, in_groups, in_rank, is_act, is_act_of, is_asleep, is_bank, is_ref, is_ref_of, is_sre, rank_of, row_after, row_in, slot_of, with_command}
 use Rattle.ddr4_timing.proofs.Addresses.{has_slot, same_slot, slot_small}
-use Rattle.ddr4_timing.proofs.FloorLemmas.{floor_push, open_row_push, window-yes, window-first, window-no, ref_count_push, last_ref_push, is_asleep_push, or_false}
-use Rattle.ddr4_timing.proofs.GapParts.{tells_gaps}
+use Rattle.ddr4_timing.proofs.FloorLemmas.{floor_push, open_row_push, window-yes, window-first, window-no, ref_count_push, last_ref_push, is_asleep_push}
+use Rattle.ddr4_timing.proofs.GapParts.{cond_same, tells_gaps}
 
 -- cells
 
@@ -22,14 +24,6 @@ raised k x a a' e = omega (arith, e)
 
 pub kept : (k a : ℕ) → ClockRises k 0 a a
 kept k a = omega arith
-
-kept_under : (b : Bool) (k a : ℕ) → ClockRises k (cond b 0 0) a a
-kept_under true k a = kept k a
-kept_under false k a = kept k a
-
-kept_in_rank : (b c : Bool) (k a : ℕ) → ClockRises k (cond b (cond c 0 0) 0) a a
-kept_in_rank true c k a = kept_under c k a
-kept_in_rank false c k a = kept k a
 
 -- the clocks of the commands to a bank rise by what the command asks
 record Rise (k : ℕ) (x : Command) (at : BankAddress) (b b' : BankCells) (ga ga' gr gr' gw gw' ra ra' : ℕ) (t : Timing) : Type 0 where
@@ -62,22 +56,12 @@ is_bank_same : (a b : BankAddress) → a ≡ b → is_bank a b ≡ true
 is_bank_same a b e = subst (λ (x : BankAddress). is_bank a x ≡ true) e (simp eqb_self refl)
 
 is_bank_other : (a b : BankAddress) → slot_of a ≢ slot_of b → is_bank a b ≡ false
-is_bank_other a b n =
-    elim (cases_Bool (is_bank a b)) [
-      | inl same ↦
-          let parts = and_parts (is_group a b) (eqb a.bank b.bank) same in
-          let group = eqb-true a.group b.group (and_parts (eqb a.rank b.rank) (eqb a.group b.group) parts.0).1 in
-          let bank = eqb-true a.bank b.bank parts.1 in
-          absurd (n (omega (arith, group, bank)))
-      | inr other ↦ other
-    ]
+is_bank_other a b n = grind (arith, nat_tests)
 
 -- the cells of a command's rank
 
 pub banks_kept : (k : ℕ) (x : Command) (banks : List BankCells) → BanksRise k x 0 0 0 banks banks
-banks_kept k x banks at none slot own =
-    let test = is_bank (bank_of x) at in
-    record { act = kept_under test k _; column = kept_under test k _; pre = kept_under test k _ }
+banks_kept k x banks at none slot own = record { act = rw cond_same (kept k _); column = rw cond_same (kept k _); pre = rw cond_same (kept k _) }
 
 -- one bank's cells are raised
 pub banks_raised : (k : ℕ) (x : Command) (act column pre n : ℕ) (banks : List BankCells) (y d : BankCells) → length banks ≡ 16 → HasSlot (bank_of x) → n ≡ slot_of (bank_of x) →
@@ -97,7 +81,7 @@ banks_raised k x act column pre n banks y d size own slot to_act to_column to_pr
     ]
 
 pub groups_kept : (k : ℕ) (x : Command) (cells : List ℕ) → GroupsRise k x 0 0 cells cells
-groups_kept k x cells at none slot own = kept_in_rank (eqb (rank_of x) at.rank) (is_group (bank_of x) at) k _
+groups_kept k x cells at none slot own = simp cond_same (kept k _)
 
 -- each group's cell is raised
 pub groups_raised : (k : ℕ) (x : Command) (near far : ℕ) (cells new : List ℕ) → length cells ≡ 4 →
@@ -147,14 +131,6 @@ refresh_kept t rank k list x r e s = record {
 
 -- a command of the rank
 
-pub or_true : (b : Bool) → (b || true) ≡ true
-or_true true = refl
-or_true false = refl
-
-and_true : (b : Bool) → (b && true) ≡ b
-and_true true = refl
-and_true false = refl
-
 pub own_rank : (c : Checked) (list : List Stamped) (k next write write' column column' : ℕ) (x : Command) (old new : RankState) → RankTakes c.timing k x old new → KeepsRefresh c.timing list (record { clock = k; cmd = x }) →
     ClockRises k (beyond_rank x (rank_of x) (demand_of c.timing x).beyond) column column' → ClockRises k (demand_of c.timing x).write write write' →
     RankStands c list next write column (rank_of x) old → RankStands c (with_command list k x) (max next (k + 1)) write' column' (rank_of x) new
@@ -179,23 +155,16 @@ own_rank c list k next write write' column column' x old new h keeps beyond writ
       sleep = least_rises k next _ _ _ _ _ _ (rw here h.cells.idle) s.sleep (demand.sleep (rank_of x)) (floor_push _ list _ (Sre (rank_of x)));
       windows = h.history.windows list s.windows;
       refreshes = h.history.refreshes list s.refreshes keeps;
-      asleep = h.history.asleep ∙ ap (λ a. a || is_sre x) s.asleep ∙ sym (is_asleep_push (rank_of x) list (record { clock = k; cmd = x }) ∙ ap (λ b. is_asleep (rank_of x) list || b) (ap (λ b. is_sre x && b) here ∙ and_true (is_sre x)));
+      asleep = h.history.asleep ∙ ap (λ a. a || is_sre x) s.asleep ∙ sym (is_asleep_push (rank_of x) list (record { clock = k; cmd = x }) ∙ ap (λ b. is_asleep (rank_of x) list || b) (ap (λ b. is_sre x && b) here ∙ and-true (is_sre x)));
     }
 
 -- a command of another rank
 
-test_elsewhere : (p : Bool) (a b : ℕ) → a ≢ b → (p && eqb a b) ≡ false
-test_elsewhere true a b n = ne_eqb a b n
-test_elsewhere false a b n = refl
-
 row_elsewhere : (at : BankAddress) (row : Option ℕ) (x : Command) → eqb (rank_of x) at.rank ≡ false → row_after at row x ≡ row
 row_elsewhere at row (Act a w) e = rw e refl
-row_elsewhere at row (Rd a w) e = refl
-row_elsewhere at row (Wr a w) e = refl
 row_elsewhere at row (Pre a) e = rw e refl
 row_elsewhere at row (PreAll r) e = rw e refl
-row_elsewhere at row (Ref r) e = refl
-row_elsewhere at row (Sre r) e = refl
+row_elsewhere at row x e = refl
 
 other_rank : (c : Checked) (list : List Stamped) (k next write write' column column' : ℕ) (x : Command) (rank : ℕ) (r : RankState) → rank_of x ≢ rank →
     ClockRises k (beyond_rank x rank (demand_of c.timing x).beyond) column column' → ClockRises k (demand_of c.timing x).write write write' →
@@ -218,9 +187,9 @@ other_rank c list k next write write' column column' x rank r n beyond writes s 
       pre_all = least_rises k next _ _ _ _ _ _ (rw elsewhere (kept k _)) s.pre_all (demand.pre_all rank) (floor_push _ list _ (PreAll rank));
       refresh = least_rises k next _ _ _ _ _ _ (rw elsewhere (kept k _)) s.refresh (demand.refresh rank) (floor_push _ list _ (Ref rank));
       sleep = least_rises k next _ _ _ _ _ _ (rw elsewhere (kept k _)) s.sleep (demand.sleep rank) (floor_push _ list _ (Sre rank));
-      windows = window_kept c.timing rank k list x r.window (test_elsewhere (is_act x) (rank_of x) rank n) s.windows;
-      refreshes = refresh_kept c.timing rank k list x r.refresh (test_elsewhere (is_ref x) (rank_of x) rank n) s.refreshes;
-      asleep = rw (is_asleep_push rank list (record { clock = k; cmd = x }), test_elsewhere (is_sre x) (rank_of x) rank n) (s.asleep ∙ sym (or_false _));
+      windows = window_kept c.timing rank k list x r.window (and_right (is_act x) _ elsewhere) s.windows;
+      refreshes = refresh_kept c.timing rank k list x r.refresh (and_right (is_ref x) _ elsewhere) s.refreshes;
+      asleep = rw (is_asleep_push rank list (record { clock = k; cmd = x }), and_right (is_sre x) _ elsewhere) (s.asleep ∙ sym (or-false _));
     }
 
 -- each rank, behind a command that one of them takes
@@ -245,4 +214,4 @@ each_rank c list k x old new taken d i size wide at keeps takes shares stands ra
           (other_rank c list k old.next old.write new.write (get_or old.columns rank column) (get_or new.columns rank column) x rank (get_or old.ranks rank none) (λ e. n (at ∙ e)) beyond shares.write (stands rank column none h))
     ]
 
-pub ruleset takes = (rules, kept, raised, banks_kept, banks_raised, groups_kept, groups_raised, window_taken, window_kept, refresh_taken, refresh_kept, eqb_self, or_true)
+pub ruleset takes = (rules, kept, raised, banks_kept, banks_raised, groups_kept, groups_raised, window_taken, window_kept, refresh_taken, refresh_kept, eqb_self, or-true)

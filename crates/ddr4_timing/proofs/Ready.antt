@@ -1,7 +1,7 @@
 -- When a list with one more command is lawful, by what a `Banks` keeps.
 use Rattle.std.proofs.Common.{◌≡◌, ℕ, zero, suc, ◌+◌, ◌-◌, ◌*◌, ◌<◌, ◌≤◌, Bool, true, false, cond, eqb, List, [], ◌∷◌, ◌++◌, length, take, drop, Some, refl, ap, sym, subst, ◌∙◌, inl, inr, arith, add-one, IsTrue, max, count_by, not, ◌&&◌, ◌↔◌, slice_get}
 use Rattle.std.proofs.lemmas.Bool.{cases_lt, cases_Bool}
-use Rattle.std.proofs.lemmas.List.{take-append-le, length_push}
+use Rattle.std.proofs.lemmas.List.{length_push, take-take}
 use Rattle.std.proofs.lemmas.Option.{slice_get_within, same_Some}
 use Rattle.std.proofs.lemmas.Grind.{common_steps}
 use Rattle.std.proofs.Math.Seq.{take-append_seam}
@@ -27,12 +27,9 @@ most_gap-le : (t : Timing) (a b : Command) (d : ℕ) → ((rule : Rule) → pair
 unfolding most_gap
 most_gap-le t a b d h = largest_below (λ rule. pair_gap t rule a b) every_rule d h
 
-pair_gap_order : (t : Timing) (a b : Command) → pair_gap t Order a b ≡ 1
-unfolding pair_gap
-pair_gap_order t a b = refl
-
 most_gap_some : (t : Timing) (a b : Command) → 1 ≤ most_gap t a b
-most_gap_some t a b = let e = pair_gap-le t Order a b in rw (← pair_gap_order t a b) e
+unfolding pair_gap
+most_gap_some t a b = pair_gap-le t Order a b
 
 -- the window's rule aside, what stands between two commands asks for nothing
 gap_to_pair : (t : Timing) (rule : Rule) (a : Command) (between : List Stamped) (b : Command) (d : ℕ) → gap t rule a between b ≤ d → pair_gap t rule a b ≤ d
@@ -44,10 +41,6 @@ pair_to_gap : (t : Timing) (rule : Rule) (a : Command) (between : List Stamped) 
 unfolding gap
 pair_to_gap t Faw a between b d h w = w
 pair_to_gap t rule a between b d h w = h
-
-gap-faw : (t : Timing) (a : Command) (between : List Stamped) (b : Command) → gap t Faw a between b ≡ faw_gap t a between b
-unfolding gap
-gap-faw t a between b = refl
 
 -- the greatest demand
 
@@ -83,83 +76,80 @@ floor_from t list x h = greatest_below (λ a _. a.clock + most_gap t a.cmd x.cmd
     omega (arith, most, some))
 
 -- a demand of at least 1, under a test
-demand_to : (p : Bool) (k f d : ℕ) → cond p (k + f) 0 ≤ d → cond p f 0 ≤ d - k
-demand_to true k f d h = omega arith
-demand_to false k f d h = omega arith
-
-demand_from : (p : Bool) (k f d : ℕ) → 1 ≤ f → cond p f 0 ≤ d - k → cond p (k + f) 0 ≤ d
-demand_from true k f d l h = omega arith
-demand_from false k f d l h = omega arith
-
-faw_gap-act : (t : Timing) (a : Command) (between : List Stamped) (b : Command) → is_act b ≡ true → faw_gap t a between b ≡ cond (is_act_of (rank_of b) a && eqb (count_by (λ x. is_act_of (rank_of b) x.cmd) between) 3) t.t_faw 0
-unfolding faw_gap
-faw_gap-act t a between b e = ap (λ (p : Bool). cond ((p && is_act_of (rank_of b) a) && eqb (count_by (λ x. is_act_of (rank_of b) x.cmd) between) 3) t.t_faw 0) e
-
-faw_gap-other : (t : Timing) (a : Command) (between : List Stamped) (b : Command) → is_act b ≡ false → faw_gap t a between b ≡ 0
-unfolding faw_gap
-faw_gap-other t a between b e = ap (λ (p : Bool). cond ((p && is_act_of (rank_of b) a) && eqb (count_by (λ x. is_act_of (rank_of b) x.cmd) between) 3) t.t_faw 0) e
+demand_after : (p : Bool) (k f d : ℕ) → 1 ≤ f → (cond p (k + f) 0 ≤ d) ↔ (cond p f 0 ≤ d - k)
+demand_after true k f d l = (λ h. omega arith, λ h. omega arith)
+demand_after false k f d l = (λ h. omega arith, λ h. omega arith)
 
 window_from : (t : Timing) (list : List Stamped) (x : Stamped) → 1 ≤ t.t_faw → KeepsGaps t list x → is_act x.cmd ≡ true → window t (rank_of x.cmd) 3 list ≤ x.clock
-unfolding window
-window_from t list x l h e = greatest_below (λ a later. cond (is_act_of (rank_of x.cmd) a.cmd && eqb (count_by (λ x'. is_act_of (rank_of x.cmd) x'.cmd) later) 3) (a.clock + t.t_faw) 0) list x.clock (λ i a s.
-    let k = gap-faw t a.cmd (drop (i + 1) list) x.cmd ∙ faw_gap-act t a.cmd (drop (i + 1) list) x.cmd e in
-    demand_from _ a.clock t.t_faw x.clock l (rw (← k) (h Faw i a s)))
+unfolding window gap faw_gap
+window_from t list x l h e = greatest_below (λ a later. cond (is_act_of (rank_of x.cmd) a.cmd && eqb (count_by (λ x'. is_act_of (rank_of x.cmd) x'.cmd) later) 3) (a.clock + t.t_faw) 0) list x.clock
+    (λ i a s. (demand_after _ a.clock t.t_faw x.clock l).1 (rw e at (h Faw i a s)))
 
-pub gaps_from : (t : Timing) (list : List Stamped) (x : Stamped) → floor t list x.cmd ≤ x.clock → (is_act x.cmd ≡ true → window t (rank_of x.cmd) 3 list ≤ x.clock) → KeepsGaps t list x
-unfolding floor window
-gaps_from t list x h w rule i a s =
-    let between = drop (i + 1) list in
-    let pair =
+gaps_from : (t : Timing) (list : List Stamped) (x : Stamped) → 1 ≤ t.t_faw → floor t list x.cmd ≤ x.clock → (is_act x.cmd ≡ true → window t (rank_of x.cmd) 3 list ≤ x.clock) → KeepsGaps t list x
+unfolding floor window faw_gap
+gaps_from t list x l h w rule i a s =
     let g = greatest_above (λ a _. a.clock + most_gap t a.cmd x.cmd) list i a s in
     let p = pair_gap-le t rule a.cmd x.cmd in
-    let e : pair_gap t rule a.cmd x.cmd ≤ x.clock - a.clock = omega (arith, h, g, p) in
-    e in
-    let faw : faw_gap t a.cmd between x.cmd ≤ x.clock - a.clock = elim (cases_Bool (is_act x.cmd)) [
+    let faw : faw_gap t a.cmd (drop (i + 1) list) x.cmd ≤ x.clock - a.clock = elim (cases_Bool (is_act x.cmd)) [
       | inl acts ↦
-          let g = greatest_above (λ a later. cond (is_act_of (rank_of x.cmd) a.cmd && eqb (count_by (λ x'. is_act_of (rank_of x.cmd) x'.cmd) later) 3) (a.clock + t.t_faw) 0) list i a s in
-          rw (faw_gap-act t a.cmd between x.cmd acts) (demand_to _ a.clock t.t_faw x.clock (let v = w acts in omega (arith, g, v)))
-      | inr rests ↦ rw (faw_gap-other t a.cmd between x.cmd rests) (omega arith)
+          let v = greatest_above (λ a later. cond (is_act_of (rank_of x.cmd) a.cmd && eqb (count_by (λ x'. is_act_of (rank_of x.cmd) x'.cmd) later) 3) (a.clock + t.t_faw) 0) list i a s in
+          rw acts ((demand_after _ a.clock t.t_faw x.clock l).0 (omega (arith, v, w acts)))
+      | inr rests ↦ rw rests (omega arith)
     ] in
-    pair_to_gap t rule a.cmd between x.cmd (x.clock - a.clock) pair faw
+    pair_to_gap t rule a.cmd (drop (i + 1) list) x.cmd (x.clock - a.clock) (omega (arith, h, g, p)) faw
 
--- one more command
+-- the front of a list
 
-slice_get_front : (xs : List Stamped) (y : Stamped) (j : ℕ) → j < length xs → slice_get (xs ++ y ∷ []) j ≡ slice_get xs j
-slice_get_front [] y j h = absurd (omega arith)
-slice_get_front (x ∷ xs) y zero h = refl
-slice_get_front (x ∷ xs) y (suc j) h = slice_get_front xs y j (omega arith)
+pub slice_get_seam : (before : List Stamped) (x : Stamped) (after : List Stamped) → slice_get (before ++ x ∷ after) (length before) ≡ Some x
+slice_get_seam [] x after = refl
+slice_get_seam (y ∷ before) x after = slice_get_seam before x after
 
-slice_get_end : (xs : List Stamped) (y : Stamped) → slice_get (xs ++ y ∷ []) (length xs) ≡ Some y
-slice_get_end [] y = refl
-slice_get_end (x ∷ xs) y = slice_get_end xs y
+slice_get_take : (list : List Stamped) (n i : ℕ) → i < n → slice_get (take n list) i ≡ slice_get list i
+slice_get_take [] (suc n) i h = refl
+slice_get_take (x ∷ list) (suc n) zero h = refl
+slice_get_take (x ∷ list) (suc n) (suc i) h = slice_get_take list n i (omega arith)
+slice_get_take list n i h = absurd (omega arith)
+
+-- where the front of a list is lawful, every rule holds of its places in the list
+pub KeepsRule-front : (c : Checked) (list : List Stamped) (n : ℕ) → IsLawful c (take n list) → (rule : Rule) (first second : ℕ) → second < n → KeepsRule c list rule first second
+KeepsRule-front c list n h rule first second l x s =
+    subst (λ (before : List Stamped). ObeysRule c before x rule first) (take-take second n list (omega arith)) (h rule first second x (slice_get_take list n second l ∙ s))
+
+pub IsLawful-front : (c : Checked) (list : List Stamped) (n : ℕ) → ((rule : Rule) (first second : ℕ) → second < n → KeepsRule c list rule first second) → IsLawful c (take n list)
+IsLawful-front c list n h rule first second x s =
+    let within = slice_get_within (take n list) second x s in
+    let below : second < n = grind (arith, common_steps) in
+    subst (λ (before : List Stamped). ObeysRule c before x rule first) (sym (take-take second n list (omega arith))) (h rule first second below x (sym (slice_get_take list n second below) ∙ s))
+
+-- the front of a lawful list is lawful
+pub IsLawful-take : (c : Checked) (list : List Stamped) (n : ℕ) → IsLawful c list → IsLawful c (take n list)
+IsLawful-take c list n h = IsLawful-front c list n (λ rule first second _. h rule first second)
+
+-- each command of a lawful list may come next after those before it
+pub goes_in_turn : (c : Checked) (before : List Stamped) (x : Stamped) (after : List Stamped) → IsLawful c (before ++ x ∷ after) → MayComeNext c before x
+goes_in_turn c before x after h rule first =
+    subst (λ (front : List Stamped). ObeysRule c front x rule first) (take-append_seam before (x ∷ after)) (h rule first (length before) x (slice_get_seam before x after))
 
 pub admits_from : (c : Checked) (list : List Stamped) (x : Stamped) → IsLawful c (list ++ x ∷ []) → MayComeNext c list x
-admits_from c list x h rule first =
-    subst (λ (before : List Stamped). ObeysRule c before x rule first) (take-append_seam list (x ∷ [])) (h rule first (length list) x (slice_get_end list x))
+admits_from c list x h = goes_in_turn c list x [] h
 
 pub lawful_from : (c : Checked) (list : List Stamped) (x : Stamped) → IsLawful c list → MayComeNext c list x → IsLawful c (list ++ x ∷ [])
 lawful_from c list x h a rule first second y s =
+    let seam = take-append_seam list (x ∷ []) in
     elim (cases_lt second (length list)) [
-      | inl l ↦
-          subst (λ (before : List Stamped). ObeysRule c before y rule first) (sym (take-append-le second list (x ∷ []) (omega arith)))
-          (h rule first second y (sym (slice_get_front list x second l) ∙ s))
+      | inl l ↦ KeepsRule-front c (list ++ x ∷ []) (length list) (rw seam h) rule first second l y s
       | inr g ↦
           let within = slice_get_within (list ++ x ∷ []) second y s in
           let e : second ≡ length list = grind (arith, length_push) in
-          let same : x ≡ y = same_Some x y (sym (slice_get_end list x) ∙ ap (λ k. slice_get (list ++ x ∷ []) k) (sym e) ∙ s) in
-          subst (λ (z : Stamped). ObeysRule c (take second (list ++ x ∷ [])) z rule first) same
-          (subst (λ (before : List Stamped). ObeysRule c before x rule first) (sym (ap (λ k. take k (list ++ x ∷ [])) e ∙ take-append_seam list (x ∷ []))) (a rule first))
+          let same : y ≡ x = same_Some y x (sym s ∙ rw e (slice_get_seam list x [])) in
+          rw (e, seam, same) (a rule first)
     ]
 
 -- the whole
 
-cond_below : (b : Bool) (v d : ℕ) → (b ≡ true → v ≤ d) → cond b v 0 ≤ d
-cond_below true v d h = h refl
-cond_below false v d h = omega arith
-
-below_cond : (b : Bool) (v d : ℕ) → cond b v 0 ≤ d → b ≡ true → v ≤ d
-below_cond true v d h e = h
-below_cond false v d h e = absurd cc
+cond_within : (b : Bool) (v d : ℕ) → (cond b v 0 ≤ d) ↔ (b ≡ true → v ≤ d)
+cond_within true v d = (λ h _. h, λ h. h refl)
+cond_within false v d = (λ h e. absurd cc, λ h. omega arith)
 
 -- what a `Banks` can test
 pub record IsReady (c : Checked) (list : List Stamped) (x : Stamped) : Type 0 where
@@ -167,37 +157,32 @@ pub record IsReady (c : Checked) (list : List Stamped) (x : Stamped) : Type 0 wh
   pub clock : least_clock c.timing list x.cmd ≤ x.clock
   pub in_time : x.clock ≤ last_ref (rank_of x.cmd) list + 9 * c.timing.t_refi
 
-ready_from_admits : (c : Checked) (list : List Stamped) (x : Stamped) → MayComeNext c list x → IsReady c list x
+-- from a lawful list, with one more command
+pub lawful_ready : (c : Checked) (list : List Stamped) (x : Stamped) → IsLawful c list → IsReady c list x → IsLawful c (list ++ x ∷ [])
 unfolding least_clock
-ready_from_admits c list x h =
+lawful_ready c list x h r = lawful_from c list x h (λ rule first. record {
+  pair = gaps_from c.timing list x c.in_limits.t_faw.0 (omega (arith, r.clock)) ((cond_within (is_act x.cmd) (window c.timing (rank_of x.cmd) 3 list) x.clock).0 (omega (arith, r.clock))) rule first;
+  rows = λ _ _. r.rows;
+  refresh = λ _ _. record {
+    in_time = omega (arith, r.in_time);
+    not_early = (cond_within (is_ref x.cmd) ((ref_count (rank_of x.cmd) list + 1) * c.timing.t_refi) x.clock).0 (omega (arith, r.clock));
+  };
+})
+
+pub ready_lawful : (c : Checked) (list : List Stamped) (x : Stamped) → IsLawful c (list ++ x ∷ []) → IsReady c list x
+unfolding least_clock
+ready_lawful c list x lawful =
+    let h = admits_from c list x lawful in
     let gaps : KeepsGaps c.timing list x = λ rule i. (h rule i).pair in
     let refresh : KeepsRefresh c.timing list x = (h Refi (length list)).refresh refl refl in
     let floor = floor_from c.timing list x gaps in
-    let acts = cond_below (is_act x.cmd) (window c.timing (rank_of x.cmd) 3 list) x.clock (window_from c.timing list x c.in_limits.t_faw.0 gaps) in
-    let refs = cond_below (is_ref x.cmd) ((ref_count (rank_of x.cmd) list + 1) * c.timing.t_refi) x.clock refresh.not_early in
+    let acts = (cond_within (is_act x.cmd) (window c.timing (rank_of x.cmd) 3 list) x.clock).1 (window_from c.timing list x c.in_limits.t_faw.0 gaps) in
+    let refs = (cond_within (is_ref x.cmd) ((ref_count (rank_of x.cmd) list + 1) * c.timing.t_refi) x.clock).1 refresh.not_early in
     record {
       rows = (h Rows (length list)).rows refl refl;
       clock = omega (arith, floor, acts, refs);
       in_time = omega (arith, refresh.in_time);
     }
-
-admits_from_ready : (c : Checked) (list : List Stamped) (x : Stamped) → IsReady c list x → MayComeNext c list x
-unfolding least_clock
-admits_from_ready c list x r rule first = record {
-  pair = gaps_from c.timing list x (omega (arith, r.clock)) (below_cond (is_act x.cmd) (window c.timing (rank_of x.cmd) 3 list) x.clock (omega (arith, r.clock))) rule first;
-  rows = λ _ _. r.rows;
-  refresh = λ _ _. record {
-    in_time = omega (arith, r.in_time);
-    not_early = below_cond (is_ref x.cmd) ((ref_count (rank_of x.cmd) list + 1) * c.timing.t_refi) x.clock (omega (arith, r.clock));
-  };
-}
-
--- from a lawful list, with one more command
-pub lawful_ready : (c : Checked) (list : List Stamped) (x : Stamped) → IsLawful c list → IsReady c list x → IsLawful c (list ++ x ∷ [])
-lawful_ready c list x h r = lawful_from c list x h (admits_from_ready c list x r)
-
-pub ready_lawful : (c : Checked) (list : List Stamped) (x : Stamped) → IsLawful c (list ++ x ∷ []) → IsReady c list x
-ready_lawful c list x h = ready_from_admits c list x (admits_from c list x h)
 
 pub refresh_lawful : (c : Checked) (list : List Stamped) (x : Stamped) → IsLawful c (list ++ x ∷ []) → KeepsRefresh c.timing list x
 refresh_lawful c list x h = (admits_from c list x h Refi (length list)).refresh refl refl
@@ -205,47 +190,6 @@ refresh_lawful c list x h = (admits_from c list x h Refi (length list)).refresh 
 pub not_of_iff : (b : Bool) (P : Type 0) → (IsTrue b ↔ P) → (IsTrue (not b) ↔ (¬ P))
 not_of_iff true P h = (λ e. absurd cc, λ n. absurd (n (h.0 refl)))
 not_of_iff false P h = (λ _ p. absurd (let e = h.1 p in cc), λ _. refl)
-
--- the front of a lawful list is lawful
-slice_get_from_take : (xs : List Stamped) (n j : ℕ) (y : Stamped) → slice_get (take n xs) j ≡ Some y → slice_get xs j ≡ Some y
-slice_get_from_take [] zero j y s = absurd cc
-slice_get_from_take [] (suc n) j y s = absurd cc
-slice_get_from_take (x ∷ xs) zero j y s = absurd cc
-slice_get_from_take (x ∷ xs) (suc n) zero y s = s
-slice_get_from_take (x ∷ xs) (suc n) (suc j) y s = slice_get_from_take xs n j y s
-
-take_take : (xs : List Stamped) (n j : ℕ) → j ≤ n → take j (take n xs) ≡ take j xs
-take_take [] zero zero h = refl
-take_take [] zero (suc j) h = refl
-take_take [] (suc n) zero h = refl
-take_take [] (suc n) (suc j) h = refl
-take_take (x ∷ xs) zero zero h = refl
-take_take (x ∷ xs) zero (suc j) h = absurd (omega arith)
-take_take (x ∷ xs) (suc n) zero h = refl
-take_take (x ∷ xs) (suc n) (suc j) h = ap (λ ys. x ∷ ys) (take_take xs n j (omega arith))
-
-pub IsLawful-take : (c : Checked) (list : List Stamped) (n : ℕ) → IsLawful c list → IsLawful c (take n list)
-IsLawful-take c list n h rule first second x s =
-    let within = slice_get_within (take n list) second x s in
-    let small : length (take n list) ≤ n = grind (arith, common_steps) in
-    subst (λ (before : List Stamped). ObeysRule c before x rule first) (sym (take_take list n second (omega (arith, within, small)))) (h rule first second x (slice_get_from_take list n second x s))
-
--- where the front of a list is lawful, every rule holds of its places in the list
-slice_get_to_take : (xs : List Stamped) (n j : ℕ) (y : Stamped) → j < n → slice_get xs j ≡ Some y → slice_get (take n xs) j ≡ Some y
-slice_get_to_take [] n j y h s = absurd cc
-slice_get_to_take (x ∷ xs) zero j y h s = absurd (omega arith)
-slice_get_to_take (x ∷ xs) (suc n) zero y h s = s
-slice_get_to_take (x ∷ xs) (suc n) (suc j) y h s = slice_get_to_take xs n j y (omega arith) s
-
-pub KeepsRule-front : (c : Checked) (list : List Stamped) (n : ℕ) → IsLawful c (take n list) → (rule : Rule) (first second : ℕ) → second < n → KeepsRule c list rule first second
-KeepsRule-front c list n h rule first second l x s =
-    subst (λ (before : List Stamped). ObeysRule c before x rule first) (take_take list n second (omega arith)) (h rule first second x (slice_get_to_take list n second x l s))
-
-pub IsLawful-front : (c : Checked) (list : List Stamped) (n : ℕ) → ((rule : Rule) (first second : ℕ) → second < n → KeepsRule c list rule first second) → IsLawful c (take n list)
-IsLawful-front c list n h rule first second x s =
-    let within = slice_get_within (take n list) second x s in
-    let small : length (take n list) ≤ n = grind (arith, common_steps) in
-    subst (λ (before : List Stamped). ObeysRule c before x rule first) (sym (take_take list n second (omega (arith, within, small)))) (h rule first second (omega (arith, within, small)) x (slice_get_from_take list n second x s))
 
 -- the first fault of a list stands where its lawful front ends
 pub fault_index : (c : Checked) (list : List Stamped) (i : ℕ) (f : Fault) → IsLawful c (take i list) → (IsLawful c (take (i + 1) list) → ⊥) → IsLeastFault c list f → f.second ≡ i

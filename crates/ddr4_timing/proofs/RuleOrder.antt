@@ -2,26 +2,11 @@
 use Rattle.std.proofs.Common.{◌≡◌, ℕ, zero, suc, ◌+◌, ◌-◌, ◌≤◌, ◌<◌, List, [], ◌∷◌, get_or, Some, refl, ap, sym, subst, inl, inr, arith, rules, slice_get}
 use Rattle.std.proofs.lemmas.Bool.{cases_lt}
 use Rattle.std.proofs.lemmas.Option.{same_Some, get_or_from_slice_get, slice_get-get_or, slice_get_within}
-use Rattle.ddr4_timing.proofs.Common.{Ccd, Cs, Faw, Order, Ras, Rc, Rcd, Refi, Rfc, Rows, Rp, Rrd, Rtp, Rtw, Rule, Wtr, every_rule, rule_number}
-use Rattle.ddr4_timing.specs.declared.rules.Rule.TheVariants.{Wr}
+use Rattle.ddr4_timing.proofs.Common.{Order, Rule, every_rule, rule_number}
 
 pub rule_at : (rule : Rule) → slice_get every_rule (rule_number rule - 1) ≡ Some rule
 rule_at Order = refl
-rule_at Rows = refl
-rule_at Rcd = refl
-rule_at Ras = refl
-rule_at Rp = refl
-rule_at Rc = refl
-rule_at Rtp = refl
-rule_at Wr = refl
-rule_at Rrd = refl
-rule_at Faw = refl
-rule_at Ccd = refl
-rule_at Wtr = refl
-rule_at Rtw = refl
-rule_at Cs = refl
-rule_at Rfc = refl
-rule_at Refi = refl
+rule_at rule = refl
 
 -- the numbers of the rules of a list, one after another
 abbrev AreCounted : ℕ → List Rule → Type 0
