@@ -1,5 +1,5 @@
 -- When a list with one more command is lawful, by what a `Banks` keeps.
-use Rattle.std.proofs.Common.{◌≡◌, ℕ, zero, suc, ◌+◌, ◌-◌, ◌*◌, ◌<◌, ◌≤◌, Bool, true, false, cond, eqb, List, [], ◌∷◌, ◌++◌, length, take, drop, Some, refl, ap, sym, subst, ◌∙◌, inl, inr, arith, add-one, IsTrue, max, count_by, not, ◌&&◌, ◌↔◌, slice_get}
+use Rattle.std.proofs.Common.{◌≡◌, ℕ, zero, suc, ◌+◌, ◌-◌, ◌*◌, ◌<◌, ◌≤◌, Bool, true, false, cond, eqb, List, [], ◌∷◌, ◌++◌, length, take, drop, Some, refl, ap, sym, subst, ◌∙◌, inl, inr, arith, add-one, max, count_by, ◌&&◌, ◌↔◌, slice_get}
 use Rattle.std.proofs.lemmas.Bool.{cases_lt, cases_Bool}
 use Rattle.std.proofs.lemmas.List.{length_push, take-take}
 use Rattle.std.proofs.lemmas.Option.{slice_get_within, same_Some}
@@ -186,10 +186,6 @@ ready_lawful c list x lawful =
 
 pub refresh_lawful : (c : Checked) (list : List Stamped) (x : Stamped) → IsLawful c (list ++ x ∷ []) → KeepsRefresh c.timing list x
 refresh_lawful c list x h = (admits_from c list x h Refi (length list)).refresh refl refl
-
-pub not_of_iff : (b : Bool) (P : Type 0) → (IsTrue b ↔ P) → (IsTrue (not b) ↔ (¬ P))
-not_of_iff true P h = (λ e. absurd cc, λ n. absurd (n (h.0 refl)))
-not_of_iff false P h = (λ _ p. absurd (let e = h.1 p in cc), λ _. refl)
 
 -- the first fault of a list stands where its lawful front ends
 pub fault_index : (c : Checked) (list : List Stamped) (i : ℕ) (f : Fault) → IsLawful c (take i list) → (IsLawful c (take (i + 1) list) → ⊥) → IsLeastFault c list f → f.second ≡ i

@@ -115,12 +115,10 @@ impl Machine {
     {
         match *cmd {
             Command::Act { at, .. } => self.open_row(checked, at).is_none(),
-            Command::Rd { at, .. } => self.open_row(checked, at).is_some(),
-            Command::Wr { at, .. } => self.open_row(checked, at).is_some(),
+            Command::Rd { at, .. } | Command::Wr { at, .. } => self.open_row(checked, at).is_some(),
             Command::Pre { at } => self.open_row(checked, at).is_some(),
             Command::PreAll { rank } => !self.all_closed(checked, rank),
-            Command::Ref { rank } => self.all_closed(checked, rank),
-            Command::Sre { rank } => self.all_closed(checked, rank),
+            Command::Ref { rank } | Command::Sre { rank } => self.all_closed(checked, rank),
         }
     }
 

@@ -89,12 +89,8 @@ impl RankState {
         raise(&mut bank.act, clock + (t.t_ras + t.t_rp));
         raise(&mut bank.column, clock + t.t_rcd);
         raise(&mut bank.pre, clock + t.t_ras);
-        raise_all(
-            &mut self.group_act,
-            at.group,
-            clock + t.t_rrd_l,
-            clock + t.t_rrd_s,
-        );
+        let (near, far) = (clock + t.t_rrd_l, clock + t.t_rrd_s);
+        raise_all(&mut self.group_act, at.group, near, far);
         raise(&mut self.pre_all, clock + t.t_ras);
         self.window = Window {
             fourth: self.window.third,
@@ -112,12 +108,8 @@ impl RankState {
     {
         let t = &checked.timing;
         raise(&mut self.banks[at.slot()].pre, clock + t.t_rtp);
-        raise_all(
-            &mut self.group_rd,
-            at.group,
-            clock + t.t_ccd_l,
-            clock + t.t_ccd_s,
-        );
+        let (near, far) = (clock + t.t_ccd_l, clock + t.t_ccd_s);
+        raise_all(&mut self.group_rd, at.group, near, far);
         raise(&mut self.pre_all, clock + t.t_rtp);
     }
 
@@ -132,12 +124,8 @@ impl RankState {
         raise(&mut self.banks[at.slot()].pre, clock + recovery);
         let (near, far) = (burst + t.t_wtr_l, burst + t.t_wtr_s);
         raise_all(&mut self.group_rd, at.group, clock + near, clock + far);
-        raise_all(
-            &mut self.group_wr,
-            at.group,
-            clock + t.t_ccd_l,
-            clock + t.t_ccd_s,
-        );
+        let (near, far) = (clock + t.t_ccd_l, clock + t.t_ccd_s);
+        raise_all(&mut self.group_wr, at.group, near, far);
         raise(&mut self.pre_all, clock + recovery);
     }
 

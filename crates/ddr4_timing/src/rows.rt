@@ -31,11 +31,7 @@ impl Rows {
         ensures { result ≡ row_in self.now at }
     {
         let slot = at.slot();
-        if self.is_open[slot] {
-            Some(self.rows[slot])
-        } else {
-            None
-        }
+        self.is_open[slot].then_some(self.rows[slot])
     }
 
     /// Are the rank's first banks all closed?

@@ -1,16 +1,11 @@
-use Rattle.std.proofs.Common.{subst, sym, ◌↔◌, IsTrue, not}
-use Rattle.ddr4_timing.proofs.Common.{Command, FitsRows}
-use Rattle.ddr4_timing.proofs.Ready.{not_of_iff}
+use Rattle.std.proofs.Common.{inl, inr}
+use Rattle.std.proofs.lemmas.Bool.{false_from_ne_true, iff_false, not-true, not_from_false}
 use Rattle.ddr4_timing.proofs.machine.Machine.fits_rows.Goals as goal
 
 pub returns-in-PreAll : goal.returns-in-PreAll
 returns-in-PreAll c list s =
-    subst (λ (b : Command). IsTrue (not c.all_closed.result) ↔ FitsRows c.args.checked.now.geometry list b) (sym c.in-PreAll.is) (not_of_iff _ _ (c.all_closed.ensures list s))
+    let h = c.all_closed.ensures list s in
+    rw c.in-PreAll.is (λ e. iff_false h (not-true _ e), λ n. not_from_false _ (false_from_ne_true _ (λ e. n (h.0 e))))
 
 pub returns-in-Ref : goal.returns-in-Ref
-returns-in-Ref c list s =
-    subst (λ (b : Command). IsTrue c.all_closed-in-Ref.result ↔ FitsRows c.args.checked.now.geometry list b) (sym c.in-Ref.is) (c.all_closed-in-Ref.ensures list s)
-
-pub returns-in-Sre : goal.returns-in-Sre
-returns-in-Sre c list s =
-    subst (λ (b : Command). IsTrue c.all_closed-in-Sre.result ↔ FitsRows c.args.checked.now.geometry list b) (sym c.in-Sre.is) (c.all_closed-in-Sre.ensures list s)
+returns-in-Ref c list s = elim c.in-Ref.is [ inl e ↦ rw e (c.all_closed-in-Ref.ensures list s) | inr e ↦ rw e (c.all_closed-in-Ref.ensures list s) ]
