@@ -9,19 +9,14 @@ same_address a b rank group bank =
     ∙ ap (λ (n : ℕ). record { rank = b.rank; group = b.group; bank = n }) bank)
 
 pub has_slot : (g : Geometry) (at : BankAddress) → IsSmall g → HasBank g at → HasSlot at
-has_slot g at small h = record {
-  group = let m = small.groups in let l = h.group in omega arith;
-  bank = let m = small.banks in let l = h.bank in omega arith;
-}
+has_slot g at small h = record { group = omega arith; bank = omega arith }
 
 pub slot_small : (at : BankAddress) → HasSlot at → slot_of at < 16
-slot_small at h = let g = h.group in let b = h.bank in omega arith
+slot_small at h = omega arith
 
 -- banks of one rank are the same where their slots are
 pub same_slot : (a b : BankAddress) → HasSlot a → HasSlot b → a.rank ≡ b.rank → slot_of a ≡ slot_of b → a ≡ b
-same_slot a b x y rank slot =
-    let ag = x.group in let ab = x.bank in let bg = y.group in let bb = y.bank in
-    same_address a b rank (omega (arith, slot)) (omega (arith, slot))
+same_slot a b x y rank slot = same_address a b rank (omega arith) (omega arith)
 
 pub rank_within : (g : Geometry) (x : Command) → IsInGeometry g x → rank_of x < g.ranks
 rank_within g (Act at row) h = omega arith

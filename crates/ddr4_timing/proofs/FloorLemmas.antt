@@ -1,5 +1,6 @@
 -- What one more command does to the floors, the windows and the rows.
 use Rattle.std.proofs.Common.{◌≡◌, ℕ, ◌+◌, Bool, true, false, cond, eqb, List, [], ◌∷◌, ◌++◌, None, refl, ap, ◌∙◌, arith, add-zero, max, count_by, ◌||◌}
+use Rattle.std.proofs.lemmas.Bool.{ne_eqb}
 use Rattle.std.proofs.Math.Bool.{and-false, or-false}
 use Rattle.std.proofs.lemmas.List.Sums.{fold_push}
 use Rattle.std.proofs.lemmas.Bool.Decides.{nat_tests}
@@ -26,15 +27,9 @@ count_push p list x = fold_push (λ n x. n + cond (p x) 1 0) 0 list x
 eqb_next : (k n : ℕ) → eqb (k + 1) (n + 1) ≡ eqb k n
 eqb_next k n = grind (arith, nat_tests)
 
-eqb_zero : (k : ℕ) → eqb (k + 1) 0 ≡ false
-eqb_zero k = grind (arith, nat_tests)
-
-eqb_first : (n : ℕ) → eqb 0 (n + 1) ≡ false
-eqb_first n = grind (arith, nat_tests)
-
 pub window-yes : (t : Timing) (rank n : ℕ) (list : List Stamped) (x : Stamped) → is_act_of rank x.cmd ≡ true → window t rank (n + 1) (list ++ x ∷ []) ≡ window t rank n list
 unfolding window greatest
-window-yes t rank n [] x e = rw (e, eqb_first n) refl
+window-yes t rank n [] x e = rw (e, ne_eqb 0 (n + 1) (λ q. omega arith)) refl
 window-yes t rank n (a ∷ list) x e =
     let h = window-yes t rank n list x e in
     simp (count_push (λ y. is_act_of rank y.cmd) list x, e, eqb_next, h) refl
@@ -44,7 +39,7 @@ unfolding window greatest
 window-first t rank [] x e = rw e (omega arith)
 window-first t rank (a ∷ list) x e =
     let h = window-first t rank list x e in
-    simp (count_push (λ y. is_act_of rank y.cmd) list x, e, eqb_zero, and-false, h) (omega arith)
+    simp (count_push (λ y. is_act_of rank y.cmd) list x, e, ne_eqb (count_by (λ y. is_act_of rank y.cmd) list + 1) 0 (λ q. omega arith), and-false, h) (omega arith)
 
 pub window-no : (t : Timing) (rank n : ℕ) (list : List Stamped) (x : Stamped) → is_act_of rank x.cmd ≡ false → window t rank n (list ++ x ∷ []) ≡ window t rank n list
 unfolding window greatest

@@ -52,9 +52,6 @@ bank_stands t list k next write write' column column' x at old new b b' ga ga' g
 pub eqb_self : (n : ℕ) → eqb n n ≡ true
 eqb_self n = eq-eqb n n refl
 
-is_bank_same : (a b : BankAddress) → a ≡ b → is_bank a b ≡ true
-is_bank_same a b e = subst (λ (x : BankAddress). is_bank a x ≡ true) e (simp eqb_self refl)
-
 is_bank_other : (a b : BankAddress) → slot_of a ≢ slot_of b → is_bank a b ≡ false
 is_bank_other a b n = grind (arith, nat_tests)
 
@@ -70,7 +67,7 @@ banks_raised k x act column pre n banks y d size own slot to_act to_column to_pr
     let small = slot_small at there in
     elim (cases_eq n (slot_of at)) [
       | inl same ↦
-          let here = is_bank_same (bank_of x) at (same_slot (bank_of x) at own there (sym rank) (sym slot ∙ same)) in
+          let here : is_bank (bank_of x) at ≡ true = rw (same_slot (bank_of x) at own there (sym rank) (sym slot ∙ same)) (simp eqb_self refl) in
           let old : get_or banks n d ≡ get_or banks (slot_of at) none = ap (λ (i : ℕ). get_or banks i d) same ∙ get_or_default banks (slot_of at) d none (omega (arith, size, small)) in
           let new = get_or-set_at banks n (slot_of at) y none (sym same) (omega (arith, size, small, same)) in
           record { act = rw (here, new, ← old) to_act; column = rw (here, new, ← old) to_column; pre = rw (here, new, ← old) to_pre }

@@ -32,15 +32,10 @@ unfolding pair_gap
 most_gap_some t a b = pair_gap-le t Order a b
 
 -- the window's rule aside, what stands between two commands asks for nothing
-gap_to_pair : (t : Timing) (rule : Rule) (a : Command) (between : List Stamped) (b : Command) (d : ℕ) → gap t rule a between b ≤ d → pair_gap t rule a b ≤ d
+gap_within : (t : Timing) (rule : Rule) (a : Command) (between : List Stamped) (b : Command) (d : ℕ) → faw_gap t a between b ≤ d → (gap t rule a between b ≤ d) ↔ (pair_gap t rule a b ≤ d)
 unfolding gap pair_gap
-gap_to_pair t Faw a between b d h = omega arith
-gap_to_pair t rule a between b d h = h
-
-pair_to_gap : (t : Timing) (rule : Rule) (a : Command) (between : List Stamped) (b : Command) (d : ℕ) → pair_gap t rule a b ≤ d → faw_gap t a between b ≤ d → gap t rule a between b ≤ d
-unfolding gap
-pair_to_gap t Faw a between b d h w = w
-pair_to_gap t rule a between b d h w = h
+gap_within t Faw a between b d faw = (λ h. omega arith, λ h. faw)
+gap_within t rule a between b d faw = (λ h. h, λ h. h)
 
 -- the greatest demand
 
@@ -69,9 +64,9 @@ abbrev pub KeepsGaps : Timing → List Stamped → Stamped → Type 0
 KeepsGaps t list x = (rule : Rule) (i : ℕ) → KeepsGap t list x rule i
 
 floor_from : (t : Timing) (list : List Stamped) (x : Stamped) → KeepsGaps t list x → floor t list x.cmd ≤ x.clock
-unfolding floor
+unfolding floor gap
 floor_from t list x h = greatest_below (λ a _. a.clock + most_gap t a.cmd x.cmd) list x.clock (λ i a s.
-    let most = most_gap-le t a.cmd x.cmd (x.clock - a.clock) (λ rule. gap_to_pair t rule a.cmd (drop (i + 1) list) x.cmd (x.clock - a.clock) (h rule i a s)) in
+    let most = most_gap-le t a.cmd x.cmd (x.clock - a.clock) (λ rule. (gap_within t rule a.cmd (drop (i + 1) list) x.cmd (x.clock - a.clock) (h Faw i a s)).0 (h rule i a s)) in
     let some = most_gap_some t a.cmd x.cmd in
     omega (arith, most, some))
 
@@ -96,7 +91,7 @@ gaps_from t list x l h w rule i a s =
           rw acts ((demand_after _ a.clock t.t_faw x.clock l).0 (omega (arith, v, w acts)))
       | inr rests ↦ rw rests (omega arith)
     ] in
-    pair_to_gap t rule a.cmd (drop (i + 1) list) x.cmd (x.clock - a.clock) (omega (arith, h, g, p)) faw
+    (gap_within t rule a.cmd (drop (i + 1) list) x.cmd (x.clock - a.clock) faw).1 (omega (arith, h, g, p))
 
 -- the front of a list
 

@@ -39,12 +39,7 @@ impl Rows {
         requires { banks ≤ 16 }
         ensures { IsTrue result ↔ AreFirstClosed banks self.now }
     {
-        for i in 0..banks {
-            if self.is_open[i] {
-                return false;
-            }
-        }
-        true
+        !self.is_open[..banks].contains(&true)
     }
 
     /// Opens a row.

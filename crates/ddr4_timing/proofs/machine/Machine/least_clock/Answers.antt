@@ -16,26 +16,20 @@ returns c list s =
     let lies = λ (x : Command) (is : c.args.cmd.now ≡ x). subst (λ (y : Command). IsInGeometry c.args.checked.now.geometry y) is c.requires in
     rw c.max-2.ensures (elim c.match-cmd.branch [
       | in-Act w ↦
-          let is = w.in-Act.is in
-          let here = stands _ is in
-          let bank = here.banks w.in-Act.at none 0 (lies _ is).0 refl in
-          rw (is, floor-Act) (omega (arith, w.least-is, w.max-least.ensures, w.act_clock.ensures none 0, here.windows.fourth, bank.act))
+          let here = stands _ w.in-Act.is in
+          let bank = here.banks w.in-Act.at none 0 (lies _ w.in-Act.is).0 refl in
+          rw (w.in-Act.is, floor-Act) (omega (arith, w.least-is, w.max-least.ensures, w.act_clock.ensures none 0, here.windows.fourth, bank.act))
       | in-Rd w ↦
-          let is = w.in-Rd.is in
-          let bank = (stands _ is).banks w.in-Rd.at none 0 (lies _ is).0 refl in
-          rw (is, floor-Rd) (omega (arith, w.least-is, w.max-least-in-Rd.ensures, w.rd_clock.ensures none 0, bank.rd))
+          let bank = (stands _ w.in-Rd.is).banks w.in-Rd.at none 0 (lies _ w.in-Rd.is).0 refl in
+          rw (w.in-Rd.is, floor-Rd) (omega (arith, w.least-is, w.max-least-in-Rd.ensures, w.rd_clock.ensures none 0, bank.rd))
       | in-Wr w ↦
-          let is = w.in-Wr.is in
-          let bank = (stands _ is).banks w.in-Wr.at none 0 (lies _ is).0 refl in
-          rw (is, floor-Wr) (omega (arith, w.least-is, w.max-least-in-Wr.ensures, w.max.ensures, w.wr_clock.ensures none 0, bank.wr))
+          let bank = (stands _ w.in-Wr.is).banks w.in-Wr.at none 0 (lies _ w.in-Wr.is).0 refl in
+          rw (w.in-Wr.is, floor-Wr) (omega (arith, w.least-is, w.max-least-in-Wr.ensures, w.max.ensures, w.wr_clock.ensures none 0, bank.wr))
       | in-Pre w ↦
-          let is = w.in-Pre.is in
-          let bank = (stands _ is).banks w.in-Pre.at none 0 (lies _ is) refl in
+          let bank = (stands _ w.in-Pre.is).banks w.in-Pre.at none 0 (lies _ w.in-Pre.is) refl in
           let slot = ap (λ n. (slice_index_or rank.banks n none).pre) w.slot.ensures.value in
-          rw is (omega (arith, w.least-is, slot, bank.pre))
+          rw w.in-Pre.is (omega (arith, w.least-is, slot, bank.pre))
       | in-PreAll w ↦ let here = stands _ w.in-PreAll.is in rw w.in-PreAll.is (omega (arith, w.least-is, here.pre_all))
-      | in-Ref w ↦
-          let here = stands _ w.in-Ref.is in
-          rw w.in-Ref.is (omega (arith, w.least-is, w.max-least-in-Ref.ensures, here.refresh, here.refreshes.next))
+      | in-Ref w ↦ let here = stands _ w.in-Ref.is in rw w.in-Ref.is (omega (arith, w.least-is, w.max-least-in-Ref.ensures, here.refresh, here.refreshes.next))
       | in-Sre w ↦ let here = stands _ w.in-Sre.is in rw w.in-Sre.is (omega (arith, w.least-is, here.sleep))
     ])
