@@ -70,25 +70,24 @@ floor_from t list x h = greatest_below (λ a _. a.clock + most_gap t a.cmd x.cmd
     let some = most_gap_some t a.cmd x.cmd in
     omega (arith, most, some))
 
--- a demand of at least 1, under a test
-demand_after : (p : Bool) (k f d : ℕ) → 1 ≤ f → (cond p (k + f) 0 ≤ d) ↔ (cond p f 0 ≤ d - k)
-demand_after true k f d l = (λ h. omega arith, λ h. omega arith)
-demand_after false k f d l = (λ h. omega arith, λ h. omega arith)
+cond_within : (b : Bool) (v d : ℕ) → (cond b v 0 ≤ d) ↔ (b ≡ true → v ≤ d)
+cond_within true v d = (λ h _. h, λ h. h refl)
+cond_within false v d = (λ h e. absurd cc, λ h. omega arith)
 
 window_from : (t : Timing) (list : List Stamped) (x : Stamped) → 1 ≤ t.t_faw → KeepsGaps t list x → is_act x.cmd ≡ true → window t (rank_of x.cmd) 3 list ≤ x.clock
 unfolding window gap faw_gap
 window_from t list x l h e = greatest_below (λ a later. cond (is_act_of (rank_of x.cmd) a.cmd && eqb (count_by (λ x'. is_act_of (rank_of x.cmd) x'.cmd) later) 3) (a.clock + t.t_faw) 0) list x.clock
-    (λ i a s. (demand_after _ a.clock t.t_faw x.clock l).1 (rw e at (h Faw i a s)))
+    (λ i a s. (cond_within _ (a.clock + t.t_faw) x.clock).1 (λ p. let gap = (cond_within _ t.t_faw (x.clock - a.clock)).0 (rw e at (h Faw i a s)) p in omega (arith, gap)))
 
-gaps_from : (t : Timing) (list : List Stamped) (x : Stamped) → 1 ≤ t.t_faw → floor t list x.cmd ≤ x.clock → (is_act x.cmd ≡ true → window t (rank_of x.cmd) 3 list ≤ x.clock) → KeepsGaps t list x
+gaps_from : (t : Timing) (list : List Stamped) (x : Stamped) → floor t list x.cmd ≤ x.clock → (is_act x.cmd ≡ true → window t (rank_of x.cmd) 3 list ≤ x.clock) → KeepsGaps t list x
 unfolding floor window faw_gap
-gaps_from t list x l h w rule i a s =
+gaps_from t list x h w rule i a s =
     let g = greatest_above (λ a _. a.clock + most_gap t a.cmd x.cmd) list i a s in
     let p = pair_gap-le t rule a.cmd x.cmd in
     let faw : faw_gap t a.cmd (drop (i + 1) list) x.cmd ≤ x.clock - a.clock = elim (cases_Bool (is_act x.cmd)) [
       | inl acts ↦
           let v = greatest_above (λ a later. cond (is_act_of (rank_of x.cmd) a.cmd && eqb (count_by (λ x'. is_act_of (rank_of x.cmd) x'.cmd) later) 3) (a.clock + t.t_faw) 0) list i a s in
-          rw acts ((demand_after _ a.clock t.t_faw x.clock l).0 (omega (arith, v, w acts)))
+          rw acts ((cond_within _ t.t_faw (x.clock - a.clock)).1 (λ p. let after = (cond_within _ (a.clock + t.t_faw) x.clock).0 (omega (arith, v, w acts)) p in omega (arith, after)))
       | inr rests ↦ rw rests (omega arith)
     ] in
     (gap_within t rule a.cmd (drop (i + 1) list) x.cmd (x.clock - a.clock) faw).1 (omega (arith, h, g, p))
@@ -142,10 +141,6 @@ lawful_from c list x h a rule first second y s =
 
 -- the whole
 
-cond_within : (b : Bool) (v d : ℕ) → (cond b v 0 ≤ d) ↔ (b ≡ true → v ≤ d)
-cond_within true v d = (λ h _. h, λ h. h refl)
-cond_within false v d = (λ h e. absurd cc, λ h. omega arith)
-
 -- what a `Banks` can test
 pub record IsReady (c : Checked) (list : List Stamped) (x : Stamped) : Type 0 where
   pub rows : KeepsRows c.geometry list x.cmd
@@ -156,7 +151,7 @@ pub record IsReady (c : Checked) (list : List Stamped) (x : Stamped) : Type 0 wh
 pub lawful_ready : (c : Checked) (list : List Stamped) (x : Stamped) → IsLawful c list → IsReady c list x → IsLawful c (list ++ x ∷ [])
 unfolding least_clock
 lawful_ready c list x h r = lawful_from c list x h (λ rule first. record {
-  pair = gaps_from c.timing list x c.in_limits.t_faw.0 (omega (arith, r.clock)) ((cond_within (is_act x.cmd) (window c.timing (rank_of x.cmd) 3 list) x.clock).0 (omega (arith, r.clock))) rule first;
+  pair = gaps_from c.timing list x (omega (arith, r.clock)) ((cond_within (is_act x.cmd) (window c.timing (rank_of x.cmd) 3 list) x.clock).0 (omega (arith, r.clock))) rule first;
   rows = λ _ _. r.rows;
   refresh = λ _ _. record {
     in_time = omega (arith, r.in_time);

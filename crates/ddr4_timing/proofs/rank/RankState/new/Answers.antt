@@ -10,9 +10,7 @@ returns c rank = record {
   banks = λ at bank none h e.
       let slot = has_slot c.args.checked.now.geometry at c.args.checked.now.is_small h in
       let zeros : BankCells = record { act = 0; column = 0; pre = 0 } in
-      let in_bank : get_or (replicate 16 zeros) (slot_of at) bank ≡ zeros = get_or-replicate 16 (slot_of at) zeros bank (slot_small at slot) in
-      let in_group : get_or (replicate 4 0) at.group none ≡ 0 = get_or-replicate 4 at.group 0 none slot.group in
-      rw (in_bank, in_group) (record { row = c.new.ensures at; act = refl; rd = refl; wr = refl; pre = refl });
+      rw (get_or-replicate 16 (slot_of at) zeros bank (slot_small at slot), get_or-replicate 4 at.group 0 none slot.group) (record { row = c.new.ensures at; act = refl; rd = refl; wr = refl; pre = refl });
   pre_all = refl;
   refresh = refl;
   sleep = refl;
