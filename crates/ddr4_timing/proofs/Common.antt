@@ -19,10 +19,10 @@ pub use Rattle.ddr4_timing.specs.Demands.{Demand, TellsGaps, beyond_rank, demand
 unfoldable pub use Rattle.ddr4_timing.specs.Floors.{floor, greatest, least_clock, window}
 pub use Rattle.ddr4_timing.specs.Gaps.{largest}
 unfoldable pub use Rattle.ddr4_timing.specs.Gaps.{faw_gap, gap, most_gap, pair_gap}
-pub use Rattle.ddr4_timing.specs.Lawful.{FitsRows, IsInGeometry, IsLawful, IsLeastFault, KeepsGap, KeepsRefresh, KeepsRows, KeepsRule, MayComeNext, ObeysRule, row_after, with_command}
+pub use Rattle.ddr4_timing.specs.Lawful.{IsInGeometry, IsLawful, IsLeastFault, KeepsGap, KeepsRefresh, KeepsRows, KeepsRule, MayComeNext, ObeysRule, row_after, with_command}
 unfoldable pub use Rattle.ddr4_timing.specs.Lawful.{is_asleep, last_ref, open_row, ref_count}
 pub use Rattle.ddr4_timing.specs.Limits.{FitsFaw, IsSmall}
 pub use Rattle.ddr4_timing.specs.Machine.{BankRises, BankStands, BanksRise, ChannelTakes, ClockRises, GroupsRise, RankStands, RankTakes, RefreshStands, StandsFor, WindowStands}
-pub use Rattle.ddr4_timing.specs.Places.{HasBank, HasSlot, is_bank, is_group, slot_of}
+pub use Rattle.ddr4_timing.specs.Places.{HasBank, HasSlot, is_bank, slot_of}
 pub use Rattle.ddr4_timing.specs.Rows.{row_in}
 pub use Rattle.ddr4_timing.specs.Rules.{every_rule, rule_number}

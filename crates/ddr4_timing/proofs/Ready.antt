@@ -1,6 +1,6 @@
 -- When a list with one more command is lawful, by what a `Banks` keeps.
 use Rattle.std.proofs.Common.{◌≡◌, ℕ, zero, suc, ◌+◌, ◌-◌, ◌*◌, ◌<◌, ◌≤◌, Bool, true, false, cond, eqb, List, [], ◌∷◌, ◌++◌, length, take, drop, Some, refl, ap, sym, subst, ◌∙◌, inl, inr, arith, add-one, max, count_by, ◌&&◌, ◌↔◌, slice_get}
-use Rattle.std.proofs.lemmas.Bool.{cases_lt, cases_Bool}
+use Rattle.std.proofs.lemmas.Bool.{cases_lt, cases_order, cases_Bool}
 use Rattle.std.proofs.lemmas.List.{length_push, take-take}
 use Rattle.std.proofs.lemmas.Option.{slice_get_within, same_Some}
 use Rattle.std.proofs.lemmas.Grind.{common_steps}
@@ -180,10 +180,8 @@ refresh_lawful c list x h = (admits_from c list x h Refi (length list)).refresh 
 -- the first fault of a list stands where its lawful front ends
 pub fault_index : (c : Checked) (list : List Stamped) (i : ℕ) (f : Fault) → IsLawful c (take i list) → (IsLawful c (take (i + 1) list) → ⊥) → IsLeastFault c list f → f.second ≡ i
 fault_index c list i f l n r =
-    elim (cases_lt f.second i) [
-      | inl below ↦ absurd (r.broken (KeepsRule-front c list i l f.rule f.first f.second below))
-      | inr above ↦ elim (cases_lt i f.second) [
-        | inl over ↦ absurd (n (IsLawful-front c list (i + 1) (λ rule first second s. r.first rule first second (omega arith, λ e. absurd (omega arith)))))
-        | inr under ↦ omega arith
-      ]
+    elim (cases_order f.second i) [
+      | inl same ↦ same
+      | inr (inl below) ↦ absurd (r.broken (KeepsRule-front c list i l f.rule f.first f.second below))
+      | inr (inr over) ↦ absurd (n (IsLawful-front c list (i + 1) (λ rule first second s. r.first rule first second (omega arith, λ e. absurd (omega arith)))))
     ]

@@ -1,4 +1,4 @@
-use Rattle.std.proofs.Common.{◌≡◌, ◌<◌, get_or, arith, replicate}
+use Rattle.std.proofs.Common.{◌<◌, arith}
 use Rattle.std.proofs.lemmas.List.{get_or-replicate}
 use Rattle.ddr4_timing.proofs.machine.Machine.new.Goals as goal
 

@@ -1,4 +1,4 @@
-use Rattle.std.proofs.Common.{◌≡◌, get_or, refl, arith, replicate}
+use Rattle.std.proofs.Common.{refl, arith}
 use Rattle.std.proofs.lemmas.List.{get_or-replicate}
 use Rattle.ddr4_timing.proofs.Common.{BankCells, floor, greatest, is_asleep, last_ref, open_row, ref_count, slot_of, window}
 use Rattle.ddr4_timing.proofs.Addresses.{has_slot, slot_small}
