@@ -1,6 +1,5 @@
 -- What the checks of a profile say of the clocks between two refreshes.
 use Rattle.std.proofs.Common.{◌+◌, ◌-◌, ◌*◌, ◌≤◌, ◌<◌, arith, max}
-use Rattle.std.proofs.Math.Nat.{le-max_left}
 use Rattle.frfcfs.proofs.Common.{Checked, close_of, row_time}
 
 -- a row, its precharge and a turn or two of each rank are within an interval; so are a refresh and those
@@ -11,19 +10,12 @@ pub record Fits (c : Checked) : Type 0 where
   pub some : 1 ≤ row_time c.timing
 
 -- all of it follows where a close step is shorter than an interval
-pub close-lt : (c : Checked) → close_of c.timing c.geometry < c.timing.t_refi
-close-lt c =
-    let t = c.timing in
-    omega (arith, c.fits_entry, c.in_limits.t_rp.0)
-
 pub fits : (c : Checked) → Fits c
 fits c =
     let l = c.in_limits in
-    let t = c.timing in
-    let w = t.cwl + 4 + t.t_wr in
-    let h = close-lt c in record {
+    let h : close_of c.timing c.geometry < c.timing.t_refi = omega (arith, c.fits_entry, l.t_rp.0) in record {
       row = omega (arith, h, l.t_rp.0);
       refresh = omega (arith, h, l.t_rp.0);
       precharge = l.t_rp.0;
-      some = let a = l.t_ras.0 in let m = le-max_left t.t_ras (max t.t_rtp w) in omega (arith, a, m);
+      some = omega (arith, l.t_ras.0);
     }
