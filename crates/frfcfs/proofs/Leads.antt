@@ -1,5 +1,5 @@
 -- From which clock on a rank is in lead, and before which one its requests may have their commands.
-use Rattle.std.proofs.Common.{◌≡◌, ◌≢◌, ℕ, ◌+◌, ◌-◌, ◌*◌, ◌/◌, ◌<◌, ◌≤◌, ◌^◌, ◌↔◌, min, List, IsTrue, inl, inr, arith, refl, length, get_or, set, get_or-set_same, get_or-set_other, le-div_iff_mul-le}
+use Rattle.std.proofs.Common.{◌≡◌, ◌≢◌, ℕ, ◌+◌, ◌-◌, ◌*◌, ◌<◌, ◌≤◌, ◌^◌, ◌↔◌, min, List, IsTrue, inl, inr, arith, refl, length, get_or, set, get_or-set_same, get_or-set_other, le-div_iff_mul-le}
 use Rattle.std.proofs.lemmas.Bool.{cases_eq, cases_lt}
 use Rattle.frfcfs.proofs.Common.{Checked, IsEnd, IsInLead, IsLawful, Stamped, is_asleep, last_ref, lead_clock, ref_count}
 use Rattle.bank_core.proofs.Refreshes.{refreshes_keep_pace}
@@ -24,10 +24,7 @@ pub end_awake : (c : Checked) (list : List Stamped) (rank last lead limit end : 
 end_awake c list rank last lead limit end is awake small a e k =
     let i = lead_at c list rank k lead is in (
       λ h. (omega (arith, h, a, e), awake, λ p. let l = i.0 p in absurd (omega (arith, h, a, e, l))),
-      λ h. elim (cases_lt k lead) [
-        | inl l ↦ let until = h.0 in omega (arith, l, small, a, e, until)
-        | inr g ↦ absurd (h.2 (i.1 g))
-      ],
+      λ h. grind (arith, h, i.1, small, a, e),
     )
 
 pub end_asleep : (c : Checked) (list : List Stamped) (rank last : ℕ) → IsTrue (is_asleep rank list) → IsEnd c list rank last 0

@@ -1,5 +1,5 @@
 -- Lists of requests, read by their places.
-use Rattle.std.proofs.Common.{◌≡◌, ℕ, zero, suc, ◌<◌, ◌≤◌, List, [], ◌∷◌, Some, refl, inl, inr, arith, ap, ◌∙◌, sym, subst, get_or, length, All, slice_get}
+use Rattle.std.proofs.Common.{◌≡◌, ℕ, ◌<◌, ◌≤◌, List, [], ◌∷◌, Some, inl, inr, arith, ap, ◌∙◌, sym, subst, get_or, length, All, slice_get}
 use Rattle.std.proofs.lemmas.Bool.{cases_lt}
 use Rattle.std.proofs.lemmas.Option.{same_Some, slice_get_within, slice_get-get_or, get_or_from_slice_get}
 use Rattle.frfcfs.proofs.Common.{AreInOrder, Pending}

@@ -6,10 +6,6 @@ use Rattle.frfcfs.proofs.NextChoice.{next_lawful}
 use Rattle.frfcfs.proofs.QueueLemmas.{firsts_marks, lines}
 use Rattle.frfcfs.proofs.refreshes.NextKeeps.{next_keeps, none_exactly}
 
--- some rank is in lead
-abbrev pub Leads : Checked → List Stamped → ℕ → Type 0
-Leads c list clock = (rank : ℕ) × (rank < c.geometry.ranks) × IsInLead c.timing list clock rank
-
 -- some request is eligible, and the geometry has its bank
 abbrev pub Waits : Geometry → List Pending → Type 0
 Waits g pending = (i : ℕ) × (p : Pending) × IsEligible pending i p × HasBank g (bank_at p.place)
@@ -20,7 +16,7 @@ bank_of_place g pending i p places el = let l = All-at (λ q. LiesIn g q.place) 
 -- what is said of a queue's requests by a list of them
 
 pub work_of : (c : Checked) (list : List Stamped) (pending requests : List Pending) (clock : ℕ) (any work : Bool) → pending ≡ requests → All (λ q. LiesIn c.geometry q.place) requests → (IsTrue any ↔ Waits c.geometry pending) →
-    (IsTrue work ↔ (Leads c list clock ⊎ IsTrue any)) → (IsTrue work ↔ HasWork c list requests clock)
+    (IsTrue work ↔ (((rank : ℕ) × (rank < c.geometry.ranks) × IsInLead c.timing list clock rank) ⊎ IsTrue any)) → (IsTrue work ↔ HasWork c list requests clock)
 work_of c list pending requests clock any work same places a w =
     let waits = subst (λ (ps : List Pending). IsTrue any ↔ Waits c.geometry ps) same a in (
       λ t. elim (w.0 t) [ inl l ↦ inl l | inr e ↦ let f = waits.0 e in inr (f.0, f.1, f.2) ],

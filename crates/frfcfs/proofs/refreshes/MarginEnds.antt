@@ -1,8 +1,7 @@
 -- The margin before the first command, and what it leaves to a drain and to each rank's REF.
-use Rattle.std.proofs.Common.{ℕ, ◌+◌, ◌-◌, ◌*◌, ◌<◌, ◌≤◌, ◌⊎◌, List, [], IsTrue, inl, inr, arith}
+use Rattle.std.proofs.Common.{ℕ, ◌+◌, ◌*◌, ◌<◌, ◌⊎◌, List, [], IsTrue, inl, inr, arith}
 use Rattle.frfcfs.proofs.Common.{AllClosed, Checked, IsLawful, KeepsMargin, MayClose, MayRefresh, PreAll, Stamped, close_of, entry_of, floor, greatest, is_asleep, last_clock, last_ref, ref_count, with_command}
 use Rattle.ddr4_timing.proofs.FloorLemmas.{is_asleep_push, or_false}
-use Rattle.frfcfs.proofs.refreshes.IntervalFits.{fits}
 use Rattle.frfcfs.proofs.refreshes.OffersInTime.{IsUp, close_due, first_offer, ref_due, refresh-lt}
 use Rattle.frfcfs.proofs.refreshes.OwnRefreshes.{after_close}
 use Rattle.frfcfs.proofs.refreshes.RefreshCounts.{commands_before-lt, last_clock_push}
@@ -10,21 +9,19 @@ use Rattle.frfcfs.proofs.refreshes.RowsClosed.{closed_or, closed_after}
 
 pub new_keeps : (c : Checked) → KeepsMargin c []
 unfolding floor greatest ref_count last_ref last_clock
-new_keeps c rank within awake =
-    let f = fits c in record {
-      refreshed = omega arith;
-      past = omega arith;
-      next = omega (arith, f.precharge);
-      refresh = omega arith;
-      close = omega arith;
-      opened = λ _. omega (arith, f.some);
-    }
+new_keeps c rank within awake = record {
+  refreshed = omega arith;
+  past = omega arith;
+  next = omega (arith, c.in_limits.t_rp.0);
+  refresh = omega arith;
+  close = omega arith;
+  opened = λ _. omega (arith, c.in_limits.t_ras.0);
+}
 
 pub drain_has_time : (c : Checked) (list : List Stamped) (rank : ℕ) → KeepsMargin c list → rank < c.geometry.ranks → (¬ IsTrue (is_asleep rank list)) →
     last_clock list + 1 + close_of c.timing c.geometry + 2 * entry_of c.timing c.geometry + 4 * c.geometry.ranks < last_ref rank list + 9 * c.timing.t_refi
 drain_has_time k list rank m within awake =
     let h = m rank within awake in
-    let t = k.timing in
     omega (arith, h.next, commands_before-lt k list rank within, k.fits_entry, h.refreshed)
 
 -- the REF of a rank that is awake can still go before its deadline

@@ -3,7 +3,7 @@ use Rattle.std.proofs.Common.{◌≡◌, ◌≢◌, ℕ, ◌+◌, ◌-◌, ◌*�
 use Rattle.std.proofs.lemmas.Bool.{cases_Bool, cases_lt, cases_eq}
 use Rattle.std.proofs.Math.Nat.{lt_of_mul-lt-mul_right}
 use Rattle.std.proofs.Math.Seq.{take-append_seam}
-use Rattle.frfcfs.proofs.Common.{AllClosed, AreAsleep, Checked, Command, FitsRows, HasTime, IsCandidate, IsInLead, IsLawful, IsNext, IsNotAfter, KeepsMargin, KeepsRows, Kind, Next, OfColumn, OfRank, OfRow, OffersRank, Pending, Place, PreAll, Read, Ref, Stamped, Turn, Write, above, act_of, close_clock, column_of, commands_before, floor, is_asleep, is_ref, is_ref_of, is_sre_of, last_clock, lead_clock, pre_of, rank_of, ref_count, row_time, with_command}
+use Rattle.frfcfs.proofs.Common.{AreAsleep, Checked, Command, FitsRows, HasTime, IsCandidate, IsInLead, IsLawful, IsNext, IsNotAfter, KeepsMargin, KeepsRows, Kind, Next, OfColumn, OfRank, OfRow, OffersRank, Pending, Place, PreAll, Read, Stamped, Turn, Write, above, act_of, close_clock, column_of, commands_before, floor, is_asleep, is_ref_of, is_sre_of, last_clock, lead_clock, pre_of, rank_of, ref_count, row_time, with_command}
 use Rattle.ddr4_timing.proofs.Addresses.{rank_within}
 use Rattle.ddr4_timing.proofs.Bounds.{most_gap-PreAll_other, most_gap-Ref_other}
 use Rattle.ddr4_timing.proofs.FloorLemmas.{is_asleep_push}
@@ -12,7 +12,7 @@ use Rattle.frfcfs.proofs.Leads.{lead_at}
 use Rattle.frfcfs.proofs.NextChoice.{next_lawful}
 use Rattle.frfcfs.proofs.refreshes.OffersInTime.{IsDue, IsUp, close_due, due, first_offer, refresh-lt}
 use Rattle.frfcfs.proofs.refreshes.OwnRefreshes.{after_close, after_ref, calm_time, early}
-use Rattle.frfcfs.proofs.refreshes.RefreshCounts.{act_of_other, before_more, before_next, last_clock_push, lead_same, ref_of_calm, ref_of_other}
+use Rattle.frfcfs.proofs.refreshes.RefreshCounts.{act_of_other, before_more, before_next, last_clock_push, lead_same, ref_of_other}
 use Rattle.frfcfs.proofs.refreshes.RowsClosed.{closed_push}
 
 -- whose command a candidate is: the rank's own, or no REF of the rank, and while the rank is in lead one for another rank
@@ -23,15 +23,12 @@ IsOther c list k rank x = (is_ref_of rank x ≡ false) × (IsInLead c.timing lis
 rank_of_offer : (c : Checked) (list : List Stamped) (k rank : ℕ) (x : Command) → OffersRank c list k rank x → rank_of x ≡ rank
 rank_of_offer c list k rank x o = elim o.kind [ inl e ↦ ap (λ (y : Command). rank_of y) e | inr e ↦ ap (λ (y : Command). rank_of y) e ]
 
-column_calm : (kind : Kind) (p : Place) → (rank_of (column_of kind p) ≡ p.rank) × (is_ref (column_of kind p) ≡ false)
-column_calm Read p = (refl, refl)
-column_calm Write p = (refl, refl)
+column_calm : (kind : Kind) (p : Place) (rank : ℕ) → (rank_of (column_of kind p) ≡ p.rank) × (is_ref_of rank (column_of kind p) ≡ false)
+column_calm Read p rank = (refl, refl)
+column_calm Write p rank = (refl, refl)
 
-of_request : (c : Checked) (list : List Stamped) (k rank at : ℕ) (x y : Command) → x ≡ y → (rank_of y ≡ at) × (is_ref y ≡ false) → (¬ IsInLead c.timing list k at) → IsOther c list k rank x
-of_request c list k rank at x y e calm rests = (
-  ref_of_calm rank x (ap (λ (z : Command). is_ref z) e ∙ calm.1),
-  λ lead same. rests (subst (λ (r : ℕ). IsInLead c.timing list k r) (sym same ∙ ap (λ (z : Command). rank_of z) e ∙ calm.0) lead),
-)
+of_request : (c : Checked) (list : List Stamped) (k rank at : ℕ) (x y : Command) → x ≡ y → (rank_of y ≡ at) × (is_ref_of rank y ≡ false) → (¬ IsInLead c.timing list k at) → IsOther c list k rank x
+of_request c list k rank at x y e calm rests = rw e (calm.1, λ lead same. rests (subst (λ (r : ℕ). IsInLead c.timing list k r) (sym same ∙ calm.0) lead))
 
 source : (c : Checked) (list : List Stamped) (pending : List Pending) (k rank : ℕ) (turn : Turn) (x : Command) → IsCandidate c list pending k turn x → OffersRank c list k rank x ⊎ IsOther c list k rank x
 source c list pending k rank (OfRank first) x o =
@@ -39,7 +36,7 @@ source c list pending k rank (OfRank first) x o =
       | inl same ↦ inl (subst (λ (r : ℕ). OffersRank c list k r x) same o)
       | inr other ↦ let n : rank_of x ≢ rank = λ e. other (sym (rank_of_offer c list k first x o) ∙ e) in inr (ref_of_other rank x n, λ _. n)
     ]
-source c list pending k rank (OfColumn p) x o = inr (of_request c list k rank p.place.rank x (column_of p.kind p.place) o.3.1 (column_calm p.kind p.place) o.2.rests)
+source c list pending k rank (OfColumn p) x o = inr (of_request c list k rank p.place.rank x (column_of p.kind p.place) o.3.1 (column_calm p.kind p.place rank) o.2.rests)
 source c list pending k rank (OfRow p) x o =
     inr (elim o.3 [
       | inl e ↦ of_request c list k rank p.place.rank x (act_of p.place) e.1 (refl, refl) o.2.rests
@@ -51,10 +48,6 @@ first_rank c list pending k rank (OfRank first) x o l = (first, l.number refl, o
 first_rank c list pending k rank (OfColumn p) x o l = absurd (omega (arith, l.class))
 first_rank c list pending k rank (OfRow p) x o l = absurd (omega (arith, l.class))
 
--- a rank that is in lead had no more refreshes than one that is still due
-no_more : (m n t k : ℕ) → (n + 8) * t ≤ k → k < (m + 9) * t → n ≤ m
-no_more m n t k a b = let l : n + 8 < m + 9 = lt_of_mul-lt-mul_right t (omega (arith, a, b)) in omega (arith, l)
-
 module _ (c : Checked) (list : List Stamped) (pending : List Pending) (next : Next) (margin : KeepsMargin c list) (is : IsNext c list pending (last_clock list) (Some next)) where
   lawful : IsLawful c (with_command list next.clock next.cmd)
   lawful = next_lawful c list pending (last_clock list) (2 ^ 63 - 1) next is
@@ -63,12 +56,9 @@ module _ (c : Checked) (list : List Stamped) (pending : List Pending) (next : Ne
   rows = (ready_lawful c list (record { clock = next.clock; cmd = next.cmd }) lawful).rows
 
   up : (rank : ℕ) → rank < c.geometry.ranks → (¬ IsTrue (is_asleep rank list)) → IsUp c list rank
-  up rank within awake = record {
-    lawful = subst (λ (l : List Stamped). IsLawful c l) (take-append_seam list (record { clock = next.clock; cmd = next.cmd } ∷ [])) (IsLawful-take c (with_command list next.clock next.cmd) (length list) lawful);
-    within = within;
-    awake = awake;
-    time = margin rank within awake;
-  }
+  up rank within awake =
+      let front = subst (λ (l : List Stamped). IsLawful c l) (take-append_seam list (record { clock = next.clock; cmd = next.cmd } ∷ [])) (IsLawful-take c (with_command list next.clock next.cmd) (length list) lawful) in
+      record { lawful = front; within = within; awake = awake; time = margin rank within awake }
 
   up_from_offer : (rank : ℕ) → OffersRank c list next.clock rank next.cmd → IsUp c list rank
   up_from_offer rank o = up rank o.within (subst (λ (r : ℕ). ¬ IsTrue (is_asleep r list)) (rank_of_offer c list next.clock rank next.cmd o) rows.awake)
@@ -91,15 +81,12 @@ module _ (c : Checked) (list : List Stamped) (pending : List Pending) (next : Ne
         | inr e ↦ rw e (after_close c list next.clock rank u.time is.from (closes rank o e))
       ]
 
-  still_due : (rank : ℕ) → IsUp c list rank → next.clock < (ref_count rank list + 9) * c.timing.t_refi
-  still_due rank u = let d = due c list rank u in omega (arith, by_last rank d.0 d.1 d.2, d.2.refresh, refresh-lt c list rank u.within)
-
-  -- Two ranks that are in lead had as many refreshes.
-  same_count : (first rank : ℕ) → OffersRank c list next.clock first next.cmd → IsUp c list rank → lead_clock c.timing list rank ≤ next.clock → ref_count first list ≡ ref_count rank list
-  same_count first rank o u lead =
-      let t = c.timing.t_refi in
-      let first_lead = (lead_at c list first next.clock (lead_clock c.timing list first) refl).0 o.lead in
-      omega (arith, no_more (ref_count rank list) _ t _ first_lead (still_due rank u), no_more (ref_count first list) _ t _ lead (still_due first (up_from_offer first o)))
+  -- a rank that is in lead then had no more refreshes than any other, since none is past its own last clock
+  no_more : (first rank : ℕ) → lead_clock c.timing list first ≤ next.clock → IsUp c list rank → ref_count first list ≤ ref_count rank list
+  no_more first rank lead u =
+      let d = due c list rank u in
+      let l : ref_count first list + 8 < ref_count rank list + 9 = lt_of_mul-lt-mul_right c.timing.t_refi (omega (arith, lead, by_last rank d.0 d.1 d.2, d.2.refresh, refresh-lt c list rank u.within)) in
+      omega (arith, l)
 
   -- A command to another rank leaves one that is in lead a later clock: that rank's PREA comes in this one's time, and with its REF this one may take a clock more.
   later : (rank last : ℕ) (x : Command) → IsUp c list rank → IsDue c list rank last x → is_ref_of rank next.cmd ≡ false → rank_of next.cmd ≢ rank → lead_clock c.timing list rank ≤ next.clock →
@@ -112,7 +99,8 @@ module _ (c : Checked) (list : List Stamped) (pending : List Pending) (next : Ne
             let clock = by_last rank last x d in
             let (first, below, o) = first_rank c list pending next.clock rank is.turn next.cmd is.choice.candidate (is.choice.least (OfRank rank) x (d.offers next.clock g lead clock)) in
             let n : first ≢ rank = λ e. other (rank_of_offer c list next.clock first next.cmd o ∙ e) in
-            let same = same_count first rank o u lead in
+            let first_lead = (lead_at c list first next.clock (lead_clock c.timing list first) refl).0 o.lead in
+            let same : ref_count first list ≡ ref_count rank list = omega (arith, no_more first rank first_lead u, no_more rank first lead (up_from_offer first o)) in
             elim o.kind [
               | inl e ↦ let m = before_next c rank first next.clock list n o.within same in rw e (omega (arith, clock, m))
               | inr e ↦

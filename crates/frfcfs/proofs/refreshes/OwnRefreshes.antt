@@ -39,7 +39,7 @@ early c list k rank x h from e l =
 pub after_close : (c : Checked) (list : List Stamped) (k rank : ℕ) → HasTime c list (last_clock list) rank → last_clock list ≤ k → k ≤ close_clock c list rank → HasTime c (with_command list k (PreAll rank)) k rank
 after_close c list k rank h from clock =
     calm_time c list k rank (PreAll rank) h from refl
-    (omega (arith, clock, lead_same c.timing rank k list (PreAll rank) refl, before_more c rank k list (PreAll rank) refl, calm_gap c.timing rank (PreAll rank) refl, (fits c).precharge))
+    (omega (arith, clock, lead_same c.timing rank k list (PreAll rank) refl, before_more c rank k list (PreAll rank) refl, calm_gap c.timing rank (PreAll rank) refl, c.in_limits.t_rp.0))
     (omega (arith, most_gap-close c.timing rank rank)) (λ some. absurd (some (closed_after c.geometry rank k list)))
 
 pub after_ref : (c : Checked) (list : List Stamped) (k rank : ℕ) → IsUp c list rank → IsLawful c (with_command list k (Ref rank)) → last_clock list ≤ k → k ≤ refresh_clock c list rank → HasTime c (with_command list k (Ref rank)) k rank
@@ -52,7 +52,7 @@ after_ref c list k rank u lawful from clock =
       refreshed = rw (count_next rank k list, last_next rank k list) ((refresh_lawful c list x lawful).not_early refl);
       past = omega (arith, last_next rank k list);
       next = omega (arith, clock, small, lead);
-      refresh = omega (arith, floor_push c.timing list x (Ref rank), u.time.refresh, clock, most_gap-Ref c.timing (Ref rank) rank c.fits_faw, f.refresh, f.row, commands_before-lt c list rank u.within, f.some, lead);
+      refresh = omega (arith, floor_push c.timing list x (Ref rank), u.time.refresh, clock, most_gap-Ref c.timing (Ref rank) rank c.fits_faw, f.refresh, f.row, commands_before-lt c list rank u.within, c.in_limits.t_ras.0, lead);
       close = omega (arith, floor_push c.timing list x (PreAll rank), u.time.close, from, most_gap-PreAll c.timing (Ref rank) rank c.fits_faw, clock, small, lead);
       opened = λ some. absurd (some (closed_push c.geometry rank list x refl (ready_lawful c list x lawful).rows.rows));
     }

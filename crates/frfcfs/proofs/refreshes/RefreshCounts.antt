@@ -1,8 +1,8 @@
 -- What one more command does to the counts of refreshes and to the clocks by which a rank is due.
-use Rattle.std.proofs.Common.{◌≡◌, ◌≢◌, ℕ, zero, suc, ◌+◌, ◌*◌, ◌≤◌, ◌<◌, Bool, true, false, cond, List, [], ◌∷◌, ◌++◌, inl, inr, arith, ap, ◌∙◌, refl, add-zero, ne_eqb}
+use Rattle.std.proofs.Common.{◌≡◌, ◌≢◌, ℕ, zero, suc, ◌+◌, ◌*◌, ◌≤◌, ◌<◌, Bool, false, cond, List, [], ◌∷◌, ◌++◌, inl, inr, arith, ap, ◌∙◌, refl, add-zero, ne_eqb}
 use Rattle.std.proofs.lemmas.List.Sums.{fold_push}
 use Rattle.std.proofs.lemmas.Bool.{cases_lt, eq-eqb}
-use Rattle.frfcfs.proofs.Common.{Act, Checked, Command, Ref, Stamped, Timing, above, commands_before, is_act_of, is_ref, is_ref_of, last_clock, last_ref, lead_clock, rank_of, ref_count, with_command}
+use Rattle.frfcfs.proofs.Common.{Act, Checked, Command, Ref, Stamped, Timing, above, commands_before, is_act_of, is_ref_of, last_clock, last_ref, lead_clock, rank_of, ref_count, with_command}
 use Rattle.ddr4_timing.proofs.FloorLemmas.{last_ref_push, ref_count_push}
 
 -- how many ranks had more refreshes, as they go on
@@ -41,10 +41,6 @@ ref_of_other rank x n = refl
 pub act_of_other : (rank : ℕ) (x : Command) → rank_of x ≢ rank → is_act_of rank x ≡ false
 act_of_other rank (Act at w) n = ne_eqb at.rank rank n
 act_of_other rank x n = refl
-
-pub ref_of_calm : (rank : ℕ) (x : Command) → is_ref x ≡ false → is_ref_of rank x ≡ false
-ref_of_calm rank (Ref r) e = absurd cc
-ref_of_calm rank x e = refl
 
 pub count_same : (rank k : ℕ) (list : List Stamped) (x : Command) → is_ref_of rank x ≡ false → ref_count rank (with_command list k x) ≡ ref_count rank list
 count_same rank k list x e = ref_count_push rank list (record { clock = k; cmd = x }) ∙ ap (λ (b : Bool). ref_count rank list + cond b 1 0) e ∙ add-zero (ref_count rank list)

@@ -1,18 +1,12 @@
 -- Which banks of a rank are open after a command.
-use Rattle.std.proofs.Common.{◌≡◌, ℕ, zero, suc, ◌<◌, ◌⊎◌, ◌∙◌, Bool, true, false, cond, List, [], ◌∷◌, ◌++◌, Option, Some, None, inl, inr, arith, ap, refl, below_more}
+use Rattle.std.proofs.Common.{◌≡◌, ℕ, zero, suc, ◌<◌, ◌⊎◌, ◌∙◌, Bool, false, cond, List, [], ◌∷◌, ◌++◌, Option, Some, None, inl, inr, arith, ap, refl, below_more}
 use Rattle.std.proofs.lemmas.Bool.{eq-eqb}
-use Rattle.frfcfs.proofs.Common.{Act, AllClosed, BankAddress, Command, Geometry, Pre, PreAll, Stamped, is_act_of, open_row, row_after}
+use Rattle.frfcfs.proofs.Common.{Act, AllClosed, BankAddress, Command, Geometry, PreAll, Stamped, is_act_of, open_row, row_after}
 use Rattle.ddr4_timing.proofs.FloorLemmas.{open_row_push}
-
-none_both : (b : Bool) → cond {A = Option ℕ} b None None ≡ None
-none_both true = refl
-none_both false = refl
 
 stays_closed : (bank : BankAddress) (x : Command) → is_act_of bank.rank x ≡ false → row_after bank None x ≡ None
 stays_closed bank (Act at w) e = rw e refl
-stays_closed bank (Pre at) e = none_both _
-stays_closed bank (PreAll r) e = none_both _
-stays_closed bank x e = refl
+stays_closed bank x e = grind arith
 
 pub closed_push : (g : Geometry) (rank : ℕ) (list : List Stamped) (x : Stamped) → is_act_of rank x.cmd ≡ false → AllClosed g rank list → AllClosed g rank (list ++ x ∷ [])
 closed_push g rank list x e h group bank l m =
