@@ -14,10 +14,8 @@ lead_at c list rank k lead e =
 -- before it is in lead its deadline isn't past
 pub rest_in_time : (c : Checked) (list : List Stamped) (rank k : ℕ) → IsLawful c list → (¬ IsInLead c.timing list k rank) → k ≤ last_ref rank list + 9 * c.timing.t_refi
 rest_in_time c list rank k lawful rests =
-    elim (cases_lt k (lead_clock c.timing list rank)) [
-      | inl l ↦ omega (arith, l, refreshes_keep_pace c rank list lawful)
-      | inr g ↦ absurd (rests ((lead_at c list rank k (lead_clock c.timing list rank) refl).1 g))
-    ]
+    let i = lead_at c list rank k (lead_clock c.timing list rank) refl in
+    grind (arith, i.1, rests, refreshes_keep_pace c rank list lawful)
 
 -- the end of a rank's span
 pub end_awake : (c : Checked) (list : List Stamped) (rank last lead limit end : ℕ) → lead ≡ (ref_count rank list + 8) * c.timing.t_refi → (¬ IsTrue (is_asleep rank list)) → lead < 2 ^ 64 → limit ≡ min (last + 1) (2 ^ 64 - 1) → end ≡ min lead limit → IsEnd c list rank last end

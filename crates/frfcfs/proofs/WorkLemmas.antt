@@ -10,9 +10,6 @@ use Rattle.frfcfs.proofs.refreshes.NextKeeps.{next_keeps, none_exactly}
 abbrev pub Waits : Geometry → List Pending → Type 0
 Waits g pending = (i : ℕ) × (p : Pending) × IsEligible pending i p × HasBank g (bank_at p.place)
 
-bank_of_place : (g : Geometry) (pending : List Pending) (i : ℕ) (p : Pending) → All (λ q. LiesIn g q.place) pending → IsEligible pending i p → HasBank g (bank_at p.place)
-bank_of_place g pending i p places el = let l = All-at (λ q. LiesIn g q.place) pending i p places el.here in record { rank = l.rank; group = l.group; bank = l.bank }
-
 -- what is said of a queue's requests by a list of them
 
 pub work_of : (c : Checked) (list : List Stamped) (pending requests : List Pending) (clock : ℕ) (any work : Bool) → pending ≡ requests → All (λ q. LiesIn c.geometry q.place) requests → (IsTrue any ↔ Waits c.geometry pending) →
@@ -20,7 +17,10 @@ pub work_of : (c : Checked) (list : List Stamped) (pending requests : List Pendi
 work_of c list pending requests clock any work same places a w =
     let waits = subst (λ (ps : List Pending). IsTrue any ↔ Waits c.geometry ps) same a in (
       λ t. elim (w.0 t) [ inl l ↦ inl l | inr e ↦ let f = waits.0 e in inr (f.0, f.1, f.2) ],
-      λ h. elim h [ inl l ↦ w.1 (inl l) | inr e ↦ w.1 (inr (waits.1 (e.0, e.1, e.2, bank_of_place c.geometry requests e.0 e.1 places e.2))) ],
+      λ h. elim h [
+        | inl l ↦ w.1 (inl l)
+        | inr e ↦ let l = All-at (λ q. LiesIn c.geometry q.place) requests e.0 e.1 places e.2.here in w.1 (inr (waits.1 (e.0, e.1, e.2, record { rank = l.rank; group = l.group; bank = l.bank })))
+      ],
     )
 
 pub marks_of : (g : Geometry) (pending requests : List Pending) (firsts : List Bool) → pending ≡ requests → AreInOrder pending → All (λ q. LiesIn g q.place) requests → AreFirsts (lines requests) firsts → AreMarks g pending firsts

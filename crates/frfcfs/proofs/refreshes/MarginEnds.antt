@@ -39,7 +39,7 @@ may_close c list rank u some =
       lawful = f.3.lawful;
       within = u.within;
       awake = rw (is_asleep_push rank list x, or_false (is_asleep rank list)) u.awake;
-      time = rw (last_clock_push list x) (after_close c list f.0 rank u.time f.1 f.2);
+      time = rw (last_clock_push list x) (after_close c list f.0 rank u f.1 f.2);
     } in
     (f.0, f.1, f.3.lawful, may_refresh c (with_command list f.0 (PreAll rank)) rank up (closed_after c.geometry rank f.0 list))
 

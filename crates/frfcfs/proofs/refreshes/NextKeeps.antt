@@ -48,6 +48,7 @@ first_rank c list pending k rank (OfRank first) x o l = (first, l.number refl, o
 first_rank c list pending k rank (OfColumn p) x o l = absurd (omega (arith, l.class))
 first_rank c list pending k rank (OfRow p) x o l = absurd (omega (arith, l.class))
 
+-- the next command behind a list that keeps the margin
 module _ (c : Checked) (list : List Stamped) (pending : List Pending) (next : Next) (margin : KeepsMargin c list) (is : IsNext c list pending (last_clock list) (Some next)) where
   lawful : IsLawful c (with_command list next.clock next.cmd)
   lawful = next_lawful c list pending (last_clock list) (2 ^ 63 - 1) next is
@@ -78,7 +79,7 @@ module _ (c : Checked) (list : List Stamped) (pending : List Pending) (next : Ne
       let d = due c list rank u in
       elim o.kind [
         | inl e ↦ rw e (after_ref c list next.clock rank u (subst (λ (x : Command). IsLawful c (with_command list next.clock x)) e lawful) is.from (omega (arith, by_last rank d.0 d.1 d.2, d.2.refresh)))
-        | inr e ↦ rw e (after_close c list next.clock rank u.time is.from (closes rank o e))
+        | inr e ↦ rw e (after_close c list next.clock rank u is.from (closes rank o e))
       ]
 
   -- a rank that is in lead then had no more refreshes than any other, since none is past its own last clock
@@ -113,7 +114,7 @@ module _ (c : Checked) (list : List Stamped) (pending : List Pending) (next : Ne
   late rank u calm other lead =
       let same = lead_same c.timing rank next.clock list next.cmd calm in
       let d = due c list rank u in
-      calm_time c list next.clock rank next.cmd u.time is.from calm (omega (arith, later rank d.0 d.1 u d.2 calm other lead, d.2.refresh, same, most_gap-Ref_other c.timing next.cmd rank other))
+      calm_time c list next.clock rank next.cmd u is.from calm (omega (arith, later rank d.0 d.1 u d.2 calm other lead, d.2.refresh, same, most_gap-Ref_other c.timing next.cmd rank other))
       (omega (arith, most_gap-PreAll_other c.timing next.cmd rank other)) (λ some.
       let s = close_due c list rank u (λ closed. some (closed_push c.geometry rank list (record { clock = next.clock; cmd = next.cmd }) (act_of_other rank next.cmd other) closed)) in
       omega (arith, later rank _ _ u s calm other lead, same))
@@ -125,7 +126,7 @@ module _ (c : Checked) (list : List Stamped) (pending : List Pending) (next : Ne
       rw (last_clock_push list x) (elim (source c list pending next.clock rank is.turn next.cmd is.choice.candidate) [
         | inl o ↦ own rank o
         | inr s ↦ elim (cases_lt next.clock (lead_clock c.timing list rank)) [
-          | inl l ↦ early c list next.clock rank next.cmd u.time is.from s.0 l
+          | inl l ↦ early c list next.clock rank next.cmd u is.from s.0 l
           | inr g ↦ late rank u s.0 (s.1 ((lead_at c list rank next.clock (lead_clock c.timing list rank) refl).1 g)) g
         ]
       ])

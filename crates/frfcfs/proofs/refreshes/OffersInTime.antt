@@ -30,7 +30,7 @@ offers : (c : Checked) (list : List Stamped) (rank k : ℕ) (x : Command) → Is
     lead_clock c.timing list rank ≤ k → OffersRank c list k rank x
 offers c list rank k x u kind rows least until lead = record {
   within = u.within;
-  lead = (lead_at c list rank k (lead_clock c.timing list rank) refl).1 lead;
+  lead = (lead_at c list rank k _ refl).1 lead;
   kind = kind;
   lawful = lawful_ready c list (record { clock = k; cmd = x }) u.lawful (record { rows = rows; clock = least; in_time = until });
 }

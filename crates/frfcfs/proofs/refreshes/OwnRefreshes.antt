@@ -11,15 +11,15 @@ use Rattle.frfcfs.proofs.refreshes.RefreshCounts.{before_more, commands_before-l
 use Rattle.frfcfs.proofs.refreshes.RowsClosed.{closed_after, closed_push}
 
 -- any command but its REF
-pub calm_time : (c : Checked) (list : List Stamped) (k rank : ℕ) (x : Command) → HasTime c list (last_clock list) rank → last_clock list ≤ k → is_ref_of rank x ≡ false → k + max 1 (most_gap c.timing x (Ref rank)) ≤ refresh_clock c (with_command list k x) rank →
+pub calm_time : (c : Checked) (list : List Stamped) (k rank : ℕ) (x : Command) → IsUp c list rank → last_clock list ≤ k → is_ref_of rank x ≡ false → k + max 1 (most_gap c.timing x (Ref rank)) ≤ refresh_clock c (with_command list k x) rank →
     k + most_gap c.timing x (PreAll rank) ≤ max (k + 1) (lead_clock c.timing list rank + row_time c.timing) → ((¬ AllClosed c.geometry rank (with_command list k x)) → k + 1 ≤ close_clock c (with_command list k x) rank) → HasTime c (with_command list k x) k rank
-calm_time c list k rank x t from e refresh close opened =
+calm_time c list k rank x u from e refresh close opened =
     let lead = lead_same c.timing rank k list x e in record {
-      refreshed = rw (count_same rank k list x e, last_same rank k list x e) t.refreshed;
-      past = omega (arith, last_same rank k list x e, t.past, from);
+      refreshed = rw (count_same rank k list x e, last_same rank k list x e) u.time.refreshed;
+      past = omega (arith, last_same rank k list x e, u.time.past, from);
       next = omega (arith, refresh);
-      refresh = omega (arith, floor_push c.timing list (record { clock = k; cmd = x }) (Ref rank), t.refresh, before_more c rank k list x e, lead, refresh);
-      close = omega (arith, floor_push c.timing list (record { clock = k; cmd = x }) (PreAll rank), t.close, from, close, lead);
+      refresh = omega (arith, floor_push c.timing list (record { clock = k; cmd = x }) (Ref rank), u.time.refresh, before_more c rank k list x e, lead, refresh);
+      close = omega (arith, floor_push c.timing list (record { clock = k; cmd = x }) (PreAll rank), u.time.close, from, close, lead);
       opened = opened;
     }
 
@@ -29,16 +29,16 @@ calm_gap t rank (Ref r) e = omega (arith, most_gap-Ref_other t (Ref r) rank (eqb
 calm_gap t rank x e = most_gap-Ref_calm t x rank refl
 
 -- before the rank comes into lead
-pub early : (c : Checked) (list : List Stamped) (k rank : ℕ) (x : Command) → HasTime c list (last_clock list) rank → last_clock list ≤ k → is_ref_of rank x ≡ false → k < lead_clock c.timing list rank → HasTime c (with_command list k x) k rank
-early c list k rank x h from e l =
+pub early : (c : Checked) (list : List Stamped) (k rank : ℕ) (x : Command) → IsUp c list rank → last_clock list ≤ k → is_ref_of rank x ≡ false → k < lead_clock c.timing list rank → HasTime c (with_command list k x) k rank
+early c list k rank x u from e l =
     let lead = lead_same c.timing rank k list x e in
-    calm_time c list k rank x h from e (omega (arith, l, lead, calm_gap c.timing rank x e)) (omega (arith, l, most_gap-PreAll c.timing x rank c.fits_faw)) (λ _. omega (arith, l, lead))
+    calm_time c list k rank x u from e (omega (arith, l, lead, calm_gap c.timing rank x e)) (omega (arith, l, most_gap-PreAll c.timing x rank c.fits_faw)) (λ _. omega (arith, l, lead))
 
 -- its own PREA and REF
 
-pub after_close : (c : Checked) (list : List Stamped) (k rank : ℕ) → HasTime c list (last_clock list) rank → last_clock list ≤ k → k ≤ close_clock c list rank → HasTime c (with_command list k (PreAll rank)) k rank
-after_close c list k rank h from clock =
-    calm_time c list k rank (PreAll rank) h from refl
+pub after_close : (c : Checked) (list : List Stamped) (k rank : ℕ) → IsUp c list rank → last_clock list ≤ k → k ≤ close_clock c list rank → HasTime c (with_command list k (PreAll rank)) k rank
+after_close c list k rank u from clock =
+    calm_time c list k rank (PreAll rank) u from refl
     (omega (arith, clock, lead_same c.timing rank k list (PreAll rank) refl, before_more c rank k list (PreAll rank) refl, calm_gap c.timing rank (PreAll rank) refl, c.in_limits.t_rp.0))
     (omega (arith, most_gap-close c.timing rank rank)) (λ some. absurd (some (closed_after c.geometry rank k list)))
 
