@@ -1,5 +1,5 @@
 -- Requests that are numbered anew.
-use Rattle.std.proofs.Common.{◌≡◌, ℕ, zero, suc, ◌+◌, ◌<◌, List, [], ◌∷◌, ◌++◌, refl, sym, ap, ◌∙◌, arith, take, drop, length, get_or, set}
+use Rattle.std.proofs.Common.{◌≡◌, ℕ, zero, suc, ◌+◌, ◌<◌, List, [], ◌∷◌, ◌++◌, refl, ap, add-one, arith, take, drop, length, get_or, set}
 use Rattle.frfcfs.proofs.Common.{IsWaiting, Pending, Waiting, numbered_from}
 use Rattle.frfcfs.proofs.QueueLemmas.{lines}
 
@@ -15,17 +15,14 @@ lines_numbered n (x ∷ xs) = ap (λ rest. x.line ∷ rest) (lines_numbered (n +
 seq_at : (n : ℕ) (xs : List Pending) (i : ℕ) (d : Pending) → i < length xs → (get_or (numbered_from n xs) i d).seq ≡ n + i
 seq_at n [] i d within = absurd (omega (arith, within))
 seq_at n (x ∷ xs) zero d within = omega arith
-seq_at n (x ∷ xs) (suc i) d within = let e = seq_at (n + 1) xs i d (omega (arith, within)) in omega (arith, e)
+seq_at n (x ∷ xs) (suc i) d within = omega (arith, seq_at (n + 1) xs i d (omega (arith, within)))
 
 pub waiting_numbered : (w : Waiting) → IsWaiting w → IsWaiting (record { most = w.most; next = length w.requests; requests = numbered_from 0 w.requests })
 waiting_numbered w is =
     let size = length-numbered 0 w.requests in
     record {
-      order = λ i j d less within.
-          let a = seq_at 0 w.requests i d (omega (arith, less, within, size)) in
-          let b = seq_at 0 w.requests j d (omega (arith, within, size)) in
-          omega (arith, a, b, less);
-      before = λ i d within. let a = seq_at 0 w.requests i d (omega (arith, within, size)) in omega (arith, a, within, size);
+      order = λ i j d less within. omega (arith, seq_at 0 w.requests i d (omega (arith, less, within, size)), seq_at 0 w.requests j d (omega (arith, within, size)), less);
+      before = λ i d within. omega (arith, seq_at 0 w.requests i d (omega (arith, within, size)), within, size);
       few = omega (arith, size, is.few);
     }
 
@@ -38,6 +35,4 @@ next_numbered n (x ∷ xs) (suc i) seq d within is = ap (λ (rest : List Pending
 -- a loop that numbers each request
 pub number_more : (xs ys : List Pending) (i : ℕ) (d : Pending) → i < length xs → ys ≡ numbered_from 0 (take i xs) ++ drop i xs
     → set ys i (record (get_or ys i d) { seq = i }) ≡ numbered_from 0 (take (i + 1) xs) ++ drop (i + 1) xs
-number_more xs ys i d within is =
-    let n : i + 1 ≡ suc i = omega arith in
-    ap (λ (zs : List Pending). set zs i (record (get_or zs i d) { seq = i })) is ∙ next_numbered 0 xs i i d within (omega arith) ∙ ap (λ (k : ℕ). numbered_from 0 (take k xs) ++ drop k xs) (sym n)
+number_more xs ys i d within is = rw (is, add-one) (next_numbered 0 xs i i d within (omega arith))

@@ -1,56 +1,44 @@
 -- From which clock on a rank is in lead, and before which one its requests may have their commands.
-use Rattle.std.proofs.Common.{◌≡◌, ℕ, ◌+◌, ◌-◌, ◌*◌, ◌/◌, ◌<◌, ◌≤◌, ◌^◌, ◌↔◌, min, List, IsTrue, inl, inr, arith, refl, length, get_or, set, get_or-set_same, get_or-set_other, le-div_iff_mul-le}
+use Rattle.std.proofs.Common.{◌≡◌, ◌≢◌, ℕ, ◌+◌, ◌-◌, ◌*◌, ◌<◌, ◌≤◌, ◌^◌, ◌↔◌, min, List, IsTrue, inl, inr, arith, refl, length, get_or, set, get_or-set_same, get_or-set_other, le-div_iff_mul-le}
 use Rattle.std.proofs.lemmas.Bool.{cases_eq, cases_lt}
-use Rattle.frfcfs.proofs.Common.{Checked, IsEnd, IsInLead, IsLawful, Stamped, is_asleep, last_ref, ref_count}
+use Rattle.frfcfs.proofs.Common.{Checked, IsEnd, IsInLead, IsLawful, Stamped, is_asleep, last_ref, lead_clock, ref_count}
 use Rattle.bank_core.proofs.Refreshes.{refreshes_keep_pace}
 
--- eight are owed from a clock on
-lead_iff : (t n clock : ℕ) → 1 ≤ t → ((8 ≤ clock / t - n) ↔ ((n + 8) * t ≤ clock))
-lead_iff t n clock h =
-    let i = le-div_iff_mul-le {k = t} {x = n + 8} {y = clock} (omega arith) in (
-      λ a. let b : n + 8 ≤ clock / t = omega arith in i.0 b,
-      λ a. let d = i.1 a in omega (arith, d),
-    )
-
 pub lead_at : (c : Checked) (list : List Stamped) (rank k lead : ℕ) → lead ≡ (ref_count rank list + 8) * c.timing.t_refi → (IsInLead c.timing list k rank ↔ (lead ≤ k))
-lead_at c list rank k lead e = let i = lead_iff c.timing.t_refi (ref_count rank list) k c.in_limits.t_refi.0 in (λ h. let l = i.0 h in omega (arith, l, e), λ h. i.1 (omega (arith, h, e)))
+lead_at c list rank k lead e =
+    let i = le-div_iff_mul-le {k = c.timing.t_refi} {x = ref_count rank list + 8} {y = k} c.in_limits.t_refi.0 in (
+      λ h. let l = i.0 (omega (arith, h)) in omega (arith, e, l),
+      λ h. let l = i.1 (omega (arith, e, h)) in omega (arith, l),
+    )
 
 -- before it is in lead its deadline isn't past
 pub rest_in_time : (c : Checked) (list : List Stamped) (rank k : ℕ) → IsLawful c list → (¬ IsInLead c.timing list k rank) → k ≤ last_ref rank list + 9 * c.timing.t_refi
 rest_in_time c list rank k lawful rests =
-    elim (cases_lt k ((ref_count rank list + 8) * c.timing.t_refi)) [
-      | inl l ↦ sooner (ref_count rank list) c.timing.t_refi k (last_ref rank list) l (refreshes_keep_pace c rank list lawful)
-      | inr g ↦ absurd (rests ((lead_at c list rank k ((ref_count rank list + 8) * c.timing.t_refi) refl).1 g))
-    ]
-  where
-    sooner : (n t k last : ℕ) → k < (n + 8) * t → n * t ≤ last → k ≤ last + 9 * t
-    sooner n t k last h l = omega (arith, h, l)
+    let i = lead_at c list rank k (lead_clock c.timing list rank) refl in
+    grind (arith, i.1, rests, refreshes_keep_pace c rank list lawful)
 
 -- the end of a rank's span
 pub end_awake : (c : Checked) (list : List Stamped) (rank last lead limit end : ℕ) → lead ≡ (ref_count rank list + 8) * c.timing.t_refi → (¬ IsTrue (is_asleep rank list)) → lead < 2 ^ 64 → limit ≡ min (last + 1) (2 ^ 64 - 1) → end ≡ min lead limit → IsEnd c list rank last end
 end_awake c list rank last lead limit end is awake small a e k =
     let i = lead_at c list rank k lead is in (
       λ h. (omega (arith, h, a, e), awake, λ p. let l = i.0 p in absurd (omega (arith, h, a, e, l))),
-      λ h. elim (cases_lt k lead) [
-        | inl l ↦ let until = h.0 in omega (arith, l, small, a, e, until)
-        | inr g ↦ absurd (h.2 (i.1 g))
-      ],
+      λ h. grind (arith, h, i.1, small, a, e),
     )
 
 pub end_asleep : (c : Checked) (list : List Stamped) (rank last : ℕ) → IsTrue (is_asleep rank list) → IsEnd c list rank last 0
 end_asleep c list rank last asleep k = (λ h. absurd (omega (arith, h)), λ h. absurd (h.1 asleep))
 
 -- the table of ends, one rank at a time
-pub ends_set : (c : Checked) (list : List Stamped) (last i end : ℕ) (ends : List ℕ) → i < length ends → IsEnd c list i last end → ((k : ℕ) → k < i → IsEnd c list k last (get_or ends k 0)) → (k : ℕ) → k < i + 1 → IsEnd c list k last (get_or (set ends i end) k 0)
-ends_set c list last i end ends within here before k h =
+
+each_set : (P : ℕ → ℕ → Type 0) (i end k : ℕ) (ends : List ℕ) → i < length ends → P i end → (k ≢ i → P k (get_or ends k 0)) → P k (get_or (set ends i end) k 0)
+each_set P i end k ends within here before =
     elim (cases_eq k i) [
       | inl same ↦ rw same (rw (get_or-set_same ends i end 0 within) here)
-      | inr other ↦ rw (get_or-set_other ends i k end 0 other) (before k (omega (arith, h, other)))
+      | inr other ↦ rw (get_or-set_other ends i k end 0 other) (before other)
     ]
 
+pub ends_set : (c : Checked) (list : List Stamped) (last i end : ℕ) (ends : List ℕ) → i < length ends → IsEnd c list i last end → ((k : ℕ) → k < i → IsEnd c list k last (get_or ends k 0)) → (k : ℕ) → k < i + 1 → IsEnd c list k last (get_or (set ends i end) k 0)
+ends_set c list last i end ends within here before k h = each_set (λ k end. IsEnd c list k last end) i end k ends within here (λ other. before k (omega (arith, h, other)))
+
 pub early_set : (limit i end : ℕ) (ends : List ℕ) → i < length ends → end ≤ limit → ((k : ℕ) → get_or ends k 0 ≤ limit) → (k : ℕ) → get_or (set ends i end) k 0 ≤ limit
-early_set limit i end ends within here before k =
-    elim (cases_eq k i) [
-      | inl same ↦ rw same (rw (get_or-set_same ends i end 0 within) here)
-      | inr other ↦ rw (get_or-set_other ends i k end 0 other) (before k)
-    ]
+early_set limit i end ends within here before k = each_set (λ _ end. end ≤ limit) i end k ends within here (λ _. before k)

@@ -1,7 +1,7 @@
 -- Lists of requests, read by their places.
-use Rattle.std.proofs.Common.{◌≡◌, ℕ, zero, suc, ◌<◌, ◌≤◌, List, [], ◌∷◌, Some, refl, inl, inr, arith, ap, ◌∙◌, sym, subst, get_or, length, All, slice_get}
+use Rattle.std.proofs.Common.{◌≡◌, ℕ, ◌<◌, ◌≤◌, List, [], ◌∷◌, Some, inl, inr, arith, ap, ◌∙◌, sym, subst, get_or, length, All, slice_get}
 use Rattle.std.proofs.lemmas.Bool.{cases_lt}
-use Rattle.std.proofs.lemmas.Option.{same_Some, slice_get_within, get_or_from_slice_get}
+use Rattle.std.proofs.lemmas.Option.{same_Some, slice_get_within, slice_get-get_or, get_or_from_slice_get}
 use Rattle.frfcfs.proofs.Common.{AreInOrder, Pending}
 
 -- what holds of each holds of the one at a place
@@ -15,20 +15,18 @@ one_at xs i j x y at there e = same_Some x y (sym at ∙ ap (λ k. slice_get xs 
 -- the earlier of two requests is the older
 pub order_at : (pending : List Pending) (i j : ℕ) (p q : Pending) → AreInOrder pending → slice_get pending i ≡ Some p → slice_get pending j ≡ Some q → i < j → p.seq < q.seq
 order_at pending i j p q order at there h =
-    let first : get_or pending i p ≡ p = get_or_from_slice_get pending i p p at in
-    let second : get_or pending j p ≡ q = get_or_from_slice_get pending j q p there in
-    let less = order i j p h (slice_get_within pending j q there) in
-    subst (λ (x : Pending). x.seq < q.seq) first (subst (λ (x : Pending). (get_or pending i p).seq < x.seq) second less)
+    let first = ap (λ (x : Pending). x.seq) (get_or_from_slice_get pending i p p at) in
+    let second = ap (λ (x : Pending). x.seq) (get_or_from_slice_get pending j q p there) in
+    omega (arith, first, second, order i j p h (slice_get_within pending j q there))
 
 pub order_upto : (pending : List Pending) (i j : ℕ) (p q : Pending) → AreInOrder pending → slice_get pending i ≡ Some p → slice_get pending j ≡ Some q → i ≤ j → p.seq ≤ q.seq
 order_upto pending i j p q order at there h =
     elim (cases_lt i j) [
-      | inl l ↦ let e = order_at pending i j p q order at there l in omega (arith, e)
-      | inr g ↦ let e = ap (λ (x : Pending). x.seq) (one_at pending i j p q at there (omega arith)) in omega (arith, e)
+      | inl l ↦ omega (arith, order_at pending i j p q order at there l)
+      | inr g ↦ omega (arith, ap (λ (x : Pending). x.seq) (one_at pending i j p q at there (omega arith)))
     ]
 
 -- there is an element at each place
 pub something_at : {X : Type 0} (xs : List X) (i : ℕ) → i < length xs → (x : X) × (slice_get xs i ≡ Some x)
 something_at [] i within = absurd (omega (arith, within))
-something_at (x ∷ xs) zero within = (x, refl)
-something_at (x ∷ xs) (suc i) within = something_at xs i (omega (arith, within))
+something_at (x ∷ xs) i within = (get_or (x ∷ xs) i x, slice_get-get_or (x ∷ xs) i x within)

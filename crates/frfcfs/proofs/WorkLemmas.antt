@@ -4,30 +4,24 @@ use Rattle.frfcfs.proofs.Common.{Allows, AreFirsts, AreInOrder, AreMarks, Banks,
 use Rattle.frfcfs.proofs.Lists.{All-at}
 use Rattle.frfcfs.proofs.NextChoice.{next_lawful}
 use Rattle.frfcfs.proofs.QueueLemmas.{firsts_marks, lines}
-use Rattle.frfcfs.proofs.refreshes.NextKeeps.{idle_exactly, next_keeps}
-
--- some rank is in lead
-abbrev pub Leads : Checked → List Stamped → ℕ → Type 0
-Leads c list clock = (rank : ℕ) × (rank < c.geometry.ranks) × IsInLead c.timing list clock rank
+use Rattle.frfcfs.proofs.refreshes.NextKeeps.{next_keeps, none_exactly}
 
 -- some request is eligible, and the geometry has its bank
 abbrev pub Waits : Geometry → List Pending → Type 0
 Waits g pending = (i : ℕ) × (p : Pending) × IsEligible pending i p × HasBank g (bank_at p.place)
 
-bank_of_place : (g : Geometry) (pending : List Pending) (i : ℕ) (p : Pending) → All (λ q. LiesIn g q.place) pending → IsEligible pending i p → HasBank g (bank_at p.place)
-bank_of_place g pending i p places el = let l = All-at (λ q. LiesIn g q.place) pending i p places el.here in record { rank = l.rank; group = l.group; bank = l.bank }
-
-with_work : (c : Checked) (list : List Stamped) (pending : List Pending) (clock : ℕ) (any work : Bool) → All (λ q. LiesIn c.geometry q.place) pending → (IsTrue any ↔ Waits c.geometry pending) → (IsTrue work ↔ (Leads c list clock ⊎ IsTrue any)) → (IsTrue work ↔ HasWork c list pending clock)
-with_work c list pending clock any work places a w = (
-  λ t. elim (w.0 t) [ inl l ↦ inl l | inr e ↦ let f = a.0 e in inr (f.0, f.1, f.2) ],
-  λ h. elim h [ inl l ↦ w.1 (inl l) | inr e ↦ w.1 (inr (a.1 (e.0, e.1, e.2, bank_of_place c.geometry pending e.0 e.1 places e.2))) ],
-)
-
 -- what is said of a queue's requests by a list of them
 
 pub work_of : (c : Checked) (list : List Stamped) (pending requests : List Pending) (clock : ℕ) (any work : Bool) → pending ≡ requests → All (λ q. LiesIn c.geometry q.place) requests → (IsTrue any ↔ Waits c.geometry pending) →
-    (IsTrue work ↔ (Leads c list clock ⊎ IsTrue any)) → (IsTrue work ↔ HasWork c list requests clock)
-work_of c list pending requests clock any work same places a w = with_work c list requests clock any work places (subst (λ (ps : List Pending). IsTrue any ↔ Waits c.geometry ps) same a) w
+    (IsTrue work ↔ (((rank : ℕ) × (rank < c.geometry.ranks) × IsInLead c.timing list clock rank) ⊎ IsTrue any)) → (IsTrue work ↔ HasWork c list requests clock)
+work_of c list pending requests clock any work same places a w =
+    let waits = subst (λ (ps : List Pending). IsTrue any ↔ Waits c.geometry ps) same a in (
+      λ t. elim (w.0 t) [ inl l ↦ inl l | inr e ↦ let f = waits.0 e in inr (f.0, f.1, f.2) ],
+      λ h. elim h [
+        | inl l ↦ w.1 (inl l)
+        | inr e ↦ let l = All-at (λ q. LiesIn c.geometry q.place) requests e.0 e.1 places e.2.here in w.1 (inr (waits.1 (e.0, e.1, e.2, record { rank = l.rank; group = l.group; bank = l.bank })))
+      ],
+    )
 
 pub marks_of : (g : Geometry) (pending requests : List Pending) (firsts : List Bool) → pending ≡ requests → AreInOrder pending → All (λ q. LiesIn g q.place) requests → AreFirsts (lines requests) firsts → AreMarks g pending firsts
 marks_of g pending requests firsts same order places marks =
@@ -57,6 +51,10 @@ idle_without c list pending now w = inl (λ work. let e : false ≡ true = w.1 w
 pub idle_of : (c : Checked) (list : List Stamped) (pending requests : List Pending) (now : ℕ) (r : Option Next) → pending ≡ requests → KeepsMargin c list → IsLawful c list → now ≡ last_clock list → now < 2 ^ 62 → (IsTrue true ↔ HasWork c list requests now) → IsNext c list pending now r →
     ((r ≡ None) ↔ (IsIdle c list requests now ⊎ (2 ^ 62 ≤ now)))
 idle_of c list pending requests now r same m lawful at early work next =
-    subst (λ (k : ℕ). (r ≡ None) ↔ (IsIdle c list requests k ⊎ (2 ^ 62 ≤ k))) (sym at)
-    (idle_exactly c list requests r m lawful (omega (arith, early, at)) (subst (λ (k : ℕ). HasWork c list requests k) at (work.0 refl))
-    (subst (λ (k : ℕ). IsNext c list requests k r) at (subst (λ (ps : List Pending). IsNext c list ps now r) same next)))
+    let e = none_exactly c list requests r m lawful (omega (arith, early, at)) (subst (λ (k : ℕ). IsNext c list requests k r) at (subst (λ (ps : List Pending). IsNext c list ps now r) same next)) in (
+      λ none. inl (inr (e.0 none)),
+      λ idle. elim idle [
+        | inl rest ↦ elim rest [ inl some ↦ absurd (some (work.0 refl)) | inr all ↦ e.1 all ]
+        | inr late ↦ absurd (omega (arith, early, late))
+      ],
+    )

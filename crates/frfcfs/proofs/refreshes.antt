@@ -1,12 +1,7 @@
 pub mod IntervalFits
-pub mod RanksAhead
 pub mod RefreshCounts
 pub mod RowsClosed
-pub mod LawfulRefreshes
 pub mod OffersInTime
-pub mod OtherCommands
 pub mod OwnRefreshes
-pub mod OtherRanks
-pub mod RefreshInTime
 pub mod MarginEnds
 pub mod NextKeeps

@@ -1,78 +1,69 @@
--- A rank that has its time offers its REF, or the PREA before it, at the first clock from now that allows it.
-use Rattle.std.proofs.Common.{ℕ, ◌+◌, ◌*◌, ◌≤◌, ◌<◌, List, IsTrue, inl, inr, arith, refl, max}
-use Rattle.frfcfs.proofs.Common.{AllClosed, Checked, HasTime, IsInLead, IsLawful, OffersRank, PreAll, Ref, Stamped, above, close_clock, floor, is_asleep, lead_clock, ref_count, refresh_clock, row_time}
-use Rattle.frfcfs.proofs.refreshes.IntervalFits.{fits}
+-- A rank that has its time offers its REF, or the PREA before it, at each clock from now that allows it.
+use Rattle.std.proofs.Common.{ℕ, ◌+◌, ◌*◌, ◌≤◌, ◌<◌, ◌≡◌, ◌⊎◌, List, IsTrue, inl, inr, arith, refl, max}
+use Rattle.frfcfs.proofs.Common.{AllClosed, Checked, Command, HasTime, IsLawful, KeepsRows, OffersRank, PreAll, Ref, Stamped, close_clock, floor, is_asleep, last_clock, last_ref, lead_clock, least_clock, rank_of, ref_count, refresh_clock}
+use Rattle.ddr4_timing.proofs.Ready.{lawful_ready}
 use Rattle.frfcfs.proofs.Leads.{lead_at}
-use Rattle.frfcfs.proofs.refreshes.LawfulRefreshes.{MayStill, ref_lawful, close_lawful}
-use Rattle.frfcfs.proofs.refreshes.RanksAhead.{above-le}
+use Rattle.frfcfs.proofs.refreshes.IntervalFits.{fits}
+use Rattle.frfcfs.proofs.refreshes.RefreshCounts.{commands_before-lt}
+use Rattle.frfcfs.proofs.refreshes.RowsClosed.{closed_or}
 
 -- a rank of the geometry that is awake and has its time
-pub record IsUp (c : Checked) (list : List Stamped) (now rank : ℕ) : Type 0 where
+pub record IsUp (c : Checked) (list : List Stamped) (rank : ℕ) : Type 0 where
   pub lawful : IsLawful c list
   pub within : rank < c.geometry.ranks
   pub awake : ¬ IsTrue (is_asleep rank list)
-  pub time : HasTime c list now rank
-
-before_next : (n t g p r rank a : ℕ) → g + p + 2 * r ≤ t → rank < r → a ≤ r → (n + 8) * t + g + (rank + a) + p + 1 ≤ (n + 9) * t
-before_next n t g p r rank a h l m = omega arith
+  pub time : HasTime c list (last_clock list) rank
 
 -- it is refreshed before the ninth interval begins
 pub refresh-lt : (c : Checked) (list : List Stamped) (rank : ℕ) → rank < c.geometry.ranks → refresh_clock c list rank < (ref_count rank list + 9) * c.timing.t_refi
-refresh-lt c list rank l =
-    let f = fits c in
-    let e = before_next (ref_count rank list) c.timing.t_refi (row_time c.timing) c.timing.t_rp c.geometry.ranks rank
-    (above (λ other. ref_count other list) (ref_count rank list) c.geometry.ranks) f.row l (above-le (λ other. ref_count other list) (ref_count rank list) c.geometry.ranks) in
-    omega (arith, e)
+refresh-lt c list rank l = omega (arith, (fits c).row, commands_before-lt c list rank l)
 
-pub in_time : (c : Checked) (list : List Stamped) (now rank k : ℕ) → IsUp c list now rank → k ≤ refresh_clock c list rank → MayStill c list k rank
-in_time c list now rank k u h = record {
-  lawful = u.lawful;
+-- the command that its refresh needs next, and the last clock that there is for it
+pub record IsDue (c : Checked) (list : List Stamped) (rank last : ℕ) (x : Command) : Type 0 where
+  pub offers : (k : ℕ) → floor c.timing list x ≤ k → lead_clock c.timing list rank ≤ k → k ≤ last → OffersRank c list k rank x
+  pub ready : floor c.timing list x ≤ last
+  pub next : last_clock list + 1 ≤ last
+  pub close : close_clock c list rank ≤ last
+  pub refresh : last ≤ refresh_clock c list rank
+
+offers : (c : Checked) (list : List Stamped) (rank k : ℕ) (x : Command) → IsUp c list rank → (x ≡ Ref rank) ⊎ (x ≡ PreAll rank) → KeepsRows c.geometry list x → least_clock c.timing list x ≤ k → k ≤ last_ref (rank_of x) list + 9 * c.timing.t_refi →
+    lead_clock c.timing list rank ≤ k → OffersRank c list k rank x
+offers c list rank k x u kind rows least until lead = record {
   within = u.within;
-  awake = u.awake;
-  in_time = omega (arith, u.time.refreshed, refresh-lt c list rank u.within, h);
+  lead = (lead_at c list rank k _ refl).1 lead;
+  kind = kind;
+  lawful = lawful_ready c list (record { clock = k; cmd = x }) u.lawful (record { rows = rows; clock = least; in_time = until });
 }
 
-pub in_lead : (c : Checked) (list : List Stamped) (rank k : ℕ) → lead_clock c.timing list rank ≤ k → IsInLead c.timing list k rank
-in_lead c list rank k h = (lead_at c list rank k (lead_clock c.timing list rank) refl).1 h
-
-pub from_lead : (c : Checked) (list : List Stamped) (rank k : ℕ) → IsInLead c.timing list k rank → lead_clock c.timing list rank ≤ k
-from_lead c list rank k h = (lead_at c list rank k (lead_clock c.timing list rank) refl).0 h
-
-pub offers_ref : (c : Checked) (list : List Stamped) (now rank k : ℕ) → IsUp c list now rank → AllClosed c.geometry rank list → floor c.timing list (Ref rank) ≤ k → lead_clock c.timing list rank ≤ k → k ≤ refresh_clock c list rank →
-    OffersRank c list k rank (Ref rank)
-offers_ref c list now rank k u closed f l h = record {
-  within = u.within;
-  lead = in_lead c list rank k l;
-  kind = inl refl;
-  lawful = ref_lawful c list k rank (in_time c list now rank k u h) closed f (omega (arith, l));
+pub ref_due : (c : Checked) (list : List Stamped) (rank : ℕ) → IsUp c list rank → AllClosed c.geometry rank list → IsDue c list rank (refresh_clock c list rank) (Ref rank)
+unfolding least_clock
+ref_due c list rank u closed = record {
+  offers = λ k f l h. offers c list rank k (Ref rank) u (inl refl) (record { place = u.within; awake = u.awake; rows = closed }) (omega (arith, f, l)) (omega (arith, u.time.refreshed, refresh-lt c list rank u.within, h)) l;
+  ready = u.time.refresh;
+  next = u.time.next;
+  close = omega arith;
+  refresh = omega arith;
 }
 
-pub offers_close : (c : Checked) (list : List Stamped) (now rank k : ℕ) → IsUp c list now rank → (¬ AllClosed c.geometry rank list) → floor c.timing list (PreAll rank) ≤ k → lead_clock c.timing list rank ≤ k → k ≤ refresh_clock c list rank →
-    OffersRank c list k rank (PreAll rank)
-offers_close c list now rank k u some f l h = record {
-  within = u.within;
-  lead = in_lead c list rank k l;
-  kind = inr refl;
-  lawful = close_lawful c list k rank (in_time c list now rank k u h) some f;
+pub close_due : (c : Checked) (list : List Stamped) (rank : ℕ) → IsUp c list rank → (¬ AllClosed c.geometry rank list) → IsDue c list rank (close_clock c list rank) (PreAll rank)
+unfolding least_clock
+close_due c list rank u some = record {
+  offers = λ k f l h. offers c list rank k (PreAll rank) u (inr refl) (record { place = u.within; awake = u.awake; rows = some }) (omega (arith, f)) (omega (arith, u.time.refreshed, refresh-lt c list rank u.within, h)) l;
+  ready = omega (arith, u.time.close, u.time.opened some);
+  next = u.time.opened some;
+  close = omega arith;
+  refresh = omega arith;
 }
 
--- the first clock from now for the REF, and for the PREA
-abbrev pub ref_from : Checked → List Stamped → ℕ → ℕ → ℕ
-ref_from c list now rank = max now (max (floor c.timing list (Ref rank)) (lead_clock c.timing list rank))
+pub due : (c : Checked) (list : List Stamped) (rank : ℕ) → IsUp c list rank → (last : ℕ) × (x : Command) × IsDue c list rank last x
+due c list rank u = elim (closed_or c.geometry rank list) [
+  | inl closed ↦ (refresh_clock c list rank, Ref rank, ref_due c list rank u closed)
+  | inr some ↦ (close_clock c list rank, PreAll rank, close_due c list rank u some)
+]
 
-abbrev pub close_from : Checked → List Stamped → ℕ → ℕ → ℕ
-close_from c list now rank = max now (max (floor c.timing list (PreAll rank)) (lead_clock c.timing list rank))
-
-pub ref_from-le : (c : Checked) (list : List Stamped) (now rank : ℕ) → HasTime c list now rank → ref_from c list now rank ≤ refresh_clock c list rank
-ref_from-le c list now rank h = omega (arith, h.next, h.refresh)
-
-pub close_from-le : (c : Checked) (list : List Stamped) (now rank : ℕ) → HasTime c list now rank → (¬ AllClosed c.geometry rank list) → close_from c list now rank ≤ close_clock c list rank
-close_from-le c list now rank h some = omega (arith, h.opened some, h.close)
-
-pub ref_due : (c : Checked) (list : List Stamped) (now rank : ℕ) → IsUp c list now rank → AllClosed c.geometry rank list → OffersRank c list (ref_from c list now rank) rank (Ref rank)
-ref_due c list now rank u closed = offers_ref c list now rank (ref_from c list now rank) u closed (omega arith) (omega arith) (ref_from-le c list now rank u.time)
-
-pub close_due : (c : Checked) (list : List Stamped) (now rank : ℕ) → IsUp c list now rank → (¬ AllClosed c.geometry rank list) → OffersRank c list (close_from c list now rank) rank (PreAll rank)
-close_due c list now rank u some =
-    let l = close_from-le c list now rank u.time some in
-    offers_close c list now rank (close_from c list now rank) u some (omega arith) (omega arith) (omega (arith, l))
+-- the first clock at which it goes
+pub first_offer : (c : Checked) (list : List Stamped) (rank last : ℕ) (x : Command) → IsDue c list rank last x → (k : ℕ) × (last_clock list ≤ k) × (k ≤ last) × OffersRank c list k rank x
+first_offer c list rank last x d =
+    let k = max (last_clock list) (max (floor c.timing list x) (lead_clock c.timing list rank)) in
+    let until : k ≤ last = omega (arith, d.ready, d.next, d.close) in
+    (k, omega arith, until, d.offers k (omega arith) (omega arith) until)
