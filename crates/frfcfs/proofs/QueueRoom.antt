@@ -1,17 +1,9 @@
 -- Where a queue keeps its requests: those from a start on, with room in front of them and behind.
-use Rattle.std.proofs.Common.{◌≡◌, ◌≢◌, ℕ, ◌+◌, ◌-◌, ◌<◌, ◌≤◌, ◌↔◌, List, [], ◌∷◌, ◌++◌, Bool, IsTrue, sym, subst, ap, ◌∙◌, arith, drop, get_or, length, length-append, All, remove}
-use Rattle.std.proofs.lemmas.List.{drop-append-le, length-drop}
-use Rattle.frfcfs.proofs.Common.{AreFirsts, IsWaiting, MarksOldest, Pending}
-use Rattle.frfcfs.proofs.QueueLemmas.{firsts_take, lines, request_push, waiting_push, waiting_take}
-
--- what is true of a queue's fields
-pub record IsKept (most next start room : ℕ) (pending : List Pending) (firsts : List Bool) : Type 0 where
-  pub waiting : IsWaiting (record { most = most; next = next; requests = drop start pending })
-  pub marks : AreFirsts (lines (drop start pending)) (drop start firsts)
-  pub within : start ≤ length pending
-  pub size : length firsts ≡ length pending
-  pub fits : length pending ≤ room
-  pub enough : most ≤ room
+use Rattle.std.proofs.Common.{◌≡◌, ◌≢◌, ℕ, ◌+◌, ◌-◌, ◌<◌, ◌≤◌, ◌↔◌, List, [], ◌∷◌, ◌++◌, Bool, Option, map, IsTrue, sym, subst, ap, ◌∙◌, arith, drop, get_or, length, length-append, All, remove}
+use Rattle.std.proofs.lemmas.List.{drop-append-le, drop-map, length-drop, length-map}
+use Rattle.frfcfs.proofs.Common.{IsKept, MarksOldest, Pending, held_by, numbered_from}
+use Rattle.frfcfs.proofs.KeepLemmas.{length-numbered, lines_numbered, waiting_numbered}
+use Rattle.frfcfs.proofs.QueueLemmas.{lines_held, waiting_held, lines, request_push, request_take, waiting_push, waiting_take}
 
 pub kept_in_front : (most next start room : ℕ) (pending : List Pending) (firsts : List Bool) → IsKept most next start room pending firsts → IsKept most next 0 room (drop start pending) (drop start firsts)
 kept_in_front most next start room pending firsts kept = record {
@@ -47,17 +39,39 @@ pub kept_take : (most next start end room : ℕ) (pending left : List Pending) (
     → drop end before ≡ remove (drop start firsts) i → length marks + 1 + start ≡ length firsts + end
     → MarksOldest line (drop end left) (drop end before) (drop end marks) → IsKept most next end room left marks
 kept_take most next start end room pending left firsts before marks i line d kept within named least most_end taken size gone size_marks marked =
-    let rest = drop start pending in
-    let found : MarksOldest line (remove rest i) (remove (drop start firsts) i) (drop end marks) =
-    subst (λ (ps : List Pending). MarksOldest line ps (remove (drop start firsts) i) (drop end marks)) taken (subst (λ (bs : List Bool). MarksOldest line (drop end left) bs (drop end marks)) gone marked) in
     let n = length-drop start pending in
-    let same = kept.size in
-    let fits = kept.fits in
     record {
       waiting = rw taken (waiting_take _ i kept.waiting within);
-      marks = rw taken (firsts_take rest (drop start firsts) (drop end marks) i line d kept.marks within named found);
+      marks = rw taken (request_take (drop start pending) (drop start firsts) (drop end marks) i line kept.marks within named (rw (← taken, ← gone) marked));
       within = omega (arith, within, n, size, least, most_end);
-      size = omega (arith, same, size, size_marks);
-      fits = omega (arith, fits, size, most_end);
+      size = omega (arith, kept.size, size, size_marks);
+      fits = omega (arith, kept.fits, size, most_end);
+      enough = kept.enough;
+    }
+
+-- each is held or not, and each is numbered anew
+
+pub kept_held : (hold : Option ℕ) (most next start room : ℕ) (pending : List Pending) (firsts : List Bool) → IsKept most next start room pending firsts → IsKept most next start room (map (held_by hold) pending) firsts
+kept_held hold most next start room pending firsts kept =
+    let n = length-map pending (held_by hold) in
+    let rest = drop-map (held_by hold) start pending in
+    record {
+      waiting = rw rest (waiting_held _ hold kept.waiting);
+      marks = rw (rest, lines_held hold (drop start pending)) kept.marks;
+      within = omega (arith, n, kept.within);
+      size = kept.size ∙ sym n;
+      fits = omega (arith, n, kept.fits);
+      enough = kept.enough;
+    }
+
+pub kept_numbered : (most next room : ℕ) (pending : List Pending) (firsts : List Bool) → IsKept most next 0 room pending firsts → IsKept most (length pending) 0 room (numbered_from 0 pending) firsts
+kept_numbered most next room pending firsts kept =
+    let n = length-numbered 0 pending in
+    record {
+      waiting = waiting_numbered _ kept.waiting;
+      marks = rw (lines_numbered 0 pending) kept.marks;
+      within = omega arith;
+      size = kept.size ∙ sym n;
+      fits = omega (arith, n, kept.fits);
       enough = kept.enough;
     }

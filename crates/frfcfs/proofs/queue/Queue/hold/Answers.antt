@@ -1,7 +1,8 @@
 use Rattle.std.proofs.Common.{◌≡◌, ◌++◌, List, length, map, take, drop, arith, ap, ◌∙◌}
 use Rattle.std.proofs.lemmas.List.{drop-map, length-map}
 use Rattle.frfcfs.proofs.Common.{Pending, Waiting, held_by}
-use Rattle.frfcfs.proofs.QueueLemmas.{lines_held, waiting_held, written}
+use Rattle.frfcfs.proofs.QueueLemmas.{written}
+use Rattle.frfcfs.proofs.QueueRoom.{kept_held}
 use Rattle.frfcfs.proofs.queue.Queue.hold.Goals as goal
 
 -- what the vector holds then
@@ -15,21 +16,7 @@ held c =
     written (drop (length new) old) new c.self.inside.pending.len size ∙ is
 
 pub invariant_of-self : goal.invariant_of-self
-invariant_of-self c =
-    let old = c.self.inside.pending.items in
-    let hold = c.args.from in
-    let rest = drop c.self.inside.start old in
-    let n = length-map old (held_by hold) in
-    rw (held c, drop-map (held_by hold) c.self.inside.start old) (
-      waiting_held _ hold c.self.invariant.0,
-      rw (lines_held hold rest) c.self.invariant.1,
-      (let l = c.self.invariant.2 in omega (arith, l, n)),
-      (let l = c.self.invariant.3 in omega (arith, l, n)),
-      (let l = c.self.invariant.4 in omega (arith, l, n)),
-      c.self.invariant.5,
-      c.self.invariant.6,
-      c.self.invariant.7,
-    )
+invariant_of-self c = rw (held c) (kept_held c.args.from _ _ _ _ _ _ c.self.invariant.0, c.self.invariant.1, c.self.invariant.2)
 
 pub returns : goal.returns
 returns c =
