@@ -92,62 +92,42 @@ refresh_asleep c list rank now last asleep other k cmd l h later before offers =
 
 -- what holds of two holds of the one that goes first
 pub sooner_keeps : (P : Next → Type 0) (a b r : Option Next) → IsSoonerOf a b r → IfSome a P → IfSome b P → IfSome r P
-sooner_keeps P None b r is p q = subst (λ (x : Option Next). IfSome x P) (sym is) q
-sooner_keeps P (Some x) None r is p q = subst (λ (z : Option Next). IfSome z P) (sym is) p
-sooner_keeps P (Some x) (Some y) r (inl is) p q = subst (λ (z : Option Next). IfSome z P) (sym is.1) p
-sooner_keeps P (Some x) (Some y) r (inr is) p q = subst (λ (z : Option Next). IfSome z P) (sym is.1) q
+sooner_keeps P None b r is p q = rw is q
+sooner_keeps P (Some x) None r is p q = rw is p
+sooner_keeps P (Some x) (Some y) r is p q = elim is [ inl h ↦ rw h.1 p | inr h ↦ rw h.1 q ]
 
 -- ranks below one, and those from it on
 pub rank_sooner : (c : Checked) (list : List Stamped) (now last low mid end : ℕ) (a b r : Option Next) → low ≤ mid → mid ≤ end → IsSoonerOf a b r → IsRankNext c list now last low mid a → IsRankNext c list now last mid end b → IsRankNext c list now last low end r
-rank_sooner c list now last low mid end None None r lm me is f g =
-    subst (λ (n : Option Next). IsRankNext c list now last low end n) (sym is) (λ other k cmd l h later before. elim (cases_lt other mid) [
-      | inl below ↦ f other k cmd l below later before
-      | inr above ↦ g other k cmd above h later before
-    ])
+rank_sooner c list now last low mid end None None r lm me is f g = rw is (λ other k cmd l h later before offers. grind (arith, f other k cmd, g other k cmd))
 rank_sooner c list now last low mid end None (Some y) r lm me is f g =
-    subst (λ (n : Option Next). IsRankNext c list now last low end n) (sym is) (record {
+    rw is (record {
       rank = g.rank;
-      from = (let h = g.from in omega (arith, lm, h));
+      from = omega (arith, lm, g.from);
       until = g.until;
       offers = g.offers;
-      first = λ other k cmd l h later before offers. elim (cases_lt other mid) [
-        | inl below ↦ absurd (f other k cmd l below later before offers)
-        | inr above ↦ g.first other k cmd above h later before offers
-      ];
+      first = λ other k cmd l h later before offers. grind (arith, f other k cmd, g.first other k cmd);
     })
 rank_sooner c list now last low mid end (Some x) None r lm me is f g =
-    subst (λ (n : Option Next). IsRankNext c list now last low end n) (sym is) (record {
+    rw is (record {
       rank = f.rank;
       from = f.from;
-      until = (let h = f.until in omega (arith, me, h));
+      until = omega (arith, me, f.until);
       offers = f.offers;
-      first = λ other k cmd l h later before offers. elim (cases_lt other mid) [
-        | inl below ↦ f.first other k cmd l below later before offers
-        | inr above ↦ absurd (g other k cmd above h later before offers)
-      ];
+      first = λ other k cmd l h later before offers. grind (arith, f.first other k cmd, g other k cmd);
     })
 rank_sooner c list now last low mid end (Some x) (Some y) r lm me (inl is) f g =
-    let u = f.until in
-    let le = is.0 in
-    subst (λ (n : Option Next). IsRankNext c list now last low end n) (sym is.1) (record {
+    rw is.1 (record {
       rank = f.rank;
       from = f.from;
-      until = omega (arith, me, u);
+      until = omega (arith, me, f.until);
       offers = f.offers;
-      first = λ other k cmd l h later before offers. elim (cases_lt other mid) [
-        | inl below ↦ f.first other k cmd l below later before offers
-        | inr above ↦ let e = (g.first other k cmd above h later before offers).0 in (omega (arith, le, e), λ _. omega (arith, u, above))
-      ];
+      first = λ other k cmd l h later before offers. grind (arith, is.0, f.until, f.first other k cmd, g.first other k cmd);
     })
 rank_sooner c list now last low mid end (Some x) (Some y) r lm me (inr is) f g =
-    let lt = is.0 in
-    subst (λ (n : Option Next). IsRankNext c list now last low end n) (sym is.1) (record {
+    rw is.1 (record {
       rank = g.rank;
-      from = (let h = g.from in omega (arith, lm, h));
+      from = omega (arith, lm, g.from);
       until = g.until;
       offers = g.offers;
-      first = λ other k cmd l h later before offers. elim (cases_lt other mid) [
-        | inl below ↦ let e = (f.first other k cmd l below later before offers).0 in (omega (arith, lt, e), λ same. absurd (omega (arith, lt, e, same)))
-        | inr above ↦ g.first other k cmd above h later before offers
-      ];
+      first = λ other k cmd l h later before offers. grind (arith, is.0, f.first other k cmd, g.first other k cmd);
     })
