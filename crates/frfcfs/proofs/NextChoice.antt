@@ -104,12 +104,3 @@ next_lawful c list pending now last next is = go is.turn is.choice.candidate
     go (OfRank r) h = h.lawful
     go (OfColumn p) h = h.2.lawful
     go (OfRow p) h = h.2.lawful
-
--- a span of one clock
-pub choice_none : (c : Checked) (list : List Stamped) (pending : List Pending) (clock : ℕ) → IsNextIn c list pending clock clock None → IsChoice c list pending clock None
-choice_none c list pending clock h = h clock (omega arith) (omega arith)
-
-pub choice_some : (c : Checked) (list : List Stamped) (pending : List Pending) (clock : ℕ) (next : Next) → IsNextIn c list pending clock clock (Some next) → IsChoice c list pending clock (Some next.cmd)
-choice_some c list pending clock next h =
-    let f = h.from in let u = h.until in let e : next.clock ≡ clock = omega (arith, f, u) in
-    (h.turn, subst (λ (k : ℕ). IsLeast c list pending k h.turn next.cmd) e h.choice)

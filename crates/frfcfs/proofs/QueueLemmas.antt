@@ -21,27 +21,24 @@ line_at pending i p at = get_or-map (λ (q : Pending). q.line) pending i p 0 (sl
 
 -- a mark says whether its request is the first of its line
 
-first_from : (pending : List Pending) (i : ℕ) (p : Pending) → AreInOrder pending → slice_get pending i ≡ Some p → IsFirstAt (lines pending) i → IsFirst pending p
-first_from pending i p order at first k d within older =
-    let there = slice_get-get_or pending k d within in
-    elim (cases_lt k i) [
-      | inl l ↦ λ same. first k l (line_at pending k (get_or pending k d) there ∙ same ∙ sym (line_at pending i p at))
-      | inr g ↦ absurd (let e = order_upto pending i k p (get_or pending k d) order at there g in omega (arith, e, older))
-    ]
-
-first_at : (pending : List Pending) (i : ℕ) (p : Pending) → AreInOrder pending → slice_get pending i ≡ Some p → IsFirst pending p → IsFirstAt (lines pending) i
-first_at pending i p order at first j less same =
+first_here : (pending : List Pending) (i : ℕ) (p : Pending) → AreInOrder pending → slice_get pending i ≡ Some p → (IsFirstAt (lines pending) i ↔ IsFirst pending p)
+first_here pending i p order at =
     let within = slice_get_within pending i p at in
-    let there = slice_get-get_or pending j p (omega (arith, less, within)) in
-    All-at (λ q. q.seq < p.seq → q.line ≢ p.line) pending j (get_or pending j p) first there (order_at pending j i (get_or pending j p) p order there at less)
-    (sym (line_at pending j (get_or pending j p) there) ∙ same ∙ line_at pending i p at)
+    let own = line_at pending i p at in (
+      λ first k d less older same. elim (cases_lt k i) [
+        | inl l ↦ first k l (get_or-map (λ (q : Pending). q.line) pending k d 0 less ∙ same ∙ sym own)
+        | inr g ↦ absurd (omega (arith, order_upto pending i k p (get_or pending k d) order at (slice_get-get_or pending k d less) g, older))
+      ],
+      λ first j less same.
+          let there = slice_get-get_or pending j p (omega (arith, less, within)) in
+          first j p (omega (arith, less, within)) (order_at pending j i (get_or pending j p) p order there at less) (sym (line_at pending j (get_or pending j p) there) ∙ same ∙ own),
+    )
 
 pub firsts_marks : (g : Geometry) (pending : List Pending) (firsts : List Bool) → AreInOrder pending → All (λ p. LiesIn g p.place) pending → AreFirsts (lines pending) firsts → AreMarks g pending firsts
 firsts_marks g pending firsts order places marks i p within at =
-    let each = marks.each i (let s = marks.size in omega (arith, within, s)) in (
-      All-at (λ q. LiesIn g q.place) pending i p places at,
-      (λ t. first_from pending i p order at (each.0 t), λ f. each.1 (first_at pending i p order at f)),
-    )
+    let each = marks.each i (omega (arith, within, marks.size)) in
+    let first = first_here pending i p order at in
+    (All-at (λ q. LiesIn g q.place) pending i p places at, (λ t. first.0 (each.0 t), λ f. each.1 (first.1 f)))
 
 -- one more at the end
 

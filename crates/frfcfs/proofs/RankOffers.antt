@@ -13,18 +13,12 @@ IsOfRank rank cmd = (cmd ≡ Ref rank) ⊎ (cmd ≡ PreAll rank)
 rows_of : (c : Checked) (list : List Stamped) (k : ℕ) (a b : Command) → a ≡ b → IsLawful c (with_command list k a) → KeepsRows c.geometry list b
 rows_of c list k a b e h = (ready_lawful c list (record { clock = k; cmd = b }) (subst (λ (x : Command). IsLawful c (with_command list k x)) e h)).rows
 
-one_kind : (c : Checked) (list : List Stamped) (rank k : ℕ) (cmd refresh : Command) → IsOfRank rank cmd → (AllClosed c.geometry rank list → refresh ≡ Ref rank) → ((¬ AllClosed c.geometry rank list) → refresh ≡ PreAll rank) → IsLawful c (with_command list k cmd) → cmd ≡ refresh
-one_kind c list rank k cmd refresh (inl e) closed opened h = e ∙ sym (closed (rows_of c list k cmd (Ref rank) e h).rows)
-one_kind c list rank k cmd refresh (inr e) closed opened h = e ∙ sym (opened (rows_of c list k cmd (PreAll rank) e h).rows)
+asked : (c : Checked) (list : List Stamped) (rank k : ℕ) (cmd : Command) → IsOfRank rank cmd → IsLawful c (with_command list k cmd) → ((cmd ≡ Ref rank) × AllClosed c.geometry rank list) ⊎ ((cmd ≡ PreAll rank) × (¬ AllClosed c.geometry rank list))
+asked c list rank k cmd (inl e) h = inl (e, (rows_of c list k cmd (Ref rank) e h).rows)
+asked c list rank k cmd (inr e) h = inr (e, (rows_of c list k cmd (PreAll rank) e h).rows)
 
 pub one_rank : (c : Checked) (list : List Stamped) (k rank : ℕ) (a b : Command) → OffersRank c list k rank a → OffersRank c list k rank b → a ≡ b
-one_rank c list k rank a b x y = go x.kind y.kind
-  where
-    go : IsOfRank rank a → IsOfRank rank b → a ≡ b
-    go (inl e) (inl f) = e ∙ sym f
-    go (inl e) (inr f) = absurd ((rows_of c list k b (PreAll rank) f y.lawful).rows (rows_of c list k a (Ref rank) e x.lawful).rows)
-    go (inr e) (inl f) = absurd ((rows_of c list k a (PreAll rank) e x.lawful).rows (rows_of c list k b (Ref rank) f y.lawful).rows)
-    go (inr e) (inr f) = e ∙ sym f
+one_rank c list k rank a b x y = grind (arith, asked c list rank k a x.kind x.lawful, asked c list rank k b y.kind y.lawful)
 
 -- the rank's one command: what its banks ask for, lawful at the clocks of a span
 pub record IsRefresh (c : Checked) (list : List Stamped) (rank : ℕ) (x : Stamped) : Type 0 where
@@ -33,24 +27,22 @@ pub record IsRefresh (c : Checked) (list : List Stamped) (rank : ℕ) (x : Stamp
   pub opened : (¬ AllClosed c.geometry rank list) → x.cmd ≡ PreAll rank
   pub exact : (k : ℕ) → (IsLawful c (with_command list k x.cmd) ↔ ((¬ IsTrue (is_asleep rank list)) × (x.clock ≤ k) × (k ≤ last_ref rank list + 9 * c.timing.t_refi)))
 
-record Offered (c : Checked) (list : List Stamped) (rank lead k : ℕ) (x : Stamped) : Type 0 where
-  led : lead ≤ k
-  from : x.clock ≤ k
-  until : k ≤ last_ref rank list + 9 * c.timing.t_refi
-
-offered : (c : Checked) (list : List Stamped) (rank lead k : ℕ) (x : Stamped) (cmd : Command) → IsRefresh c list rank x → lead ≡ (ref_count rank list + 8) * c.timing.t_refi → OffersRank c list k rank cmd → Offered c list rank lead k x
-offered c list rank lead k x cmd is at h =
-    let same = one_kind c list rank k cmd x.cmd h.kind is.closed is.opened h.lawful in
-    let span = (is.exact k).0 (subst (λ (y : Command). IsLawful c (with_command list k y)) same h.lawful) in
-    record { led = (lead_at c list rank k lead at).0 h.lead; from = span.1; until = span.2 }
-
 only_rank : (c : Checked) (list : List Stamped) (k rank other : ℕ) (cmd : Command) → rank ≤ other → other < rank + 1 → OffersRank c list k other cmd → OffersRank c list k rank cmd
 only_rank c list k rank other cmd l h offers = let e : other ≡ rank = omega (arith, l, h) in subst (λ (r : ℕ). OffersRank c list k r cmd) e offers
+
+-- the clocks at which it is offered
+offered : (c : Checked) (list : List Stamped) (rank lead k other : ℕ) (x : Stamped) (cmd : Command) → IsRefresh c list rank x → lead ≡ (ref_count rank list + 8) * c.timing.t_refi → rank ≤ other → other < rank + 1 → OffersRank c list k other cmd →
+    (lead ≤ k) × (x.clock ≤ k) × (k ≤ last_ref rank list + 9 * c.timing.t_refi)
+offered c list rank lead k other x cmd is at l h offers =
+    let mine = only_rank c list k rank other cmd l h offers in
+    let same : cmd ≡ x.cmd = grind (arith, asked c list rank k cmd mine.kind mine.lawful, is.closed, is.opened) in
+    let span = (is.exact k).0 (subst (λ (y : Command). IsLawful c (with_command list k y)) same mine.lawful) in
+    ((lead_at c list rank k lead at).0 mine.lead, span.1, span.2)
 
 pub refresh_first : (c : Checked) (list : List Stamped) (rank now last lead from clock : ℕ) (x : Stamped) (next : Next) → rank < c.geometry.ranks → (¬ IsTrue (is_asleep rank list)) → IsRefresh c list rank x → lead ≡ (ref_count rank list + 8) * c.timing.t_refi →
     from ≡ max lead now → clock ≡ max x.clock from → clock ≤ last_ref rank list + 9 * c.timing.t_refi → next ≡ record { clock = clock; cmd = x.cmd; serves = None } → IsRankNext c list now last rank (rank + 1) (Some next)
 refresh_first c list rank now last lead from clock x next within awake is at from_is clock_is until next_is =
-    subst (λ (n : Next). IsRankNext c list now last rank (rank + 1) (Some n)) (sym next_is) (record {
+    rw next_is (record {
       rank = rank;
       from = omega arith;
       until = omega arith;
@@ -60,27 +52,18 @@ refresh_first c list rank now last lead from clock x next within awake is at fro
         kind = is.kind;
         lawful = (is.exact clock).1 (awake, omega (arith, clock_is), until);
       };
-      first = λ other k cmd l h later before offers.
-          let o = offered c list rank lead k x cmd is at (only_rank c list k rank other cmd l h offers) in
-          let a = o.led in
-          let b = o.from in
-          (omega (arith, a, b, later, from_is, clock_is), λ _. l);
+      first = λ other k cmd l h later before offers. (omega (arith, offered c list rank lead k other x cmd is at l h offers, later, from_is, clock_is), λ _. l);
     })
 
 pub refresh_none : (c : Checked) (list : List Stamped) (rank now last lead from clock : ℕ) (x : Stamped) → IsRefresh c list rank x → lead ≡ (ref_count rank list + 8) * c.timing.t_refi → from ≡ max lead now → clock ≡ max x.clock from →
     min (last_ref rank list + 9 * c.timing.t_refi) last < clock → IsRankNext c list now last rank (rank + 1) None
 refresh_none c list rank now last lead from clock x is at from_is clock_is past other k cmd l h later before offers =
-    let o = offered c list rank lead k x cmd is at (only_rank c list k rank other cmd l h offers) in
-    let a = o.led in
-    let b = o.from in
-    let d = o.until in
-    absurd (omega (arith, a, b, d, later, before, from_is, clock_is, past))
+    absurd (omega (arith, offered c list rank lead k other x cmd is at l h offers, later, before, from_is, clock_is, past))
 
 -- a rank that comes into lead behind the span, and one that is asleep
 pub refresh_behind : (c : Checked) (list : List Stamped) (rank now last lead from : ℕ) → lead ≡ (ref_count rank list + 8) * c.timing.t_refi → from ≡ max lead now → last < from → IsRankNext c list now last rank (rank + 1) None
 refresh_behind c list rank now last lead from at from_is past other k cmd l h later before offers =
-    let a = (lead_at c list rank k lead at).0 (only_rank c list k rank other cmd l h offers).lead in
-    absurd (omega (arith, a, later, before, from_is, past))
+    absurd (omega (arith, (lead_at c list rank k lead at).0 (only_rank c list k rank other cmd l h offers).lead, later, before, from_is, past))
 
 pub refresh_asleep : (c : Checked) (list : List Stamped) (rank now last : ℕ) → IsTrue (is_asleep rank list) → IsRankNext c list now last rank (rank + 1) None
 refresh_asleep c list rank now last asleep other k cmd l h later before offers =

@@ -1,6 +1,6 @@
 -- What a request wants, and when it may have it.
 use Rattle.std.proofs.Common.{◌≡◌, ◌≢◌, ℕ, ◌+◌, ◌*◌, ◌<◌, ◌≤◌, ◌↔◌, List, Some, None, IsTrue, inl, inr, arith, refl, sym, subst, ap, ◌∙◌}
-use Rattle.frfcfs.proofs.Common.{Checked, Command, FitsRows, Geometry, HasBank, IsEligible, IsEnd, IsInGeometry, IsInLead, IsLawful, IsUnhit, Kind, Pending, Read, Stamped, Takes, WantsColumn, WantsRow, Write, act_of, bank_at, column_of, is_asleep, last_ref, least_clock, open_row, pre_of, rank_of, with_command}
+use Rattle.frfcfs.proofs.Common.{Checked, Command, FitsRows, Geometry, HasBank, IsEligible, IsEnd, IsInGeometry, IsInLead, IsLawful, IsUnhit, Kind, Pending, Place, Read, Stamped, Takes, WantsColumn, WantsRow, Write, act_of, bank_at, column_of, is_asleep, last_ref, least_clock, open_row, pre_of, rank_of, with_command}
 use Rattle.ddr4_timing.proofs.Ready.{lawful_ready, ready_lawful}
 use Rattle.frfcfs.proofs.Leads.{rest_in_time}
 use Rattle.frfcfs.proofs.Lists.{one_at}
@@ -29,32 +29,25 @@ pub record IsWish (Wants : Pending → Command → Type 0) (c : Checked) (list :
   pub rows : FitsRows c.geometry list cmd
   pub rank : rank_of cmd ≡ request.place.rank
 
-column_wish : (c : Checked) (list : List Stamped) (request : Pending) (kind : Kind) → kind ≡ request.kind → open_row (bank_at request.place) list ≡ Some request.place.row → IsInGeometry c.geometry (column_of kind request.place) → IsWish (WantsColumn list) c list request (column_of kind request.place)
-column_wish c list request Read is row place = record {
-  wants = (row, ap (λ k. column_of k request.place) is);
-  only = λ other w. w.1 ∙ sym (ap (λ k. column_of k request.place) is);
-  place = place;
-  rows = λ none. let e : Some request.place.row ≡ None = sym row ∙ none in cc;
-  rank = refl;
-}
-column_wish c list request Write is row place = record {
-  wants = (row, ap (λ k. column_of k request.place) is);
-  only = λ other w. w.1 ∙ sym (ap (λ k. column_of k request.place) is);
-  place = place;
-  rows = λ none. let e : Some request.place.row ≡ None = sym row ∙ none in cc;
-  rank = refl;
-}
+column_fits : (c : Checked) (list : List Stamped) (request : Pending) (kind : Kind) → open_row (bank_at request.place) list ≡ Some request.place.row → FitsRows c.geometry list (column_of kind request.place) × (rank_of (column_of kind request.place) ≡ request.place.rank)
+column_fits c list request Read row = (λ none. let e : Some request.place.row ≡ None = sym row ∙ none in cc, refl)
+column_fits c list request Write row = (λ none. let e : Some request.place.row ≡ None = sym row ∙ none in cc, refl)
 
 pub wishes_column : (c : Checked) (list : List Stamped) (request : Pending) (cmd : Command) → cmd ≡ column_of request.kind request.place → open_row (bank_at request.place) list ≡ Some request.place.row → IsInGeometry c.geometry cmd → IsWish (WantsColumn list) c list request cmd
-wishes_column c list request cmd is row place =
-    subst (λ (x : Command). IsWish (WantsColumn list) c list request x) (sym is) (column_wish c list request request.kind refl row (subst (λ (x : Command). IsInGeometry c.geometry x) is place))
+wishes_column c list request cmd is row place = record {
+  wants = (row, is);
+  only = λ other w. w.1 ∙ sym is;
+  place = place;
+  rows = rw is (column_fits c list request request.kind row).0;
+  rank = ap rank_of is ∙ (column_fits c list request request.kind row).1;
+}
 
 pub wishes_act : (c : Checked) (list : List Stamped) (pending : List Pending) (request : Pending) (cmd : Command) → cmd ≡ act_of request.place → open_row (bank_at request.place) list ≡ None → IsInGeometry c.geometry cmd → IsWish (WantsRow list pending) c list request cmd
 wishes_act c list pending request cmd is row place = record {
   wants = inl (row, is);
   only = λ other w. one_row list pending request other cmd w (inl (row, is));
   place = place;
-  rows = subst (λ (x : Command). FitsRows c.geometry list x) (sym is) row;
+  rows = rw is row;
   rank = ap rank_of is;
 }
 
@@ -65,7 +58,7 @@ wishes_pre c list pending request row cmd is opened differs unhit place =
       wants = wants;
       only = λ other w. one_row list pending request other cmd w wants;
       place = place;
-      rows = subst (λ (x : Command). FitsRows c.geometry list x) (sym is) (λ none. let e : Some row ≡ None = sym opened ∙ none in cc);
+      rows = rw is (λ none. let e : Some row ≡ None = sym opened ∙ none in cc);
       rank = ap rank_of is;
     }
 
@@ -108,16 +101,12 @@ takes_none Wants c list pending last index k request el never h =
 
 -- a command that is wanted goes to the bank of the request's place
 
-column_bank : (g : Geometry) (request : Pending) (kind : Kind) → IsInGeometry g (column_of kind request.place) → HasBank g (bank_at request.place) × (request.place.column < g.columns)
-column_bank g request Read h = h
-column_bank g request Write h = h
-
-pub column_in : (g : Geometry) (request : Pending) (kind : Kind) → HasBank g (bank_at request.place) → request.place.column < g.columns → IsInGeometry g (column_of kind request.place)
-column_in g request Read bank column = (bank, column)
-column_in g request Write bank column = (bank, column)
+pub column_in : (g : Geometry) (place : Place) (kind : Kind) → (IsInGeometry g (column_of kind place) ↔ (HasBank g (bank_at place) × (place.column < g.columns)))
+column_in g place Read = (λ h. h, λ h. h)
+column_in g place Write = (λ h. h, λ h. h)
 
 pub column_place : (g : Geometry) (list : List Stamped) (request : Pending) (cmd : Command) → WantsColumn list request cmd → IsInGeometry g cmd → HasBank g (bank_at request.place) × (request.place.column < g.columns)
-column_place g list request cmd w h = column_bank g request request.kind (subst (λ (x : Command). IsInGeometry g x) w.1 h)
+column_place g list request cmd w h = (column_in g request.place request.kind).0 (subst (λ (x : Command). IsInGeometry g x) w.1 h)
 
 pub row_bank : (g : Geometry) (list : List Stamped) (pending : List Pending) (request : Pending) (cmd : Command) → WantsRow list pending request cmd → IsInGeometry g cmd → HasBank g (bank_at request.place)
 row_bank g list pending request cmd (inl w) h = (subst (λ (x : Command). IsInGeometry g x) w.1 h).0

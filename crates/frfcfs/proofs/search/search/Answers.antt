@@ -29,11 +29,11 @@ bounds-pending-row c = let found = c.soonest_requests.ensures.found.1 (omega ari
 pub row_command-requires : goal.row_command-requires
 row_command-requires c =
     let found = c.soonest_requests.ensures.found.1 (omega arith) in
-    subst (λ (request : Pending). HasBank c.args.banks.now.checked.geometry (bank_at request.place)) (sym (get_or_from_slice_get c.args.pending.now _ found.1.0 _ found.1.1.0.here)) found.1.1.1
+    rw (get_or_from_slice_get c.args.pending.now _ found.1.0 _ found.1.1.0.here) found.1.1.1
 
 pub returns-clause-next : goal.returns-clause-next
 returns-clause-next c list s =
     let found = c.soonest_requests.ensures.found.1 (omega arith) in
     row_next c.args.banks.now.checked list c.args.pending.now c.args.now c.args.last _ c.soonest_requests.result _ c.requires.order (c.soonest_requests.ensures.best list s (c.requires.hits list s)) (c.in_default.ensures.next list s) (omega arith)
     found.0 (omega arith) c.if-column-row.false (omega arith) refl
-    (λ request cmd at wants. sym (c.row_command.ensures list c.args.pending.now cmd s (subst (λ (p : Pending). WantsRow list c.args.pending.now p cmd) (sym (get_or_from_slice_get c.args.pending.now _ request _ at)) wants)))
+    (λ request cmd at wants. sym (c.row_command.ensures list c.args.pending.now cmd s (rw (get_or_from_slice_get c.args.pending.now _ request _ at) wants)))
