@@ -1,10 +1,10 @@
 -- What holds of eligible requests and of the choice.
-use Rattle.std.proofs.Common.{◌≡◌, ◌≢◌, ℕ, ◌<◌, List, Some, inl, inr, arith, ap, sym, subst, slice_get}
+use Rattle.std.proofs.Common.{◌∙◌, ◌≡◌, ◌≢◌, ℕ, ◌<◌, List, Some, inl, inr, arith, ap, sym, subst, slice_get}
 use Rattle.std.proofs.lemmas.Bool.{cases_order}
-use Rattle.frfcfs.proofs.Common.{AreInOrder, Checked, Command, IsCandidate, IsEligible, IsLeast, OfColumn, OfRank, OfRow, OffersRank, Pending, Stamped, Turn, WantsColumn, WantsRow, class_of, tie_break_of}
+use Rattle.frfcfs.proofs.Common.{AreInOrder, Checked, Command, IsCandidate, IsEligible, IsLeast, OfColumn, OfRank, OfRow, OffersRank, Pending, Stamped, Turn, WantsRow, class_of, column_of, tie_break_of}
 use Rattle.frfcfs.proofs.Lists.{All-at, one_at, order_at}
 use Rattle.frfcfs.proofs.RankOffers.{one_rank}
-use Rattle.frfcfs.proofs.Wants.{one_column, one_row}
+use Rattle.frfcfs.proofs.Wants.{one_row}
 
 pub eligible_is_first : (pending : List Pending) (i j : ℕ) (p q : Pending) → AreInOrder pending → IsEligible pending i p → j < i → slice_get pending j ≡ Some q → q.line ≢ p.line
 eligible_is_first pending i j p q order el less at = All-at (λ q. q.seq < p.seq → q.line ≢ p.line) pending j q el.oldest at (order_at pending j i q p order at el.here less)
@@ -23,7 +23,7 @@ one_turn : (c : Checked) (list : List Stamped) (pending : List Pending) (k : ℕ
 one_turn c list pending k (OfRank r) (OfRank q) a b order x y class number = (ap OfRank number, one_rank c list k r a b x (subst (λ (n : ℕ). OffersRank c list k n b) (sym number) y))
 one_turn c list pending k (OfColumn p) (OfColumn q) a b order x y class number =
     let same = one_request pending x.0 y.0 p q order x.1.here y.1.here number in
-    (ap OfColumn same, one_column list q a b (subst (λ (z : Pending). WantsColumn list z a) same x.3) y.3)
+    (ap OfColumn same, x.3.1 ∙ ap (λ (z : Pending). column_of z.kind z.place) same ∙ sym y.3.1)
 one_turn c list pending k (OfRow p) (OfRow q) a b order x y class number =
     let same = one_request pending x.0 y.0 p q order x.1.here y.1.here number in
     (ap OfRow same, one_row list pending q a b (subst (λ (z : Pending). WantsRow list pending z a) same x.3) y.3)

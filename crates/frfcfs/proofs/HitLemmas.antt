@@ -11,9 +11,7 @@ one_bank : (g : Geometry) (a b : BankAddress) → IsSmall g → HasBank g a → 
 one_bank g a b small ha hb e =
     let sa = has_slot g a small ha in
     let sb = has_slot g b small hb in
-    let la = slot_small a sa in
-    let lb = slot_small b sb in
-    same_slot a b sa sb (omega (arith, la, lb, e)) (omega (arith, la, lb, e))
+    same_slot a b sa sb (omega (arith, slot_small a sa, slot_small b sb, e)) (omega (arith, slot_small a sa, slot_small b sb, e))
 
 index_small : (g : Geometry) (a : BankAddress) → IsSmall g → HasBank g a → bank_index a < 64
 index_small g a small h = let r = small.ranks in let gs = small.groups in let bs = small.banks in omega (arith, r, gs, bs, h.rank, h.group, h.bank)
@@ -62,9 +60,7 @@ flags_hits g list pending end flags are bank has = (
 
 -- a bank whose flag is clear has no hit
 pub clear_unhit : (g : Geometry) (list : List Stamped) (pending : List Pending) (hits : List Bool) (bank : BankAddress) → AreHits g list pending (length pending) hits → HasBank g bank → get_or hits (bank_index bank) false ≡ false → IsUnhit list pending bank
-clear_unhit g list pending hits bank h has clear j q el same row =
-    let e : get_or hits (bank_index bank) false ≡ true = (h bank has).1 (j, q, slice_get_within pending j q el.here, el, same, row) in
-    absurd (let k : true ≡ false = sym e ∙ clear in cc)
+clear_unhit g list pending hits bank h has clear j q el same row = absurd (cc ((h bank has).1 (j, q, slice_get_within pending j q el.here, el, same, row), clear))
 
 -- and one whose flag is set has one
 pub set_hit : (g : Geometry) (list : List Stamped) (pending : List Pending) (hits : List Bool) (bank : BankAddress) → AreHits g list pending (length pending) hits → HasBank g bank → get_or hits (bank_index bank) false ≡ true → ¬ IsUnhit list pending bank

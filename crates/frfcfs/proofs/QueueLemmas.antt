@@ -4,6 +4,7 @@ use Rattle.std.proofs.Math.ListN.{get_or-append}
 use Rattle.std.proofs.Math.Seq.{get_or-append_seam, take-append_seam}
 use Rattle.std.proofs.lemmas.Bool.{cases_eq, cases_lt, cases_order}
 use Rattle.std.specs.List.{drop-map, take-map}
+use Rattle.std.proofs.lemmas.Simd.{map-map}
 use Rattle.std.proofs.lemmas.List.{get_or-map, get_or_push, length-map, length-set, map-append}
 use Rattle.std.proofs.lemmas.List.Edits.{get_or-remove_above, get_or-remove_below, length-remove, map_over_more}
 use Rattle.std.proofs.lemmas.List.Elements.{All-map, All-push}
@@ -169,12 +170,7 @@ waiting_take w i is within = record {
 }
 
 order_held : (hold : Option ℕ) (pending : List Pending) → AreInOrder pending → AreInOrder (map (held_by hold) pending)
-order_held hold pending order i j d less within =
-    let size = length-map pending (held_by hold) in
-    let first = get_or-map (held_by hold) pending i d d (omega (arith, less, within, size)) in
-    let second = get_or-map (held_by hold) pending j d d (omega (arith, within, size)) in
-    let l = order i j d less (omega (arith, within, size)) in
-    rw (first, second) l
+order_held hold pending order i j d = grind (arith, order i j d, get_or-map (held_by hold) pending i d d, get_or-map (held_by hold) pending j d d, length-map pending (held_by hold))
 
 -- a loop that holds each request
 pub hold_more : (hold : Option ℕ) (xs ys : List Pending) (i : ℕ) (d : Pending) (b : Bool) → i < length xs → length ys ≡ length xs → ys ≡ map (held_by hold) (take i xs) ++ drop i xs → b ≡ is_held hold (get_or ys i d).kind (get_or ys i d).number →
@@ -183,8 +179,7 @@ hold_more hold xs ys i d b within size is held =
     rw held (map_over_more (held_by hold) xs ys i (get_or ys i d) within is (sym (get_or_from_slice_get ys i (get_or ys i d) (get_or ys i d) (slice_get-get_or ys i d (omega (arith, within, size))))))
 
 pub lines_held : (hold : Option ℕ) (pending : List Pending) → lines (map (held_by hold) pending) ≡ lines pending
-lines_held hold [] = refl
-lines_held hold (p ∷ pending) = ap (λ rest. p.line ∷ rest) (lines_held hold pending)
+lines_held hold pending = map-map (λ p. p.line) (held_by hold) pending
 
 pub waiting_held : (w : Waiting) (hold : Option ℕ) → IsWaiting w → IsWaiting (record w { requests = map (held_by hold) w.requests })
 waiting_held w hold is = record {

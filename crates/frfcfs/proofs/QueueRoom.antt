@@ -1,9 +1,10 @@
 -- Where a queue keeps its requests: those from a start on, with room in front of them and behind.
-use Rattle.std.proofs.Common.{◌≡◌, ◌≢◌, ℕ, ◌+◌, ◌-◌, ◌<◌, ◌≤◌, ◌↔◌, List, [], ◌∷◌, ◌++◌, Bool, Option, map, IsTrue, sym, subst, ap, ◌∙◌, arith, drop, get_or, length, length-append, All, remove}
+use Rattle.std.proofs.Common.{◌≡◌, ◌≢◌, ℕ, ◌+◌, ◌-◌, ◌<◌, ◌≤◌, ◌↔◌, List, [], ◌∷◌, ◌++◌, Bool, Option, map, IsTrue, sym, subst, ap, ◌∙◌, arith, drop, get_or, slice_get, Some, length, length-append, All, remove}
+use Rattle.std.proofs.lemmas.Option.{slice_get_within}
 use Rattle.std.proofs.lemmas.List.{drop-append-le, drop-map, length-drop, length-map}
 use Rattle.frfcfs.proofs.Common.{IsKept, MarksOldest, Pending, held_by, numbered_from}
 use Rattle.frfcfs.proofs.KeepLemmas.{length-numbered, lines_numbered, waiting_numbered}
-use Rattle.frfcfs.proofs.QueueLemmas.{lines_held, waiting_held, lines, request_push, request_take, waiting_push, waiting_take}
+use Rattle.frfcfs.proofs.QueueLemmas.{line_at, lines_held, waiting_held, lines, request_push, request_take, waiting_push, waiting_take}
 
 pub kept_in_front : (most next start room : ℕ) (pending : List Pending) (firsts : List Bool) → IsKept most next start room pending firsts → IsKept most next 0 room (drop start pending) (drop start firsts)
 kept_in_front most next start room pending firsts kept = record {
@@ -34,15 +35,16 @@ kept_push most next start room pending firsts p first kept room_left few seq her
     }
 
 -- one is taken out, and the rest are those from the next start on
-pub kept_take : (most next start end room : ℕ) (pending left : List Pending) (firsts before marks : List Bool) (i line : ℕ) (d : Pending) → IsKept most next start room pending firsts → i < length (drop start pending)
-    → get_or (lines (drop start pending)) i 0 ≡ line → start ≤ end → end ≤ start + 1 → drop end left ≡ remove (drop start pending) i → length left + 1 + start ≡ length pending + end
+pub kept_take : (most next start end room : ℕ) (pending left : List Pending) (firsts before marks : List Bool) (i : ℕ) (p : Pending) → IsKept most next start room pending firsts → slice_get (drop start pending) i ≡ Some p
+    → start ≤ end → end ≤ start + 1 → drop end left ≡ remove (drop start pending) i → length left + 1 + start ≡ length pending + end
     → drop end before ≡ remove (drop start firsts) i → length marks + 1 + start ≡ length firsts + end
-    → MarksOldest line (drop end left) (drop end before) (drop end marks) → IsKept most next end room left marks
-kept_take most next start end room pending left firsts before marks i line d kept within named least most_end taken size gone size_marks marked =
+    → MarksOldest p.line (drop end left) (drop end before) (drop end marks) → IsKept most next end room left marks
+kept_take most next start end room pending left firsts before marks i p kept at least most_end taken size gone size_marks marked =
     let n = length-drop start pending in
+    let within = slice_get_within (drop start pending) i p at in
     record {
       waiting = rw taken (waiting_take _ i kept.waiting within);
-      marks = rw taken (request_take (drop start pending) (drop start firsts) (drop end marks) i line kept.marks within named (rw (← taken, ← gone) marked));
+      marks = rw taken (request_take (drop start pending) (drop start firsts) (drop end marks) i p.line kept.marks within (line_at (drop start pending) i p at) (rw (← taken, ← gone) marked));
       within = omega (arith, within, n, size, least, most_end);
       size = omega (arith, kept.size, size, size_marks);
       fits = omega (arith, kept.fits, size, most_end);

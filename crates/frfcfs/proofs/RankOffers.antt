@@ -13,9 +13,10 @@ IsOfRank rank cmd = (cmd ≡ Ref rank) ⊎ (cmd ≡ PreAll rank)
 rows_of : (c : Checked) (list : List Stamped) (k : ℕ) (a b : Command) → a ≡ b → IsLawful c (with_command list k a) → KeepsRows c.geometry list b
 rows_of c list k a b e h = (ready_lawful c list (record { clock = k; cmd = b }) (subst (λ (x : Command). IsLawful c (with_command list k x)) e h)).rows
 
-asked : (c : Checked) (list : List Stamped) (rank k : ℕ) (cmd : Command) → IsOfRank rank cmd → IsLawful c (with_command list k cmd) → ((cmd ≡ Ref rank) × AllClosed c.geometry rank list) ⊎ ((cmd ≡ PreAll rank) × (¬ AllClosed c.geometry rank list))
-asked c list rank k cmd (inl e) h = inl (e, (rows_of c list k cmd (Ref rank) e h).rows)
-asked c list rank k cmd (inr e) h = inr (e, (rows_of c list k cmd (PreAll rank) e h).rows)
+asked : (c : Checked) (list : List Stamped) (rank k : ℕ) (cmd : Command) → IsOfRank rank cmd → IsLawful c (with_command list k cmd) →
+    (¬ IsTrue (is_asleep rank list)) × (((cmd ≡ Ref rank) × AllClosed c.geometry rank list) ⊎ ((cmd ≡ PreAll rank) × (¬ AllClosed c.geometry rank list)))
+asked c list rank k cmd (inl e) h = let keeps = rows_of c list k cmd (Ref rank) e h in (keeps.awake, inl (e, keeps.rows))
+asked c list rank k cmd (inr e) h = let keeps = rows_of c list k cmd (PreAll rank) e h in (keeps.awake, inr (e, keeps.rows))
 
 pub one_rank : (c : Checked) (list : List Stamped) (k rank : ℕ) (a b : Command) → OffersRank c list k rank a → OffersRank c list k rank b → a ≡ b
 one_rank c list k rank a b x y = grind (arith, asked c list rank k a x.kind x.lawful, asked c list rank k b y.kind y.lawful)
@@ -67,11 +68,7 @@ refresh_behind c list rank now last lead from at from_is past other k cmd l h la
 
 pub refresh_asleep : (c : Checked) (list : List Stamped) (rank now last : ℕ) → IsTrue (is_asleep rank list) → IsRankNext c list now last rank (rank + 1) None
 refresh_asleep c list rank now last asleep other k cmd l h later before offers =
-    let mine = only_rank c list k rank other cmd l h offers in
-    elim mine.kind [
-      | inl e ↦ (rows_of c list k cmd (Ref rank) e mine.lawful).awake asleep
-      | inr e ↦ (rows_of c list k cmd (PreAll rank) e mine.lawful).awake asleep
-    ]
+    let mine = only_rank c list k rank other cmd l h offers in (asked c list rank k cmd mine.kind mine.lawful).0 asleep
 
 -- what holds of two holds of the one that goes first
 pub sooner_keeps : (P : Next → Type 0) (a b r : Option Next) → IsSoonerOf a b r → IfSome a P → IfSome b P → IfSome r P

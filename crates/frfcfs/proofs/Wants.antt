@@ -7,19 +7,12 @@ use Rattle.frfcfs.proofs.Lists.{one_at}
 
 -- a request wants one command of a class
 
-pub one_column : (list : List Stamped) (request : Pending) (a b : Command) → WantsColumn list request a → WantsColumn list request b → a ≡ b
-one_column list request a b x y = x.1 ∙ sym y.1
-
 pub one_row : (list : List Stamped) (pending : List Pending) (request : Pending) (a b : Command) → WantsRow list pending request a → WantsRow list pending request b → a ≡ b
-one_row list pending request a b (inl x) (inl y) = x.1 ∙ sym y.1
-one_row list pending request a b (inl x) (inr y) = let e : None ≡ Some y.0.0 = sym x.0 ∙ y.0.1 in absurd cc
-one_row list pending request a b (inr x) (inl y) = let e : None ≡ Some x.0.0 = sym y.0 ∙ x.0.1 in absurd cc
-one_row list pending request a b (inr x) (inr y) = x.2 ∙ sym y.2
+one_row list pending request a b x y = grind (arith, x, y)
 
 -- and not one of each
 pub no_row : (list : List Stamped) (pending : List Pending) (request : Pending) (cmd : Command) → open_row (bank_at request.place) list ≡ Some request.place.row → ¬ WantsRow list pending request cmd
-no_row list pending request cmd row (inl x) = let e : Some request.place.row ≡ None = sym row ∙ x.0 in absurd cc
-no_row list pending request cmd row (inr x) = let e : Some request.place.row ≡ Some x.0.0 = sym row ∙ x.0.1 in absurd (x.0.2 cc)
+no_row list pending request cmd row wants = grind (arith, row, wants)
 
 -- the one command of a class that a request wants, which the rows allow
 pub record IsWish (Wants : Pending → Command → Type 0) (c : Checked) (list : List Stamped) (request : Pending) (cmd : Command) : Type 0 where

@@ -19,21 +19,19 @@ few_before c = subst (λ (w : Waiting). length w.requests < w.most) (sym c.self.
 has_room : (c : goal.After-self-2-1) → HasRoom c.if-len-self.self-inside
 has_room c = elim c.if-len-self.branch [
   | then-len-self w ↦
-      let few = few_before c in
-      let most = c.self.invariant.0.enough in
       let pending = w.move_to_front.ensures in
       let firsts = w.move_to_front-then-len-self.ensures in
       subst HasRoom (sym w.self-inside-is) (record {
         kept = rw (pending.items, firsts.items) (kept_in_front _ _ _ _ _ _ c.self.invariant.0);
-        room = rw pending.items (omega (arith, few, most));
-        few = rw pending.items few;
-        pending_room = (let e = pending.capacity in let r = c.self.invariant.1 in omega (arith, e, r));
-        firsts_room = (let e = firsts.capacity in let r = c.self.invariant.2 in omega (arith, e, r));
+        room = rw pending.items (omega (arith, few_before c, c.self.invariant.0.enough));
+        few = rw pending.items (few_before c);
+        pending_room = omega (arith, pending.capacity, c.self.invariant.1);
+        firsts_room = omega (arith, firsts.capacity, c.self.invariant.2);
       })
   | else-len-self w ↦
       subst HasRoom (sym w.self-inside-is) (record {
         kept = c.self.invariant.0;
-        room = (let no = w.if-len-self.false in let l = c.self.inside.pending.ok in let e = c.len.ensures in let r = c.self.invariant.0.fits in omega (arith, no, l, e, r));
+        room = omega (arith, w.if-len-self.false, c.self.inside.pending.ok, c.len.ensures, c.self.invariant.0.fits);
         few = few_before c;
         pending_room = c.self.invariant.1;
         firsts_room = c.self.invariant.2;
@@ -43,10 +41,9 @@ has_room c = elim c.if-len-self.branch [
 pub invariant_of-self-2 : goal.invariant_of-self-2
 invariant_of-self-2 c =
     let ready = has_room c in
-    let marks = subst (λ (xs : List Pending). IsTrue c.none_names-first.result ↔ All (λ p. p.line ≢ c.args.line) xs) c.requests.ensures.value c.none_names-first.ensures in
-    let kept = kept_push _ _ _ _ _ _ (record { seq = c.if-len-self.self-inside.next; place = c.args.place; line = c.args.line; kind = c.args.kind; number = c.args.number; held = c.args.held }) c.none_names-first.result ready.kept ready.room ready.few refl marks in
+    let request : Pending = record { seq = c.if-len-self.self-inside.next; place = c.args.place; line = c.args.line; kind = c.args.kind; number = c.args.number; held = c.args.held } in
     rw (c.push_reserved.ensures.items, c.push_reserved-2.ensures.items) (
-      kept,
-      (let e = c.push_reserved.ensures.capacity in let r = ready.pending_room in omega (arith, e, r)),
-      (let e = c.push_reserved-2.ensures.capacity in let r = ready.firsts_room in omega (arith, e, r)),
+      kept_push _ _ _ _ _ _ request c.none_names-first.result ready.kept ready.room ready.few refl (rw (← c.requests.ensures.value) c.none_names-first.ensures),
+      omega (arith, c.push_reserved.ensures.capacity, ready.pending_room),
+      omega (arith, c.push_reserved-2.ensures.capacity, ready.firsts_room),
     )
