@@ -43,23 +43,18 @@ firsts_marks g pending firsts order places marks i p within at =
 
 -- one more at the end
 
-firsts_push : (xs : List ℕ) (x : ℕ) (firsts : List Bool) (b : Bool) → AreFirsts xs firsts → (IsTrue b ↔ ((j : ℕ) → j < length xs → get_or xs j 0 ≢ x)) → AreFirsts (xs ++ x ∷ []) (firsts ++ b ∷ [])
-firsts_push xs x firsts b marks here = record {
-  size = omega (arith, marks.size, length-append xs (x ∷ []), length-append firsts (b ∷ []));
-  each = λ i within. push_each i within;
-}
-  where
-    push_each : (i : ℕ) → i < length (xs ++ x ∷ []) → (IsTrue (get_or (firsts ++ b ∷ []) i false) ↔ IsFirstAt (xs ++ x ∷ []) i)
-    push_each i within = grind (arith, marks.size, marks.each i, here, length-append, get_or-append, get_or_push)
-
 pub request_push : (pending : List Pending) (p : Pending) (firsts : List Bool) (b : Bool) → AreFirsts (lines pending) firsts → (IsTrue b ↔ All (λ q. q.line ≢ p.line) pending) → AreFirsts (lines (pending ++ p ∷ [])) (firsts ++ b ∷ [])
-request_push pending p firsts b marks here =
-    let n = length-map pending (λ (q : Pending). q.line) in
-    rw (map-append (λ (q : Pending). q.line) pending (p ∷ []))
-    (firsts_push (lines pending) p.line firsts b marks (
-      λ t j l same. let k : j < length pending = omega (arith, l, n) in here.0 t j p k (sym (get_or-map (λ (q : Pending). q.line) pending j p 0 k) ∙ same),
-      λ h. here.1 (λ j d l same. h j (omega (arith, l, n)) (get_or-map (λ (q : Pending). q.line) pending j d 0 l ∙ same)),
-    ))
+request_push pending p firsts b marks none =
+    rw (map-append (λ (q : Pending). q.line) pending (p ∷ [])) (record {
+      size = omega (arith, marks.size, length-append (lines pending) (p.line ∷ []), length-append firsts (b ∷ []));
+      each = each;
+    })
+  where
+    here : IsTrue b ↔ ((j : ℕ) → j < length (lines pending) → get_or (lines pending) j 0 ≢ p.line)
+    here = (λ t j. All-map (λ x. x ≢ p.line) (λ q. q.line) pending (none.0 t) j 0, λ h. none.1 (λ j d l. rw (← get_or-map (λ (q : Pending). q.line) pending j d 0 l) (h j (omega (arith, l, length-map pending (λ (q : Pending). q.line))))))
+
+    each : (i : ℕ) → i < length (lines pending ++ p.line ∷ []) → (IsTrue (get_or (firsts ++ b ∷ []) i false) ↔ IsFirstAt (lines pending ++ p.line ∷ []) i)
+    each i within = grind (arith, marks.size, marks.each i, here, length-append, get_or-append, get_or_push)
 
 -- one taken out, and the next one of its line marked
 

@@ -12,7 +12,7 @@ kept_in_front most next start room pending firsts kept = record {
   marks = kept.marks;
   within = omega arith;
   size = length-drop start firsts ∙ (ap (λ (n : ℕ). n - start) kept.size ∙ sym (length-drop start pending));
-  fits = (let n = length-drop start pending in let r = kept.fits in omega (arith, n, r));
+  fits = omega (arith, length-drop start pending, kept.fits);
   enough = kept.enough;
 }
 
@@ -21,15 +21,13 @@ pub kept_push : (most next start room : ℕ) (pending : List Pending) (firsts : 
 kept_push most next start room pending firsts p first kept room_left few seq here =
     let more = length-append pending (p ∷ []) in
     let more_firsts = length-append firsts (first ∷ []) in
-    let start_kept = kept.within in
-    let size = kept.size in
-    let rest = drop-append-le start pending (p ∷ []) start_kept in
-    let rest_firsts = drop-append-le start firsts (first ∷ []) (omega (arith, start_kept, size)) in
+    let rest = drop-append-le start pending (p ∷ []) kept.within in
+    let rest_firsts = drop-append-le start firsts (first ∷ []) (omega (arith, kept.within, kept.size)) in
     record {
       waiting = rw rest (waiting_push _ p kept.waiting seq few);
       marks = rw (rest, rest_firsts) (request_push (drop start pending) p (drop start firsts) first kept.marks here);
-      within = omega (arith, start_kept, more);
-      size = omega (arith, size, more, more_firsts);
+      within = omega (arith, kept.within, more);
+      size = omega (arith, kept.size, more, more_firsts);
       fits = omega (arith, room_left, more);
       enough = kept.enough;
     }

@@ -1,7 +1,7 @@
 -- The REF or PREA of a rank in a span, and the one of several ranks that goes first.
 use Rattle.std.proofs.Common.{◌≡◌, ℕ, ◌+◌, ◌*◌, ◌<◌, ◌≤◌, ◌⊎◌, ◌↔◌, max, min, List, Option, Some, None, IsTrue, inl, inr, arith, sym, subst, ◌∙◌, IfSome}
 use Rattle.std.proofs.lemmas.Bool.{cases_lt}
-use Rattle.frfcfs.proofs.Common.{AllClosed, Checked, Command, IsLawful, IsRankNext, IsSoonerOf, KeepsRows, Next, OffersRank, PreAll, Ref, Stamped, is_asleep, last_ref, ref_count, with_command}
+use Rattle.frfcfs.proofs.Common.{AllClosed, Checked, Command, IsLawful, IsRankNext, IsRankNextAt, IsSoonerOf, KeepsRows, Next, OffersRank, PreAll, Ref, Stamped, is_asleep, last_ref, ref_count, with_command}
 use Rattle.ddr4_timing.proofs.Ready.{ready_lawful}
 use Rattle.frfcfs.proofs.Leads.{lead_at}
 
@@ -76,38 +76,23 @@ sooner_keeps P None b r is p q = rw is q
 sooner_keeps P (Some x) None r is p q = rw is p
 sooner_keeps P (Some x) (Some y) r is p q = elim is [ inl h ↦ rw h.1 p | inr h ↦ rw h.1 q ]
 
+-- the first of some ranks is the first of more where no other goes sooner
+stays_first : (c : Checked) (list : List Stamped) (now last low end inner outer : ℕ) (next : Next) (is : IsRankNextAt c list now last inner outer next) → low ≤ inner → outer ≤ end →
+    ((other k : ℕ) (cmd : Command) → low ≤ other → other < end → now ≤ k → k ≤ last → OffersRank c list k other cmd → (next.clock ≤ k) × (k ≡ next.clock → is.rank ≤ other)) → IsRankNextAt c list now last low end next
+stays_first c list now last low end inner outer next is l h first = record {
+  rank = is.rank;
+  from = omega (arith, l, is.from);
+  until = omega (arith, h, is.until);
+  offers = is.offers;
+  first = first;
+}
+
 -- ranks below one, and those from it on
 pub rank_sooner : (c : Checked) (list : List Stamped) (now last low mid end : ℕ) (a b r : Option Next) → low ≤ mid → mid ≤ end → IsSoonerOf a b r → IsRankNext c list now last low mid a → IsRankNext c list now last mid end b → IsRankNext c list now last low end r
 rank_sooner c list now last low mid end None None r lm me is f g = rw is (λ other k cmd l h later before offers. grind (arith, f other k cmd, g other k cmd))
-rank_sooner c list now last low mid end None (Some y) r lm me is f g =
-    rw is (record {
-      rank = g.rank;
-      from = omega (arith, lm, g.from);
-      until = g.until;
-      offers = g.offers;
-      first = λ other k cmd l h later before offers. grind (arith, f other k cmd, g.first other k cmd);
-    })
-rank_sooner c list now last low mid end (Some x) None r lm me is f g =
-    rw is (record {
-      rank = f.rank;
-      from = f.from;
-      until = omega (arith, me, f.until);
-      offers = f.offers;
-      first = λ other k cmd l h later before offers. grind (arith, f.first other k cmd, g other k cmd);
-    })
+rank_sooner c list now last low mid end None (Some y) r lm me is f g = rw is (stays_first c list now last low end mid end y g lm (omega arith) (λ other k cmd l h later before offers. grind (arith, f other k cmd, g.first other k cmd)))
+rank_sooner c list now last low mid end (Some x) None r lm me is f g = rw is (stays_first c list now last low end low mid x f (omega arith) me (λ other k cmd l h later before offers. grind (arith, f.first other k cmd, g other k cmd)))
 rank_sooner c list now last low mid end (Some x) (Some y) r lm me (inl is) f g =
-    rw is.1 (record {
-      rank = f.rank;
-      from = f.from;
-      until = omega (arith, me, f.until);
-      offers = f.offers;
-      first = λ other k cmd l h later before offers. grind (arith, is.0, f.until, f.first other k cmd, g.first other k cmd);
-    })
+    rw is.1 (stays_first c list now last low end low mid x f (omega arith) me (λ other k cmd l h later before offers. grind (arith, is.0, f.until, f.first other k cmd, g.first other k cmd)))
 rank_sooner c list now last low mid end (Some x) (Some y) r lm me (inr is) f g =
-    rw is.1 (record {
-      rank = g.rank;
-      from = omega (arith, lm, g.from);
-      until = g.until;
-      offers = g.offers;
-      first = λ other k cmd l h later before offers. grind (arith, is.0, f.first other k cmd, g.first other k cmd);
-    })
+    rw is.1 (stays_first c list now last low end mid end y g lm (omega arith) (λ other k cmd l h later before offers. grind (arith, is.0, f.first other k cmd, g.first other k cmd)))

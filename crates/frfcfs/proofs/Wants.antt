@@ -85,13 +85,6 @@ takes_from Wants c list pending last index least end k request cmd lawful wish e
       ),
 )
 
--- a request takes none of a class of which it wants no command that the geometry has
-pub takes_none : (Wants : Pending → Command → Type 0) (c : Checked) (list : List Stamped) (pending : List Pending) (last index k : ℕ) (request : Pending) → IsEligible pending index request →
-    ((cmd : Command) → Wants request cmd → ¬ IsInGeometry c.geometry cmd) → ¬ Takes Wants c list pending last index k
-takes_none Wants c list pending last index k request el never h =
-    let own = one_at pending index index h.0 request h.3.here el.here refl in
-    never h.1 (subst (λ (r : Pending). Wants r h.1) own h.5) (ready_lawful c list (record { clock = k; cmd = h.1 }) h.4.lawful).rows.place
-
 -- a command that is wanted goes to the bank of the request's place
 
 pub column_in : (g : Geometry) (place : Place) (kind : Kind) → (IsInGeometry g (column_of kind place) ↔ (HasBank g (bank_at place) × (place.column < g.columns)))

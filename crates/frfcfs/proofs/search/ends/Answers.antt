@@ -12,21 +12,19 @@ loop-rank-preserved c =
     let end = c.if-is_asleep.ends in
     let size = c.loop-rank.invariant.size in
     let within : rank < length ends = omega (arith, b.is_small.ranks, ap (λ x. x.geometry.ranks) c.checked.ensures, size) in
-    let early : end ≤ limit_of c.args.last =
+    let here : (end ≤ limit_of c.args.last) × ((list : List Stamped) → Stands c.args.banks.now list → IsEnd b list rank c.args.last end) =
     elim c.if-is_asleep.branch [
-      | then-is_asleep w ↦ omega (arith, w.ends-is)
-      | else-is_asleep w ↦ omega (arith, w.ends-is, w.min.ensures, w.saturating_add.ensures)
-    ] in
-    let here : (list : List Stamped) → Stands c.args.banks.now list → IsEnd b list rank c.args.last end = λ list s.
-    elim c.if-is_asleep.branch [
-      | then-is_asleep w ↦ rw w.ends-is (end_asleep b list rank c.args.last (cc (c.is_asleep.ensures list s)))
-      | else-is_asleep w ↦
-          end_awake b list rank c.args.last w.lead_from.result w.saturating_add.result end (w.lead_from.ensures list s) (λ on. absurd (cc (c.is_asleep.ensures list s, w.if-is_asleep.false, on))) (omega arith) w.saturating_add.ensures (w.ends-is ∙ w.min.ensures)
+      | then-is_asleep w ↦ (omega (arith, w.ends-is), λ list s. rw w.ends-is (end_asleep b list rank c.args.last (cc (c.is_asleep.ensures list s))))
+      | else-is_asleep w ↦ (
+        omega (arith, w.ends-is, w.min.ensures, w.saturating_add.ensures),
+        λ list s.
+            end_awake b list rank c.args.last w.lead_from.result w.saturating_add.result end (w.lead_from.ensures list s) (λ on. absurd (cc (c.is_asleep.ensures list s, w.if-is_asleep.false, on))) (omega arith) w.saturating_add.ensures (w.ends-is ∙ w.min.ensures),
+      )
     ] in
     record {
       size = length-set ends rank end ∙ size;
-      early = early_set (limit_of c.args.last) rank end ends within early c.loop-rank.invariant.early;
-      ends = λ list s. ends_set b list c.args.last rank end ends within (here list s) (c.loop-rank.invariant.ends list s);
+      early = early_set (limit_of c.args.last) rank end ends within here.0 c.loop-rank.invariant.early;
+      ends = λ list s. ends_set b list c.args.last rank end ends within (here.1 list s) (c.loop-rank.invariant.ends list s);
     }
 
 pub returns-clause-ends : goal.returns-clause-ends
