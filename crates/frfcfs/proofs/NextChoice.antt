@@ -50,8 +50,7 @@ rank_next c list pending now last until bests next best is at from le serves =
   where
     least : (other : Turn) (cmd : Command) → IsCandidate c list pending next.clock other cmd → IsNotAfter (OfRank is.rank) other
     least (OfRank r) cmd h = record { class = omega arith; number = λ _. (is.first r next.clock cmd (omega arith) h.within from le h).1 refl }
-    least (OfColumn p) cmd h = record { class = omega arith; number = λ e. absurd (omega (arith, e)) }
-    least (OfRow p) cmd h = record { class = omega arith; number = λ e. absurd (omega (arith, e)) }
+    least other cmd h = record { class = omega arith; number = λ e. absurd (omega (arith, e)) }
 
 -- a request's RD or WR
 pub column_next : (c : Checked) (list : List Stamped) (pending : List Pending) (now last until : ℕ) (bests : Bests) (next : Next) → AreInOrder pending → AreAllBest c list pending now last bests → IsRankNext c list now until 0 c.geometry.ranks None →

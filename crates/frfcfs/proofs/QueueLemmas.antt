@@ -100,10 +100,7 @@ oldest_at line pending (Some n) (p, at, is, before) = record {
 first_now : (xs : List ℕ) (i k : ℕ) (place : Option ℕ) → i < length xs → k < length (remove xs i) → IsOldestAt (get_or xs i 0) (remove xs i) place → (IsFirstAt (remove xs i) k ↔ (IsFirstAt xs (stood i k) ⊎ (place ≡ Some k)))
 first_now xs i k place within less oldest = (
   λ first. elim (cases_eq (get_or (remove xs i) k 0) (get_or xs i 0)) [
-    | inl same ↦ let (m, is, le) = oldest.upto k less same in elim (cases_lt m k) [
-      | inl l ↦ absurd (first m l (oldest.here m is ∙ sym same))
-      | inr g ↦ inr (is ∙ ap Some (omega (arith, le, g)))
-    ]
+    | inl same ↦ let (m, is, le) = oldest.upto k less same in inr (grind (arith, is, le, same, first m, oldest.here m is))
     | inr other ↦ inl (was_first xs i k within (λ same. other (get_or-stood xs i k 0 within ∙ sym same)) first)
   ],
   λ h. elim h [
@@ -113,11 +110,8 @@ first_now xs i k place within less oldest = (
 )
 
 marked_now : (firsts : List Bool) (k : ℕ) (place : Option ℕ) → k < length firsts → (IsTrue (get_or (marked_at place firsts) k false) ↔ (IsTrue (get_or firsts k false) ⊎ (place ≡ Some k)))
-marked_now firsts k None within = (λ t. inl t, λ h. elim h [ inl t ↦ t | inr is ↦ absurd cc ])
-marked_now firsts k (Some m) within = elim (cases_eq k m) [
-  | inl e ↦ rw (e, get_or-set_same firsts m true false (omega (arith, e, within))) (λ _. inr refl, λ _. refl)
-  | inr other ↦ rw (get_or-set_other firsts m k true false other) (λ t. inl t, λ h. elim h [ inl t ↦ t | inr is ↦ absurd (other cc) ])
-]
+marked_now firsts k None within = grind arith
+marked_now firsts k (Some m) within = grind (arith, get_or-set_same firsts m true false, get_or-set_other firsts m k true false)
 
 length-marked : (place : Option ℕ) (firsts : List Bool) → length (marked_at place firsts) ≡ length firsts
 length-marked None firsts = refl
@@ -134,10 +128,7 @@ firsts_take xs firsts i place marks within oldest =
           let marked = marked_now (remove firsts i) k place (omega (arith, l, shorter, left, size)) in
           let first = first_now xs i k place within l oldest in
           let each = marks.each (stood i k) (grind (arith, l, left)) in
-          let same = get_or-stood firsts i k false (omega (arith, size, within)) in (
-            λ t. first.1 (elim (marked.0 t) [ inl u ↦ inl (each.0 (sym same ∙ u)) | inr is ↦ inr is ]),
-            λ f. marked.1 (elim (first.0 f) [ inl u ↦ inl (same ∙ each.1 u) | inr is ↦ inr is ]),
-          );
+          grind (arith, marked, first, each, get_or-stood firsts i k false (omega (arith, size, within)));
     }
 
 pub request_take : (pending : List Pending) (firsts new : List Bool) (i line : ℕ) → AreFirsts (lines pending) firsts → i < length pending → get_or (lines pending) i 0 ≡ line → MarksOldest line (remove pending i) (remove firsts i) new → AreFirsts (lines (remove pending i)) new

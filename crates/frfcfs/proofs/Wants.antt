@@ -16,20 +16,18 @@ no_row list pending request cmd row wants = grind (arith, row, wants)
 
 -- the one command of a class that a request wants, which the rows allow
 pub record IsWish (Wants : Pending → Command → Type 0) (c : Checked) (list : List Stamped) (request : Pending) (cmd : Command) : Type 0 where
-  pub wants : Wants request cmd
-  pub only : (other : Command) → Wants request other → other ≡ cmd
+  pub exact : (other : Command) → (Wants request other ↔ (other ≡ cmd))
   pub place : IsInGeometry c.geometry cmd
   pub rows : FitsRows c.geometry list cmd
   pub rank : rank_of cmd ≡ request.place.rank
 
 column_fits : (c : Checked) (list : List Stamped) (request : Pending) (kind : Kind) → open_row (bank_at request.place) list ≡ Some request.place.row → FitsRows c.geometry list (column_of kind request.place) × (rank_of (column_of kind request.place) ≡ request.place.rank)
-column_fits c list request Read row = (λ none. let e : Some request.place.row ≡ None = sym row ∙ none in cc, refl)
-column_fits c list request Write row = (λ none. let e : Some request.place.row ≡ None = sym row ∙ none in cc, refl)
+column_fits c list request Read row = (λ none. cc (row, none), refl)
+column_fits c list request Write row = (λ none. cc (row, none), refl)
 
 pub wishes_column : (c : Checked) (list : List Stamped) (request : Pending) (cmd : Command) → cmd ≡ column_of request.kind request.place → open_row (bank_at request.place) list ≡ Some request.place.row → IsInGeometry c.geometry cmd → IsWish (WantsColumn list) c list request cmd
 wishes_column c list request cmd is row place = record {
-  wants = (row, is);
-  only = λ other w. w.1 ∙ sym is;
+  exact = λ other. (λ w. w.1 ∙ sym is, λ e. (row, e ∙ is));
   place = place;
   rows = rw is (column_fits c list request request.kind row).0;
   rank = ap rank_of is ∙ (column_fits c list request request.kind row).1;
@@ -37,8 +35,7 @@ wishes_column c list request cmd is row place = record {
 
 pub wishes_act : (c : Checked) (list : List Stamped) (pending : List Pending) (request : Pending) (cmd : Command) → cmd ≡ act_of request.place → open_row (bank_at request.place) list ≡ None → IsInGeometry c.geometry cmd → IsWish (WantsRow list pending) c list request cmd
 wishes_act c list pending request cmd is row place = record {
-  wants = inl (row, is);
-  only = λ other w. one_row list pending request other cmd w (inl (row, is));
+  exact = λ other. (λ w. one_row list pending request other cmd w (inl (row, is)), λ e. inl (row, e ∙ is));
   place = place;
   rows = rw is row;
   rank = ap rank_of is;
@@ -46,14 +43,12 @@ wishes_act c list pending request cmd is row place = record {
 
 pub wishes_pre : (c : Checked) (list : List Stamped) (pending : List Pending) (request : Pending) (row : ℕ) (cmd : Command) → cmd ≡ pre_of request.place → open_row (bank_at request.place) list ≡ Some row → row ≢ request.place.row →
     IsUnhit list pending (bank_at request.place) → IsInGeometry c.geometry cmd → IsWish (WantsRow list pending) c list request cmd
-wishes_pre c list pending request row cmd is opened differs unhit place =
-    let wants : WantsRow list pending request cmd = inr ((row, opened, differs), unhit, is) in record {
-      wants = wants;
-      only = λ other w. one_row list pending request other cmd w wants;
-      place = place;
-      rows = rw is (λ none. let e : Some row ≡ None = sym opened ∙ none in cc);
-      rank = ap rank_of is;
-    }
+wishes_pre c list pending request row cmd is opened differs unhit place = record {
+  exact = λ other. (λ w. one_row list pending request other cmd w (inr ((row, opened, differs), unhit, is)), λ e. inr ((row, opened, differs), unhit, e ∙ is));
+  place = place;
+  rows = rw is (λ none. cc (opened, none));
+  rank = ap rank_of is;
+}
 
 -- it may have it from the command's least clock on and before the rank's end
 pub takes_from : (Wants : Pending → Command → Type 0) (c : Checked) (list : List Stamped) (pending : List Pending) (last index least end k : ℕ) (request : Pending) (cmd : Command) →
@@ -62,27 +57,17 @@ pub takes_from : (Wants : Pending → Command → Type 0) (c : Checked) (list : 
 takes_from Wants c list pending last index least end k request cmd lawful wish el is ends = (
   λ h.
       let own = one_at pending index index h.0 request h.3.here el.here refl in
-      let same = wish.only h.1 (subst (λ (r : Pending). Wants r h.1) own h.5) in
+      let same = (wish.exact h.1).0 (subst (λ (r : Pending). Wants r h.1) own h.5) in
       let ready = ready_lawful c list (record { clock = k; cmd = cmd }) (subst (λ (x : Command). IsLawful c (with_command list k x)) same h.4.lawful) in
-      let e = ready.clock in
-      let rests = subst (λ (r : Pending). ¬ IsInLead c.timing list k r.place.rank) own h.4.rests in
-      (omega (arith, e, is), (ends k).1 (h.2, subst (λ (r : ℕ). ¬ IsTrue (is_asleep r list)) wish.rank ready.rows.awake, rests)),
+      (omega (arith, ready.clock, is), (ends k).1 (h.2, rw (← wish.rank) ready.rows.awake, rw (← own) h.4.rests)),
   λ h.
-      let span = (ends k).0 h.1 in (
-        request,
-        cmd,
-        span.0,
-        el,
-        record {
-          rests = span.2;
-          lawful = lawful_ready c list (record { clock = k; cmd = cmd }) lawful (record {
-            rows = record { place = wish.place; awake = subst (λ (r : ℕ). ¬ IsTrue (is_asleep r list)) (sym wish.rank) span.1; rows = wish.rows };
-            clock = (let l = h.0 in omega (arith, is, l));
-            in_time = subst (λ (r : ℕ). k ≤ last_ref r list + 9 * c.timing.t_refi) (sym wish.rank) (rest_in_time c list request.place.rank k lawful span.2);
-          });
-        },
-        wish.wants,
-      ),
+      let span = (ends k).0 h.1 in
+      let ready = lawful_ready c list (record { clock = k; cmd = cmd }) lawful (record {
+        rows = record { place = wish.place; awake = rw wish.rank span.1; rows = wish.rows };
+        clock = omega (arith, is, h.0);
+        in_time = rw wish.rank (rest_in_time c list request.place.rank k lawful span.2);
+      }) in
+      (request, cmd, span.0, el, record { rests = span.2; lawful = ready }, (wish.exact cmd).1 refl),
 )
 
 -- a command that is wanted goes to the bank of the request's place
