@@ -52,42 +52,40 @@ rank_next c list pending now last until bests next best is at from le serves =
     least (OfRank r) cmd h = record { class = omega arith; number = λ _. (is.first r next.clock cmd (omega arith) h.within from le h).1 refl }
     least other cmd h = record { class = omega arith; number = λ e. absurd (omega (arith, e)) }
 
--- a request's RD or WR
+-- a request's command where no rank has an offer: of the requests only the best one of a class may have its command at the same clock
+request_next : (c : Checked) (list : List Stamped) (pending : List Pending) (now last until : ℕ) (bests : Bests) (next : Next) (turn : Turn) → AreAllBest c list pending now last bests → IsRankNext c list now until 0 c.geometry.ranks None →
+    until ≡ min (min bests.column.clock bests.row.clock) last → now ≤ next.clock → next.clock ≤ min (min bests.column.clock bests.row.clock) last → IsCandidate c list pending next.clock turn next.cmd → ServesInTurn pending turn next.serves →
+    ((p : Pending) (i : ℕ) → IsEligible pending i p → next.clock ≡ bests.column.clock → bests.column.index ≤ i → IsNotAfter turn (OfColumn p)) →
+    ((p : Pending) (i : ℕ) → IsEligible pending i p → next.clock ≡ bests.row.clock → bests.row.index ≤ i → IsNotAfter turn (OfRow p)) → IsNextIn c list pending now last (Some next)
+request_next c list pending now last until bests next turn best none is from le candidate serves columns rows =
+    at_first c list pending now last bests next turn best (λ k f less. no_rank c list now until k none f (omega (arith, less, le, is))) from le (record { candidate = candidate; least = least }) serves
+  where
+    least : (other : Turn) (cmd : Command) → IsCandidate c list pending next.clock other cmd → IsNotAfter turn other
+    least (OfRank r) cmd h = absurd (no_rank c list now until next.clock none from (omega (arith, le, is)) r cmd h)
+    least (OfColumn p) cmd h =
+        let f = after_best (WantsColumn list) c list pending now last next.clock bests.column p cmd best.column from (omega (arith, le)) h in let same : next.clock ≡ bests.column.clock = omega (arith, f.1, le) in columns p h.0 h.1 same (f.2 same)
+    least (OfRow p) cmd h =
+        let f = after_best (WantsRow list pending) c list pending now last next.clock bests.row p cmd best.row from (omega (arith, le)) h in let same : next.clock ≡ bests.row.clock = omega (arith, f.1, le) in rows p h.0 h.1 same (f.2 same)
+
+-- its RD or WR
 pub column_next : (c : Checked) (list : List Stamped) (pending : List Pending) (now last until : ℕ) (bests : Bests) (next : Next) → AreInOrder pending → AreAllBest c list pending now last bests → IsRankNext c list now until 0 c.geometry.ranks None →
     until ≡ min (min bests.column.clock bests.row.clock) last → now ≤ bests.column.clock → bests.column.clock < limit_of last → bests.column.clock ≤ bests.row.clock → next.clock ≡ bests.column.clock → next.serves ≡ Some bests.column.index →
     ((request : Pending) (cmd : Command) → slice_get pending bests.column.index ≡ Some request → WantsColumn list request cmd → cmd ≡ next.cmd) → IsNextIn c list pending now last (Some next)
 column_next c list pending now last until bests next order best none is from early before at serves one =
     let (request, cmd, le, el, have, wants) = (best.column.found early).1 in
     let same = one request cmd el.here wants in
-    at_first c list pending now last bests next (OfColumn request) best (λ k f less. no_rank c list now until k none f (omega (arith, less, at, le, before, is)))
-    (omega (arith, at, from)) (omega (arith, at, le, before)) (record { candidate = rw (at, ← same) (bests.column.index, el, have, wants); least = least request el.here le }) (rw serves el.here)
-  where
-    least : (request : Pending) → slice_get pending bests.column.index ≡ Some request → bests.column.clock ≤ last → (other : Turn) (cmd : Command) → IsCandidate c list pending next.clock other cmd → IsNotAfter (OfColumn request) other
-    least request here le (OfRank r) cmd h = absurd (no_rank c list now until next.clock none (omega (arith, at, from)) (omega (arith, at, le, before, is)) r cmd h)
-    least request here le (OfColumn p) cmd h = record {
-      class = omega arith;
-      number = λ _. order_upto pending bests.column.index h.0 request p order here h.1.here ((after_best (WantsColumn list) c list pending now last next.clock bests.column p cmd best.column (omega (arith, at, from)) (omega (arith, at, le)) h).2 at);
-    }
-    least request here le (OfRow p) cmd h = record { class = omega arith; number = λ e. absurd (omega (arith, e)) }
+    request_next c list pending now last until bests next (OfColumn request) best none is (omega (arith, at, from)) (omega (arith, at, le, before)) (rw (at, ← same) (bests.column.index, el, have, wants)) (rw serves el.here)
+    (λ p i own _ younger. record { class = omega arith; number = λ _. order_upto pending bests.column.index i request p order el.here own.here younger }) (λ p i own _ younger. record { class = omega arith; number = λ e. absurd (omega (arith, e)) })
 
--- a request's ACT or PRE
+-- its ACT or PRE
 pub row_next : (c : Checked) (list : List Stamped) (pending : List Pending) (now last until : ℕ) (bests : Bests) (next : Next) → AreInOrder pending → AreAllBest c list pending now last bests → IsRankNext c list now until 0 c.geometry.ranks None →
     until ≡ min (min bests.column.clock bests.row.clock) last → now ≤ bests.row.clock → bests.row.clock < limit_of last → bests.row.clock < bests.column.clock → next.clock ≡ bests.row.clock → next.serves ≡ None →
     ((request : Pending) (cmd : Command) → slice_get pending bests.row.index ≡ Some request → WantsRow list pending request cmd → cmd ≡ next.cmd) → IsNextIn c list pending now last (Some next)
 row_next c list pending now last until bests next order best none is from early ahead at serves one =
     let (request, cmd, le, el, have, wants) = (best.row.found early).1 in
     let same = one request cmd el.here wants in
-    at_first c list pending now last bests next (OfRow request) best (λ k f less. no_rank c list now until k none f (omega (arith, less, at, le, ahead, is)))
-    (omega (arith, at, from)) (omega (arith, at, le, ahead)) (record { candidate = rw (at, ← same) (bests.row.index, el, have, wants); least = least request el.here le }) serves
-  where
-    least : (request : Pending) → slice_get pending bests.row.index ≡ Some request → bests.row.clock ≤ last → (other : Turn) (cmd : Command) → IsCandidate c list pending next.clock other cmd → IsNotAfter (OfRow request) other
-    least request here le (OfRank r) cmd h = absurd (no_rank c list now until next.clock none (omega (arith, at, from)) (omega (arith, at, le, ahead, is)) r cmd h)
-    least request here le (OfColumn p) cmd h =
-        let f = (after_best (WantsColumn list) c list pending now last next.clock bests.column p cmd best.column (omega (arith, at, from)) (omega (arith, at, le)) h).1 in absurd (omega (arith, at, ahead, f))
-    least request here le (OfRow p) cmd h = record {
-      class = omega arith;
-      number = λ _. order_upto pending bests.row.index h.0 request p order here h.1.here ((after_best (WantsRow list pending) c list pending now last next.clock bests.row p cmd best.row (omega (arith, at, from)) (omega (arith, at, le)) h).2 at);
-    }
+    request_next c list pending now last until bests next (OfRow request) best none is (omega (arith, at, from)) (omega (arith, at, le, ahead)) (rw (at, ← same) (bests.row.index, el, have, wants)) serves
+    (λ p i own same _. absurd (omega (arith, same, at, ahead))) (λ p i own _ younger. record { class = omega arith; number = λ _. order_upto pending bests.row.index i request p order el.here own.here younger })
 
 -- none
 pub none_next : (c : Checked) (list : List Stamped) (pending : List Pending) (now last until : ℕ) (bests : Bests) → AreAllBest c list pending now last bests → IsRankNext c list now until 0 c.geometry.ranks None →
