@@ -1,5 +1,5 @@
 -- The table of banks whose open row is hit, one request at a time.
-use Rattle.std.proofs.Common.{◌≡◌, ℕ, ◌+◌, ◌<◌, ◌↔◌, ◌⊎◌, List, Some, Bool, true, false, inl, inr, arith, ap, ◌∙◌, refl, sym, subst, get_or, set, length, get_or-set_other, get_or-set_same, IsTrue, replicate, slice_get}
+use Rattle.std.proofs.Common.{◌≡◌, ℕ, ◌+◌, ◌<◌, ◌↔◌, List, Some, Bool, true, false, inl, inr, arith, ap, ◌∙◌, refl, sym, subst, get_or, set, length, get_or-set_other, get_or-set_same, IsTrue, replicate, slice_get}
 use Rattle.std.proofs.lemmas.Bool.{cases_eq, cases_lt}
 use Rattle.std.proofs.lemmas.List.{get_or-replicate}
 use Rattle.std.proofs.lemmas.Option.{slice_get_within, slice_get-get_or}
@@ -48,7 +48,8 @@ flags_none g list pending small bank has = (
   λ h. absurd (omega (arith, h.1)),
 )
 
-pub flags_kept : (g : Geometry) (list : List Stamped) (pending : List Pending) (flags after : List Bool) (i : ℕ) → after ≡ flags → ((bank : BankAddress) → HasBank g bank → ¬ HitsAt list pending bank i) → AreFlags g list pending i flags → AreFlags g list pending (i + 1) after
+pub flags_kept : (g : Geometry) (list : List Stamped) (pending : List Pending) (flags after : List Bool) (i : ℕ) → after ≡ flags → ((bank : BankAddress) → HasBank g bank → ¬ HitsAt list pending bank i) →
+    AreFlags g list pending i flags → AreFlags g list pending (i + 1) after
 flags_kept g list pending flags after i is never before bank has = kept_flag (HitsAt list pending bank) _ _ i (ap (λ x. get_or x (bank_index bank) false) is) (never bank has) (before bank has)
 
 -- at the end
@@ -97,7 +98,8 @@ flags_there g list pending flags after i n d own small size within look is at na
           (λ w. other (sym (index ∙ ap (λ (q : Pending). bank_index (bank_at q.place)) (one_at pending i i p w.0 el.here w.1.here refl) ∙ ap (λ (b : BankAddress). bank_index b) w.2))) (before bank has)
     ]
 
-pub none_hits : (list : List Stamped) (pending : List Pending) (i : ℕ) (d : Pending) (bank : BankAddress) → i < length pending → (IsTrue false ↔ (open_row (bank_at (get_or pending i d).place) list ≡ Some (get_or pending i d).place.row)) → ¬ HitsAt list pending bank i
+pub none_hits : (list : List Stamped) (pending : List Pending) (i : ℕ) (d : Pending) (bank : BankAddress) → i < length pending →
+    (IsTrue false ↔ (open_row (bank_at (get_or pending i d).place) list ≡ Some (get_or pending i d).place.row)) → ¬ HitsAt list pending bank i
 none_hits list pending i d bank within miss (q, el, at, row) =
     let e : q ≡ get_or pending i d = one_at pending i i q (get_or pending i d) el.here (slice_get-get_or pending i d within) refl in
     let no : false ≡ true = miss.1 (subst (λ (p : Pending). open_row (bank_at p.place) list ≡ Some p.place.row) e (rw at row)) in absurd cc

@@ -1,7 +1,7 @@
 -- The first of the ranks' and the requests' commands is the next choice.
-use Rattle.std.proofs.Common.{◌≡◌, ℕ, ◌<◌, ◌≤◌, ◌^◌, min, List, Option, Some, None, arith, refl, sym, subst, length, slice_get}
+use Rattle.std.proofs.Common.{◌≡◌, ℕ, ◌<◌, ◌≤◌, ◌^◌, min, List, Some, None, arith, refl, length, slice_get}
 use Rattle.std.proofs.lemmas.Option.{slice_get_within}
-use Rattle.frfcfs.proofs.Common.{AreBest, AreInOrder, Best, Bests, Checked, Command, HasNoCandidate, IsCandidate, IsBest, IsChoice, IsEligible, IsLawful, IsLeast, IsNextIn, IsNotAfter, IsRankNext, MayHave, Next, OfColumn, OfRank, OfRow, OffersRank, Pending, ServesInTurn, Stamped, Takes, Turn, WantsColumn, WantsRow, limit_of, with_command}
+use Rattle.frfcfs.proofs.Common.{AreBest, AreInOrder, Best, Bests, Checked, Command, HasNoCandidate, IsCandidate, IsBest, IsEligible, IsLawful, IsLeast, IsNextIn, IsNotAfter, IsRankNext, MayHave, Next, OfColumn, OfRank, OfRow, OffersRank, Pending, ServesInTurn, Stamped, Takes, Turn, WantsColumn, WantsRow, limit_of, with_command}
 use Rattle.frfcfs.proofs.Lists.{order_upto}
 
 -- the best of each class among all requests
@@ -9,8 +9,8 @@ abbrev pub AreAllBest : Checked → List Stamped → List Pending → ℕ → �
 AreAllBest c list pending now last bests = AreBest c list pending now last (limit_of last) (length pending) bests
 
 -- a request has its command of a class no sooner than the best one of it
-after_best : (Wants : Pending → Command → Type 0) (c : Checked) (list : List Stamped) (pending : List Pending) (now last k : ℕ) (best : Best) (p : Pending) (cmd : Command) → IsBest (Takes Wants c list pending last) now (limit_of last) (length pending) best → now ≤ k → k ≤ last →
-    (h : (i : ℕ) × IsEligible pending i p × MayHave c list k p cmd × Wants p cmd) → (k < limit_of last) × (best.clock ≤ k) × (k ≡ best.clock → best.index ≤ h.0)
+after_best : (Wants : Pending → Command → Type 0) (c : Checked) (list : List Stamped) (pending : List Pending) (now last k : ℕ) (best : Best) (p : Pending) (cmd : Command) →
+    IsBest (Takes Wants c list pending last) now (limit_of last) (length pending) best → now ≤ k → k ≤ last → (h : (i : ℕ) × IsEligible pending i p × MayHave c list k p cmd × Wants p cmd) → (k < limit_of last) × (best.clock ≤ k) × (k ≡ best.clock → best.index ≤ h.0)
 after_best Wants c list pending now last k best p cmd is from until (i, el, have, wants) = is.first i k (slice_get_within pending i p el.here) from (p, cmd, until, el, have, wants)
 
 -- no rank has an offer at a clock

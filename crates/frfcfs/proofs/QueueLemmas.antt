@@ -1,7 +1,7 @@
 -- Queues that grow, shrink and are held, and what their marks say.
-use Rattle.std.proofs.Common.{if◌then◌else◌, ltb, ◌≡◌, ◌≢◌, ℕ, ◌+◌, ◌-◌, ◌<◌, ◌≤◌, ◌↔◌, ◌⊎◌, List, [], ◌∷◌, ◌++◌, Bool, IsTrue, true, false, Option, Some, None, inl, inr, refl, sym, subst, ap, ◌∙◌, arith, map, take, drop, length, length-append, get_or, set, get_or-set_same, get_or-set_other, All, remove, slice_get}
+use Rattle.std.proofs.Common.{if◌then◌else◌, ltb, ◌≡◌, ◌≢◌, ℕ, ◌+◌, ◌-◌, ◌<◌, ◌≤◌, ◌↔◌, ◌⊎◌, List, [], ◌∷◌, ◌++◌, Bool, IsTrue, true, false, Option, Some, None, inl, inr, refl, sym, ap, ◌∙◌, arith, map, take, drop, length, length-append, get_or, set, get_or-set_same, get_or-set_other, All, remove, slice_get}
 use Rattle.std.proofs.Math.ListN.{get_or-append}
-use Rattle.std.proofs.Math.Seq.{get_or-append_seam, take-append_seam}
+use Rattle.std.proofs.Math.Seq.{take-append_seam}
 use Rattle.std.proofs.lemmas.Bool.{cases_eq, cases_lt, cases_order}
 use Rattle.std.specs.List.{drop-map, take-map}
 use Rattle.std.proofs.lemmas.Simd.{map-map}
@@ -131,7 +131,8 @@ firsts_take xs firsts i place marks within oldest =
           grind (arith, marked, first, each, get_or-stood firsts i k false (omega (arith, size, within)));
     }
 
-pub request_take : (pending : List Pending) (firsts new : List Bool) (i line : ℕ) → AreFirsts (lines pending) firsts → i < length pending → get_or (lines pending) i 0 ≡ line → MarksOldest line (remove pending i) (remove firsts i) new → AreFirsts (lines (remove pending i)) new
+pub request_take : (pending : List Pending) (firsts new : List Bool) (i line : ℕ) → AreFirsts (lines pending) firsts → i < length pending → get_or (lines pending) i 0 ≡ line →
+    MarksOldest line (remove pending i) (remove firsts i) new → AreFirsts (lines (remove pending i)) new
 request_take pending firsts new i line marks within at (place, oldest, is) =
     let left : lines (remove pending i) ≡ remove (lines pending) i = simp (map-append, take-map, drop-map) in
     rw (left, is) (firsts_take (lines pending) firsts i place marks (omega (arith, within, length-map pending (λ (q : Pending). q.line))) (rw (at, ← left) (oldest_at line (remove pending i) place oldest)))

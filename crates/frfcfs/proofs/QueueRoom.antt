@@ -1,10 +1,10 @@
 -- Where a queue keeps its requests: those from a start on, with room in front of them and behind.
-use Rattle.std.proofs.Common.{◌≡◌, ◌≢◌, ℕ, ◌+◌, ◌-◌, ◌<◌, ◌≤◌, ◌↔◌, List, [], ◌∷◌, ◌++◌, Bool, Option, map, IsTrue, sym, subst, ap, ◌∙◌, arith, drop, get_or, slice_get, Some, length, length-append, All, remove}
+use Rattle.std.proofs.Common.{◌≡◌, ◌≢◌, ℕ, ◌+◌, ◌-◌, ◌<◌, ◌≤◌, ◌↔◌, List, [], ◌∷◌, ◌++◌, Bool, Option, map, IsTrue, sym, ap, ◌∙◌, arith, drop, slice_get, Some, length, length-append, All, remove}
 use Rattle.std.proofs.lemmas.Option.{slice_get_within}
 use Rattle.std.proofs.lemmas.List.{drop-append-le, drop-map, length-drop, length-map}
 use Rattle.frfcfs.proofs.Common.{IsKept, MarksOldest, Pending, held_by, numbered_from}
 use Rattle.frfcfs.proofs.KeepLemmas.{length-numbered, lines_numbered, waiting_numbered}
-use Rattle.frfcfs.proofs.QueueLemmas.{line_at, lines_held, waiting_held, lines, request_push, request_take, waiting_push, waiting_take}
+use Rattle.frfcfs.proofs.QueueLemmas.{line_at, lines_held, waiting_held, request_push, request_take, waiting_push, waiting_take}
 
 pub kept_in_front : (most next start room : ℕ) (pending : List Pending) (firsts : List Bool) → IsKept most next start room pending firsts → IsKept most next 0 room (drop start pending) (drop start firsts)
 kept_in_front most next start room pending firsts kept = record {

@@ -1,6 +1,6 @@
 -- What a request wants, and when it may have it.
-use Rattle.std.proofs.Common.{◌≡◌, ◌≢◌, ℕ, ◌+◌, ◌*◌, ◌<◌, ◌≤◌, ◌↔◌, List, Some, None, IsTrue, inl, inr, arith, refl, sym, subst, ap, ◌∙◌}
-use Rattle.frfcfs.proofs.Common.{Checked, Command, FitsRows, Geometry, HasBank, IsEligible, IsEnd, IsInGeometry, IsInLead, IsLawful, IsUnhit, Kind, Pending, Place, Read, Stamped, Takes, WantsColumn, WantsRow, Write, act_of, bank_at, column_of, is_asleep, last_ref, least_clock, open_row, pre_of, rank_of, with_command}
+use Rattle.std.proofs.Common.{◌≡◌, ◌≢◌, ℕ, ◌<◌, ◌≤◌, ◌↔◌, List, Some, None, inl, inr, arith, refl, sym, subst, ap, ◌∙◌}
+use Rattle.frfcfs.proofs.Common.{Checked, Command, FitsRows, Geometry, HasBank, IsEligible, IsEnd, IsInGeometry, IsLawful, IsUnhit, Kind, Pending, Place, Read, Stamped, Takes, WantsColumn, WantsRow, Write, act_of, bank_at, column_of, least_clock, open_row, pre_of, rank_of, with_command}
 use Rattle.ddr4_timing.proofs.Ready.{lawful_ready, ready_lawful}
 use Rattle.frfcfs.proofs.Leads.{rest_in_time}
 use Rattle.frfcfs.proofs.Lists.{one_at}
@@ -21,7 +21,8 @@ pub record IsWish (Wants : Pending → Command → Type 0) (c : Checked) (list :
   pub rows : FitsRows c.geometry list cmd
   pub rank : rank_of cmd ≡ request.place.rank
 
-column_fits : (c : Checked) (list : List Stamped) (request : Pending) (kind : Kind) → open_row (bank_at request.place) list ≡ Some request.place.row → FitsRows c.geometry list (column_of kind request.place) × (rank_of (column_of kind request.place) ≡ request.place.rank)
+column_fits : (c : Checked) (list : List Stamped) (request : Pending) (kind : Kind) → open_row (bank_at request.place) list ≡ Some request.place.row →
+    FitsRows c.geometry list (column_of kind request.place) × (rank_of (column_of kind request.place) ≡ request.place.rank)
 column_fits c list request Read row = (λ none. cc (row, none), refl)
 column_fits c list request Write row = (λ none. cc (row, none), refl)
 

@@ -1,7 +1,7 @@
-use Rattle.std.proofs.Common.{◌≡◌, ℕ, true, false, refl, ap, ◌∙◌, arith, length, length-set, subst, sym}
+use Rattle.std.proofs.Common.{◌≡◌, true, false, refl, ap, ◌∙◌, arith, length, length-set, subst}
 use Rattle.std.proofs.lemmas.Option.{slice_get_within}
-use Rattle.frfcfs.proofs.Common.{AreHits, BankAddress, Geometry, HasBank, bank_at}
-use Rattle.frfcfs.proofs.HitLemmas.{HitsAt, IsLook, WaitsAt, eligible_there, flags_hits, flags_kept, flags_none, flags_there, kept_flag, none_hits, none_waits, set_flag, waits_there}
+use Rattle.frfcfs.proofs.Common.{Geometry}
+use Rattle.frfcfs.proofs.HitLemmas.{IsLook, WaitsAt, eligible_there, flags_hits, flags_kept, flags_none, flags_there, kept_flag, none_hits, none_waits, set_flag, waits_there}
 use Rattle.frfcfs.proofs.hits.hit_banks.Goals as goal
 use Rattle.frfcfs.proofs.hits.hit_banks.Goals.{then-is_eligible+then-is_hit, then-is_eligible+else-is_hit, else-is_eligible}
 
@@ -30,7 +30,8 @@ loop-i-preserved c =
       | then-is_eligible+then-is_hit w ↦
           let look = subst (λ (x : Geometry). IsLook x pending i true) same w.if-is_eligible.ensures in record {
             size = ap length w.hit-is ∙ length-set c.loop-i.hit w.index.result true ∙ before.size;
-            hits = λ list s. flags_there g list pending c.loop-i.hit _ i w.index.result _ w.bank_address.result c.args.banks.now.checked.is_small before.size within look w.hit-is w.index.ensures.value w.bank_address.ensures (w.if-is_hit.ensures list s) (before.hits list s);
+            hits = λ list s. flags_there g list pending c.loop-i.hit _ i w.index.result _ w.bank_address.result c.args.banks.now.checked.is_small before.size within look w.hit-is
+                w.index.ensures.value w.bank_address.ensures (w.if-is_hit.ensures list s) (before.hits list s);
             any = set_flag (WaitsAt g pending) _ i w.any-is (waits_there g pending i within look);
           }
       | then-is_eligible+else-is_hit w ↦ record {

@@ -1,6 +1,5 @@
-use Rattle.std.proofs.Common.{◌≡◌, ℕ, refl, ap, arith, subst, inl, inr}
+use Rattle.std.proofs.Common.{◌≡◌, refl, ap, arith, inl, inr}
 use Rattle.std.proofs.lemmas.Bool.{cases_lt}
-use Rattle.frfcfs.specs.Candidates.{IsInLead}
 use Rattle.frfcfs.proofs.Leads.{lead_at}
 use Rattle.frfcfs.proofs.next.is_in_lead.Goals as goal
 

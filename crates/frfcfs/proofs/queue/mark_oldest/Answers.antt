@@ -1,6 +1,6 @@
-use Rattle.std.proofs.Common.{◌≡◌, ◌-◌, ℕ, List, Option, Some, true, length, take, drop, sym, subst, ap, ◌∙◌, arith}
+use Rattle.std.proofs.Common.{◌≡◌, ◌-◌, ℕ, Option, Some, true, length, take, drop, subst, arith}
 use Rattle.std.proofs.lemmas.List.{drop-set-add, length-drop, take_all}
-use Rattle.frfcfs.proofs.Common.{IsOldestOf, Pending}
+use Rattle.frfcfs.proofs.Common.{IsOldestOf}
 use Rattle.frfcfs.proofs.queue.mark_oldest.Goals as goal
 
 pub returns-in-Some-clause-marks : goal.returns-in-Some-clause-marks

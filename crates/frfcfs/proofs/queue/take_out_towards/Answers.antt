@@ -1,4 +1,3 @@
-use Rattle.std.proofs.Common.{◌+◌, ℕ, ap, drop, ◌∙◌, remove}
 use Rattle.frfcfs.proofs.ShiftedLists.{removed_behind}
 use Rattle.frfcfs.proofs.queue.take_out_towards.Goals as goal
 

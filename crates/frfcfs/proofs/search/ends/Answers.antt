@@ -1,4 +1,4 @@
-use Rattle.std.proofs.Common.{◌≡◌, ◌<◌, ◌≤◌, List, Bool, true, false, IsTrue, ap, ◌∙◌, length, length-set, arith, sym}
+use Rattle.std.proofs.Common.{◌<◌, ◌≤◌, List, ap, ◌∙◌, length, length-set, arith}
 use Rattle.frfcfs.proofs.Common.{IsEnd, Stamped, Stands, limit_of}
 use Rattle.frfcfs.proofs.Leads.{early_set, end_asleep, end_awake, ends_set}
 use Rattle.frfcfs.proofs.search.ends.Goals as goal
@@ -18,7 +18,8 @@ loop-rank-preserved c =
       | else-is_asleep w ↦ (
         omega (arith, w.ends-is, w.min.ensures, w.saturating_add.ensures),
         λ list s.
-            end_awake b list rank c.args.last w.lead_from.result w.saturating_add.result end (w.lead_from.ensures list s) (λ on. absurd (cc (c.is_asleep.ensures list s, w.if-is_asleep.false, on))) (omega arith) w.saturating_add.ensures (w.ends-is ∙ w.min.ensures),
+            end_awake b list rank c.args.last w.lead_from.result w.saturating_add.result end (w.lead_from.ensures list s)
+            (λ on. absurd (cc (c.is_asleep.ensures list s, w.if-is_asleep.false, on))) (omega arith) w.saturating_add.ensures (w.ends-is ∙ w.min.ensures),
       )
     ] in
     record {

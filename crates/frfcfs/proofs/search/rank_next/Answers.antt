@@ -1,4 +1,4 @@
-use Rattle.std.proofs.Common.{◌≡◌, arith, sym, ◌∙◌, true, false, Bool, IsTrue, refl}
+use Rattle.std.proofs.Common.{arith, refl}
 use Rattle.frfcfs.proofs.RankOffers.{refresh_asleep, refresh_behind, refresh_first, refresh_none}
 use Rattle.frfcfs.proofs.search.rank_next.Goals as goal
 use Rattle.frfcfs.proofs.search.rank_next.Goals.{then-from-last-via-then-from-last, then-from-last-via-else-from-last+then-is_asleep}

@@ -1,17 +1,19 @@
-use Rattle.std.proofs.Common.{None, Some, refl, ap, ◌∙◌, sym, subst, arith}
+use Rattle.std.proofs.Common.{refl, ap, ◌∙◌, sym, arith}
 use Rattle.std.proofs.lemmas.Option.{get_or_from_slice_get, slice_get_within}
-use Rattle.frfcfs.proofs.Common.{HasBank, Pending, WantsRow, bank_at, column_of}
+use Rattle.frfcfs.proofs.Common.{Pending, column_of}
 use Rattle.frfcfs.proofs.NextChoice.{column_next, none_next, rank_next, row_next}
 use Rattle.frfcfs.proofs.search.search.Goals as goal
 
 pub returns-in-Some-clause-next : goal.returns-in-Some-clause-next
 returns-in-Some-clause-next c list s =
     let span = c.in-Some.ensures.span in
-    rank_next c.args.banks.now.checked list c.args.pending.now c.args.now c.args.last _ c.soonest_requests.result c.in-Some.next (c.soonest_requests.ensures.best list s (c.requires.hits list s)) (c.in-Some.ensures.next list s) (omega arith) span.0 span.1 span.2
+    rank_next c.args.banks.now.checked list c.args.pending.now c.args.now c.args.last _ c.soonest_requests.result c.in-Some.next (c.soonest_requests.ensures.best list s (c.requires.hits list s))
+    (c.in-Some.ensures.next list s) (omega arith) span.0 span.1 span.2
 
 pub returns-then-first-saturating_add-clause-next : goal.returns-then-first-saturating_add-clause-next
 returns-then-first-saturating_add-clause-next c list s =
-    none_next c.args.banks.now.checked list c.args.pending.now c.args.now c.args.last _ c.soonest_requests.result (c.soonest_requests.ensures.best list s (c.requires.hits list s)) (c.in_default.ensures.next list s) (omega arith) (omega arith) (omega arith) (omega arith)
+    none_next c.args.banks.now.checked list c.args.pending.now c.args.now c.args.last _ c.soonest_requests.result (c.soonest_requests.ensures.best list s (c.requires.hits list s))
+    (c.in_default.ensures.next list s) (omega arith) (omega arith) (omega arith) (omega arith)
 
 pub bounds-pending-column : goal.bounds-pending-column
 bounds-pending-column c = let found = c.soonest_requests.ensures.found.0 (omega arith) in slice_get_within c.args.pending.now _ found.1.0 found.1.1.0.here

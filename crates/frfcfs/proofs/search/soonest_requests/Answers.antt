@@ -1,5 +1,5 @@
-use Rattle.std.proofs.Common.{◌≡◌, ℕ, ◌+◌, ap, arith, length, sym, subst, true, false}
-use Rattle.frfcfs.proofs.Common.{AreBest, AreFound, Bests, Geometry, limit_of}
+use Rattle.std.proofs.Common.{◌≡◌, ap, arith, length, subst, true, false}
+use Rattle.frfcfs.proofs.Common.{Geometry, limit_of}
 use Rattle.frfcfs.proofs.BestRequests.{best_past}
 use Rattle.frfcfs.proofs.HitLemmas.{IsLook, eligible_there, none_waits}
 use Rattle.frfcfs.proofs.search.soonest_requests.Goals as goal

@@ -1,4 +1,4 @@
-use Rattle.std.proofs.Common.{◌≡◌, List, Some, None, arith, ap, inl, inr}
+use Rattle.std.proofs.Common.{◌≡◌, Some, None, arith, ap, inl, inr}
 use Rattle.frfcfs.proofs.Common.{Checked, WantsColumn, WantsRow, bank_at, open_row}
 use Rattle.frfcfs.proofs.BestRequests.{class_offer, class_skip}
 use Rattle.frfcfs.proofs.HitLemmas.{clear_unhit, set_hit}
@@ -21,7 +21,8 @@ returns-else-request-geometry-clause-best c list pending last limit s hits ends 
     let request = c.args.request.now in
     let row : open_row (bank_at request.place) list ≡ None = cc (c.open_row.ensures list s) in record {
       column = class_skip (WantsColumn list) b list pending c.args.now last limit c.args.index request _ el (λ cmd wants _. absurd (cc (row, wants.0))) before.column;
-      row = class_skip (WantsRow list pending) b list pending c.args.now last limit c.args.index request _ el (λ cmd wants place. absurd (omega (arith, act_row b.geometry list pending request cmd row wants place, ap (λ (x : Checked). x.geometry.rows) c.checked.ensures))) before.row;
+      row = class_skip (WantsRow list pending) b list pending c.args.now last limit c.args.index request _ el
+          (λ cmd wants place. absurd (omega (arith, act_row b.geometry list pending request cmd row wants place, ap (λ (x : Checked). x.geometry.rows) c.checked.ensures))) before.row;
     }
 
 pub returns-then-request-geometry-2-clause-best : goal.returns-then-request-geometry-2-clause-best
@@ -40,7 +41,8 @@ returns-else-request-geometry-2-clause-best c list pending last limit s hits end
     let b = c.args.banks.now.checked in
     let request = c.args.request.now in
     let row : open_row (bank_at request.place) list ≡ Some request.place.row = cc (c.open_row.ensures list s) in record {
-      column = class_skip (WantsColumn list) b list pending c.args.now last limit c.args.index request _ el (λ cmd wants place. absurd (omega (arith, (column_place b.geometry list request cmd wants place).1, ap (λ (x : Checked). x.geometry.columns) c.checked.ensures))) before.column;
+      column = class_skip (WantsColumn list) b list pending c.args.now last limit c.args.index request _ el
+          (λ cmd wants place. absurd (omega (arith, (column_place b.geometry list request cmd wants place).1, ap (λ (x : Checked). x.geometry.columns) c.checked.ensures))) before.column;
       row = class_skip (WantsRow list pending) b list pending c.args.now last limit c.args.index request _ el (λ cmd wants _. no_row list pending request cmd row wants) before.row;
     }
 

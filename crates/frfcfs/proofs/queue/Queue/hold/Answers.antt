@@ -1,6 +1,6 @@
-use Rattle.std.proofs.Common.{◌≡◌, ◌++◌, List, length, map, take, drop, arith, ap, ◌∙◌}
+use Rattle.std.proofs.Common.{◌≡◌, ◌++◌, length, map, take, drop, arith, ap, ◌∙◌}
 use Rattle.std.proofs.lemmas.List.{drop-map, length-map}
-use Rattle.frfcfs.proofs.Common.{Pending, Waiting, held_by}
+use Rattle.frfcfs.proofs.Common.{Waiting, held_by}
 use Rattle.frfcfs.proofs.QueueLemmas.{written}
 use Rattle.frfcfs.proofs.QueueRoom.{kept_held}
 use Rattle.frfcfs.proofs.queue.Queue.hold.Goals as goal

@@ -1,4 +1,4 @@
-use Rattle.std.proofs.Common.{◌≡◌, length, drop, ap, ◌∙◌, arith, length-drop}
+use Rattle.std.proofs.Common.{◌≡◌, length, drop, ap, ◌∙◌, arith}
 use Rattle.frfcfs.specs.Queue.{numbered_from}
 use Rattle.frfcfs.proofs.KeepLemmas.{length-numbered}
 use Rattle.frfcfs.proofs.QueueLemmas.{written}

@@ -1,4 +1,4 @@
-use Rattle.std.proofs.Common.{◌<◌, ◌≤◌, ◌↔◌, ◌≢◌, List, All, IsTrue, length, drop, vec_capacity, arith, refl, sym, subst}
+use Rattle.std.proofs.Common.{◌<◌, ◌≤◌, length, drop, vec_capacity, arith, refl, sym, subst}
 use Rattle.frfcfs.proofs.Common.{IsKept, Pending, Waiting}
 use Rattle.frfcfs.specs.declared.queue.Queue.TheInside.{Inside}
 use Rattle.frfcfs.proofs.QueueRoom.{kept_in_front, kept_push}

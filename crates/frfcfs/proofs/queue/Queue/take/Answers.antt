@@ -1,4 +1,4 @@
-use Rattle.std.proofs.Common.{◌≡◌, ◌<◌, List, Bool, length, drop, sym, subst, ap, ◌∙◌, arith}
+use Rattle.std.proofs.Common.{◌≡◌, length, drop, ap, ◌∙◌, arith}
 use Rattle.frfcfs.proofs.QueueLemmas.{written}
 use Rattle.frfcfs.proofs.QueueRoom.{kept_take}
 use Rattle.frfcfs.proofs.queue.Queue.take.Goals as goal
@@ -13,8 +13,8 @@ invariant_of-self c =
     let marked_size : length new ≡ length unmarked.items = c.mark_oldest.ensures.size ∙ ap length c.deref_mut.ensures.value in
     rw (written (drop (length new) unmarked.items) new unmarked.len (omega (arith, unmarked.ok, marked_size))) (
       kept_take inside.most inside.next inside.start c.start_without-next.result inside.room inside.pending.items taken.new.items.items inside.firsts.items unmarked.items new c.args.place taken.result c.self.invariant.0 taken.ensures.taken
-      c.start_without-next.ensures.least c.start_without-next.ensures.most taken.ensures.left taken.ensures.size gone.left (omega (arith, gone.size, marked_size))
-      (rw (← c.deref.ensures.value, ← c.deref_mut.ensures.value) c.mark_oldest.ensures.marks),
+          c.start_without-next.ensures.least c.start_without-next.ensures.most taken.ensures.left taken.ensures.size gone.left (omega (arith, gone.size, marked_size))
+          (rw (← c.deref.ensures.value, ← c.deref_mut.ensures.value) c.mark_oldest.ensures.marks),
       omega (arith, taken.ensures.capacity, c.self.invariant.1),
       omega (arith, gone.capacity, c.self.invariant.2),
     )
