@@ -43,10 +43,7 @@ abbrev pub AreFlags : Geometry → List Stamped → List Pending → ℕ → Lis
 AreFlags g list pending end flags = (bank : BankAddress) → HasBank g bank → (IsTrue (get_or flags (bank_index bank) false) ↔ ((k : ℕ) × (k < end) × HitsAt list pending bank k))
 
 pub flags_none : (g : Geometry) (list : List Stamped) (pending : List Pending) → IsSmall g → AreFlags g list pending 0 (replicate 64 false)
-flags_none g list pending small bank has = (
-  λ e. absurd (let k : true ≡ false = sym e ∙ get_or-replicate 64 (bank_index bank) false false (index_small g bank small has) in cc),
-  λ h. absurd (omega (arith, h.1)),
-)
+flags_none g list pending small bank has = (λ e. absurd (cc (e, get_or-replicate 64 (bank_index bank) false false (index_small g bank small has))), λ h. absurd (omega (arith, h.1)))
 
 pub flags_kept : (g : Geometry) (list : List Stamped) (pending : List Pending) (flags after : List Bool) (i : ℕ) → after ≡ flags → ((bank : BankAddress) → HasBank g bank → ¬ HitsAt list pending bank i) →
     AreFlags g list pending i flags → AreFlags g list pending (i + 1) after
@@ -78,7 +75,7 @@ pub waits_there : (g : Geometry) (pending : List Pending) (i : ℕ) → i < leng
 waits_there g pending i within look = let (p, at) = something_at pending i within in let (el, has) = (look p at).0 refl in (p, el, has)
 
 pub none_waits : (g : Geometry) (pending : List Pending) (i : ℕ) → IsLook g pending i false → ¬ WaitsAt g pending i
-none_waits g pending i look (p, el, has) = let no : false ≡ true = (look p el.here).1 (el, has) in absurd cc
+none_waits g pending i look (p, el, has) = absurd (cc ((look p el.here).1 (el, has)))
 
 -- after the look at one more request
 pub flags_there : (g : Geometry) (list : List Stamped) (pending : List Pending) (flags after : List Bool) (i n : ℕ) (d : Pending) (bank : BankAddress) → IsSmall g → length flags ≡ 64 → i < length pending → IsLook g pending i true →
@@ -102,4 +99,4 @@ pub none_hits : (list : List Stamped) (pending : List Pending) (i : ℕ) (d : Pe
     (IsTrue false ↔ (open_row (bank_at (get_or pending i d).place) list ≡ Some (get_or pending i d).place.row)) → ¬ HitsAt list pending bank i
 none_hits list pending i d bank within miss (q, el, at, row) =
     let e : q ≡ get_or pending i d = one_at pending i i q (get_or pending i d) el.here (slice_get-get_or pending i d within) refl in
-    let no : false ≡ true = miss.1 (subst (λ (p : Pending). open_row (bank_at p.place) list ≡ Some p.place.row) e (rw at row)) in absurd cc
+    absurd (cc (miss.1 (rw (← e, at) row)))

@@ -26,13 +26,8 @@ first_here : (pending : List Pending) (i : ℕ) (p : Pending) → AreInOrder pen
 first_here pending i p order at =
     let within = slice_get_within pending i p at in
     let own = line_at pending i p at in (
-      λ first k d less older same. elim (cases_lt k i) [
-        | inl l ↦ first k l (get_or-map (λ (q : Pending). q.line) pending k d 0 less ∙ same ∙ sym own)
-        | inr g ↦ absurd (omega (arith, order_upto pending i k p (get_or pending k d) order at (slice_get-get_or pending k d less) g, older))
-      ],
-      λ first j less same.
-          let there = slice_get-get_or pending j p (omega (arith, less, within)) in
-          first j p (omega (arith, less, within)) (order_at pending j i (get_or pending j p) p order there at less) (sym (line_at pending j (get_or pending j p) there) ∙ same ∙ own),
+      λ first k d less older same. grind (arith, first k, order i k d, get_or_from_slice_get pending i p d at, get_or-map (λ (q : Pending). q.line) pending k d 0 less, own),
+      λ first j less same. grind (arith, first j p, order j i p less within, get_or_from_slice_get pending i p p at, get_or-map (λ (q : Pending). q.line) pending j p 0, own),
     )
 
 pub firsts_marks : (g : Geometry) (pending : List Pending) (firsts : List Bool) → AreInOrder pending → All (λ p. LiesIn g p.place) pending → AreFirsts (lines pending) firsts → AreMarks g pending firsts

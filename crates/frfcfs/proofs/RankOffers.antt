@@ -9,13 +9,10 @@ IsOfRank rank cmd = (cmd ≡ Ref rank) ⊎ (cmd ≡ PreAll rank)
 
 -- REF asks for closed banks and PREA for an open one
 
-rows_of : (c : Checked) (list : List Stamped) (k : ℕ) (a b : Command) → a ≡ b → IsLawful c (with_command list k a) → KeepsRows c.geometry list b
-rows_of c list k a b e h = (ready_lawful c list (record { clock = k; cmd = b }) (subst (λ (x : Command). IsLawful c (with_command list k x)) e h)).rows
-
 asked : (c : Checked) (list : List Stamped) (rank k : ℕ) (cmd : Command) → IsOfRank rank cmd → IsLawful c (with_command list k cmd) →
     (¬ IsTrue (is_asleep rank list)) × (((cmd ≡ Ref rank) × AllClosed c.geometry rank list) ⊎ ((cmd ≡ PreAll rank) × (¬ AllClosed c.geometry rank list)))
-asked c list rank k cmd (inl e) h = let keeps = rows_of c list k cmd (Ref rank) e h in (keeps.awake, inl (e, keeps.rows))
-asked c list rank k cmd (inr e) h = let keeps = rows_of c list k cmd (PreAll rank) e h in (keeps.awake, inr (e, keeps.rows))
+asked c list rank k cmd (inl e) h = let keeps = (ready_lawful c list (record { clock = k; cmd = Ref rank }) (rw (← e) h)).rows in (keeps.awake, inl (e, keeps.rows))
+asked c list rank k cmd (inr e) h = let keeps = (ready_lawful c list (record { clock = k; cmd = PreAll rank }) (rw (← e) h)).rows in (keeps.awake, inr (e, keeps.rows))
 
 pub one_rank : (c : Checked) (list : List Stamped) (k rank : ℕ) (a b : Command) → OffersRank c list k rank a → OffersRank c list k rank b → a ≡ b
 one_rank c list k rank a b x y = grind (arith, asked c list rank k a x.kind x.lawful, asked c list rank k b y.kind y.lawful)
