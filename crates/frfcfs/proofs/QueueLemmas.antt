@@ -11,7 +11,7 @@ use Rattle.std.proofs.lemmas.List.Elements.{All-map, All-push}
 use Rattle.std.proofs.lemmas.List.Quantifiers.{all_pairs_push, all_pairs_remove}
 use Rattle.std.proofs.lemmas.Option.{slice_get_within, get_or_from_slice_get, slice_get-get_or}
 use Rattle.frfcfs.proofs.Common.{AreFirsts, AreInOrder, AreMarks, Geometry, IsFirst, IsFirstAt, IsOldestOf, IsWaiting, LiesIn, MarksOldest, Pending, Waiting, held_by, is_held, marked_at}
-use Rattle.frfcfs.proofs.Lists.{All-at, order_at, order_upto}
+use Rattle.frfcfs.proofs.Lists.{All-at}
 
 -- the lines of requests
 abbrev pub lines : List Pending → List ℕ

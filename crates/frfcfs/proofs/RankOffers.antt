@@ -1,6 +1,6 @@
 -- The REF or PREA of a rank in a span, and the one of several ranks that goes first.
 use Rattle.std.proofs.Common.{◌≡◌, ℕ, ◌+◌, ◌*◌, ◌<◌, ◌≤◌, ◌⊎◌, ◌↔◌, max, min, List, Option, Some, None, IsTrue, inl, inr, arith, subst, IfSome}
-use Rattle.frfcfs.proofs.Common.{AllClosed, Checked, Command, IsLawful, IsRankNext, IsRankNextAt, IsSoonerOf, KeepsRows, Next, OffersRank, PreAll, Ref, Stamped, is_asleep, last_ref, ref_count, with_command}
+use Rattle.frfcfs.proofs.Common.{AllClosed, Checked, Command, IsLawful, IsRankNext, IsRankNextAt, IsSoonerOf, Next, OffersRank, PreAll, Ref, Stamped, is_asleep, last_ref, ref_count, with_command}
 use Rattle.ddr4_timing.proofs.Ready.{ready_lawful}
 use Rattle.frfcfs.proofs.Leads.{lead_at}
 
