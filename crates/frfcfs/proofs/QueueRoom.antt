@@ -1,17 +1,10 @@
 -- Where a queue keeps its requests: those from a start on, with room in front of them and behind.
-use Rattle.std.proofs.Common.{◌≡◌, ◌≢◌, ℕ, ◌+◌, ◌-◌, ◌<◌, ◌≤◌, ◌↔◌, List, [], ◌∷◌, ◌++◌, Bool, IsTrue, sym, subst, ap, ◌∙◌, arith, drop, get_or, length, length-append, All, remove}
-use Rattle.std.proofs.lemmas.List.{drop-append-le, length-drop}
-use Rattle.frfcfs.proofs.Common.{AreFirsts, IsWaiting, MarksOldest, Pending}
-use Rattle.frfcfs.proofs.QueueLemmas.{firsts_take, lines, request_push, waiting_push, waiting_take}
-
--- what is true of a queue's fields
-pub record IsKept (most next start room : ℕ) (pending : List Pending) (firsts : List Bool) : Type 0 where
-  pub waiting : IsWaiting (record { most = most; next = next; requests = drop start pending })
-  pub marks : AreFirsts (lines (drop start pending)) (drop start firsts)
-  pub within : start ≤ length pending
-  pub size : length firsts ≡ length pending
-  pub fits : length pending ≤ room
-  pub enough : most ≤ room
+use Rattle.std.proofs.Common.{◌≡◌, ◌≢◌, ℕ, ◌+◌, ◌-◌, ◌<◌, ◌≤◌, ◌↔◌, List, [], ◌∷◌, ◌++◌, Bool, Option, map, IsTrue, sym, ap, ◌∙◌, arith, drop, slice_get, Some, length, length-append, All, remove}
+use Rattle.std.proofs.lemmas.Option.{slice_get_within}
+use Rattle.std.proofs.lemmas.List.{drop-append-le, drop-map, length-drop, length-map}
+use Rattle.frfcfs.proofs.Common.{IsKept, MarksOldest, Pending, held_by, numbered_from}
+use Rattle.frfcfs.proofs.KeepLemmas.{length-numbered, lines_numbered, waiting_numbered}
+use Rattle.frfcfs.proofs.QueueLemmas.{line_at, lines_held, waiting_held, request_push, request_take, waiting_push, waiting_take}
 
 pub kept_in_front : (most next start room : ℕ) (pending : List Pending) (firsts : List Bool) → IsKept most next start room pending firsts → IsKept most next 0 room (drop start pending) (drop start firsts)
 kept_in_front most next start room pending firsts kept = record {
@@ -19,7 +12,7 @@ kept_in_front most next start room pending firsts kept = record {
   marks = kept.marks;
   within = omega arith;
   size = length-drop start firsts ∙ (ap (λ (n : ℕ). n - start) kept.size ∙ sym (length-drop start pending));
-  fits = (let n = length-drop start pending in let r = kept.fits in omega (arith, n, r));
+  fits = omega (arith, length-drop start pending, kept.fits);
   enough = kept.enough;
 }
 
@@ -28,36 +21,57 @@ pub kept_push : (most next start room : ℕ) (pending : List Pending) (firsts : 
 kept_push most next start room pending firsts p first kept room_left few seq here =
     let more = length-append pending (p ∷ []) in
     let more_firsts = length-append firsts (first ∷ []) in
-    let start_kept = kept.within in
-    let size = kept.size in
-    let rest = drop-append-le start pending (p ∷ []) start_kept in
-    let rest_firsts = drop-append-le start firsts (first ∷ []) (omega (arith, start_kept, size)) in
+    let rest = drop-append-le start pending (p ∷ []) kept.within in
+    let rest_firsts = drop-append-le start firsts (first ∷ []) (omega (arith, kept.within, kept.size)) in
     record {
       waiting = rw rest (waiting_push _ p kept.waiting seq few);
       marks = rw (rest, rest_firsts) (request_push (drop start pending) p (drop start firsts) first kept.marks here);
-      within = omega (arith, start_kept, more);
-      size = omega (arith, size, more, more_firsts);
+      within = omega (arith, kept.within, more);
+      size = omega (arith, kept.size, more, more_firsts);
       fits = omega (arith, room_left, more);
       enough = kept.enough;
     }
 
 -- one is taken out, and the rest are those from the next start on
-pub kept_take : (most next start end room : ℕ) (pending left : List Pending) (firsts before marks : List Bool) (i line : ℕ) (d : Pending) → IsKept most next start room pending firsts → i < length (drop start pending)
-    → get_or (lines (drop start pending)) i 0 ≡ line → start ≤ end → end ≤ start + 1 → drop end left ≡ remove (drop start pending) i → length left + 1 + start ≡ length pending + end
+pub kept_take : (most next start end room : ℕ) (pending left : List Pending) (firsts before marks : List Bool) (i : ℕ) (p : Pending) → IsKept most next start room pending firsts → slice_get (drop start pending) i ≡ Some p
+    → start ≤ end → end ≤ start + 1 → drop end left ≡ remove (drop start pending) i → length left + 1 + start ≡ length pending + end
     → drop end before ≡ remove (drop start firsts) i → length marks + 1 + start ≡ length firsts + end
-    → MarksOldest line (drop end left) (drop end before) (drop end marks) → IsKept most next end room left marks
-kept_take most next start end room pending left firsts before marks i line d kept within named least most_end taken size gone size_marks marked =
-    let rest = drop start pending in
-    let found : MarksOldest line (remove rest i) (remove (drop start firsts) i) (drop end marks) =
-    subst (λ (ps : List Pending). MarksOldest line ps (remove (drop start firsts) i) (drop end marks)) taken (subst (λ (bs : List Bool). MarksOldest line (drop end left) bs (drop end marks)) gone marked) in
+    → MarksOldest p.line (drop end left) (drop end before) (drop end marks) → IsKept most next end room left marks
+kept_take most next start end room pending left firsts before marks i p kept at least most_end taken size gone size_marks marked =
     let n = length-drop start pending in
-    let same = kept.size in
-    let fits = kept.fits in
+    let within = slice_get_within (drop start pending) i p at in
     record {
       waiting = rw taken (waiting_take _ i kept.waiting within);
-      marks = rw taken (firsts_take rest (drop start firsts) (drop end marks) i line d kept.marks within named found);
+      marks = rw taken (request_take (drop start pending) (drop start firsts) (drop end marks) i p.line kept.marks within (line_at (drop start pending) i p at) (rw (← taken, ← gone) marked));
       within = omega (arith, within, n, size, least, most_end);
-      size = omega (arith, same, size, size_marks);
-      fits = omega (arith, fits, size, most_end);
+      size = omega (arith, kept.size, size, size_marks);
+      fits = omega (arith, kept.fits, size, most_end);
+      enough = kept.enough;
+    }
+
+-- each is held or not, and each is numbered anew
+
+pub kept_held : (hold : Option ℕ) (most next start room : ℕ) (pending : List Pending) (firsts : List Bool) → IsKept most next start room pending firsts → IsKept most next start room (map (held_by hold) pending) firsts
+kept_held hold most next start room pending firsts kept =
+    let n = length-map pending (held_by hold) in
+    let rest = drop-map (held_by hold) start pending in
+    record {
+      waiting = rw rest (waiting_held _ hold kept.waiting);
+      marks = rw (rest, lines_held hold (drop start pending)) kept.marks;
+      within = omega (arith, n, kept.within);
+      size = kept.size ∙ sym n;
+      fits = omega (arith, n, kept.fits);
+      enough = kept.enough;
+    }
+
+pub kept_numbered : (most next room : ℕ) (pending : List Pending) (firsts : List Bool) → IsKept most next 0 room pending firsts → IsKept most (length pending) 0 room (numbered_from 0 pending) firsts
+kept_numbered most next room pending firsts kept =
+    let n = length-numbered 0 pending in
+    record {
+      waiting = waiting_numbered _ kept.waiting;
+      marks = rw (lines_numbered 0 pending) kept.marks;
+      within = omega arith;
+      size = kept.size ∙ sym n;
+      fits = omega (arith, n, kept.fits);
       enough = kept.enough;
     }

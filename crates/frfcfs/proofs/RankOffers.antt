@@ -1,7 +1,6 @@
 -- The REF or PREA of a rank in a span, and the one of several ranks that goes first.
-use Rattle.std.proofs.Common.{◌≡◌, ℕ, ◌+◌, ◌*◌, ◌<◌, ◌≤◌, ◌⊎◌, ◌↔◌, max, min, List, Option, Some, None, IsTrue, inl, inr, arith, sym, subst, ◌∙◌, IfSome}
-use Rattle.std.proofs.lemmas.Bool.{cases_lt}
-use Rattle.frfcfs.proofs.Common.{AllClosed, Checked, Command, IsLawful, IsRankNext, IsSoonerOf, KeepsRows, Next, OffersRank, PreAll, Ref, Stamped, is_asleep, last_ref, ref_count, with_command}
+use Rattle.std.proofs.Common.{◌≡◌, ℕ, ◌+◌, ◌*◌, ◌<◌, ◌≤◌, ◌⊎◌, ◌↔◌, max, min, List, Option, Some, None, IsTrue, inl, inr, arith, subst, IfSome}
+use Rattle.frfcfs.proofs.Common.{AllClosed, Checked, Command, IsLawful, IsRankNext, IsRankNextAt, IsSoonerOf, Next, OffersRank, PreAll, Ref, Stamped, is_asleep, last_ref, ref_count, with_command}
 use Rattle.ddr4_timing.proofs.Ready.{ready_lawful}
 use Rattle.frfcfs.proofs.Leads.{lead_at}
 
@@ -10,21 +9,13 @@ IsOfRank rank cmd = (cmd ≡ Ref rank) ⊎ (cmd ≡ PreAll rank)
 
 -- REF asks for closed banks and PREA for an open one
 
-rows_of : (c : Checked) (list : List Stamped) (k : ℕ) (a b : Command) → a ≡ b → IsLawful c (with_command list k a) → KeepsRows c.geometry list b
-rows_of c list k a b e h = (ready_lawful c list (record { clock = k; cmd = b }) (subst (λ (x : Command). IsLawful c (with_command list k x)) e h)).rows
-
-one_kind : (c : Checked) (list : List Stamped) (rank k : ℕ) (cmd refresh : Command) → IsOfRank rank cmd → (AllClosed c.geometry rank list → refresh ≡ Ref rank) → ((¬ AllClosed c.geometry rank list) → refresh ≡ PreAll rank) → IsLawful c (with_command list k cmd) → cmd ≡ refresh
-one_kind c list rank k cmd refresh (inl e) closed opened h = e ∙ sym (closed (rows_of c list k cmd (Ref rank) e h).rows)
-one_kind c list rank k cmd refresh (inr e) closed opened h = e ∙ sym (opened (rows_of c list k cmd (PreAll rank) e h).rows)
+asked : (c : Checked) (list : List Stamped) (rank k : ℕ) (cmd : Command) → IsOfRank rank cmd → IsLawful c (with_command list k cmd) →
+    (¬ IsTrue (is_asleep rank list)) × (((cmd ≡ Ref rank) × AllClosed c.geometry rank list) ⊎ ((cmd ≡ PreAll rank) × (¬ AllClosed c.geometry rank list)))
+asked c list rank k cmd (inl e) h = let keeps = (ready_lawful c list (record { clock = k; cmd = Ref rank }) (rw (← e) h)).rows in (keeps.awake, inl (e, keeps.rows))
+asked c list rank k cmd (inr e) h = let keeps = (ready_lawful c list (record { clock = k; cmd = PreAll rank }) (rw (← e) h)).rows in (keeps.awake, inr (e, keeps.rows))
 
 pub one_rank : (c : Checked) (list : List Stamped) (k rank : ℕ) (a b : Command) → OffersRank c list k rank a → OffersRank c list k rank b → a ≡ b
-one_rank c list k rank a b x y = go x.kind y.kind
-  where
-    go : IsOfRank rank a → IsOfRank rank b → a ≡ b
-    go (inl e) (inl f) = e ∙ sym f
-    go (inl e) (inr f) = absurd ((rows_of c list k b (PreAll rank) f y.lawful).rows (rows_of c list k a (Ref rank) e x.lawful).rows)
-    go (inr e) (inl f) = absurd ((rows_of c list k a (PreAll rank) e x.lawful).rows (rows_of c list k b (Ref rank) f y.lawful).rows)
-    go (inr e) (inr f) = e ∙ sym f
+one_rank c list k rank a b x y = grind (arith, asked c list rank k a x.kind x.lawful, asked c list rank k b y.kind y.lawful)
 
 -- the rank's one command: what its banks ask for, lawful at the clocks of a span
 pub record IsRefresh (c : Checked) (list : List Stamped) (rank : ℕ) (x : Stamped) : Type 0 where
@@ -33,24 +24,22 @@ pub record IsRefresh (c : Checked) (list : List Stamped) (rank : ℕ) (x : Stamp
   pub opened : (¬ AllClosed c.geometry rank list) → x.cmd ≡ PreAll rank
   pub exact : (k : ℕ) → (IsLawful c (with_command list k x.cmd) ↔ ((¬ IsTrue (is_asleep rank list)) × (x.clock ≤ k) × (k ≤ last_ref rank list + 9 * c.timing.t_refi)))
 
-record Offered (c : Checked) (list : List Stamped) (rank lead k : ℕ) (x : Stamped) : Type 0 where
-  led : lead ≤ k
-  from : x.clock ≤ k
-  until : k ≤ last_ref rank list + 9 * c.timing.t_refi
-
-offered : (c : Checked) (list : List Stamped) (rank lead k : ℕ) (x : Stamped) (cmd : Command) → IsRefresh c list rank x → lead ≡ (ref_count rank list + 8) * c.timing.t_refi → OffersRank c list k rank cmd → Offered c list rank lead k x
-offered c list rank lead k x cmd is at h =
-    let same = one_kind c list rank k cmd x.cmd h.kind is.closed is.opened h.lawful in
-    let span = (is.exact k).0 (subst (λ (y : Command). IsLawful c (with_command list k y)) same h.lawful) in
-    record { led = (lead_at c list rank k lead at).0 h.lead; from = span.1; until = span.2 }
-
 only_rank : (c : Checked) (list : List Stamped) (k rank other : ℕ) (cmd : Command) → rank ≤ other → other < rank + 1 → OffersRank c list k other cmd → OffersRank c list k rank cmd
 only_rank c list k rank other cmd l h offers = let e : other ≡ rank = omega (arith, l, h) in subst (λ (r : ℕ). OffersRank c list k r cmd) e offers
+
+-- the clocks at which it is offered
+offered : (c : Checked) (list : List Stamped) (rank lead k other : ℕ) (x : Stamped) (cmd : Command) → IsRefresh c list rank x → lead ≡ (ref_count rank list + 8) * c.timing.t_refi → rank ≤ other → other < rank + 1 → OffersRank c list k other cmd →
+    (lead ≤ k) × (x.clock ≤ k) × (k ≤ last_ref rank list + 9 * c.timing.t_refi)
+offered c list rank lead k other x cmd is at l h offers =
+    let mine = only_rank c list k rank other cmd l h offers in
+    let same : cmd ≡ x.cmd = grind (arith, asked c list rank k cmd mine.kind mine.lawful, is.closed, is.opened) in
+    let span = (is.exact k).0 (subst (λ (y : Command). IsLawful c (with_command list k y)) same mine.lawful) in
+    ((lead_at c list rank k lead at).0 mine.lead, span.1, span.2)
 
 pub refresh_first : (c : Checked) (list : List Stamped) (rank now last lead from clock : ℕ) (x : Stamped) (next : Next) → rank < c.geometry.ranks → (¬ IsTrue (is_asleep rank list)) → IsRefresh c list rank x → lead ≡ (ref_count rank list + 8) * c.timing.t_refi →
     from ≡ max lead now → clock ≡ max x.clock from → clock ≤ last_ref rank list + 9 * c.timing.t_refi → next ≡ record { clock = clock; cmd = x.cmd; serves = None } → IsRankNext c list now last rank (rank + 1) (Some next)
 refresh_first c list rank now last lead from clock x next within awake is at from_is clock_is until next_is =
-    subst (λ (n : Next). IsRankNext c list now last rank (rank + 1) (Some n)) (sym next_is) (record {
+    rw next_is (record {
       rank = rank;
       from = omega arith;
       until = omega arith;
@@ -60,94 +49,46 @@ refresh_first c list rank now last lead from clock x next within awake is at fro
         kind = is.kind;
         lawful = (is.exact clock).1 (awake, omega (arith, clock_is), until);
       };
-      first = λ other k cmd l h later before offers.
-          let o = offered c list rank lead k x cmd is at (only_rank c list k rank other cmd l h offers) in
-          let a = o.led in
-          let b = o.from in
-          (omega (arith, a, b, later, from_is, clock_is), λ _. l);
+      first = λ other k cmd l h later before offers. (omega (arith, offered c list rank lead k other x cmd is at l h offers, later, from_is, clock_is), λ _. l);
     })
 
 pub refresh_none : (c : Checked) (list : List Stamped) (rank now last lead from clock : ℕ) (x : Stamped) → IsRefresh c list rank x → lead ≡ (ref_count rank list + 8) * c.timing.t_refi → from ≡ max lead now → clock ≡ max x.clock from →
     min (last_ref rank list + 9 * c.timing.t_refi) last < clock → IsRankNext c list now last rank (rank + 1) None
 refresh_none c list rank now last lead from clock x is at from_is clock_is past other k cmd l h later before offers =
-    let o = offered c list rank lead k x cmd is at (only_rank c list k rank other cmd l h offers) in
-    let a = o.led in
-    let b = o.from in
-    let d = o.until in
-    absurd (omega (arith, a, b, d, later, before, from_is, clock_is, past))
+    absurd (omega (arith, offered c list rank lead k other x cmd is at l h offers, later, before, from_is, clock_is, past))
 
 -- a rank that comes into lead behind the span, and one that is asleep
 pub refresh_behind : (c : Checked) (list : List Stamped) (rank now last lead from : ℕ) → lead ≡ (ref_count rank list + 8) * c.timing.t_refi → from ≡ max lead now → last < from → IsRankNext c list now last rank (rank + 1) None
 refresh_behind c list rank now last lead from at from_is past other k cmd l h later before offers =
-    let a = (lead_at c list rank k lead at).0 (only_rank c list k rank other cmd l h offers).lead in
-    absurd (omega (arith, a, later, before, from_is, past))
+    absurd (omega (arith, (lead_at c list rank k lead at).0 (only_rank c list k rank other cmd l h offers).lead, later, before, from_is, past))
 
 pub refresh_asleep : (c : Checked) (list : List Stamped) (rank now last : ℕ) → IsTrue (is_asleep rank list) → IsRankNext c list now last rank (rank + 1) None
 refresh_asleep c list rank now last asleep other k cmd l h later before offers =
-    let mine = only_rank c list k rank other cmd l h offers in
-    elim mine.kind [
-      | inl e ↦ (rows_of c list k cmd (Ref rank) e mine.lawful).awake asleep
-      | inr e ↦ (rows_of c list k cmd (PreAll rank) e mine.lawful).awake asleep
-    ]
+    let mine = only_rank c list k rank other cmd l h offers in (asked c list rank k cmd mine.kind mine.lawful).0 asleep
 
 -- what holds of two holds of the one that goes first
 pub sooner_keeps : (P : Next → Type 0) (a b r : Option Next) → IsSoonerOf a b r → IfSome a P → IfSome b P → IfSome r P
-sooner_keeps P None b r is p q = subst (λ (x : Option Next). IfSome x P) (sym is) q
-sooner_keeps P (Some x) None r is p q = subst (λ (z : Option Next). IfSome z P) (sym is) p
-sooner_keeps P (Some x) (Some y) r (inl is) p q = subst (λ (z : Option Next). IfSome z P) (sym is.1) p
-sooner_keeps P (Some x) (Some y) r (inr is) p q = subst (λ (z : Option Next). IfSome z P) (sym is.1) q
+sooner_keeps P None b r is p q = rw is q
+sooner_keeps P (Some x) None r is p q = rw is p
+sooner_keeps P (Some x) (Some y) r is p q = elim is [ inl h ↦ rw h.1 p | inr h ↦ rw h.1 q ]
+
+-- the first of some ranks is the first of more where no other goes sooner
+stays_first : (c : Checked) (list : List Stamped) (now last low end inner outer : ℕ) (next : Next) (is : IsRankNextAt c list now last inner outer next) → low ≤ inner → outer ≤ end →
+    ((other k : ℕ) (cmd : Command) → low ≤ other → other < end → now ≤ k → k ≤ last → OffersRank c list k other cmd → (next.clock ≤ k) × (k ≡ next.clock → is.rank ≤ other)) → IsRankNextAt c list now last low end next
+stays_first c list now last low end inner outer next is l h first = record {
+  rank = is.rank;
+  from = omega (arith, l, is.from);
+  until = omega (arith, h, is.until);
+  offers = is.offers;
+  first = first;
+}
 
 -- ranks below one, and those from it on
 pub rank_sooner : (c : Checked) (list : List Stamped) (now last low mid end : ℕ) (a b r : Option Next) → low ≤ mid → mid ≤ end → IsSoonerOf a b r → IsRankNext c list now last low mid a → IsRankNext c list now last mid end b → IsRankNext c list now last low end r
-rank_sooner c list now last low mid end None None r lm me is f g =
-    subst (λ (n : Option Next). IsRankNext c list now last low end n) (sym is) (λ other k cmd l h later before. elim (cases_lt other mid) [
-      | inl below ↦ f other k cmd l below later before
-      | inr above ↦ g other k cmd above h later before
-    ])
-rank_sooner c list now last low mid end None (Some y) r lm me is f g =
-    subst (λ (n : Option Next). IsRankNext c list now last low end n) (sym is) (record {
-      rank = g.rank;
-      from = (let h = g.from in omega (arith, lm, h));
-      until = g.until;
-      offers = g.offers;
-      first = λ other k cmd l h later before offers. elim (cases_lt other mid) [
-        | inl below ↦ absurd (f other k cmd l below later before offers)
-        | inr above ↦ g.first other k cmd above h later before offers
-      ];
-    })
-rank_sooner c list now last low mid end (Some x) None r lm me is f g =
-    subst (λ (n : Option Next). IsRankNext c list now last low end n) (sym is) (record {
-      rank = f.rank;
-      from = f.from;
-      until = (let h = f.until in omega (arith, me, h));
-      offers = f.offers;
-      first = λ other k cmd l h later before offers. elim (cases_lt other mid) [
-        | inl below ↦ f.first other k cmd l below later before offers
-        | inr above ↦ absurd (g other k cmd above h later before offers)
-      ];
-    })
+rank_sooner c list now last low mid end None None r lm me is f g = rw is (λ other k cmd l h later before offers. grind (arith, f other k cmd, g other k cmd))
+rank_sooner c list now last low mid end None (Some y) r lm me is f g = rw is (stays_first c list now last low end mid end y g lm (omega arith) (λ other k cmd l h later before offers. grind (arith, f other k cmd, g.first other k cmd)))
+rank_sooner c list now last low mid end (Some x) None r lm me is f g = rw is (stays_first c list now last low end low mid x f (omega arith) me (λ other k cmd l h later before offers. grind (arith, f.first other k cmd, g other k cmd)))
 rank_sooner c list now last low mid end (Some x) (Some y) r lm me (inl is) f g =
-    let u = f.until in
-    let le = is.0 in
-    subst (λ (n : Option Next). IsRankNext c list now last low end n) (sym is.1) (record {
-      rank = f.rank;
-      from = f.from;
-      until = omega (arith, me, u);
-      offers = f.offers;
-      first = λ other k cmd l h later before offers. elim (cases_lt other mid) [
-        | inl below ↦ f.first other k cmd l below later before offers
-        | inr above ↦ let e = (g.first other k cmd above h later before offers).0 in (omega (arith, le, e), λ _. omega (arith, u, above))
-      ];
-    })
+    rw is.1 (stays_first c list now last low end low mid x f (omega arith) me (λ other k cmd l h later before offers. grind (arith, is.0, f.until, f.first other k cmd, g.first other k cmd)))
 rank_sooner c list now last low mid end (Some x) (Some y) r lm me (inr is) f g =
-    let lt = is.0 in
-    subst (λ (n : Option Next). IsRankNext c list now last low end n) (sym is.1) (record {
-      rank = g.rank;
-      from = (let h = g.from in omega (arith, lm, h));
-      until = g.until;
-      offers = g.offers;
-      first = λ other k cmd l h later before offers. elim (cases_lt other mid) [
-        | inl below ↦ let e = (f.first other k cmd l below later before offers).0 in (omega (arith, lt, e), λ same. absurd (omega (arith, lt, e, same)))
-        | inr above ↦ g.first other k cmd above h later before offers
-      ];
-    })
+    rw is.1 (stays_first c list now last low end mid end y g lm (omega arith) (λ other k cmd l h later before offers. grind (arith, is.0, f.first other k cmd, g.first other k cmd)))

@@ -1,5 +1,5 @@
 -- What contracts see of a queue of requests.
-use Rattle.std.specs.Prelude.{◌≡◌, ◌≢◌, ℕ, ◌+◌, ◌<◌, ◌≤◌, ◌↔◌, Bool, false, true, not, nat_lt, IsTrue, List, [], ◌∷◌, filter, length, slice_index, slice_get, slice_index_or, slice_set, Option, Some, None, All}
+use Rattle.std.specs.Prelude.{◌≡◌, ◌≢◌, ℕ, ◌+◌, ◌<◌, ◌≤◌, ◌↔◌, Bool, false, true, not, nat_lt, IsTrue, List, [], ◌∷◌, drop, filter, length, map, slice_index, slice_get, slice_index_or, slice_set, Option, Some, None, All}
 use Rattle.frfcfs.specs.declared.pending.Kind.{Kind}
 use Rattle.frfcfs.specs.declared.pending.Kind.TheVariants.{Read, Write}
 use Rattle.frfcfs.specs.declared.pending.Pending.{Pending}
@@ -25,6 +25,16 @@ IsFirstAt lines i = (j : ℕ) → j < i → slice_index lines j ≢ slice_index 
 pub record AreFirsts (lines : List ℕ) (firsts : List Bool) : Type 0 where
   pub size : length firsts ≡ length lines
   pub each : (i : ℕ) → i < length lines → (IsTrue (slice_index_or firsts i false) ↔ IsFirstAt lines i)
+
+-- What is true of what a queue keeps: its requests are those from a start on, with a mark for each, and there is room for as
+-- many as it may hold.
+pub record IsKept (most next start room : ℕ) (pending : List Pending) (firsts : List Bool) : Type 0 where
+  pub waiting : IsWaiting (record { most = most; next = next; requests = drop start pending })
+  pub marks : AreFirsts (map (λ p. p.line) (drop start pending)) (drop start firsts)
+  pub within : start ≤ length pending
+  pub size : length firsts ≡ length pending
+  pub fits : length pending ≤ room
+  pub enough : most ≤ room
 
 -- writes from a number on are held
 abbrev pub is_held : Option ℕ → Kind → ℕ → Bool

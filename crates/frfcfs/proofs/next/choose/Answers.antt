@@ -1,11 +1,11 @@
-use Rattle.std.proofs.Common.{Option, sym, subst}
-use Rattle.frfcfs.proofs.Common.{Command, IsChoice}
-use Rattle.frfcfs.proofs.NextChoice.{choice_none, choice_some}
+use Rattle.std.proofs.Common.{◌≡◌, arith}
 use Rattle.frfcfs.proofs.next.choose.Goals as goal
 
 pub returns-in_err-next : goal.returns-in_err-next
-returns-in_err-next c list s =
-    subst (λ (x : Option Command). IsChoice c.args.banks.now.checked list c.args.pending.now c.args.clock x) (sym c.from_residual.ensures) (choice_none c.args.banks.now.checked list c.args.pending.now c.args.clock (c.in_err-next.ensures.next list s))
+returns-in_err-next c list s = rw c.from_residual.ensures (c.in_err-next.ensures.next list s c.args.clock (omega arith) (omega arith))
 
 pub returns : goal.returns
-returns c list s = choice_some c.args.banks.now.checked list c.args.pending.now c.args.clock c.in_ok-next.next (c.in_ok-next.ensures.next list s)
+returns c list s =
+    let next = c.in_ok-next.ensures.next list s in
+    let at : c.in_ok-next.next.clock ≡ c.args.clock = omega (arith, next.from, next.until) in
+    (next.turn, rw (← at) next.choice)

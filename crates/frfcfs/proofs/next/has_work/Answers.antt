@@ -1,11 +1,5 @@
-use Rattle.std.proofs.Common.{inl, inr}
+use Rattle.std.proofs.Common.{arith}
 use Rattle.frfcfs.proofs.next.has_work.Goals as goal
 
 pub returns-else-any : goal.returns-else-any
-returns-else-any c list s = (
-  λ t. inl ((c.is_in_lead.ensures list s).0 t),
-  λ h. elim h [
-    | inl l ↦ (c.is_in_lead.ensures list s).1 l
-    | inr e ↦ absurd cc
-  ],
-)
+returns-else-any c list s = grind (arith, c.is_in_lead.ensures list s)

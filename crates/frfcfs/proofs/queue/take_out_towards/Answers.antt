@@ -1,10 +1,5 @@
-use Rattle.std.proofs.Common.{◌+◌, ℕ, ap, drop, ◌∙◌, remove}
 use Rattle.frfcfs.proofs.ShiftedLists.{removed_behind}
 use Rattle.frfcfs.proofs.queue.take_out_towards.Goals as goal
 
 pub returns-then-next-start-clause-left : goal.returns-then-next-start-clause-left
-returns-then-next-start-clause-left g c =
-    let items = c.args.items.now.items in
-    ap (drop c.args.next) c.remove.ensures.items
-    ∙ (ap (λ (n : ℕ). drop n (remove items (c.args.start + c.args.place))) c.if-next-start.true
-    ∙ removed_behind items c.args.start c.args.place c.requires.place)
+returns-then-next-start-clause-left g c = rw (c.remove.ensures.items, c.if-next-start.true) (removed_behind c.args.items.now.items c.args.start c.args.place c.requires.place)

@@ -15,7 +15,5 @@ loop-rank-preserved c =
 pub returns-clause-next : goal.returns-clause-next
 returns-clause-next c list s =
     let n = ap (λ x. x.geometry.ranks) c.checked.ensures in
-    let t = c.loop-rank-test.false in
-    let u = c.loop-rank.auto.rank-end in
-    let e : c.loop-rank.rank ≡ c.args.banks.now.checked.geometry.ranks = omega (arith, n, t, u) in
+    let e : c.loop-rank.rank ≡ c.args.banks.now.checked.geometry.ranks = omega (arith, n, c.loop-rank-test.false, c.loop-rank.auto.rank-end) in
     subst (λ (end : ℕ). IsRankNext c.args.banks.now.checked list c.args.now c.args.last 0 end c.loop-rank.best) e (c.loop-rank.invariant.next list s)

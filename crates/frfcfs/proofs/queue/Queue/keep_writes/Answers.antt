@@ -1,7 +1,8 @@
-use Rattle.std.proofs.Common.{◌≡◌, length, drop, ap, ◌∙◌, arith, length-drop}
+use Rattle.std.proofs.Common.{◌≡◌, length, drop, ap, ◌∙◌, arith}
 use Rattle.frfcfs.specs.Queue.{numbered_from}
-use Rattle.frfcfs.proofs.KeepLemmas.{length-numbered, lines_numbered, waiting_numbered}
+use Rattle.frfcfs.proofs.KeepLemmas.{length-numbered}
 use Rattle.frfcfs.proofs.QueueLemmas.{written}
+use Rattle.frfcfs.proofs.QueueRoom.{kept_in_front, kept_numbered}
 use Rattle.frfcfs.proofs.queue.Queue.keep_writes.Goals as goal
 
 pub invariant_of-self : goal.invariant_of-self
@@ -11,17 +12,10 @@ invariant_of-self c =
     let moved = c.move_to_front.new.items in
     let new = c.number_each.new.pending in
     let is : new ≡ numbered_from 0 old = c.number_each.ensures ∙ ap (numbered_from 0) (c.deref_mut.ensures.value ∙ c.move_to_front.ensures.items) in
-    let count = length-numbered 0 old in
-    let here = length-drop inside.start inside.pending.items in
-    let size : moved.len ≡ length new = let e = ap length is in let m = ap length c.move_to_front.ensures.items in let l = moved.ok in omega (arith, e, count, m, l) in
-    let next : c.len.result ≡ length old = let m = ap length c.move_to_front.ensures.items in let l = moved.ok in let e = c.len.ensures in omega (arith, l, e, m) in
+    let size : moved.len ≡ length new = omega (arith, ap length is, length-numbered 0 old, ap length c.move_to_front.ensures.items, moved.ok) in
+    let next : c.len.result ≡ length old = omega (arith, ap length c.move_to_front.ensures.items, moved.ok, c.len.ensures) in
     rw (written (drop (length new) moved.items) new moved.len size, is, next, c.move_to_front-2.ensures.items) (
-      waiting_numbered _ c.self.invariant.0,
-      rw (lines_numbered 0 old) c.self.invariant.1,
-      omega arith,
-      (let f = length-drop inside.start inside.firsts.items in let same = c.self.invariant.3 in omega (arith, f, same, count, here)),
-      (let fits = c.self.invariant.4 in omega (arith, fits, count, here)),
-      c.self.invariant.5,
-      (let e = c.move_to_front.ensures.capacity in let r = c.self.invariant.6 in omega (arith, e, r)),
-      (let e = c.move_to_front-2.ensures.capacity in let r = c.self.invariant.7 in omega (arith, e, r)),
+      kept_numbered _ _ _ _ _ (kept_in_front _ _ _ _ _ _ c.self.invariant.0),
+      omega (arith, c.move_to_front.ensures.capacity, c.self.invariant.1),
+      omega (arith, c.move_to_front-2.ensures.capacity, c.self.invariant.2),
     )

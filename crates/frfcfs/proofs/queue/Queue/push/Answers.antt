@@ -1,7 +1,7 @@
-use Rattle.std.proofs.Common.{◌<◌, ◌≤◌, ◌↔◌, ◌≢◌, List, All, IsTrue, length, drop, vec_capacity, arith, refl, sym, subst}
-use Rattle.frfcfs.proofs.Common.{Pending, Waiting}
+use Rattle.std.proofs.Common.{◌<◌, ◌≤◌, length, drop, vec_capacity, arith, refl, sym, subst}
+use Rattle.frfcfs.proofs.Common.{IsKept, Pending, Waiting}
 use Rattle.frfcfs.specs.declared.queue.Queue.TheInside.{Inside}
-use Rattle.frfcfs.proofs.QueueRoom.{IsKept, kept_in_front, kept_push}
+use Rattle.frfcfs.proofs.QueueRoom.{kept_in_front, kept_push}
 use Rattle.frfcfs.proofs.queue.Queue.push.Goals.{then-len-self, else-len-self}
 use Rattle.frfcfs.proofs.queue.Queue.push.Goals as goal
 
@@ -13,55 +13,37 @@ record HasRoom (queue : Inside) : Type 0 where
   pending_room : queue.room ≤ vec_capacity queue.pending
   firsts_room : queue.room ≤ vec_capacity queue.firsts
 
-kept_before : (c : goal.After-self-2-1) → IsKept c.self.inside.most c.self.inside.next c.self.inside.start c.self.inside.room c.self.inside.pending.items c.self.inside.firsts.items
-kept_before c = record {
-  waiting = c.self.invariant.0;
-  marks = c.self.invariant.1;
-  within = c.self.invariant.2;
-  size = c.self.invariant.3;
-  fits = c.self.invariant.4;
-  enough = c.self.invariant.5;
-}
-
 few_before : (c : goal.After-self-2-1) → length (drop c.self.inside.start c.self.inside.pending.items) < c.self.inside.most
 few_before c = subst (λ (w : Waiting). length w.requests < w.most) (sym c.self.view_is) c.requires.room
 
 has_room : (c : goal.After-self-2-1) → HasRoom c.if-len-self.self-inside
 has_room c = elim c.if-len-self.branch [
   | then-len-self w ↦
-      let few = few_before c in
-      let most = c.self.invariant.5 in
       let pending = w.move_to_front.ensures in
       let firsts = w.move_to_front-then-len-self.ensures in
       subst HasRoom (sym w.self-inside-is) (record {
-        kept = rw (pending.items, firsts.items) (kept_in_front _ _ _ _ _ _ (kept_before c));
-        room = rw pending.items (omega (arith, few, most));
-        few = rw pending.items few;
-        pending_room = (let e = pending.capacity in let r = c.self.invariant.6 in omega (arith, e, r));
-        firsts_room = (let e = firsts.capacity in let r = c.self.invariant.7 in omega (arith, e, r));
+        kept = rw (pending.items, firsts.items) (kept_in_front _ _ _ _ _ _ c.self.invariant.0);
+        room = rw pending.items (omega (arith, few_before c, c.self.invariant.0.enough));
+        few = rw pending.items (few_before c);
+        pending_room = omega (arith, pending.capacity, c.self.invariant.1);
+        firsts_room = omega (arith, firsts.capacity, c.self.invariant.2);
       })
   | else-len-self w ↦
       subst HasRoom (sym w.self-inside-is) (record {
-        kept = kept_before c;
-        room = (let no = w.if-len-self.false in let l = c.self.inside.pending.ok in let e = c.len.ensures in let r = c.self.invariant.4 in omega (arith, no, l, e, r));
+        kept = c.self.invariant.0;
+        room = omega (arith, w.if-len-self.false, c.self.inside.pending.ok, c.len.ensures, c.self.invariant.0.fits);
         few = few_before c;
-        pending_room = c.self.invariant.6;
-        firsts_room = c.self.invariant.7;
+        pending_room = c.self.invariant.1;
+        firsts_room = c.self.invariant.2;
       })
 ]
 
 pub invariant_of-self-2 : goal.invariant_of-self-2
 invariant_of-self-2 c =
     let ready = has_room c in
-    let marks = subst (λ (xs : List Pending). IsTrue c.none_names-first.result ↔ All (λ p. p.line ≢ c.args.line) xs) c.requests.ensures.value c.none_names-first.ensures in
-    let kept = kept_push _ _ _ _ _ _ (record { seq = c.if-len-self.self-inside.next; place = c.args.place; line = c.args.line; kind = c.args.kind; number = c.args.number; held = c.args.held }) c.none_names-first.result ready.kept ready.room ready.few refl marks in
+    let request : Pending = record { seq = c.if-len-self.self-inside.next; place = c.args.place; line = c.args.line; kind = c.args.kind; number = c.args.number; held = c.args.held } in
     rw (c.push_reserved.ensures.items, c.push_reserved-2.ensures.items) (
-      kept.waiting,
-      kept.marks,
-      kept.within,
-      kept.size,
-      kept.fits,
-      kept.enough,
-      (let e = c.push_reserved.ensures.capacity in let r = ready.pending_room in omega (arith, e, r)),
-      (let e = c.push_reserved-2.ensures.capacity in let r = ready.firsts_room in omega (arith, e, r)),
+      kept_push _ _ _ _ _ _ request c.none_names-first.result ready.kept ready.room ready.few refl (rw (← c.requests.ensures.value) c.none_names-first.ensures),
+      omega (arith, c.push_reserved.ensures.capacity, ready.pending_room),
+      omega (arith, c.push_reserved-2.ensures.capacity, ready.firsts_room),
     )

@@ -1,48 +1,20 @@
-use Rattle.std.proofs.Common.{◌≡◌, ◌<◌, List, Bool, length, drop, sym, subst, ap, ◌∙◌, arith}
-use Rattle.frfcfs.proofs.Common.{MarksOldest, Pending, Waiting}
-use Rattle.frfcfs.proofs.QueueLemmas.{line_at, written}
-use Rattle.frfcfs.proofs.QueueRoom.{IsKept, kept_take}
+use Rattle.std.proofs.Common.{◌≡◌, length, drop, ap, ◌∙◌, arith}
+use Rattle.frfcfs.proofs.QueueLemmas.{written}
+use Rattle.frfcfs.proofs.QueueRoom.{kept_take}
 use Rattle.frfcfs.proofs.queue.Queue.take.Goals as goal
 
 pub invariant_of-self : goal.invariant_of-self
 invariant_of-self c =
     let inside = c.self.inside in
-    let next = c.start_without-next.result in
-    let old = inside.pending.items in
-    let left = c.take_out_towards-taken.new.items in
+    let taken = c.take_out_towards-taken in
     let unmarked = c.take_out_towards.new.items in
     let new = c.mark_oldest.new.firsts in
-    let removed = c.take_out_towards-taken.ensures in
     let gone = c.take_out_towards.ensures in
-    let line = c.take_out_towards-taken.result.line in
-    let kept : IsKept inside.most inside.next inside.start inside.room old inside.firsts.items = record {
-      waiting = c.self.invariant.0;
-      marks = c.self.invariant.1;
-      within = c.self.invariant.2;
-      size = c.self.invariant.3;
-      fits = c.self.invariant.4;
-      enough = c.self.invariant.5;
-    } in
-    let pending = c.deref.ensures.value in
-    let firsts = c.deref_mut.ensures.value in
-    let marked_size : length new ≡ length unmarked.items = c.mark_oldest.ensures.size ∙ ap length firsts in
-    let size : unmarked.len ≡ length new = (let l = unmarked.ok in omega (arith, l, marked_size)) in
-    let within = subst (λ (w : Waiting). c.args.place < length w.requests) (sym c.self.view_is) c.requires in
-    let marked : MarksOldest line (drop next left.items) (drop next unmarked.items) (drop next new) =
-    subst (λ (ps : List Pending). MarksOldest line (drop next ps) (drop next unmarked.items) (drop next new)) pending
-    (subst (λ (bs : List Bool). MarksOldest line (drop next c.deref.result.now) (drop next bs) (drop next new)) firsts c.mark_oldest.ensures.marks) in
-    let after = kept_take inside.most inside.next inside.start next inside.room old left.items inside.firsts.items unmarked.items new c.args.place line c.take_out_towards-taken.result kept within
-    (line_at (drop inside.start old) c.args.place c.take_out_towards-taken.result removed.taken)
-    c.start_without-next.ensures.least c.start_without-next.ensures.most removed.left removed.size gone.left
-    (let n = gone.size in omega (arith, n, marked_size))
-    marked in
-    rw (written (drop (length new) unmarked.items) new unmarked.len size) (
-      after.waiting,
-      after.marks,
-      after.within,
-      after.size,
-      after.fits,
-      after.enough,
-      (let e = removed.capacity in let r = c.self.invariant.6 in omega (arith, e, r)),
-      (let e = gone.capacity in let r = c.self.invariant.7 in omega (arith, e, r)),
+    let marked_size : length new ≡ length unmarked.items = c.mark_oldest.ensures.size ∙ ap length c.deref_mut.ensures.value in
+    rw (written (drop (length new) unmarked.items) new unmarked.len (omega (arith, unmarked.ok, marked_size))) (
+      kept_take inside.most inside.next inside.start c.start_without-next.result inside.room inside.pending.items taken.new.items.items inside.firsts.items unmarked.items new c.args.place taken.result c.self.invariant.0 taken.ensures.taken
+          c.start_without-next.ensures.least c.start_without-next.ensures.most taken.ensures.left taken.ensures.size gone.left (omega (arith, gone.size, marked_size))
+          (rw (← c.deref.ensures.value, ← c.deref_mut.ensures.value) c.mark_oldest.ensures.marks),
+      omega (arith, taken.ensures.capacity, c.self.invariant.1),
+      omega (arith, gone.capacity, c.self.invariant.2),
     )
