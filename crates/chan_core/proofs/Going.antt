@@ -1,6 +1,6 @@
 -- A channel goes on: its banks, clock and last commands stay those of its list of commands.
-use Rattle.std.proofs.Common.{◌≡◌, ◌≢◌, ℕ, ◌-◌, ◌<◌, ◌≤◌, ◌^◌, ◌↔◌, ◌⊎◌, List, [], ◌∷◌, ◌++◌, length, drop, Option, Some, None, refl, sym, ap, subst, ◌∙◌, arith}
-use Rattle.chan_core.proofs.Common.{AreAsleep, AreAwake, Asleep, BanksState, Buffer, ChannelState, Checked, HasNothingToSend, IsIdle, IsInPhase, IsNext, IsRunning, IssuesAlone, KeepsMargin, Next, Pending, Phase, Running, Stamped, Stands, Stepping, after_command, clock_of, last_clock, last_commands, with_command}
+use Rattle.std.proofs.Common.{◌≡◌, ◌≢◌, ◌-◌, ◌<◌, ◌≤◌, ◌^◌, ◌↔◌, ◌⊎◌, List, [], ◌∷◌, ◌++◌, length, drop, Option, Some, None, refl, sym, ap, ◌∙◌, arith}
+use Rattle.chan_core.proofs.Common.{Asleep, BanksState, Buffer, ChannelState, HasNothingToSend, IsIdle, IsInPhase, IsNext, IsRunning, IssuesAlone, KeepsMargin, Next, Pending, Phase, Running, Stamped, Stands, Stepping, after_command, clock_of, last_clock, with_command}
 use Rattle.frfcfs.proofs.refreshes.RefreshCounts.{last_clock_push}
 use Rattle.chan_core.specs.declared.channel.Channel.TheInside.{Inside}
 use Rattle.chan_core.proofs.Sleeping.{asleep-more, awake-more, chosen-awake}
@@ -12,7 +12,7 @@ pub running-few : (c : Inside) → IsRunning c → length c.memory.commands ≤ 
 running-few c is = omega (arith, few-commands c.banks.checked c.memory.commands is.stands.lawful, is.clock, is.early)
 
 in-time-here : (c : Inside) → IsRunning c → c.memory.phase ≢ Stepping → KeepsMargin c.banks.checked c.memory.commands
-in-time-here c is not = subst (λ (k : Checked). KeepsMargin k c.memory.commands) (sym is.checked) (is.phase.in_time not)
+in-time-here c is not = rw is.checked (is.phase.in_time not)
 
 -- one more command
 pub running-more : (c : Inside) (x : Stamped) (banks : BanksState) (recent : Buffer Stamped) (new : ChannelState) → IsRunning c → new.commands ≡ c.memory.commands ++ x ∷ [] → new.checked ≡ c.memory.checked
@@ -22,12 +22,11 @@ pub running-more : (c : Inside) (x : Stamped) (banks : BanksState) (recent : Buf
 running-more c x banks recent new is commands profile checked stands recent-is early phase =
     let old = c.memory.commands in
     record {
-      stands = subst (λ (xs : List Stamped). Stands banks xs) (sym commands) (stands old is.stands);
+      stands = rw commands (stands old is.stands);
       checked = checked ∙ is.checked ∙ sym profile;
-      clock = sym (ap last_clock commands ∙ last_clock_push old x);
+      clock = rw commands (sym (last_clock_push old x));
       early = early;
-      recent = ap (λ (b : Buffer Stamped). b.items) recent-is ∙ ap (λ (n : ℕ). drop (length (c.recent.items ++ x ∷ []) - n) (c.recent.items ++ x ∷ [])) is.capacity
-          ∙ ap (λ (xs : List Stamped). drop (length (xs ++ x ∷ []) - 64) (xs ++ x ∷ [])) is.recent ∙ last-push 64 old x ∙ ap last_commands (sym commands);
+      recent = rw (recent-is, is.capacity, is.recent, commands) (last-push 64 old x);
       capacity = ap (λ (b : Buffer Stamped). b.capacity) recent-is ∙ is.capacity;
       phase = phase;
     }
@@ -43,17 +42,11 @@ pub running-on : (c : Inside) (next : Next) (banks : BanksState) (recent : Buffe
 running-on c next banks recent new is same checked stands recent-is early keeps chosen =
     let x : Stamped = record { clock = next.clock; cmd = next.cmd } in
     let old = c.memory.commands in
-    let commands : new.commands ≡ old ++ x ∷ [] = ap (λ (s : ChannelState). s.commands) same in
-    let profile : new.checked ≡ c.memory.checked = ap (λ (s : ChannelState). s.checked) same in
-    let phase : new.phase ≡ c.memory.phase = ap (λ (s : ChannelState). s.phase) same in
-    running-more c x banks recent new is commands profile checked stands recent-is early (record {
-      in_time = λ not. subst (λ (k : Checked). KeepsMargin k new.commands) (is.checked ∙ sym profile)
-          (subst (λ (xs : List Stamped). KeepsMargin c.banks.checked xs) (sym commands) (keeps old is.stands (in-time-here c is (λ e. not (phase ∙ e))) is.clock));
-      awake = λ e. subst (λ (k : Checked). AreAwake k new.commands) (sym profile)
-          (subst (λ (xs : List Stamped). AreAwake c.memory.checked xs) (sym commands) (awake-more c.memory.checked old x (chosen-awake c.banks.checked old c.memory.requests c.clock next (chosen old is.stands)) (is.phase.awake (sym phase ∙ e))));
-      asleep = λ e. subst (λ (k : Checked). AreAsleep k new.commands) (sym profile)
-          (subst (λ (xs : List Stamped). AreAsleep c.memory.checked xs) (sym commands) (asleep-more c.memory.checked old x (is.phase.asleep (sym phase ∙ e))));
-    })
+    rw same (running-more c x banks recent (after_command c.memory x new) is refl refl checked stands recent-is early (record {
+      in_time = λ not. rw (← is.checked) (keeps old is.stands (in-time-here c is not) is.clock);
+      awake = λ e. awake-more c.memory.checked old x (chosen-awake c.banks.checked old c.memory.requests c.clock next (chosen old is.stands)) (is.phase.awake e);
+      asleep = λ e. asleep-more c.memory.checked old x (is.phase.asleep e);
+    }))
 
 -- a phase of single commands is one of two
 alone-asleep : (phase : Phase) → phase ≢ Running → phase ≢ Stepping → phase ≡ Asleep
@@ -76,17 +69,10 @@ running-alone c x banks recent new is issues checked stands recent-is early =
 -- the next command at the clock of the commands
 pub next-here : (c : Inside) → IsRunning c → (pending : List Pending) (next : Option Next) → pending ≡ c.memory.requests → ((list : List Stamped) → Stands c.banks list → IsNext c.banks.checked list pending c.clock next)
     → IsNext c.memory.checked c.memory.commands c.memory.requests (clock_of c.memory) next
-next-here c is pending next same next-is =
-    subst (λ (n : ℕ). IsNext c.memory.checked c.memory.commands c.memory.requests n next) is.clock
-    (subst (λ (ps : List Pending). IsNext c.memory.checked c.memory.commands ps c.clock next) same
-    (subst (λ (k : Checked). IsNext k c.memory.commands pending c.clock next) is.checked (next-is c.memory.commands is.stands)))
+next-here c is pending next same next-is = rw (← is.checked, ← is.clock, ← same) (next-is c.memory.commands is.stands)
 
 -- there is none exactly where there is nothing to send
 pub none-here : (c : Inside) → IsRunning c → c.memory.phase ≢ Stepping → (pending : List Pending) (next : Option Next) → pending ≡ c.memory.requests
     → ((list : List Stamped) → Stands c.banks list → KeepsMargin c.banks.checked list → c.clock ≡ last_clock list → (next ≡ None) ↔ (IsIdle c.banks.checked list pending c.clock ⊎ (2 ^ 62 ≤ c.clock)))
     → (next ≡ None) ↔ HasNothingToSend c.memory
-none-here c is not pending next same idle =
-    subst (λ (n : ℕ). (next ≡ None) ↔ (IsIdle c.memory.checked c.memory.commands c.memory.requests n ⊎ (2 ^ 62 ≤ n))) is.clock
-    (subst (λ (ps : List Pending). (next ≡ None) ↔ (IsIdle c.memory.checked c.memory.commands ps c.clock ⊎ (2 ^ 62 ≤ c.clock))) same
-    (subst (λ (k : Checked). (next ≡ None) ↔ (IsIdle k c.memory.commands pending c.clock ⊎ (2 ^ 62 ≤ c.clock))) is.checked
-    (idle c.memory.commands is.stands (in-time-here c is not) is.clock)))
+none-here c is not pending next same idle = rw (← is.checked, ← is.clock, ← same) (idle c.memory.commands is.stands (in-time-here c is not) is.clock)

@@ -1,6 +1,10 @@
 -- What `filter_map` keeps of a list from which an element is taken, or in which one changes.
-use Rattle.std.proofs.Common.{◌≡◌, ℕ, zero, suc, List, [], ◌∷◌, ◌≤◌, ◌↔◌, Bool, true, false, IsTrue, length, map, take, slice_get, slice_set, remove, Option, Some, None, refl, ap, ◌∙◌, arith}
+use Rattle.std.proofs.Common.{◌≡◌, ℕ, zero, suc, List, [], ◌∷◌, ◌≤◌, ◌↔◌, Bool, true, false, IsTrue, length, map, take, slice_get, slice_set, remove, Option, Some, None, refl, ap, subst, ◌∙◌, arith}
 use Rattle.std.specs.List.{filter_map, cons_option}
+use Rattle.std.specs.Option.{option_map}
+use Rattle.std.proofs.lemmas.List.{length-append, take-append-drop, take-take}
+use Rattle.std.proofs.lemmas.List.Elements.{filter_map-append}
+use Rattle.std.proofs.lemmas.Option.{slice_get-map}
 
 module _ {X Y : Type 0} (h : X → Option Y) where
   -- how many of the first i are kept
@@ -27,16 +31,12 @@ module _ {X Y : Type 0} (h : X → Option Y) where
   filter_map-changed (z ∷ zs) zero x x' y at some none = let same : z ≡ x = cc in rw (same, some, none) refl
   filter_map-changed (z ∷ zs) (suc i) x x' y at some none = cons-remove (h z) zs i (filter_map h (slice_set zs i x')) (filter_map-changed zs i x x' y at some none)
 
-  cons-get : (o : Option Y) (xs : List X) (i : ℕ) (y : Y) → slice_get (filter_map h xs) (kept i xs) ≡ Some y
-      → slice_get (cons_option o (filter_map h xs)) (length (cons_option o (filter_map h (take i xs)))) ≡ Some y
-  cons-get None xs i y e = e
-  cons-get (Some z) xs i y e = e
-
   -- a kept element stands behind those that are kept of the ones before it
   pub filter_map-at : (xs : List X) (i : ℕ) (x : X) (y : Y) → slice_get xs i ≡ Some x → h x ≡ Some y → slice_get (filter_map h xs) (kept i xs) ≡ Some y
   filter_map-at [] i x y at some = absurd cc
   filter_map-at (z ∷ zs) zero x y at some = let same : z ≡ x = cc in rw (same, some) refl
-  filter_map-at (z ∷ zs) (suc i) x y at some = cons-get (h z) zs i y (filter_map-at zs i x y at some)
+  filter_map-at (z ∷ zs) (suc i) x y at some =
+      let rest = filter_map-at zs i x y at some in elim (h z) as (λ o. slice_get (cons_option o (filter_map h zs)) (length (cons_option o (filter_map h (take i zs)))) ≡ Some y) [ None ↦ rest | Some first ↦ rest ]
 
   -- where a kept element comes from
   pub record Origin (xs : List X) (k : ℕ) (y : Y) : Type 0 where
@@ -56,28 +56,19 @@ module _ {X Y : Type 0} (h : X → Option Y) where
   filter_map-origin [] k y at = absurd cc
   filter_map-origin (x ∷ xs) k y at = origin-head x xs (h x) refl k y (λ k. filter_map-origin xs k y) at
 
-  cons-length : (o : Option Y) (ys : List Y) → length (cons_option o ys) ≤ suc (length ys)
-  cons-length None ys = omega arith
-  cons-length (Some y) ys = omega arith
-
-  cons-less : (o : Option Y) (xs ys : List Y) → length xs ≤ length ys → length (cons_option o xs) ≤ length (cons_option o ys)
-  cons-less None xs ys less = less
-  cons-less (Some y) xs ys less = omega (arith, less)
-
   pub length-filter_map : (xs : List X) → length (filter_map h xs) ≤ length xs
   length-filter_map [] = omega arith
-  length-filter_map (x ∷ xs) = omega (arith, cons-length (h x) (filter_map h xs), length-filter_map xs)
-
-  none-kept : (i : ℕ) → kept i [] ≡ 0
-  none-kept zero = refl
-  none-kept (suc i) = refl
+  length-filter_map (x ∷ xs) =
+      let rest = length-filter_map xs in elim (h x) as (λ o. length (cons_option o (filter_map h xs)) ≤ suc (length xs)) [ None ↦ omega (arith, rest) | Some y ↦ omega (arith, rest) ]
 
   -- no fewer are kept of more
   pub kept-more : (xs : List X) (i j : ℕ) → i ≤ j → kept i xs ≤ kept j xs
-  kept-more [] i j less = let a : kept i [] ≡ 0 = none-kept i in let b : kept j [] ≡ 0 = none-kept j in omega (arith, a, b)
-  kept-more (x ∷ xs) zero j less = omega arith
-  kept-more (x ∷ xs) (suc i) zero less = absurd (omega (arith, less))
-  kept-more (x ∷ xs) (suc i) (suc j) less = cons-less (h x) (filter_map h (take i xs)) (filter_map h (take j xs)) (kept-more xs i j (omega (arith, less)))
+  kept-more xs i j less =
+      let front = simp (filter_map-append, length-append, take-take i j xs less) at (ap (λ ys. length (filter_map h ys)) (take-append-drop i (take j xs))) in omega (arith, front)
+
+-- where lists keep the same, what one keeps comes from the other too
+pub kept-alike : {X Y Z : Type 0} (h : X → Option Y) (g : Z → Option Y) (xs : List X) (zs : List Z) → filter_map h xs ≡ filter_map g zs → (i : ℕ) (x : X) (y : Y) → slice_get xs i ≡ Some x → h x ≡ Some y → Origin g zs (kept h i xs) y
+kept-alike h g xs zs same i x y at gives = filter_map-origin g zs (kept h i xs) y (subst (λ ys. slice_get ys (kept h i xs) ≡ Some y) same (filter_map-at h xs i x y at gives))
 
 -- f and g do the same to each element
 pub map_alike : {X Y : Type 0} (f g : X → Y) (xs : List X) → ((k : ℕ) (x : X) → slice_get xs k ≡ Some x → f x ≡ g x) → map f xs ≡ map g xs
@@ -86,9 +77,7 @@ map_alike f g (x ∷ xs) alike = let head : f x ≡ g x = alike zero x refl in r
 
 -- what stands at a place of a mapped list
 pub map-at : {X Y : Type 0} (f : X → Y) (xs : List X) (k : ℕ) (x : X) → slice_get xs k ≡ Some x → slice_get (map f xs) k ≡ Some (f x)
-map-at f [] k x at = absurd cc
-map-at f (y ∷ ys) zero x at = let same : y ≡ x = cc in rw same refl
-map-at f (y ∷ ys) (suc k) x at = map-at f ys k x at
+map-at f xs k x at = slice_get-map f xs k ∙ ap (option_map f) at
 
 pub map-from : {X Y : Type 0} (f : X → Y) (xs : List X) (k : ℕ) (y : Y) → slice_get (map f xs) k ≡ Some y → (x : X) × (slice_get xs k ≡ Some x) × (f x ≡ y)
 map-from f [] k y at = absurd cc
