@@ -81,22 +81,21 @@ impl Channel {
     pub fn always(&self)
         ensures { IsChannel self.now }
     {
-        self.memory.always();
-        let _ = &self.banks;
+        let _order = self.memory.waiting.requests();
     }
 
     /// Who has issued the channel's commands: what is known of its refreshes.
     pub fn phase(&self) -> Phase
         ensures { result ≡ self.now.phase }
     {
-        self.memory.phase()
+        self.memory.phase
     }
 
     /// The profile that it was made with.
     pub fn checked(&self) -> &Checked
         ensures { result.now ≡ self.now.checked }
     {
-        self.memory.checked()
+        &self.memory.checked
     }
 
     /// The clock of its last command, in clocks from its beginning; 0 where there was none. It is below 2^63.
@@ -111,28 +110,28 @@ impl Channel {
     pub fn number(&self) -> u64
         ensures { result ≡ self.now.channel }
     {
-        self.memory.channel()
+        self.memory.channel
     }
 
     /// How many writes are pending, from 0 to its depth.
     pub fn pending(&self) -> usize
         ensures { result ≡ length self.now.writes }
     {
-        self.memory.pending()
+        self.memory.queue.len()
     }
 
     /// Whether `put` would refuse: whether as many writes are pending as its depth.
     pub fn is_full(&self) -> bool
         ensures { IsTrue result ↔ IsFullOfWrites self.now }
     {
-        self.memory.is_full()
+        self.memory.queue.is_full()
     }
 
     /// How many reads wait or were answered and not collected.
     pub fn open_reads(&self) -> usize
         ensures { result ≡ length self.now.tickets }
     {
-        self.memory.open_reads()
+        self.memory.reads.len()
     }
 
     /// Whether `get` would refuse: whether as many reads as may be are pending or not collected.
@@ -148,14 +147,14 @@ impl Channel {
         requires geometry { M.geometry_of map.now ≡ self.now.checked.geometry }
         ensures { IsTrue result ↔ LiesOn (M.lies_at map.now) self.now line }
     {
-        line < line_count(self.memory.checked()) && map.place(line).channel == self.memory.channel()
+        line < line_count(&self.memory.checked) && map.place(line).channel == self.memory.channel
     }
 
     /// Whether nothing waits: no write is pending, and each read that was accepted has its answer.
     pub fn is_quiet(&self) -> bool
         ensures { IsTrue result ↔ (self.now.requests ≡ []) }
     {
-        self.memory.waiting().requests().is_empty()
+        self.memory.waiting.requests().is_empty()
     }
 
     /// Sets a line of the array; it asks that nothing waits.
@@ -188,7 +187,7 @@ impl Channel {
     pub fn below(&self, limit: u64) -> usize
         ensures { result ≡ count_by (λ w. nat_lt w.number limit) self.now.writes }
     {
-        self.memory.below(limit)
+        self.memory.queue.below(limit)
     }
 
     /// The least number that a further write may have; None where a pending write has the greatest number that there is.
@@ -196,14 +195,14 @@ impl Channel {
         ensures free { IfSome result (λ n. (m : ℕ) → (ComeBefore m self.now.writes ↔ (n ≤ m))) }
         ensures none { IfNone result ((m : ℕ) → ComeBefore m self.now.writes → 2 ^ 64 ≤ m) }
     {
-        self.memory.next_number()
+        self.memory.queue.next_number()
     }
 
     /// Whether a further write may have this number: whether those of all pending ones are smaller.
     pub fn may_take(&self, number: u64) -> bool
         ensures { IsTrue result ↔ ComeBefore number self.now.writes }
     {
-        self.memory.may_take(number)
+        self.memory.queue.may_take(number)
     }
 
     /// Accepts a write of a line of this channel, with a number above those of all pending ones. The memory has it from now
@@ -298,7 +297,7 @@ impl Channel {
         ensures below { KeepsBelow self.old self.new }
         ensures rest { self.new ≡ after_commands self.old self.new }
     {
-        let next = next_command(&self.banks, self.memory.waiting(), self.clock)?;
+        let next = next_command(&self.banks, &self.memory.waiting, self.clock)?;
         let command = Stamped {
             clock: next.clock,
             cmd: next.cmd,

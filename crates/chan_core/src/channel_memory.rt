@@ -1,13 +1,13 @@
 // What a channel holds: its array, its pending writes, its open reads, and the list of its commands, which takes no bytes.
-ghost use Rattle.std.specs.Prelude.{◌≡◌, ℕ, ◌<◌, ◌≤◌, ◌↔◌, ◌^◌, [], All, IfErr, IfNone, IfOk, IfSome, IsOk, IsTrue, OnOk, OnErr, count_by, length, nat_lt, slice_get};
+ghost use Rattle.std.specs.Prelude.{◌≡◌, ◌<◌, ◌≤◌, ◌↔◌, ◌^◌, [], All, IfErr, IfOk, IsOk, IsTrue, OnOk, OnErr, length, slice_get};
 ghost use Rattle.std.specs.List.{filter_map};
 ghost use Rattle.line_memory.specs.Memory.{zero_lines};
 ghost use Rattle.wpq_core.specs.Writes.{ComeBefore, NoWriteNames, pending_write};
 ghost use Rattle.ddr4_timing.specs.Places.{LiesIn};
 ghost use Rattle.interleave_map.specs.Cells.{cells_of};
-ghost use Rattle.chan_core.specs.State.{cell_in, new_channel, placed_write, placed_writes, stored_at};
+ghost use Rattle.chan_core.specs.State.{cell_in, new_channel, placed_write, stored_at};
 ghost use Rattle.chan_core.specs.Always.{IsHeld};
-ghost use Rattle.chan_core.specs.Calls.{AddsRead, AddsWrite, AnswersCollect, AnswersGet, IsFullOfReads, IsFullOfWrites, WritesAt, after_get, after_put, loaded_at, with_hold};
+ghost use Rattle.chan_core.specs.Calls.{AddsRead, AddsWrite, AnswersCollect, AnswersGet, IsFullOfReads, WritesAt, after_get, after_put, loaded_at, with_hold};
 
 use crate::phase::Phase;
 use crate::reads::{OpenRead, ReadsFull, index_of_serial};
@@ -82,68 +82,6 @@ impl ChannelMemory {
         })
     }
 
-    /// What is true of every channel's contents. It has no code.
-    pub(crate) fn always(&self)
-        ensures { IsHeld self.now }
-    {
-        let _order = self.waiting.requests();
-    }
-
-    pub(crate) fn checked(&self) -> &Checked
-        ensures { result.now ≡ self.now.checked }
-    {
-        &self.checked
-    }
-
-    pub(crate) fn phase(&self) -> Phase
-        ensures { result ≡ self.now.phase }
-    {
-        self.phase
-    }
-
-    pub(crate) fn channel(&self) -> u64
-        ensures { result ≡ self.now.channel }
-    {
-        self.channel
-    }
-
-    /// How many writes are pending.
-    pub(crate) fn pending(&self) -> usize
-        ensures { result ≡ length self.now.writes }
-    {
-        self.queue.len()
-    }
-
-    /// Whether no further write may be pending.
-    pub(crate) fn is_full(&self) -> bool
-        ensures { IsTrue result ↔ IsFullOfWrites self.now }
-    {
-        self.queue.is_full()
-    }
-
-    /// How many reads wait or were not collected.
-    pub(crate) fn open_reads(&self) -> usize
-        ensures { result ≡ length self.now.tickets }
-    {
-        self.reads.len()
-    }
-
-    /// The least number that a further write may have.
-    pub(crate) fn next_number(&self) -> Option<u64>
-        ensures free { IfSome result (λ n. (m : ℕ) → (ComeBefore m self.now.writes ↔ (n ≤ m))) }
-        ensures none { IfNone result ((m : ℕ) → ComeBefore m self.now.writes → 2 ^ 64 ≤ m) }
-    {
-        self.queue.next_number()
-    }
-
-    /// The pending requests, in order of arrival.
-    pub(crate) fn waiting(&self) -> &Queue
-        ensures requests { result.now.requests ≡ self.now.requests }
-        ensures places { All (λ p. LiesIn self.now.checked.geometry p.place) result.now.requests }
-    {
-        &self.waiting
-    }
-
     /// Sets a line of the array; it asks that nothing waits.
     pub(crate) fn load(&mut self, place: Place, bytes: Line)
         requires lies { LiesIn self.old.checked.geometry place }
@@ -161,27 +99,6 @@ impl ChannelMemory {
         ensures { result ≡ stored_at self.now place }
     {
         self.array[cell_of(&self.checked, &place)]
-    }
-
-    /// How many pending writes have a number below the limit.
-    pub(crate) fn below(&self, limit: u64) -> usize
-        ensures { result ≡ count_by (λ w. nat_lt w.number limit) self.now.writes }
-    {
-        self.queue.below(limit)
-    }
-
-    /// The number and the place of the oldest pending write.
-    pub(crate) fn oldest(&self) -> Option<(u64, Place)>
-        ensures { result ≡ slice_get (placed_writes self.now) 0 }
-    {
-        oldest_write(self.waiting.requests())
-    }
-
-    /// Whether a further write may have this number.
-    pub(crate) fn may_take(&self, number: u64) -> bool
-        ensures { IsTrue result ↔ ComeBefore number self.now.writes }
-    {
-        self.queue.may_take(number)
     }
 
     /// Adds a write behind the others. Refused, `Full`, exactly where the queue holds its depth: nothing changes then.
@@ -239,35 +156,23 @@ impl ChannelMemory {
         let cell = cell_of(&self.checked, &place) as u64;
         match self.queue.newest_for(cell) {
             Some(bytes) => Ok(Got::Now(bytes)),
-            None => Ok(Got::Later(self.wait(line, place, cell, at))),
-        }
-    }
-
-    // Adds a read behind the others, which waits for its RD.
-    fn wait(&mut self, line: u64, place: Place, cell: u64, at: u64) -> Ticket
-        requires room { ¬ IsFullOfReads self.old }
-        requires lies { LiesIn self.old.checked.geometry place }
-        requires channel { place.channel ≡ self.old.channel }
-        requires cell { cell ≡ cell_in self.old place }
-        requires none { NoWriteNames cell self.old.writes }
-        requires few { length self.old.commands ≤ 2 ^ 63 }
-        ensures ticket { result ≡ record { channel = self.old.channel; serial = self.old.serial } }
-        ensures adds { AddsRead self.old place line at self.new }
-    {
-        let (serial, seq) = (self.serial, self.waiting.next());
-        self.waiting.push(place, cell, Kind::Read, at, false);
-        self.reads.push_reserved(OpenRead {
-            serial,
-            seq,
-            line,
-            cell,
-            at,
-            bytes: None,
-        });
-        self.serial += 1;
-        Ticket {
-            channel: self.channel,
-            serial,
+            None => {
+                let (serial, seq) = (self.serial, self.waiting.next());
+                self.waiting.push(place, cell, Kind::Read, at, false);
+                self.reads.push_reserved(OpenRead {
+                    serial,
+                    seq,
+                    line,
+                    cell,
+                    at,
+                    bytes: None,
+                });
+                self.serial += 1;
+                Ok(Got::Later(Ticket {
+                    channel: self.channel,
+                    serial,
+                }))
+            }
         }
     }
 
@@ -305,8 +210,8 @@ impl ChannelMemory {
     }
 }
 
-// The number and the place of the first write among requests.
-fn oldest_write(requests: &[Pending]) -> Option<(u64, Place)>
+/// The number and the place of the first write among requests.
+pub(crate) fn oldest_write(requests: &[Pending]) -> Option<(u64, Place)>
     ensures { result ≡ slice_get (filter_map placed_write requests.now) 0 }
 {
     for p in requests {

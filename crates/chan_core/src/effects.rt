@@ -27,19 +27,28 @@ impl ChannelMemory {
         ensures memory { channel_memory self.new ≡ channel_memory self.old }
         ensures below { KeepsBelow self.old self.new }
     {
+        self.issued.note(&command);
         let Some(index) = index else {
-            self.issued.note(&command);
             return None;
         };
         let request = self.waiting.requests()[index];
+        self.waiting.take(index);
         match request.kind {
             Kind::Write => {
-                self.serve_write(index, request, command);
+                let bytes = take_write(&mut self.queue, request.number);
+                self.array[request.line as usize] = bytes;
                 Some(Served::Write {
                     number: request.number,
                 })
             }
-            Kind::Read => Some(Served::Read(self.serve_read(index, request, command))),
+            Kind::Read => {
+                let bytes = self.array[request.line as usize];
+                let serial = answer(&mut self.reads, request.seq, bytes);
+                Some(Served::Read(Ticket {
+                    channel: self.channel,
+                    serial,
+                }))
+            }
         }
     }
 
@@ -61,40 +70,5 @@ impl ChannelMemory {
         );
         self.issued.note(&command);
         self.phase = phase;
-    }
-
-    fn serve_write(&mut self, index: usize, request: Pending, command: Stamped)
-        requires eligible { IsEligible self.old.requests index request }
-        requires kind { request.kind ≡ kinds.Write }
-        requires order { AreInOrder self.old.requests }
-        ensures same { self.new ≡ after_command self.old command self.new }
-        ensures moves { MovesWrite self.old request request.number self.new }
-        ensures requests { self.new.requests ≡ remove self.old.requests index }
-        ensures memory { channel_memory self.new ≡ channel_memory self.old }
-        ensures below { KeepsBelow self.old self.new }
-    {
-        self.waiting.take(index);
-        let bytes = take_write(&mut self.queue, request.number);
-        self.array[request.line as usize] = bytes;
-        self.issued.note(&command);
-    }
-
-    fn serve_read(&mut self, index: usize, request: Pending, command: Stamped) -> Ticket
-        requires eligible { IsEligible self.old.requests index request }
-        requires kind { request.kind ≡ kinds.Read }
-        ensures same { self.new ≡ after_command self.old command self.new }
-        ensures answers { AnswersRead self.old request result self.new }
-        ensures requests { self.new.requests ≡ remove self.old.requests index }
-        ensures memory { channel_memory self.new ≡ channel_memory self.old }
-        ensures below { KeepsBelow self.old self.new }
-    {
-        self.waiting.take(index);
-        let bytes = self.array[request.line as usize];
-        let serial = answer(&mut self.reads, request.seq, bytes);
-        self.issued.note(&command);
-        Ticket {
-            channel: self.channel,
-            serial,
-        }
     }
 }

@@ -25,20 +25,6 @@ pub(crate) fn take_write(queue: &mut Wpq, number: u64) -> Line
     }
 }
 
-// The oldest write goes to the array.
-fn store_oldest(array: &mut [Line], queue: &mut Wpq, waiting: &mut Queue)
-    requires queue { queues.IsWriteQueue queue.old }
-    requires oldest { AreOldest (length array.old) queue.old.writes waiting.old.requests }
-    ensures array { array.new ≡ after_pending array.old (take 1 queue.old.writes) }
-    ensures whole { AreWhole array.old → AreWhole array.new }
-    ensures queue { queue.new ≡ record queue.old { writes = drop 1 queue.old.writes } }
-    ensures waiting { waiting.new ≡ record waiting.old { requests = drop 1 waiting.old.requests } }
-{
-    let oldest = waiting.take(0);
-    let bytes = take_write(queue, oldest.number);
-    array[oldest.line as usize] = bytes;
-}
-
 /// The write of a single command goes to the array: the oldest one, where the command is a WR.
 pub(crate) fn store_by(cmd: Command, array: &mut [Line], queue: &mut Wpq, waiting: &mut Queue)
     requires queue { queues.IsWriteQueue queue.old }
@@ -52,6 +38,8 @@ pub(crate) fn store_by(cmd: Command, array: &mut [Line], queue: &mut Wpq, waitin
         ≡ record waiting.old { requests = drop (writes_by cmd) waiting.old.requests } }
 {
     if let Command::Wr { .. } = cmd {
-        store_oldest(array, queue, waiting);
+        let oldest = waiting.take(0);
+        let bytes = take_write(queue, oldest.number);
+        array[oldest.line as usize] = bytes;
     }
 }

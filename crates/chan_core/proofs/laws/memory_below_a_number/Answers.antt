@@ -1,4 +1,4 @@
-use Rattle.std.proofs.Common.{rules, arith}
+use Rattle.std.proofs.Common.{arith}
 use Rattle.std.proofs.lemmas.Grind.{common_steps}
 use Rattle.chan_core.proofs.Below.{below-all, below-none}
 use Rattle.chan_core.proofs.laws.memory_below_a_number.Goals as goal
