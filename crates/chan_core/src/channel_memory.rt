@@ -1,13 +1,12 @@
 // What a channel holds: its array, its pending writes, its open reads, and the list of its commands, which takes no bytes.
-ghost use Rattle.std.specs.Prelude.{◌≡◌, ◌<◌, ◌≤◌, ◌↔◌, ◌^◌, [], All, IfErr, IfOk, IsOk, IsTrue, OnOk, OnErr, length, slice_get};
+ghost use Rattle.std.specs.Prelude.{◌≡◌, ◌<◌, ◌≤◌, ◌↔◌, ◌^◌, [], IfErr, IfOk, IsOk, IsTrue, OnOk, OnErr, length, slice_get};
 ghost use Rattle.std.specs.List.{filter_map};
 ghost use Rattle.line_memory.specs.Memory.{zero_lines};
-ghost use Rattle.wpq_core.specs.Writes.{ComeBefore, NoWriteNames, pending_write};
+ghost use Rattle.wpq_core.specs.Writes.{ComeBefore, pending_write};
 ghost use Rattle.ddr4_timing.specs.Places.{LiesIn};
 ghost use Rattle.interleave_map.specs.Cells.{cells_of};
-ghost use Rattle.chan_core.specs.State.{cell_in, new_channel, placed_write, stored_at};
-ghost use Rattle.chan_core.specs.Always.{IsHeld};
-ghost use Rattle.chan_core.specs.Calls.{AddsRead, AddsWrite, AnswersCollect, AnswersGet, IsFullOfReads, WritesAt, after_get, after_put, loaded_at, with_hold};
+ghost use Rattle.chan_core.specs.State.{new_channel, placed_write, stored_at};
+ghost use Rattle.chan_core.specs.Calls.{AddsWrite, AnswersCollect, AnswersGet, IsFullOfReads, WritesAt, after_get, after_put, loaded_at, with_hold};
 
 use crate::phase::Phase;
 use crate::reads::{OpenRead, ReadsFull, index_of_serial};
@@ -45,9 +44,10 @@ impl Model for ChannelMemory {
 
     ghost Value = { ChannelState };
 
-    ghost use Rattle.chan_core.specs.Inside.{seen_inside, IsInside};
+    ghost use Rattle.chan_core.specs.Contents.{seen};
+    ghost use Rattle.chan_core.specs.Inside.{contents_of, IsInside};
 
-    ghost view = { seen_inside };
+    ghost view = { λ m. seen (contents_of m) };
 
     ghost invariant = { IsInside };
 }

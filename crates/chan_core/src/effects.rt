@@ -1,13 +1,11 @@
 // What a command does to what a channel holds.
-ghost use Rattle.std.specs.Prelude.{◌≡◌, ◌≢◌, ◌++◌, ◌∷◌, [], IfSome, remove};
-ghost use Rattle.frfcfs.specs.declared.pending.Kind.TheVariants as kinds;
-ghost use Rattle.frfcfs.specs.Requests.{AreInOrder, IsEligible};
+ghost use Rattle.std.specs.Prelude.{◌≡◌, ◌≢◌, ◌++◌, ◌∷◌, [], IfSome};
 ghost use Rattle.frfcfs.specs.Next.{IsServable};
 ghost use Rattle.chan_core.specs.State.{channel_memory};
 ghost use Rattle.chan_core.specs.Singles.{FitsOldest, IssuesAlone};
 ghost use Rattle.chan_core.specs.declared.phase.Phase.TheVariants.{Running};
 ghost use Rattle.chan_core.specs.Phases.{TellsSleep};
-ghost use Rattle.chan_core.specs.Calls.{AnswersRead, KeepsBelow, MovesWrite, ServesIndex, after_command};
+ghost use Rattle.chan_core.specs.Calls.{KeepsBelow, ServesIndex, after_command};
 
 use crate::channel_memory::ChannelMemory;
 use crate::moves::{store_by, take_write};
