@@ -18,12 +18,14 @@ use circular_buffer::HeapCircularBuffer;
 use ddr4_timing::command::Stamped;
 use ddr4_timing::timing::Checked;
 use frfcfs::next::next_command;
-use interleave_map::cells::line_count;
+use frfcfs::queue::Queue;
+use interleave_map::cells::{cell_of, cells, line_count};
 use interleave_map::line_map::LineMap;
-use line_memory::Line;
+use line_memory::{Line, zero};
+use past::Past;
 use std::alloc::{AllocError, Global};
 use std::marker::Model;
-use wpq_core::Full;
+use wpq_core::{Full, Wpq};
 
 /// How many of the last commands a channel remembers.
 pub const RECENT: usize = 64;
@@ -69,11 +71,25 @@ impl Channel {
         ensures { IfOk result (λ new.
             new ≡ new_channel checked.now channel (zero_lines (cells_of checked.now.geometry)) depth reads) }
     {
+        let mut array = Vec::from_elem(alloc, [0; 64], cells(checked))?;
+        zero(&mut array);
         Ok(Channel {
             banks: Banks::new(checked),
             clock: 0,
             recent: HeapCircularBuffer::with_capacity(alloc, RECENT)?,
-            memory: ChannelMemory::new(alloc, checked, channel, depth, reads)?,
+            memory: ChannelMemory {
+                checked: *checked,
+                channel,
+                array,
+                queue: Wpq::with_depth(alloc, depth)?,
+                waiting: Queue::with_room(alloc, depth + reads)?,
+                reads: Vec::with_capacity(alloc, reads)?,
+                most_reads: reads,
+                serial: 0,
+                hold: None,
+                issued: Past::new(),
+                phase: Phase::Running,
+            },
         })
     }
 
@@ -169,7 +185,8 @@ impl Channel {
             WritesAt self.old place bytes self.new) }
     {
         let place = map.place(line);
-        self.memory.load(place, bytes);
+        let cell = cell_of(&self.memory.checked, &place);
+        self.memory.array[cell] = bytes;
     }
 
     /// A line of the array, without the writes that are pending.
@@ -180,7 +197,7 @@ impl Channel {
         ensures { OfItsPlace (M.lies_at map.now) line (λ place. result ≡ stored_at self.now place) }
     {
         let place = map.place(line);
-        self.memory.stored(place)
+        self.memory.array[cell_of(&self.memory.checked, &place)]
     }
 
     /// How many pending writes have a number below the limit. It costs the number of pending writes.

@@ -1,12 +1,10 @@
 // What a channel holds: its array, its pending writes, its open reads, and the list of its commands, which takes no bytes.
-ghost use Rattle.std.specs.Prelude.{◌≡◌, ◌<◌, ◌≤◌, ◌↔◌, ◌^◌, [], IfErr, IfOk, IsOk, IsTrue, OnOk, OnErr, length, slice_get};
+ghost use Rattle.std.specs.Prelude.{◌≡◌, ◌<◌, ◌≤◌, ◌↔◌, ◌^◌, IfErr, IsOk, IsTrue, OnOk, OnErr, length, slice_get};
 ghost use Rattle.std.specs.List.{filter_map};
-ghost use Rattle.line_memory.specs.Memory.{zero_lines};
 ghost use Rattle.wpq_core.specs.Writes.{ComeBefore, pending_write};
 ghost use Rattle.ddr4_timing.specs.Places.{LiesIn};
-ghost use Rattle.interleave_map.specs.Cells.{cells_of};
-ghost use Rattle.chan_core.specs.State.{new_channel, placed_write, stored_at};
-ghost use Rattle.chan_core.specs.Calls.{AddsWrite, AnswersCollect, AnswersGet, IsFullOfReads, WritesAt, after_get, after_put, loaded_at, with_hold};
+ghost use Rattle.chan_core.specs.State.{placed_write};
+ghost use Rattle.chan_core.specs.Calls.{AddsWrite, AnswersCollect, AnswersGet, IsFullOfReads, WritesAt, after_get, after_put, with_hold};
 
 use crate::phase::Phase;
 use crate::reads::{OpenRead, ReadsFull, index_of_serial};
@@ -16,10 +14,9 @@ use ddr4_timing::place::Place;
 use ddr4_timing::timing::Checked;
 use frfcfs::pending::{Kind, Pending};
 use frfcfs::queue::{Queue, is_held};
-use interleave_map::cells::{cell_of, cells};
-use line_memory::{Line, Write, zero};
+use interleave_map::cells::cell_of;
+use line_memory::{Line, Write};
 use past::Past;
-use std::alloc::{AllocError, Global};
 use std::marker::Model;
 use wpq_core::{Full, PendingWrite, Wpq};
 
@@ -53,54 +50,6 @@ impl Model for ChannelMemory {
 }
 
 impl ChannelMemory {
-    pub(crate) fn new(
-        alloc: Global,
-        checked: &Checked,
-        channel: u64,
-        depth: usize,
-        reads: usize,
-    ) -> Result<ChannelMemory, AllocError>
-        requires depth { (1 ≤ depth) × (depth ≤ 64) }
-        requires reads { reads ≤ 64 }
-        ensures { IfOk result (λ memory.
-            memory ≡ new_channel checked.now channel (zero_lines (cells_of checked.now.geometry)) depth reads) }
-    {
-        let mut array = Vec::from_elem(alloc, [0; 64], cells(checked))?;
-        zero(&mut array);
-        Ok(ChannelMemory {
-            checked: *checked,
-            channel,
-            array,
-            queue: Wpq::with_depth(alloc, depth)?,
-            waiting: Queue::with_room(alloc, depth + reads)?,
-            reads: Vec::with_capacity(alloc, reads)?,
-            most_reads: reads,
-            serial: 0,
-            hold: None,
-            issued: Past::new(),
-            phase: Phase::Running,
-        })
-    }
-
-    /// Sets a line of the array; it asks that nothing waits.
-    pub(crate) fn load(&mut self, place: Place, bytes: Line)
-        requires lies { LiesIn self.old.checked.geometry place }
-        requires quiet { self.old.requests ≡ [] }
-        ensures loaded { self.new ≡ loaded_at self.old place bytes }
-        ensures memory { WritesAt self.old place bytes self.new }
-    {
-        let cell = cell_of(&self.checked, &place);
-        self.array[cell] = bytes;
-    }
-
-    /// A line of the array.
-    pub(crate) fn stored(&self, place: Place) -> Line
-        requires { LiesIn self.now.checked.geometry place }
-        ensures { result ≡ stored_at self.now place }
-    {
-        self.array[cell_of(&self.checked, &place)]
-    }
-
     /// Adds a write behind the others. Refused, `Full`, exactly where the queue holds its depth: nothing changes then.
     pub(crate) fn put(
         &mut self,
