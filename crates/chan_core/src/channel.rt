@@ -11,21 +11,22 @@ ghost use Rattle.chan_core.specs.Always.{IsChannel};
 
 use crate::channel_memory::ChannelMemory;
 use crate::phase::Phase;
-use crate::reads::ReadsFull;
+use crate::reads::{OpenRead, ReadsFull, index_of_serial};
 use bank_core::banks::Banks;
 use channel_answers::{Collected, Done, Got, Ticket};
 use circular_buffer::HeapCircularBuffer;
 use ddr4_timing::command::Stamped;
 use ddr4_timing::timing::Checked;
 use frfcfs::next::next_command;
-use frfcfs::queue::Queue;
+use frfcfs::pending::Kind;
+use frfcfs::queue::{Queue, is_held};
 use interleave_map::cells::{cell_of, cells, line_count};
 use interleave_map::line_map::LineMap;
-use line_memory::{Line, zero};
+use line_memory::{Line, Write, zero};
 use past::Past;
 use std::alloc::{AllocError, Global};
 use std::marker::Model;
-use wpq_core::{Full, Wpq};
+use wpq_core::{Full, PendingWrite, Wpq};
 
 /// How many of the last commands a channel remembers.
 pub const RECENT: usize = 64;
@@ -154,7 +155,7 @@ impl Channel {
     pub fn is_full_of_reads(&self) -> bool
         ensures { IsTrue result ↔ IsFullOfReads self.now }
     {
-        self.memory.is_full_of_reads()
+        self.open_reads() == self.memory.most_reads
     }
 
     /// Whether a line lies on this channel. In constant time, as far as the map's own computation is.
@@ -246,7 +247,20 @@ impl Channel {
         ensures rest { self.new ≡ after_put self.old self.new }
     {
         let place = map.place(line);
-        self.memory.put(number, line, place, bytes)
+        let cell = cell_of(&self.memory.checked, &place) as u64;
+        let Ok(()) = self.memory.queue.try_push(number, cell, bytes) else {
+            return Err(Full {
+                refused: PendingWrite {
+                    number,
+                    write: Write { line, data: bytes },
+                },
+            });
+        };
+        let held = is_held(self.memory.hold, Kind::Write, number);
+        self.memory
+            .waiting
+            .push(place, cell, Kind::Write, number, held);
+        Ok(())
     }
 
     /// Reads a line of this channel; `at` is how many writes were accepted before, and comes back with the data. Where a
@@ -262,8 +276,31 @@ impl Channel {
             AnswersGet self.old place line at result self.new) }
         ensures rest { self.new ≡ after_get self.old self.new }
     {
+        if self.is_full_of_reads() {
+            return Err(ReadsFull);
+        }
         let place = map.place(line);
-        self.memory.get(line, place, at)
+        let cell = cell_of(&self.memory.checked, &place) as u64;
+        match self.memory.queue.newest_for(cell) {
+            Some(bytes) => Ok(Got::Now(bytes)),
+            None => {
+                let (serial, seq) = (self.memory.serial, self.memory.waiting.next());
+                self.memory.waiting.push(place, cell, Kind::Read, at, false);
+                self.memory.reads.push_reserved(OpenRead {
+                    serial,
+                    seq,
+                    line,
+                    cell,
+                    at,
+                    bytes: None,
+                });
+                self.memory.serial += 1;
+                Ok(Got::Later(Ticket {
+                    channel: self.memory.channel,
+                    serial,
+                }))
+            }
+        }
     }
 
     /// What there is for a ticket: the data of its read once it was answered, and the ticket is gone then; `Pending` exactly
@@ -273,7 +310,24 @@ impl Channel {
         ensures answers { AnswersCollect self.old ticket result self.new.tickets }
         ensures rest { self.new ≡ record self.old { tickets = self.new.tickets } }
     {
-        self.memory.collect(ticket)
+        if ticket.channel != self.memory.channel {
+            return Collected::Unknown;
+        }
+        let Some(index) = index_of_serial(&self.memory.reads, ticket.serial) else {
+            return Collected::Unknown;
+        };
+        let read = self.memory.reads[index];
+        match read.bytes {
+            Some(bytes) => {
+                self.memory.reads.remove(index);
+                Collected::Data {
+                    line: read.line,
+                    bytes,
+                    at: read.at,
+                }
+            }
+            None => Collected::Pending,
+        }
     }
 
     /// From now on no write with this number or a greater one goes to the array, those that come later too. It costs the
