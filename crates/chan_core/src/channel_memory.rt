@@ -1,12 +1,22 @@
-// What a channel holds: its array, its pending writes, its open reads, and the list of its commands, which takes no bytes.
-ghost use Rattle.std.specs.Prelude.{◌≡◌, slice_get};
+// What a channel holds: its array, its pending writes, its open reads, and the list of its commands, which takes no bytes; and
+// what a command does to it.
+ghost use Rattle.std.specs.Prelude.{◌≡◌, ◌≢◌, ◌++◌, ◌∷◌, [], IfSome, Some, drop, length, slice_get, take};
 ghost use Rattle.std.specs.List.{filter_map};
-ghost use Rattle.chan_core.specs.State.{placed_write};
-ghost use Rattle.chan_core.specs.Calls.{with_hold};
+ghost use Rattle.wpq_core.specs.Writes.{TakesWrite};
+ghost use Rattle.wpq_core.specs.Queue as queues;
+ghost use Rattle.wpq_core.specs.PendingMemory.{after_pending};
+ghost use Rattle.frfcfs.specs.Next.{IsServable};
+ghost use Rattle.chan_core.specs.State.{channel_memory, placed_write};
+ghost use Rattle.chan_core.specs.Contents.{AreOldest, AreWhole, HasWriteNumbered};
+ghost use Rattle.chan_core.specs.Singles.{FitsOldest, IssuesAlone, writes_by};
+ghost use Rattle.chan_core.specs.declared.phase.Phase.TheVariants.{Running};
+ghost use Rattle.chan_core.specs.Phases.{TellsSleep};
+ghost use Rattle.chan_core.specs.Calls.{KeepsBelow, ServesIndex, after_command, with_hold};
 
 use crate::phase::Phase;
-use crate::reads::OpenRead;
-use ddr4_timing::command::Stamped;
+use crate::reads::{OpenRead, answer};
+use channel_answers::{Served, Ticket};
+use ddr4_timing::command::{Command, Stamped};
 use ddr4_timing::place::Place;
 use ddr4_timing::timing::Checked;
 use frfcfs::pending::{Kind, Pending};
@@ -53,6 +63,60 @@ impl ChannelMemory {
         self.waiting.hold(from);
         self.hold = from;
     }
+
+    /// A command goes, and serves the request at an index, whose RD or WR it is: a write goes into the array, a read gets
+    /// the bytes of its line there.
+    pub(crate) fn issue(&mut self, index: Option<usize>, command: Stamped) -> Option<Served>
+        requires { IfSome index (IsServable self.old.requests) }
+        ensures same { self.new ≡ after_command self.old command self.new }
+        ensures serves { ServesIndex index result self.old self.new }
+        ensures memory { channel_memory self.new ≡ channel_memory self.old }
+        ensures below { KeepsBelow self.old self.new }
+    {
+        self.issued.note(&command);
+        let Some(index) = index else {
+            return None;
+        };
+        let request = self.waiting.requests()[index];
+        self.waiting.take(index);
+        match request.kind {
+            Kind::Write => {
+                let bytes = take_write(&mut self.queue, request.number);
+                self.array[request.line as usize] = bytes;
+                Some(Served::Write {
+                    number: request.number,
+                })
+            }
+            Kind::Read => {
+                let bytes = self.array[request.line as usize];
+                let serial = answer(&mut self.reads, request.seq, bytes);
+                Some(Served::Read(Ticket {
+                    channel: self.channel,
+                    serial,
+                }))
+            }
+        }
+    }
+
+    /// A single command goes: all reads are lost, and a WR takes the oldest write to the array, held or not.
+    pub(crate) fn issue_alone(&mut self, command: Stamped, phase: Phase)
+        requires oldest { FitsOldest self.old command.cmd }
+        requires single { phase ≢ Running }
+        requires asleep { TellsSleep phase self.old.checked (self.old.commands ++ command ∷ []) }
+        ensures issues { IssuesAlone self.old command self.new }
+        ensures memory { channel_memory self.new ≡ channel_memory self.old }
+    {
+        self.reads.clear();
+        self.waiting.keep_writes();
+        store_by(
+            command.cmd,
+            &mut self.array,
+            &mut self.queue,
+            &mut self.waiting,
+        );
+        self.issued.note(&command);
+        self.phase = phase;
+    }
 }
 
 /// The number and the place of the first write among requests.
@@ -65,4 +129,37 @@ pub(crate) fn oldest_write(requests: &[Pending]) -> Option<(u64, Place)>
         }
     }
     None
+}
+
+// Takes a write out that is there.
+fn take_write(queue: &mut Wpq, number: u64) -> Line
+    requires { HasWriteNumbered number queue.old.writes }
+    ensures depth { queue.new.depth ≡ queue.old.depth }
+    ensures takes { TakesWrite number queue.old.writes (Some result) queue.new.writes }
+    ensures size { length result ≡ 64 }
+    ensures queue { queues.IsWriteQueue queue.new }
+{
+    match queue.take(number) {
+        Some(bytes) => bytes,
+        None => [0; 64],
+    }
+}
+
+// The write of a single command goes to the array: the oldest one, where the command is a WR.
+fn store_by(cmd: Command, array: &mut [Line], queue: &mut Wpq, waiting: &mut Queue)
+    requires queue { queues.IsWriteQueue queue.old }
+    requires oldest { writes_by cmd ≡ 1
+        → AreOldest (length array.old) queue.old.writes waiting.old.requests }
+    ensures array { array.new ≡ after_pending array.old (take (writes_by cmd) queue.old.writes) }
+    ensures whole { AreWhole array.old → AreWhole array.new }
+    ensures queue { queue.new
+        ≡ record queue.old { writes = drop (writes_by cmd) queue.old.writes } }
+    ensures waiting { waiting.new
+        ≡ record waiting.old { requests = drop (writes_by cmd) waiting.old.requests } }
+{
+    if let Command::Wr { .. } = cmd {
+        let oldest = waiting.take(0);
+        let bytes = take_write(queue, oldest.number);
+        array[oldest.line as usize] = bytes;
+    }
 }

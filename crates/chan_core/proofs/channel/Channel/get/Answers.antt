@@ -1,4 +1,4 @@
-use Rattle.std.proofs.Common.{◌-◌, ◌<◌, ◌^◌, length, refl, sym, arith}
+use Rattle.std.proofs.Common.{refl, sym, arith}
 use Rattle.chan_core.proofs.Common.{contents_of}
 use Rattle.chan_core.proofs.Found.{fields_of}
 use Rattle.chan_core.proofs.Going.{running-few}
@@ -17,15 +17,12 @@ returns-in-Some-clause-answers g c place at =
 
 pub push-requires : goal.push-requires
 push-requires g c =
-    let m = fields_of c.self-inside.invariant in
     let are = c.self-inside.invariant.are in
-    let few = few-pending (contents_of m) are in
+    let few = few-pending _ are in
     let free = rw (← c.self.view_is, ← c.self-inside.view_is) at (refuted c.is_full_of_reads.result c.is_full_of_reads.ensures c.if-is_full_of_reads.false) in
-    let one = room-for-one (contents_of m) _ refl are free in
+    let one = room-for-one (contents_of (fields_of c.self-inside.invariant)) _ refl are free in
     let commands = running-few _ (rw (← c.self-inside.view_is) at c.self.invariant) in
-    let room : length m.waiting.requests < m.waiting.most = omega (arith, are.room, few, are.queue.few, one) in
-    let next : m.waiting.next < 2 ^ 64 - 1 = omega (arith, are.few_seqs, few, are.few_reads, are.most, are.queue.few, are.queue.most, commands) in
-    record { room = room; next = next }
+    record { room = omega (arith, are.room, few, are.queue.few, one); next = omega (arith, are.few_seqs, few, are.few_reads, are.most, are.queue.few, are.queue.most, commands) }
 
 pub overflow_add-self : goal.overflow_add-self
 overflow_add-self g c =

@@ -1,4 +1,4 @@
-use Rattle.std.proofs.Common.{◌-◌, ◌<◌, ◌^◌, ◌∷◌, [], length, ap, sym, arith, length-append}
+use Rattle.std.proofs.Common.{◌∷◌, [], length, ap, sym, arith, length-append}
 use Rattle.chan_core.proofs.Common.{Queue, contents_of, pending_write}
 use Rattle.chan_core.proofs.Found.{fields_of}
 use Rattle.chan_core.proofs.Going.{running-few}
@@ -13,10 +13,10 @@ push-requires g c =
     let pushed = c.in-Ok.ensures.pushed in
     let few = few-pending (contents_of m) are in
     let commands = running-few _ (rw (← c.self-inside.view_is) at c.self.invariant) in
-    let room : length m.waiting.requests < m.waiting.most =
-    omega (arith, are.room, few, are.few_reads, c.try_push.ensures.queue.few, ap (λ (q : Queue). q.depth) pushed, ap (λ (q : Queue). length q.writes) pushed, length-append m.queue.writes (pending_write c.args.number c.cell_of-cell.result c.args.bytes ∷ [])) in
-    let next : m.waiting.next < 2 ^ 64 - 1 = omega (arith, are.few_seqs, few, are.few_reads, are.most, are.queue.few, are.queue.most, commands) in
-    record { room = room; next = next }
+    record {
+      room = omega (arith, are.room, few, are.few_reads, c.try_push.ensures.queue.few, ap (λ (q : Queue). q.depth) pushed, ap (λ (q : Queue). length q.writes) pushed, length-append m.queue.writes (pending_write c.args.number c.cell_of-cell.result c.args.bytes ∷ []));
+      next = omega (arith, are.few_seqs, few, are.few_reads, are.most, are.queue.few, are.queue.most, commands);
+    }
 
 pub invariant_of-self-inside-2 : goal.invariant_of-self-inside-2
 invariant_of-self-inside-2 g c =

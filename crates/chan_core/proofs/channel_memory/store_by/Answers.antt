@@ -1,6 +1,6 @@
 use Rattle.std.proofs.Common.{◌≡◌, ◌<◌, Option, Some, length, ap, subst, ◌∙◌}
 use Rattle.chan_core.proofs.Common.{Pending, writes_by}
-use Rattle.chan_core.proofs.moves.store_by.Goals as goal
+use Rattle.chan_core.proofs.channel_memory.store_by.Goals as goal
 
 same : {o : Option Pending} {p q : Pending} → o ≡ Some p → o ≡ Some q → p ≡ q
 same s t = cc
