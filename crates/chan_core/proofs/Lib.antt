@@ -14,3 +14,4 @@ pub mod Running
 pub mod Lasting
 pub mod Alone
 pub mod Below
+pub mod Found

@@ -1,8 +1,7 @@
 -- The contents of a channel, by its fields.
 use Rattle.std.specs.Prelude.{◌≤◌, vec_capacity}
 use Rattle.chan_core.specs.declared.channel_memory.ChannelMemory.TheInside.{Inside}
-use Rattle.chan_core.specs.Contents.{Contents, AreContents, seen}
-use Rattle.chan_core.specs.State.{ChannelState}
+use Rattle.chan_core.specs.Contents.{Contents, AreContents}
 
 abbrev pub contents_of : Inside → Contents
 contents_of m = record {
@@ -18,9 +17,6 @@ contents_of m = record {
   commands = m.issued.items;
   phase = m.phase;
 }
-
-abbrev pub seen_inside : Inside → ChannelState
-seen_inside m = seen (contents_of m)
 
 -- they are contents, and there is room for all reads
 pub record IsInside (m : Inside) : Type 0 where

@@ -11,19 +11,22 @@ ghost use Rattle.chan_core.specs.Always.{IsChannel};
 
 use crate::channel_memory::ChannelMemory;
 use crate::phase::Phase;
-use crate::reads::ReadsFull;
+use crate::reads::{OpenRead, ReadsFull, index_of_serial};
 use bank_core::banks::Banks;
 use channel_answers::{Collected, Done, Got, Ticket};
 use circular_buffer::HeapCircularBuffer;
 use ddr4_timing::command::Stamped;
 use ddr4_timing::timing::Checked;
 use frfcfs::next::next_command;
-use interleave_map::cells::line_count;
+use frfcfs::pending::Kind;
+use frfcfs::queue::{Queue, is_held};
+use interleave_map::cells::{cell_of, cells, line_count};
 use interleave_map::line_map::LineMap;
-use line_memory::Line;
+use line_memory::{Line, Write, zero};
+use past::Past;
 use std::alloc::{AllocError, Global};
 use std::marker::Model;
-use wpq_core::Full;
+use wpq_core::{Full, PendingWrite, Wpq};
 
 /// How many of the last commands a channel remembers.
 pub const RECENT: usize = 64;
@@ -69,11 +72,25 @@ impl Channel {
         ensures { IfOk result (λ new.
             new ≡ new_channel checked.now channel (zero_lines (cells_of checked.now.geometry)) depth reads) }
     {
+        let mut array = Vec::from_elem(alloc, [0; 64], cells(checked))?;
+        zero(&mut array);
         Ok(Channel {
             banks: Banks::new(checked),
             clock: 0,
             recent: HeapCircularBuffer::with_capacity(alloc, RECENT)?,
-            memory: ChannelMemory::new(alloc, checked, channel, depth, reads)?,
+            memory: ChannelMemory {
+                checked: *checked,
+                channel,
+                array,
+                queue: Wpq::with_depth(alloc, depth)?,
+                waiting: Queue::with_room(alloc, depth + reads)?,
+                reads: Vec::with_capacity(alloc, reads)?,
+                most_reads: reads,
+                serial: 0,
+                hold: None,
+                issued: Past::new(),
+                phase: Phase::Running,
+            },
         })
     }
 
@@ -81,22 +98,21 @@ impl Channel {
     pub fn always(&self)
         ensures { IsChannel self.now }
     {
-        self.memory.always();
-        let _ = &self.banks;
+        let _order = self.memory.waiting.requests();
     }
 
     /// Who has issued the channel's commands: what is known of its refreshes.
     pub fn phase(&self) -> Phase
         ensures { result ≡ self.now.phase }
     {
-        self.memory.phase()
+        self.memory.phase
     }
 
     /// The profile that it was made with.
     pub fn checked(&self) -> &Checked
         ensures { result.now ≡ self.now.checked }
     {
-        self.memory.checked()
+        &self.memory.checked
     }
 
     /// The clock of its last command, in clocks from its beginning; 0 where there was none. It is below 2^63.
@@ -111,35 +127,35 @@ impl Channel {
     pub fn number(&self) -> u64
         ensures { result ≡ self.now.channel }
     {
-        self.memory.channel()
+        self.memory.channel
     }
 
     /// How many writes are pending, from 0 to its depth.
     pub fn pending(&self) -> usize
         ensures { result ≡ length self.now.writes }
     {
-        self.memory.pending()
+        self.memory.queue.len()
     }
 
     /// Whether `put` would refuse: whether as many writes are pending as its depth.
     pub fn is_full(&self) -> bool
         ensures { IsTrue result ↔ IsFullOfWrites self.now }
     {
-        self.memory.is_full()
+        self.memory.queue.is_full()
     }
 
     /// How many reads wait or were answered and not collected.
     pub fn open_reads(&self) -> usize
         ensures { result ≡ length self.now.tickets }
     {
-        self.memory.open_reads()
+        self.memory.reads.len()
     }
 
     /// Whether `get` would refuse: whether as many reads as may be are pending or not collected.
     pub fn is_full_of_reads(&self) -> bool
         ensures { IsTrue result ↔ IsFullOfReads self.now }
     {
-        self.memory.is_full_of_reads()
+        self.open_reads() == self.memory.most_reads
     }
 
     /// Whether a line lies on this channel. In constant time, as far as the map's own computation is.
@@ -148,14 +164,14 @@ impl Channel {
         requires geometry { M.geometry_of map.now ≡ self.now.checked.geometry }
         ensures { IsTrue result ↔ LiesOn (M.lies_at map.now) self.now line }
     {
-        line < line_count(self.memory.checked()) && map.place(line).channel == self.memory.channel()
+        line < line_count(&self.memory.checked) && map.place(line).channel == self.memory.channel
     }
 
     /// Whether nothing waits: no write is pending, and each read that was accepted has its answer.
     pub fn is_quiet(&self) -> bool
         ensures { IsTrue result ↔ (self.now.requests ≡ []) }
     {
-        self.memory.waiting().requests().is_empty()
+        self.memory.waiting.requests().is_empty()
     }
 
     /// Sets a line of the array; it asks that nothing waits.
@@ -170,7 +186,8 @@ impl Channel {
             WritesAt self.old place bytes self.new) }
     {
         let place = map.place(line);
-        self.memory.load(place, bytes);
+        let cell = cell_of(&self.memory.checked, &place);
+        self.memory.array[cell] = bytes;
     }
 
     /// A line of the array, without the writes that are pending.
@@ -181,14 +198,14 @@ impl Channel {
         ensures { OfItsPlace (M.lies_at map.now) line (λ place. result ≡ stored_at self.now place) }
     {
         let place = map.place(line);
-        self.memory.stored(place)
+        self.memory.array[cell_of(&self.memory.checked, &place)]
     }
 
     /// How many pending writes have a number below the limit. It costs the number of pending writes.
     pub fn below(&self, limit: u64) -> usize
         ensures { result ≡ count_by (λ w. nat_lt w.number limit) self.now.writes }
     {
-        self.memory.below(limit)
+        self.memory.queue.below(limit)
     }
 
     /// The least number that a further write may have; None where a pending write has the greatest number that there is.
@@ -196,14 +213,14 @@ impl Channel {
         ensures free { IfSome result (λ n. (m : ℕ) → (ComeBefore m self.now.writes ↔ (n ≤ m))) }
         ensures none { IfNone result ((m : ℕ) → ComeBefore m self.now.writes → 2 ^ 64 ≤ m) }
     {
-        self.memory.next_number()
+        self.memory.queue.next_number()
     }
 
     /// Whether a further write may have this number: whether those of all pending ones are smaller.
     pub fn may_take(&self, number: u64) -> bool
         ensures { IsTrue result ↔ ComeBefore number self.now.writes }
     {
-        self.memory.may_take(number)
+        self.memory.queue.may_take(number)
     }
 
     /// Accepts a write of a line of this channel, with a number above those of all pending ones. The memory has it from now
@@ -230,7 +247,20 @@ impl Channel {
         ensures rest { self.new ≡ after_put self.old self.new }
     {
         let place = map.place(line);
-        self.memory.put(number, line, place, bytes)
+        let cell = cell_of(&self.memory.checked, &place) as u64;
+        let Ok(()) = self.memory.queue.try_push(number, cell, bytes) else {
+            return Err(Full {
+                refused: PendingWrite {
+                    number,
+                    write: Write { line, data: bytes },
+                },
+            });
+        };
+        let held = is_held(self.memory.hold, Kind::Write, number);
+        self.memory
+            .waiting
+            .push(place, cell, Kind::Write, number, held);
+        Ok(())
     }
 
     /// Reads a line of this channel; `at` is how many writes were accepted before, and comes back with the data. Where a
@@ -246,8 +276,31 @@ impl Channel {
             AnswersGet self.old place line at result self.new) }
         ensures rest { self.new ≡ after_get self.old self.new }
     {
+        if self.is_full_of_reads() {
+            return Err(ReadsFull);
+        }
         let place = map.place(line);
-        self.memory.get(line, place, at)
+        let cell = cell_of(&self.memory.checked, &place) as u64;
+        match self.memory.queue.newest_for(cell) {
+            Some(bytes) => Ok(Got::Now(bytes)),
+            None => {
+                let (serial, seq) = (self.memory.serial, self.memory.waiting.next());
+                self.memory.waiting.push(place, cell, Kind::Read, at, false);
+                self.memory.reads.push_reserved(OpenRead {
+                    serial,
+                    seq,
+                    line,
+                    cell,
+                    at,
+                    bytes: None,
+                });
+                self.memory.serial += 1;
+                Ok(Got::Later(Ticket {
+                    channel: self.memory.channel,
+                    serial,
+                }))
+            }
+        }
     }
 
     /// What there is for a ticket: the data of its read once it was answered, and the ticket is gone then; `Pending` exactly
@@ -257,7 +310,24 @@ impl Channel {
         ensures answers { AnswersCollect self.old ticket result self.new.tickets }
         ensures rest { self.new ≡ record self.old { tickets = self.new.tickets } }
     {
-        self.memory.collect(ticket)
+        if ticket.channel != self.memory.channel {
+            return Collected::Unknown;
+        }
+        let Some(index) = index_of_serial(&self.memory.reads, ticket.serial) else {
+            return Collected::Unknown;
+        };
+        let read = self.memory.reads[index];
+        match read.bytes {
+            Some(bytes) => {
+                self.memory.reads.remove(index);
+                Collected::Data {
+                    line: read.line,
+                    bytes,
+                    at: read.at,
+                }
+            }
+            None => Collected::Pending,
+        }
     }
 
     /// From now on no write with this number or a greater one goes to the array, those that come later too. It costs the
@@ -298,7 +368,7 @@ impl Channel {
         ensures below { KeepsBelow self.old self.new }
         ensures rest { self.new ≡ after_commands self.old self.new }
     {
-        let next = next_command(&self.banks, self.memory.waiting(), self.clock)?;
+        let next = next_command(&self.banks, &self.memory.waiting, self.clock)?;
         let command = Stamped {
             clock: next.clock,
             cmd: next.cmd,

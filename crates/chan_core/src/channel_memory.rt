@@ -1,28 +1,30 @@
-// What a channel holds: its array, its pending writes, its open reads, and the list of its commands, which takes no bytes.
-ghost use Rattle.std.specs.Prelude.{◌≡◌, ℕ, ◌<◌, ◌≤◌, ◌↔◌, ◌^◌, [], All, IfErr, IfNone, IfOk, IfSome, IsOk, IsTrue, OnOk, OnErr, count_by, length, nat_lt, slice_get};
+// What a channel holds: its array, its pending writes, its open reads, and the list of its commands, which takes no bytes; and
+// what a command does to it.
+ghost use Rattle.std.specs.Prelude.{◌≡◌, ◌≢◌, ◌++◌, ◌∷◌, [], IfSome, Some, drop, length, slice_get, take};
 ghost use Rattle.std.specs.List.{filter_map};
-ghost use Rattle.line_memory.specs.Memory.{zero_lines};
-ghost use Rattle.wpq_core.specs.Writes.{ComeBefore, NoWriteNames, pending_write};
-ghost use Rattle.ddr4_timing.specs.Places.{LiesIn};
-ghost use Rattle.interleave_map.specs.Cells.{cells_of};
-ghost use Rattle.chan_core.specs.State.{cell_in, new_channel, placed_write, placed_writes, stored_at};
-ghost use Rattle.chan_core.specs.Always.{IsHeld};
-ghost use Rattle.chan_core.specs.Calls.{AddsRead, AddsWrite, AnswersCollect, AnswersGet, IsFullOfReads, IsFullOfWrites, WritesAt, after_get, after_put, loaded_at, with_hold};
+ghost use Rattle.wpq_core.specs.Writes.{TakesWrite};
+ghost use Rattle.wpq_core.specs.Queue as queues;
+ghost use Rattle.wpq_core.specs.PendingMemory.{after_pending};
+ghost use Rattle.frfcfs.specs.Next.{IsServable};
+ghost use Rattle.chan_core.specs.State.{channel_memory, placed_write};
+ghost use Rattle.chan_core.specs.Contents.{AreOldest, AreWhole, HasWriteNumbered};
+ghost use Rattle.chan_core.specs.Singles.{FitsOldest, IssuesAlone, writes_by};
+ghost use Rattle.chan_core.specs.declared.phase.Phase.TheVariants.{Running};
+ghost use Rattle.chan_core.specs.Phases.{TellsSleep};
+ghost use Rattle.chan_core.specs.Calls.{KeepsBelow, ServesIndex, after_command, with_hold};
 
 use crate::phase::Phase;
-use crate::reads::{OpenRead, ReadsFull, index_of_serial};
-use channel_answers::{Collected, Got, Ticket};
-use ddr4_timing::command::Stamped;
+use crate::reads::{OpenRead, answer};
+use channel_answers::{Served, Ticket};
+use ddr4_timing::command::{Command, Stamped};
 use ddr4_timing::place::Place;
 use ddr4_timing::timing::Checked;
 use frfcfs::pending::{Kind, Pending};
-use frfcfs::queue::{Queue, is_held};
-use interleave_map::cells::{cell_of, cells};
-use line_memory::{Line, Write, zero};
+use frfcfs::queue::Queue;
+use line_memory::Line;
 use past::Past;
-use std::alloc::{AllocError, Global};
 use std::marker::Model;
-use wpq_core::{Full, PendingWrite, Wpq};
+use wpq_core::Wpq;
 
 #[derive(Drop)]
 pub struct ChannelMemory {
@@ -45,257 +47,15 @@ impl Model for ChannelMemory {
 
     ghost Value = { ChannelState };
 
-    ghost use Rattle.chan_core.specs.Inside.{seen_inside, IsInside};
+    ghost use Rattle.chan_core.specs.Contents.{seen};
+    ghost use Rattle.chan_core.specs.Inside.{contents_of, IsInside};
 
-    ghost view = { seen_inside };
+    ghost view = { λ m. seen (contents_of m) };
 
     ghost invariant = { IsInside };
 }
 
 impl ChannelMemory {
-    pub(crate) fn new(
-        alloc: Global,
-        checked: &Checked,
-        channel: u64,
-        depth: usize,
-        reads: usize,
-    ) -> Result<ChannelMemory, AllocError>
-        requires depth { (1 ≤ depth) × (depth ≤ 64) }
-        requires reads { reads ≤ 64 }
-        ensures { IfOk result (λ memory.
-            memory ≡ new_channel checked.now channel (zero_lines (cells_of checked.now.geometry)) depth reads) }
-    {
-        let mut array = Vec::from_elem(alloc, [0; 64], cells(checked))?;
-        zero(&mut array);
-        Ok(ChannelMemory {
-            checked: *checked,
-            channel,
-            array,
-            queue: Wpq::with_depth(alloc, depth)?,
-            waiting: Queue::with_room(alloc, depth + reads)?,
-            reads: Vec::with_capacity(alloc, reads)?,
-            most_reads: reads,
-            serial: 0,
-            hold: None,
-            issued: Past::new(),
-            phase: Phase::Running,
-        })
-    }
-
-    /// What is true of every channel's contents. It has no code.
-    pub(crate) fn always(&self)
-        ensures { IsHeld self.now }
-    {
-        let _order = self.waiting.requests();
-    }
-
-    pub(crate) fn checked(&self) -> &Checked
-        ensures { result.now ≡ self.now.checked }
-    {
-        &self.checked
-    }
-
-    pub(crate) fn phase(&self) -> Phase
-        ensures { result ≡ self.now.phase }
-    {
-        self.phase
-    }
-
-    pub(crate) fn channel(&self) -> u64
-        ensures { result ≡ self.now.channel }
-    {
-        self.channel
-    }
-
-    /// How many writes are pending.
-    pub(crate) fn pending(&self) -> usize
-        ensures { result ≡ length self.now.writes }
-    {
-        self.queue.len()
-    }
-
-    /// Whether no further write may be pending.
-    pub(crate) fn is_full(&self) -> bool
-        ensures { IsTrue result ↔ IsFullOfWrites self.now }
-    {
-        self.queue.is_full()
-    }
-
-    /// How many reads wait or were not collected.
-    pub(crate) fn open_reads(&self) -> usize
-        ensures { result ≡ length self.now.tickets }
-    {
-        self.reads.len()
-    }
-
-    /// The least number that a further write may have.
-    pub(crate) fn next_number(&self) -> Option<u64>
-        ensures free { IfSome result (λ n. (m : ℕ) → (ComeBefore m self.now.writes ↔ (n ≤ m))) }
-        ensures none { IfNone result ((m : ℕ) → ComeBefore m self.now.writes → 2 ^ 64 ≤ m) }
-    {
-        self.queue.next_number()
-    }
-
-    /// The pending requests, in order of arrival.
-    pub(crate) fn waiting(&self) -> &Queue
-        ensures requests { result.now.requests ≡ self.now.requests }
-        ensures places { All (λ p. LiesIn self.now.checked.geometry p.place) result.now.requests }
-    {
-        &self.waiting
-    }
-
-    /// Sets a line of the array; it asks that nothing waits.
-    pub(crate) fn load(&mut self, place: Place, bytes: Line)
-        requires lies { LiesIn self.old.checked.geometry place }
-        requires quiet { self.old.requests ≡ [] }
-        ensures loaded { self.new ≡ loaded_at self.old place bytes }
-        ensures memory { WritesAt self.old place bytes self.new }
-    {
-        let cell = cell_of(&self.checked, &place);
-        self.array[cell] = bytes;
-    }
-
-    /// A line of the array.
-    pub(crate) fn stored(&self, place: Place) -> Line
-        requires { LiesIn self.now.checked.geometry place }
-        ensures { result ≡ stored_at self.now place }
-    {
-        self.array[cell_of(&self.checked, &place)]
-    }
-
-    /// How many pending writes have a number below the limit.
-    pub(crate) fn below(&self, limit: u64) -> usize
-        ensures { result ≡ count_by (λ w. nat_lt w.number limit) self.now.writes }
-    {
-        self.queue.below(limit)
-    }
-
-    /// The number and the place of the oldest pending write.
-    pub(crate) fn oldest(&self) -> Option<(u64, Place)>
-        ensures { result ≡ slice_get (placed_writes self.now) 0 }
-    {
-        oldest_write(self.waiting.requests())
-    }
-
-    /// Whether a further write may have this number.
-    pub(crate) fn may_take(&self, number: u64) -> bool
-        ensures { IsTrue result ↔ ComeBefore number self.now.writes }
-    {
-        self.queue.may_take(number)
-    }
-
-    /// Adds a write behind the others. Refused, `Full`, exactly where the queue holds its depth: nothing changes then.
-    pub(crate) fn put(
-        &mut self,
-        number: u64,
-        line: u64,
-        place: Place,
-        bytes: Line,
-    ) -> Result<(), Full>
-        requires lies { LiesIn self.old.checked.geometry place }
-        requires channel { place.channel ≡ self.old.channel }
-        requires above { ComeBefore number self.old.writes }
-        requires few { length self.old.commands ≤ 2 ^ 63 }
-        ensures adds { OnOk result (AddsWrite self.old number place bytes self.new) }
-        ensures memory { OnOk result (WritesAt self.old place bytes self.new) }
-        ensures room { IsOk result ↔ (length self.old.writes < self.old.depth) }
-        ensures refused { IfErr result (λ full. full.refused ≡ pending_write number line bytes) }
-        ensures same { OnErr result (self.new ≡ self.old) }
-        ensures rest { self.new ≡ after_put self.old self.new }
-    {
-        let cell = cell_of(&self.checked, &place) as u64;
-        let Ok(()) = self.queue.try_push(number, cell, bytes) else {
-            return Err(Full {
-                refused: PendingWrite {
-                    number,
-                    write: Write { line, data: bytes },
-                },
-            });
-        };
-        let held = is_held(self.hold, Kind::Write, number);
-        self.waiting.push(place, cell, Kind::Write, number, held);
-        Ok(())
-    }
-
-    // May no further read be open?
-    pub(crate) fn is_full_of_reads(&self) -> bool
-        ensures { IsTrue result ↔ IsFullOfReads self.now }
-    {
-        self.reads.len() == self.most_reads
-    }
-
-    /// Reads a line, after all accepted writes, of which there are `at`. Refused where no further read may be open: nothing
-    /// changes then.
-    pub(crate) fn get(&mut self, line: u64, place: Place, at: u64) -> Result<Got, ReadsFull>
-        requires lies { LiesIn self.old.checked.geometry place }
-        requires channel { place.channel ≡ self.old.channel }
-        requires few { length self.old.commands ≤ 2 ^ 63 }
-        ensures answers { AnswersGet self.old place line at result self.new }
-        ensures rest { self.new ≡ after_get self.old self.new }
-    {
-        if self.is_full_of_reads() {
-            return Err(ReadsFull);
-        }
-        let cell = cell_of(&self.checked, &place) as u64;
-        match self.queue.newest_for(cell) {
-            Some(bytes) => Ok(Got::Now(bytes)),
-            None => Ok(Got::Later(self.wait(line, place, cell, at))),
-        }
-    }
-
-    // Adds a read behind the others, which waits for its RD.
-    fn wait(&mut self, line: u64, place: Place, cell: u64, at: u64) -> Ticket
-        requires room { ¬ IsFullOfReads self.old }
-        requires lies { LiesIn self.old.checked.geometry place }
-        requires channel { place.channel ≡ self.old.channel }
-        requires cell { cell ≡ cell_in self.old place }
-        requires none { NoWriteNames cell self.old.writes }
-        requires few { length self.old.commands ≤ 2 ^ 63 }
-        ensures ticket { result ≡ record { channel = self.old.channel; serial = self.old.serial } }
-        ensures adds { AddsRead self.old place line at self.new }
-    {
-        let (serial, seq) = (self.serial, self.waiting.next());
-        self.waiting.push(place, cell, Kind::Read, at, false);
-        self.reads.push_reserved(OpenRead {
-            serial,
-            seq,
-            line,
-            cell,
-            at,
-            bytes: None,
-        });
-        self.serial += 1;
-        Ticket {
-            channel: self.channel,
-            serial,
-        }
-    }
-
-    /// What there is for a ticket.
-    pub(crate) fn collect(&mut self, ticket: Ticket) -> Collected
-        ensures answers { AnswersCollect self.old ticket result self.new.tickets }
-        ensures rest { self.new ≡ record self.old { tickets = self.new.tickets } }
-    {
-        if ticket.channel != self.channel {
-            return Collected::Unknown;
-        }
-        let Some(index) = index_of_serial(&self.reads, ticket.serial) else {
-            return Collected::Unknown;
-        };
-        let read = self.reads[index];
-        match read.bytes {
-            Some(bytes) => {
-                self.reads.remove(index);
-                Collected::Data {
-                    line: read.line,
-                    bytes,
-                    at: read.at,
-                }
-            }
-            None => Collected::Pending,
-        }
-    }
-
     /// Holds the writes from a number on, those that come later too; or none.
     pub(crate) fn set_hold(&mut self, from: Option<u64>)
         ensures { self.new ≡ with_hold self.old from }
@@ -303,10 +63,64 @@ impl ChannelMemory {
         self.waiting.hold(from);
         self.hold = from;
     }
+
+    /// A command goes, and serves the request at an index, whose RD or WR it is: a write goes into the array, a read gets
+    /// the bytes of its line there.
+    pub(crate) fn issue(&mut self, index: Option<usize>, command: Stamped) -> Option<Served>
+        requires { IfSome index (IsServable self.old.requests) }
+        ensures same { self.new ≡ after_command self.old command self.new }
+        ensures serves { ServesIndex index result self.old self.new }
+        ensures memory { channel_memory self.new ≡ channel_memory self.old }
+        ensures below { KeepsBelow self.old self.new }
+    {
+        self.issued.note(&command);
+        let Some(index) = index else {
+            return None;
+        };
+        let request = self.waiting.requests()[index];
+        self.waiting.take(index);
+        match request.kind {
+            Kind::Write => {
+                let bytes = take_write(&mut self.queue, request.number);
+                self.array[request.line as usize] = bytes;
+                Some(Served::Write {
+                    number: request.number,
+                })
+            }
+            Kind::Read => {
+                let bytes = self.array[request.line as usize];
+                let serial = answer(&mut self.reads, request.seq, bytes);
+                Some(Served::Read(Ticket {
+                    channel: self.channel,
+                    serial,
+                }))
+            }
+        }
+    }
+
+    /// A single command goes: all reads are lost, and a WR takes the oldest write to the array, held or not.
+    pub(crate) fn issue_alone(&mut self, command: Stamped, phase: Phase)
+        requires oldest { FitsOldest self.old command.cmd }
+        requires single { phase ≢ Running }
+        requires asleep { TellsSleep phase self.old.checked (self.old.commands ++ command ∷ []) }
+        ensures issues { IssuesAlone self.old command self.new }
+        ensures memory { channel_memory self.new ≡ channel_memory self.old }
+    {
+        self.reads.clear();
+        self.waiting.keep_writes();
+        store_by(
+            command.cmd,
+            &mut self.array,
+            &mut self.queue,
+            &mut self.waiting,
+        );
+        self.issued.note(&command);
+        self.phase = phase;
+    }
 }
 
-// The number and the place of the first write among requests.
-fn oldest_write(requests: &[Pending]) -> Option<(u64, Place)>
+/// The number and the place of the first write among requests.
+pub(crate) fn oldest_write(requests: &[Pending]) -> Option<(u64, Place)>
     ensures { result ≡ slice_get (filter_map placed_write requests.now) 0 }
 {
     for p in requests {
@@ -315,4 +129,37 @@ fn oldest_write(requests: &[Pending]) -> Option<(u64, Place)>
         }
     }
     None
+}
+
+// Takes a write out that is there.
+fn take_write(queue: &mut Wpq, number: u64) -> Line
+    requires { HasWriteNumbered number queue.old.writes }
+    ensures depth { queue.new.depth ≡ queue.old.depth }
+    ensures takes { TakesWrite number queue.old.writes (Some result) queue.new.writes }
+    ensures size { length result ≡ 64 }
+    ensures queue { queues.IsWriteQueue queue.new }
+{
+    match queue.take(number) {
+        Some(bytes) => bytes,
+        None => [0; 64],
+    }
+}
+
+// The write of a single command goes to the array: the oldest one, where the command is a WR.
+fn store_by(cmd: Command, array: &mut [Line], queue: &mut Wpq, waiting: &mut Queue)
+    requires queue { queues.IsWriteQueue queue.old }
+    requires oldest { writes_by cmd ≡ 1
+        → AreOldest (length array.old) queue.old.writes waiting.old.requests }
+    ensures array { array.new ≡ after_pending array.old (take (writes_by cmd) queue.old.writes) }
+    ensures whole { AreWhole array.old → AreWhole array.new }
+    ensures queue { queue.new
+        ≡ record queue.old { writes = drop (writes_by cmd) queue.old.writes } }
+    ensures waiting { waiting.new
+        ≡ record waiting.old { requests = drop (writes_by cmd) waiting.old.requests } }
+{
+    if let Command::Wr { .. } = cmd {
+        let oldest = waiting.take(0);
+        let bytes = take_write(queue, oldest.number);
+        array[oldest.line as usize] = bytes;
+    }
 }

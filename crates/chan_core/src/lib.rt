@@ -7,9 +7,7 @@
 
 mod channel;
 mod channel_memory;
-mod effects;
 mod laws;
-mod moves;
 mod phase;
 mod reads;
 mod singles;

@@ -10,6 +10,7 @@ ghost use Rattle.chan_core.specs.Phases.{TellsSleep};
 ghost use Rattle.chan_core.specs.declared.phase.Phase.TheVariants.{Running};
 
 use crate::channel::Channel;
+use crate::channel_memory::oldest_write;
 use crate::phase::Phase;
 use bank_core::banks::Banks;
 use ddr4_timing::command::{Command, Stamped};
@@ -21,7 +22,7 @@ impl Channel {
     pub fn oldest(&self) -> Option<(u64, Place)>
         ensures { result ≡ slice_get (placed_writes self.now) 0 }
     {
-        self.memory.oldest()
+        oldest_write(self.memory.waiting.requests())
     }
 
     /// The least clock at which a single command may go, if there is one: it may go from then on up to nine intervals after

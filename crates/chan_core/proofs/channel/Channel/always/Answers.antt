@@ -1,13 +1,12 @@
-use Rattle.std.proofs.Common.{subst, ◌<◌, ◌^◌, ℕ}
-use Rattle.chan_core.proofs.Common.{Checked, IsChannel, IsLawful}
+use Rattle.chan_core.proofs.Held.{held}
 use Rattle.chan_core.proofs.channel.Channel.always.Goals as goal
 
 pub returns : goal.returns
 returns c =
     let is = c.self.invariant in
-    subst IsChannel c.self.view_is (record {
-      held = c.always.ensures;
-      lawful = subst (λ (checked : Checked). IsLawful checked c.self.inside.memory.commands) is.checked is.stands.lawful;
-      early = subst (λ (n : ℕ). n < 2 ^ 63) is.clock is.early;
+    rw (← c.self.view_is) (record {
+      held = rw (← c.self-inside.view_is) (held _ c.self-inside.invariant.are (rw c.requests-order.ensures.value at c.requests-order.ensures.order));
+      lawful = rw is.checked at is.stands.lawful;
+      early = rw is.clock at is.early;
       phase = is.phase;
     })

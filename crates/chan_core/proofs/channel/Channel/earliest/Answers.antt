@@ -1,5 +1,5 @@
-use Rattle.std.proofs.Common.{◌≡◌, ℕ, ◌+◌, ◌*◌, ◌≤◌, ◌↔◌, List, Option, Some, None, IfNone, IfSome, subst}
-use Rattle.chan_core.proofs.Common.{BanksState, ChannelState, Checked, Command, IsEarliest, IsLawful, KeepsRows, Stamped, Stands, last_ref, least_clock, rank_of, with_command}
+use Rattle.std.proofs.Common.{◌≡◌, ℕ, ◌+◌, ◌*◌, ◌≤◌, ◌↔◌, List, Option, Some, None, IfNone, IfSome}
+use Rattle.chan_core.proofs.Common.{BanksState, Command, IsEarliest, IsLawful, KeepsRows, Stamped, Stands, last_ref, least_clock, rank_of, with_command}
 use Rattle.chan_core.proofs.channel.Channel.earliest.Goals as goal
 
 here : (b : BanksState) (list : List Stamped) (cmd : Command) (result : Option ℕ) → Stands b list
@@ -15,7 +15,4 @@ here b list cmd (Some clock) stands none rows value never exact = (rows list sta
 pub returns : goal.returns
 returns c =
     let e = c.earliest.ensures in
-    let is = c.self.invariant in
-    subst (λ (s : ChannelState). IsEarliest s.checked s.commands c.args.cmd c.earliest.result) c.self.view_is
-    (subst (λ (k : Checked). IsEarliest k c.self.inside.memory.commands c.args.cmd c.earliest.result) is.checked
-    (here c.self.inside.banks c.self.inside.memory.commands c.args.cmd c.earliest.result is.stands e.none e.rows e.value e.never e.exact))
+    rw (← c.self.view_is, ← c.self.invariant.checked) (here c.self.inside.banks _ c.args.cmd c.earliest.result c.self.invariant.stands e.none e.rows e.value e.never e.exact)

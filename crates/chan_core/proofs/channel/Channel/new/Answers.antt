@@ -1,21 +1,29 @@
-use Rattle.std.proofs.Common.{◌≡◌, List, [], sym, ap, subst, ◌∙◌, arith}
-use Rattle.chan_core.proofs.Common.{Buffer, ChannelState, IsInPhase, Stamped, Stands, last_clock, last_commands}
+use Rattle.std.proofs.Common.{refl, arith}
+use Rattle.line_memory.proofs.Zeroed.{zeroed}
+use Rattle.chan_core.proofs.Common.{last_clock}
 use Rattle.frfcfs.proofs.refreshes.MarginEnds.{new_keeps}
+use Rattle.chan_core.proofs.Holding.{new-holds}
 use Rattle.chan_core.proofs.Sleeping.{new-awake}
 use Rattle.chan_core.proofs.channel.Channel.new.Goals as goal
 
 pub invariant_of-result : goal.invariant_of-result
-unfolding last_clock
 invariant_of-result c =
-    let new = c.in_ok-new.ensures in
-    let room = c.in_ok-with_capacity.ensures in
-    let commands : ◌≡◌ {A = List Stamped} c.in_ok-new.field-0.commands [] = ap (λ (s : ChannelState). s.commands) new in
+    let queue = c.in_ok-with_depth.ensures in
     record {
-      stands = subst (λ (xs : List Stamped). Stands c.new.result xs) (sym commands) c.new.ensures.stands;
-      checked = c.new.ensures.checked ∙ sym (ap (λ (s : ChannelState). s.checked) new);
-      clock = sym (ap last_clock commands);
-      early = omega arith;
-      recent = ap (λ (b : Buffer Stamped). b.items) room ∙ sym (ap last_commands commands);
-      capacity = ap (λ (b : Buffer Stamped). b.capacity) room;
-      phase = subst IsInPhase (sym new) (record { in_time = λ not. new_keeps c.args.checked.now; awake = λ e rank within. new-awake rank; asleep = λ e. absurd cc });
+      are = rw queue.empty
+          (new-holds _ (zeroed c.zero.new.lines.items _ _ c.zero.ensures.items (omega (arith, c.in_ok-array.ensures.len, c.in_ok-array.array.ok, c.cells.ensures.is))) (rw queue.empty at queue.queue) refl c.in_ok-with_room.ensures
+          c.in_ok-with_capacity-2.ensures.items c.requires.reads refl);
+      room_for_reads = omega (arith, c.in_ok-with_capacity-2.ensures.capacity);
     }
+
+pub invariant_of-result-2 : goal.invariant_of-result-2
+unfolding last_clock
+invariant_of-result-2 c = rw (c.in_ok-with_capacity.ensures, c.new-2.ensures) (record {
+  stands = c.new.ensures.stands;
+  checked = c.new.ensures.checked;
+  clock = refl;
+  early = omega arith;
+  recent = refl;
+  capacity = refl;
+  phase = record { in_time = λ not. new_keeps c.args.checked.now; awake = λ e rank within. new-awake rank; asleep = λ e. absurd cc };
+})

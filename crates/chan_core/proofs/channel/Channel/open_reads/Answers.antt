@@ -1,4 +1,6 @@
+use Rattle.std.proofs.Common.{arith}
+use Rattle.std.proofs.lemmas.Grind.{common_steps}
 use Rattle.chan_core.proofs.channel.Channel.open_reads.Goals as goal
 
 pub returns : goal.returns
-returns c = rw (← c.self.view_is) c.open_reads.ensures
+returns c = grind (arith, common_steps)

@@ -1,0 +1,4 @@
+use Rattle.chan_core.proofs.channel.Channel.is_full.Goals as goal
+
+pub returns : goal.returns
+returns c = rw (← c.self.view_is, ← c.self-inside.view_is) c.is_full.ensures
