@@ -1,41 +1,16 @@
 // A channel whose queues stay full.
 ghost use Rattle.std.specs.Prelude.{◌≡◌};
 
-use crate::stream::Picks;
+use crate::trial::{Stream, Trial};
 use chan_core::Channel;
 use channel_answers::{Got, Served};
 use ddr4_timing::place::Place;
 use ddr4_timing::timing::Checked;
+use interleave_map::cells::line_count;
 use interleave_map::line_map::LineMap;
+use interleave_map::lines;
 use std::alloc::Global;
 use std::marker::Model;
-use thiserror::Error;
-
-/// Why a load can't go on: its stream asks for what the channel hasn't.
-#[derive(Clone, Copy, Debug, PartialEq, Eq, Error)]
-pub enum LoadError {
-    #[error("no such depth")]
-    Depth,
-    #[error("no such place")]
-    Place,
-    #[error("no such write")]
-    Write,
-    #[error("no room for a write")]
-    WriteRoom,
-    #[error("no such read")]
-    Read,
-    #[error("no room for a read")]
-    ReadRoom,
-    #[error("idle")]
-    Idle,
-}
-
-// Takes the low part, which counts up to a power of two, off a number.
-fn low_part(rest: &mut u64, size: u64) -> u64 {
-    let part = *rest & size.wrapping_sub(1);
-    *rest = rest.checked_shr(size.trailing_zeros()).unwrap_or(0);
-    part
-}
 
 /// Channel 0 of a profile, with the number of its next write and the stream that its requests come from.
 #[derive(Drop)]
@@ -44,7 +19,9 @@ pub struct Load<'m, M: LineMap> {
     checked: Checked,
     channel: Channel,
     number: u64,
-    picks: Picks,
+    stream: Stream,
+    turn: u64,
+    salt: u64,
 }
 
 impl<'m, M: LineMap> Model for Load<'m, M> {
@@ -60,97 +37,98 @@ impl<'m, M: LineMap> Model for Load<'m, M> {
 }
 
 impl<'m, M: LineMap> Load<'m, M> {
-    /// A channel with so many writes and as many reads pending.
-    pub(crate) fn new(
-        alloc: Global,
-        map: &'m M,
-        checked: &Checked,
-        depth: usize,
-        picks: Picks,
-    ) -> anyhow::Result<Load<'m, M>>
+    /// A channel with all its requests pending.
+    pub(crate) fn new(alloc: Global, map: &'m M, trial: &Trial) -> anyhow::Result<Load<'m, M>>
         requires lawful { M.is_lawful map.now }
-        requires geometry { M.geometry_of map.now ≡ checked.now.geometry }
+        requires geometry { M.geometry_of map.now ≡ trial.now.checked.geometry }
     {
+        let Trial {
+            checked,
+            depth,
+            stream,
+            ..
+        } = *trial;
         if depth < 1 || depth > 64 {
-            return Err(LoadError::Depth.into());
+            anyhow::bail!("no such depth");
         }
         let mut load = Load {
             map,
-            checked: *checked,
-            channel: Channel::new(alloc, checked, 0, depth, depth)?,
+            checked,
+            channel: Channel::new(alloc, &checked, 0, depth, depth)?,
             number: 0,
-            picks,
+            stream,
+            turn: 0,
+            salt: 7,
         };
         for _ in 0..depth {
-            load.put()?;
-            load.get()?;
+            if load.send(false).is_none() || load.send(true).is_none() {
+                anyhow::bail!("no room for a request");
+            }
         }
         Ok(load)
     }
 
-    // Writes the stream's next line, to an even column.
-    fn put(&mut self) -> Result<(), LoadError> {
-        let pick = self.picks.next() / 2 * 2;
-        let line = self.line(pick)?;
+    // Where the stream's request of this turn goes.
+    fn place(&self) -> Place {
+        let checked = &self.checked;
+        let cell = (self.salt >> 33).wrapping_mul(checked.geometry.channels);
+        let place = lines::split(checked, cell & (line_count(checked) - 1));
+        match self.stream {
+            Stream::Hits => Place { row: 0, ..place },
+            Stream::Conflicts => Place {
+                rank: 0,
+                group: 0,
+                bank: 0,
+                row: self.turn % checked.geometry.rows,
+                ..place
+            },
+            Stream::Random => place,
+        }
+    }
+
+    // Sends the stream's next request: a write to an even column, or a read of an odd one, so that no pending write answers
+    // it. None where the channel has no such line, or no room.
+    fn send(&mut self, reads: bool) -> Option<()> {
+        self.turn = self.turn.wrapping_add(1);
+        self.salt = self
+            .salt
+            .wrapping_mul(6_364_136_223_846_793_005)
+            .wrapping_add(1_442_695_040_888_963_407);
+        let place = self.place();
+        let column = (place.column / 2 * 2) | reads as u64;
+        let place = Place { column, ..place };
+        if !place.lies_in(&self.checked.geometry) {
+            return None;
+        }
+        let line = self.map.line(place);
         if !self.channel.has_line(self.map, line) || !self.channel.may_take(self.number) {
-            return Err(LoadError::Write);
+            return None;
         }
-        if self
-            .channel
-            .put(self.map, self.number, line, [1; 64])
-            .is_err()
-        {
-            return Err(LoadError::WriteRoom);
+        if reads {
+            let got = self.channel.get(self.map, line, self.number);
+            return matches!(got, Ok(Got::Later(_))).then_some(());
         }
+        let put = self.channel.put(self.map, self.number, line, [1; 64]);
         self.number = self.number.wrapping_add(1);
-        Ok(())
+        put.ok()
     }
 
-    // Reads the stream's next line, of an odd column, so that no pending write answers it.
-    fn get(&mut self) -> Result<(), LoadError> {
-        let pick = self.picks.next() / 2 * 2 + 1;
-        let line = self.line(pick)?;
-        if !self.channel.has_line(self.map, line) {
-            return Err(LoadError::Read);
-        }
-        match self.channel.get(self.map, line, self.number) {
-            Ok(Got::Later(_)) => Ok(()),
-            _ => Err(LoadError::ReadRoom),
-        }
-    }
-
-    // A line of the channel: that at the place of a pick, whose low part names the column, then the group, the bank, the
-    // rank and the row.
-    fn line(&self, pick: u64) -> Result<u64, LoadError> {
-        let geometry = &self.checked.geometry;
-        let mut rest = pick;
-        let place = Place {
-            channel: 0,
-            column: low_part(&mut rest, geometry.columns),
-            group: low_part(&mut rest, geometry.groups),
-            bank: low_part(&mut rest, geometry.banks),
-            rank: low_part(&mut rest, geometry.ranks),
-            row: low_part(&mut rest, geometry.rows),
-        };
-        if !place.lies_in(geometry) {
-            return Err(LoadError::Place);
-        }
-        Ok(self.map.line(place))
-    }
-
-    /// Issues one command, and replaces the request that it served: the command's clock.
-    pub(crate) fn step(&mut self) -> Result<u64, LoadError> {
-        let Some(done) = self.channel.work() else {
-            return Err(LoadError::Idle);
-        };
-        match done.served {
-            Some(Served::Write { .. }) => self.put()?,
-            Some(Served::Read(ticket)) => {
-                self.channel.collect(ticket);
-                self.get()?;
+    /// Issues so many commands, and replaces each request that was served: the clock of the last command. None where there is
+    /// no further command, or a request isn't taken.
+    pub(crate) fn run(&mut self, commands: u64) -> Option<u64> {
+        let mut last = 0;
+        for _ in 0..commands {
+            let done = self.channel.work()?;
+            last = done.command.clock;
+            match done.served {
+                Some(Served::Write { .. }) => self.send(false)?,
+                Some(Served::Read(ticket)) => {
+                    self.channel.collect(ticket);
+                    self.send(true)?;
+                }
+                None => {}
             }
-            None => {}
         }
-        Ok(done.command.clock)
+        Some(last)
     }
 }

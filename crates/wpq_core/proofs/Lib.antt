@@ -1,3 +1,2 @@
-pub mod NewestWrite
 pub mod PendingLaws
 pub mod Numbers

@@ -1,5 +1,5 @@
 -- Numbers that rise.
-use Rattle.std.proofs.Common.{◌≡◌, ℕ, ◌-◌, List, slice_get, Some, inl, inr, arith}
+use Rattle.std.proofs.Common.{◌≡◌, ℕ, List, slice_get, Some, inl, inr, arith}
 use Rattle.std.proofs.lemmas.Bool.{cases_order}
 use Rattle.wpq_core.specs.declared.queue.PendingWrite.{PendingWrite}
 use Rattle.wpq_core.specs.Writes.{NumbersRise}

@@ -111,18 +111,16 @@ impl Wpq {
             .count()
     }
 
-    /// The data of the newest pending write of a line; None exactly where none names the line. It looks at each pending
-    /// write.
+    /// The data of the newest pending write of a line; None exactly where none names the line. It looks at the pending
+    /// writes from the newest on, up to that one.
     pub fn newest_for(&self, line: u64) -> Option<Line>
         ensures { IsNewest line self.now.writes result }
     {
-        let mut newest = None;
-        for pending in self.writes.iter() {
-            if pending.write.line == line {
-                newest = Some(pending.write.data);
-            }
-        }
-        newest
+        let place = self
+            .writes
+            .iter()
+            .rposition(|pending| pending.write.line == line)?;
+        Some(self.writes[place].write.data)
     }
 
     /// Adds a write behind the others. Its number has to be above theirs. Refused, `Full`, exactly where the queue holds

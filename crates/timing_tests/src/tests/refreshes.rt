@@ -1,9 +1,7 @@
 // A channel at its limits: a profile as tight as the checks let it be, four ranks, and requests that conflict without end.
-ghost use Rattle.std.specs.Prelude.{◌≤◌, ◌<◌, ◌^◌, All, IfOk, IfSome};
-
 use bank_core::banks::Banks;
-use bank_core::replay::first_unready;
 use ddr4_timing::command::{Command, Stamped};
+use ddr4_timing::fault::first_fault;
 use ddr4_timing::place::Place;
 use ddr4_timing::timing::{Checked, Geometry, Timing};
 use frfcfs::next::{Next, next_command};
@@ -70,9 +68,7 @@ fn conflicts(alloc: Global, salt: u64) -> Result<Queue, Fail> {
 }
 
 // Issues the next command.
-fn step(banks: &mut Banks, queue: &Queue, now: u64) -> Option<Stamped>
-    ensures { IfSome result (λ x. x.clock < 2 ^ 63) }
-{
+fn step(banks: &mut Banks, queue: &Queue, now: u64) -> Option<Stamped> {
     let geometry = banks.checked().geometry;
     if !queue.lies_in(&geometry) {
         return None;
@@ -83,9 +79,7 @@ fn step(banks: &mut Banks, queue: &Queue, now: u64) -> Option<Stamped>
 }
 
 // So many commands of a channel, whose requests are others after every third.
-fn run(alloc: Global, checked: &Checked, count: u64) -> Result<Vec<Stamped>, Fail>
-    ensures { IfOk result (λ list. All (λ x. x.clock < 2 ^ 63) list.items) }
-{
+fn run(alloc: Global, checked: &Checked, count: u64) -> Result<Vec<Stamped>, Fail> {
     let mut banks = Banks::new(checked);
     let mut list: Vec<Stamped> = Vec::new(alloc);
     let mut now = 0;
@@ -118,7 +112,7 @@ fn goes_on_for_fifty_intervals(rt: HostRuntime) -> Result<(), Fail> {
     let list = run(rt.alloc(), &checked, 9000)?;
     let last = list.last().ok_or("empty")?;
     assert!(rt; last.clock >= 50 * 184);
-    assert_eq!(rt; first_unready(&checked, &list), None);
+    assert_eq!(rt; first_fault(&checked, &list), None);
     assert!(rt; refreshes(&list) >= 4 * 42);
     Ok(())
 }

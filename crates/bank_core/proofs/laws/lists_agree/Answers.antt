@@ -43,31 +43,22 @@ same_floor b one two (Sre rank) s r h = sym (rank_of_list b one rank s h).sleep 
 same_row : (b : BanksState) (one two : List Stamped) (at : BankAddress) → Stands b one → Stands b two → HasBank b.checked.geometry at → open_row at one ≡ open_row at two
 same_row b one two at s r h = sym (bank_of_list b one at s h).row ∙ (bank_of_list b two at r h).row
 
-same_last : (b : BanksState) (one two : List Stamped) (rank : ℕ) → Stands b one → Stands b two → rank < b.checked.geometry.ranks → last_ref rank one ≡ last_ref rank two
-same_last b one two rank s r h = omega (arith, (rank_of_list b one rank s h).refreshes.deadline, (rank_of_list b two rank r h).refreshes.deadline)
-
-same_count : (b : BanksState) (one two : List Stamped) (rank : ℕ) → Stands b one → Stands b two → rank < b.checked.geometry.ranks → ref_count rank one ≡ ref_count rank two
-same_count b one two rank s r h =
-    let t = b.checked.timing.t_refi in
-    let some = b.checked.in_limits.t_refi.0 in
-    let due = sym (rank_of_list b one rank s h).refreshes.next ∙ (rank_of_list b two rank r h).refreshes.next in
-    let e : ref_count rank one + 1 ≡ ref_count rank two + 1 = sym (mul-div_cancel (ref_count rank one + 1) some) ∙ ap (λ n. n / t) due ∙ mul-div_cancel (ref_count rank two + 1) some in
-    omega (arith, e)
-
-same_sleep : (b : BanksState) (one two : List Stamped) (rank : ℕ) → Stands b one → Stands b two → rank < b.checked.geometry.ranks → is_asleep rank one ≡ is_asleep rank two
-same_sleep b one two rank s r h = sym (rank_of_list b one rank s h).asleep ∙ (rank_of_list b two rank r h).asleep
-
-same_window : (b : BanksState) (one two : List Stamped) (rank : ℕ) → Stands b one → Stands b two → rank < b.checked.geometry.ranks → window b.checked.timing rank 3 one ≡ window b.checked.timing rank 3 two
-same_window b one two rank s r h = sym (rank_of_list b one rank s h).windows.fourth ∙ (rank_of_list b two rank r h).windows.fourth
+-- the last REF, how many there were, whether there was an SRE, and the window
+same_rank : (b : BanksState) (one two : List Stamped) (rank : ℕ) → Stands b one → Stands b two → rank < b.checked.geometry.ranks
+    → (last_ref rank one ≡ last_ref rank two) × (ref_count rank one ≡ ref_count rank two) × (is_asleep rank one ≡ is_asleep rank two) × (window b.checked.timing rank 3 one ≡ window b.checked.timing rank 3 two)
+same_rank b one two rank s r h =
+    let u = rank_of_list b one rank s h in
+    let v = rank_of_list b two rank r h in
+    let counted = λ (list : List Stamped). mul-div_cancel (ref_count rank list + 1) b.checked.in_limits.t_refi.0 in
+    let due = ap (λ n. n / b.checked.timing.t_refi) (sym u.refreshes.next ∙ v.refreshes.next) in
+    (omega (arith, u.refreshes.deadline, v.refreshes.deadline), omega (arith, sym (counted one) ∙ due ∙ counted two), sym u.asleep ∙ v.asleep, sym u.windows.fourth ∙ v.windows.fourth)
 
 same_clock : (b : BanksState) (one two : List Stamped) (x : Command) → Stands b one → Stands b two → IsInGeometry b.checked.geometry x → least_clock b.checked.timing one x ≡ least_clock b.checked.timing two x
 unfolding least_clock
 same_clock b one two x s r h =
-    let rank = rank_within b.checked.geometry x h in
+    let (last, count, sleep, acts) = same_rank b one two (rank_of x) s r (rank_within b.checked.geometry x h) in
     let f = same_floor b one two x s r h in
-    let w = same_window b one two (rank_of x) s r rank in
-    let n = same_count b one two (rank_of x) s r rank in
-    rw (f, w, n) refl
+    rw (f, acts, count) refl
 
 closed_too : (b : BanksState) (one two : List Stamped) (rank : ℕ) → Stands b one → Stands b two → rank < b.checked.geometry.ranks → AllClosed b.checked.geometry rank one → AllClosed b.checked.geometry rank two
 closed_too b one two rank s r h all group bank l m =
@@ -86,11 +77,10 @@ lawful_too : (b : BanksState) (one two : List Stamped) (clock : ℕ) (x : Comman
 lawful_too b one two clock x s r h =
     let ready = ready_lawful b.checked one (record { clock = clock; cmd = x }) h in
     let place = ready.rows.place in
-    let rank = rank_within b.checked.geometry x place in
+    let (last, count, sleep, acts) = same_rank b one two (rank_of x) s r (rank_within b.checked.geometry x place) in
     let least = same_clock b one two x s r place in
-    let last = same_last b one two (rank_of x) s r rank in
     lawful_ready b.checked two (record { clock = clock; cmd = x }) r.lawful (record {
-      rows = record { place = place; awake = rw (← same_sleep b one two (rank_of x) s r rank) ready.rows.awake; rows = fits_too b one two x s r place ready.rows.rows };
+      rows = record { place = place; awake = rw (← sleep) ready.rows.awake; rows = fits_too b one two x s r place ready.rows.rows };
       clock = omega (arith, least, ready.clock);
       in_time = omega (arith, last, ready.in_time);
     })
@@ -98,9 +88,9 @@ lawful_too b one two clock x s r h =
 pub returns : goal.returns
 returns _ b one two s r = record {
   open_row = λ at h. same_row b one two at s r h;
-  last_ref = λ rank h. same_last b one two rank s r h;
-  ref_count = λ rank h. same_count b one two rank s r h;
-  is_asleep = λ rank h. same_sleep b one two rank s r h;
+  last_ref = λ rank h. (same_rank b one two rank s r h).0;
+  ref_count = λ rank h. (same_rank b one two rank s r h).1;
+  is_asleep = λ rank h. (same_rank b one two rank s r h).2;
   floor = λ x h. same_floor b one two x s r h;
   least_clock = λ x h. same_clock b one two x s r h;
   lawful = λ clock x. (lawful_too b one two clock x s r, lawful_too b two one clock x r s);

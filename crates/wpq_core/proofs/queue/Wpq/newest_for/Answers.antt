@@ -1,16 +1,19 @@
-use Rattle.std.proofs.lemmas.List.{take_all}
-use Rattle.wpq_core.proofs.NewestWrite.{IsNewest-next_named, IsNewest-next_other}
-use Rattle.wpq_core.proofs.queue.Wpq.newest_for.Goals.{then-pending-line, else-pending-line}
+use Rattle.std.proofs.Common.{◌≢◌, rules, refl, get_or, length}
+use Rattle.std.proofs.lemmas.Option.{get_or_from_slice_get, slice_get_within, slice_get_read}
 use Rattle.wpq_core.proofs.queue.Wpq.newest_for.Goals as goal
 
-pub loop-pending-preserved : goal.loop-pending-preserved
-loop-pending-preserved c = record {
-  items = c.loop-pending.invariant.items;
-  newest = elim c.if-pending-line.branch [
-    | then-pending-line w ↦ rw w.newest-is (IsNewest-next_named _ _ _ _ c.loop-pending-test.true w.if-pending-line.true)
-    | else-pending-line w ↦ rw w.newest-is (IsNewest-next_other _ _ _ _ _ c.loop-pending-test.true w.if-pending-line.false c.loop-pending.invariant.newest)
-  ];
-}
-
 pub returns : goal.returns
-returns c = rw (← c.loop-pending.invariant.items, ← take_all c.loop-pending.pending-index c.deref-pending-items.result.now c.loop-pending-test.false) c.loop-pending.invariant.newest
+returns c =
+    let writes = c.args.self.now.writes in
+    let w = c.index.result.now in
+    let at = slice_get_read writes (length writes) c.in_ok-place.place w refl (search rules) (search rules) in (
+      c.in_ok-place.place,
+      w,
+      at,
+      search rules,
+      refl,
+      λ j v later s.
+          let within = slice_get_within writes j v s in
+          let other : (get_or writes j v).write.line ≢ c.args.line = search rules in
+          rw (← get_or_from_slice_get writes j v v s) other,
+    )
