@@ -2,11 +2,11 @@
 use Rattle.std.proofs.Common.{◌≡◌, ◌≢◌, ℕ, ◌+◌, ◌-◌, ◌<◌, ◌≤◌, ◌↔◌, List, [], ◌∷◌, ◌++◌, Bool, Option, map, IsTrue, sym, ap, ◌∙◌, arith, drop, slice_get, Some, length, length-append, All, remove}
 use Rattle.std.proofs.lemmas.Option.{slice_get_within}
 use Rattle.std.proofs.lemmas.List.{drop-append-le, drop-map, length-drop, length-map}
-use Rattle.frfcfs.proofs.Common.{IsKept, MarksOldest, Pending, held_by, numbered_from}
+use Rattle.frfcfs.proofs.Common.{KeepsRequests, MarksOldest, Pending, held_by, numbered_from}
 use Rattle.frfcfs.proofs.KeepLemmas.{length-numbered, lines_numbered, waiting_numbered}
 use Rattle.frfcfs.proofs.QueueLemmas.{line_at, lines_held, waiting_held, request_push, request_take, waiting_push, waiting_take}
 
-pub kept_in_front : (most next start room : ℕ) (pending : List Pending) (firsts : List Bool) → IsKept most next start room pending firsts → IsKept most next 0 room (drop start pending) (drop start firsts)
+pub kept_in_front : (most next start room : ℕ) (pending : List Pending) (firsts : List Bool) → KeepsRequests most next start room pending firsts → KeepsRequests most next 0 room (drop start pending) (drop start firsts)
 kept_in_front most next start room pending firsts kept = record {
   waiting = kept.waiting;
   marks = kept.marks;
@@ -16,8 +16,8 @@ kept_in_front most next start room pending firsts kept = record {
   enough = kept.enough;
 }
 
-pub kept_push : (most next start room : ℕ) (pending : List Pending) (firsts : List Bool) (p : Pending) (first : Bool) → IsKept most next start room pending firsts → length pending < room → length (drop start pending) < most → p.seq ≡ next
-    → (IsTrue first ↔ All (λ q. q.line ≢ p.line) (drop start pending)) → IsKept most (next + 1) start room (pending ++ p ∷ []) (firsts ++ first ∷ [])
+pub kept_push : (most next start room : ℕ) (pending : List Pending) (firsts : List Bool) (p : Pending) (first : Bool) → KeepsRequests most next start room pending firsts → length pending < room → length (drop start pending) < most → p.seq ≡ next
+    → (IsTrue first ↔ All (λ q. q.line ≢ p.line) (drop start pending)) → KeepsRequests most (next + 1) start room (pending ++ p ∷ []) (firsts ++ first ∷ [])
 kept_push most next start room pending firsts p first kept room_left few seq here =
     let more = length-append pending (p ∷ []) in
     let more_firsts = length-append firsts (first ∷ []) in
@@ -33,10 +33,10 @@ kept_push most next start room pending firsts p first kept room_left few seq her
     }
 
 -- one is taken out, and the rest are those from the next start on
-pub kept_take : (most next start end room : ℕ) (pending left : List Pending) (firsts before marks : List Bool) (i : ℕ) (p : Pending) → IsKept most next start room pending firsts → slice_get (drop start pending) i ≡ Some p
+pub kept_take : (most next start end room : ℕ) (pending left : List Pending) (firsts before marks : List Bool) (i : ℕ) (p : Pending) → KeepsRequests most next start room pending firsts → slice_get (drop start pending) i ≡ Some p
     → start ≤ end → end ≤ start + 1 → drop end left ≡ remove (drop start pending) i → length left + 1 + start ≡ length pending + end
     → drop end before ≡ remove (drop start firsts) i → length marks + 1 + start ≡ length firsts + end
-    → MarksOldest p.line (drop end left) (drop end before) (drop end marks) → IsKept most next end room left marks
+    → MarksOldest p.line (drop end left) (drop end before) (drop end marks) → KeepsRequests most next end room left marks
 kept_take most next start end room pending left firsts before marks i p kept at least most_end taken size gone size_marks marked =
     let n = length-drop start pending in
     let within = slice_get_within (drop start pending) i p at in
@@ -51,7 +51,7 @@ kept_take most next start end room pending left firsts before marks i p kept at 
 
 -- each is held or not, and each is numbered anew
 
-pub kept_held : (hold : Option ℕ) (most next start room : ℕ) (pending : List Pending) (firsts : List Bool) → IsKept most next start room pending firsts → IsKept most next start room (map (held_by hold) pending) firsts
+pub kept_held : (hold : Option ℕ) (most next start room : ℕ) (pending : List Pending) (firsts : List Bool) → KeepsRequests most next start room pending firsts → KeepsRequests most next start room (map (held_by hold) pending) firsts
 kept_held hold most next start room pending firsts kept =
     let n = length-map pending (held_by hold) in
     let rest = drop-map (held_by hold) start pending in
@@ -64,7 +64,7 @@ kept_held hold most next start room pending firsts kept =
       enough = kept.enough;
     }
 
-pub kept_numbered : (most next room : ℕ) (pending : List Pending) (firsts : List Bool) → IsKept most next 0 room pending firsts → IsKept most (length pending) 0 room (numbered_from 0 pending) firsts
+pub kept_numbered : (most next room : ℕ) (pending : List Pending) (firsts : List Bool) → KeepsRequests most next 0 room pending firsts → KeepsRequests most (length pending) 0 room (numbered_from 0 pending) firsts
 kept_numbered most next room pending firsts kept =
     let n = length-numbered 0 pending in
     record {

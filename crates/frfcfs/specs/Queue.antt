@@ -28,7 +28,7 @@ pub record AreFirsts (lines : List ℕ) (firsts : List Bool) : Type 0 where
 
 -- What is true of what a queue keeps: its requests are those from a start on, with a mark for each, and there is room for as
 -- many as it may hold.
-pub record IsKept (most next start room : ℕ) (pending : List Pending) (firsts : List Bool) : Type 0 where
+pub record KeepsRequests (most next start room : ℕ) (pending : List Pending) (firsts : List Bool) : Type 0 where
   pub waiting : IsWaiting (record { most = most; next = next; requests = drop start pending })
   pub marks : AreFirsts (map (λ p. p.line) (drop start pending)) (drop start firsts)
   pub within : start ≤ length pending

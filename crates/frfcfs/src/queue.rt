@@ -2,7 +2,7 @@
 ghost use Rattle.std.specs.Prelude.{◌≡◌, ◌≢◌, ◌↔◌, ◌+◌, ◌-◌, ◌<◌, ◌≤◌, ◌^◌, ◌++◌, ◌∷◌, [], Some, All, IfOk, IsTrue, drop, length, map, remove, slice_get, vec_capacity};
 ghost use Rattle.ddr4_timing.specs.Places.{LiesIn};
 ghost use Rattle.frfcfs.specs.Requests.{AreInOrder};
-ghost use Rattle.frfcfs.specs.Queue.{AreFirsts, IsKept, IsOldestOf, MarksOldest, Waiting, held_by, is_held, numbered_from, writes_among};
+ghost use Rattle.frfcfs.specs.Queue.{AreFirsts, KeepsRequests, IsOldestOf, MarksOldest, Waiting, held_by, is_held, numbered_from, writes_among};
 
 use crate::pending::{Kind, Pending};
 use ddr4_timing::place::Place;
@@ -29,7 +29,7 @@ impl Model for Queue {
 
     ghost view = { λ q. record { most = q.most; next = q.next; requests = drop q.start q.pending.items } };
 
-    ghost invariant = { λ q. IsKept q.most q.next q.start q.room q.pending.items q.firsts.items
+    ghost invariant = { λ q. KeepsRequests q.most q.next q.start q.room q.pending.items q.firsts.items
         × (q.room ≤ vec_capacity q.pending) × (q.room ≤ vec_capacity q.firsts) };
 }
 

@@ -1,5 +1,5 @@
 use Rattle.std.proofs.Common.{◌<◌, ◌≤◌, length, drop, vec_capacity, arith, refl, sym, subst}
-use Rattle.frfcfs.proofs.Common.{IsKept, Pending, Waiting}
+use Rattle.frfcfs.proofs.Common.{KeepsRequests, Pending, Waiting}
 use Rattle.frfcfs.specs.declared.queue.Queue.TheInside.{Inside}
 use Rattle.frfcfs.proofs.QueueRoom.{kept_in_front, kept_push}
 use Rattle.frfcfs.proofs.queue.Queue.push.Goals.{then-len-self, else-len-self}
@@ -7,7 +7,7 @@ use Rattle.frfcfs.proofs.queue.Queue.push.Goals as goal
 
 -- before the request is added there is room behind the last one
 record HasRoom (queue : Inside) : Type 0 where
-  kept : IsKept queue.most queue.next queue.start queue.room queue.pending.items queue.firsts.items
+  kept : KeepsRequests queue.most queue.next queue.start queue.room queue.pending.items queue.firsts.items
   room : length queue.pending.items < queue.room
   few : length (drop queue.start queue.pending.items) < queue.most
   pending_room : queue.room ≤ vec_capacity queue.pending
