@@ -5,7 +5,7 @@ use Rattle.std.proofs.lemmas.Bool.{cases_eq, cases_Bool, eq-eqb, ne_eqb, and_rig
 use Rattle.std.proofs.lemmas.Bool.Decides.{nat_tests}
 use Rattle.std.proofs.lemmas.Grind.{get_or-set_at}
 use Rattle.std.proofs.lemmas.List.{get_or_default}
-use Rattle.ddr4_timing.proofs.Common.{Act, BankAddress, BankCells, BankRises, BankStands, BanksRise, ChannelTakes, Checked, ClockRises, Command, GroupsRise, HasSlot, KeepsRefresh, Machine, Pre, PreAll, RankStands, RankState, RankTakes, Rd, Ref, Refresh, RefreshStands, Sre, Stamped, Timing, Window, WindowStands, Wr, bank_of, beyond_rank, demand_of, in_groups, in_rank, is_act, is_act_of, is_asleep, is_bank, is_ref, is_ref_of, is_sre, rank_of, row_after, row_in, slot_of, with_command}
+use Rattle.ddr4_timing.proofs.Common.{Act, BankAddress, BankCells, BankRises, BankStands, BanksRise, ChannelTakes, Checked, ClockRises, Command, GroupsRise, HasSlot, KeepsRefresh, Machine, Pre, PreAll, RankStands, RankState, RankTakes, Rd, Ref, Refresh, RefreshStands, Sre, Stamped, Timing, Window, WindowStands, Wr, bank_of, beyond_rank, demand_of, in_groups, in_rank, is_act, is_act_of, is_bank, is_ref, is_ref_of, is_sre, rank_of, row_after, row_in, slot_of, with_command}
 use Rattle.ddr4_timing.proofs.Addresses.{has_slot, same_slot, slot_small}
 use Rattle.ddr4_timing.proofs.FloorLemmas.{floor_push, open_row_push, window-yes, window-first, window-no, ref_count_push, last_ref_push, is_asleep_push}
 use Rattle.ddr4_timing.proofs.GapParts.{cond_same, tells_gaps}
@@ -152,7 +152,7 @@ own_rank c list k next write write' column column' x old new h keeps beyond writ
       sleep = least_rises k next _ _ _ _ _ _ (rw here h.cells.idle) s.sleep (demand.sleep (rank_of x)) (floor_push _ list _ (Sre (rank_of x)));
       windows = h.history.windows list s.windows;
       refreshes = h.history.refreshes list s.refreshes keeps;
-      asleep = h.history.asleep ∙ ap (λ a. a || is_sre x) s.asleep ∙ sym (is_asleep_push (rank_of x) list (record { clock = k; cmd = x }) ∙ ap (λ b. is_asleep (rank_of x) list || b) (ap (λ b. is_sre x && b) here ∙ and-true (is_sre x)));
+      asleep = rw (is_asleep_push, here, and-true, ← s.asleep) h.history.asleep;
     }
 
 -- a command of another rank

@@ -5,7 +5,9 @@ use Rattle.ddr4_timing.proofs.Common.{IsLawful, Stamped, StandsFor}
 use Rattle.ddr4_timing.proofs.fault.lawful_front.Goals as goal
 
 pub loop-i-preserved : goal.loop-i-preserved
-loop-i-preserved c = subst (λ (l : List Stamped). StandsFor c.args.c.now c.issue.new.self l) (sym (take_more c.args.list.now c.loop-i.i _ c.loop-i-test.true)) (c.issue.ensures _ c.loop-i.invariant ((c.if-not-ready.ensures.exact _ c.loop-i.invariant).0 refl))
+loop-i-preserved c =
+    subst (λ (l : List Stamped). StandsFor c.args.c.now c.issue.new.self l) (sym (take_more c.args.list.now c.loop-i.i _ c.loop-i-test.true))
+    (c.issue.ensures _ c.loop-i.invariant ((c.if-not-ready.ensures.exact _ c.loop-i.invariant).0 refl))
 
 pub returns-clause-lawful : goal.returns-clause-lawful
 returns-clause-lawful c = subst (λ (n : ℕ). IsLawful c.args.c.now (take n c.args.list.now)) (omega arith) c.loop-i.invariant.lawful
