@@ -8,15 +8,6 @@ use ddr4_timing::timing::{Checked, Geometry};
 use std::alloc::Global;
 use std::time::Instant;
 
-// A geometry of these ranks and bank groups.
-fn geometry(ranks: u64, groups: u64) -> Geometry {
-    Geometry {
-        ranks,
-        groups,
-        ..SMALL
-    }
-}
-
 // Issues a command at its least clock, where there is one.
 fn step(banks: &mut Banks, cmd: Command) -> Option<Stamped> {
     let clock = banks.earliest(cmd)?;
@@ -100,7 +91,11 @@ fn time_lists(rt: &HostRuntime, checked: &Checked, commands: &[Command]) -> anyh
 // Prints the last clock of rounds on three geometries, and nanoseconds where it is timed.
 pub(crate) fn show(rt: &HostRuntime, timed: bool) -> anyhow::Result<()> {
     for (ranks, groups) in [(1, 2), (2, 4), (4, 4)] {
-        let g = geometry(ranks, groups);
+        let g = Geometry {
+            ranks,
+            groups,
+            ..SMALL
+        };
         let checked = TINY.check(&g)?;
         let commands = round(rt.alloc(), &g)?;
         let mut banks = Banks::new(&checked);

@@ -10,34 +10,25 @@ ghost use Rattle.interleave_map.specs.Interleaving.{place_by_lines, line_by_line
 use crate::load::{DEPTH, Load};
 use ddr4_timing::place::Place;
 use ddr4_timing::profiles::{SMALL, TINY, WIDEST};
-use ddr4_timing::timing::{Checked, Geometry};
+use ddr4_timing::timing::Checked;
 use drain_core::DrainReport;
 use interleave_map::line_map::LineMap;
 use interleave_map::lines;
 use interleave_map::map::Map;
 use std::time::Instant;
 
-/// What goes before a drain.
-#[derive(Clone, Copy)]
-enum Before {
-    /// No command.
-    Rested,
-    /// A full queue, until just before the refreshes may wait no longer.
-    Busy,
-}
-
 // One drain, and how many nanoseconds it took.
 fn drain_once<M: LineMap>(
     rt: &HostRuntime,
     map: &M,
     checked: &Checked,
-    before: Before,
+    busy: bool,
 ) -> anyhow::Result<(DrainReport, u128)>
     requires lawful { M.is_lawful map.now }
     requires geometry { M.geometry_of map.now ≡ checked.now.geometry }
 {
     let mut load = Load::new(rt.alloc(), map, checked)?;
-    if before == Before::Busy {
+    if busy {
         let lead = checked.timing.t_refi.saturating_mul(8);
         load.work_until(lead.saturating_sub(60))?;
     }
@@ -46,7 +37,7 @@ fn drain_once<M: LineMap>(
     Ok((report, start.elapsed(rt)?.as_nanos()))
 }
 
-fn time(rt: &HostRuntime, checked: Checked, before: Before) -> anyhow::Result<(DrainReport, u128)> {
+fn time(rt: &HostRuntime, checked: Checked, busy: bool) -> anyhow::Result<(DrainReport, u128)> {
     let split = move |line: u64| -> Place
         requires { line < lines_of checked.geometry }
         ensures { result ≡ place_by_lines checked.geometry line }
@@ -56,48 +47,30 @@ fn time(rt: &HostRuntime, checked: Checked, before: Before) -> anyhow::Result<(D
         ensures { result ≡ line_by_lines checked.geometry place }
     { lines::join(&checked, place) };
     let map = Map::new(split, join, &checked);
-    drain_once(rt, &map, &checked, before)
+    drain_once(rt, &map, &checked, busy)
 }
 
 // The mean of so many drains, in nanoseconds.
-fn mean(rt: &HostRuntime, checked: Checked, before: Before, count: u64) -> anyhow::Result<u128> {
+fn mean(rt: &HostRuntime, checked: Checked, busy: bool, count: u64) -> anyhow::Result<u128> {
     let mut sum: u128 = 0;
     for _ in 0..count {
-        let (_, nanos) = time(rt, checked, before)?;
+        let (_, nanos) = time(rt, checked, busy)?;
         sum = sum.saturating_add(nanos);
     }
     Ok(sum / (count as u128).max(1))
 }
 
-// A drain's clocks and what it spends, and nanoseconds where a count is given.
-fn show(
-    rt: &HostRuntime,
-    name: &str,
-    geometry: &Geometry,
-    before: Before,
-    count: Option<u64>,
-) -> anyhow::Result<()> {
-    let checked = TINY.check(geometry)?;
-    let (report, _) = time(rt, checked, before)?;
-    let word = match before {
-        Before::Rested => "rested",
-        Before::Busy => "busy",
-    };
-    let DrainReport { clocks, spent } = report;
-    print!(rt; "{name} {word}: {clocks} clocks for {DEPTH} writes, {spent} spent")?;
-    if let Some(count) = count {
-        let nanos = mean(rt, checked, before, count)?;
-        print!(rt; ", {nanos} nanoseconds")?;
-    }
-    println!(rt;)?;
-    Ok(())
-}
-
 // Prints the clocks of each drain and what it spends, and nanoseconds, the mean of so many, where a count is given.
-pub(crate) fn show_all(rt: &HostRuntime, count: Option<u64>) -> anyhow::Result<()> {
+pub(crate) fn show(rt: &HostRuntime, count: Option<u64>) -> anyhow::Result<()> {
     for (name, geometry) in [("tiny", SMALL), ("largest", WIDEST)] {
-        for before in [Before::Rested, Before::Busy] {
-            show(rt, name, &geometry, before, count)?;
+        let checked = TINY.check(&geometry)?;
+        for (word, busy) in [("rested", false), ("busy", true)] {
+            let (DrainReport { clocks, spent }, _) = time(rt, checked, busy)?;
+            print!(rt; "{name} {word}: {clocks} clocks for {DEPTH} writes, {spent} spent")?;
+            if let Some(count) = count {
+                print!(rt; ", {} nanoseconds", mean(rt, checked, busy, count)?)?;
+            }
+            println!(rt;)?;
         }
     }
     Ok(())

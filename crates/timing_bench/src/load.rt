@@ -1,13 +1,14 @@
 // A channel whose write queue is full.
 ghost use Rattle.std.specs.Prelude.{◌≡◌};
 
+use anyhow::Context;
 use chan_core::{Channel, Phase};
 use channel_answers::Served;
 use ddr4_timing::timing::Checked;
 use drain_core::laws::running_channel_may_drain;
 use drain_core::{DrainReport, drain};
 use energy_budget::{Costs, TINY_COSTS};
-use interleave_map::cells::cells;
+use interleave_map::cells::line_count;
 use interleave_map::line_map::LineMap;
 use std::alloc::Global;
 use std::marker::Model;
@@ -68,15 +69,13 @@ impl<'m, M: LineMap> Load<'m, M> {
             .salt
             .wrapping_mul(6_364_136_223_846_793_005)
             .wrapping_add(1_442_695_040_888_963_407);
-        let index = (self.salt >> 33) % cells(&self.checked) as u64;
-        let line = index.wrapping_mul(self.checked.geometry.channels);
+        let cell = (self.salt >> 33).wrapping_mul(self.checked.geometry.channels);
+        let line = cell % line_count(&self.checked);
         if !self.channel.has_line(self.map, line) || !self.channel.may_take(self.number) {
             anyhow::bail!("no such write");
         }
         let put = self.channel.put(self.map, self.number, line, [1; 64]);
-        if put.is_err() {
-            anyhow::bail!("no room for a write");
-        }
+        put.ok().context("no room for a write")?;
         self.number = self.number.wrapping_add(1);
         Ok(())
     }
@@ -84,9 +83,7 @@ impl<'m, M: LineMap> Load<'m, M> {
     /// Issues commands up to a clock, and replaces each write that was served.
     pub(crate) fn work_until(&mut self, until: u64) -> anyhow::Result<()> {
         for _ in 0..until {
-            let Some(done) = self.channel.work() else {
-                anyhow::bail!("idle");
-            };
+            let done = self.channel.work().context("idle")?;
             if let Some(Served::Write { .. }) = done.served {
                 self.put()?;
             }

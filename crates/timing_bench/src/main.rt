@@ -20,5 +20,5 @@ fn main(rt: HostRuntime) -> anyhow::Result<()> {
     };
     banks::show(&rt, count.is_some())?;
     maps::show(&rt, count.is_some())?;
-    drains::show_all(&rt, count)
+    drains::show(&rt, count)
 }

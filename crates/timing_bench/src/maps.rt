@@ -55,7 +55,8 @@ fn measure<M: LineMap>(
     Ok(())
 }
 
-fn measure_lines(rt: &HostRuntime, checked: Checked, timed: bool) -> anyhow::Result<()> {
+// Walks a geometry by both maps.
+fn measure_both(rt: &HostRuntime, checked: Checked, timed: bool) -> anyhow::Result<()> {
     let split = move |line: u64| -> Place
         requires { line < lines_of checked.geometry }
         ensures { result ≡ place_by_lines checked.geometry line }
@@ -64,11 +65,8 @@ fn measure_lines(rt: &HostRuntime, checked: Checked, timed: bool) -> anyhow::Res
         requires { LiesIn checked.geometry place }
         ensures { result ≡ line_by_lines checked.geometry place }
     { lines::join(&checked, place) };
-    let map = Map::new(split, join, &checked);
-    measure(rt, "lines", &map, &checked, timed)
-}
-
-fn measure_xor(rt: &HostRuntime, checked: Checked, timed: bool) -> anyhow::Result<()> {
+    let by_lines = Map::new(split, join, &checked);
+    measure(rt, "lines", &by_lines, &checked, timed)?;
     let split = move |line: u64| -> Place
         requires { line < lines_of checked.geometry }
         ensures { result ≡ place_by_xor checked.geometry line }
@@ -77,16 +75,14 @@ fn measure_xor(rt: &HostRuntime, checked: Checked, timed: bool) -> anyhow::Resul
         requires { LiesIn checked.geometry place }
         ensures { result ≡ line_by_xor checked.geometry place }
     { xor::join(&checked, place) };
-    let map = Map::new(split, join, &checked);
-    measure(rt, "xor", &map, &checked, timed)
+    let by_xor = Map::new(split, join, &checked);
+    measure(rt, "xor", &by_xor, &checked, timed)
 }
 
 // Takes each line there and back, prints how many lie on channel 0, and nanoseconds a line where it is timed.
 pub(crate) fn show(rt: &HostRuntime, timed: bool) -> anyhow::Result<()> {
     for geometry in [SMALL, WIDEST] {
-        let checked = TINY.check(&geometry)?;
-        measure_lines(rt, checked, timed)?;
-        measure_xor(rt, checked, timed)?;
+        measure_both(rt, TINY.check(&geometry)?, timed)?;
     }
     Ok(())
 }
