@@ -1,7 +1,8 @@
 -- The margin before the first command, and what it leaves to a drain and to each rank's REF.
 use Rattle.std.proofs.Common.{ℕ, ◌+◌, ◌*◌, ◌<◌, ◌⊎◌, List, [], IsTrue, inl, inr, arith}
 use Rattle.frfcfs.proofs.Common.{AllClosed, Checked, IsLawful, KeepsMargin, MayClose, MayRefresh, PreAll, Stamped, close_of, entry_of, floor, greatest, is_asleep, last_clock, last_ref, ref_count, with_command}
-use Rattle.ddr4_timing.proofs.FloorLemmas.{is_asleep_push, or_false}
+use Rattle.std.proofs.Math.Bool.{or-false}
+use Rattle.ddr4_timing.proofs.FloorLemmas.{is_asleep_push}
 use Rattle.frfcfs.proofs.refreshes.OffersInTime.{IsUp, close_due, first_offer, ref_due, refresh-lt}
 use Rattle.frfcfs.proofs.refreshes.OwnRefreshes.{after_close}
 use Rattle.frfcfs.proofs.refreshes.RefreshCounts.{commands_before-lt, last_clock_push}
@@ -38,7 +39,7 @@ may_close c list rank u some =
     let up : IsUp c (with_command list f.0 (PreAll rank)) rank = record {
       lawful = f.3.lawful;
       within = u.within;
-      awake = rw (is_asleep_push rank list x, or_false (is_asleep rank list)) u.awake;
+      awake = rw (is_asleep_push rank list x, or-false (is_asleep rank list)) u.awake;
       time = rw (last_clock_push list x) (after_close c list f.0 rank u f.1 f.2);
     } in
     (f.0, f.1, f.3.lawful, may_refresh c (with_command list f.0 (PreAll rank)) rank up (closed_after c.geometry rank f.0 list))
