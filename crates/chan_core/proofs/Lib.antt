@@ -14,4 +14,4 @@ pub mod Running
 pub mod Lasting
 pub mod Alone
 pub mod Below
-pub mod Found
+pub mod Fields

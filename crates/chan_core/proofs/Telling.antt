@@ -63,8 +63,3 @@ line-here s is place bytes within newest = sym (line-now s is (cell_of s.checked
 -- a line is loaded
 pub loads : (s : Contents) (place : Place) (cell : ℕ) (bytes : List ℕ) → AreContents s → s.waiting.requests ≡ [] → cell ≡ cell_of s.checked.geometry place → seen (record s { array = slice_set s.array cell bytes }) ≡ loaded_at (seen s) place bytes
 loads s place cell bytes is quiet same = rw (quiet-tickets s cell bytes is quiet, same)
-
--- one more open read, by the seq of its request
-pub opens : (reads : List OpenRead) (serial seq next line cell at : ℕ) → seq ≡ next
-    → reads ++ record { serial = serial; seq = seq; line = line; cell = cell; at = at; bytes = None } ∷ [] ≡ reads ++ record { serial = serial; seq = next; line = line; cell = cell; at = at; bytes = None } ∷ []
-opens reads serial seq next line cell at same = ap (λ (n : ℕ). reads ++ record { serial = serial; seq = n; line = line; cell = cell; at = at; bytes = None } ∷ []) same

@@ -2,7 +2,7 @@ use Rattle.std.proofs.Common.{◌≡◌, ℕ, List, Some, length, slice_get, get
 use Rattle.std.proofs.lemmas.Option.{slice_get_within, slice_get_read}
 use Rattle.chan_core.proofs.Common.{IsIndexOfSerial, OpenRead, contents_of}
 use Rattle.chan_core.proofs.Answering.{collect-holds}
-use Rattle.chan_core.proofs.Found.{fields_of}
+use Rattle.chan_core.proofs.Fields.{fields_of}
 use Rattle.chan_core.proofs.Telling.{collect-data, collect-pending, collect-unknown}
 use Rattle.chan_core.proofs.channel.Channel.collect.Goals as goal
 

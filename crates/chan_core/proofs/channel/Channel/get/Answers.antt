@@ -1,6 +1,6 @@
 use Rattle.std.proofs.Common.{refl, sym, arith}
 use Rattle.chan_core.proofs.Common.{contents_of}
-use Rattle.chan_core.proofs.Found.{fields_of}
+use Rattle.chan_core.proofs.Fields.{fields_of}
 use Rattle.chan_core.proofs.Going.{running-few}
 use Rattle.chan_core.proofs.Holding.{few-pending, get-holds}
 use Rattle.chan_core.proofs.Kept.{refuted}

@@ -1,6 +1,6 @@
 use Rattle.std.proofs.Common.{◌∷◌, [], length, ap, sym, arith, length-append}
 use Rattle.chan_core.proofs.Common.{Queue, contents_of, pending_write}
-use Rattle.chan_core.proofs.Found.{fields_of}
+use Rattle.chan_core.proofs.Fields.{fields_of}
 use Rattle.chan_core.proofs.Going.{running-few}
 use Rattle.chan_core.proofs.Holding.{put-holds, few-pending}
 use Rattle.chan_core.proofs.Telling.{adds}

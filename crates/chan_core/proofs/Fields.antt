@@ -1,4 +1,4 @@
--- What answers share.
+-- The fields of a channel whose contents are right, as its answers cite them.
 use Rattle.chan_core.specs.declared.channel_memory.ChannelMemory.TheInside.{Inside}
 use Rattle.chan_core.specs.Inside.{IsInside}
 
