@@ -1,9 +1,47 @@
-// The answers to arm, disarm and the beginning of a save.
+// Why a module refuses what it is asked, and the answers to arm and disarm.
 ghost use Rattle.std.specs.Prelude.{◌≡◌};
 ghost use Rattle.arm_state.specs.Refusals.{arm_refusal, disarm_refusal, save_refusal, energy_refusal_of};
 
 use crate::Mode;
 use thiserror::Error;
+
+/// Why a write was refused: the first that holds in the order 6, 4, 3, 5, 1, 2. Each is shown as its number, its name and
+/// its numbers.
+#[derive(Clone, Copy, Debug, PartialEq, Eq, Error)]
+pub enum WriteRefusal {
+    /// The line's channel has as many pending writes as its queue holds.
+    #[error("1 Full")]
+    Full,
+    /// The last reading is too low for one more write.
+    #[error("2 EnergyLow {need} {has}")]
+    EnergyLow { need: u64, has: u64 },
+    /// The module is disarming, or stranded at that.
+    #[error("3 Disarming")]
+    Disarming,
+    /// Mains were lost, or no life runs.
+    #[error("4 Closed")]
+    Closed,
+    /// The life has accepted as many writes as it has room for, or the number would be 2^62.
+    #[error("5 TrailFull")]
+    TrailFull,
+    /// The module has no such line.
+    #[error("6 NoSuchLine")]
+    NoSuchLine,
+}
+
+/// Why a read was refused: the first that holds in the order 6, 4, 1. Each is shown as its number and its name.
+#[derive(Clone, Copy, Debug, PartialEq, Eq, Error)]
+pub enum ReadRefusal {
+    /// The line's channel has as many reads that are pending or not collected as there is room for.
+    #[error("1 Full")]
+    Full,
+    /// Mains were lost, or no life runs.
+    #[error("4 Closed")]
+    Closed,
+    /// The module has no such line.
+    #[error("6 NoSuchLine")]
+    NoSuchLine,
+}
 
 /// Why arming, disarming or a save was refused. Each is shown as its number, its name and its numbers.
 #[derive(Clone, Copy, Debug, PartialEq, Eq, Error)]

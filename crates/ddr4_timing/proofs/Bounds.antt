@@ -3,7 +3,7 @@ use Rattle.std.proofs.Common.{◌≡◌, ◌≢◌, ℕ, ◌+◌, ◌≤◌, Boo
 use Rattle.ddr4_timing.proofs.Common.{Act, Command, FitsFaw, PreAll, Ref, Timing, demand_of, is_ref, most_gap, rank_of}
 use Rattle.ddr4_timing.proofs.GapParts.{tells_gaps}
 
-cond-le : (b : Bool) (v : ℕ) → cond b v 0 ≤ v
+pub cond-le : (b : Bool) (v : ℕ) → cond b v 0 ≤ v
 cond-le true v = omega arith
 cond-le false v = omega arith
 

@@ -8,7 +8,7 @@ use Rattle.std.proofs.lemmas.List.Folds.{list_any-append}
 use Rattle.ddr4_timing.proofs.Common.{Act, BankAddress, Command, Rd, Stamped, Timing, Wr, floor, greatest, is_act_of, is_asleep, is_ref_of, is_sre_of, last_ref, most_gap, open_row, pair_gap, ref_count, row_after, window}
 
 -- a demand that doesn't look at what is behind
-greatest_push : (f : Stamped → ℕ) (list : List Stamped) (x : Stamped) → greatest (λ a _. f a) (list ++ x ∷ []) ≡ max (greatest (λ a _. f a) list) (f x)
+pub greatest_push : (f : Stamped → ℕ) (list : List Stamped) (x : Stamped) → greatest (λ a _. f a) (list ++ x ∷ []) ≡ max (greatest (λ a _. f a) list) (f x)
 unfolding greatest
 greatest_push f [] x = omega arith
 greatest_push f (a ∷ list) x = let h = greatest_push f list x in omega (arith, h)

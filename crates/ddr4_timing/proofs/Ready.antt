@@ -27,7 +27,7 @@ most_gap-le : (t : Timing) (a b : Command) (d : ℕ) → ((rule : Rule) → pair
 unfolding most_gap
 most_gap-le t a b d h = largest_below (λ rule. pair_gap t rule a b) every_rule d h
 
-most_gap_some : (t : Timing) (a b : Command) → 1 ≤ most_gap t a b
+pub most_gap_some : (t : Timing) (a b : Command) → 1 ≤ most_gap t a b
 unfolding pair_gap
 most_gap_some t a b = pair_gap-le t Order a b
 

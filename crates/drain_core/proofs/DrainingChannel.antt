@@ -4,6 +4,7 @@ use Rattle.std.specs.Prelude.{All}
 use Rattle.std.specs.List.{filter_map, cons_option}
 use Rattle.std.proofs.Math.Nat.{mul-le-mul_left}
 use Rattle.std.proofs.Math.Seq.{drop-append_seam}
+use Rattle.std.proofs.lemmas.List.{nil_from_length}
 use Rattle.ddr4_timing.specs.declared.command.Stamped.{Stamped}
 use Rattle.ddr4_timing.specs.declared.place.Place.{Place}
 use Rattle.ddr4_timing.specs.declared.timing.Checked.{Checked}
@@ -112,10 +113,6 @@ pub no_requests : (requests : List Pending) → All (λ p. p.kind ≡ Write) req
 no_requests [] all e = refl
 no_requests (p ∷ requests) all e = absurd (one_placed p.kind (p.number, p.place) (filter_map placed_write requests) (All-at (λ (p : Pending). p.kind ≡ Write) (p ∷ requests) 0 p all refl) e)
 
-nothing : {X : Type 0} (xs : List X) → length xs ≡ 0 → xs ≡ []
-nothing [] e = refl
-nothing (x ∷ xs) e = absurd (omega (arith, e))
-
 pub few_places : (s : ChannelState) → IsHeld s → length (pending_places s) ≤ 64
 few_places s held = let many = places_length s held in omega (arith, many, held.writes.few, held.writes.most)
 
@@ -159,7 +156,7 @@ module _ {n : CostNumbers} {first old now final : ChannelState} {end slept : Ste
   i = subst (λ (s : ChannelState). IsDraining n first s end) (sym look.1) before
 
   none_placed : placed_writes now ≡ []
-  none_placed = nothing (placed_writes now) (placed_length now held ∙ ap length none)
+  none_placed = nil_from_length (placed_writes now) (placed_length now held ∙ ap length none)
 
   drained_progress : progress_of final slept.clock ≡ drain_of_channel first
   unfolding drain_of

@@ -14,13 +14,14 @@ use Rattle.ddr4_timing.specs.Places.{HasBank, LiesIn, bank_at}
 use Rattle.ddr4_timing.proofs.FloorLemmas.{floor_push, open_row_push}
 use Rattle.drain_core.specs.Drain.{Progress, drain_start, with_earliest, next_clock, rest_clock, after_rest, entry_step_of, after_refreshes}
 use Rattle.chan_core.specs.Phases.{AreAwake}
+use Rattle.chan_core.proofs.Sleeping.{awake-more}
 use Rattle.drain_core.specs.Standing.{AfterEntries, AreClosed, IsBetweenSteps}
 use Rattle.drain_core.proofs.Gaps.{eqb-same, gap-act_wr, gap-act_pre, gap-wr_pre}
 use Rattle.drain_core.proofs.LawfulLists.{drain_start_push}
 use Rattle.drain_core.proofs.Settling.{settle_clock, settle_clock-le, rest_clock_push}
 use Rattle.drain_core.proofs.Rested.{least-Act, floor-Wr, floor-Pre}
 use Rattle.drain_core.specs.Steps.{MayGo}
-use Rattle.drain_core.proofs.OneCommand.{with_earliest-lawful, awake_next, last_ref-calm}
+use Rattle.drain_core.proofs.OneCommand.{with_earliest-lawful, last_ref-calm}
 use Rattle.drain_core.proofs.Refreshing.{IsRefreshed, refreshed}
 
 -- behind the ACT, the WR and the PRE of a write at a place
@@ -142,7 +143,7 @@ module _ (c : Checked) (start p : Progress) (place : Place) (lies : LiesIn c.geo
   act_lawful = with_earliest-lawful c p (Act (bank_at place) place.row) r.lawful may_act
 
   act_awake : AreAwake c (after_act c.timing place p).list
-  act_awake = rw (act_list c start p place r) (awake_next c p.list (record { clock = p.clock; cmd = Act (bank_at place) place.row }) refl r.awake)
+  act_awake = rw (act_list c start p place r) (awake-more c p.list (record { clock = p.clock; cmd = Act (bank_at place) place.row }) refl r.awake)
 
   -- whatever was open there, and none was
   act_row : (bank : BankAddress) → open_row bank (after_act c.timing place p).list ≡ row_after bank (open_row bank p.list) (Act (bank_at place) place.row)
@@ -165,7 +166,7 @@ module _ (c : Checked) (start p : Progress) (place : Place) (lies : LiesIn c.geo
   wr_lawful = with_earliest-lawful c (after_act c.timing place p) (Wr (bank_at place) place.column) act_lawful may_wr
 
   wr_awake : AreAwake c (after_wr c.timing place p).list
-  wr_awake = rw (wr_list c start p place r) (awake_next c (after_act c.timing place p).list (record { clock = p.clock + c.timing.t_rcd; cmd = Wr (bank_at place) place.column }) refl act_awake)
+  wr_awake = rw (wr_list c start p place r) (awake-more c (after_act c.timing place p).list (record { clock = p.clock + c.timing.t_rcd; cmd = Wr (bank_at place) place.column }) refl act_awake)
 
   wr_row : (bank : BankAddress) → open_row bank (after_wr c.timing place p).list ≡ open_row bank (after_act c.timing place p).list
   wr_row bank = rw (wr_list c start p place r) (open_row_push bank (after_act c.timing place p).list (record { clock = p.clock + c.timing.t_rcd; cmd = Wr (bank_at place) place.column }))
@@ -184,7 +185,7 @@ module _ (c : Checked) (start p : Progress) (place : Place) (lies : LiesIn c.geo
   pre_lawful = with_earliest-lawful c (after_wr c.timing place p) (Pre (bank_at place)) wr_lawful may_pre
 
   pub pre_awake : AreAwake c (after_pre c.timing place p).list
-  pre_awake = rw (pre_list c start p place r) (awake_next c (after_wr c.timing place p).list (record { clock = p.clock + row_open c.timing; cmd = Pre (bank_at place) }) refl wr_awake)
+  pre_awake = rw (pre_list c start p place r) (awake-more c (after_wr c.timing place p).list (record { clock = p.clock + row_open c.timing; cmd = Pre (bank_at place) }) refl wr_awake)
 
   pre_refs : (rank : ℕ) → last_ref rank (after_pre c.timing place p).list ≡ last_ref rank p.list
   pre_refs rank = rw (pre_list c start p place r) (last_ref-calm rank (after_wr c.timing place p).list (record { clock = p.clock + row_open c.timing; cmd = Pre (bank_at place) }) refl ∙ wr_refs rank)

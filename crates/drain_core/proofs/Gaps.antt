@@ -1,6 +1,5 @@
 -- How long the commands of a drain wait for those before them.
 use Rattle.std.proofs.Common.{◌≡◌, ℕ, ◌+◌, ◌≤◌, Bool, true, false, cond, eqb, arith, refl, ap, ◌∙◌}
-use Rattle.std.proofs.Math.Nat.{le-max_left}
 use Rattle.std.specs.Prelude.{max, ◌==◌, ◌&&◌}
 use Rattle.std.proofs.lemmas.Bool.{and_parts, eq-eqb, eqb-true}
 use Rattle.ddr4_timing.specs.declared.command.Command.{Command}
@@ -10,20 +9,13 @@ use Rattle.ddr4_timing.specs.declared.timing.Timing.{Timing}
 use Rattle.ddr4_timing.specs.declared.timing.Checked.{Checked}
 use Rattle.ddr4_timing.specs.Command.{bank_of, rank_of}
 use Rattle.ddr4_timing.specs.Demands.{Demand, demand_of}
-use Rattle.ddr4_timing.specs.Gaps.{most_gap, pair_gap}
+use Rattle.ddr4_timing.specs.Gaps.{most_gap}
 use Rattle.ddr4_timing.specs.Places.{is_bank, is_group}
 use Rattle.ddr4_timing.proofs.Addresses.{same_address}
 use Rattle.ddr4_timing.proofs.GapParts.{tells_gaps}
+use Rattle.ddr4_timing.proofs.Bounds.{cond-le}
 
 -- a clock at least
-pub most_gap_some : (t : Timing) (a b : Command) → 1 ≤ most_gap t a b
-unfolding most_gap pair_gap
-most_gap_some t a b = le-max_left 1 _
-
-pub cond-le : (b : Bool) (v : ℕ) → cond b v 0 ≤ v
-cond-le true v = omega arith
-cond-le false v = omega arith
-
 -- a gap under a test is at most each of two bounds
 cond-le2 : (b c : Bool) (v w d : ℕ) → v ≤ d → w ≤ d → cond b (cond c v w) 0 ≤ d
 cond-le2 true true v w d h k = h

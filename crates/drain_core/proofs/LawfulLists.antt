@@ -12,9 +12,9 @@ use Rattle.ddr4_timing.specs.Command.{rank_of}
 use Rattle.ddr4_timing.specs.Floors.{greatest, floor, least_clock}
 use Rattle.ddr4_timing.specs.Gaps.{most_gap}
 use Rattle.ddr4_timing.specs.Lawful.{IsLawful, KeepsRows, last_ref}
-use Rattle.ddr4_timing.proofs.Ready.{lawful_ready, ready_lawful, IsLawful-take}
+use Rattle.ddr4_timing.proofs.Ready.{lawful_ready, ready_lawful, IsLawful-take, most_gap_some}
+use Rattle.ddr4_timing.proofs.FloorLemmas.{greatest_push}
 use Rattle.bank_core.specs.Stands.{with_command}
-use Rattle.drain_core.proofs.Gaps.{most_gap_some}
 use Rattle.drain_core.specs.Drain.{drain_start}
 
 -- a command that the banks want, from its least clock on, before its rank's deadline
@@ -52,11 +52,6 @@ module _ (c : Checked) (P : List Stamped → Type 0) (next : (list : List Stampe
   by_push none list lawful = push_on [] list lawful none
 
 -- the greatest of clocks and gaps
-
-pub greatest_push : (f : Stamped → ℕ) (list : List Stamped) (x : Stamped) → greatest (λ a _. f a) (list ++ x ∷ []) ≡ max (greatest (λ a _. f a) list) (f x)
-unfolding greatest
-greatest_push f [] x = omega arith
-greatest_push f (a ∷ list) x = let h = greatest_push f list x in omega (arith, h)
 
 pub greatest_above : (f : Stamped → List Stamped → ℕ) (g : Stamped → ℕ) (e : ℕ) (list : List Stamped) → ((x : Stamped) (later : List Stamped) → f x later ≤ g x + e) → greatest f list ≤ greatest (λ a _. g a) list + e
 unfolding greatest

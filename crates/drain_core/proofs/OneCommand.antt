@@ -1,41 +1,22 @@
 -- One more command of a drain.
-use Rattle.std.proofs.Common.{◌≡◌, ℕ, zero, suc, ◌<◌, Bool, true, false, cond, List, [], ◌∷◌, ◌++◌, Option, Some, None, IsTrue, arith, refl, subst, ap, ◌∙◌, inl, inr}
-use Rattle.std.specs.Prelude.{is_some, ◌||◌}
+use Rattle.std.proofs.Common.{◌≡◌, ℕ, zero, suc, ◌<◌, Bool, true, false, cond, List, [], ◌∷◌, ◌++◌, Option, Some, None, arith, refl, subst, ap, ◌∙◌, inl, inr}
+use Rattle.std.specs.Prelude.{is_some}
 use Rattle.std.proofs.lemmas.Bool.{cases_lt, or_parts, or_cases}
 use Rattle.ddr4_timing.specs.declared.command.Command.{Command}
 use Rattle.ddr4_timing.specs.declared.command.Command.TheVariants.{Act, Rd, Wr, Pre, PreAll, Ref, Sre}
 use Rattle.ddr4_timing.specs.declared.command.Stamped.{Stamped}
 use Rattle.ddr4_timing.specs.declared.timing.Geometry.{Geometry}
 use Rattle.ddr4_timing.specs.declared.timing.Checked.{Checked}
-use Rattle.ddr4_timing.specs.Command.{is_sre, is_sre_of, is_ref, is_ref_of}
-use Rattle.ddr4_timing.specs.Lawful.{AllClosed, IsLawful, open_row, is_asleep, last_ref}
-use Rattle.ddr4_timing.proofs.FloorLemmas.{is_asleep_push, last_ref_push}
+use Rattle.ddr4_timing.specs.Command.{is_ref, is_ref_of}
+use Rattle.ddr4_timing.specs.Lawful.{AllClosed, IsLawful, open_row, last_ref}
+use Rattle.ddr4_timing.proofs.FloorLemmas.{last_ref_push}
 use Rattle.drain_core.specs.Steps.{MayGo}
 use Rattle.drain_core.specs.Drain.{Progress, next_clock, with_earliest, any_below, has_open_bank}
-use Rattle.chan_core.specs.Phases.{AreAwake}
 use Rattle.drain_core.proofs.LawfulLists.{lawful_next}
 
 pub with_earliest-lawful : (c : Checked) (p : Progress) (cmd : Command) → IsLawful c p.list → MayGo c p cmd → IsLawful c (with_earliest c.timing cmd p).list
 unfolding with_earliest
 with_earliest-lawful c p cmd lawful m = lawful_next c p.list (next_clock c.timing cmd p) cmd lawful m.rows (omega arith) m.in_time
-
--- no command but SRE puts a rank to sleep
-
-both_awake : (a b : Bool) → b ≡ false → (¬ IsTrue a) → ¬ IsTrue (a || b)
-both_awake true b e h s = h s
-both_awake false b e h s = absurd cc
-
-sre_of : (rank : ℕ) (cmd : Command) → is_sre cmd ≡ false → is_sre_of rank cmd ≡ false
-sre_of rank (Act at row) e = refl
-sre_of rank (Rd at column) e = refl
-sre_of rank (Wr at column) e = refl
-sre_of rank (Pre at) e = refl
-sre_of rank (PreAll r) e = refl
-sre_of rank (Ref r) e = refl
-sre_of rank (Sre r) e = absurd cc
-
-pub awake_next : (c : Checked) (list : List Stamped) (x : Stamped) → is_sre x.cmd ≡ false → AreAwake c list → AreAwake c (list ++ x ∷ [])
-awake_next c list x e awake rank within = rw (is_asleep_push rank list x) (both_awake (is_asleep rank list) (is_sre_of rank x.cmd) (sre_of rank x.cmd e) (awake rank within))
 
 -- none but REF counts as one
 

@@ -1,7 +1,7 @@
 -- The places of a channel's pending writes.
-use Rattle.std.proofs.Common.{◌≡◌, ℕ, zero, suc, List, [], ◌∷◌, length, map, slice_get, get_or, Some, None, arith, refl, sym, ap, subst, ◌∙◌}
+use Rattle.std.proofs.Common.{◌≡◌, ℕ, zero, suc, List, [], ◌∷◌, length, slice_get, get_or, Some, None, refl, sym, ap, subst, ◌∙◌}
 use Rattle.std.specs.List.{All, filter_map, cons_option}
-use Rattle.std.proofs.lemmas.List.{length-map}
+use Rattle.std.proofs.lemmas.List.{length-map, nil_from_length}
 use Rattle.std.proofs.lemmas.Option.{slice_get-get_or}
 use Rattle.ddr4_timing.specs.declared.place.Place.{Place}
 use Rattle.ddr4_timing.specs.declared.timing.Geometry.{Geometry}
@@ -13,6 +13,7 @@ use Rattle.frfcfs.proofs.Lists.{All-at}
 use Rattle.chan_core.specs.Always.{IsHeld}
 use Rattle.chan_core.specs.Contents.{IsRightRequest, queued_key, write_key, write_of}
 use Rattle.chan_core.specs.State.{ChannelState, placed, placed_write, placed_writes}
+use Rattle.chan_core.proofs.Kept.{map-from}
 use Rattle.drain_core.specs.Steps.{pending_places}
 
 -- each lies in the geometry
@@ -30,14 +31,9 @@ placed_lies g (p ∷ requests) lie j w e = placed_head g p.kind p.number p.place
 pub pending_lies : (s : ChannelState) (j : ℕ) (w : ℕ × Place) → IsHeld s → slice_get (placed_writes s) j ≡ Some w → LiesIn s.checked.geometry w.1
 pending_lies s j w held e = placed_lies s.checked.geometry s.requests (λ i p at. (All-at (IsRightRequest s.checked.geometry s.channel s.hold) s.requests i p held.right at).lies) j w e
 
-map_at : {X Y : Type 0} (f : X → Y) (xs : List X) (k : ℕ) (y : Y) → slice_get (map f xs) k ≡ Some y → (x : X) × (slice_get xs k ≡ Some x) × (f x ≡ y)
-map_at f [] k y e = absurd cc
-map_at f (x ∷ xs) zero y e = (x, refl, cc)
-map_at f (x ∷ xs) (suc k) y e = map_at f xs k y e
-
 pub all_lie : (s : ChannelState) → IsHeld s → All (LiesIn s.checked.geometry) (pending_places s)
 all_lie s held k d within =
-    let at = map_at (λ (w : ℕ × Place). w.1) (placed_writes s) k (get_or (pending_places s) k d) (slice_get-get_or (pending_places s) k d within) in
+    let at = map-from (λ (w : ℕ × Place). w.1) (placed_writes s) k (get_or (pending_places s) k d) (slice_get-get_or (pending_places s) k d within) in
     subst (LiesIn s.checked.geometry) at.2 (pending_lies s k at.0 held at.1)
 
 -- there are as many as writes
@@ -58,16 +54,12 @@ places_length s held = length-map (placed_writes s) (λ (w : ℕ × Place). w.1)
 
 -- the oldest
 
-nothing : {X : Type 0} (xs : List X) → length xs ≡ 0 → xs ≡ []
-nothing [] e = refl
-nothing (x ∷ xs) e = absurd (omega (arith, e))
-
 no_oldest : {X : Type 0} (xs : List X) → slice_get xs 0 ≡ None → length xs ≡ 0
 no_oldest [] e = refl
 no_oldest (x ∷ xs) e = absurd cc
 
 pub none_pending : (s : ChannelState) → IsHeld s → slice_get (placed_writes s) 0 ≡ None → s.writes ≡ []
-none_pending s held e = nothing s.writes (sym (placed_length s held) ∙ no_oldest (placed_writes s) e)
+none_pending s held e = nil_from_length s.writes (sym (placed_length s held) ∙ no_oldest (placed_writes s) e)
 
 pub first_and_rest : {X : Type 0} (xs : List X) (x : X) → slice_get xs 0 ≡ Some x → (rest : List X) × (xs ≡ x ∷ rest)
 first_and_rest [] x e = absurd cc

@@ -17,12 +17,13 @@ use Rattle.frfcfs.proofs.refreshes.RefreshCounts.{ref_of_other, count_same, last
 use Rattle.frfcfs.proofs.refreshes.RowsClosed.{closed_push}
 use Rattle.drain_core.specs.Drain.{Progress, drain_start, with_earliest, next_clock, for_each_rank, rest_clock, after_rest, owes_refresh, refresh_rank, after_refreshes}
 use Rattle.chan_core.specs.Phases.{AreAwake}
+use Rattle.chan_core.proofs.Sleeping.{awake-more}
 use Rattle.drain_core.specs.Standing.{AreClosed, HaveClocks, IsBetweenSteps}
 use Rattle.drain_core.proofs.LawfulLists.{drain_start_push}
 use Rattle.drain_core.proofs.Settling.{settle_clock, settle_clock-le, rest_clock_push}
 use Rattle.drain_core.proofs.Rested.{floor-Ref}
 use Rattle.drain_core.specs.Steps.{MayGo}
-use Rattle.drain_core.proofs.OneCommand.{with_earliest-lawful, awake_next}
+use Rattle.drain_core.proofs.OneCommand.{with_earliest-lawful}
 
 -- So many ranks were seen to, from the start of an entry on.
 pub record IsRefreshing (c : Checked) (start : Progress) (ranks : ℕ) (p : Progress) : Type 0 where
@@ -162,7 +163,7 @@ refreshing_goes c start rank p may at i =
     let x : Stamped = record { clock = k; cmd = Ref rank } in
     let room = entry_of t g + 2 * g.ranks in record {
       lawful = with_earliest-lawful c p (Ref rank) i.lawful may;
-      awake = awake_next c p.list x refl i.awake;
+      awake = awake-more c p.list x refl i.awake;
       closed = λ r within. closed_push g r p.list x refl (i.closed r within);
       counts = λ r l. count_same r k p.list (Ref rank) (ref_of_other r (Ref rank) (other_rank rank r (omega arith))) ∙ i.counts r (omega arith);
       refreshes = λ r l. last_same r k p.list (Ref rank) (ref_of_other r (Ref rank) (other_rank rank r (omega arith))) ∙ i.refreshes r (omega arith);

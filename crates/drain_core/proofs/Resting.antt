@@ -5,17 +5,18 @@ use Rattle.ddr4_timing.specs.declared.command.Command.{Command}
 use Rattle.ddr4_timing.specs.declared.command.Command.TheVariants.{Act, Rd, Wr, Pre, PreAll, Ref, Sre}
 use Rattle.ddr4_timing.specs.declared.command.Stamped.{Stamped}
 use Rattle.ddr4_timing.specs.declared.timing.Timing.{Timing}
-use Rattle.ddr4_timing.specs.declared.timing.Geometry.{Geometry}
 use Rattle.ddr4_timing.specs.declared.timing.Checked.{Checked}
 use Rattle.ddr4_timing.specs.Command.{rank_of}
 use Rattle.ddr4_timing.specs.Demands.{demand_of}
 use Rattle.ddr4_timing.specs.Floors.{greatest, floor}
 use Rattle.ddr4_timing.specs.Gaps.{most_gap}
-use Rattle.ddr4_timing.specs.Lawful.{IsInGeometry, IsLawful}
+use Rattle.ddr4_timing.specs.Lawful.{IsLawful}
 use Rattle.ddr4_timing.proofs.FloorLemmas.{floor_push}
 use Rattle.ddr4_timing.proofs.GapParts.{tells_gaps}
+use Rattle.ddr4_timing.proofs.Bounds.{cond-le}
+use Rattle.ddr4_timing.proofs.Addresses.{rank_within}
 use Rattle.drain_core.specs.Drain.{drain_start, rest_gap, rest_clock}
-use Rattle.drain_core.proofs.Gaps.{cond-le, eqb-same}
+use Rattle.drain_core.proofs.Gaps.{eqb-same}
 use Rattle.drain_core.proofs.LawfulLists.{by_push, drain_start_push, drain_start-floor, lawful_last}
 use Rattle.drain_core.proofs.Settling.{rest_clock_push}
 
@@ -37,15 +38,6 @@ rest-le_gap t a =
 
 gap-le_rest : (t : Timing) (a : Command) (rank : ℕ) → most_gap t a (Sre rank) ≤ max 1 (rest_gap t a)
 gap-le_rest t a rank = omega (arith, (tells_gaps t a).sleep rank, cond-le (eqb (rank_of a) rank) (demand_of t a).rank_idle, idle_rest t a)
-
-rank_within : (g : Geometry) (a : Command) → IsInGeometry g a → rank_of a < g.ranks
-rank_within g (Act at row) h = h.0.rank
-rank_within g (Rd at column) h = h.0.rank
-rank_within g (Wr at column) h = h.0.rank
-rank_within g (Pre at) h = h.rank
-rank_within g (PreAll rank) h = h
-rank_within g (Ref rank) h = h
-rank_within g (Sre rank) h = h
 
 -- each rank's SRE could go by then
 abbrev pub MaySleepBy : Checked → List Stamped → ℕ → Type 0

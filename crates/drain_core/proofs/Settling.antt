@@ -12,11 +12,11 @@ use Rattle.ddr4_timing.specs.Floors.{greatest, floor}
 use Rattle.ddr4_timing.specs.Gaps.{most_gap}
 use Rattle.ddr4_timing.specs.Lawful.{IsLawful, KeepsRows, row_after, open_row}
 use Rattle.ddr4_timing.specs.Places.{HasBank}
-use Rattle.ddr4_timing.proofs.FloorLemmas.{open_row_push}
+use Rattle.ddr4_timing.proofs.FloorLemmas.{open_row_push, greatest_push}
 use Rattle.drain_core.specs.Drain.{rest_gap, rest_clock, drain_start}
 use Rattle.drain_core.specs.Standing.{AreClosed}
 use Rattle.drain_core.proofs.Gaps.{uses, is_at, is_at-same, eqb-same, settle_gap, settles-Pre, settles-PreAll}
-use Rattle.drain_core.proofs.LawfulLists.{IsLast, lawful_last, by_push, greatest_push, greatest_above, drain_start_push, drain_start-floor}
+use Rattle.drain_core.proofs.LawfulLists.{IsLast, lawful_last, by_push, greatest_above, drain_start_push, drain_start-floor}
 
 -- the clock by which all that a bank was used for is settled
 abbrev used_until : Timing → BankAddress → List Stamped → ℕ

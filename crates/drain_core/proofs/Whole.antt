@@ -115,11 +115,15 @@ drain_start-last list = start_behind 0 0 list (omega arith)
 has_clocks : (s now cl e r last t : ℕ) → s ≤ now + 1 → now + 1 + cl + 2 * e + 4 * r < last + 9 * t → s + (cl + r) ≤ last + 9 * t
 has_clocks s now cl e r last t h l = omega arith
 
-pub margin_lets_drain : (c : Checked) (list : List Stamped) → IsLawful c list → KeepsMargin c list → AreAwake c list → last_clock list < 2 ^ 62 → CanDrain c list
-margin_lets_drain c list lawful margin awake early =
+-- a channel whose refreshes have their time, as long as its clock is at most one command past where its scheduler stops
+pub early_lets_drain : (c : Checked) (list : List Stamped) → IsLawful c list → KeepsMargin c list → AreAwake c list → last_clock list < 2 ^ 62 + 2 ^ 24 → CanDrain c list
+early_lets_drain c list lawful margin awake early =
     let start = drain_start-last list in record {
       lawful = lawful;
       awake = awake;
       in_time = λ rank within. has_clocks (drain_start list) (last_clock list) (close_of c.timing c.geometry) (entry_of c.timing c.geometry) c.geometry.ranks _ _ start (drain_has_time c list rank margin within (awake rank within));
       early = omega (arith, start, early);
     }
+
+pub margin_lets_drain : (c : Checked) (list : List Stamped) → IsLawful c list → KeepsMargin c list → AreAwake c list → last_clock list < 2 ^ 62 → CanDrain c list
+margin_lets_drain c list lawful margin awake early = early_lets_drain c list lawful margin awake (omega (arith, early))

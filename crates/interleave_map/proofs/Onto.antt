@@ -1,11 +1,11 @@
 -- As many values as there is room for leave none out.
-use Rattle.std.specs.Prelude.{◌≡◌, ℕ, ◌<◌, ◌≤◌, ◌||◌, Bool, true, false, List, [], ◌∷◌, length, refl}
+use Rattle.std.specs.Prelude.{◌≡◌, ℕ, ◌<◌, ◌≤◌, true, false, List, [], ◌∷◌, length, refl}
 use Rattle.std.specs.List.{list_any, IsDistinct, AllByRecursion}
 use Rattle.std.proofs.Common.{arith, zero, suc, ⊎_elim, sym, ◌∙◌, ap, eqb}
-use Rattle.std.proofs.lemmas.Bool.{cases_Bool, cases_eq, eqb-true, eq-eqb}
-use Rattle.std.proofs.lemmas.Bool.Decides.{nat_tests}
+use Rattle.std.proofs.lemmas.Bool.{cases_Bool, cases_eq, eqb-true, eq-eqb, ne_eqb}
 use Rattle.std.proofs.lemmas.Map.Steps.{length-le_from_distinct_below}
 use Rattle.std.proofs.lemmas.Map.Keys.{IsDistinct-cons}
+use Rattle.std.proofs.Math.Bool.{or-true}
 
 -- the values at n - 1 down to 0
 abbrev pub values_below : (ℕ → ℕ) → ℕ → List ℕ
@@ -27,10 +27,7 @@ found f value (suc n) is_there = ⊎_elim
 -- what no number has as its value isn't found
 not_found : (f : ℕ → ℕ) (value n : ℕ) → ((i : ℕ) → i < n → f i ≡ value → ⊥) → AllByRecursion (λ y. eqb value y ≡ false) (values_below f n)
 not_found f value zero none = tt
-not_found f value (suc n) none = (differs value (f n) (λ same. none n (omega arith) (sym same)), not_found f value n (λ i below same. none i (omega arith) same))
-  where
-    differs : (a b : ℕ) → (a ≡ b → ⊥) → eqb a b ≡ false
-    differs a b other = grind (arith, nat_tests)
+not_found f value (suc n) none = (ne_eqb value (f n) (λ same. none n (omega arith) (sym same)), not_found f value n (λ i below same. none i (omega arith) same))
 
 distinct : (f : ℕ → ℕ) (n : ℕ) → ((i j : ℕ) → i < n → j < n → f i ≡ f j → i ≡ j) → IsDistinct eqb (values_below f n)
 unfolding IsDistinct
@@ -45,15 +42,11 @@ is_found : (f : ℕ → ℕ) (value n i : ℕ) → i < n → f i ≡ value → l
 is_found f value zero i below same = absurd (let bad : ⊥ = omega arith in bad)
 is_found f value (suc n) i below same = ⊎_elim
     (λ last. let here : eqb value (f n) ≡ true = eq-eqb value (f n) (sym same ∙ ap f last) in rw here refl)
-    (λ earlier. let rest : list_any (eqb value) (values_below f n) ≡ true = is_found f value n i (lower i n below earlier) same in rw rest (or_true (eqb value (f n))))
+    (λ earlier. let rest : list_any (eqb value) (values_below f n) ≡ true = is_found f value n i (lower i n below earlier) same in rw rest (or-true (eqb value (f n))))
     (cases_eq i n)
   where
     lower : (i n : ℕ) → i < suc n → (i ≡ n → ⊥) → i < n
     lower i n below other = grind arith
-
-    or_true : (b : Bool) → (b || true) ≡ true
-    or_true true = refl
-    or_true false = refl
 
 each_below : (n : ℕ) (f : ℕ → ℕ) (m : ℕ) → ((i : ℕ) → i < n → f i < n) → m < n → (value : ℕ) → list_any (eqb value) (m ∷ values_below f n) ≡ true → value < n
 each_below n f m within below value is_there = ⊎_elim

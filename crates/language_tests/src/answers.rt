@@ -1,8 +1,8 @@
 // The text of each answer.
-use arm_state::{ArmRefusal, Mode};
+use arm_state::{ArmRefusal, Loss, Mode, ReadRefusal, WriteRefusal};
 use ddr4_timing::command::{Command, Stamped};
 use ddr4_timing::place::BankAddress;
-use nv_script::{Answer, Loss, ReadRefusal, WriteRefusal};
+use nv_script::Answer;
 use slot_store::{RestoreError, Slot, Step, Verdict};
 use std::process::Abort;
 
@@ -129,7 +129,7 @@ fn of_losses_and_restores(rt: HostRuntime) {
     is_shown(&rt, Answer::Lost(Loss::Unsaved), "lost unsaved");
     is_shown(&rt, Answer::Lost(Loss::Dark), "lost dark");
     is_shown(&rt, Answer::Lost(Loss::Fault), "lost fault");
-    is_shown(&rt, Answer::Lost(Loss::Already), "lost already");
+    is_shown(&rt, Answer::Lost(Loss::Closed), "lost already");
     is_restored(&rt, Verdict::Complete, "restored 2 1 Complete");
     is_restored(
         &rt,

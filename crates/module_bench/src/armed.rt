@@ -6,13 +6,13 @@ use crate::measured::{Measured, Stall};
 use crate::opening::{DEPTH, open};
 use crate::picks::{Pick, Picks};
 use crate::rounds::formatted;
+use arm_state::Loss;
 use ddr4_timing::timing::Checked;
 use energy_budget::Meter;
 use interleave_map::cells::line_count;
 use interleave_map::line_map::{LineMap, Places};
 use line_channels::Drainable;
 use line_memory::Write;
-use module_core::Loss;
 use save_device::SaveDevice;
 use std::time::Instant;
 

@@ -3,11 +3,12 @@ ghost use Rattle.std.specs.Prelude.{◌≡◌};
 ghost use Rattle.module_core.specs.Stands.{HasDevice, setup_of};
 
 use crate::measured::{Measured, Stall};
+use arm_state::WriteRefusal;
 use channel_answers::{Collected, Got, Ticket};
 use energy_budget::Meter;
 use line_channels::Channels;
 use line_memory::{Line, Write};
-use module_core::{Module, StepReply, WriteRefusal};
+use module_core::{Module, StepReply};
 use save_device::SaveDevice;
 
 /// How often a channel is worked for one write or read.

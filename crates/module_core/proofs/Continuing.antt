@@ -8,8 +8,8 @@ use Rattle.arm_state.specs.Modes.{is_disarming, is_backed, has_ended}
 use Rattle.arm_state.specs.Moves.{mode_after}
 use Rattle.module_core.specs.declared.events.StepReply.{StepReply}
 use Rattle.module_core.specs.declared.events.StepReply.TheVariants as step
-use Rattle.module_core.specs.declared.events.Loss.{Loss}
-use Rattle.module_core.specs.declared.events.Loss.TheVariants as loss
+use Rattle.arm_state.specs.declared.loss.Loss.{Loss}
+use Rattle.arm_state.specs.declared.loss.Loss.TheVariants as loss
 use Rattle.module_core.specs.State.{Setup, Life, RunningSave, Machine, World}
 use Rattle.module_core.specs.Moves.{read_as, persisted_at_end, disarming, closed_unsaved}
 use Rattle.module_core.specs.Losses.{LosesMains, LoseStep}

@@ -8,8 +8,8 @@ use Rattle.slot_store.specs.declared.plan.Step.TheVariants.{Close, SyncClosed, H
 use Rattle.arm_state.specs.declared.mode.Mode.{Mode}
 use Rattle.arm_state.specs.declared.mode.Mode.TheVariants as modes
 use Rattle.line_channels.specs.Waits.{Waits}
-use Rattle.module_core.specs.declared.events.Loss.{Loss}
-use Rattle.module_core.specs.declared.events.Loss.TheVariants as loss
+use Rattle.arm_state.specs.declared.loss.Loss.{Loss}
+use Rattle.arm_state.specs.declared.loss.Loss.TheVariants as loss
 use Rattle.module_core.specs.State.{Setup, Store, Machine, World, newest_of, made_of}
 use Rattle.module_core.specs.Moves.{stepped, step_failed, saved_in, after_steps}
 use Rattle.module_core.specs.Losses.{LosesMains, SavesAll, EndsDark, EndsInFault, drain_count}

@@ -1,6 +1,7 @@
 -- What the machine keeps in each event.
-use Rattle.std.proofs.Common.{◌≡◌, ◌⊎◌, ℕ, Bool, true, false, refl, sym, ◌∙◌, ap, subst, inl, inr, ⊎_elim}
+use Rattle.std.proofs.Common.{◌≡◌, ℕ, Bool, true, false, refl, sym, ◌∙◌, ap, subst, ⊎_elim}
 use Rattle.std.specs.Prelude.{MatchBool, is_some, if◌then◌else◌, Option, Some, None, Result, Ok, Err}
+use Rattle.std.proofs.lemmas.Bool.{cases_Bool}
 use Rattle.line_memory.specs.declared.Write.{Write}
 use Rattle.arm_state.specs.declared.mode.Mode.{Mode}
 use Rattle.arm_state.specs.declared.mode.Mode.TheVariants as modes
@@ -18,12 +19,12 @@ use Rattle.channel_answers.specs.declared.answers.Got.{Got}
 use Rattle.channel_answers.specs.declared.answers.Ticket.{Ticket}
 use Rattle.channel_answers.specs.declared.answers.Collected.{Collected}
 use Rattle.module_core.specs.declared.events.Accepted.{Accepted}
-use Rattle.module_core.specs.declared.events.WriteRefusal.{WriteRefusal}
-use Rattle.module_core.specs.declared.events.ReadRefusal.{ReadRefusal}
+use Rattle.arm_state.specs.declared.refusal.WriteRefusal.{WriteRefusal}
+use Rattle.arm_state.specs.declared.refusal.ReadRefusal.{ReadRefusal}
 use Rattle.module_core.specs.declared.events.StepReply.{StepReply}
 use Rattle.module_core.specs.declared.events.StepReply.TheVariants as step
-use Rattle.module_core.specs.declared.events.Loss.{Loss}
-use Rattle.module_core.specs.declared.events.Loss.TheVariants as loss
+use Rattle.arm_state.specs.declared.loss.Loss.{Loss}
+use Rattle.arm_state.specs.declared.loss.Loss.TheVariants as loss
 use Rattle.module_core.specs.State.{Setup, RunningSave, Machine, World}
 use Rattle.module_core.specs.Refusals.{is_low, saves_of}
 use Rattle.module_core.specs.Moves.{read_as, sensed, disarming}
@@ -143,13 +144,9 @@ guarded_arm setup (Err refusals.Disarming) old new done guarded = moved old.mach
 guarded_arm setup (Err refusals.Closed) old new done guarded = moved old.machine new.machine (ap (λ (w : World). w.machine) done.2) guarded
 guarded_arm setup (Err refusals.Spent) old new done guarded = moved old.machine new.machine (ap (λ (w : World). w.machine) done.2) guarded
 
-either_way : (b : Bool) → (b ≡ true) ⊎ (b ≡ false)
-either_way true = inl refl
-either_way false = inr refl
-
 -- a module that has ended runs no save
 pub active : (m : Machine) (save : RunningSave) → IsGuarded m → m.store.saving ≡ Some save → has_ended m.mode ≡ false
-active m save guarded runs = ⊎_elim (λ is. let none : m.store.saving ≡ None = guarded.ended is in absurd (let bad : ⊥ = cc in bad)) (λ runs. runs) (either_way (has_ended m.mode))
+active m save guarded runs = ⊎_elim (λ is. let none : m.store.saving ≡ None = guarded.ended is in absurd (let bad : ⊥ = cc in bad)) (λ runs. runs) (cases_Bool (has_ended m.mode))
 
 guarded_made : (lines : ℕ) (save : RunningSave) (reply : StepReply) (m n : Machine) → IsGuarded m → m.store.saving ≡ Some save → MadeStep lines save reply m n → IsGuarded n
 guarded_made lines save (step.Did made) m n guarded runs done = moved _ n done.2 (guarded_did lines m guarded save runs (active m save guarded runs) made)

@@ -12,14 +12,14 @@ use Rattle.energy_budget.specs.Actions.{cost_of, total_cost}
 use Rattle.energy_budget.specs.Sums.{reserve, backing_level}
 use Rattle.energy_budget.proofs.Totals.{closing-cost}
 use Rattle.energy_budget.proofs.Rising.{reserve-le}
-use Rattle.module_core.specs.declared.events.Loss.{Loss}
-use Rattle.module_core.specs.declared.events.Loss.TheVariants as loss
+use Rattle.arm_state.specs.declared.loss.Loss.{Loss}
+use Rattle.arm_state.specs.declared.loss.Loss.TheVariants as loss
 use Rattle.module_core.specs.declared.events.Reply.TheVariants as replies
 use Rattle.module_core.specs.State.{Setup, Machine, World, pending_of, made_of}
 use Rattle.module_core.specs.Losses.{LoseStep, EndsDark, EndsInFault, closing_of, pending_each}
 use Rattle.module_core.specs.Headline.{IsBacked, IsHonest, StaysBacked, ticks_left}
 use Rattle.module_core.proofs.Backing.{IsKnown, falls, not_backed}
-use Rattle.module_core.proofs.Payments.{IsPaid, paid_of, cost_until, pending_each_size, sum_pending_each}
+use Rattle.module_core.proofs.Payments.{IsPaid, paid_of, cost_until, sum_pending_each, length-pending_each}
 
 -- a backing has the reserve, and one leak
 has_reserve : (costs : Costs) (k ticks : ℕ) → reserve costs k + costs.numbers.leak ≤ backing_level costs k ticks
@@ -31,7 +31,7 @@ module _ (setup : Setup) where
   closing_fits : (m : Machine) → IsKnown setup m → total_cost setup.shape.costs (closing_of setup m) ≤ reserve setup.shape.costs (pending_of m)
   closing_fits m known =
       let each = pending_each setup.shape.channel_of setup.shape.channels m.waits.writes in
-      let size : length each ≡ setup.shape.costs.channels = pending_each_size setup.shape.channel_of setup.shape.channels m.waits.writes ∙ known.shape.channels in
+      let size : length each ≡ setup.shape.costs.channels = length-pending_each setup.shape.channel_of setup.shape.channels m.waits.writes ∙ known.shape.channels in
       omega (arith, closing-cost setup.shape.costs each size, reserve-le setup.shape.costs (sum each) (pending_of m) (sum_pending_each setup.shape.channel_of setup.shape.channels m.waits.writes))
 
   -- no payment is refused

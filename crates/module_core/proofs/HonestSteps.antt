@@ -25,9 +25,9 @@ use Rattle.line_channels.specs.Waits.{Waits, Goes}
 use Rattle.line_channels.specs.View.{IsShape, is_full}
 use Rattle.line_channels.specs.Answers.{IsServed, IsGot}
 use Rattle.module_core.specs.declared.events.Accepted.{Accepted}
-use Rattle.module_core.specs.declared.events.WriteRefusal.{WriteRefusal}
-use Rattle.module_core.specs.declared.events.WriteRefusal.TheVariants as write
-use Rattle.module_core.specs.declared.events.ReadRefusal.{ReadRefusal}
+use Rattle.arm_state.specs.declared.refusal.WriteRefusal.{WriteRefusal}
+use Rattle.arm_state.specs.declared.refusal.WriteRefusal.TheVariants as write
+use Rattle.arm_state.specs.declared.refusal.ReadRefusal.{ReadRefusal}
 use Rattle.module_core.specs.State.{Setup, RunningSave, Machine, pending_of, hold_of}
 use Rattle.module_core.specs.Refusals.{need_for, is_low, is_trail_full, lacks_energy, write_refusal}
 use Rattle.module_core.specs.Moves.{begun, disarming, read_as, sensed}

@@ -2,6 +2,7 @@
 use Rattle.std.proofs.Common.{◌≡◌, ◌⊎◌, ◌≤◌, List, length, Bool, true, false, refl, sym, ◌∙◌, ap, subst, inl, inr, ⊎_elim, arith}
 use Rattle.std.specs.Prelude.{Option, Some, None, if◌then◌else◌}
 use Rattle.std.specs.Option.{ForSome}
+use Rattle.std.proofs.lemmas.Bool.{cases_Bool}
 use Rattle.line_memory.specs.declared.Write.{Write}
 use Rattle.line_memory.specs.Memory.{memory_at}
 use Rattle.save_image.specs.Image.{Image}
@@ -14,10 +15,6 @@ use Rattle.module_core.specs.State.{Machine, start_of_life, base_of_life, all_of
 use Rattle.module_core.specs.Guard.{IsGood, IsGuarded, HasCause, may_lack}
 use Rattle.module_core.specs.Headline.{Recovers, LeftWithin, LeftAfter, IsAmongWithin, HasCauseWithin, marks}
 
-either_way : (b : Bool) → (b ≡ true) ⊎ (b ≡ false)
-either_way true = inl refl
-either_way false = inr refl
-
 -- the newest image, with its own arm byte or another one
 of_newest : (m : Machine) → IsGuarded m → (outcome : Outcome) → IsRearmed m.store.maybe.any_arm (newest_of m) outcome m.store.maybe.slot → Recovers m (HasCause m) outcome
 of_newest m guarded outcome is =
@@ -27,12 +24,12 @@ of_newest m guarded outcome is =
       image = image;
       found = is.found;
       prefix = record { from = newest.prefix.from; to = newest.prefix.to; memory = newest.prefix.memory };
-      complete = λ clear. ⊎_elim (λ any. guarded.any_arm any) (λ own. newest.complete (sym (is.own own) ∙ clear)) (either_way m.store.maybe.any_arm);
+      complete = λ clear. ⊎_elim (λ any. guarded.any_arm any) (λ own. newest.complete (sym (is.own own) ∙ clear)) (cases_Bool m.store.maybe.any_arm);
       cause = λ set. ⊎_elim (λ any. inr (inl any))
           (λ own.
           let same : newest_of m ≡ image = ap (rearmed (newest_of m)) (sym (is.own own)) in
           subst (HasCause m) same (newest.cause (λ clear. set (is.own own ∙ clear))))
-          (either_way m.store.maybe.any_arm);
+          (cases_Bool m.store.maybe.any_arm);
       whole = newest.whole;
     }
 

@@ -25,8 +25,8 @@ use Rattle.line_channels.specs.Waits.{Waits, Remain}
 use Rattle.line_channels.specs.View.{Shape, ChannelsView}
 use Rattle.line_channels.specs.Draining.{Paid, PaysInTurn}
 use Rattle.module_core.specs.declared.closing.Cut.TheVariants as cut
-use Rattle.module_core.specs.declared.events.Loss.{Loss}
-use Rattle.module_core.specs.declared.events.Loss.TheVariants as loss
+use Rattle.arm_state.specs.declared.loss.Loss.{Loss}
+use Rattle.arm_state.specs.declared.loss.Loss.TheVariants as loss
 use Rattle.module_core.specs.declared.saves.Saves.{Saves}
 use Rattle.module_core.specs.State.{Setup, Store, Machine, World, made_of}
 use Rattle.module_core.specs.Moves.{step_failed, saved_in, after_steps}

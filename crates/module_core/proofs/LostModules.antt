@@ -20,8 +20,8 @@ use Rattle.line_channels.specs.Memory.{Keeps}
 use Rattle.module_core.specs.declared.closing.Cut.{Cut}
 use Rattle.module_core.specs.declared.events.Event.TheVariants as events
 use Rattle.module_core.specs.declared.events.Reply.TheVariants as replies
-use Rattle.module_core.specs.declared.events.Loss.{Loss}
-use Rattle.module_core.specs.declared.events.Loss.TheVariants as loss
+use Rattle.arm_state.specs.declared.loss.Loss.{Loss}
+use Rattle.arm_state.specs.declared.loss.Loss.TheVariants as loss
 use Rattle.module_core.specs.declared.module.Module.{Module}
 use Rattle.module_core.specs.declared.saves.Saves.{Saves}
 use Rattle.module_core.specs.State.{Store, Machine, made_of, begun_save, base_of_life, start_of_life, memory_of, hold_of}

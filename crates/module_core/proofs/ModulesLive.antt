@@ -1,14 +1,14 @@
 -- What a module promises of the events that it answers is a life.
-use Rattle.std.proofs.Common.{◌≡◌, ℕ, List, [], ◌∷◌, ◌++◌, append_assoc, refl, sym, ◌∙◌, ap, subst, inl, inr, ⊎_elim, arith}
+use Rattle.std.proofs.Common.{◌≡◌, ℕ, List, [], ◌∷◌, ◌++◌, append_assoc, refl, sym, ◌∙◌, ap, subst, ⊎_elim, arith}
 use Rattle.std.specs.Prelude.{Contains, Option, Some, None}
 use Rattle.std.specs.Option.{ForSome}
 use Rattle.std.proofs.lemmas.List.{append-nil}
 use Rattle.std.proofs.lemmas.List.Elements.{Contains-append_cases, Contains-append_right}
 use Rattle.save_image.specs.Image.{Image}
 use Rattle.save_device.specs.Device.{DeviceState, Moment, present, moments_of, StopsWithin}
-use Rattle.slot_store.specs.declared.slots.Slot.{Slot}
-use Rattle.slot_store.specs.Outcomes.{Outcome, Found, restored}
-use Rattle.slot_store.specs.Rest.{IsAmong, only, rearmed}
+use Rattle.slot_store.specs.Outcomes.{Found, restored}
+use Rattle.slot_store.specs.Rest.{IsAmong, only}
+use Rattle.slot_store.proofs.Resting.{found_only}
 use Rattle.line_channels.specs.declared.channels.Channels.{Ghosts}
 use Rattle.module_core.specs.declared.events.Event.{Event}
 use Rattle.module_core.specs.declared.events.Reply.{Reply}
@@ -24,10 +24,6 @@ use Rattle.module_core.proofs.StoreSteps.{stop_now}
 use Rattle.module_core.proofs.StoppedLives.{since_is}
 
 -- where this image alone may be found, it is
-alone_found : (slot : Slot) (image : Image) (outcome : Outcome) → IsAmong (only slot image) outcome → outcome ≡ Found slot image
-alone_found slot image outcome (inl is) = is.found ∙ ap (λ (arm : ℕ). Found slot (rearmed image arm)) (is.own refl)
-alone_found slot image outcome (inr none) = absurd none
-
 -- A stop in a run: the events before the one that it cut, that event if it cut one, and the rest.
 record Parts {C : Type 0} (L : Ghosts C) (setup : Setup) (events : List Event) (old : Point C) (bytes : List ℕ) : Type 0 where
   front : List Event
@@ -46,7 +42,7 @@ module _ {C : Type 0} (L : Ghosts C) where
       → StopsWithin (λ bytes. restored (setup_of L it).shape.lines bytes ≡ Found found.newest.slot image) (present device)
   opened_on found image it device stands bytes left =
       let among = stop_now it.lines (new_life found image).store it.saves.saving device stands.holds bytes left in
-      alone_found found.newest.slot image (restored (setup_of L it).shape.lines bytes) (subst (λ (k : ℕ). IsAmong (only found.newest.slot image) (restored k bytes)) it.sized among)
+      found_only found.newest.slot image (restored (setup_of L it).shape.lines bytes) (subst (λ (k : ℕ). IsAmong (only found.newest.slot image) (restored k bytes)) it.sized among)
 
   pub lives_after : LivesAfter L
   lives_after found image events replies old new answered bytes left =

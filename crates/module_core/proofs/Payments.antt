@@ -49,12 +49,9 @@ pays_append costs (a ∷ xs) ys old mid (Ok done) new one two = (one.0, one.1, p
 pays_append costs (a ∷ xs) ys old mid (Err dark) new one two = inr (one.0, one.1, pays_append costs xs ys one.0 mid (Err dark) new one.2 two)
 
 -- how many writes wait in the first channels
-length-pending_each : (channel_of : ℕ → ℕ) (n : ℕ) (writes : List Waiting) → length (pending_each channel_of n writes) ≡ n
+pub length-pending_each : (channel_of : ℕ → ℕ) (n : ℕ) (writes : List Waiting) → length (pending_each channel_of n writes) ≡ n
 length-pending_each channel_of zero writes = refl
 length-pending_each channel_of (suc n) writes = length-append (pending_each channel_of n writes) (writes_on channel_of n writes ∷ []) ∙ omega (arith, length-pending_each channel_of n writes)
-
-pub pending_each_size : (channel_of : ℕ → ℕ) (n : ℕ) (writes : List Waiting) → length (pending_each channel_of n writes) ≡ n
-pending_each_size channel_of n writes = length-pending_each channel_of n writes
 
 test_next : (a n : ℕ) → cond (nat_lt a (suc n)) 1 0 ≡ cond (nat_lt a n) 1 0 + cond (a == n) 1 0
 test_next a n = grind (arith, nat_tests)

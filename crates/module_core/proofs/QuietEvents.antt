@@ -14,9 +14,9 @@ use Rattle.channel_answers.specs.declared.answers.Done.{Done}
 use Rattle.channel_answers.specs.declared.answers.Got.{Got}
 use Rattle.line_memory.specs.declared.Write as line_write
 use Rattle.module_core.specs.declared.events.Accepted.{Accepted}
-use Rattle.module_core.specs.declared.events.WriteRefusal.{WriteRefusal}
-use Rattle.module_core.specs.declared.events.ReadRefusal.{ReadRefusal}
-use Rattle.module_core.specs.declared.events.Loss.{Loss}
+use Rattle.arm_state.specs.declared.refusal.WriteRefusal.{WriteRefusal}
+use Rattle.arm_state.specs.declared.refusal.ReadRefusal.{ReadRefusal}
+use Rattle.arm_state.specs.declared.loss.Loss.{Loss}
 use Rattle.module_core.specs.declared.events.Event.{Event}
 use Rattle.module_core.specs.declared.events.Event.TheVariants as events
 use Rattle.module_core.specs.declared.events.Reply.{Reply}

@@ -17,7 +17,7 @@ use Rattle.module_core.proofs.StoreSteps.{stop_now}
 use Rattle.module_core.proofs.Leaving.{left_after}
 
 module _ {C : Type 0} (L : Ghosts C) where
-  run_push : (setup : Setup) (events : List Event) (replies : List Reply) (old mid : Point C) (event : Event) (reply : Reply) (new : Point C)
+  pub run_push : (setup : Setup) (events : List Event) (replies : List Reply) (old mid : Point C) (event : Event) (reply : Reply) (new : Point C)
       → Run L setup events replies old mid → Happens L setup event reply mid new → Run L setup (events ++ event ∷ []) (replies ++ reply ∷ []) old new
   run_push setup [] [] old mid event reply new run happens = (new, subst (λ (p : Point C). Happens L setup event reply p new) run happens, refl)
   run_push setup (e ∷ events) (r ∷ replies) old mid event reply new run happens = (run.0, run.1, run_push setup events replies run.0 mid event reply new run.2 happens)

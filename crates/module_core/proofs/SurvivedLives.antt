@@ -1,7 +1,7 @@
 -- What a restore finds after lives in a chain.
 use Rattle.std.proofs.Common.{◌≡◌, ℕ, ◌+◌, ◌-◌, ◌≤◌, Bool, true, false, List, [], ◌∷◌, ◌++◌, length, eqb, refl, sym, ◌∙◌, ap, subst, arith}
-use Rattle.std.specs.Prelude.{◌||◌, if◌then◌else◌}
-use Rattle.std.proofs.lemmas.Bool.{eqb-true}
+use Rattle.std.specs.Prelude.{if◌then◌else◌}
+use Rattle.std.proofs.lemmas.Bool.{eqb-true, or_from}
 use Rattle.std.proofs.lemmas.List.{length-append, length-take-le}
 use Rattle.std.proofs.lemmas.List.Sums.{fold-append}
 use Rattle.line_memory.specs.Memory.{after_write, after, memory_at}
@@ -33,10 +33,6 @@ clear_where arm count = by_test (eqb arm 0) refl
 told_complete : (arm count : ℕ) → arm ≡ 0 → verdict_of arm count ≡ Complete
 told_complete arm count is = ap (λ (a : ℕ). verdict_of a count) is
 
-neither : (a b : Bool) → a ≡ false → b ≡ false → (a || b) ≡ false
-neither true b off rest = absurd (let bad : ⊥ = cc in bad)
-neither false b off rest = rest
-
 module _ {C : Type 0} (L : Ghosts C) where
   -- each front of a chain is a chain
   pub front_chained : (lives more : List (Lived C)) → AreChained L (lives ++ more) → AreChained L lives
@@ -56,7 +52,7 @@ module _ {C : Type 0} (L : Ghosts C) where
       let saves = saved_along L life.setup life.events life.replies life.first life.last honest.run honest.honest
       (not_backed life.setup m life.first.world.gauge (ap (λ (x : Machine). is_backed x.mode) lived.begins)) in
       let calm = run_calm L life.setup life.events life.replies life.first life.last honest.run saves (ap (λ (x : Machine). is_cut_short x.lost) lived.begins) in
-      neither (is_backed life.last.world.machine.mode) (is_cut_short life.last.world.machine.lost) honest.settled calm
+      or_from (is_backed life.last.world.machine.mode) (is_cut_short life.last.world.machine.lost) honest.settled calm
 
   -- an image of a prefix of the last life's writes is the memory after a prefix of all
   whole_memory : (life : Lived C) (lives : List (Lived C)) → AreChained L (life ∷ lives) → (image : Image)

@@ -9,6 +9,7 @@ use Rattle.std.proofs.lemmas.Option.{slice_get_within, get_or_from_slice_get}
 use Rattle.std.proofs.lemmas.List.{take-append-drop}
 use Rattle.std.proofs.lemmas.List.Elements.{All-append, All-take, All-drop}
 use Rattle.std.proofs.lemmas.List.Folds.{list_any-append}
+use Rattle.std.proofs.Math.Bool.{or-true}
 use Rattle.channel_answers.specs.declared.answers.Done.{Done}
 use Rattle.channel_answers.specs.declared.answers.Served.{Served}
 use Rattle.channel_answers.specs.declared.answers.Served.TheVariants as served
@@ -21,10 +22,6 @@ use Rattle.arm_state.specs.Modes.{has_ended}
 use Rattle.module_core.specs.State.{Setup, Machine, hold_of}
 use Rattle.module_core.specs.Machine.{WorkStep}
 
-or_true : (a : Bool) → (a || true) ≡ true
-or_true true = refl
-or_true false = refl
-
 or_middle : (a b c : Bool) → (a || b) ≡ true → (a || (c || b)) ≡ true
 or_middle true b c is = refl
 or_middle false b true is = refl
@@ -35,7 +32,7 @@ pub any_joined : {X : Type 0} (p : X → Bool) (x : X) (old new : List X) → Jo
 any_joined p x old new joins is =
     let place = joins.0 in
     ap (list_any p) joins.2 ∙ list_any-append p (take place old) (x ∷ drop place old)
-    ∙ ap (λ b. list_any p (take place old) || (b || list_any p (drop place old))) is ∙ or_true (list_any p (take place old))
+    ∙ ap (λ b. list_any p (take place old) || (b || list_any p (drop place old))) is ∙ or-true (list_any p (take place old))
 
 -- and so is what stood there before
 pub any_stays : {X : Type 0} (p : X → Bool) (x : X) (old new : List X) → Joins x old new → list_any p old ≡ true → list_any p new ≡ true

@@ -3,7 +3,7 @@ use Rattle.std.proofs.Common.{◌≡◌, ◌∙◌, ℕ, ◌+◌, Bool, true, fa
 use Rattle.std.specs.Prelude.{nat_le, Some, None, if◌then◌else◌}
 use Rattle.arm_state.specs.Modes.{is_disarming, has_ended}
 use Rattle.line_channels.specs.View.{is_full}
-use Rattle.module_core.specs.declared.events.WriteRefusal.TheVariants as write
+use Rattle.arm_state.specs.declared.refusal.WriteRefusal.TheVariants as write
 use Rattle.module_core.specs.State.{Setup, Machine, pending_of}
 use Rattle.module_core.specs.Refusals.{need_for, lacks_energy, is_trail_full, write_refusal}
 

@@ -4,8 +4,8 @@ use Rattle.std.specs.Option.{ForSome}
 use Rattle.save_image.specs.Image.{Image}
 use Rattle.arm_state.specs.declared.mode.Mode.TheVariants as modes
 use Rattle.arm_state.specs.Modes.{is_armed, is_disarming, is_backed, has_ended}
-use Rattle.module_core.specs.declared.events.Loss.{Loss}
-use Rattle.module_core.specs.declared.events.Loss.TheVariants as loss
+use Rattle.arm_state.specs.declared.loss.Loss.{Loss}
+use Rattle.arm_state.specs.declared.loss.Loss.TheVariants as loss
 use Rattle.module_core.specs.State.{Machine, start_of_life, all_of, memory_after, newest_of}
 
 -- its memory is the one after a prefix of the accepted writes

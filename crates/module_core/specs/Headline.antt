@@ -14,7 +14,7 @@ use Rattle.arm_state.specs.Modes.{is_armed, is_backed, has_ended}
 use Rattle.energy_budget.specs.Sums.{backing_level}
 use Rattle.energy_budget.specs.Gauge.{Gauge, IsHonestThrough}
 use Rattle.line_channels.specs.declared.channels.Channels.{Ghosts}
-use Rattle.module_core.specs.declared.events.Loss.TheVariants as loss
+use Rattle.arm_state.specs.declared.loss.Loss.TheVariants as loss
 use Rattle.module_core.specs.declared.events.Event.{Event}
 use Rattle.module_core.specs.declared.events.Event.TheVariants as events
 use Rattle.module_core.specs.declared.events.Reply.{Reply}

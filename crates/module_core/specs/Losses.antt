@@ -14,8 +14,8 @@ use Rattle.energy_budget.specs.Gauge.{Gauge, ReadsLevel, PaysCost}
 use Rattle.line_channels.specs.declared.waiting.Waiting.{Waiting}
 use Rattle.line_channels.specs.Waits.{Remain, nothing, writes_on}
 use Rattle.line_channels.specs.Draining.{PaysInTurn}
-use Rattle.module_core.specs.declared.events.Loss.{Loss}
-use Rattle.module_core.specs.declared.events.Loss.TheVariants as loss
+use Rattle.arm_state.specs.declared.loss.Loss.{Loss}
+use Rattle.arm_state.specs.declared.loss.Loss.TheVariants as loss
 use Rattle.module_core.specs.State.{Setup, Machine, World, made_of}
 use Rattle.module_core.specs.Moves.{step_failed, saved_in, closed_unsaved, after_steps}
 

@@ -25,8 +25,8 @@ use Rattle.channel_answers.specs.declared.answers.Collected.{Collected}
 use Rattle.channel_answers.specs.declared.answers.Done.{Done}
 use Rattle.line_channels.specs.Answers.{Puts, IsGot, IsCollected, IsServed, line_of}
 use Rattle.module_core.specs.declared.events.Accepted.{Accepted}
-use Rattle.module_core.specs.declared.events.WriteRefusal.{WriteRefusal}
-use Rattle.module_core.specs.declared.events.ReadRefusal.{ReadRefusal}
+use Rattle.arm_state.specs.declared.refusal.WriteRefusal.{WriteRefusal}
+use Rattle.arm_state.specs.declared.refusal.ReadRefusal.{ReadRefusal}
 use Rattle.module_core.specs.declared.events.StepReply.{StepReply}
 use Rattle.module_core.specs.declared.events.StepReply.TheVariants as step
 use Rattle.module_core.specs.declared.events.Event.{Event}

@@ -12,7 +12,7 @@ use Rattle.arm_state.specs.declared.mode.Mode.TheVariants as modes
 use Rattle.arm_state.specs.declared.moves.Move.TheVariants.{EndSave}
 use Rattle.arm_state.specs.Modes.{is_armed}
 use Rattle.arm_state.specs.Moves.{mode_after}
-use Rattle.module_core.specs.declared.events.Loss.TheVariants as loss
+use Rattle.arm_state.specs.declared.loss.Loss.TheVariants as loss
 use Rattle.module_core.specs.State.{Setup, Life, RunningSave, Store, Machine, start_of_life, all_of, newest_of, made_of, begun_save}
 use Rattle.module_core.specs.Refusals.{is_low}
 

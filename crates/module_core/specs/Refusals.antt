@@ -4,10 +4,10 @@ use Rattle.arm_state.specs.declared.refusal.SaveState.{SaveState}
 use Rattle.arm_state.specs.Modes.{is_disarming, has_ended, is_short}
 use Rattle.energy_budget.specs.Sums.{needed_level}
 use Rattle.line_channels.specs.View.{is_full, is_full_of_reads}
-use Rattle.module_core.specs.declared.events.WriteRefusal.{WriteRefusal}
-use Rattle.module_core.specs.declared.events.WriteRefusal.TheVariants as write
-use Rattle.module_core.specs.declared.events.ReadRefusal.{ReadRefusal}
-use Rattle.module_core.specs.declared.events.ReadRefusal.TheVariants as read
+use Rattle.arm_state.specs.declared.refusal.WriteRefusal.{WriteRefusal}
+use Rattle.arm_state.specs.declared.refusal.WriteRefusal.TheVariants as write
+use Rattle.arm_state.specs.declared.refusal.ReadRefusal.{ReadRefusal}
+use Rattle.arm_state.specs.declared.refusal.ReadRefusal.TheVariants as read
 use Rattle.module_core.specs.State.{Setup, Machine, all_of, pending_of, newest_of}
 
 -- what the gauge has to show while this many writes wait

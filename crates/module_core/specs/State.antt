@@ -12,7 +12,7 @@ use Rattle.arm_state.specs.declared.mode.Mode.{Mode}
 use Rattle.energy_budget.specs.Gauge.{Gauge}
 use Rattle.line_channels.specs.Waits.{Waits}
 use Rattle.line_channels.specs.View.{Shape}
-use Rattle.module_core.specs.declared.events.Loss.{Loss}
+use Rattle.arm_state.specs.declared.loss.Loss.{Loss}
 
 -- What doesn't change in a life: the shape of the channels, and how many writes a life may accept.
 pub record Setup : Type 0 where

@@ -10,7 +10,7 @@ use Rattle.slot_store.specs.Rest.{IsAmong}
 use Rattle.arm_state.specs.Modes.{is_backed}
 use Rattle.line_channels.specs.declared.channels.Channels.{Ghosts}
 use Rattle.module_core.specs.declared.events.StepReply.TheVariants as step
-use Rattle.module_core.specs.declared.events.Loss.TheVariants as loss
+use Rattle.arm_state.specs.declared.loss.Loss.TheVariants as loss
 use Rattle.module_core.specs.declared.events.Reply.{Reply}
 use Rattle.module_core.specs.declared.events.Reply.TheVariants as replies
 use Rattle.module_core.specs.State.{Machine}

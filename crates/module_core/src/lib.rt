@@ -17,7 +17,7 @@ mod stepping;
 mod survival;
 mod telling;
 
-pub use events::{Accepted, Event, Loss, ReadRefusal, Reply, StepReply, WriteRefusal};
+pub use events::{Accepted, Event, Reply, StepReply};
 pub use honesty::honest_run;
 pub use lives::one_history;
 pub use module::Module;

@@ -7,8 +7,8 @@ ghost use Rattle.arm_state.specs.Modes.{has_ended};
 ghost use Rattle.module_core.specs.State.{Store};
 
 use crate::closing::{Cut, drain_all};
-use crate::{Event, Loss, Module, Reply};
-use arm_state::Mode;
+use crate::{Event, Module, Reply};
+use arm_state::{Loss, Mode};
 use energy_budget::Energy;
 use line_channels::{Channels, Drainable};
 use save_device::SaveDevice;

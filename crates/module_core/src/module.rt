@@ -11,8 +11,8 @@ ghost use Rattle.module_core.specs.State.{Machine};
 ghost use Rattle.module_core.specs.Saving.{IsOfLines};
 
 use crate::saves::Saves;
-use crate::{Accepted, Event, ReadRefusal, Reply, WriteRefusal};
-use arm_state::{ArmRefusal, DisarmReply, Mode, SaveState};
+use crate::{Accepted, Event, Reply};
+use arm_state::{ArmRefusal, DisarmReply, Mode, ReadRefusal, SaveState, WriteRefusal};
 use channel_answers::{Collected, Done, Got, Ticket};
 use energy_budget::{Costs, Energy};
 use line_channels::Channels;

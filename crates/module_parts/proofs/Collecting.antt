@@ -1,5 +1,5 @@
 -- A ticket is collected of one channel.
-use Rattle.std.proofs.Common.{All, ◌≡◌, ◌≢◌, ℕ, zero, suc, true, List, [], ◌∷◌, ◌++◌, get_or, map, remove, slice_get, slice_set, Some, refl, sym, ap, subst, ◌∙◌, ⊎_elim}
+use Rattle.std.proofs.Common.{All, ◌≡◌, ◌≢◌, ℕ, zero, suc, true, List, [], ◌∷◌, ◌++◌, get_or, map, slice_get, slice_set, Some, refl, sym, ap, subst, ◌∙◌, ⊎_elim}
 use Rattle.std.specs.List.{flat_map}
 use Rattle.std.proofs.lemmas.Bool.Decides.{eqb_tells}
 use Rattle.std.proofs.lemmas.List.Elements.{All-append, All-nil}
@@ -12,6 +12,7 @@ use Rattle.chan_core.specs.Always.{IsHeld}
 use Rattle.chan_core.specs.Calls.{AnswersCollect}
 use Rattle.chan_core.specs.State.{ChannelState, memory_below}
 use Rattle.chan_core.proofs.Kept.{map-at, map-from}
+use Rattle.chan_core.proofs.Taken.{map-remove}
 use Rattle.line_channels.specs.declared.waiting.Waiting.{Waiting}
 use Rattle.line_channels.specs.Answers.{IsCollected, open_read}
 use Rattle.line_channels.specs.Memory.{Keeps}
@@ -23,12 +24,6 @@ use Rattle.module_parts.proofs.Changing.{parts-set}
 use Rattle.module_parts.proofs.EarlyClocks.{early-kept}
 use Rattle.module_parts.proofs.Keeping.{written-kept}
 use Rattle.module_parts.proofs.Piles.{one-goes, one-stays}
-
-pub map-removed : {X Y : Type 0} (f : X → Y) (xs : List X) (i : ℕ) → map f (remove xs i) ≡ remove (map f xs) i
-map-removed f [] zero = refl
-map-removed f [] (suc i) = refl
-map-removed f (x ∷ xs) zero = refl
-map-removed f (x ∷ xs) (suc i) = ap (λ rest. f x ∷ rest) (map-removed f xs i)
 
 all-from : {X : Type 0} (P : X → Type 0) (xs : List X) → ((k : ℕ) (x : X) → slice_get xs k ≡ Some x → P x) → All P xs
 all-from P xs each k d less = each k (get_or xs k d) (slice_get-get_or xs k d less)
@@ -43,7 +38,7 @@ module _ (s t : ChannelState) (ticket : Ticket) (here : ticket.channel ≡ s.cha
       i,
       map-at (open_read_of s.channel) s.tickets i (record { serial = ticket.serial; line = line; at = at; bytes = bytes; answered = true }) stands
           ∙ ap (λ (c : ℕ). Some (open_read (record { channel = c; serial = ticket.serial }) line bytes at true)) (sym here),
-      ap (λ (x : ChannelState). map (open_read_of x.channel) t.tickets) rest ∙ ap (map (open_read_of s.channel)) is ∙ map-removed (open_read_of s.channel) s.tickets i,
+      ap (λ (x : ChannelState). map (open_read_of x.channel) t.tickets) rest ∙ ap (map (open_read_of s.channel)) is ∙ map-remove (open_read_of s.channel) s.tickets i,
     ),
     refl,
   )

@@ -2,7 +2,7 @@
 use Rattle.std.proofs.Common.{rules, ◌≡◌, ◌≢◌, ℕ, zero, suc, ◌+◌, ◌<◌, ◌≤◌, ◌⊎◌, Bool, true, false, cond, eqb, filter, nat_lt, List, [], ◌∷◌, ◌++◌, drop, length, map, take, slice_get, slice_set, Option, Some, None, refl, sym, ap, subst, ◌∙◌, inl, inr, arith, length-set}
 use Rattle.std.specs.Prelude.{OnOk, Ok, Err, not}
 use Rattle.std.specs.List.{flat_map}
-use Rattle.std.proofs.lemmas.Bool.{cases_order, eq-eqb}
+use Rattle.std.proofs.lemmas.Bool.{cases_order, eq-eqb, ne_eqb}
 use Rattle.std.proofs.lemmas.Bool.Decides.{eqb_tells}
 use Rattle.std.proofs.lemmas.List.{append-nil, length-map}
 use Rattle.std.proofs.lemmas.List.Elements.{filter-append}
@@ -27,7 +27,7 @@ use Rattle.module_parts.proofs.Changing.{get-set}
 use Rattle.module_parts.proofs.Settling.{carried}
 use Rattle.module_parts.proofs.Keeping.{numbered, was-there, written-kept}
 use Rattle.module_parts.proofs.Piles.{InPile, from-pile, has-pile}
-use Rattle.module_parts.proofs.Rooms.{apart-eqb, count-on, opens-there, waits-there}
+use Rattle.module_parts.proofs.Rooms.{count-on, opens-there, waits-there}
 use Rattle.module_parts.proofs.Untouched.{set-here}
 
 -- lists put behind one another, of which a test passes some
@@ -77,7 +77,7 @@ filter-on : {X A : Type 0} (test : A → Bool) (f : X → List A) (xs : List X) 
     → ((j k : ℕ) (y : X) (a : A) → slice_get xs j ≡ Some y → slice_get (f y) k ≡ Some a → test a ≡ eqb j i) → filter test (flat_map f xs) ≡ f x
 filter-on test f xs i x at tells =
     filter-pile test f xs
-    ∙ only-pile (λ z. filter test (f z)) xs i x at (λ j z apart there. filter-none test (f z) (λ k a here. tells j k z a there here ∙ apart-eqb j i apart))
+    ∙ only-pile (λ z. filter test (f z)) xs i x at (λ j z apart there. filter-none test (f z) (λ k a here. tells j k z a there here ∙ ne_eqb j i apart))
     ∙ filter-each test (f x) (λ k a here. tells i k x a at here ∙ eq-eqb i i refl)
 
 -- and its opposite keeps all others
@@ -87,7 +87,7 @@ filter-off : {X A : Type 0} (test : A → Bool) (f : X → List A) (xs : List X)
 filter-off test f xs i x y at tells none =
     piles-alike f (λ z. filter (λ a. not (test a)) (f z)) xs i x y at
     (none ∙ sym (filter-none (λ a. not (test a)) (f x) (λ k a here. ap not (tells i k x a at here ∙ eq-eqb i i refl))))
-    (λ j z apart there. sym (filter-each (λ a. not (test a)) (f z) (λ k a here. ap not (tells j k z a there here ∙ apart-eqb j i apart))))
+    (λ j z apart there. sym (filter-each (λ a. not (test a)) (f z) (λ k a here. ap not (tells j k z a there here ∙ ne_eqb j i apart))))
     ∙ sym (filter-pile (λ a. not (test a)) f xs)
 
 -- so of the others all stay

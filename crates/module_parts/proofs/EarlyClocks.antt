@@ -1,43 +1,28 @@
 -- How far the clock of a running channel goes, and that it may be drained there.
-use Rattle.std.proofs.Common.{◌≡◌, ◌≢◌, ◌↔◌, ℕ, ◌+◌, ◌-◌, ◌*◌, ◌^◌, ◌<◌, ◌≤◌, List, [], ◌∷◌, ◌++◌, fold, refl, sym, ap, subst, ◌∙◌, inl, inr, arith}
+use Rattle.std.proofs.Common.{◌≡◌, ◌≢◌, ◌↔◌, ℕ, ◌+◌, ◌-◌, ◌*◌, ◌^◌, ◌<◌, ◌≤◌, List, [], ◌∷◌, ◌++◌, refl, sym, ap, subst, ◌∙◌, inl, inr, arith}
 use Rattle.std.specs.Prelude.{IfNone, IfSome, Option, Some, None}
 use Rattle.std.proofs.lemmas.Bool.{cases_order}
-use Rattle.ddr4_timing.specs.declared.command.Command.{Command}
-use Rattle.ddr4_timing.specs.declared.command.Command.TheVariants.{Act, Rd, Wr, Pre, PreAll, Ref, Sre}
 use Rattle.ddr4_timing.specs.declared.command.Stamped.{Stamped}
 use Rattle.ddr4_timing.specs.declared.rules.Rule.TheVariants.{Refi, Rows}
 use Rattle.ddr4_timing.specs.declared.timing.Checked.{Checked}
-use Rattle.ddr4_timing.specs.declared.timing.Geometry.{Geometry}
 use Rattle.ddr4_timing.specs.Command.{rank_of}
-use Rattle.ddr4_timing.specs.Lawful.{IsInGeometry, IsLawful, last_ref}
-use Rattle.ddr4_timing.specs.Limits.{close_of, entry_of}
+use Rattle.ddr4_timing.specs.Lawful.{IsLawful, last_ref}
 use Rattle.ddr4_timing.proofs.Ready.{admits_from}
-use Rattle.frfcfs.specs.Margin.{KeepsMargin, last_clock}
-use Rattle.frfcfs.proofs.refreshes.MarginEnds.{drain_has_time}
+use Rattle.ddr4_timing.proofs.Addresses.{rank_within}
+use Rattle.frfcfs.specs.Margin.{last_clock}
 use Rattle.frfcfs.proofs.refreshes.RefreshCounts.{last_clock_push}
 use Rattle.channel_answers.specs.declared.answers.Done.{Done}
 use Rattle.chan_core.specs.declared.phase.Phase.TheVariants.{Running, Stepping}
 use Rattle.chan_core.specs.Always.{IsChannel}
 use Rattle.chan_core.specs.Calls.{HasNothingToSend, IssuesChoice}
-use Rattle.chan_core.specs.Phases.{AreAwake}
 use Rattle.chan_core.specs.State.{ChannelState, clock_of}
-use Rattle.drain_core.specs.Drain.{drain_start}
 use Rattle.drain_core.specs.Standing.{CanDrain}
+use Rattle.drain_core.proofs.Whole.{early_lets_drain}
 use Rattle.module_parts.specs.Parts.{RunsEarly}
 
 -- where the commands stay, and the phase, so does the clock
 pub early-kept : (s t : ChannelState) → t.phase ≡ s.phase → t.commands ≡ s.commands → RunsEarly s → RunsEarly t
 early-kept s t phase commands (running, early) = (phase ∙ running, subst (λ (list : List Stamped). last_clock list < 2 ^ 62 + 2 ^ 24) (sym commands) early)
-
--- a command goes to a rank of the geometry
-rank-within : (g : Geometry) (cmd : Command) → IsInGeometry g cmd → rank_of cmd < g.ranks
-rank-within g (Act at row) is = is.0.rank
-rank-within g (Rd at column) is = is.0.rank
-rank-within g (Wr at column) is = is.0.rank
-rank-within g (Pre at) is = is.rank
-rank-within g (PreAll rank) is = is
-rank-within g (Ref rank) is = is
-rank-within g (Sre rank) is = is
 
 still-running : (s : ChannelState) → s.phase ≡ Running → s.phase ≡ Stepping → ⊥
 still-running s running stepping = let both : Running ≡ Stepping = sym running ∙ stepping in cc
@@ -53,7 +38,7 @@ issue-early s t done is new running early issues =
     let checked : t.checked ≡ s.checked = ap (λ (u : ChannelState). u.checked) issues.same in
     let lawful = subst (λ (c : Checked). IsLawful c (s.commands ++ x ∷ [])) checked (subst (IsLawful t.checked) commands new.lawful) in
     let next = admits_from s.checked s.commands x lawful in
-    let within = rank-within s.checked.geometry x.cmd ((next Rows _).rows refl refl).place in
+    let within = rank_within s.checked.geometry x.cmd ((next Rows _).rows refl refl).place in
     let awake = is.phase.awake running (rank_of x.cmd) within in
     let past = (is.phase.in_time (still-running s running) (rank_of x.cmd) within awake).past in
     let bound = clock-bound x.clock (last_ref (rank_of x.cmd) s.commands) (last_clock s.commands) s.checked.timing.t_refi ((next Refi _).refresh refl refl).in_time past early s.checked.in_limits.t_refi.1 in
@@ -78,28 +63,6 @@ pub work-early : (s t : ChannelState) (result : Option Done) → IsChannel s →
 work-early s t None is new running sends stays issues early = subst RunsEarly (sym stays) early
 work-early s t (Some done) is new running sends stays issues early = (ap (λ (u : ChannelState). u.phase) issues.same ∙ running, issue-early s t done is new running (sends-early s sends) issues)
 
-start-behind : (s l : ℕ) (list : List Stamped) → s ≤ l + 1 → fold (λ _ x. x.clock + 1) s list ≤ fold (λ _ x. x.clock) l list + 1
-start-behind s l [] h = h
-start-behind s l (x ∷ list) h = start-behind (x.clock + 1) x.clock list (omega arith)
-
-start-last : (list : List Stamped) → drain_start list ≤ last_clock list + 1
-unfolding drain_start last_clock
-start-last list = start-behind 0 0 list (omega arith)
-
-has-clocks : (s now cl e r last t : ℕ) → s ≤ now + 1 → now + 1 + cl + 2 * e + 4 * r < last + 9 * t → s + (cl + r) ≤ last + 9 * t
-has-clocks s now cl e r last t h l = omega arith
-
 -- A running channel may be drained.
 pub may-drain : (s : ChannelState) → IsChannel s → RunsEarly s → CanDrain s.checked s.commands
-may-drain s is (running, now) =
-    let c = s.checked in
-    let list = s.commands in
-    let start = start-last list in
-    let awake : AreAwake c list = is.phase.awake running in
-    let margin : KeepsMargin c list = is.phase.in_time (still-running s running) in
-    record {
-      lawful = is.lawful;
-      awake = awake;
-      in_time = λ rank within. has-clocks (drain_start list) (last_clock list) (close_of c.timing c.geometry) (entry_of c.timing c.geometry) c.geometry.ranks _ _ start (drain_has_time c list rank margin within (awake rank within));
-      early = omega (arith, start, now);
-    }
+may-drain s is (running, now) = early_lets_drain s.checked s.commands is.lawful (is.phase.in_time (still-running s running)) (is.phase.awake running) now

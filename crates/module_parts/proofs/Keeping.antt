@@ -3,6 +3,7 @@ use Rattle.std.proofs.Common.{rules, ◌≡◌, ◌==◌, ◌||◌, ℕ, zero, s
 use Rattle.std.specs.List.{list_any}
 use Rattle.std.proofs.lemmas.Bool.{eqb-true}
 use Rattle.std.proofs.lemmas.Bool.Decides.{eqb_tells}
+use Rattle.std.proofs.Math.Bool.{or-true}
 use Rattle.line_memory.specs.declared.Write.{Write}
 use Rattle.ddr4_timing.specs.declared.place.Place.{Place}
 use Rattle.wpq_core.specs.declared.queue.PendingWrite.{PendingWrite}
@@ -33,10 +34,6 @@ pub found : {A : Type 0} (p : A → Bool) (xs : List A) → list_any p xs ≡ tr
 found p [] e = absurd cc
 found p (x ∷ xs) e = passing-head p x xs (p x) refl (λ r. found p xs r) e
 
-or-true : (a : Bool) → (a || true) ≡ true
-or-true true = refl
-or-true false = refl
-
 pub finds : {A : Type 0} (p : A → Bool) (xs : List A) (k : ℕ) (x : A) → slice_get xs k ≡ Some x → p x ≡ true → list_any p xs ≡ true
 finds p [] k x at passes = absurd cc
 finds p (y ∷ xs) zero x at passes = let same : y ≡ x = cc in ap (λ z. p z || list_any p xs) same ∙ ap (λ b. b || list_any p xs) passes
@@ -63,7 +60,7 @@ numbered line_at channels number e =
     let one = found (λ (w : PendingWrite). w.number == number) s.writes (sym (any-mapped line_at s.channel number s.writes) ∙ pile.passes) in
     record { place = pile.index; state = s; at = pile.at; index = one.index; write = one.element; there = one.at; named = eqb-true one.element.number number one.passes }
 
-same-number : (a b : ℕ) → a ≡ b → (a == b) ≡ true
+pub same-number : (a b : ℕ) → a ≡ b → (a == b) ≡ true
 same-number a b same = search rules
 
 pub number-waits : (line_at : ℕ → ℕ → ℕ) (channels : List ChannelState) (number : ℕ) → HasNumber channels number → list_any (λ w. w.number == number) (waits_in line_at channels).writes ≡ true

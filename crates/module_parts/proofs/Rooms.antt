@@ -1,7 +1,7 @@
 -- How much waits on a channel, and how many more may.
 use Rattle.std.proofs.Common.{◌≡◌, ◌≢◌, ◌↔◌, ℕ, zero, suc, ◌+◌, ◌<◌, Bool, true, false, IsTrue, cond, eqb, List, [], ◌∷◌, count_by, length, slice_get, Some, refl, sym, ap, subst, ◌∙◌, arith, inl, inr}
 use Rattle.std.specs.List.{flat_map}
-use Rattle.std.proofs.lemmas.Bool.{eq-eqb}
+use Rattle.std.proofs.lemmas.Bool.{eq-eqb, ne_eqb}
 use Rattle.std.proofs.lemmas.Bool.Decides.{eqb_tells}
 use Rattle.std.proofs.lemmas.List.{length-map}
 use Rattle.std.proofs.lemmas.List.Sums.{sum_by-cons}
@@ -42,19 +42,13 @@ count-none p (x ∷ xs) none =
     not-passed (p x) (count_by p (x ∷ xs)) (count_by p xs) (none zero x refl) (sum_by-cons (λ a. cond (p a) 1 0) x xs)
     ∙ count-none p xs (λ k a at. none (suc k) a at)
 
-pub apart-eqb : (m n : ℕ) → m ≢ n → eqb m n ≡ false
-apart-eqb m n apart = elim (eqb_tells m n) [
-  | inl same ↦ absurd (apart same.1)
-  | inr other ↦ other.0
-]
-
 -- where a test passes all of one pile and none of another, it counts that pile
 pub count-on : {X A : Type 0} (test : A → Bool) (f : X → List A) (xs : List X) (i : ℕ) (x : X) → slice_get xs i ≡ Some x
     → ((j k : ℕ) (y : X) (a : A) → slice_get xs j ≡ Some y → slice_get (f y) k ≡ Some a → test a ≡ eqb j i) → count_by test (flat_map f xs) ≡ length (f x)
 count-on test f xs i x at tells =
     one-count test f xs i (length (f x)) x at
     (count-each test (f x) (λ k a here. tells i k x a at here ∙ eq-eqb i i refl))
-    (λ j y apart there. count-none test (f y) (λ k a here. tells j k y a there here ∙ apart-eqb j i apart))
+    (λ j y apart there. count-none test (f y) (λ k a here. tells j k y a there here ∙ ne_eqb j i apart))
 
 -- a write that waits in a channel is of a line there
 pub waits-there : (place_of : ℕ → Place) (p : PartsState) → AreParts p → ArePlaces p.checked.geometry place_of → (j k : ℕ) (t : ChannelState) (w : Waiting)

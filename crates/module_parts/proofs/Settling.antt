@@ -1,7 +1,7 @@
 -- Once every write below a number is in the arrays and none from it on, they are the memory after so many writes.
-use Rattle.std.proofs.Common.{rules, ◌≡◌, ◌||◌, ℕ, zero, suc, ◌+◌, ◌-◌, ◌<◌, ◌≤◌, Bool, true, false, nat_lt, List, [], ◌∷◌, count_by, get_or, length, map, take, slice_get, slice_index_or, Option, Some, None, inl, inr, refl, sym, ap, ◌∙◌, arith, length-set}
+use Rattle.std.proofs.Common.{rules, ◌≡◌, ◌||◌, ℕ, zero, suc, ◌+◌, ◌-◌, ◌<◌, ◌≤◌, true, false, nat_lt, List, [], ◌∷◌, count_by, get_or, length, map, take, slice_get, slice_index_or, Option, Some, None, inl, inr, refl, sym, ap, ◌∙◌, arith, length-set}
 use Rattle.std.specs.List.{flat_map, list_any, range_with_len}
-use Rattle.std.proofs.lemmas.Bool.{cases_order}
+use Rattle.std.proofs.lemmas.Bool.{cases_order, or_parts}
 use Rattle.std.proofs.lemmas.List.{same_lists}
 use Rattle.std.proofs.lemmas.List.Folds.{list_any-append}
 use Rattle.std.proofs.lemmas.List.FromFn.{get_or-map-range_with_len, length-map-range_with_len}
@@ -20,10 +20,6 @@ use Rattle.module_parts.specs.Parts.{PartsState}
 use Rattle.module_parts.specs.Seen.{line_there, line_with, waiting_on, waiting_write, waits_in}
 use Rattle.module_parts.proofs.Piles.{some-counted}
 
-none-of-both : (a b : Bool) → (a || b) ≡ false → (a ≡ false) × (b ≡ false)
-none-of-both true b e = absurd cc
-none-of-both false b e = (refl, e)
-
 pub any-waiting : (line_at : ℕ → ℕ → ℕ) (channel n : ℕ) (ws : List PendingWrite) → list_any (λ w. nat_lt w.number n) (map (waiting_write line_at channel) ws) ≡ list_any (λ w. nat_lt w.number n) ws
 any-waiting line_at channel n [] = refl
 any-waiting line_at channel n (w ∷ ws) = ap (λ b. nat_lt w.number n || b) (any-waiting line_at channel n ws)
@@ -37,12 +33,12 @@ pub none-on : (line_at : ℕ → ℕ → ℕ) (channels : List ChannelState) (n 
 none-on line_at [] n i s none at = absurd cc
 none-on line_at (x ∷ channels) n zero s none at =
     let same : x ≡ s = cc in
-    let (here, rest) = none-of-both (list_any (λ w. nat_lt w.number n) (waiting_on line_at x)) (list_any (λ w. nat_lt w.number n) (flat_map (waiting_on line_at) channels))
+    let (here, rest) = or_parts (list_any (λ w. nat_lt w.number n) (waiting_on line_at x)) (list_any (λ w. nat_lt w.number n) (flat_map (waiting_on line_at) channels))
     (sym (list_any-append (λ w. nat_lt w.number n) (waiting_on line_at x) (flat_map (waiting_on line_at) channels)) ∙ none) in
     let none' : list_any (λ w. nat_lt w.number n) s.writes ≡ false = ap (λ (z : ChannelState). list_any (λ w. nat_lt w.number n) z.writes) (sym same) ∙ sym (any-waiting line_at x.channel n x.writes) ∙ here in
     zero-where-none (count_by (λ w. nat_lt w.number n) s.writes) (some-counted (λ w. nat_lt w.number n) s.writes ∙ none')
 none-on line_at (x ∷ channels) n (suc i) s none at =
-    let (here, rest) = none-of-both (list_any (λ w. nat_lt w.number n) (waiting_on line_at x)) (list_any (λ w. nat_lt w.number n) (flat_map (waiting_on line_at) channels))
+    let (here, rest) = or_parts (list_any (λ w. nat_lt w.number n) (waiting_on line_at x)) (list_any (λ w. nat_lt w.number n) (flat_map (waiting_on line_at) channels))
     (sym (list_any-append (λ w. nat_lt w.number n) (waiting_on line_at x) (flat_map (waiting_on line_at) channels)) ∙ none) in
     none-on line_at channels n i s rest at
 
@@ -91,7 +87,7 @@ take-all (x ∷ xs) (suc k) less = ap (λ rest. x ∷ rest) (take-all xs k (omeg
 fewer : (m n : ℕ) (ws : List Waiting) → m ≤ n → list_any (λ w. nat_lt w.number n) ws ≡ false → list_any (λ w. nat_lt w.number m) ws ≡ false
 fewer m n [] less none = refl
 fewer m n (w ∷ ws) less none =
-    let (here, rest) = none-of-both (nat_lt w.number n) (list_any (λ w. nat_lt w.number n) ws) none in
+    let (here, rest) = or_parts (nat_lt w.number n) (list_any (λ w. nat_lt w.number n) ws) none in
     let first : nat_lt w.number m ≡ false = search rules in
     ap (λ b. b || list_any (λ w. nat_lt w.number m) ws) first ∙ fewer m n ws less rest
 

@@ -1,7 +1,7 @@
 -- A command of one channel: whom it serves, and what is carried still.
-use Rattle.std.proofs.Common.{rules, ◌≡◌, ◌==◌, ◌&&◌, inl, inr, ℕ, zero, suc, ◌+◌, ◌*◌, ◌<◌, ◌≤◌, Bool, true, false, if◌then◌else◌, List, [], ◌∷◌, length, map, remove, slice_get, slice_set, IfNone, IfSome, Option, Some, None, refl, sym, ap, subst, ◌∙◌, arith}
+use Rattle.std.proofs.Common.{◌≡◌, ◌==◌, ◌&&◌, inl, inr, ℕ, zero, suc, ◌+◌, ◌*◌, ◌<◌, ◌≤◌, Bool, true, false, if◌then◌else◌, List, [], ◌∷◌, length, map, remove, slice_get, slice_set, IfNone, IfSome, Option, Some, None, refl, sym, ap, subst, ◌∙◌, arith}
 use Rattle.std.specs.List.{flat_map}
-use Rattle.std.proofs.lemmas.Bool.{cases_order, eqb-true}
+use Rattle.std.proofs.lemmas.Bool.{cases_order, eqb-true, and_from}
 use Rattle.std.proofs.lemmas.Nat.{mul-add-lt}
 use Rattle.std.proofs.lemmas.Option.{slice_get_within}
 use Rattle.line_memory.specs.declared.Write.{Write}
@@ -26,7 +26,7 @@ use Rattle.chan_core.specs.Always.{IsHeld}
 use Rattle.chan_core.specs.Calls.{HasNothingToSend, IssuesChoice, MovesWrite, ServesIndex, ServesRequest, after_commands}
 use Rattle.chan_core.specs.State.{ChannelState, memory_below}
 use Rattle.chan_core.proofs.Kept.{map-at}
-use Rattle.chan_core.proofs.Taken.{before_removal}
+use Rattle.chan_core.proofs.Taken.{before_removal, map-remove}
 use Rattle.line_channels.specs.declared.waiting.Waiting.{Waiting}
 use Rattle.line_channels.specs.Answers.{IsBelowHold, IsServed}
 use Rattle.line_channels.specs.Memory.{Keeps, WaitsFrom}
@@ -36,8 +36,7 @@ use Rattle.module_parts.specs.Lines.{ArePlaces, greatest_below, is_in_cell, line
 use Rattle.module_parts.specs.Parts.{AreParts, IsDry, PartsState, RunsEarly}
 use Rattle.module_parts.specs.Seen.{HasNoCommand, open_on, open_read_of, seen_by_lines, waiting_on, waiting_write, waits_in}
 use Rattle.module_parts.proofs.Changing.{get-set, parts-set}
-use Rattle.module_parts.proofs.Collecting.{map-removed}
-use Rattle.module_parts.proofs.Keeping.{numbered, was-there, written-kept}
+use Rattle.module_parts.proofs.Keeping.{numbered, was-there, written-kept, same-number}
 use Rattle.module_parts.proofs.Piles.{one-becomes, one-goes, one-stays}
 use Rattle.module_parts.proofs.Untouched.{set-same}
 
@@ -55,17 +54,9 @@ greatest-passes : (test : ℕ → Bool) (n k : ℕ) → k < n → test k ≡ tru
 greatest-passes test zero k less passes = absurd (omega (arith, less))
 greatest-passes test (suc n) k less passes = greatest-head test n k (test n) refl less passes (λ below. greatest-passes test n k below passes)
 
-both-true : (a b : Bool) → a ≡ true → b ≡ true → (a && b) ≡ true
-both-true true true e f = refl
-both-true true false e f = absurd cc
-both-true false b e f = absurd cc
-
 first-true : (a b : Bool) → (a && b) ≡ true → a ≡ true
 first-true true b e = refl
 first-true false b e = absurd cc
-
-pub same-number : (a b : ℕ) → a ≡ b → (a == b) ≡ true
-same-number a b same = search rules
 
 -- the place of a cell
 record CellsPlace (g : Geometry) (i cell : ℕ) : Type 0 where
@@ -92,7 +83,7 @@ line-found g place_of i cell small places less within =
     let (line, below, is) = places.onto at.place at.lies in
     let channel = same-number (place_of line).channel i (ap (λ (x : Place). x.channel) is ∙ at.channel) in
     let there = same-number (cell_of g (place_of line)) cell (ap (cell_of g) is ∙ at.is) in
-    let passes = both-true ((place_of line).channel == i) (cell_of g (place_of line) == cell) channel there in
+    let passes = and_from ((place_of line).channel == i) (cell_of g (place_of line) == cell) channel there in
     let found = greatest-passes (is_in_cell g place_of i cell) (lines_of g) line below passes in
     let greatest = line_in g place_of i cell in
     eqb-true (place_of greatest).channel i (first-true ((place_of greatest).channel == i) (cell_of g (place_of greatest) == cell) found)
@@ -144,7 +135,7 @@ module _ (place_of : ℕ → Place) (p : PartsState) (i : ℕ) (s t : ChannelSta
         goes = one-goes waiting (waiting_on line_at) p.channels i s t at (
           k,
           map-at (waiting_write line_at s.channel) s.writes k w stands ∙ ap (λ (n : ℕ). Some (record { number = n; line = line })) named,
-          ap (λ (c : ℕ). map (waiting_write line_at c) t.writes) channel ∙ ap (map (waiting_write line_at s.channel)) gone ∙ map-removed (waiting_write line_at s.channel) s.writes k,
+          ap (λ (c : ℕ). map (waiting_write line_at c) t.writes) channel ∙ ap (map (waiting_write line_at s.channel)) gone ∙ map-remove (waiting_write line_at s.channel) s.writes k,
         );
         here = ap (λ (c : ℕ). (place_of (line_at c cell)).channel) part.channel ∙ line-found p.checked.geometry place_of i cell p.checked.is_small places less within;
         unheld = below-hold p.hold number (λ n held. moves.unheld n (part.hold ∙ held));

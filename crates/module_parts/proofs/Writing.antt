@@ -1,7 +1,7 @@
 -- What a write does to the channels, as a module sees them.
-use Rattle.std.proofs.Common.{◌≡◌, ◌≢◌, ◌==◌, ◌||◌, ℕ, ◌+◌, ◌-◌, ◌<◌, ◌≤◌, Bool, true, false, eqb, List, [], ◌∷◌, ◌++◌, length, map, slice_get, slice_index_or, slice_set, take, drop, Some, refl, sym, ap, subst, ◌∙◌, arith, inl, inr, get_or-set_same, get_or-set_other}
+use Rattle.std.proofs.Common.{◌≡◌, ◌≢◌, ◌==◌, ◌||◌, ℕ, ◌+◌, ◌-◌, ◌<◌, ◌≤◌, Bool, true, false, List, [], ◌∷◌, ◌++◌, length, map, slice_get, slice_index_or, slice_set, take, drop, Some, refl, sym, ap, subst, ◌∙◌, arith, inl, inr, get_or-set_same, get_or-set_other}
 use Rattle.std.specs.List.{flat_map, list_any}
-use Rattle.std.proofs.lemmas.Bool.{cases_order}
+use Rattle.std.proofs.lemmas.Bool.{cases_order, ne_eqb}
 use Rattle.std.proofs.lemmas.Bool.Decides.{eqb_tells}
 use Rattle.std.proofs.lemmas.List.{length-append, map-append, take-append-drop, take-append-le}
 use Rattle.std.proofs.lemmas.List.Edits.{insert_end}
@@ -67,12 +67,6 @@ passed-before test w old new (k, within, is) other passes =
     let split : (list_any test front || (test w || list_any test back)) ≡ true = sym (ap (list_any test) is ∙ list_any-append test front (w ∷ back)) ∙ passes in
     let less : (list_any test front || list_any test back) ≡ true = ap (λ b. list_any test front || (b || list_any test back)) (sym other) ∙ split in
     sym (ap (list_any test) (take-append-drop k old)) ∙ list_any-append test front back ∙ less
-
-apart-eqb : (m n : ℕ) → m ≢ n → eqb m n ≡ false
-apart-eqb m n apart = elim (eqb_tells m n) [
-  | inl same ↦ absurd (apart same.1)
-  | inr other ↦ other.0
-]
 
 module _ (place_of : ℕ → Place) (p : PartsState) (i : ℕ) (s new : ChannelState) (at : slice_get p.channels i ≡ Some s) (rest : new ≡ after_put s new) where
   kept : Keeps s new
@@ -190,7 +184,7 @@ module _ (place_of : ℕ → Place) (p : PartsState) (base : List (List ℕ)) (s
       let waited : WaitsFrom n end old = λ k from to.
       let other : end ≢ k = λ (e : end ≡ k). let bad : ⊥ = omega (arith, to, e) in bad in
       let present = waits k from (omega (arith, to, one-more)) in
-      passed-before (λ x. x.number == k) (record { number = end; line = w.line }) old now joins (apart-eqb end k other) present in
+      passed-before (λ x. x.number == k) (record { number = end; line = w.line }) old now joins (ne_eqb end k other) present in
       line-stays (memory_below n) p i s new (place_of line) put.at (below-later s new n end place w.«data» within put.adds)
       ∙ put.carry.lines n within waited line less
       ∙ ap (λ ws. line_of (after base ws) line) (sym (take-append-le (n - start) writes (w ∷ []) (omega (arith, within))))

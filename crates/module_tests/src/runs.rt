@@ -4,11 +4,11 @@ ghost use Rattle.module_core.specs.Stands.{IsForChannels};
 
 use crate::check::same;
 use crate::load::{Image, Load, restores_to};
-use arm_state::ArmReply;
+use arm_state::{ArmReply, Loss, WriteRefusal};
 use energy_budget::Meter;
 use line_channels::Drainable;
 use line_memory::Write;
-use module_core::{Accepted, Event, Loss, Reply, StepReply, WriteRefusal};
+use module_core::{Accepted, Event, Reply, StepReply};
 use save_device::SaveDevice;
 use slot_store::{Step, Verdict};
 use std::alloc::Global;

@@ -1,37 +1,9 @@
 // The lines that answer a script.
-use crate::refusal::{ReadRefusal, WriteRefusal};
-use arm_state::{ArmRefusal, Mode};
+use arm_state::{ArmRefusal, Loss, Mode, ReadRefusal, WriteRefusal};
 use ddr4_timing::command::Stamped;
 use line_memory::Line;
 use slot_store::{RestoreError, Step, Verdict};
 use std::fmt;
-
-/// What became of a loss of mains.
-#[derive(Clone, Copy)]
-pub enum Loss {
-    /// All accepted writes were saved on backup.
-    Saved { generation: u64, count: u64 },
-    /// The module was disarmed, so that nothing was written.
-    Unsaved,
-    /// The energy didn't suffice.
-    Dark,
-    /// The device failed.
-    Fault,
-    /// Mains were lost before, or there is no module.
-    Already,
-}
-
-impl fmt::Display for Loss {
-    fn fmt<W: fmt::Write>(&self, f: &mut fmt::Formatter<W>) -> fmt::Result {
-        match self {
-            Loss::Saved { generation, count } => write!(f, "saved {generation} {count}"),
-            Loss::Unsaved => f.write_str("unsaved"),
-            Loss::Dark => f.write_str("dark"),
-            Loss::Fault => f.write_str("fault"),
-            Loss::Already => f.write_str("already"),
-        }
-    }
-}
 
 /// One line of the program's output. It is shown without a newline, and nothing else is done with it.
 #[derive(Clone, Copy)]
@@ -126,7 +98,7 @@ impl fmt::Display for Answer {
             Answer::Waiting => f.write_str("waiting"),
             Answer::StepDisarming => f.write_str("step disarming"),
             Answer::Stepped(step) => write!(f, "step {step}"),
-            Answer::Lost(loss) => write!(f, "lost {loss}"),
+            Answer::Lost(loss) => write_lost(f, loss),
             Answer::Lie { units } => write!(f, "lie {units}"),
             Answer::Fuse { calls } => write_fuse(f, calls),
             Answer::Restored {
@@ -164,6 +136,16 @@ fn write_level<W: fmt::Write>(
     match mode {
         Some(mode) => write!(f, "level {reading} {mode}"),
         None => write!(f, "level {reading} none"),
+    }
+}
+
+fn write_lost<W: fmt::Write>(f: &mut fmt::Formatter<W>, loss: Loss) -> fmt::Result {
+    match loss {
+        Loss::Saved { generation, count } => write!(f, "lost saved {generation} {count}"),
+        Loss::Unsaved => f.write_str("lost unsaved"),
+        Loss::Dark => f.write_str("lost dark"),
+        Loss::Fault => f.write_str("lost fault"),
+        Loss::Closed => f.write_str("lost already"),
     }
 }
 

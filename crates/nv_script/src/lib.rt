@@ -7,10 +7,8 @@
 mod answer;
 mod line;
 mod reading;
-mod refusal;
 mod word;
 
-pub use answer::{Answer, Loss};
+pub use answer::Answer;
 pub use line::ScriptLine;
 pub use reading::{SCRIPT_BYTES, ScriptFault, read_script};
-pub use refusal::{ReadRefusal, WriteRefusal};

@@ -9,16 +9,10 @@ use Rattle.module_core.specs.declared.events.Reply.{Reply}
 use Rattle.module_core.specs.State.{Setup, Machine}
 use Rattle.module_core.specs.Headline.{Point, Happens, Run}
 use Rattle.module_core.specs.Stands.{Stands, Answers, setup_of, point_of}
+use Rattle.module_core.proofs.RunsOn.{run_push}
 use Rattle.nv_session.specs.Coming.{Tale, ComesTo, Comes}
 
 module _ {C : Type 0} (L : Ghosts C) where
-  push_event : (setup : Setup) (events : List Event) (replies : List Reply) (old mid : Point C) (event : Event) (reply : Reply) (new : Point C)
-      → Run L setup events replies old mid → Happens L setup event reply mid new → Run L setup (events ++ event ∷ []) (replies ++ reply ∷ []) old new
-  push_event setup [] [] old mid event reply new run happens = (new, subst (λ (p : Point C). Happens L setup event reply p new) run happens, refl)
-  push_event setup (e ∷ events) (r ∷ replies) old mid event reply new run happens = (run.0, run.1, push_event setup events replies run.0 mid event reply new run.2 happens)
-  push_event setup [] (r ∷ replies) old mid event reply new run happens = absurd run
-  push_event setup (e ∷ events) [] old mid event reply new run happens = absurd run
-
   -- no event
   pub comes_to_itself : (Told : Tale) (it : Module C L) (device : DeviceState) (gauge : Gauge) → ((m : Machine) → Told [] [] m m) → Comes L Told it device gauge it device gauge
   comes_to_itself Told it device gauge told m stands = record { last = m; events = []; replies = []; told = told m; stands = stands; run = refl }
@@ -40,7 +34,7 @@ module _ {C : Type 0} (L : Ghosts C) where
         replies = before.replies ++ reply ∷ [];
         told = tells before.events before.replies m before.last n before.stands before.told happens;
         stands = after.1;
-        run = push_event (setup_of L old) before.events before.replies (point_of L old m device gauge) (point_of L mid before.last device' gauge') event reply (point_of L new n device'' gauge'') before.run happens;
+        run = run_push L (setup_of L old) before.events before.replies (point_of L old m device gauge) (point_of L mid before.last device' gauge') event reply (point_of L new n device'' gauge'') before.run happens;
       }
 
   -- the same events, of which something else is told too

@@ -11,7 +11,7 @@ use Rattle.module_core.specs.declared.events.Event.{Event}
 use Rattle.module_core.specs.declared.events.Event.TheVariants as events
 use Rattle.module_core.specs.declared.events.Reply.{Reply}
 use Rattle.module_core.specs.declared.events.Reply.TheVariants as replies
-use Rattle.module_core.specs.declared.events.ReadRefusal.{ReadRefusal}
+use Rattle.arm_state.specs.declared.refusal.ReadRefusal.{ReadRefusal}
 use Rattle.module_core.specs.State.{Setup, Machine, memory_of, all_of}
 use Rattle.module_core.specs.Refusals.{read_refusal}
 use Rattle.module_core.specs.Machine.{ReadStep}

@@ -1,5 +1,5 @@
 -- The turns of a save: steps, and works between them.
-use Rattle.std.proofs.Common.{◌≡◌, ℕ, List, [], ◌∷◌, ◌++◌, ◌∙◌, refl, sym, ap, subst, Option, Some, None, Result, Ok}
+use Rattle.std.proofs.Common.{◌≡◌, ℕ, List, [], ◌∷◌, ◌++◌, refl, sym, subst, Option, Some, None, Result, Ok}
 use Rattle.save_device.specs.Device.{DeviceState}
 use Rattle.energy_budget.specs.Gauge.{Gauge}
 use Rattle.channel_answers.specs.declared.answers.Done.{Done}
@@ -30,9 +30,6 @@ works_more setup channel None es fs rs ts m n l told step = subst (λ (x : Machi
 works_more setup channel (Some done) es fs rs ts m n l told step = record { same = same_after m n l told.same step.2 }
 
 module _ {C : Type 0} (L : Ghosts C) where
-  pub same_lines : (old new : Module C L) → setup_of L new ≡ setup_of L old → new.lines ≡ old.lines
-  same_lines old new same = new.sized ∙ ap (λ (s : Setup). s.shape.lines) same ∙ sym old.sized
-
   pub no_work : (it : Module C L) → ComesAlone L OnlyWorks it it
   no_work it device gauge = comes_to_itself L OnlyWorks it device gauge (λ m. record { same = refl })
 

@@ -13,10 +13,10 @@ use Rattle.module_core.specs.declared.events.Event.{Event}
 use Rattle.module_core.specs.declared.events.Event.TheVariants as event
 use Rattle.module_core.specs.declared.events.Reply.{Reply}
 use Rattle.module_core.specs.declared.events.Reply.TheVariants as reply
-use Rattle.module_core.specs.declared.events.ReadRefusal.{ReadRefusal}
-use Rattle.module_core.specs.declared.events.ReadRefusal.TheVariants as read
-use Rattle.module_core.specs.declared.events.WriteRefusal.{WriteRefusal}
-use Rattle.module_core.specs.declared.events.WriteRefusal.TheVariants as write
+use Rattle.arm_state.specs.declared.refusal.ReadRefusal.{ReadRefusal}
+use Rattle.arm_state.specs.declared.refusal.ReadRefusal.TheVariants as read
+use Rattle.arm_state.specs.declared.refusal.WriteRefusal.{WriteRefusal}
+use Rattle.arm_state.specs.declared.refusal.WriteRefusal.TheVariants as write
 use Rattle.nv_profile.specs.declared.profile.MapWord.{MapWord}
 use Rattle.nv_profile.specs.declared.profile.MapWord.TheVariants as maps
 use Rattle.nv_session.specs.declared.life.Life.{Life}

@@ -9,7 +9,7 @@ use Rattle.module_core.specs.declared.events.Event.{Event}
 use Rattle.module_core.specs.declared.events.Event.TheVariants as events
 use Rattle.module_core.specs.declared.events.Reply.{Reply}
 use Rattle.module_core.specs.declared.events.Reply.TheVariants as replies
-use Rattle.module_core.specs.declared.events.ReadRefusal.{ReadRefusal}
+use Rattle.arm_state.specs.declared.refusal.ReadRefusal.{ReadRefusal}
 use Rattle.module_core.specs.declared.events.StepReply.{StepReply}
 use Rattle.module_core.specs.declared.events.StepReply.TheVariants as step
 use Rattle.module_core.specs.State.{Setup, Machine, memory_of, memory_after, newest_of}

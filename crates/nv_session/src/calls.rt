@@ -11,12 +11,12 @@ ghost use Rattle.nv_session.specs.Sessions.{GoesOnBy, GoesOnAlone, IsWork, set_t
 use crate::session::{ALL_CALLS, Session};
 use crate::turns::Seen;
 use crate::wires::Wires;
-use arm_state::{ArmRefusal, ArmReply, DisarmReply, Mode};
+use arm_state::{ArmRefusal, ArmReply, DisarmReply, Mode, ReadRefusal, WriteRefusal};
 use channel_answers::Done;
 use ddr4_timing::command::Stamped;
 use line_channels::Channels;
 use line_memory::Write;
-use module_core::{Accepted, Event, ReadRefusal, Reply, StepReply, WriteRefusal};
+use module_core::{Accepted, Event, Reply, StepReply};
 use save_device::{Fuse, MemoryDevice, SaveDevice};
 
 // The command that was issued, if one was.

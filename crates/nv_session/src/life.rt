@@ -5,12 +5,12 @@ ghost use Rattle.slot_store.specs.Slots.{HasSize};
 ghost use Rattle.nv_session.specs.Turns.{SeesLine, MakesStep, GoesOnSaving};
 
 use crate::turns::{Seen, read, save, step};
-use arm_state::{ArmRefusal, ArmReply, DisarmReply, Mode};
+use arm_state::{ArmRefusal, ArmReply, DisarmReply, Loss, Mode, ReadRefusal, WriteRefusal};
 use channel_answers::Done;
 use energy_budget::Energy;
 use line_channels::{Channels, Drainable};
 use line_memory::Write;
-use module_core::{Accepted, Event, Loss, Module, ReadRefusal, Reply, StepReply, WriteRefusal};
+use module_core::{Accepted, Event, Module, Reply, StepReply};
 use save_device::SaveDevice;
 
 /// A life, by the map of its lines.

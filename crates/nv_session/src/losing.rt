@@ -6,8 +6,9 @@ ghost use Rattle.nv_session.specs.Sessions.{GoesOnBy};
 
 use crate::session::Session;
 use crate::wires::Wires;
+use arm_state::Loss;
 use line_channels::Drainable;
-use module_core::{Event, Loss, Reply};
+use module_core::{Event, Reply};
 use save_device::{Fuse, MemoryDevice, SaveDevice};
 
 impl<C, D, A, B> Session<C, D, A, B>

@@ -4,12 +4,12 @@ ghost use Rattle.module_core.specs.Stands.{IsChannel, HasDevice, setup_of};
 ghost use Rattle.nv_session.specs.Coming.{Comes, ComesAlone};
 ghost use Rattle.nv_session.specs.Turns.{SeesPromised, SeesLine, MakesStep, OnlyWorks, GoesOnSaving};
 
-use arm_state::ArmRefusal;
+use arm_state::{ArmRefusal, ReadRefusal};
 use channel_answers::{Collected, Got, Ticket};
 use energy_budget::Energy;
 use line_channels::Channels;
 use line_memory::Line;
-use module_core::{Module, ReadRefusal, StepReply};
+use module_core::{Module, StepReply};
 use save_device::SaveDevice;
 
 /// How often the channel of a read is worked before the read is left waiting.

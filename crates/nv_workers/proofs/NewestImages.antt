@@ -7,8 +7,8 @@ use Rattle.slot_store.specs.declared.plan.Step.TheVariants.{Close, SyncClosed, H
 use Rattle.line_channels.specs.declared.channels.Channels.{Ghosts}
 use Rattle.module_core.specs.declared.events.StepReply.{StepReply}
 use Rattle.module_core.specs.declared.events.StepReply.TheVariants as step
-use Rattle.module_core.specs.declared.events.Loss.{Loss}
-use Rattle.module_core.specs.declared.events.Loss.TheVariants as loss
+use Rattle.arm_state.specs.declared.loss.Loss.{Loss}
+use Rattle.arm_state.specs.declared.loss.Loss.TheVariants as loss
 use Rattle.module_core.specs.declared.events.Event.{Event}
 use Rattle.module_core.specs.declared.events.Event.TheVariants as events
 use Rattle.module_core.specs.declared.events.Reply.{Reply}

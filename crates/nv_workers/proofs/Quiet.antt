@@ -13,8 +13,8 @@ use Rattle.channel_answers.specs.declared.answers.Collected.{Collected}
 use Rattle.channel_answers.specs.declared.answers.Done.{Done}
 use Rattle.line_channels.specs.declared.channels.Channels.{Ghosts}
 use Rattle.module_core.specs.declared.events.Accepted.{Accepted}
-use Rattle.module_core.specs.declared.events.ReadRefusal.{ReadRefusal}
-use Rattle.module_core.specs.declared.events.WriteRefusal.{WriteRefusal}
+use Rattle.arm_state.specs.declared.refusal.ReadRefusal.{ReadRefusal}
+use Rattle.arm_state.specs.declared.refusal.WriteRefusal.{WriteRefusal}
 use Rattle.module_core.specs.declared.events.Event.{Event}
 use Rattle.module_core.specs.declared.events.Event.TheVariants as events
 use Rattle.module_core.specs.declared.events.Reply.{Reply}

@@ -10,14 +10,14 @@ ghost use Rattle.nv_workers.specs.Newest.{HasNewest, saved_after};
 
 use crate::room::Room;
 use crate::tally::Tally;
-use arm_state::{ArmRefusal, ArmReply, DisarmReply};
+use arm_state::{ArmRefusal, ArmReply, DisarmReply, Loss, ReadRefusal, WriteRefusal};
 use channel_answers::{Collected, Done, Got, Ticket};
 use energy_budget::Energy;
 use life_record::LifeRecord;
 use line_channels::{Channels, Drainable};
 use line_memory::Write;
 use mark_board::{BoardSeat, HostSeat, MarkBoard};
-use module_core::{Accepted, Event, Loss, Module, ReadRefusal, Reply, StepReply, WriteRefusal};
+use module_core::{Accepted, Event, Module, Reply, StepReply};
 use save_device::SaveDevice;
 use std::alloc::Global;
 use std::sync::Arc;

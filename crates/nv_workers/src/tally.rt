@@ -5,9 +5,10 @@ ghost use Rattle.life_record.specs.Recorded.{Recorded};
 ghost use Rattle.module_core.specs.Rising.{added};
 
 use crate::room::Room;
+use arm_state::WriteRefusal;
 use life_record::LifeRecord;
 use line_memory::Write;
-use module_core::{Accepted, Event, Reply, WriteRefusal};
+use module_core::{Accepted, Event, Reply};
 use std::sync::ledger::{Book, Share};
 
 /// The book of a board's ledger, and a share of no parts that the hosts' are merged into when the board is closed. Contracts

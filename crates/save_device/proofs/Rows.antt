@@ -1,6 +1,6 @@
 -- What a row has, place by place, after a write.
 use Rattle.std.proofs.Common.{◌≡◌, ◌⊎◌, ⊎_elim, min, max, inl, inr, ℕ, ◌+◌, ◌-◌, ◌<◌, ◌≤◌, List, ◌++◌, length, get_or, take, drop, Bool, true, false, replicate, refl, sym, ◌∙◌, ap, arith, length-append, length-drop}
-use Rattle.std.proofs.lemmas.Bool.{cases_lt}
+use Rattle.std.proofs.lemmas.Bool.{cases_lt, false_from_ne_true}
 use Rattle.std.proofs.lemmas.List.{length-take-le, length-replicate, get_or-replicate, get_or-take, get_or-drop, get_or_append_left, get_or-append_right}
 use Rattle.std.proofs.lemmas.Grind.{same_number_lists}
 use Rattle.save_device.specs.Rows.{overwritten, IsInRange, DiffersOnlyAt}
@@ -73,17 +73,13 @@ still_spanned flags raised at n low high low' high' fits raises least most withi
       ]
     ]
 
-is_down : (b : Bool) → (b ≡ true → ⊥) → b ≡ false
-is_down true never = absurd (never refl)
-is_down false never = refl
-
 -- Where the span is copied that holds each unsettled place, the whole row is.
 pub all_copied : (low high : ℕ) (row settled copied : List ℕ) (flags : List Bool) → length settled ≡ length row → AllUpWithin low high flags
     → ((k : ℕ) → get_or flags k false ≡ false → get_or settled k 0 ≡ get_or row k 0) → CopiedWithin low high row settled copied → copied ≡ row
 all_copied low high row settled copied flags whole within agrees copies =
     same_number_lists copied row (copies.size ∙ whole) (λ k less.
     let settled_here : (k < low) ⊎ (high ≤ k) → get_or settled k 0 ≡ get_or row k 0 =
-    λ out. agrees k (is_down (get_or flags k false) (λ up. let is = within k up in ⊎_elim (λ (b : k < low). let bad : ⊥ = omega (arith, is.0, b) in bad) (λ (b : high ≤ k). let bad : ⊥ = omega (arith, is.1, b) in bad) out)) in
+    λ out. agrees k (false_from_ne_true (get_or flags k false) (λ up. let is = within k up in ⊎_elim (λ (b : k < low). let bad : ⊥ = omega (arith, is.0, b) in bad) (λ (b : high ≤ k). let bad : ⊥ = omega (arith, is.1, b) in bad) out)) in
     elim (cases_lt k low) [
       | inl before ↦ copies.outside k (inl before) ∙ settled_here (inl before)
       | inr least ↦ elim (cases_lt k high) [

@@ -8,6 +8,7 @@ use Rattle.std.proofs.lemmas.Nat.{from_le_bytes-to_le_bytes_8}
 use Rattle.std.proofs.lemmas.List.{get_or-replicate, length-replicate}
 use Rattle.std.proofs.lemmas.Bool.Decides.{Decides-and, Decides-ltb}
 use Rattle.std.specs.Bool.{Decides}
+use Rattle.std.proofs.lemmas.Bool.{false_from_ne_true}
 use Rattle.byteorder.specs.Endian.{little_number}
 use Rattle.save_image.specs.declared.reading.HeaderFault.{HeaderFault}
 use Rattle.save_image.specs.declared.reading.HeaderFault.TheVariants.{Magic, Lines, Generation, Count, Padding}
@@ -145,9 +146,6 @@ no_in lines page t = ap (λ (b : Bool). if b then Some (fields_of page) else Non
 pub is_header : (lines : ℕ) (page : List ℕ) → page ≡ header_of (fields_of page) lines → IsSound page lines → header_in lines page ≡ Some (fields_of page)
 is_header lines page is s = yes_in lines page ((said lines page).1 (is, (s.has_generation.0, (s.has_generation.1, omega (arith, s.has_count)))))
 
-false_where : (b : Bool) → (b ≡ true → ⊥) → b ≡ false
-false_where b wrong = elim b as (λ v. (v ≡ true → ⊥) → v ≡ false) [ true ↦ λ n. absurd (n refl) | false ↦ λ n. refl ] wrong
-
 faulty : (page : List ℕ) (lines : ℕ) (fault : HeaderFault) → IsHeaderFault page lines fault → IsSound page lines → ⊥
 faulty page lines Magic f s = f s.has_magic
 faulty page lines Lines f s = f.1 s.has_lines
@@ -157,7 +155,7 @@ faulty page lines Padding f s = f.4 s.has_padding
 
 pub is_no_header : (lines : ℕ) (page : List ℕ) (fault : HeaderFault) → lines < 2 ^ 64 → IsHeaderFault page lines fault → header_in lines page ≡ None
 is_no_header lines page fault less f =
-    no_in lines page (false_where (test_of lines page) (λ t. faulty page lines fault f (said_sound lines page less ((said lines page).0 t))))
+    no_in lines page (false_from_ne_true (test_of lines page) (λ t. faulty page lines fault f (said_sound lines page less ((said lines page).0 t))))
 
 -- the fields of a header are those that it was written with
 fields_again : (lines : ℕ) (page : List ℕ) (h : Header) → page ≡ header_of h lines → Fits h.generation h.count → fields_of page ≡ h

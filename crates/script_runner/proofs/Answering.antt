@@ -16,12 +16,12 @@ use Rattle.energy_budget.specs.Gauge.{Gauge}
 use Rattle.line_channels.specs.declared.channels.Channels.{Ghosts}
 use Rattle.line_channels.specs.Answers.{line_of}
 use Rattle.module_core.specs.declared.events.Accepted.{Accepted}
-use Rattle.module_core.specs.declared.events.WriteRefusal.{WriteRefusal}
-use Rattle.module_core.specs.declared.events.ReadRefusal.{ReadRefusal}
+use Rattle.arm_state.specs.declared.refusal.WriteRefusal.{WriteRefusal}
+use Rattle.arm_state.specs.declared.refusal.ReadRefusal.{ReadRefusal}
 use Rattle.module_core.specs.declared.events.StepReply.{StepReply}
 use Rattle.module_core.specs.declared.events.StepReply.TheVariants as step
-use Rattle.module_core.specs.declared.events.Loss.{Loss}
-use Rattle.module_core.specs.declared.events.Loss.TheVariants as loss
+use Rattle.arm_state.specs.declared.loss.Loss.{Loss}
+use Rattle.arm_state.specs.declared.loss.Loss.TheVariants as loss
 use Rattle.module_core.specs.declared.events.Event.{Event}
 use Rattle.module_core.specs.declared.events.Event.TheVariants as events
 use Rattle.module_core.specs.declared.events.Reply.{Reply}
@@ -42,7 +42,7 @@ use Rattle.nv_script.specs.declared.line.ScriptLine.{ScriptLine}
 use Rattle.nv_script.specs.declared.line.ScriptLine.TheVariants as line
 use Rattle.nv_script.specs.declared.answer.Answer.{Answer}
 use Rattle.nv_script.specs.declared.answer.Answer.TheVariants as answer
-use Rattle.script_runner.specs.Replies.{write_told, read_told, work_told, step_told, save_told, arm_told, disarm_told, loss_told}
+use Rattle.script_runner.specs.Replies.{write_told, read_told, work_told, step_told, save_told, arm_told, disarm_told}
 use Rattle.script_runner.specs.Ledger.{Ledger, told_by, accepted_by, grown, known_behind, IsTrueBy, IsOfLine}
 use Rattle.script_runner.specs.Keeping.{IsKeptBy, AnswersTruly}
 use Rattle.script_runner.proofs.Later.{IsStep, Later, later, of_one, of_last}
@@ -309,13 +309,13 @@ module _ {C D : Type 0} (L : Ghosts C) (M : Ghosts D) where
   step_truly lines (Err refusal) {life} {life'} {device} {device'} gauge gauge' rests goes =
       saves_plain lines line.Step (answer.SaveRefused refusal) (Err refusal) life life' device device' gauge gauge' (λ setup. MakesStep (Err refusal)) (λ setup es rs m n told. told.goes_on) tt (λ known. refl) refl refl (λ lines ledger. tt) goes
 
-  lose_plain : (lines : ℕ) (result : Loss) (life life' : Option (Life C D L M)) (device device' : DeviceState) (gauge gauge' : Gauge) → told_by (loss_told result) ≤ told_mark (replies.Lose result)
-      → (life ≡ None → told_by (loss_told result) ≡ 0) → GoesOnBy L M (λ setup. IsOneEvent events.Lose (replies.Lose result)) life device gauge life' device' gauge' → AnswersTruly L M lines line.Lose (loss_told result) life device life' device'
+  lose_plain : (lines : ℕ) (result : Loss) (life life' : Option (Life C D L M)) (device device' : DeviceState) (gauge gauge' : Gauge) → told_by (answer.Lost result) ≤ told_mark (replies.Lose result)
+      → (life ≡ None → told_by (answer.Lost result) ≡ 0) → GoesOnBy L M (λ setup. IsOneEvent events.Lose (replies.Lose result)) life device gauge life' device' gauge' → AnswersTruly L M lines line.Lose (answer.Lost result) life device life' device'
   lose_plain lines result life life' device device' gauge gauge' told rests goes =
-      plain_one lines events.Lose (replies.Lose result) line.Lose (loss_told result) life life' device device' gauge gauge' tt (λ known. refl) refl refl told rests (λ lines ledger. tt) goes
+      plain_one lines events.Lose (replies.Lose result) line.Lose (answer.Lost result) life life' device device' gauge gauge' tt (λ known. refl) refl refl told rests (λ lines ledger. tt) goes
 
   pub lose_truly : (lines : ℕ) (result : Loss) {life life' : Option (Life C D L M)} {device device' : DeviceState} (gauge gauge' : Gauge)
-      → (life ≡ None → result ≡ loss.Closed) → GoesOnBy L M (λ setup. IsOneEvent events.Lose (replies.Lose result)) life device gauge life' device' gauge' → AnswersTruly L M lines line.Lose (loss_told result) life device life' device'
+      → (life ≡ None → result ≡ loss.Closed) → GoesOnBy L M (λ setup. IsOneEvent events.Lose (replies.Lose result)) life device gauge life' device' gauge' → AnswersTruly L M lines line.Lose (answer.Lost result) life device life' device'
   lose_truly lines (loss.Saved generation count) {life} {life'} {device} {device'} gauge gauge' rests goes =
       lose_plain lines (loss.Saved generation count) life life' device device' gauge gauge' (omega arith) (λ none. let e = rests none in absurd cc) goes
   lose_truly lines loss.Unsaved {life} {life'} {device} {device'} gauge gauge' rests goes = lose_plain lines loss.Unsaved life life' device device' gauge gauge' (omega arith) (λ none. refl) goes

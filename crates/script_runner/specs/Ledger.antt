@@ -10,7 +10,7 @@ use Rattle.nv_script.specs.declared.line.ScriptLine.{ScriptLine}
 use Rattle.nv_script.specs.declared.line.ScriptLine.TheVariants as line
 use Rattle.nv_script.specs.declared.answer.Answer.{Answer}
 use Rattle.nv_script.specs.declared.answer.Answer.TheVariants as answer
-use Rattle.nv_script.specs.declared.answer.Loss.TheVariants as lost
+use Rattle.arm_state.specs.declared.loss.Loss.TheVariants as lost
 
 -- the writes that were accepted since the device was formatted, without those that a restore didn't find, how many of them
 -- were told to be persistent, and whether a life runs

@@ -9,56 +9,25 @@ use Rattle.arm_state.specs.declared.refusal.ArmReply.TheVariants as arm
 use Rattle.arm_state.specs.declared.refusal.DisarmReply.{DisarmReply}
 use Rattle.arm_state.specs.declared.refusal.DisarmReply.TheVariants as disarm
 use Rattle.module_core.specs.declared.events.Accepted.{Accepted}
-use Rattle.module_core.specs.declared.events.WriteRefusal.{WriteRefusal}
-use Rattle.module_core.specs.declared.events.WriteRefusal.TheVariants as write
-use Rattle.module_core.specs.declared.events.ReadRefusal.{ReadRefusal}
-use Rattle.module_core.specs.declared.events.ReadRefusal.TheVariants as read
+use Rattle.arm_state.specs.declared.refusal.WriteRefusal.{WriteRefusal}
+use Rattle.arm_state.specs.declared.refusal.ReadRefusal.{ReadRefusal}
 use Rattle.module_core.specs.declared.events.StepReply.{StepReply}
 use Rattle.module_core.specs.declared.events.StepReply.TheVariants as step
-use Rattle.module_core.specs.declared.events.Loss.{Loss}
-use Rattle.module_core.specs.declared.events.Loss.TheVariants as loss
 use Rattle.nv_session.specs.declared.opening.Found.{Found}
 use Rattle.nv_session.specs.declared.turns.Seen.{Seen}
 use Rattle.nv_session.specs.declared.turns.Seen.TheVariants as seen
 use Rattle.nv_script.specs.declared.answer.Answer.{Answer}
 use Rattle.nv_script.specs.declared.answer.Answer.TheVariants as answer
-use Rattle.nv_script.specs.declared.answer.Loss as word_loss
-use Rattle.nv_script.specs.declared.answer.Loss.TheVariants as lost
-use Rattle.nv_script.specs.declared.refusal.WriteRefusal as word_write
-use Rattle.nv_script.specs.declared.refusal.WriteRefusal.TheVariants as no_write
-use Rattle.nv_script.specs.declared.refusal.ReadRefusal as word_read
-use Rattle.nv_script.specs.declared.refusal.ReadRefusal.TheVariants as no_read
-
--- the word for why a write or a read was refused, and for what became of a loss of mains
-abbrev pub word_of_write : WriteRefusal → word_write.WriteRefusal
-word_of_write write.Full = no_write.Full
-word_of_write (write.EnergyLow need has) = no_write.EnergyLow need has
-word_of_write write.Disarming = no_write.Disarming
-word_of_write write.Closed = no_write.Closed
-word_of_write write.TrailFull = no_write.TrailFull
-word_of_write write.NoSuchLine = no_write.NoSuchLine
-
-abbrev pub word_of_read : ReadRefusal → word_read.ReadRefusal
-word_of_read read.Full = no_read.Full
-word_of_read read.Closed = no_read.Closed
-word_of_read read.NoSuchLine = no_read.NoSuchLine
-
-abbrev pub word_of_loss : Loss → word_loss.Loss
-word_of_loss (loss.Saved generation count) = lost.Saved generation count
-word_of_loss loss.Unsaved = lost.Unsaved
-word_of_loss loss.Dark = lost.Dark
-word_of_loss loss.Fault = lost.Fault
-word_of_loss loss.Closed = lost.Already
 
 -- the answers to a write and to a read of a line
 abbrev pub write_told : Result Accepted WriteRefusal → Answer
 write_told (Ok accepted) = answer.Accepted accepted.number accepted.mark
-write_told (Err refusal) = answer.WriteRefused (word_of_write refusal)
+write_told (Err refusal) = answer.WriteRefused refusal
 
 abbrev pub read_told : ℕ → Result Seen ReadRefusal → Answer
 read_told line (Ok (seen.Content bytes)) = answer.Content line bytes
 read_told line (Ok seen.Waiting) = answer.ReadWaiting line
-read_told line (Err refusal) = answer.ReadRefused (word_of_read refusal)
+read_told line (Err refusal) = answer.ReadRefused refusal
 
 -- the answer to one work on a channel
 abbrev pub work_told : ℕ → Option Stamped → Answer
@@ -79,7 +48,7 @@ abbrev pub save_told : Result StepReply ArmRefusal → Answer
 save_told (Ok (step.Did made)) = answer.Waiting
 save_told reply = step_told reply
 
--- the answers to arming, to disarming and to a loss of mains
+-- the answers to arming and to disarming
 abbrev pub arm_told : Result ArmReply ArmRefusal → Answer
 arm_told (Ok arm.Armed) = answer.Armed
 arm_told (Ok arm.AlreadyArmed) = answer.ArmedAlready
@@ -90,9 +59,6 @@ abbrev pub disarm_told : Result DisarmReply ArmRefusal → Answer
 disarm_told (Ok disarm.Disarming) = answer.Disarming
 disarm_told (Ok disarm.AlreadyDisarmed) = answer.DisarmedAlready
 disarm_told (Err refusal) = answer.DisarmRefused refusal
-
-abbrev pub loss_told : Loss → Answer
-loss_told reply = answer.Lost (word_of_loss reply)
 
 -- the answer to a restore
 abbrev pub restore_told : Result Found RestoreError → Answer

@@ -1,10 +1,10 @@
 // The answers to a script's lines, from what the session replies.
 ghost use Rattle.std.specs.Prelude.{◌≡◌};
-ghost use Rattle.script_runner.specs.Replies.{write_told, read_told, work_told, step_told, save_told, arm_told, disarm_told, loss_told, restore_told};
+ghost use Rattle.script_runner.specs.Replies.{write_told, read_told, work_told, step_told, save_told, arm_told, disarm_told, restore_told};
 
-use arm_state::{ArmRefusal, ArmReply, DisarmReply};
+use arm_state::{ArmRefusal, ArmReply, DisarmReply, ReadRefusal, WriteRefusal};
 use ddr4_timing::command::Stamped;
-use module_core::{Accepted, Loss, ReadRefusal, StepReply, WriteRefusal};
+use module_core::{Accepted, StepReply};
 use nv_script::{self, Answer};
 use nv_session::{Found, Seen};
 use slot_store::RestoreError;
@@ -15,16 +15,7 @@ pub(crate) fn write_answer(reply: Result<Accepted, WriteRefusal>) -> Answer
 {
     match reply {
         Ok(Accepted { number, mark }) => Answer::Accepted { number, mark },
-        Err(refusal) => Answer::WriteRefused(match refusal {
-            WriteRefusal::Full => nv_script::WriteRefusal::Full,
-            WriteRefusal::EnergyLow { need, has } => {
-                nv_script::WriteRefusal::EnergyLow { need, has }
-            }
-            WriteRefusal::Disarming => nv_script::WriteRefusal::Disarming,
-            WriteRefusal::Closed => nv_script::WriteRefusal::Closed,
-            WriteRefusal::TrailFull => nv_script::WriteRefusal::TrailFull,
-            WriteRefusal::NoSuchLine => nv_script::WriteRefusal::NoSuchLine,
-        }),
+        Err(refusal) => Answer::WriteRefused(refusal),
     }
 }
 
@@ -35,11 +26,7 @@ pub(crate) fn read_answer(line: u64, reply: Result<Seen, ReadRefusal>) -> Answer
     match reply {
         Ok(Seen::Content(bytes)) => Answer::Content { line, bytes },
         Ok(Seen::Waiting) => Answer::ReadWaiting { line },
-        Err(refusal) => Answer::ReadRefused(match refusal {
-            ReadRefusal::Full => nv_script::ReadRefusal::Full,
-            ReadRefusal::Closed => nv_script::ReadRefusal::Closed,
-            ReadRefusal::NoSuchLine => nv_script::ReadRefusal::NoSuchLine,
-        }),
+        Err(refusal) => Answer::ReadRefused(refusal),
     }
 }
 
@@ -98,19 +85,6 @@ pub(crate) fn disarm_answer(reply: Result<DisarmReply, ArmRefusal>) -> Answer
         Ok(DisarmReply::AlreadyDisarmed) => Answer::DisarmedAlready,
         Err(refusal) => Answer::DisarmRefused(refusal),
     }
-}
-
-/// The answer to a loss of mains.
-pub(crate) fn loss_answer(loss: Loss) -> Answer
-    ensures { result ≡ loss_told loss }
-{
-    Answer::Lost(match loss {
-        Loss::Saved { generation, count } => nv_script::Loss::Saved { generation, count },
-        Loss::Unsaved => nv_script::Loss::Unsaved,
-        Loss::Dark => nv_script::Loss::Dark,
-        Loss::Fault => nv_script::Loss::Fault,
-        Loss::Closed => nv_script::Loss::Already,
-    })
 }
 
 /// The answer to a restore.

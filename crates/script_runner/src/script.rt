@@ -7,8 +7,8 @@ ghost use Rattle.script_runner.specs.Story.{AreAllAnswered, AreCutShort, GivesOu
 ghost use Rattle.script_runner.specs.Keeping.{AnswersTruly, AnswersPart, AnswersWhole};
 
 use crate::answers::{
-    arm_answer, disarm_answer, loss_answer, read_answer, restore_answer, save_answer, step_answer,
-    work_answer, write_answer,
+    arm_answer, disarm_answer, read_answer, restore_answer, save_answer, step_answer, work_answer,
+    write_answer,
 };
 use crate::report::Report;
 use crate::wiring::Wiring;
@@ -181,7 +181,7 @@ where
         }
         ScriptLine::Arm => arm_answer(session.arm()),
         ScriptLine::Disarm => disarm_answer(session.disarm()),
-        ScriptLine::Lose => loss_answer(session.lose()),
+        ScriptLine::Lose => Answer::Lost(session.lose()),
         ScriptLine::Lie { units } => {
             session.lie(units);
             Answer::Lie { units }

@@ -2,11 +2,11 @@
 ghost use Rattle.std.specs.Prelude.{◌≡◌, ◌<◌, length};
 
 use crate::gate::UntilDone;
+use arm_state::{ReadRefusal, WriteRefusal};
 use ddr4_boards::Ready;
 use energy_budget::Meter;
 use line_channels::Drainable;
 use line_memory::Write;
-use module_core::{ReadRefusal, WriteRefusal};
 use notice_book::{NoticeBook, Notices};
 use nv_workers::{
     Board, Closed, Ended, Host, Life, Receipt, Room, Seen, channel_worker, close, saver_worker,

@@ -5,10 +5,10 @@ use crate::cases::{AMPLE, CHANNELS, write_of};
 use crate::check::same;
 use crate::ends::{ends, is_strange};
 use crate::gates::{Always, Holds, Turns};
-use arm_state::{ArmRefusal, ArmReply, DisarmReply};
+use arm_state::{ArmRefusal, ArmReply, DisarmReply, Loss, ReadRefusal, WriteRefusal};
 use energy_budget::Energy;
 use line_channels::Drainable;
-use module_core::{Loss, ReadRefusal, StepReply, WriteRefusal};
+use module_core::StepReply;
 use notice_book::{Notices, Persisted};
 use nv_workers::{
     Behind, Board, Ended, Host, Receipt, Room, Seen, Stranger, channel_worker, saver_worker,

@@ -1,8 +1,8 @@
 // Drains after long busy runs, and where the time for refreshes is short.
 use crate::tests::check::same;
-use crate::tests::profiles::{FOUR_RANKS, NARROW, TIGHT};
+use crate::tests::profiles::FOUR_RANKS;
 use crate::tests::run::{Drained, Run, refreshes};
-use ddr4_timing::profiles::{SMALL, TINY};
+use ddr4_timing::profiles::{SHORT_ROWS, SMALL, TIGHT, TINY};
 use ddr4_timing::timing::{Geometry, Timing};
 use std::process::Abort;
 
@@ -43,6 +43,6 @@ fn a_drain_with_eight_refreshes_owed(rt: HostRuntime) {
 #[test]
 fn drains_where_refreshes_are_due(rt: HostRuntime) {
     for late in 0..80 {
-        drained_after(&rt, &TIGHT, &NARROW, late, 8 * 184 - 20 + late);
+        drained_after(&rt, &TIGHT, &SHORT_ROWS, late, 8 * 184 - 20 + late);
     }
 }

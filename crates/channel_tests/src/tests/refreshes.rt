@@ -2,11 +2,11 @@
 use crate::tests::check::same;
 use crate::tests::fixture::Fixture;
 use crate::tests::picks::Picks;
-use crate::tests::profiles::{FOUR_RANKS, NARROW, TIGHT};
+use crate::tests::profiles::FOUR_RANKS;
 use crate::tests::run::refreshes;
 use channel_answers::{Collected, Got, Served, Ticket};
 use ddr4_timing::command::Stamped;
-use ddr4_timing::profiles::{SMALL, TINY};
+use ddr4_timing::profiles::{SHORT_ROWS, SMALL, TIGHT, TINY};
 use std::process::Abort;
 
 // Writes until the queue is full.
@@ -153,7 +153,7 @@ fn a_busy_channel_keeps_every_rule(rt: HostRuntime) {
 #[test]
 fn the_tightest_profile_never_gets_stuck(rt: HostRuntime) {
     for salt in 0..8 {
-        let mut channel = Fixture::new(&rt, &TIGHT, &NARROW, 64, 64);
+        let mut channel = Fixture::new(&rt, &TIGHT, &SHORT_ROWS, 64, 64);
         let list = conflicts(&rt, &mut channel, salt, 50 * 184);
         keeps_every_rule(&rt, &channel, &list, 4 * 41);
     }

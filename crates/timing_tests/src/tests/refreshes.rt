@@ -3,43 +3,13 @@ use bank_core::banks::Banks;
 use ddr4_timing::command::{Command, Stamped};
 use ddr4_timing::fault::first_fault;
 use ddr4_timing::place::Place;
-use ddr4_timing::timing::{Checked, Geometry, Timing};
+use ddr4_timing::profiles::{SHORT_ROWS, TIGHT};
+use ddr4_timing::timing::Checked;
 use frfcfs::next::{Next, next_command};
 use frfcfs::pending::Kind;
 use frfcfs::queue::Queue;
 use std::alloc::Global;
 use std::test::Fail;
-
-// An entry takes 44 clocks and a close step 40: the interval is 2 * (44 + 40) + 4 * 4.
-const TIGHT: Timing = Timing {
-    t_rcd: 3,
-    t_rp: 3,
-    t_ras: 5,
-    cl: 3,
-    cwl: 2,
-    t_ccd_s: 2,
-    t_ccd_l: 3,
-    t_rrd_s: 2,
-    t_rrd_l: 3,
-    t_faw: 8,
-    t_wr: 4,
-    t_wtr_s: 1,
-    t_wtr_l: 2,
-    t_rtp: 30,
-    t_rtw: 4,
-    t_cs: 1,
-    t_rfc: 7,
-    t_refi: 184,
-};
-
-const FOUR_RANKS: Geometry = Geometry {
-    channels: 1,
-    ranks: 4,
-    groups: 2,
-    banks: 4,
-    rows: 16,
-    columns: 4,
-};
 
 // Sixteen requests, each of a line of its own, at places that the salt picks.
 fn conflicts(alloc: Global, salt: u64) -> Result<Queue, Fail> {
@@ -108,7 +78,7 @@ fn refreshes(list: &[Stamped]) -> u64 {
 
 #[test]
 fn goes_on_for_fifty_intervals(rt: HostRuntime) -> Result<(), Fail> {
-    let checked = TIGHT.check(&FOUR_RANKS)?;
+    let checked = TIGHT.check(&SHORT_ROWS)?;
     let list = run(rt.alloc(), &checked, 9000)?;
     let last = list.last().ok_or("empty")?;
     assert!(rt; last.clock >= 50 * 184);

@@ -5,9 +5,10 @@ use Rattle.slot_store.specs.Slots.{HasSize}
 use Rattle.arm_state.specs.declared.refusal.ArmRefusal.{ArmRefusal}
 use Rattle.module_core.specs.declared.events.StepReply.{StepReply}
 use Rattle.module_core.specs.State.{Setup}
+use Rattle.module_core.proofs.Applying.{same_lines}
 use Rattle.nv_session.specs.Coming.{Comes}
 use Rattle.nv_session.specs.Turns.{MakesStep}
-use Rattle.nv_session.proofs.Turning.{same_lines, made_goes_on, still_written, then_works, then_steps}
+use Rattle.nv_session.proofs.Turning.{made_goes_on, still_written, then_works, then_steps}
 use Rattle.nv_session.proofs.turns.save.Goals as goal
 
 pub loop-turn-init : goal.loop-turn-init

@@ -52,7 +52,7 @@ returns-in-Disarm-clause-truly g c =
 pub returns-in-Lose-clause-truly : goal.returns-in-Lose-clause-truly
 returns-in-Lose-clause-truly g c =
     let L = g.C.Channels in let M = g.D.Channels in let lines = lines_of c.args.session.now.profile.checked.geometry in
-    truly_as L M c.in-Lose.is c.loss_answer.ensures (lose_truly L M lines c.lose.result _ _ c.lose.ensures.none c.lose.ensures.comes)
+    truly_as L M c.in-Lose.is refl (lose_truly L M lines c.lose.result _ _ c.lose.ensures.none c.lose.ensures.comes)
 
 pub returns-in-Lie-clause-truly : goal.returns-in-Lie-clause-truly
 returns-in-Lie-clause-truly g c =

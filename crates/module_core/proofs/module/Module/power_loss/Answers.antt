@@ -9,7 +9,7 @@ use Rattle.module_core.specs.declared.closing.Cut.TheVariants as cut
 use Rattle.module_core.specs.Closing.{ClosesChannels}
 use Rattle.module_core.specs.declared.events.Event.TheVariants as events
 use Rattle.module_core.specs.declared.events.Reply.TheVariants as replies
-use Rattle.module_core.specs.declared.events.Loss.TheVariants as loss
+use Rattle.arm_state.specs.declared.loss.Loss.TheVariants as loss
 use Rattle.module_core.specs.State.{Setup, base_of_life, start_of_life, made_of}
 use Rattle.module_core.specs.Moves.{saved_in}
 use Rattle.module_core.specs.Stands.{setup_of}

@@ -5,7 +5,7 @@ use Rattle.arm_state.specs.declared.mode.Mode.{Mode}
 use Rattle.arm_state.specs.Modes.{is_disarming, has_ended, is_short}
 use Rattle.line_channels.specs.View.{is_full}
 use Rattle.line_channels.specs.Waits.{Waits}
-use Rattle.module_core.specs.declared.events.WriteRefusal.TheVariants as write
+use Rattle.arm_state.specs.declared.refusal.WriteRefusal.TheVariants as write
 use Rattle.module_core.specs.State.{Setup, pending_of, start_of_life}
 use Rattle.module_core.specs.Refusals.{need_for, lacks_energy}
 use Rattle.module_core.specs.Stands.{setup_of}

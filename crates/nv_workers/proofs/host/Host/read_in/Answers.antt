@@ -2,7 +2,7 @@ use Rattle.std.proofs.Common.{ap, arith, subst}
 use Rattle.std.specs.Prelude.{Result}
 use Rattle.channel_answers.specs.declared.answers.Got.{Got}
 use Rattle.mark_board.specs.SeenMarks.{SeenMarks}
-use Rattle.module_core.specs.declared.events.ReadRefusal.{ReadRefusal}
+use Rattle.arm_state.specs.declared.refusal.ReadRefusal.{ReadRefusal}
 use Rattle.module_core.specs.declared.events.Event.TheVariants as events
 use Rattle.module_core.specs.declared.events.Reply.TheVariants as replies
 use Rattle.nv_workers.specs.Client.{Client}

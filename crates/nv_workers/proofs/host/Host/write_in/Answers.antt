@@ -2,7 +2,7 @@ use Rattle.std.proofs.Common.{ℕ, ap, arith, subst}
 use Rattle.std.specs.Prelude.{Result, Ok}
 use Rattle.mark_board.specs.SeenMarks.{SeenMarks}
 use Rattle.module_core.specs.declared.events.Accepted.{Accepted}
-use Rattle.module_core.specs.declared.events.WriteRefusal.{WriteRefusal}
+use Rattle.arm_state.specs.declared.refusal.WriteRefusal.{WriteRefusal}
 use Rattle.module_core.specs.declared.events.Event.TheVariants as events
 use Rattle.module_core.specs.declared.events.Reply.TheVariants as replies
 use Rattle.nv_workers.specs.Lent.{told_at}
