@@ -17,6 +17,7 @@ pub struct Fuse<D: SaveDevice> {
 }
 
 impl<D: SaveDevice> Fuse<D> {
+    /// A fuse around this device that passes so many calls.
     pub fn new(device: D, passes: u64) -> Fuse<D>
         ensures device { result.device ≡ device }
         ensures left { result.left ≡ passes }

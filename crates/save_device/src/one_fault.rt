@@ -18,6 +18,7 @@ pub struct OneFault<D: SaveDevice> {
 }
 
 impl<D: SaveDevice> OneFault<D> {
+    /// Around this device, of which so many calls pass before the one that fails.
     pub fn new(device: D, before: u64) -> OneFault<D>
         ensures device { result.device ≡ device }
         ensures before { result.before ≡ Some before }
