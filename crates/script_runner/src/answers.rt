@@ -5,7 +5,7 @@ ghost use Rattle.script_runner.specs.Replies.{write_told, read_told, work_told, 
 use arm_state::{ArmRefusal, ArmReply, DisarmReply, ReadRefusal, WriteRefusal};
 use ddr4_timing::command::Stamped;
 use module_core::{Accepted, StepReply};
-use nv_script::{self, Answer};
+use nv_script::Answer;
 use nv_session::{Found, Seen};
 use slot_store::RestoreError;
 
