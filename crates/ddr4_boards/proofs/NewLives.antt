@@ -14,8 +14,8 @@ use Rattle.line_channels.specs.declared.channels.Channels.{Ghosts}
 use Rattle.module_core.specs.declared.module.Module.{Module}
 use Rattle.module_core.specs.declared.opening.Opened.{Opened}
 use Rattle.module_core.specs.Opening.{BeginsOn, new_life}
-use Rattle.module_core.specs.Stands.{Stands}
-use Rattle.nv_workers.specs.Kept.{HasRoom, IsRecorded}
+use Rattle.module_core.specs.Stands.{ModuleStands}
+use Rattle.nv_workers.specs.Kept.{HasRoomForAll, IsRecorded}
 use Rattle.nv_workers.specs.Lent.{lent}
 use Rattle.nv_workers.specs.Newest.{HasNewest}
 
@@ -43,12 +43,12 @@ module _ {C : Type 0} (L : Ghosts C) where
   }
 
   pub new_has_newest : (it : Module C L) (found : Opened) (image : Image) (device : DeviceState) (saved : ℕ)
-      → Stands L it device (new_life found image) → saved ≡ it.persisted → HasNewest L saved it device
+      → ModuleStands L it device (new_life found image) → saved ≡ it.persisted → HasNewest L saved it device
   new_has_newest it found image device saved stands is = merely (new_life found image, stands, sym (is ∙ stands.matches.persisted))
 
   -- the record of that life has the memory that was restored, and no write
   pub new_is_recorded : (it : Module C L) (found : Opened) (image : Image) (device : DeviceState) (gauge : Gauge) (history : Recorded) (room : ℕ)
-      → Stands L it device (new_life found image) → history ≡ recorded image.memory image.count [] room
+      → ModuleStands L it device (new_life found image) → history ≡ recorded image.memory image.count [] room
       → IsRecorded L (lent L it device gauge) history
   new_is_recorded it found image device gauge history room stands is = merely (
     new_life found image,
@@ -62,7 +62,7 @@ module _ {C : Type 0} (L : Ghosts C) where
 
   -- with room for all that the module may accept
   pub new_has_room : (it : Module C L) (found : Opened) (image : Image) (device : DeviceState) (gauge : Gauge) (history : Recorded) (room : ℕ)
-      → Stands L it device (new_life found image) → history ≡ recorded image.memory image.count [] room → it.trail ≡ room
-      → HasRoom L (lent L it device gauge) history
+      → ModuleStands L it device (new_life found image) → history ≡ recorded image.memory image.count [] room → it.trail ≡ room
+      → HasRoomForAll L (lent L it device gauge) history
   new_has_room it found image device gauge history room stands is trail =
       omega (arith, stands.matches.start, trail, ap (λ (h : Recorded). h.start) is, ap (λ (h : Recorded). h.room) is)

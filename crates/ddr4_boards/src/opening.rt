@@ -4,7 +4,7 @@ ghost use Rattle.ddr4_timing.specs.Limits.{lines_of};
 ghost use Rattle.life_record.specs.Recorded.{recorded};
 ghost use Rattle.line_channels.specs.View.{IsShape};
 ghost use Rattle.module_core.specs.Opening.{BeginsOn, IsUnasked, new_life, setup_with};
-ghost use Rattle.module_core.specs.Stands.{Stands, setup_of};
+ghost use Rattle.module_core.specs.Stands.{ModuleStands, setup_of};
 ghost use Rattle.module_parts.specs.Lines.{HasPlaces};
 ghost use Rattle.save_device.specs.Device.{DeviceState};
 ghost use Rattle.save_image.specs.Header.{Fits};
@@ -97,7 +97,7 @@ fn begin<C: Channels + Drop>(
     ensures mark { IfOk result (λ it. it.0.mark ≡ it.1.persisted) }
     ensures begins { IfOk result (λ it. (image : Image) (device : DeviceState)
         → BeginsOn C.Channels channels found image device
-        → Stands C.Channels it.1 device (new_life found image)) }
+        → ModuleStands C.Channels it.1 device (new_life found image)) }
     ensures setup { IfOk result (λ it.
         setup_of C.Channels it.1 ≡ setup_with C.Channels channels trail) }
     ensures history { IfOk result (λ it. it.2 ≡ recorded memory.items found.count [] trail) }

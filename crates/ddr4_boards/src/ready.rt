@@ -2,7 +2,7 @@
 ghost use Rattle.std.specs.Prelude.{◌≡◌, ◌≤◌, length, vec_len, All, IfOk};
 ghost use Rattle.module_core.specs.Stands.{HasDevice, setup_of};
 ghost use Rattle.nv_workers.specs.Client.{client};
-ghost use Rattle.nv_workers.specs.Kept.{HasRoom, IsRecorded};
+ghost use Rattle.nv_workers.specs.Kept.{HasRoomForAll, IsRecorded};
 ghost use Rattle.nv_workers.specs.Lent.{lent};
 ghost use Rattle.nv_workers.specs.Newest.{HasNewest};
 
@@ -24,7 +24,7 @@ pub struct Ready<C: Channels, D: SaveDevice, E: Energy> {
     ghost newest: { HasNewest C.Channels life.saved life.running (D.state life.device) },
     ghost recorded: { IsRecorded C.Channels
         (lent C.Channels life.running (D.state life.device) (E.gauge life.energy)) life.history },
-    ghost room: { HasRoom C.Channels
+    ghost room: { HasRoomForAll C.Channels
         (lent C.Channels life.running (D.state life.device) (E.gauge life.energy)) life.history },
     ghost mark: { opening.mark ≤ life.running.persisted },
 }

@@ -24,7 +24,7 @@ use Rattle.module_core.specs.Machine.{MachineStep}
 use Rattle.module_core.specs.Guard.{IsGuarded}
 use Rattle.module_core.specs.Device.{Holds, HoldsWhile}
 use Rattle.module_core.specs.Headline.{Point, Happens, WorksWhereDue, LeftWithin, IsAmongWithin, marks}
-use Rattle.module_core.specs.Stands.{Matches, Stands, Follows, Answers, setup_of, point_of}
+use Rattle.module_core.specs.Stands.{Matches, ModuleStands, Follows, Answers, setup_of, point_of}
 use Rattle.module_core.proofs.StoreSteps.{stop_now}
 use Rattle.module_core.proofs.Knowing.{holds_moved}
 use Rattle.module_core.proofs.Leaving.{left_before, left_after}
@@ -49,7 +49,7 @@ works_where_due L setup channel None point idle busy = inr idle
 works_where_due L setup channel (Some done) point idle busy = busy
 
 module _ {C : Type 0} (L : Ghosts C) where
-  pub known : (it : Module C L) (state : DeviceState) (m : Machine) → Stands L it state m → IsKnown (setup_of L it) m
+  pub known : (it : Module C L) (state : DeviceState) (m : Machine) → ModuleStands L it state m → IsKnown (setup_of L it) m
   known it state m s = record {
     shape = it.shaped;
     guarded = s.guarded;
@@ -102,11 +102,11 @@ module _ {C : Type 0} (L : Ghosts C) where
       (λ m h. (m, step m h, h, inl (refl, refl))) (λ m n x. x) unmarked works
 
   -- An event that may call the device.
-  pub asked : (event : Event) (reply : Reply) (old new : Module C L) (device device' : DeviceState) (before later : Gauge) → setup_of L new ≡ setup_of L old → (m : Machine) → Stands L old device m → (n : Machine)
+  pub asked : (event : Event) (reply : Reply) (old new : Module C L) (device device' : DeviceState) (before later : Gauge) → setup_of L new ≡ setup_of L old → (m : Machine) → ModuleStands L old device m → (n : Machine)
       → MachineStep (setup_of L old) event reply (record { machine = m; device = device; gauge = before }) (record { machine = n; device = device'; gauge = later })
       → Matches L new n → Holds old.lines n.store new.saves.saving device' → WorksWhereDue L (setup_of L old) event reply (point_of L old m device before)
       → LeavesOnly device device' (λ image. IsGuarded n → LeftWithin reply m n (restored old.lines image))
-      → (n : Machine) × Stands L new device' n × Happens L (setup_of L old) event reply (point_of L old m device before) (point_of L new n device' later)
+      → (n : Machine) × ModuleStands L new device' n × Happens L (setup_of L old) event reply (point_of L old m device before) (point_of L new n device' later)
   asked event reply old new device device' before later setup m s n step matches holds works moments =
       let guarded : IsGuarded n = guarded_event (setup_of L old) event reply (record { machine = m; device = device; gauge = before }) (record { machine = n; device = device'; gauge = later }) step s.guarded in
       let sized : old.lines ≡ (L.view old.channels).shape.lines = old.sized in (

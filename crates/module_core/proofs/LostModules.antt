@@ -31,7 +31,7 @@ use Rattle.module_core.specs.Device.{Holds, HoldsWhile, IsResting}
 use Rattle.module_core.specs.Begins.{Begins, ReachesStore}
 use Rattle.module_core.specs.Closing.{IsReadyToClose, ClosesChannels}
 use Rattle.module_core.specs.Headline.{Happens}
-use Rattle.module_core.specs.Stands.{Matches, Stands, EndsMains, SameButSaves, setup_of, point_of}
+use Rattle.module_core.specs.Stands.{Matches, ModuleStands, EndsMains, SameButSaves, setup_of, point_of}
 use Rattle.module_core.proofs.GuardLaws.{for_none}
 use Rattle.module_core.proofs.StoreSteps.{stop_now, at_rest}
 use Rattle.module_core.proofs.RunningSaves.{holds_runs}
@@ -75,7 +75,7 @@ module _ {C : Type 0} (L : Ghosts C) where
     hold = ap (λ (v : ChannelsView). v.hold) rest ∙ ap (λ (v : ChannelsView). v.hold) ends.channels.is;
   }
 
-  module _ (old : Module C L) (m : Machine) (device : DeviceState) (stands : Stands L old device m) where
+  module _ (old : Module C L) (m : Machine) (device : DeviceState) (stands : ModuleStands L old device m) where
     -- before the first drain
     module _ (begun : Module C L) (reading : ℕ) (ends : EndsMains L reading old begun) (begins : Begins old.saves old.accepted false old.lines begun.saves) where
       pub ready : IsReadyToClose begun.lines m.store (made_of false m) begun.saves device
@@ -146,7 +146,7 @@ module _ {C : Type 0} (L : Ghosts C) where
 
       pub answers_loss : (before later : Gauge) → setup_of L new ≡ setup_of L old
           → LoseStep (setup_of L old) reply (record { machine = m; device = device; gauge = before }) (record { machine = after_loss; device = device'; gauge = later })
-          → (n : Machine) × Stands L new device' n × Happens L (setup_of L old) events.Lose (replies.Lose reply) (point_of L old m device before) (point_of L new n device' later)
+          → (n : Machine) × ModuleStands L new device' n × Happens L (setup_of L old) events.Lose (replies.Lose reply) (point_of L old m device before) (point_of L new n device' later)
       answers_loss before later same step =
           asked L events.Lose (replies.Lose reply) old new device device' before later same m stands after_loss step matches
           (subst (λ (k : ℕ). Holds k store new.saves.saving device') (sym old.sized) makes.holds) tt
@@ -159,7 +159,7 @@ module _ {C : Type 0} (L : Ghosts C) where
     -- where nothing is backed nothing is saved
     pub answers_unsaved : (new : Module C L) (gauge : Gauge) → EndsMains L old.reading old new → new.saves.saving ≡ None → new.saves.newest ≡ old.saves.newest → new.saves.closed ≡ old.saves.closed → new.saves.unsettled ≡ old.saves.unsettled
         → has_ended m.mode ≡ false → is_backed m.mode ≡ false
-        → (n : Machine) × Stands L new device n × Happens L (setup_of L old) events.Lose (replies.Lose loss.Unsaved) (point_of L old m device gauge) (point_of L new n device gauge)
+        → (n : Machine) × ModuleStands L new device n × Happens L (setup_of L old) events.Lose (replies.Lose loss.Unsaved) (point_of L old m device gauge) (point_of L new n device gauge)
     answers_unsaved new gauge ends none newest closed unsettled on calm =
         let h = stands.matches in let n : Machine = closed_unsaved m in
         let step : LoseStep (setup_of L old) loss.Unsaved (record { machine = m; device = device; gauge = gauge }) (record { machine = n; device = device; gauge = gauge }) = (disarmed_mode m.mode on calm, refl) in

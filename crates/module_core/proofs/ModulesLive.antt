@@ -17,7 +17,7 @@ use Rattle.module_core.specs.declared.opening.Opened.{Opened}
 use Rattle.module_core.specs.State.{Setup}
 use Rattle.module_core.specs.Headline.{Point, Happens, Run}
 use Rattle.module_core.specs.Opening.{new_life}
-use Rattle.module_core.specs.Stands.{Stands, setup_of}
+use Rattle.module_core.specs.Stands.{ModuleStands, setup_of}
 use Rattle.module_core.specs.Lives.{Unanswered, IsLeftAt, moments_since, stop_moments}
 use Rattle.module_core.specs.ModuleLives.{cut_event, point_at, LivesAfter, LivesWithin, LivesAnywhere}
 use Rattle.module_core.proofs.StoreSteps.{stop_now}
@@ -38,7 +38,7 @@ record Parts {C : Type 0} (L : Ghosts C) (setup : Setup) (events : List Event) (
 
 module _ {C : Type 0} (L : Ghosts C) where
   -- a module that stands for a new life has its image on the device
-  opened_on : (found : Opened) (image : Image) (it : Module C L) (device : DeviceState) → Stands L it device (new_life found image)
+  opened_on : (found : Opened) (image : Image) (it : Module C L) (device : DeviceState) → ModuleStands L it device (new_life found image)
       → StopsWithin (λ bytes. restored (setup_of L it).shape.lines bytes ≡ Found found.newest.slot image) (present device)
   opened_on found image it device stands bytes left =
       let among = stop_now it.lines (new_life found image).store it.saves.saving device stands.holds bytes left in

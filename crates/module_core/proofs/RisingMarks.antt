@@ -16,8 +16,8 @@ use Rattle.module_core.specs.State.{Setup, Machine, World, all_of, start_of_life
 use Rattle.module_core.specs.Machine.{MachineStep}
 use Rattle.module_core.specs.Guard.{IsGuarded}
 use Rattle.module_core.specs.Headline.{Point, Run}
-use Rattle.module_core.specs.Stands.{Stands, Answers, AnswersAll, RunsTo, setup_of, point_of}
-use Rattle.module_core.specs.Rising.{Rises, RisesAlong, KeepsHistory, AreInOrder, MarksRise}
+use Rattle.module_core.specs.Stands.{ModuleStands, Answers, AnswersAll, RunsTo, setup_of, point_of}
+use Rattle.module_core.specs.Rising.{Rises, RisesAlong, KeepsHistory, HasMarksInOrder, MarksRise}
 use Rattle.module_core.proofs.EachEvent.{guarded_event}
 use Rattle.module_core.proofs.OpenedStays.{opened_event}
 use Rattle.module_core.proofs.ToldMarks.{event_tells}
@@ -71,28 +71,28 @@ module _ {C : Type 0} (L : Ghosts C) where
   run_rises setup [] (reply ∷ replies) old new none guarded = absurd none
   run_rises setup (event ∷ events) [] old new none guarded = absurd none
 
-  pub in_order : (it : Module C L) (device : DeviceState) (m : Machine) → Stands L it device m → AreInOrder L it
+  pub in_order : (it : Module C L) (device : DeviceState) (m : Machine) → ModuleStands L it device m → HasMarksInOrder L it
   in_order it device m stands = record {
     start = omega (arith, stands.matches.start, stands.matches.persisted, stands.guarded.least);
     within = omega (arith, stands.matches.accepted, stands.matches.persisted, stands.guarded.most);
   }
 
   -- the marks of the modules are those of the machines
-  rises_with : (old new : Module C L) (device later : DeviceState) (m n : Machine) → Stands L old device m → Stands L new later n → Rises m n → MarksRise L old new
+  rises_with : (old new : Module C L) (device later : DeviceState) (m n : Machine) → ModuleStands L old device m → ModuleStands L new later n → Rises m n → MarksRise L old new
   rises_with old new device later m n before behind rises = record {
     accepted = omega (arith, before.matches.accepted, behind.matches.accepted, rises.accepted);
     persisted = omega (arith, before.matches.persisted, behind.matches.persisted, rises.persisted);
     ordered = in_order new later n behind;
   }
 
-  pub call_rises : (event : Event) (reply : Reply) (old new : Module C L) (device later : DeviceState) (gauge after : Gauge) (m : Machine) → Stands L old device m
+  pub call_rises : (event : Event) (reply : Reply) (old new : Module C L) (device later : DeviceState) (gauge after : Gauge) (m : Machine) → ModuleStands L old device m
       → Answers L event reply old device gauge new later after → MarksRise L old new
   call_rises event reply old new device later gauge after m stands answers =
       let next = answers m stands in
       rises_with old new device later m next.0 stands next.1
       (event_rises (setup_of L old) event reply (point_of L old m device gauge).world (point_of L new next.0 later after).world next.2.step stands.guarded)
 
-  pub calls_rise : (events : List Event) (replies : List Reply) (old new : Module C L) (device later : DeviceState) (gauge after : Gauge) (m : Machine) → Stands L old device m
+  pub calls_rise : (events : List Event) (replies : List Reply) (old new : Module C L) (device later : DeviceState) (gauge after : Gauge) (m : Machine) → ModuleStands L old device m
       → AnswersAll L events replies old device gauge new later after → MarksRise L old new
   calls_rise events replies old new device later gauge after m stands answers =
       let to : RunsTo L events replies old m device gauge new later after = answers m stands in

@@ -11,7 +11,7 @@ use Rattle.module_core.specs.declared.opening.Opened.{Opened}
 use Rattle.module_core.specs.State.{Machine}
 use Rattle.module_core.specs.Headline.{Point}
 use Rattle.module_core.specs.Opening.{new_life}
-use Rattle.module_core.specs.Stands.{Stands, Answers, AnswersAll, setup_of, point_of}
+use Rattle.module_core.specs.Stands.{ModuleStands, Answers, AnswersAll, setup_of, point_of}
 use Rattle.module_core.specs.Lives.{Unanswered, Lived, IsLived, IsLeftAt, moments_since}
 
 -- the event that a stop cut, where it cut one
@@ -31,7 +31,7 @@ module _ {C : Type 0} (L : Ghosts C) where
 
   -- a module that began with this image has answered these events
   pub record HasAnswered (found : Opened) (image : Image) (events : List Event) (replies : List Reply) (old new : Assembly) : Type 0 where
-    pub begins : Stands L old.it old.device (new_life found image)
+    pub begins : ModuleStands L old.it old.device (new_life found image)
     pub answers : AnswersAll L events replies old.it old.device old.gauge new.it new.device new.gauge
     pub setup : setup_of L new.it ≡ setup_of L old.it
 
@@ -54,7 +54,7 @@ module _ {C : Type 0} (L : Ghosts C) where
   LivesAfter =
       (found : Opened) (image : Image) (events : List Event) (replies : List Reply) (old new : Assembly) → HasAnswered found image events replies old new
       → (bytes : List ℕ) → MayLeave (present new.device) bytes
-      → (m : Machine) × Stands L new.it new.device m × IsLived L (module_life found image events replies old (point_at new m) None bytes)
+      → (m : Machine) × ModuleStands L new.it new.device m × IsLived L (module_life found image events replies old (point_at new m) None bytes)
 
   -- a stop at any moment of one event more does
   abbrev pub LivesWithin : Type 0
@@ -62,7 +62,7 @@ module _ {C : Type 0} (L : Ghosts C) where
       (found : Opened) (image : Image) (events : List Event) (replies : List Reply) (old new : Assembly) → HasAnswered found image events replies old new
       → (event : Event) (reply : Reply) (later : Assembly) → Answers L event reply new.it new.device new.gauge later.it later.device later.gauge
       → (bytes : List ℕ) → IsLeftAt (moments_since new.device later.device) bytes
-      → (m : Machine) × (n : Machine) × Stands L new.it new.device m
+      → (m : Machine) × (n : Machine) × ModuleStands L new.it new.device m
       × (let cut : Unanswered C = record { event = event; reply = reply; next = point_at later n } in
       IsLived L (module_life found image events replies old (point_at new m) (Some cut) bytes))
 

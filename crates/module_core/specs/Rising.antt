@@ -39,7 +39,7 @@ module _ {C : Type 0} (L : Ghosts C) where
   RisesAlong setup (event ∷ events) [] old new none = ⊥
 
   -- what the module's numbers are in order: what the life began with, what is persistent, and what was accepted
-  pub record AreInOrder (it : Module C L) : Type 0 where
+  pub record HasMarksInOrder (it : Module C L) : Type 0 where
     pub start : it.start ≤ it.persisted
     pub within : it.persisted ≤ it.accepted
 
@@ -47,4 +47,4 @@ module _ {C : Type 0} (L : Ghosts C) where
   pub record MarksRise (old new : Module C L) : Type 0 where
     pub accepted : old.accepted ≤ new.accepted
     pub persisted : old.persisted ≤ new.persisted
-    pub ordered : AreInOrder new
+    pub ordered : HasMarksInOrder new

@@ -98,7 +98,7 @@ module _ {C : Type 0} (L : Ghosts C) where
     pub carried : IsCarried it.channels m
 
   -- the module and its device
-  pub record Stands (it : Module C L) (state : DeviceState) (m : Machine) : Type 0 where
+  pub record ModuleStands (it : Module C L) (state : DeviceState) (m : Machine) : Type 0 where
     pub matches : Matches it m
     pub holds : Holds it.lines m.store it.saves.saving state
     pub guarded : IsGuarded m
@@ -113,8 +113,8 @@ module _ {C : Type 0} (L : Ghosts C) where
   FollowsReading reading turns old new = Follows (λ m n. TakesReading (setup_of old) reading turns m n) old new
 
   -- a channel of the module
-  abbrev pub IsChannel : Module C L → ℕ → Type 0
-  IsChannel it channel = channel < (setup_of it).shape.channels
+  abbrev pub HasChannel : Module C L → ℕ → Type 0
+  HasChannel it channel = channel < (setup_of it).shape.channels
 
   -- the moment of a module that stands for a machine, with its device and its gauge
   abbrev pub point_of : Module C L → Machine → DeviceState → Gauge → Point C
@@ -124,8 +124,8 @@ module _ {C : Type 0} (L : Ghosts C) where
   -- event may lead to with this reply; and what a stop at each moment leaves, and what an honest gauge is enough for, is as
   -- `Happens` says.
   abbrev pub Answers : Event → Reply → Module C L → DeviceState → Gauge → Module C L → DeviceState → Gauge → Type 0
-  Answers event reply old device gauge new device' gauge' = (m : Machine) → Stands old device m
-      → (n : Machine) × Stands new device' n × Happens L (setup_of old) event reply (point_of old m device gauge) (point_of new n device' gauge')
+  Answers event reply old device gauge new device' gauge' = (m : Machine) → ModuleStands old device m
+      → (n : Machine) × ModuleStands new device' n × Happens L (setup_of old) event reply (point_of old m device gauge) (point_of new n device' gauge')
 
   -- the same of an event that asks neither the device nor the gauge
   abbrev pub AnswersAlone : Event → Reply → Module C L → Module C L → Type 0
@@ -137,17 +137,17 @@ module _ {C : Type 0} (L : Ghosts C) where
 
   -- a work names a channel of the module
   abbrev pub IsForChannels : Module C L → Event → Type 0
-  IsForChannels it (events.Work channel) = IsChannel it channel
+  IsForChannels it (events.Work channel) = HasChannel it channel
   IsForChannels it event = Unit {0}
 
   -- A module and its device stood for a machine. After these events they stand for the last one of a run with these replies,
   -- and what the device's bytes restore to then, whatever a stop leaves of them, is one of the images that this machine says.
   pub record RunsTo (events : List Event) (replies : List Reply) (old : Module C L) (m : Machine) (device : DeviceState) (gauge : Gauge) (new : Module C L) (device' : DeviceState) (gauge' : Gauge) : Type 0 where
     pub last : Machine
-    pub stands : Stands new device' last
+    pub stands : ModuleStands new device' last
     pub run : Run L (setup_of old) events replies (point_of old m device gauge) (point_of new last device' gauge')
     pub left : StopsWithin (λ bytes. LeftAfter last (restored (setup_of old).shape.lines bytes)) (present device')
 
   -- The theorem on a list of events.
   abbrev pub AnswersAll : List Event → List Reply → Module C L → DeviceState → Gauge → Module C L → DeviceState → Gauge → Type 0
-  AnswersAll events replies old device gauge new device' gauge' = (m : Machine) → Stands old device m → RunsTo events replies old m device gauge new device' gauge'
+  AnswersAll events replies old device gauge new device' gauge' = (m : Machine) → ModuleStands old device m → RunsTo events replies old m device gauge new device' gauge'

@@ -65,7 +65,7 @@ fn persisted_after_write(mode: Mode, persisted: u64, accepted: u64) -> u64
 impl<C: Channels> Module<C> {
     ghost use Rattle.module_core.specs.Refusals.{is_low, need_for, saves_of, write_refusal, read_refusal};
     ghost use Rattle.module_core.specs.Moves.{begun, disarming};
-    ghost use Rattle.module_core.specs.Stands.{Matches, Follows, FollowsReading, Answers, AnswersAlone, IsChannel, setup_of};
+    ghost use Rattle.module_core.specs.Stands.{Matches, Follows, FollowsReading, Answers, AnswersAlone, HasChannel, setup_of};
 
     // What the gauge has to show while this many writes wait.
     pub(crate) fn need_for(&self, pending: u64) -> u64
@@ -181,7 +181,7 @@ impl<C: Channels> Module<C> {
 
     /// Issues one command of a channel, where mains are there and it has one.
     pub fn work(&mut self, channel: u64) -> Option<Done>
-        requires { IsChannel C.Channels self.old channel }
+        requires { HasChannel C.Channels self.old channel }
         ensures answers { AnswersAlone C.Channels (Event.Work channel) (Reply.Work result)
             self.old self.new }
         ensures setup { setup_of C.Channels self.new ≡ setup_of C.Channels self.old }

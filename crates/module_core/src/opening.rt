@@ -42,7 +42,7 @@ impl Opened {
 }
 
 impl<C: Channels> Module<C> {
-    ghost use Rattle.module_core.specs.Stands.{Stands, setup_of};
+    ghost use Rattle.module_core.specs.Stands.{ModuleStands, setup_of};
     ghost use Rattle.module_core.specs.Opening.{new_life, setup_with, BeginsOn, IsUnasked};
 
     /// Begins a life, disarmed, over channels that hold the memory which a restore found. It may accept `trail` writes.
@@ -54,7 +54,7 @@ impl<C: Channels> Module<C> {
         requires numbers { Fits found.newest.generation found.count }
         ensures begins { (image : Image) (device : DeviceState)
             → BeginsOn C.Channels channels found image device
-            → Stands C.Channels result device (new_life found image) }
+            → ModuleStands C.Channels result device (new_life found image) }
         ensures setup { setup_of C.Channels result ≡ setup_with C.Channels channels trail }
     {
         Module {

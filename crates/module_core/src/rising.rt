@@ -9,8 +9,8 @@ ghost use Rattle.module_core.specs.State.{Setup, Machine, World};
 ghost use Rattle.module_core.specs.Machine.{MachineStep};
 ghost use Rattle.module_core.specs.Guard.{IsGuarded};
 ghost use Rattle.module_core.specs.Headline.{Point, Run};
-ghost use Rattle.module_core.specs.Stands.{Stands, Answers, AnswersAll};
-ghost use Rattle.module_core.specs.Rising.{Rises, RisesAlong, KeepsHistory, AreInOrder, MarksRise, added};
+ghost use Rattle.module_core.specs.Stands.{ModuleStands, Answers, AnswersAll};
+ghost use Rattle.module_core.specs.Rising.{Rises, RisesAlong, KeepsHistory, HasMarksInOrder, MarksRise, added};
 
 use line_channels::Channels;
 
@@ -38,15 +38,15 @@ pub fn history_grows<C: Channels>()
 /// mark falls in a call or through a list of events.
 pub fn marks_rise<C: Channels>()
     ensures ordered { (it : Module C C.Channels) (device : DeviceState) (m : Machine)
-        → Stands C.Channels it device m → AreInOrder C.Channels it }
+        → ModuleStands C.Channels it device m → HasMarksInOrder C.Channels it }
     ensures call { (event : Event) (reply : Reply) (old new : Module C C.Channels)
         (device later : DeviceState) (gauge after : Gauge) (m : Machine)
-        → Stands C.Channels old device m
+        → ModuleStands C.Channels old device m
         → Answers C.Channels event reply old device gauge new later after
         → MarksRise C.Channels old new }
     ensures run { (events : List Event) (replies : List Reply) (old new : Module C C.Channels)
         (device later : DeviceState) (gauge after : Gauge) (m : Machine)
-        → Stands C.Channels old device m
+        → ModuleStands C.Channels old device m
         → AnswersAll C.Channels events replies old device gauge new later after
         → MarksRise C.Channels old new }
 {}

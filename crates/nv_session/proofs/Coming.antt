@@ -8,7 +8,7 @@ use Rattle.module_core.specs.declared.events.Event.{Event}
 use Rattle.module_core.specs.declared.events.Reply.{Reply}
 use Rattle.module_core.specs.State.{Setup, Machine}
 use Rattle.module_core.specs.Headline.{Point, Happens, Run}
-use Rattle.module_core.specs.Stands.{Stands, Answers, setup_of, point_of}
+use Rattle.module_core.specs.Stands.{ModuleStands, Answers, setup_of, point_of}
 use Rattle.module_core.proofs.RunsOn.{run_push}
 use Rattle.nv_session.specs.Coming.{Tale, ComesTo, Comes}
 
@@ -20,7 +20,7 @@ module _ {C : Type 0} (L : Ghosts C) where
   -- one event more, after which something else is told
   pub comes_further : (Told Next : Tale) (event : Event) (reply : Reply) (old mid new : Module C L) (device device' device'' : DeviceState) (gauge gauge' gauge'' : Gauge)
       → setup_of L mid ≡ setup_of L old → Comes L Told old device gauge mid device' gauge' → Answers L event reply mid device' gauge' new device'' gauge''
-      → ((events : List Event) (replies : List Reply) (m n l : Machine) → Stands L mid device' n → Told events replies m n
+      → ((events : List Event) (replies : List Reply) (m n l : Machine) → ModuleStands L mid device' n → Told events replies m n
       → Happens L (setup_of L old) event reply (point_of L mid n device' gauge') (point_of L new l device'' gauge'') → Next (events ++ event ∷ []) (replies ++ reply ∷ []) m l)
       → Comes L Next old device gauge new device'' gauge''
   comes_further Told Next event reply old mid new device device' device'' gauge gauge' gauge'' same so_far next tells m stands =

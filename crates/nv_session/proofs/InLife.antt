@@ -14,7 +14,7 @@ use Rattle.nv_session.specs.declared.life.Life.{Life}
 use Rattle.nv_session.specs.declared.life.Life.TheVariants.{Lines, Xor}
 use Rattle.nv_session.specs.declared.opening.Found.{Found}
 use Rattle.nv_session.specs.Coming.{Tale, ComesTo}
-use Rattle.nv_session.specs.Living.{LifeComes, LifeStands, StandsForSome, IsInLife, setup_of_life}
+use Rattle.nv_session.specs.Living.{LifeComes, LifeStands, LifeStandsForSome, IsInLife, setup_of_life}
 use Rattle.nv_session.specs.Fitting.{IsShapeFor, FitsLife}
 use Rattle.nv_session.specs.Sessions.{LifeRevives}
 
@@ -37,8 +37,8 @@ module _ {C D : Type 0} (L : Ghosts C) (M : Ghosts D) where
   running_or other (Some it) = it
   running_or other None = other
 
-  pub begins_in_life : (it : Life C D L M) (device : DeviceState) → StandsForSome L M it device → IsInLife L M (Some it) device
-  begins_in_life it device stands other same = subst (λ (l : Life C D L M). StandsForSome L M l device) (ap (running_or it) same) stands
+  pub begins_in_life : (it : Life C D L M) (device : DeviceState) → LifeStandsForSome L M it device → IsInLife L M (Some it) device
+  begins_in_life it device stands other same = subst (λ (l : Life C D L M). LifeStandsForSome L M l device) (ap (running_or it) same) stands
 
   pub stays_in_life : (Told : Tale) (life : Option (Life C D L M)) (old new : Life C D L M) (device device' : DeviceState) (gauge gauge' : Gauge)
       → life ≡ Some old → IsInLife L M life device → LifeComes L M Told old device gauge new device' gauge' → IsInLife L M (Some new) device'
@@ -46,11 +46,11 @@ module _ {C D : Type 0} (L : Ghosts C) (M : Ghosts D) where
       begins_in_life new device' (∥∥₁_map (in_life old is) (comes_standing Told old new device device' gauge gauge' comes))
 
   pub revived_stands : (it : Life C D L M) (lines : ℕ) (bytes : List ℕ) (found : Found) (device device' : DeviceState)
-      → LifeRevives L M lines bytes found it device → device' ≡ device → StandsForSome L M it device'
+      → LifeRevives L M lines bytes found it device → device' ≡ device → LifeStandsForSome L M it device'
   revived_stands (Lines it) lines bytes found device device' revives same =
-      subst (λ (d : DeviceState). StandsForSome L M (Lines it) d) (sym same) (merely (new_life revives.opened revives.image, revives.stands))
+      subst (λ (d : DeviceState). LifeStandsForSome L M (Lines it) d) (sym same) (merely (new_life revives.opened revives.image, revives.stands))
   revived_stands (Xor it) lines bytes found device device' revives same =
-      subst (λ (d : DeviceState). StandsForSome L M (Xor it) d) (sym same) (merely (new_life revives.opened revives.image, revives.stands))
+      subst (λ (d : DeviceState). LifeStandsForSome L M (Xor it) d) (sym same) (merely (new_life revives.opened revives.image, revives.stands))
 
   pub begins_fitting : (profile : Profile) (it : Life C D L M) → IsShapeFor profile (setup_of_life L M it).shape → FitsLife L M profile (Some it)
   begins_fitting profile it fits other same = subst (λ (l : Life C D L M). IsShapeFor profile (setup_of_life L M l).shape) (ap (running_or it) same) fits

@@ -19,7 +19,7 @@ use Rattle.module_core.specs.declared.module.Module.{Module}
 use Rattle.module_core.specs.State.{Machine, newest_of, memory_after}
 use Rattle.module_core.specs.Guard.{IsPrefix, HasCause}
 use Rattle.module_core.specs.Headline.{LeftAfter}
-use Rattle.module_core.specs.Stands.{Stands, setup_of}
+use Rattle.module_core.specs.Stands.{ModuleStands, setup_of}
 use Rattle.module_core.proofs.Leaving.{left_after}
 use Rattle.module_core.proofs.StoreSteps.{stop_now}
 use Rattle.module_core.proofs.SurvivedLives.{clear_where}
@@ -85,7 +85,7 @@ only_fails errors.WrongSize what found refuses = ∥∥₁_elim found (λ x y. a
 only_fails (errors.Damaged slot) what found refuses = ∥∥₁_elim found (λ x y. absurd x) (λ f. subst IsNotFound (sym refuses ∙ f.2) tt)
 
 module _ {C : Type 0} (L : Ghosts C) where
-  module_stopped : (it : Module C L) (m : Machine) (device : DeviceState) (bytes : List ℕ) → Stands L it device m → MayLeave (present device) bytes
+  module_stopped : (it : Module C L) (m : Machine) (device : DeviceState) (bytes : List ℕ) → ModuleStands L it device m → MayLeave (present device) bytes
       → LeftAfter m (restored (setup_of L it).shape.lines bytes)
   module_stopped it m device bytes stands left =
       left_after m stands.guarded (restored (setup_of L it).shape.lines bytes)
@@ -96,7 +96,7 @@ module _ {C : Type 0} (L : Ghosts C) where
   module_tells it m lines bytes found device left revives =
       tells_prefix m found revives.image (restored lines bytes) revives.opened.newest.slot revives.generation_is revives.count_is revives.verdict_is revives.finds left
 
-  module_left : (it : Module C L) (m : Machine) (device : DeviceState) (generation count : ℕ) (bytes : List ℕ) → Stands L it device m → HasSaved generation count m
+  module_left : (it : Module C L) (m : Machine) (device : DeviceState) (generation count : ℕ) (bytes : List ℕ) → ModuleStands L it device m → HasSaved generation count m
       → MayLeave (present device) bytes → restored (setup_of L it).shape.lines bytes ≡ outcome.Found m.store.maybe.slot (newest_of m)
   module_left it m device generation count bytes stands saved left =
       subst (λ (n : ℕ). restored n bytes ≡ outcome.Found m.store.maybe.slot (newest_of m)) it.sized

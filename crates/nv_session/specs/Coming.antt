@@ -8,7 +8,7 @@ use Rattle.module_core.specs.declared.events.Event.{Event}
 use Rattle.module_core.specs.declared.events.Reply.{Reply}
 use Rattle.module_core.specs.State.{Machine}
 use Rattle.module_core.specs.Headline.{Run}
-use Rattle.module_core.specs.Stands.{Stands, setup_of, point_of}
+use Rattle.module_core.specs.Stands.{ModuleStands, setup_of, point_of}
 
 -- what is told of events, their replies, and the machine before and after them
 abbrev pub Tale : Type 1
@@ -21,12 +21,12 @@ module _ {C : Type 0} (L : Ghosts C) where
     pub events : List Event
     pub replies : List Reply
     pub told : Told events replies m last
-    pub stands : Stands L new device' last
+    pub stands : ModuleStands L new device' last
     pub run : Run L (setup_of L old) events replies (point_of L old m device gauge) (point_of L new last device' gauge')
 
   -- the same of each machine that they may have stood for
   abbrev pub Comes : Tale → Module C L → DeviceState → Gauge → Module C L → DeviceState → Gauge → Type 0
-  Comes Told old device gauge new device' gauge' = (m : Machine) → Stands L old device m → ComesTo Told old m device gauge new device' gauge'
+  Comes Told old device gauge new device' gauge' = (m : Machine) → ModuleStands L old device m → ComesTo Told old m device gauge new device' gauge'
 
   -- the same of calls that ask neither the device nor the gauge
   abbrev pub ComesAlone : Tale → Module C L → Module C L → Type 0

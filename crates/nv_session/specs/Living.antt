@@ -7,7 +7,7 @@ use Rattle.line_channels.specs.declared.channels.Channels.{Ghosts}
 use Rattle.module_core.specs.declared.events.Event.{Event}
 use Rattle.module_core.specs.declared.events.Reply.{Reply}
 use Rattle.module_core.specs.State.{Setup, Machine}
-use Rattle.module_core.specs.Stands.{Stands, setup_of}
+use Rattle.module_core.specs.Stands.{ModuleStands, setup_of}
 use Rattle.nv_session.specs.declared.life.Life.{Life}
 use Rattle.nv_session.specs.declared.life.Life.TheVariants.{Lines, Xor}
 use Rattle.nv_session.specs.Coming.{Tale, Comes}
@@ -24,8 +24,8 @@ module _ {C D : Type 0} (L : Ghosts C) (M : Ghosts D) where
 
   -- its module and the device stand for a machine
   abbrev pub LifeStands : Life C D L M → DeviceState → Machine → Type 0
-  LifeStands (Lines it) device m = Stands L it device m
-  LifeStands (Xor it) device m = Stands M it device m
+  LifeStands (Lines it) device m = ModuleStands L it device m
+  LifeStands (Xor it) device m = ModuleStands M it device m
 
   -- its calls come to events of which this is told, and its channels are of the kind that they were
   abbrev pub LifeComes : Tale → Life C D L M → DeviceState → Gauge → Life C D L M → DeviceState → Gauge → Type 0
@@ -48,9 +48,9 @@ module _ {C D : Type 0} (L : Ghosts C) (M : Ghosts D) where
   mode_in (Xor it) = it.mode
 
   -- its module and the device stand for some machine
-  abbrev pub StandsForSome : Life C D L M → DeviceState → Type 0
-  StandsForSome it device = ∥ ((m : Machine) × LifeStands it device m) ∥₁
+  abbrev pub LifeStandsForSome : Life C D L M → DeviceState → Type 0
+  LifeStandsForSome it device = ∥ ((m : Machine) × LifeStands it device m) ∥₁
 
   -- so does the life that runs, if one does
   abbrev pub IsInLife : Option (Life C D L M) → DeviceState → Type 0
-  IsInLife life device = (it : Life C D L M) → life ≡ Some it → StandsForSome it device
+  IsInLife life device = (it : Life C D L M) → life ≡ Some it → LifeStandsForSome it device

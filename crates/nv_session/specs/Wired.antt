@@ -10,7 +10,7 @@ use Rattle.line_channels.specs.View.{Shape}
 use Rattle.module_core.specs.declared.module.Module.{Module}
 use Rattle.module_core.specs.declared.opening.Opened.{Opened}
 use Rattle.module_core.specs.Opening.{IsUnasked, new_life}
-use Rattle.module_core.specs.Stands.{Stands}
+use Rattle.module_core.specs.Stands.{ModuleStands}
 use Rattle.nv_session.specs.declared.opening.Found.{Found}
 
 -- an image, on which the device is at rest, is what was found: its numbers and its lines
@@ -29,7 +29,7 @@ module _ {C : Type 0} (L : Ghosts C) where
 
   -- a life begins: over a device at rest on what was found the module stands for a new life
   abbrev pub BeginsLife : Opened → List (List ℕ) → ℕ → Module C L → Type 0
-  BeginsLife found memory lines it = (image : Image) (device : DeviceState) → RestsOnFound found memory lines image device → Stands L it device (new_life found image)
+  BeginsLife found memory lines it = (image : Image) (device : DeviceState) → RestsOnFound found memory lines image device → ModuleStands L it device (new_life found image)
 
   -- A life begins with the image that these bytes restore to: what is told is its numbers and its verdict.
   pub record Revives (lines : ℕ) (bytes : List ℕ) (found : Found) (it : Module C L) (device : DeviceState) : Type 0 where
@@ -39,4 +39,4 @@ module _ {C : Type 0} (L : Ghosts C) where
     pub generation_is : found.generation ≡ image.generation
     pub count_is : found.count ≡ image.count
     pub verdict_is : found.verdict ≡ verdict_of image.arm image.count
-    pub stands : Stands L it device (new_life opened image)
+    pub stands : ModuleStands L it device (new_life opened image)

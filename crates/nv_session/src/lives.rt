@@ -9,7 +9,7 @@ ghost use Rattle.slot_store.specs.Outcomes.{first_image, restored};
 ghost use Rattle.slot_store.specs.Told.{Refuses, IsFailure};
 ghost use Rattle.energy_budget.specs.Meter.{meter_gauge, lie_of};
 ghost use Rattle.module_core.specs.Opening.{new_life};
-ghost use Rattle.nv_session.specs.Living.{LifeStands, StandsForSome, setup_of_life};
+ghost use Rattle.nv_session.specs.Living.{LifeStands, LifeStandsForSome, setup_of_life};
 ghost use Rattle.nv_session.specs.Fitting.{IsShapeFor};
 ghost use Rattle.nv_session.specs.Restoring.{FindsPrefixOf, KeepsPrefixOf};
 ghost use Rattle.nv_session.specs.Sessions.{IsOverMap, LifeBegins, LifeRevives, RunsOver, formatted};
@@ -84,7 +84,7 @@ where
     fn begin(&mut self, life: Life<C, D>)
         requires fits { IsShapeFor self.old.profile
             (setup_of_life C.Channels D.Channels life).shape }
-        requires stands { StandsForSome C.Channels D.Channels life
+        requires stands { LifeStandsForSome C.Channels D.Channels life
             (⟦<Fuse<MemoryDevice> as SaveDevice>⟧.state self.old.device) }
         ensures life { self.new.life ≡ Some life }
         ensures device { ⟦<Fuse<MemoryDevice> as SaveDevice>⟧.state self.new.device

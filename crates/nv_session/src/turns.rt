@@ -1,6 +1,6 @@
 // What a line of a script asks of a module that takes several of its calls.
 ghost use Rattle.std.specs.Prelude.{◌≡◌};
-ghost use Rattle.module_core.specs.Stands.{IsChannel, HasDevice, setup_of};
+ghost use Rattle.module_core.specs.Stands.{HasChannel, HasDevice, setup_of};
 ghost use Rattle.nv_session.specs.Coming.{Comes, ComesAlone};
 ghost use Rattle.nv_session.specs.Turns.{SeesPromised, SeesLine, MakesStep, OnlyWorks, GoesOnSaving};
 
@@ -28,7 +28,7 @@ pub enum Seen {
 
 // Works the channel of a read that waits, until it has its bytes or the channel is idle.
 fn await_read<C: Channels>(running: &mut Module<C>, ticket: Ticket) -> Seen
-    requires { IsChannel C.Channels running.old ticket.channel }
+    requires { HasChannel C.Channels running.old ticket.channel }
     ensures comes { ComesAlone C.Channels (SeesPromised ticket result) running.old running.new }
     ensures setup { setup_of C.Channels running.new ≡ setup_of C.Channels running.old }
 {

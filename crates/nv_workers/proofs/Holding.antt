@@ -12,9 +12,9 @@ use Rattle.module_core.specs.declared.events.Reply.{Reply}
 use Rattle.module_core.specs.declared.module.Module.{Module}
 use Rattle.module_core.specs.Rising.{MarksRise}
 use Rattle.module_core.specs.State.{Setup, Machine}
-use Rattle.module_core.specs.Stands.{Stands, HasDevice, setup_of}
+use Rattle.module_core.specs.Stands.{ModuleStands, HasDevice, setup_of}
 use Rattle.module_core.proofs.RisingMarks.{call_rises}
-use Rattle.nv_workers.specs.Lent.{Lent, StepsBy, StandsForSome, IsBehind, IsHeld, marks_of}
+use Rattle.nv_workers.specs.Lent.{Lent, StepsBy, StandsForSome, IsBehind, IsLendable, marks_of}
 
 module _ {C : Type 0} (L : Ghosts C) where
   still_stands : (event : Event) (reply : Reply) (old new : Lent L) → StandsForSome L old → StepsBy L event reply old new → StandsForSome L new
@@ -22,7 +22,7 @@ module _ {C : Type 0} (L : Ghosts C) where
 
   -- a machine that it stands for
   abbrev Standing : Lent L → Type 0
-  Standing lent = (m : Machine) × Stands L lent.it lent.device m
+  Standing lent = (m : Machine) × ModuleStands L lent.it lent.device m
 
   rising : (event : Event) (reply : Reply) (old new : Lent L) → StepsBy L event reply old new → Standing old → MarksRise L old.it new.it
   rising event reply old new steps s = call_rises L event reply old.it new.it old.device new.device old.gauge new.gauge s.0 s.1 steps
@@ -36,7 +36,7 @@ module _ {C : Type 0} (L : Ghosts C) where
   same_channels old new channels is same = ap (λ (s : Setup). s.shape.channels) same ∙ is
 
   -- the marks of before aren't above the module's numbers after an event
-  pub falls_behind : (board : TableId) (marks : SeenMarks) (event : Event) (reply : Reply) (old new : Lent L) → IsHeld L board old marks → StepsBy L event reply old new
+  pub falls_behind : (board : TableId) (marks : SeenMarks) (event : Event) (reply : Reply) (old new : Lent L) → IsLendable L board old marks → StepsBy L event reply old new
       → IsBehind L new.it marks
   falls_behind board marks event reply old new held steps =
       subst (λ (m : SeenMarks). IsBehind L new.it m) (sym held.marks_are)
@@ -47,8 +47,8 @@ module _ {C : Type 0} (L : Ghosts C) where
       })
 
   -- after an event and the marks' move to the module's numbers
-  pub keeps_held : (board board' : TableId) (before marks : SeenMarks) (event : Event) (reply : Reply) (old new : Lent L) → IsHeld L board old before → StepsBy L event reply old new
-      → HasDevice L new.it new.device → board' ≡ board → marks ≡ marks_of L board' new.it → IsHeld L board new marks
+  pub keeps_held : (board board' : TableId) (before marks : SeenMarks) (event : Event) (reply : Reply) (old new : Lent L) → IsLendable L board old before → StepsBy L event reply old new
+      → HasDevice L new.it new.device → board' ≡ board → marks ≡ marks_of L board' new.it → IsLendable L board new marks
   keeps_held board board' before marks event reply old new held steps size is marks_are = record {
     stands = still_stands event reply old new held.stands steps;
     size = size;

@@ -20,10 +20,10 @@ use Rattle.module_core.specs.declared.events.Reply.{Reply}
 use Rattle.module_core.specs.declared.events.Reply.TheVariants as replies
 use Rattle.module_core.specs.State.{Setup, Machine}
 use Rattle.module_core.specs.Rising.{Rises, added}
-use Rattle.module_core.specs.Stands.{Stands, setup_of, point_of}
+use Rattle.module_core.specs.Stands.{ModuleStands, setup_of, point_of}
 use Rattle.module_core.proofs.RisingMarks.{event_rises, in_order}
 use Rattle.module_core.proofs.AddedWrites.{event_adds}
-use Rattle.nv_workers.specs.Kept.{StandsWith, IsRecorded, IsKept}
+use Rattle.nv_workers.specs.Kept.{StandsWith, IsRecorded, IsRecordKept}
 use Rattle.nv_workers.specs.Lent.{Lent, StepsBy, IsBehind}
 
 -- the record with the write that an event accepted
@@ -31,7 +31,7 @@ abbrev pub recorded_after : Event → Reply → Recorded → Recorded
 recorded_after event reply history = record history { writes = history.writes ++ added event reply }
 
 module _ {C : Type 0} (L : Ghosts C) where
-  rises_to : (event : Event) (reply : Reply) (old new : Lent L) (steps : StepsBy L event reply old new) (m : Machine) (stands : Stands L old.it old.device m)
+  rises_to : (event : Event) (reply : Reply) (old new : Lent L) (steps : StepsBy L event reply old new) (m : Machine) (stands : ModuleStands L old.it old.device m)
       → Rises m (steps m stands).0
   rises_to event reply old new steps m stands =
       let next = steps m stands in
@@ -68,11 +68,11 @@ module _ {C : Type 0} (L : Ghosts C) where
       ∥∥₁_elim is (ℕ_set _ _)
       (λ s. let size : length s.0.life.writes ≡ length history.writes = ap length s.1.writes in omega (arith, s.1.stands.matches.accepted, s.1.start, size))
 
-  pub keeps_on : (before : ℕ) (event : Event) (reply : Reply) (old new : Lent L) (history later : Recorded) (total sum : ℕ) → IsKept L before old history total
+  pub keeps_on : (before : ℕ) (event : Event) (reply : Reply) (old new : Lent L) (history later : Recorded) (total sum : ℕ) → IsRecordKept L before old history total
       → StepsBy L event reply old new → setup_of L new.it ≡ setup_of L old.it → later ≡ recorded_after event reply history → sum ≡ total + length (added event reply)
-      → IsKept L before new later sum
+      → IsRecordKept L before new later sum
   keeps_on before event reply old new history later total sum kept steps setup is more =
-      subst (λ (r : Recorded). IsKept L before new r sum) (sym is)
+      subst (λ (r : Recorded). IsRecordKept L before new r sum) (sym is)
       (record {
         recorded = recorded_on event reply old new history kept.recorded steps;
         room =
@@ -83,15 +83,15 @@ module _ {C : Type 0} (L : Ghosts C) where
       })
 
   -- an event that accepts no write leaves the record as it is
-  pub keeps_same : (before : ℕ) (event : Event) (reply : Reply) (old new : Lent L) (history : Recorded) (total : ℕ) → added event reply ≡ [] → IsKept L before old history total
-      → StepsBy L event reply old new → setup_of L new.it ≡ setup_of L old.it → IsKept L before new history total
+  pub keeps_same : (before : ℕ) (event : Event) (reply : Reply) (old new : Lent L) (history : Recorded) (total : ℕ) → added event reply ≡ [] → IsRecordKept L before old history total
+      → StepsBy L event reply old new → setup_of L new.it ≡ setup_of L old.it → IsRecordKept L before new history total
   keeps_same before event reply old new history total none kept steps setup =
       keeps_on before event reply old new history history total total kept steps setup
       (ap (λ (ws : List line_write.Write). record history { writes = ws }) (sym (ap (λ (ws : List line_write.Write). history.writes ++ ws) none ∙ append-nil history.writes)))
       (let size : length (added event reply) ≡ 0 = ap length none in omega (arith, size))
 
   -- a write that was accepted had room in the record
-  pub has_room : (before : ℕ) (write : line_write.Write) (result : Result Accepted WriteRefusal) (old new : Lent L) (history : Recorded) (total : ℕ) → IsKept L before old history total
+  pub has_room : (before : ℕ) (write : line_write.Write) (result : Result Accepted WriteRefusal) (old new : Lent L) (history : Recorded) (total : ℕ) → IsRecordKept L before old history total
       → StepsBy L (events.Write write) (replies.Write result) old new → setup_of L new.it ≡ setup_of L old.it → new.it.accepted ≤ new.it.start + new.it.trail
       → IsOk result → length history.writes < history.room
   has_room before write (Ok accepted) old new history total kept steps setup within ok =

@@ -22,7 +22,7 @@ use Rattle.module_core.specs.declared.events.Reply.TheVariants as replies
 use Rattle.module_core.specs.State.{Setup, Life, Machine, World}
 use Rattle.module_core.specs.Machine.{MachineStep}
 use Rattle.module_core.specs.Stands.{HasDevice, setup_of, point_of}
-use Rattle.nv_workers.specs.Lent.{Lent, StepsBy, StandsForSome, IsCounted, IsHeld, marks_of}
+use Rattle.nv_workers.specs.Lent.{Lent, StepsBy, StandsForSome, IsCounted, IsLendable, marks_of}
 use Rattle.nv_workers.proofs.Holding.{keeps_held}
 
 -- the event leaves the life as it is
@@ -70,8 +70,8 @@ module _ {C : Type 0} (L : Ghosts C) where
       rw (same_accepted event reply old new quiet stands steps, same_persisted event reply old new quiet stands steps) refl
 
   -- after such an event the marks that were are the module's numbers still
-  pub keeps_quiet : (board : TableId) (before marks : SeenMarks) (event : Event) (reply : Reply) (old new : Lent L) → IsQuiet event reply → IsHeld L board old before
-      → StepsBy L event reply old new → HasDevice L new.it new.device → marks ≡ before → IsHeld L board new marks
+  pub keeps_quiet : (board : TableId) (before marks : SeenMarks) (event : Event) (reply : Reply) (old new : Lent L) → IsQuiet event reply → IsLendable L board old before
+      → StepsBy L event reply old new → HasDevice L new.it new.device → marks ≡ before → IsLendable L board new marks
   keeps_quiet board before marks event reply old new quiet held steps size same =
       keeps_held L board board before marks event reply old new held steps size refl (same ∙ held.marks_are ∙ same_marks board event reply old new quiet held.stands steps)
 

@@ -10,7 +10,7 @@ use Rattle.module_core.specs.declared.events.Accepted.{Accepted}
 use Rattle.module_core.specs.declared.events.Event.{Event}
 use Rattle.module_core.specs.declared.events.Reply.{Reply}
 use Rattle.module_core.specs.State.{Machine}
-use Rattle.module_core.specs.Stands.{Stands, Answers, HasDevice}
+use Rattle.module_core.specs.Stands.{ModuleStands, Answers, HasDevice}
 
 -- an accepted write of this number, with this mark
 abbrev pub told_at : ℕ → ℕ → Accepted
@@ -33,7 +33,7 @@ module _ {C : Type 0} (L : Ghosts C) where
 
   -- the module and its device stand for some machine
   abbrev pub StandsForSome : Lent → Type 0
-  StandsForSome lent = ∥ ((m : Machine) × Stands L lent.it lent.device m) ∥₁
+  StandsForSome lent = ∥ ((m : Machine) × ModuleStands L lent.it lent.device m) ∥₁
 
   -- An accepted write has the number of all that were accepted before it and tells how many are persistent then; it is one
   -- more.
@@ -54,7 +54,7 @@ module _ {C : Type 0} (L : Ghosts C) where
 
   -- What is true whenever the lock is free: the module and its device stand for a machine, the device has the module's size,
   -- and the marks are the module's two numbers.
-  pub record IsHeld (board : TableId) (lent : Lent) (marks : SeenMarks) : Type 0 where
+  pub record IsLendable (board : TableId) (lent : Lent) (marks : SeenMarks) : Type 0 where
     pub stands : StandsForSome lent
     pub size : HasDevice L lent.it lent.device
     pub marks_are : marks ≡ marks_of board lent.it

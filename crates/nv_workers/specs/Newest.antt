@@ -8,7 +8,7 @@ use Rattle.module_core.specs.declared.events.Reply.{Reply}
 use Rattle.module_core.specs.declared.events.Reply.TheVariants as replies
 use Rattle.module_core.specs.declared.module.Module.{Module}
 use Rattle.module_core.specs.State.{Machine, newest_of}
-use Rattle.module_core.specs.Stands.{Stands}
+use Rattle.module_core.specs.Stands.{ModuleStands}
 
 -- how many writes it has after a reply
 abbrev pub saved_after : Reply → ℕ → ℕ
@@ -19,4 +19,4 @@ saved_after reply saved = saved
 module _ {C : Type 0} (L : Ghosts C) where
   -- the module and its device stand for some machine whose newest image has so many writes
   abbrev pub HasNewest : ℕ → Module C L → DeviceState → Type 0
-  HasNewest count it device = ∥ ((m : Machine) × Stands L it device m × ((newest_of m).count ≡ count)) ∥₁
+  HasNewest count it device = ∥ ((m : Machine) × ModuleStands L it device m × ((newest_of m).count ≡ count)) ∥₁

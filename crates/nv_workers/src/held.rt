@@ -4,8 +4,8 @@ ghost use Rattle.mark_board.specs.SeenMarks.{IsNotAbove};
 ghost use Rattle.std.specs.Arc.{arc_value};
 ghost use Rattle.module_core.specs.Rising.{added};
 ghost use Rattle.module_core.specs.Stands.{setup_of};
-ghost use Rattle.nv_workers.specs.Kept.{IsKept};
-ghost use Rattle.nv_workers.specs.Lent.{IsBehind, IsCounted, IsHeld, lent, marks_of};
+ghost use Rattle.nv_workers.specs.Kept.{IsRecordKept};
+ghost use Rattle.nv_workers.specs.Lent.{IsBehind, IsCounted, IsLendable, lent, marks_of};
 ghost use Rattle.nv_workers.specs.Newest.{HasNewest, saved_after};
 
 use crate::room::Room;
@@ -38,9 +38,9 @@ pub struct Held<C: Channels, D: SaveDevice, E: Energy, B: Room> {
     ghost board: { arc_value marks ≡ B.board },
     ghost channels: { (setup_of C.Channels running).shape.channels ≡ B.channels },
     ghost newest: { HasNewest C.Channels saved running (D.state device) },
-    ghost held: { IsHeld C.Channels B.board
+    ghost held: { IsLendable C.Channels B.board
         (lent C.Channels running (D.state device) (E.gauge energy)) seat },
-    ghost kept: { IsKept C.Channels B.before
+    ghost kept: { IsRecordKept C.Channels B.before
         (lent C.Channels running (D.state device) (E.gauge energy)) history tally.book.total },
 }
 
@@ -67,7 +67,7 @@ fn saved_after(reply: Reply, saved: u64) -> u64
 
 impl<C: Channels, D: SaveDevice, E: Energy, B: Room> Held<C, D, E, B> {
     ghost use Rattle.nv_workers.specs.Steps.{Steps};
-    ghost use Rattle.module_core.specs.Stands.{HasDevice, IsChannel};
+    ghost use Rattle.module_core.specs.Stands.{HasDevice, HasChannel};
 
     // Puts a module together with its device, its gauge, the seat of the board that shows its two numbers, how many writes the
     // newest image has, and the record of its life.
@@ -86,7 +86,7 @@ impl<C: Channels, D: SaveDevice, E: Energy, B: Room> Held<C, D, E, B> {
         requires newest { HasNewest C.Channels saved running (D.state device) }
         requires channels { (setup_of C.Channels running).shape.channels ≡ B.channels }
         requires size { HasDevice C.Channels running (D.state device) }
-        requires kept { IsKept C.Channels B.before
+        requires kept { IsRecordKept C.Channels B.before
             (lent C.Channels running (D.state device) (E.gauge energy)) history tally.book.total }
         ensures running { result.running ≡ running }
         ensures device { result.device ≡ device }
@@ -171,7 +171,7 @@ impl<C: Channels, D: SaveDevice, E: Energy, B: Room> Held<C, D, E, B> {
 
     /// Issues one command of a channel, where mains are there and it has one.
     pub fn work(&mut self, channel: u64) -> Option<Done>
-        requires { IsChannel C.Channels self.old.running channel }
+        requires { HasChannel C.Channels self.old.running channel }
         ensures steps { Steps C.Channels D.SaveDevice E.Energy B.Room.own
             (Event.Work channel) (Reply.Work result) self.old self.new }
         ensures device { self.new.device ≡ self.old.device }

@@ -4,7 +4,7 @@ ghost use Rattle.std.specs.Arc.{arc_value};
 ghost use Rattle.mark_board.specs.SeenMarks.{AllHaveSeen, seen_marks};
 ghost use Rattle.module_core.specs.Stands.{HasDevice, setup_of};
 ghost use Rattle.nv_workers.specs.Client.{client};
-ghost use Rattle.nv_workers.specs.Kept.{HasRoom, IsRecorded};
+ghost use Rattle.nv_workers.specs.Kept.{HasRoomForAll, IsRecorded};
 ghost use Rattle.nv_workers.specs.Lent.{lent};
 ghost use Rattle.nv_workers.specs.Newest.{HasNewest};
 
@@ -65,7 +65,7 @@ pub fn start<C: Channels, D: SaveDevice, E: Energy, B: Room, N: Notices>(
     requires before { length life.history.writes ≡ B.before }
     requires recorded { IsRecorded C.Channels
         (lent C.Channels life.running (D.state life.device) (E.gauge life.energy)) life.history }
-    requires room { HasRoom C.Channels
+    requires room { HasRoomForAll C.Channels
         (lent C.Channels life.running (D.state life.device) (E.gauge life.energy)) life.history }
     requires newest { HasNewest C.Channels life.saved life.running (D.state life.device) }
     requires channels { (setup_of C.Channels life.running).shape.channels ≡ B.channels }

@@ -12,7 +12,7 @@ use Rattle.module_core.specs.Machine.{MachineStep}
 use Rattle.module_core.specs.Guard.{IsGuarded}
 use Rattle.module_core.specs.Headline.{Point, Happens, Run}
 use Rattle.module_core.specs.Rising.{Rises}
-use Rattle.module_core.specs.Stands.{Stands, setup_of, point_of}
+use Rattle.module_core.specs.Stands.{ModuleStands, setup_of, point_of}
 use Rattle.module_core.specs.Survival.{told_mark}
 use Rattle.module_core.proofs.RisingMarks.{run_rises}
 use Rattle.module_core.proofs.ToldMarks.{told_along}
@@ -59,7 +59,7 @@ module _ {C : Type 0} (L : Ghosts C) where
       let h : Happens L setup event reply from to = subst (λ (p : Point C). Happens L setup event reply from p) (sym r.2) r.1 in
       record { device = device; device' = device'; gauge = gauge; gauge' = gauge'; step = h.step }
 
-  went : (Told : Tale) (old new : Module C L) (m : Machine) (device device' : DeviceState) (gauge gauge' : Gauge) → Stands L old device m
+  went : (Told : Tale) (old new : Module C L) (m : Machine) (device device' : DeviceState) (gauge gauge' : Gauge) → ModuleStands L old device m
       → (comes : ComesTo L Told old m device gauge new device' gauge') → Went Told (setup_of L old) m comes.last
   went Told old new m device device' gauge gauge' stands comes =
       let from : Point C = point_of L old m device gauge in
