@@ -11,6 +11,6 @@ pub use Rattle.ddr4_timing.specs.Command.{is_act, is_ref, is_ref_of, rank_of}
 unfoldable pub use Rattle.ddr4_timing.specs.Floors.{floor, least_clock, window}
 pub use Rattle.ddr4_timing.specs.Lawful.{AllClosed, FitsRows, IsInGeometry, IsLawful, KeepsRows, with_command}
 unfoldable pub use Rattle.ddr4_timing.specs.Lawful.{is_asleep, last_ref, open_row, ref_count}
-pub use Rattle.ddr4_timing.specs.Machine.{BankStands, RankStands}
+pub use Rattle.ddr4_timing.specs.TimingState.{BankStands, RankStands}
 pub use Rattle.ddr4_timing.specs.Places.{HasBank, slot_of}
 pub use Rattle.bank_core.specs.Stands.{Allows, BanksState, Stands}

@@ -1,4 +1,4 @@
-// What a list leaves to the next command. The function has no code: a crate above calls it to know its law.
+// What a list leaves to the next command. The function has no code.
 ghost use Rattle.std.specs.Prelude.{List};
 ghost use Rattle.ddr4_timing.specs.declared.command.Stamped.{Stamped};
 ghost use Rattle.bank_core.specs.Laws.{LeaveTheSame};

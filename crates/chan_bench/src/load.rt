@@ -3,7 +3,7 @@ ghost use Rattle.std.specs.Prelude.{◌≡◌};
 
 use crate::trial::{Stream, Trial};
 use chan_core::Channel;
-use channel_answers::{Got, Served};
+use channel_port::{Got, Served};
 use ddr4_timing::place::Place;
 use ddr4_timing::timing::Checked;
 use interleave_map::cells::line_count;

@@ -7,10 +7,7 @@
 //! lines, where none is given, or xor. A stream names places, so both maps give the same commands.
 #![tactic(auto)]
 
-ghost use Rattle.std.specs.Prelude.{◌≡◌, ◌<◌};
-ghost use Rattle.ddr4_timing.specs.Limits.{lines_of};
-ghost use Rattle.ddr4_timing.specs.Places.{LiesIn};
-ghost use Rattle.interleave_map.specs.Interleaving.{place_by_lines, line_by_lines, place_by_xor, line_by_xor};
+ghost use Rattle.std.specs.Prelude.{◌≡◌};
 
 mod load;
 mod trial;
@@ -18,10 +15,8 @@ mod trial;
 use crate::load::Load;
 use crate::trial::Trial;
 use anyhow::Context;
-use ddr4_timing::place::Place;
 use interleave_map::line_map::LineMap;
-use interleave_map::map::Map;
-use interleave_map::{lines, xor};
+use interleave_map::{Interleaving, ReadyMap};
 use std::env;
 use std::time::Instant;
 
@@ -38,34 +33,12 @@ fn time<M: LineMap>(rt: &HostRuntime, map: &M, trial: &Trial) -> anyhow::Result<
 
 // The same by a map of this name.
 fn time_by(rt: &HostRuntime, map: &str, trial: &Trial) -> anyhow::Result<(u64, u128)> {
-    let checked = trial.checked;
-    match map {
-        "lines" => {
-            let split = move |line: u64| -> Place
-                requires { line < lines_of checked.geometry }
-                ensures { result ≡ place_by_lines checked.geometry line }
-            { lines::split(&checked, line) };
-            let join = move |place: Place| -> u64
-                requires { LiesIn checked.geometry place }
-                ensures { result ≡ line_by_lines checked.geometry place }
-            { lines::join(&checked, place) };
-            let by_lines = Map::new(split, join, &checked);
-            time(rt, &by_lines, trial)
-        }
-        "xor" => {
-            let split = move |line: u64| -> Place
-                requires { line < lines_of checked.geometry }
-                ensures { result ≡ place_by_xor checked.geometry line }
-            { xor::split(&checked, line) };
-            let join = move |place: Place| -> u64
-                requires { LiesIn checked.geometry place }
-                ensures { result ≡ line_by_xor checked.geometry place }
-            { xor::join(&checked, place) };
-            let by_xor = Map::new(split, join, &checked);
-            time(rt, &by_xor, trial)
-        }
-        _ => anyhow::bail!("the map is lines or xor"),
-    }
+    let interleaving = Interleaving::named(map).context("the map is lines or xor")?;
+    let map = ReadyMap {
+        interleaving,
+        checked: trial.checked,
+    };
+    time(rt, &map, trial)
 }
 
 fn main(rt: HostRuntime) -> anyhow::Result<()> {

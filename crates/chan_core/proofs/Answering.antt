@@ -24,7 +24,7 @@ abbrev pub key_of : Pending → ReadKey
 key_of p = record { seq = p.seq; cell = p.line; at = p.number }
 
 -- the open read of a request that waits
-pub record Opened (s : Contents) (i : ℕ) (p : Pending) : Type 0 where
+pub record OpenReadOf (s : Contents) (i : ℕ) (p : Pending) : Type 0 where
   pub index : ℕ
   pub read : OpenRead
   pub at : slice_get s.reads index ≡ Some read
@@ -39,7 +39,7 @@ waits-of : (answer : Option (List ℕ)) (k l : ReadKey) → waits_for answer k �
 waits-of None k l e = (refl, cc)
 waits-of (Some bytes) k l e = absurd cc
 
-pub opened : (s : Contents) → AreContents s → (i : ℕ) (p : Pending) → slice_get s.waiting.requests i ≡ Some p → p.kind ≡ Read → Opened s i p
+pub opened : (s : Contents) → AreContents s → (i : ℕ) (p : Pending) → slice_get s.waiting.requests i ≡ Some p → p.kind ≡ Read → OpenReadOf s i p
 opened s is i p at kind =
     let key : read_key p ≡ Some (key_of p) = ap (λ (k : Kind). read_of k (key_of p)) kind in
     let o = kept-alike read_key waiting_key s.waiting.requests s.reads is.unanswered i p (key_of p) at key in
@@ -48,7 +48,7 @@ opened s is i p at kind =
     record { index = o.place; read = r; at = o.at; seq = ap (λ (x : ReadKey). x.seq) same; cell = ap (λ (x : ReadKey). x.cell) same; came = ap (λ (x : ReadKey). x.at) same; waits = waits; before = o.before; key = key }
 
 -- where an answer goes, and whose it is
-answer-at : (s : Contents) → AreContents s → (i : ℕ) (p : Pending) → (o : Opened s i p) → (bytes : List ℕ) (serial : ℕ) (new : List OpenRead) → AnswersSeq p.seq bytes serial s.reads new
+answer-at : (s : Contents) → AreContents s → (i : ℕ) (p : Pending) → (o : OpenReadOf s i p) → (bytes : List ℕ) (serial : ℕ) (new : List OpenRead) → AnswersSeq p.seq bytes serial s.reads new
     → (new ≡ slice_set s.reads o.index (answered_with bytes o.read)) × (o.read.serial ≡ serial)
 answer-at s is i p o bytes serial new (k, r, at, seq, named, new-is) =
     let index : k ≡ o.index = one-seq s.serial s.waiting.next s.reads is.reads k o.index r o.read at o.at (seq ∙ sym o.seq) in

@@ -29,15 +29,15 @@ pub use Rattle.wpq_core.specs.declared.queue.PendingWrite.{PendingWrite}
 pub use Rattle.wpq_core.specs.PendingMemory.{after_pending, data_or}
 pub use Rattle.wpq_core.specs.Queue.{IsWriteQueue, Queue}
 pub use Rattle.wpq_core.specs.Writes.{ComeBefore, IsFirstOfItsLine, IsNewest, NoWriteNames, NumbersRise, TakesWrite, pending_write}
-pub use Rattle.channel_answers.specs.declared.answers.Done.{Done}
-pub use Rattle.channel_answers.specs.declared.answers.Served.{Served}
-pub use Rattle.channel_answers.specs.declared.answers.Ticket.{Ticket}
+pub use Rattle.channel_port.specs.declared.answers.Done.{Done}
+pub use Rattle.channel_port.specs.declared.answers.Served.{Served}
+pub use Rattle.channel_port.specs.declared.answers.Ticket.{Ticket}
 pub use Rattle.chan_core.specs.declared.phase.Phase.{Phase}
 pub use Rattle.chan_core.specs.declared.phase.Phase.TheVariants.{Asleep, Running, Stepping}
 pub use Rattle.chan_core.specs.declared.reads.OpenRead.{OpenRead}
-pub use Rattle.chan_core.specs.Always.{IsChannel, IsHeld, SerialsRise}
-pub use Rattle.chan_core.specs.Calls.{AddsRead, AddsWrite, AnswersCollect, AnswersRead, HasNothingToSend, IsFullOfReads, IssuesChoice, IssuesChoices, KeepsBelow, MovesWrite, ServesIndex, ServesRequest, after_command, after_commands, loaded_at, request}
-pub use Rattle.chan_core.specs.Contents.{AreContents, AreOldest, Contents, IsRightRequest, ReadKey, queued_key, read_key, read_of, seen, waiting_key, waits_for, write_key, write_of}
+pub use Rattle.chan_core.specs.Always.{IsChannel, HasRightContents, SerialsRise}
+pub use Rattle.chan_core.specs.Calls.{AddsRead, AddsWrite, AnswersCollect, AnswersRead, HasNothingToSend, IsFullOfReads, IssuesChoice, IssuesChoices, KeepsBelow, LosesReads, MovesWrite, ServesIndex, ServesRequest, after_command, after_commands, loaded_at, request}
+pub use Rattle.chan_core.specs.Contents.{AreContents, AreOldest, Contents, IsRightRequest, LeavesWrites, ReadKey, queued_key, read_key, read_of, seen, steps_begun, waiting_key, waits_for, write_key, write_of}
 pub use Rattle.chan_core.specs.Inside.{contents_of}
 pub use Rattle.chan_core.specs.Phases.{AreAwake, IsInPhase}
 pub use Rattle.chan_core.specs.Reads.{AnswersSeq, IsIndexOfSerial, OpenTicket, ReadsRise, answered_with, ticket_of, ticket_with}

@@ -3,7 +3,7 @@ use Rattle.std.proofs.Common.{◌≡◌, ℕ, suc, ◌+◌, ◌<◌, ◌≤◌, 
 use Rattle.std.specs.List.{filter_map, cons_option}
 use Rattle.std.proofs.lemmas.List.{map-append, append-nil, length-map, length_push}
 use Rattle.std.proofs.lemmas.List.Elements.{All-map, All-nil, All-push, filter_map-append}
-use Rattle.chan_core.proofs.Common.{AreContents, Contents, IsMemory, IsRightRequest, IsWriteQueue, LiesIn, NoWriteNames, OpenRead, Pending, Place, Queue, Read, ReadsRise, Waiting, Write, cell_of, cells_of, held_by, is_held, pending_write, queued_key, read_key, read_of, request, waiting_key, write_key, write_of}
+use Rattle.chan_core.proofs.Common.{AreContents, Contents, IsMemory, IsRightRequest, IsWriteQueue, LiesIn, NoWriteNames, OpenRead, Pending, Phase, Place, Queue, Read, ReadsRise, Running, Waiting, Write, cell_of, cells_of, held_by, is_held, pending_write, queued_key, read_key, read_of, request, steps_begun, waiting_key, write_key, write_of}
 use Rattle.chan_core.proofs.Kept.{filter_map-unseen, length-filter_map, map-from}
 use Rattle.chan_core.proofs.Taken.{appended, pairs-push}
 use Rattle.chan_core.proofs.Serving.{KeepApart, in-queue}
@@ -23,6 +23,10 @@ pub few-pending : (s : Contents) → AreContents s → length s.waiting.requests
 few-pending s is =
     let all = writes-and-reads s.waiting.requests in
     omega (arith, all, ap length is.writes, length-map s.queue.writes queued_key, ap length is.unanswered, length-filter_map waiting_key s.reads)
+
+pub few-steps_begun : (phase : Phase) → steps_begun phase ≤ 1
+few-steps_begun Running = omega arith
+few-steps_begun phase = omega arith
 
 -- A request comes: the contents are right where the writes, the reads and their serial are.
 push-holds : (s : Contents) (queue : Queue) (waiting : Waiting) (reads : List OpenRead) (serial : ℕ) (p : Pending) → AreContents s → waiting.next ≡ s.waiting.next + 1 → waiting.most ≡ s.waiting.most → waiting.requests ≡ s.waiting.requests ++ p ∷ []

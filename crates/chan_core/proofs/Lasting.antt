@@ -1,7 +1,7 @@
 -- What a run of commands leaves of a channel.
 use Rattle.std.proofs.Common.{◌≡◌, ℕ, suc, inl, inr, List, [], ◌∷◌, Option, Some, None, refl, ap, ◌∙◌}
 use Rattle.std.proofs.lemmas.Option.{slice_get_within}
-use Rattle.channel_answers.specs.declared.answers.Served.TheVariants as served
+use Rattle.channel_port.specs.declared.answers.Served.TheVariants as served
 use Rattle.chan_core.proofs.Common.{ChannelState, ComeBefore, IssuesChoices, Served, ServesIndex, Stamped}
 use Rattle.chan_core.proofs.Taken.{before_removal}
 

@@ -5,7 +5,7 @@ pub mod Holding
 pub mod Serving
 pub mod Answering
 pub mod Telling
-pub mod Held
+pub mod RightContents
 pub mod Recent
 pub mod Clocks
 pub mod Sleeping

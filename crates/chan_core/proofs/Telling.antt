@@ -1,7 +1,7 @@
 -- What reads are told.
 use Rattle.std.proofs.Common.{◌≡◌, ◌≢◌, ℕ, ◌+◌, ◌<◌, false, List, [], ◌∷◌, ◌++◌, map, length, remove, slice_get, slice_set, get_or, Option, Some, None, refl, sym, ap, subst, ◌∙◌, arith}
 use Rattle.std.proofs.lemmas.List.{length-map, map-append}
-use Rattle.channel_answers.specs.declared.answers.Collected.TheVariants as collected
+use Rattle.channel_port.specs.declared.answers.Collected.TheVariants as collected
 use Rattle.chan_core.proofs.Common.{AddsRead, AddsWrite, AnswersCollect, AreContents, ChannelState, Contents, IsFullOfReads, IsIndexOfSerial, IsNewest, NoWriteNames, OpenRead, OpenTicket, Place, Queue, Read, Ticket, Waiting, Write, cell_of, cells_of, data_or, is_held, line_at, loaded_at, pending_write, request, seen, ticket_of, ticket_with}
 use Rattle.wpq_core.proofs.PendingLaws.{after_pending-line}
 use Rattle.chan_core.proofs.Kept.{map-at, map-from}

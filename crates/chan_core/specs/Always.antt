@@ -16,8 +16,8 @@ pub record SerialsRise (next : ℕ) (tickets : List OpenTicket) : Type 0 where
   pub rise : AllPairs (λ t u. t.serial < u.serial) tickets
   pub below : All (λ t. t.serial < next) tickets
 
--- What it holds. The writes among the requests are the pending ones, in their order.
-pub record IsHeld (s : ChannelState) : Type 0 where
+-- What waits in it and what its array has. The writes among the requests are the pending ones, in their order.
+pub record HasRightContents (s : ChannelState) : Type 0 where
   pub array : IsMemory (cells_of s.checked.geometry) s.array
   pub writes : IsWriteQueue (record { depth = s.depth; writes = s.writes })
   pub cells : All (λ w. w.write.line < cells_of s.checked.geometry) s.writes
@@ -30,7 +30,7 @@ pub record IsHeld (s : ChannelState) : Type 0 where
 
 -- Its list of commands is lawful, its clock below 2^63, and its phase says what it may.
 pub record IsChannel (s : ChannelState) : Type 0 where
-  pub held : IsHeld s
+  pub contents : HasRightContents s
   pub lawful : IsLawful s.checked s.commands
   pub early : clock_of s < 2 ^ 63
   pub phase : IsInPhase s

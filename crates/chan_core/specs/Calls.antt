@@ -1,5 +1,5 @@
 -- What each call does to a channel.
-use Rattle.std.specs.Prelude.{◌≡◌, ◌≢◌, ℕ, ◌+◌, ◌<◌, ◌≤◌, ◌⊎◌, ◌^◌, Result, Ok, Err, Bool, true, false, List, [], ◌∷◌, ◌++◌, length, map, remove, slice_get, slice_set, slice_index_or, Option, Some, None}
+use Rattle.std.specs.Prelude.{◌≡◌, ◌≢◌, ℕ, ◌+◌, ◌<◌, ◌≤◌, ◌⊎◌, ◌^◌, Result, Ok, Err, Bool, true, false, List, [], ◌∷◌, ◌++◌, All, length, map, remove, slice_get, slice_set, slice_index_or, Option, Some, None}
 use Rattle.ddr4_timing.specs.declared.command.Stamped.{Stamped}
 use Rattle.ddr4_timing.specs.declared.place.Place.{Place}
 use Rattle.frfcfs.specs.declared.pending.Kind.{Kind}
@@ -11,17 +11,17 @@ use Rattle.frfcfs.specs.Queue.{held_by, is_held}
 use Rattle.frfcfs.specs.Requests.{IsEligible}
 use Rattle.wpq_core.specs.declared.queue.PendingWrite.{PendingWrite}
 use Rattle.wpq_core.specs.Writes.{IsFirstOfItsLine, IsNewest, NoWriteNames, TakesWrite, pending_write}
-use Rattle.channel_answers.specs.declared.answers.Got.{Got}
-use Rattle.channel_answers.specs.declared.answers.Got.TheVariants.{Now, Later}
-use Rattle.channel_answers.specs.declared.answers.Ticket.{Ticket}
-use Rattle.channel_answers.specs.declared.answers.Served.{Served}
-use Rattle.channel_answers.specs.declared.answers.Served.TheVariants as served
-use Rattle.channel_answers.specs.declared.answers.Collected.{Collected}
-use Rattle.channel_answers.specs.declared.answers.Collected.TheVariants as collected
-use Rattle.channel_answers.specs.declared.answers.Done.{Done}
+use Rattle.channel_port.specs.declared.answers.Got.{Got}
+use Rattle.channel_port.specs.declared.answers.Got.TheVariants.{Now, Later}
+use Rattle.channel_port.specs.declared.answers.Ticket.{Ticket}
+use Rattle.channel_port.specs.declared.answers.Served.{Served}
+use Rattle.channel_port.specs.declared.answers.Served.TheVariants as served
+use Rattle.channel_port.specs.declared.answers.Collected.{Collected}
+use Rattle.channel_port.specs.declared.answers.Collected.TheVariants as collected
+use Rattle.channel_port.specs.declared.answers.Done.{Done}
 use Rattle.chan_core.specs.declared.reads.ReadsFull.{ReadsFull}
 use Rattle.chan_core.specs.Reads.{OpenTicket}
-use Rattle.chan_core.specs.State.{ChannelState, cell_in, channel_memory, clock_of, line_at, memory_below}
+use Rattle.chan_core.specs.State.{ChannelState, cell_in, channel_memory, clock_of, line_at, memory_below, placed_writes}
 
 -- a request (the scheduler calls the line that it names by its cell)
 abbrev pub request : ℕ → Place → ℕ → Kind → ℕ → Bool → Pending
@@ -89,6 +89,12 @@ AnswersCollect old ticket collected.Unknown tickets =
 -- the channel with another hold, or none
 abbrev pub with_hold : ChannelState → Option ℕ → ChannelState
 with_hold s hold = record s { requests = map (held_by hold) s.requests; hold = hold }
+
+-- No read is open any more. The writes among the requests stay, in their order.
+pub record LosesReads (old new : ChannelState) : Type 0 where
+  pub same : new ≡ record old { tickets = []; requests = new.requests }
+  pub placed : placed_writes new ≡ placed_writes old
+  pub writes_only : All (λ p. p.kind ≡ Write) new.requests
 
 -- where writes from a number on are held, the memory below that number stays
 abbrev pub KeepsBelow : ChannelState → ChannelState → Type 0

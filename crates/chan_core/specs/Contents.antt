@@ -1,5 +1,5 @@
 -- What a channel keeps for its calls, and what is always true of it.
-use Rattle.std.specs.Prelude.{◌≡◌, ◌≢◌, ℕ, ◌+◌, ◌*◌, ◌<◌, ◌≤◌, List, All, length, map, slice_get, Option, Some, None}
+use Rattle.std.specs.Prelude.{◌≡◌, ◌≢◌, ℕ, ◌+◌, ◌*◌, ◌<◌, ◌≤◌, List, [], ◌∷◌, All, length, map, slice_get, Option, Some, None}
 use Rattle.std.specs.List.{filter_map}
 use Rattle.line_memory.specs.Memory.{IsMemory}
 use Rattle.ddr4_timing.specs.declared.command.Stamped.{Stamped}
@@ -9,10 +9,11 @@ use Rattle.ddr4_timing.specs.Places.{LiesIn}
 use Rattle.frfcfs.specs.declared.pending.Kind.{Kind}
 use Rattle.frfcfs.specs.declared.pending.Kind.TheVariants.{Read, Write}
 use Rattle.frfcfs.specs.declared.pending.Pending.{Pending}
-use Rattle.frfcfs.specs.Queue.{Waiting, is_held}
+use Rattle.frfcfs.specs.Queue.{Waiting, is_held, numbered_from, writes_among}
 use Rattle.wpq_core.specs.declared.queue.PendingWrite.{PendingWrite}
 use Rattle.wpq_core.specs.Queue.{Queue, IsWriteQueue}
 use Rattle.chan_core.specs.declared.phase.Phase.{Phase}
+use Rattle.chan_core.specs.declared.phase.Phase.TheVariants.{Running}
 use Rattle.chan_core.specs.declared.reads.OpenRead.{OpenRead}
 use Rattle.interleave_map.specs.Cells.{cells_of, cell_of}
 use Rattle.chan_core.specs.Reads.{ReadsRise, ticket_of}
@@ -88,6 +89,11 @@ pub record IsRightRequest (g : Geometry) (number : ℕ) (hold : Option ℕ) (p :
   pub cell : cell_of g p.place ≡ p.line
   pub held : p.held ≡ is_held hold p.kind p.number
 
+-- whether the scheduler's commands are at an end
+abbrev pub steps_begun : Phase → ℕ
+steps_begun Running = 0
+steps_begun phase = 1
+
 -- What is always true of a channel's contents. The writes among the requests are those of the queue, and the reads among
 -- them are the open ones that wait, each in their order; no read is behind a write of its cell, since that would have
 -- answered it. Neither the serials nor the seqs run ahead of the commands.
@@ -103,7 +109,7 @@ pub record AreContents (s : Contents) : Type 0 where
   pub most : s.most_reads ≤ 64
   pub clear : (i j : ℕ) (w r : Pending) → i < j → slice_get s.waiting.requests i ≡ Some w → slice_get s.waiting.requests j ≡ Some r → w.kind ≡ Write → r.kind ≡ Read → w.line ≢ r.line
   pub few_seqs : s.waiting.next ≤ length s.waiting.requests + length s.commands
-  pub few_serials : s.serial ≤ length s.waiting.requests + 128 * length s.commands
+  pub few_serials : s.serial ≤ length s.waiting.requests + 128 * (length s.commands + steps_begun s.phase)
 
 -- a pending write has this number
 abbrev pub HasWriteNumbered : ℕ → List PendingWrite → Type 0
@@ -112,6 +118,11 @@ HasWriteNumbered number writes = (i : ℕ) × (w : PendingWrite) × (slice_get w
 -- each line has its 64 bytes
 abbrev pub AreWhole : List (List ℕ) → Type 0
 AreWhole lines = All (λ line. length line ≡ 64) lines
+
+-- Where reads were open, the writes alone are left of the requests, numbered anew.
+abbrev pub LeavesWrites : List OpenRead → Waiting → Waiting → Type 0
+LeavesWrites [] old new = new ≡ old
+LeavesWrites (read ∷ reads) old new = (new.requests ≡ numbered_from 0 (writes_among old.requests)) × (new.next ≡ length new.requests) × (new.most ≡ old.most)
 
 -- the first request is the oldest pending write's, and its cell is one of so many
 pub record AreOldest (cells : ℕ) (writes : List PendingWrite) (requests : List Pending) : Type 0 where

@@ -1,32 +1,31 @@
 // One channel.
-ghost use Rattle.std.specs.Prelude.{◌≡◌, ◌≢◌, ℕ, ◌<◌, ◌≤◌, ◌^◌, ◌↔◌, ◌++◌, [], Some, None, IfErr, IfOk, IfSome, IfNone, IsOk, IsTrue, OnOk, OnErr, count_by, length, nat_lt, slice_get};
+ghost use Rattle.std.specs.Prelude.{◌≡◌, ◌≢◌, ℕ, ◌<◌, ◌≤◌, ◌^◌, ◌↔◌, ◌++◌, [], Some, None, IfOk, IfSome, IfNone, IsTrue, OnErr, count_by, length, nat_lt, slice_get};
 ghost use Rattle.line_memory.specs.Memory.{zero_lines};
-ghost use Rattle.wpq_core.specs.Writes.{ComeBefore, pending_write};
+ghost use Rattle.wpq_core.specs.Writes.{ComeBefore};
 ghost use Rattle.interleave_map.specs.Cells.{cells_of};
 ghost use Rattle.chan_core.specs.State.{channel_memory, clock_of, last_commands, new_channel, stored_at};
-ghost use Rattle.chan_core.specs.Mapped.{LiesOn, OfItsPlace};
-ghost use Rattle.chan_core.specs.Calls.{AddsWrite, AnswersCollect, AnswersGet, HasNothingToSend, IsFullOfReads, IsFullOfWrites, KeepsBelow, IssuesChoice, IssuesChoices, WritesAt, after_commands, after_get, after_put, loaded_at, with_hold};
+ghost use Rattle.chan_core.specs.Mapped.{IsPlaceOn, LiesOn};
+ghost use Rattle.chan_core.specs.Calls.{HasNothingToSend, IsFullOfReads, IsFullOfWrites, KeepsBelow, IssuesChoice, IssuesChoices, WritesAt, after_commands, loaded_at};
 ghost use Rattle.chan_core.specs.declared.phase.Phase.TheVariants.{Stepping};
 ghost use Rattle.chan_core.specs.Always.{IsChannel};
 
 use crate::channel_memory::ChannelMemory;
 use crate::phase::Phase;
-use crate::reads::{OpenRead, ReadsFull, index_of_serial};
 use bank_core::banks::Banks;
-use channel_answers::{Collected, Done, Got, Ticket};
+use channel_port::Done;
 use circular_buffer::HeapCircularBuffer;
 use ddr4_timing::command::Stamped;
+use ddr4_timing::place::Place;
 use ddr4_timing::timing::Checked;
 use frfcfs::next::next_command;
-use frfcfs::pending::Kind;
-use frfcfs::queue::{Queue, is_held};
+use frfcfs::queue::Queue;
 use interleave_map::cells::{cell_of, cells, line_count};
 use interleave_map::line_map::LineMap;
-use line_memory::{Line, Write, zero};
-use past::Past;
+use line_memory::{Line, zero_memory};
+use ghost_trace::Trace;
 use std::alloc::{AllocError, Global};
 use std::marker::Model;
-use wpq_core::{Full, PendingWrite, Wpq};
+use wpq_core::Wpq;
 
 /// How many of the last commands a channel remembers.
 pub const RECENT: usize = 64;
@@ -72,8 +71,7 @@ impl Channel {
         ensures { IfOk result (λ new.
             new ≡ new_channel checked.now channel (zero_lines (cells_of checked.now.geometry)) depth reads) }
     {
-        let mut array = Vec::from_elem(alloc, [0; 64], cells(checked))?;
-        zero(&mut array);
+        let array = zero_memory(alloc, cells(checked))?;
         Ok(Channel {
             banks: Banks::new(checked),
             clock: 0,
@@ -88,7 +86,7 @@ impl Channel {
                 most_reads: reads,
                 serial: 0,
                 hold: None,
-                issued: Past::new(),
+                issued: Trace::new(),
                 phase: Phase::Running,
             },
         })
@@ -162,7 +160,7 @@ impl Channel {
     pub fn has_line<M: LineMap>(&self, map: &M, line: u64) -> bool
         requires lawful { M.is_lawful map.now }
         requires geometry { M.geometry_of map.now ≡ self.now.checked.geometry }
-        ensures { IsTrue result ↔ LiesOn (M.lies_at map.now) self.now line }
+        ensures { IsTrue result ↔ LiesOn (M.place_of map.now) self.now line }
     {
         line < line_count(&self.memory.checked) && map.place(line).channel == self.memory.channel
     }
@@ -178,14 +176,22 @@ impl Channel {
     pub fn load<M: LineMap>(&mut self, map: &M, line: u64, bytes: Line)
         requires lawful { M.is_lawful map.now }
         requires geometry { M.geometry_of map.now ≡ self.old.checked.geometry }
-        requires line { LiesOn (M.lies_at map.now) self.old line }
+        requires line { LiesOn (M.place_of map.now) self.old line }
         requires quiet { self.old.requests ≡ [] }
-        ensures loaded { OfItsPlace (M.lies_at map.now) line (λ place.
-            self.new ≡ loaded_at self.old place bytes) }
-        ensures memory { OfItsPlace (M.lies_at map.now) line (λ place.
-            WritesAt self.old place bytes self.new) }
+        ensures loaded { self.new ≡ loaded_at self.old (M.place_of map.now line) bytes }
+        ensures memory { WritesAt self.old (M.place_of map.now line) bytes self.new }
     {
-        let place = map.place(line);
+        map.interleaves();
+        self.load_at(map.place(line), bytes);
+    }
+
+    /// Sets the line at a place of this channel; it asks that nothing waits.
+    pub fn load_at(&mut self, place: Place, bytes: Line)
+        requires place { IsPlaceOn self.old place }
+        requires quiet { self.old.requests ≡ [] }
+        ensures loaded { self.new ≡ loaded_at self.old place bytes }
+        ensures memory { WritesAt self.old place bytes self.new }
+    {
         let cell = cell_of(&self.memory.checked, &place);
         self.memory.array[cell] = bytes;
     }
@@ -194,10 +200,18 @@ impl Channel {
     pub fn stored<M: LineMap>(&self, map: &M, line: u64) -> Line
         requires lawful { M.is_lawful map.now }
         requires geometry { M.geometry_of map.now ≡ self.now.checked.geometry }
-        requires line { LiesOn (M.lies_at map.now) self.now line }
-        ensures { OfItsPlace (M.lies_at map.now) line (λ place. result ≡ stored_at self.now place) }
+        requires line { LiesOn (M.place_of map.now) self.now line }
+        ensures { result ≡ stored_at self.now (M.place_of map.now line) }
     {
-        let place = map.place(line);
+        map.interleaves();
+        self.stored_at(map.place(line))
+    }
+
+    /// The line at a place of this channel in the array, without the writes that are pending.
+    pub fn stored_at(&self, place: Place) -> Line
+        requires { IsPlaceOn self.now place }
+        ensures { result ≡ stored_at self.now place }
+    {
         self.memory.array[cell_of(&self.memory.checked, &place)]
     }
 
@@ -221,128 +235,6 @@ impl Channel {
         ensures { IsTrue result ↔ ComeBefore number self.now.writes }
     {
         self.memory.queue.may_take(number)
-    }
-
-    /// Accepts a write of a line of this channel, with a number above those of all pending ones. The memory has it from now
-    /// on; the array has it once its WR was issued. Refused, `Full`, exactly where the queue holds its depth: the write comes
-    /// back, and nothing changes. It costs the number of pending requests.
-    pub fn put<M: LineMap>(
-        &mut self,
-        map: &M,
-        number: u64,
-        line: u64,
-        bytes: Line,
-    ) -> Result<(), Full>
-        requires lawful { M.is_lawful map.now }
-        requires geometry { M.geometry_of map.now ≡ self.old.checked.geometry }
-        requires line { LiesOn (M.lies_at map.now) self.old line }
-        requires above { ComeBefore number self.old.writes }
-        ensures adds { OfItsPlace (M.lies_at map.now) line (λ place.
-            OnOk result (AddsWrite self.old number place bytes self.new)) }
-        ensures memory { OfItsPlace (M.lies_at map.now) line (λ place.
-            OnOk result (WritesAt self.old place bytes self.new)) }
-        ensures room { IsOk result ↔ (length self.old.writes < self.old.depth) }
-        ensures refused { IfErr result (λ full. full.refused ≡ pending_write number line bytes) }
-        ensures same { OnErr result (self.new ≡ self.old) }
-        ensures rest { self.new ≡ after_put self.old self.new }
-    {
-        let place = map.place(line);
-        let cell = cell_of(&self.memory.checked, &place) as u64;
-        let Ok(()) = self.memory.queue.try_push(number, cell, bytes) else {
-            return Err(Full {
-                refused: PendingWrite {
-                    number,
-                    write: Write { line, data: bytes },
-                },
-            });
-        };
-        let held = is_held(self.memory.hold, Kind::Write, number);
-        self.memory
-            .waiting
-            .push(place, cell, Kind::Write, number, held);
-        Ok(())
-    }
-
-    /// Reads a line of this channel; `at` is how many writes were accepted before, and comes back with the data. Where a
-    /// pending write names the line, its newest one's data is the answer, `Now`; else the read waits for its RD, `Later`.
-    /// Either way it is the line of the memory after all writes accepted so far. Refused exactly where as many reads as may
-    /// be are pending or not collected, whatever writes are pending: nothing changes then. It costs the number of pending
-    /// requests.
-    pub fn get<M: LineMap>(&mut self, map: &M, line: u64, at: u64) -> Result<Got, ReadsFull>
-        requires lawful { M.is_lawful map.now }
-        requires geometry { M.geometry_of map.now ≡ self.old.checked.geometry }
-        requires line { LiesOn (M.lies_at map.now) self.old line }
-        ensures answers { OfItsPlace (M.lies_at map.now) line (λ place.
-            AnswersGet self.old place line at result self.new) }
-        ensures rest { self.new ≡ after_get self.old self.new }
-    {
-        if self.is_full_of_reads() {
-            return Err(ReadsFull);
-        }
-        let place = map.place(line);
-        let cell = cell_of(&self.memory.checked, &place) as u64;
-        match self.memory.queue.newest_for(cell) {
-            Some(bytes) => Ok(Got::Now(bytes)),
-            None => {
-                let (serial, seq) = (self.memory.serial, self.memory.waiting.next());
-                self.memory.waiting.push(place, cell, Kind::Read, at, false);
-                self.memory.reads.push_reserved(OpenRead {
-                    serial,
-                    seq,
-                    line,
-                    cell,
-                    at,
-                    bytes: None,
-                });
-                self.memory.serial += 1;
-                Ok(Got::Later(Ticket {
-                    channel: self.memory.channel,
-                    serial,
-                }))
-            }
-        }
-    }
-
-    /// What there is for a ticket: the data of its read once it was answered, and the ticket is gone then; `Pending` exactly
-    /// where the read waits; `Unknown` exactly for what is no ticket of this channel or was collected. It costs the number of
-    /// open reads.
-    pub fn collect(&mut self, ticket: Ticket) -> Collected
-        ensures answers { AnswersCollect self.old ticket result self.new.tickets }
-        ensures rest { self.new ≡ record self.old { tickets = self.new.tickets } }
-    {
-        if ticket.channel != self.memory.channel {
-            return Collected::Unknown;
-        }
-        let Some(index) = index_of_serial(&self.memory.reads, ticket.serial) else {
-            return Collected::Unknown;
-        };
-        let read = self.memory.reads[index];
-        match read.bytes {
-            Some(bytes) => {
-                self.memory.reads.remove(index);
-                Collected::Data {
-                    line: read.line,
-                    bytes,
-                    at: read.at,
-                }
-            }
-            None => Collected::Pending,
-        }
-    }
-
-    /// From now on no write with this number or a greater one goes to the array, those that come later too. It costs the
-    /// number of pending requests.
-    pub fn hold_from(&mut self, number: u64)
-        ensures { self.new ≡ with_hold self.old (Some number) }
-    {
-        self.memory.set_hold(Some(number));
-    }
-
-    /// Ends a hold. It costs the number of pending requests.
-    pub fn release(&mut self)
-        ensures { self.new ≡ with_hold self.old None }
-    {
-        self.memory.set_hold(None);
     }
 
     /// The i-th of the last 64 commands, oldest first; None past their end.

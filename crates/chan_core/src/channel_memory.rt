@@ -1,28 +1,28 @@
 // What a channel holds: its array, its pending writes, its open reads, and the list of its commands, which takes no bytes; and
 // what a command does to it.
-ghost use Rattle.std.specs.Prelude.{◌≡◌, ◌≢◌, ◌++◌, ◌∷◌, [], IfSome, Some, drop, length, slice_get, take};
+ghost use Rattle.std.specs.Prelude.{◌≡◌, ◌≢◌, ◌++◌, ◌∷◌, [], IfSome, Some, drop, length, slice_get, take, vec_capacity};
 ghost use Rattle.std.specs.List.{filter_map};
 ghost use Rattle.wpq_core.specs.Writes.{TakesWrite};
 ghost use Rattle.wpq_core.specs.Queue as queues;
 ghost use Rattle.wpq_core.specs.PendingMemory.{after_pending};
 ghost use Rattle.frfcfs.specs.Next.{IsServable};
 ghost use Rattle.chan_core.specs.State.{channel_memory, placed_write};
-ghost use Rattle.chan_core.specs.Contents.{AreOldest, AreWhole, HasWriteNumbered};
+ghost use Rattle.chan_core.specs.Contents.{AreOldest, AreWhole, HasWriteNumbered, LeavesWrites};
 ghost use Rattle.chan_core.specs.Singles.{FitsOldest, IssuesAlone, writes_by};
-ghost use Rattle.chan_core.specs.declared.phase.Phase.TheVariants.{Running};
+ghost use Rattle.chan_core.specs.declared.phase.Phase.TheVariants.{Running, Stepping};
 ghost use Rattle.chan_core.specs.Phases.{TellsSleep};
-ghost use Rattle.chan_core.specs.Calls.{KeepsBelow, ServesIndex, after_command, with_hold};
+ghost use Rattle.chan_core.specs.Calls.{KeepsBelow, LosesReads, ServesIndex, after_command, with_hold};
 
 use crate::phase::Phase;
 use crate::reads::{OpenRead, answer};
-use channel_answers::{Served, Ticket};
+use channel_port::{Served, Ticket};
 use ddr4_timing::command::{Command, Stamped};
 use ddr4_timing::place::Place;
 use ddr4_timing::timing::Checked;
 use frfcfs::pending::{Kind, Pending};
 use frfcfs::queue::Queue;
 use line_memory::Line;
-use past::Past;
+use ghost_trace::Trace;
 use std::marker::Model;
 use wpq_core::Wpq;
 
@@ -38,7 +38,7 @@ pub struct ChannelMemory {
     // that of the next read that waits
     pub(crate) serial: u128,
     pub(crate) hold: Option<u64>,
-    pub(crate) issued: Past<Stamped>,
+    pub(crate) issued: Trace<Stamped>,
     pub(crate) phase: Phase,
 }
 
@@ -98,6 +98,15 @@ impl ChannelMemory {
         }
     }
 
+    /// The scheduler's commands are at an end: all reads are lost.
+    pub(crate) fn begin_steps(&mut self)
+        requires { self.old.phase ≡ Running }
+        ensures { LosesReads (record self.old { phase = Stepping }) self.new }
+    {
+        lose_reads(&mut self.reads, &mut self.waiting);
+        self.phase = Phase::Stepping;
+    }
+
     /// A single command goes: all reads are lost, and a WR takes the oldest write to the array, held or not.
     pub(crate) fn issue_alone(&mut self, command: Stamped, phase: Phase)
         requires oldest { FitsOldest self.old command.cmd }
@@ -106,8 +115,7 @@ impl ChannelMemory {
         ensures issues { IssuesAlone self.old command self.new }
         ensures memory { channel_memory self.new ≡ channel_memory self.old }
     {
-        self.reads.clear();
-        self.waiting.keep_writes();
+        lose_reads(&mut self.reads, &mut self.waiting);
         store_by(
             command.cmd,
             &mut self.array,
@@ -129,6 +137,19 @@ pub(crate) fn oldest_write(requests: &[Pending]) -> Option<(u64, Place)>
         }
     }
     None
+}
+
+// Loses all reads. Where none is open nothing is done.
+fn lose_reads(reads: &mut Vec<OpenRead>, waiting: &mut Queue)
+    ensures none { reads.new.items ≡ [] }
+    ensures capacity { vec_capacity reads.new ≡ vec_capacity reads.old }
+    ensures waiting { LeavesWrites reads.old.items waiting.old waiting.new }
+{
+    if reads.is_empty() {
+        return;
+    }
+    reads.clear();
+    waiting.keep_writes();
 }
 
 // Takes a write out that is there.

@@ -1,4 +1,4 @@
-// What holds of runs of commands and of memories. The functions have no code: a crate above calls one to know its law.
+// What holds of runs of commands and of memories. The functions have no code.
 ghost use Rattle.std.specs.Prelude.{◌≡◌, ℕ, ◌≤◌, List, count_by, nat_lt};
 ghost use Rattle.ddr4_timing.specs.declared.command.Stamped.{Stamped};
 ghost use Rattle.ddr4_timing.specs.declared.place.Place.{Place};

@@ -2,7 +2,8 @@
 //! timing rule and its refreshes, and still answers each read with the memory after all writes accepted before it.
 //!
 //! The definitions are in `specs`: what contracts see of a channel (`State.antt`), what each call does to it (`Calls.antt`)
-//! and what is true of every channel (`Always.antt`); a line and its place (`Mapped.antt`) and the open reads (`Reads.antt`). The rest of `specs` is for the crate's own functions.
+//! and what is true of every channel (`Always.antt`); a line and its place (`Mapped.antt`) and the open reads
+//! (`Reads.antt`). The rest of `specs` is for the crate's own functions.
 #![tactic(auto)]
 
 mod channel;
@@ -10,6 +11,7 @@ mod channel_memory;
 mod laws;
 mod phase;
 mod reads;
+mod requests;
 mod singles;
 
 pub use channel::{Channel, RECENT};

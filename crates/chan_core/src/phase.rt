@@ -5,7 +5,7 @@
 pub enum Phase {
     /// The scheduler alone, by `work`: each rank is awake, and its next refresh has its time.
     Running,
-    /// Single commands were issued, by `issue`, and not every rank had its SRE.
+    /// Single commands are issued, by `issue`, and not every rank had its SRE.
     Stepping,
     /// Single commands were issued, and every rank had its SRE: no further command may go.
     Asleep,

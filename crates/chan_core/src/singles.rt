@@ -6,8 +6,9 @@ ghost use Rattle.ddr4_timing.specs.Lawful.{IsLawful, open_row, with_command};
 ghost use Rattle.ddr4_timing.specs.Places.{HasBank};
 ghost use Rattle.ddr4_timing.specs.declared.command.Stamped.{Stamped};
 ghost use Rattle.bank_core.specs.Stands.{Stands};
+ghost use Rattle.chan_core.specs.Calls.{LosesReads};
 ghost use Rattle.chan_core.specs.Phases.{TellsSleep};
-ghost use Rattle.chan_core.specs.declared.phase.Phase.TheVariants.{Running};
+ghost use Rattle.chan_core.specs.declared.phase.Phase.TheVariants.{Running, Stepping};
 
 use crate::channel::Channel;
 use crate::channel_memory::oldest_write;
@@ -17,6 +18,15 @@ use ddr4_timing::command::{Command, Stamped};
 use ddr4_timing::place::{BankAddress, Place};
 
 impl Channel {
+    /// Ends the work of the scheduler, as backup begins: all reads are lost, and their tickets are unknown from now on. No
+    /// refresh is promised in its time until every rank had its SRE. It costs the number of pending requests.
+    pub fn begin_steps(&mut self)
+        requires { self.old.phase ≡ Running }
+        ensures { LosesReads (record self.old { phase = Stepping }) self.new }
+    {
+        self.memory.begin_steps();
+    }
+
     /// The number and the place of the oldest pending write; None exactly where none is pending. It costs the number of
     /// pending requests.
     pub fn oldest(&self) -> Option<(u64, Place)>
@@ -52,7 +62,7 @@ impl Channel {
     /// A single command goes at a clock, as a drain sends them; `earliest` says at which it may. A WR takes the oldest pending
     /// write to the array, held or not. All reads are lost: their tickets are unknown from now on. From the first single
     /// command until every rank had its SRE no refresh is promised in its time. It takes no memory and costs the number of
-    /// pending requests and of ranks.
+    /// ranks, and where a read is open the number of pending requests.
     pub fn issue(&mut self, cmd: Command, clock: u64)
         requires lawful { IsLawful self.old.checked (with_command self.old.commands clock cmd) }
         requires early { clock < 2 ^ 63 }

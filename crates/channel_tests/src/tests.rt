@@ -1,7 +1,6 @@
 // Channel 0 of a profile and its drains, worked by hand and busy for long, and its queue of writes alone.
 
 mod busy;
-mod by_lines;
 mod check;
 mod fixture;
 mod last_start;

@@ -4,13 +4,13 @@ ghost use Rattle.std.specs.Process.{exit_status};
 ghost use Rattle.command_line.specs.declared.command.Fault.TheVariants.{Memory};
 ghost use Rattle.command_line.specs.Exit.{IsOfWords, IsOfNoFile};
 
+use crate::maps::run_on_maps;
 use crate::store::{STORE_BYTES, show_store};
 use clap::error::ErrorKind;
 use clap::{Arg, ArgMatches, Command, Error as UsageError};
 use nv_profile::{MOST_BYTES, Profile, ProfileFault, TINY, read_profile};
 use nv_script::{SCRIPT_BYTES, ScriptFault};
 use save_device::{MemoryDevice, SaveDevice};
-use script_runner::run_script;
 use std::alloc::{AllocError, Global};
 use std::env::{self, Env};
 use std::fs::{self, File};
@@ -105,7 +105,7 @@ where
 {
     let profile = profile_of(rt, matches.get_str("PROFILE").unwrap_or("tiny"))?;
     let script = script_of(rt, matches.get_str("SCRIPT").unwrap_or("-"))?;
-    let device = run_script(rt.alloc(), &profile, &script, writer)?;
+    let device = run_on_maps(rt.alloc(), &profile, &script, writer)?;
     flush(writer)?;
     match matches.get_str("STORE") {
         Some(name) => write_store(rt, device, name),

@@ -1,8 +1,11 @@
-//! The command line: its words, the files that they name, the faults with their exit status, and stores shown as lines.
+//! The command line: its words, the files that they name, the faults with their exit status, scripts over closures of both maps,
+//! and stores shown as lines.
 #![tactic(auto)]
 
 mod command;
+mod maps;
 mod store;
 
 pub use command::{Fault, profile_of, run, words_of};
+pub use maps::run_on_maps;
 pub use store::{STORE_BYTES, show_store};

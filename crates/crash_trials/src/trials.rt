@@ -1,6 +1,9 @@
 // Scripts that are broken off and restored.
+ghost use Rattle.std.specs.Prelude.{◌≡◌};
+
 use crate::judging::{Restored, Wrong, judged};
 use crate::ledger::Ledger;
+use interleave_map::{Interleaving, ReadyMap};
 use nv_profile::Profile;
 use script_runner::run_script;
 use std::alloc::Global;
@@ -68,10 +71,29 @@ impl<'p> Trials<'p> {
         Trials { alloc, profile }
     }
 
+    // A ready-made map of the profile.
+    fn map(&self, interleaving: Interleaving) -> ReadyMap
+        ensures { result.checked ≡ self.now.profile.now.checked }
+    {
+        ReadyMap {
+            interleaving,
+            checked: self.profile.checked,
+        }
+    }
+
     /// What a script answers.
     pub(crate) fn answers(&self, script: &str) -> anyhow::Result<String> {
+        let lines_map = self.map(Interleaving::Lines);
+        let xor_map = self.map(Interleaving::Xor);
         let mut bytes = Vec::new(self.alloc);
-        let _device = run_script(self.alloc, self.profile, script.as_bytes(), &mut bytes)?;
+        let _device = run_script(
+            self.alloc,
+            self.profile,
+            script.as_bytes(),
+            &lines_map,
+            &xor_map,
+            &mut bytes,
+        )?;
         Ok(String::from_utf8(bytes)?)
     }
 

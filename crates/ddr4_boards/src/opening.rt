@@ -1,27 +1,25 @@
 // A module on the image of a device.
-ghost use Rattle.std.specs.Prelude.{◌≡◌, ℕ, [], length, IfOk};
+ghost use Rattle.std.specs.Prelude.{◌≡◌, [], IfOk};
 ghost use Rattle.ddr4_timing.specs.Limits.{lines_of};
-ghost use Rattle.life_record.specs.Recorded.{recorded};
-ghost use Rattle.line_channels.specs.View.{IsShape};
-ghost use Rattle.module_core.specs.Opening.{BeginsOn, IsUnasked, new_life, setup_with};
+ghost use Rattle.line_memory.specs.History.{recorded};
+ghost use Rattle.module_core.specs.Opening.{AreUnasked, BeginsOn, opened_with, setup_with};
 ghost use Rattle.module_core.specs.Stands.{ModuleStands, setup_of};
-ghost use Rattle.module_parts.specs.Lines.{HasPlaces};
 ghost use Rattle.save_device.specs.Device.{DeviceState};
 ghost use Rattle.save_image.specs.Header.{Fits};
 ghost use Rattle.save_image.specs.Image.{Image};
 ghost use Rattle.slot_store.specs.Slots.{IsCapacity};
 
 use crate::ready::Ready;
+use channel_port::ChannelPort;
+use channel_set::ChannelSet;
+use ddr4_port::{Ddr4Port, channels_with_memory};
 use ddr4_timing::timing::Checked;
 use energy_budget::{Costs, Energy, TINY_COSTS};
 use interleave_map::cells::line_count;
-use interleave_map::line_map::{LineMap, Places};
-use life_record::LifeRecord;
-use line_channels::Channels;
-use line_memory::Line;
+use interleave_map::line_map::LineMap;
+use line_memory::{History, Line};
 use module_core::{Module, Opened};
-use module_parts::Parts;
-use nv_workers::{Life, Opening};
+use nv_workers::{Opening, RecordedModule};
 use save_device::{MemoryDevice, SaveDevice};
 use slot_store::{device_size, format, restore};
 use std::alloc::{AllocError, Global};
@@ -64,53 +62,56 @@ pub fn formatted(alloc: Global, checked: &Checked) -> anyhow::Result<MemoryDevic
 }
 
 // The record of a life that begins with these lines, with room for so many writes.
-fn record_of(
-    alloc: Global,
-    lines: Vec<Line>,
-    start: u64,
-    trail: u64,
-) -> Result<LifeRecord, AllocError>
-    ensures { IfOk result (λ life. life ≡ recorded lines.items start [] trail) }
+fn record_of(alloc: Global, lines: Vec<Line>, start: u64, trail: u64) -> Result<History, AllocError>
+    ensures { IfOk result (λ history. history ≡ recorded lines.items start [] trail) }
 {
-    match LifeRecord::new(alloc, lines, start, trail as usize) {
-        Ok(life) => Ok(life),
+    match History::new(alloc, lines, start, trail as usize) {
+        Ok(history) => Ok(history),
         Err((_, error)) => Err(error),
     }
 }
 
-// The life of a module over channels that begin with what a restore found, the words of its board, and its record.
-fn begin<C: Channels + Drop>(
+// A module that has begun, the words of its board, and the record of its life.
+struct Begun<K: ChannelPort> {
+    opening: Opening,
+    running: Module<K>,
+    history: History,
+}
+
+// A module over channels that begin with what a restore found.
+fn begin<K: ChannelPort + Drop>(
     alloc: Global,
-    channels: C,
+    channels: ChannelSet<K>,
     found: Opened,
     memory: Vec<Line>,
-    costs: Costs,
     trail: u64,
     hosts: usize,
-) -> Result<(Opening, Module<C>, LifeRecord), AllocError>
-    requires lines { length memory.items ≡ (C.view channels).shape.lines }
-    requires costs { costs ≡ (C.view channels).shape.costs }
-    requires shape { IsShape (C.view channels).shape }
-    requires unasked { IsUnasked (C.view channels) }
+) -> Result<Begun<K>, AllocError>
+    requires unasked { AreUnasked K.ChannelPort channels }
     requires numbers { Fits found.newest.generation found.count }
-    ensures parts { IfOk result (λ it. it.0.parts ≡ hosts) }
-    ensures mark { IfOk result (λ it. it.0.mark ≡ it.1.persisted) }
-    ensures begins { IfOk result (λ it. (image : Image) (device : DeviceState)
-        → BeginsOn C.Channels channels found image device
-        → ModuleStands C.Channels it.1 device (new_life found image)) }
-    ensures setup { IfOk result (λ it.
-        setup_of C.Channels it.1 ≡ setup_with C.Channels channels trail) }
-    ensures history { IfOk result (λ it. it.2 ≡ recorded memory.items found.count [] trail) }
+    ensures parts { IfOk result (λ begun. begun.opening.parts ≡ hosts) }
+    ensures mark { IfOk result (λ begun. begun.opening.mark ≡ begun.running.persisted) }
+    ensures begins { IfOk result (λ begun. (image : Image) (device : DeviceState)
+        → BeginsOn K.ChannelPort channels found image device
+        → ModuleStands K.ChannelPort begun.running device (opened_with found image)) }
+    ensures setup { IfOk result (λ begun.
+        setup_of K.ChannelPort begun.running ≡ setup_with K.ChannelPort channels trail) }
+    ensures history { IfOk result (λ begun.
+        begun.history ≡ recorded memory.items found.count [] trail) }
 {
-    let running = Module::open(channels, found, memory.len(), costs, trail);
+    let running = Module::open(channels, found, trail);
     let opening = Opening::new(alloc, running.mark(), hosts)?;
     let history = record_of(alloc, memory, found.count, trail)?;
-    Ok((opening, running, history))
+    Ok(Begun {
+        opening,
+        running,
+        history,
+    })
 }
 
 /// A module over channels with the memory that a device restores to, which may accept `trail` writes; and the words of its
 /// board, for so many hosts.
-pub fn open<'m, M: LineMap, P: Places, D: SaveDevice + Drop, E: Energy + Drop>(
+pub fn open<'m, M: LineMap, D: SaveDevice + Drop, E: Energy + Drop>(
     alloc: Global,
     map: &'m M,
     checked: &Checked,
@@ -118,11 +119,11 @@ pub fn open<'m, M: LineMap, P: Places, D: SaveDevice + Drop, E: Energy + Drop>(
     energy: E,
     trail: u64,
     hosts: usize,
-) -> anyhow::Result<Ready<Parts<'m, M, P>, D, E>>
-    requires places { HasPlaces (M.is_lawful map.now) (M.geometry_of map.now)
-        checked.now.geometry (M.lies_at map.now) P.place_of }
+) -> anyhow::Result<Ready<Ddr4Port<'m, M>, D, E>>
+    requires lawful { M.is_lawful map.now }
+    requires geometry { M.geometry_of map.now ≡ checked.now.geometry }
     ensures parts { IfOk result (λ ready. ready.opening.parts ≡ hosts) }
-    ensures new { IfOk result (λ ready. ready.life.history.writes ≡ []) }
+    ensures new { IfOk result (λ ready. ready.recorded.history.writes ≡ []) }
 {
     if !TINY_COSTS.is_in_limits() {
         return Err(Unfit::Costs.into());
@@ -134,20 +135,16 @@ pub fn open<'m, M: LineMap, P: Places, D: SaveDevice + Drop, E: Energy + Drop>(
     }
     let restored = restore(alloc, &mut device, lines)?;
     let memory = &restored.lines;
-    let parts = Parts::with_memory(alloc, map, checked, memory, DEPTH, DEPTH, costs)?;
+    let channels = channels_with_memory(alloc, map, checked, memory, DEPTH, DEPTH, costs)?;
     let found = Opened::of(&restored);
-    let (opening, running, history) = begin(
-        alloc,
-        parts,
-        found,
-        restored.lines,
-        costs,
-        trail,
-        hosts,
-    )?;
+    let Begun {
+        opening,
+        running,
+        history,
+    } = begin(alloc, channels, found, restored.lines, trail, hosts)?;
     Ok(Ready {
         opening,
-        life: Life {
+        recorded: RecordedModule {
             saved: running.mark(),
             running,
             device,

@@ -4,7 +4,7 @@ pub use Rattle.ddr4_timing.specs.declared.command.Command.{Command}
 pub use Rattle.ddr4_timing.specs.declared.command.Command.TheVariants.{Act, Pre, PreAll, Rd, Ref, Sre, Wr}
 pub use Rattle.ddr4_timing.specs.declared.command.Stamped.{Stamped}
 pub use Rattle.ddr4_timing.specs.declared.fault.Fault.{Fault}
-pub use Rattle.ddr4_timing.specs.declared.machine.Machine.{Machine}
+pub use Rattle.ddr4_timing.specs.declared.timing_state.TimingState.{TimingState}
 pub use Rattle.ddr4_timing.specs.declared.place.BankAddress.{BankAddress}
 pub use Rattle.ddr4_timing.specs.declared.rank.RankState.{RankState}
 pub use Rattle.ddr4_timing.specs.declared.rank.Refresh.{Refresh}
@@ -22,7 +22,7 @@ unfoldable pub use Rattle.ddr4_timing.specs.Gaps.{faw_gap, gap, most_gap, pair_g
 pub use Rattle.ddr4_timing.specs.Lawful.{IsInGeometry, IsLawful, IsLeastFault, KeepsGap, KeepsRefresh, KeepsRows, KeepsRule, MayComeNext, ObeysRule, row_after, with_command}
 unfoldable pub use Rattle.ddr4_timing.specs.Lawful.{is_asleep, last_ref, open_row, ref_count}
 pub use Rattle.ddr4_timing.specs.Limits.{FitsFaw, IsSmall}
-pub use Rattle.ddr4_timing.specs.Machine.{BankRises, BankStands, BanksRise, ChannelTakes, ClockRises, GroupsRise, RankStands, RankTakes, RefreshStands, StandsFor, WindowStands}
+pub use Rattle.ddr4_timing.specs.TimingState.{BankRises, BankStands, BanksRise, ChannelTakes, ClockRises, GroupsRise, RankStands, RankTakes, RefreshStands, StandsFor, WindowStands}
 pub use Rattle.ddr4_timing.specs.Places.{HasBank, HasSlot, is_bank, slot_of}
 pub use Rattle.ddr4_timing.specs.Rows.{row_in}
 pub use Rattle.ddr4_timing.specs.Rules.{every_rule, rule_number}

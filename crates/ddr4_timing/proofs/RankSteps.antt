@@ -5,7 +5,7 @@ use Rattle.std.proofs.lemmas.Bool.{cases_eq, cases_Bool, eq-eqb, ne_eqb, and_rig
 use Rattle.std.proofs.lemmas.Bool.Decides.{nat_tests}
 use Rattle.std.proofs.lemmas.Grind.{get_or-set_at}
 use Rattle.std.proofs.lemmas.List.{get_or_default}
-use Rattle.ddr4_timing.proofs.Common.{Act, BankAddress, BankCells, BankRises, BankStands, BanksRise, ChannelTakes, Checked, ClockRises, Command, GroupsRise, HasSlot, KeepsRefresh, Machine, Pre, PreAll, RankStands, RankState, RankTakes, Rd, Ref, Refresh, RefreshStands, Sre, Stamped, Timing, Window, WindowStands, Wr, bank_of, beyond_rank, demand_of, in_groups, in_rank, is_act, is_act_of, is_bank, is_ref, is_ref_of, is_sre, rank_of, row_after, row_in, slot_of, with_command}
+use Rattle.ddr4_timing.proofs.Common.{Act, BankAddress, BankCells, BankRises, BankStands, BanksRise, ChannelTakes, Checked, ClockRises, Command, GroupsRise, HasSlot, KeepsRefresh, TimingState, Pre, PreAll, RankStands, RankState, RankTakes, Rd, Ref, Refresh, RefreshStands, Sre, Stamped, Timing, Window, WindowStands, Wr, bank_of, beyond_rank, demand_of, in_groups, in_rank, is_act, is_act_of, is_bank, is_ref, is_ref_of, is_sre, rank_of, row_after, row_in, slot_of, with_command}
 use Rattle.ddr4_timing.proofs.Addresses.{has_slot, same_slot, slot_small}
 use Rattle.ddr4_timing.proofs.FloorLemmas.{floor_push, open_row_push, window-yes, window-first, window-no, ref_count_push, last_ref_push, is_asleep_push}
 use Rattle.ddr4_timing.proofs.GapParts.{cond_same, tells_gaps}
@@ -190,7 +190,7 @@ other_rank c list k next write write' column column' x rank r n beyond writes s 
     }
 
 -- each rank, behind a command that one of them takes
-pub each_rank : (c : Checked) (list : List Stamped) (k : ℕ) (x : Command) (old new : Machine) (taken d : RankState) (i : ℕ) → length old.ranks ≡ 4 → length old.columns ≡ 4 → i ≡ rank_of x →
+pub each_rank : (c : Checked) (list : List Stamped) (k : ℕ) (x : Command) (old new : TimingState) (taken d : RankState) (i : ℕ) → length old.ranks ≡ 4 → length old.columns ≡ 4 → i ≡ rank_of x →
     KeepsRefresh c.timing list (record { clock = k; cmd = x }) → RankTakes c.timing k x (get_or old.ranks i d) taken → ChannelTakes c.timing k x (record old { ranks = set old.ranks i taken }) new →
     ((rank column : ℕ) (none : RankState) → rank < c.geometry.ranks → RankStands c list old.next old.write (get_or old.columns rank column) rank (get_or old.ranks rank none)) →
     (rank column : ℕ) (none : RankState) → rank < c.geometry.ranks → RankStands c (with_command list k x) new.next new.write (get_or new.columns rank column) rank (get_or new.ranks rank none)

@@ -44,7 +44,7 @@ pub struct RankState {
 }
 
 impl RankState {
-    ghost use Rattle.ddr4_timing.specs.Machine.{LeavesToAct, LeavesToRd, LeavesToWr, RankStands, RankTakes};
+    ghost use Rattle.ddr4_timing.specs.TimingState.{LeavesToAct, LeavesToRd, LeavesToWr, RankStands, RankTakes};
 
     /// A rank before any command.
     pub(crate) fn new(checked: &Checked) -> RankState

@@ -18,7 +18,7 @@ use Rattle.frfcfs.specs.declared.pending.Pending.{Pending}
 use Rattle.frfcfs.proofs.Lists.{All-at}
 use Rattle.wpq_core.specs.declared.queue.PendingWrite.{PendingWrite}
 use Rattle.wpq_core.specs.PendingMemory.{after_pending}
-use Rattle.chan_core.specs.Always.{IsHeld}
+use Rattle.chan_core.specs.Always.{HasRightContents}
 use Rattle.chan_core.specs.State.{ChannelState, channel_memory, placed, placed_write, placed_writes}
 use Rattle.chan_core.specs.declared.phase.Phase.TheVariants.{Asleep}
 use Rattle.drain_core.specs.declared.steps.StepEnd.{StepEnd}
@@ -113,16 +113,16 @@ pub no_requests : (requests : List Pending) → All (λ p. p.kind ≡ Write) req
 no_requests [] all e = refl
 no_requests (p ∷ requests) all e = absurd (one_placed p.kind (p.number, p.place) (filter_map placed_write requests) (All-at (λ (p : Pending). p.kind ≡ Write) (p ∷ requests) 0 p all refl) e)
 
-pub few_places : (s : ChannelState) → IsHeld s → length (pending_places s) ≤ 64
-few_places s held = let many = places_length s held in omega (arith, many, held.writes.few, held.writes.most)
+pub few_places : (s : ChannelState) → HasRightContents s → length (pending_places s) ≤ 64
+few_places s contents = let many = places_length s contents in omega (arith, many, contents.writes.few, contents.writes.most)
 
 -- its clocks are few
-few_clocks : (s : ChannelState) → CanDrain s.checked s.commands → IsHeld s → clocks_of s ≤ 32500000
-few_clocks s can held =
+few_clocks : (s : ChannelState) → CanDrain s.checked s.commands → HasRightContents s → clocks_of s ≤ 32500000
+few_clocks s can contents =
     let c = s.checked in
     let e = entry_of c.timing c.geometry in
-    let few = few_places s held in
-    let most = drain_clocks-le c s.commands (pending_places s) can (all_lie s held) in
+    let few = few_places s contents in
+    let most = drain_clocks-le c s.commands (pending_places s) can (all_lie s contents) in
     let small = total_small e (close_of c.timing c.geometry) c.geometry.ranks c.timing.t_refi (length (pending_places s)) c.fits_entry c.in_limits.t_refi.1 few (grind (arith, mul-le-mul_left e few)) in
     omega (arith, most, small)
 
@@ -139,15 +139,15 @@ from_start first final slept start e s =
     let rises = drain_rises first.checked.timing first.checked.geometry first.commands (pending_places first) in
     omega (arith, clock, rises, s)
 
-its_most_clocks : (first : ChannelState) (clocks : ℕ) → CanDrain first.checked first.commands → IsHeld first → clocks ≡ clocks_of first → clocks ≤ most_clocks first
-its_most_clocks first clocks can held e =
+its_most_clocks : (first : ChannelState) (clocks : ℕ) → CanDrain first.checked first.commands → HasRightContents first → clocks ≡ clocks_of first → clocks ≤ most_clocks first
+its_most_clocks first clocks can contents e =
     let c = first.checked in
-    let most = drain_clocks-le c first.commands (pending_places first) can (all_lie first held) in
-    let same = ap (λ (k : ℕ). close_of c.timing c.geometry + k * entry_of c.timing c.geometry) (places_length first held) in
+    let most = drain_clocks-le c first.commands (pending_places first) can (all_lie first contents) in
+    let same = ap (λ (k : ℕ). close_of c.timing c.geometry + k * entry_of c.timing c.geometry) (places_length first contents) in
     omega (arith, most, same, e)
 
 -- behind the last look for a write, which found none
-module _ {n : CostNumbers} {first old now final : ChannelState} {end slept : StepEnd} (before : IsDraining n first old end) (look : (old.writes ≡ []) × (now ≡ old)) (held : IsHeld now)
+module _ {n : CostNumbers} {first old now final : ChannelState} {end slept : StepEnd} (before : IsDraining n first old end) (look : (old.writes ≡ []) × (now ≡ old)) (contents : HasRightContents now)
     (goes : GoesTo n (after_self_refresh now.checked.timing now.checked.geometry (progress_of now end.clock)) 0 now final slept) where
   none : now.writes ≡ []
   none = ap (λ (s : ChannelState). s.writes) look.1 ∙ look.0
@@ -156,7 +156,7 @@ module _ {n : CostNumbers} {first old now final : ChannelState} {end slept : Ste
   i = subst (λ (s : ChannelState). IsDraining n first s end) (sym look.1) before
 
   none_placed : placed_writes now ≡ []
-  none_placed = nil_from_length (placed_writes now) (placed_length now held ∙ ap length none)
+  none_placed = nil_from_length (placed_writes now) (placed_length now contents ∙ ap length none)
 
   drained_progress : progress_of final slept.clock ≡ drain_of_channel first
   unfolding drain_of
@@ -195,18 +195,18 @@ module _ {n : CostNumbers} {first old now final : ChannelState} {end slept : Ste
     pub drained_clocks : slept.clock - start ≡ clocks_of first
     drained_clocks = its_clocks first final slept start drained_progress begun
 
-    pub drained_most_clocks : CanDrain first.checked first.commands → IsHeld first → slept.clock - start ≤ most_clocks first
+    pub drained_most_clocks : CanDrain first.checked first.commands → HasRightContents first → slept.clock - start ≤ most_clocks first
     drained_most_clocks can first_held = its_most_clocks first (slept.clock - start) can first_held drained_clocks
 
-    pub drained_units : CanDrain first.checked first.commands → IsHeld first → n.e_clk ≤ 1000000 → n.e_clk * (slept.clock - start) ≤ 32500000000000
+    pub drained_units : CanDrain first.checked first.commands → HasRightContents first → n.e_clk ≤ 1000000 → n.e_clk * (slept.clock - start) ≤ 32500000000000
     drained_units can first_held least = let few = few_clocks first can first_held in few_units n.e_clk (slept.clock - start) least (omega (arith, drained_clocks, few))
 
     pub drained_spent : end.cost + slept.cost + n.e_clk * (slept.clock - start) ≡ spent_by n first
     unfolding drain_spent drain_commands
     drained_spent = ap (λ (cost : ℕ). cost + n.e_clk * (slept.clock - start)) drained_cost ∙ ap (λ (clocks : ℕ). commands_cost n (drop (length first.commands) (drain_of_channel first).list) + n.e_clk * clocks) drained_clocks
 
-pub its_most_spent : (costs : Costs) (first : ChannelState) (spent : ℕ) → AreReckonedFor first.checked costs → CanDrain first.checked first.commands → IsHeld first → spent ≡ spent_by costs.numbers first → spent ≤ close_cost costs + length first.writes * entry_cost costs
-its_most_spent costs first spent for can held e =
-    let most = drain_spent-le first.checked costs first.commands (pending_places first) for can (all_lie first held) in
-    let same = ap (λ (k : ℕ). close_cost costs + k * entry_cost costs) (places_length first held) in
+pub its_most_spent : (costs : Costs) (first : ChannelState) (spent : ℕ) → AreReckonedFor first.checked costs → CanDrain first.checked first.commands → HasRightContents first → spent ≡ spent_by costs.numbers first → spent ≤ close_cost costs + length first.writes * entry_cost costs
+its_most_spent costs first spent for can contents e =
+    let most = drain_spent-le first.checked costs first.commands (pending_places first) for can (all_lie first contents) in
+    let same = ap (λ (k : ℕ). close_cost costs + k * entry_cost costs) (places_length first contents) in
     subst (λ (most : ℕ). spent ≤ most) same (subst (λ (k : ℕ). k ≤ close_cost costs + length (pending_places first) * entry_cost costs) (sym e) most)

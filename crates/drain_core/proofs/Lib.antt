@@ -21,3 +21,4 @@ pub mod EnteringChannel
 pub mod PendingPlaces
 pub mod ClocksRise
 pub mod DrainingChannel
+pub mod PaidDrain

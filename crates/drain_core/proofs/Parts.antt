@@ -66,6 +66,7 @@ takes_then a b k old mid new e i j = record {
       ∙ ap (λ (array : List (List ℕ)). record (took k old new) { array = array; writes = drop b (drop a old.writes) }) (after_both a b k old.array old.writes e)
       ∙ ap (λ (writes : List PendingWrite). record (took k old new) { writes = writes }) (drop_drop a b k old.writes e);
   placed = j.placed ∙ ap (drop b) i.placed ∙ drop_drop a b k (placed_writes old) e;
+  lost = λ none. j.lost (i.lost none);
 }
 
 pub takes_checked : (count : ℕ) (old new : ChannelState) → TakesOldest count old new → new.checked ≡ old.checked

@@ -10,7 +10,7 @@ use Rattle.frfcfs.specs.declared.pending.Kind.{Kind}
 use Rattle.frfcfs.specs.declared.pending.Kind.TheVariants.{Read, Write}
 use Rattle.frfcfs.specs.declared.pending.Pending.{Pending}
 use Rattle.frfcfs.proofs.Lists.{All-at}
-use Rattle.chan_core.specs.Always.{IsHeld}
+use Rattle.chan_core.specs.Always.{HasRightContents}
 use Rattle.chan_core.specs.Contents.{IsRightRequest, queued_key, write_key, write_of}
 use Rattle.chan_core.specs.State.{ChannelState, placed, placed_write, placed_writes}
 use Rattle.chan_core.proofs.Kept.{map-from}
@@ -28,13 +28,13 @@ placed_lies : (g : Geometry) (requests : List Pending) → ((i : ℕ) (p : Pendi
 placed_lies g [] lie j w e = absurd cc
 placed_lies g (p ∷ requests) lie j w e = placed_head g p.kind p.number p.place (filter_map placed_write requests) (lie zero p refl) (placed_lies g requests (λ i q at. lie (suc i) q at)) j w e
 
-pub pending_lies : (s : ChannelState) (j : ℕ) (w : ℕ × Place) → IsHeld s → slice_get (placed_writes s) j ≡ Some w → LiesIn s.checked.geometry w.1
-pending_lies s j w held e = placed_lies s.checked.geometry s.requests (λ i p at. (All-at (IsRightRequest s.checked.geometry s.channel s.hold) s.requests i p held.right at).lies) j w e
+pub pending_lies : (s : ChannelState) (j : ℕ) (w : ℕ × Place) → HasRightContents s → slice_get (placed_writes s) j ≡ Some w → LiesIn s.checked.geometry w.1
+pending_lies s j w contents e = placed_lies s.checked.geometry s.requests (λ i p at. (All-at (IsRightRequest s.checked.geometry s.channel s.hold) s.requests i p contents.right at).lies) j w e
 
-pub all_lie : (s : ChannelState) → IsHeld s → All (LiesIn s.checked.geometry) (pending_places s)
-all_lie s held k d within =
+pub all_lie : (s : ChannelState) → HasRightContents s → All (LiesIn s.checked.geometry) (pending_places s)
+all_lie s contents k d within =
     let at = map-from (λ (w : ℕ × Place). w.1) (placed_writes s) k (get_or (pending_places s) k d) (slice_get-get_or (pending_places s) k d within) in
-    subst (LiesIn s.checked.geometry) at.2 (pending_lies s k at.0 held at.1)
+    subst (LiesIn s.checked.geometry) at.2 (pending_lies s k at.0 contents at.1)
 
 -- there are as many as writes
 
@@ -46,11 +46,11 @@ as_many : (requests : List Pending) → length (filter_map placed_write requests
 as_many [] = refl
 as_many (p ∷ requests) = as_long p.kind (p.number, p.line) (p.number, p.place) (filter_map write_key requests) (filter_map placed_write requests) (as_many requests)
 
-pub placed_length : (s : ChannelState) → IsHeld s → length (placed_writes s) ≡ length s.writes
-placed_length s held = as_many s.requests ∙ ap length held.queued ∙ length-map s.writes queued_key
+pub placed_length : (s : ChannelState) → HasRightContents s → length (placed_writes s) ≡ length s.writes
+placed_length s contents = as_many s.requests ∙ ap length contents.queued ∙ length-map s.writes queued_key
 
-pub places_length : (s : ChannelState) → IsHeld s → length (pending_places s) ≡ length s.writes
-places_length s held = length-map (placed_writes s) (λ (w : ℕ × Place). w.1) ∙ placed_length s held
+pub places_length : (s : ChannelState) → HasRightContents s → length (pending_places s) ≡ length s.writes
+places_length s contents = length-map (placed_writes s) (λ (w : ℕ × Place). w.1) ∙ placed_length s contents
 
 -- the oldest
 
@@ -58,8 +58,8 @@ no_oldest : {X : Type 0} (xs : List X) → slice_get xs 0 ≡ None → length xs
 no_oldest [] e = refl
 no_oldest (x ∷ xs) e = absurd cc
 
-pub none_pending : (s : ChannelState) → IsHeld s → slice_get (placed_writes s) 0 ≡ None → s.writes ≡ []
-none_pending s held e = nil_from_length s.writes (sym (placed_length s held) ∙ no_oldest (placed_writes s) e)
+pub none_pending : (s : ChannelState) → HasRightContents s → slice_get (placed_writes s) 0 ≡ None → s.writes ≡ []
+none_pending s contents e = nil_from_length s.writes (sym (placed_length s contents) ∙ no_oldest (placed_writes s) e)
 
 pub first_and_rest : {X : Type 0} (xs : List X) (x : X) → slice_get xs 0 ≡ Some x → (rest : List X) × (xs ≡ x ∷ rest)
 first_and_rest [] x e = absurd cc

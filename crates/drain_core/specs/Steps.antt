@@ -59,8 +59,8 @@ pub record IssuesFor (n : CostNumbers) (cost : ℕ) (old new : List Stamped) : T
   pub list : new ≡ old ++ commands
   pub is : cost ≡ commands_cost n commands
 
--- So many of the oldest pending writes went into the array, held or not. The commands, the phase and the reads may change,
--- and all else stays.
+-- So many of the oldest pending writes went into the array, held or not. The commands, the phase and the reads may change, but
+-- no read comes, and all else stays.
 pub record TakesOldest (count : ℕ) (old new : ChannelState) : Type 0 where
   pub same : new ≡ record old {
     array = after_pending old.array (take count old.writes);
@@ -71,6 +71,7 @@ pub record TakesOldest (count : ℕ) (old new : ChannelState) : Type 0 where
     phase = new.phase;
   }
   pub placed : placed_writes new ≡ drop count (placed_writes old)
+  pub lost : old.tickets ≡ [] → new.tickets ≡ []
 
 -- A part of a drain goes as far as the progress p, and so many of the oldest writes are in the array.
 pub record GoesTo (n : CostNumbers) (p : Progress) (count : ℕ) (old new : ChannelState) (end : StepEnd) : Type 0 where

@@ -1,4 +1,4 @@
-// What the drain's definition comes to. The functions have no code: a crate above calls one to know its law.
+// What the drain's definition comes to. The functions have no code.
 ghost use Rattle.std.specs.Prelude.{◌≡◌, ℕ, ◌+◌, ◌*◌, ◌^◌, ◌<◌, ◌≤◌, All, List, length};
 ghost use Rattle.ddr4_timing.specs.Lawful.{IsLawful};
 ghost use Rattle.ddr4_timing.specs.Limits.{entry_of, close_of};

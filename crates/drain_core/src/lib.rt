@@ -4,9 +4,10 @@
 
 mod channel_drain;
 pub mod laws;
+mod payment;
 mod report;
 mod steps;
 
-pub use channel_drain::drain;
+pub use channel_drain::{drain, drain_paying};
 pub use report::DrainReport;
 pub use steps::{StepEnd, close_step, entry_step, self_refresh};

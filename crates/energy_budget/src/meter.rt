@@ -5,7 +5,7 @@ ghost use Rattle.energy_budget.specs.Gauge.{ReadsLevel, PaysCost};
 
 use crate::tally::Tally;
 use crate::{Dark, Energy};
-use past::Past;
+use ghost_trace::Trace;
 
 /// A gauge whose level is set from outside. Each reading takes its leak from the level, and each payment the cost, never
 /// below 0.
@@ -18,8 +18,8 @@ pub struct Meter {
     leak: u64,
     lie: Option<u64>,
     faults: Tally,
-    refused: Past<()>,
-    calls: Past<()>,
+    refused: Trace<()>,
+    calls: Trace<()>,
 }
 
 impl Meter {
@@ -37,8 +37,8 @@ impl Meter {
             leak,
             lie: None,
             faults: Tally::new(),
-            refused: Past::new(),
-            calls: Past::new(),
+            refused: Trace::new(),
+            calls: Trace::new(),
         }
     }
 

@@ -1,13 +1,13 @@
 // A count that has no largest number where clauses read it.
 ghost use Rattle.std.specs.Prelude.{◌≡◌, ◌+◌, ◌-◌, ◌^◌, min, length};
 
-use past::Past;
+use ghost_trace::Trace;
 
 /// A count; it is shown as the largest number where it is more.
 #[derive(Drop)]
 pub(crate) struct Tally {
     shown: u64,
-    counted: Past<()>,
+    counted: Trace<()>,
     ghost is_shown: { shown ≡ min (length counted.items) (2 ^ 64 - 1) },
 }
 
@@ -19,7 +19,7 @@ impl Tally {
     {
         Tally {
             shown: 0,
-            counted: Past::new(),
+            counted: Trace::new(),
         }
     }
 

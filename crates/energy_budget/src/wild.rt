@@ -4,7 +4,7 @@ ghost use Rattle.energy_budget.specs.Gauge.{ReadsLevel, PaysCost};
 
 use crate::tally::Tally;
 use crate::{Dark, Energy};
-use past::Past;
+use ghost_trace::Trace;
 use std::vec::IntoIter;
 
 /// A gauge that answers from a list of words. Each call finds the next word as its level, whatever the level was: a reading
@@ -15,8 +15,8 @@ pub struct Wild {
     words: IntoIter<u64>,
     level: u64,
     faults: Tally,
-    refused: Past<()>,
-    calls: Past<()>,
+    refused: Trace<()>,
+    calls: Trace<()>,
 }
 
 impl Wild {
@@ -32,8 +32,8 @@ impl Wild {
             words: words.into_iter(),
             level: 0,
             faults: Tally::new(),
-            refused: Past::new(),
-            calls: Past::new(),
+            refused: Trace::new(),
+            calls: Trace::new(),
         }
     }
 }

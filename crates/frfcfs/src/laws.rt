@@ -1,4 +1,4 @@
-// What the definitions say. The function has no code: a crate above calls it to know its law.
+// What the definitions say. The function has no code.
 ghost use Rattle.std.specs.Prelude.{◌≡◌, ◌≢◌, ℕ, ◌<◌, List, Some, slice_get};
 ghost use Rattle.ddr4_timing.specs.declared.command.Command.{Command};
 ghost use Rattle.ddr4_timing.specs.declared.command.Stamped.{Stamped};

@@ -1,5 +1,4 @@
-// The time that each rank has for its next refresh: what keeps it, and what it gives. The functions have no code: a crate
-// above calls one to know its law.
+// The time that each rank has for its next refresh: what keeps it, and what it gives. The functions have no code.
 ghost use Rattle.std.specs.Prelude.{◌≡◌, ℕ, ◌+◌, ◌*◌, ◌<◌, ◌^◌, ◌↔◌, ◌⊎◌, List, [], Option, Some, None, IsTrue};
 ghost use Rattle.ddr4_timing.specs.Lawful.{IsLawful, is_asleep, last_ref};
 ghost use Rattle.ddr4_timing.specs.Limits.{entry_of, close_of};

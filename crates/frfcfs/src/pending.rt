@@ -20,7 +20,7 @@ pub struct Pending {
     pub place: Place,
     pub line: u64,
     pub kind: Kind,
-    /// A write's number among the accepted writes, or a read's serial.
+    /// How many writes were accepted before it; so it is a write's own number.
     pub number: u64,
     /// Whether it is to wait for now.
     pub held: bool,

@@ -1,5 +1,5 @@
 -- The second way: the geometry has as many places as lines, so that a map that gives each line back leaves no place out.
-use Rattle.std.proofs.Common.{◌≡◌, ℕ, ◌<◌, ap, sym, subst, refl, ◌∙◌}
+use Rattle.std.proofs.Common.{◌≡◌, ℕ, ◌<◌, ap, sym, subst, ◌∙◌}
 use Rattle.ddr4_timing.specs.declared.timing.Geometry.{Geometry}
 use Rattle.ddr4_timing.specs.declared.place.Place.{Place}
 use Rattle.ddr4_timing.specs.Limits.{lines_of}
@@ -35,49 +35,25 @@ module _ {g : Geometry} {split : ℕ → Place} {join : Place → ℕ} (inverse 
       let same : join place ≡ at.0 = ap join (sym at.2) ∙ inverse.back at.0 at.1 in
       (subst (λ line. line < lines_of g) (sym same) at.1, ap split same ∙ at.2)
 
-  pub functions_interleave : IsInterleaving g (λ line place. split line ≡ place)
-  functions_interleave = record {
-    some = λ line below. (split line, refl);
-    lies_in = λ line place below at. subst (LiesIn g) at (inverse.lies_in line below);
-    one = λ line p q below at_p at_q. sym at_p ∙ at_q;
-    apart = λ line other place below other_below at other_at. apart line other below other_below (at ∙ sym other_at);
-    onto = line_of;
-  }
+  pub functions_interleave : IsInterleaving g split
+  functions_interleave = record { lies_in = inverse.lies_in; apart = apart; onto = line_of }
 
 module _ {g : Geometry} {place_of : ℕ → Place} {can_split : ℕ → Type 0} {splits : ℕ → Place → Type 0} {can_join : Place → Type 0} {joins : Place → ℕ → Type 0} (map : AreInverse g place_of can_split splits can_join joins) where
-  -- each place is one that split may give
-  line_at : (place : Place) → LiesIn g place → (line : ℕ) × (line < lines_of g) × (place_of line ≡ place)
-  line_at =
-      all_places g place_of (λ line below. map.lies_in line (place_of line) below (map.place line below))
-      (λ line other below other_below same. map.back other line (place_of other) other_below (map.place other other_below) (subst (λ place. joins place line) same (map.line line below)))
+  places_apart : (line other : ℕ) → line < lines_of g → other < lines_of g → place_of line ≡ place_of other → line ≡ other
+  places_apart line other below other_below same = map.back other line other_below (subst (λ place. joins place line) same (map.line line below))
 
-  -- a line has one place
-  one_place : (line : ℕ) (place : Place) → line < lines_of g → splits line place → place ≡ place_of line
-  one_place line place below split =
-      let at = line_at place (map.lies_in line place below split) in
-      let same : at.0 ≡ line = map.back line at.0 place below split (subst (λ place. joins place at.0) at.2 (map.line at.0 at.1)) in
-      sym at.2 ∙ ap place_of same
-
-  pub closures_interleave : IsInterleaving g splits
-  closures_interleave = record {
-    some = λ line below. (place_of line, map.place line below);
-    lies_in = map.lies_in;
-    one = λ line p q below at_p at_q. one_place line p below at_p ∙ sym (one_place line q below at_q);
-    apart = λ line other place below other_below at other_at.
-        let same = sym (one_place line place below at) ∙ one_place other place other_below other_at in
-        map.back other line place other_below other_at (subst (λ place. joins place line) (sym (one_place line place below at)) (map.line line below));
-    onto = λ place lies. let at = line_at place lies in (at.0, at.1, subst (splits at.0) at.2 (map.place at.0 at.1));
-  }
+  pub closures_interleave : IsInterleaving g place_of
+  closures_interleave = record { lies_in = map.lies_in; apart = places_apart; onto = all_places g place_of map.lies_in places_apart }
 
   -- each place can be joined
   pub joinable : (place : Place) → LiesIn g place → can_join place
   joinable place lies =
-      let at = line_at place lies in
-      subst can_join at.2 (map.callable_back at.0 (place_of at.0) at.1 (map.place at.0 at.1))
+      let at = all_places g place_of map.lies_in places_apart place lies in
+      subst can_join at.2 (map.callable_back at.0 at.1)
 
-  -- what a place gives back is a line that lies there
-  pub line_back : (place : Place) (line : ℕ) → LiesIn g place → joins place line → (line < lines_of g) × splits line place
+  -- what a place gives back is the line that lies there
+  pub line_back : (place : Place) (line : ℕ) → LiesIn g place → joins place line → (line < lines_of g) × (place_of line ≡ place)
   line_back place line lies join =
-      let at = line_at place lies in
-      let same : line ≡ at.0 = map.back at.0 line (place_of at.0) at.1 (map.place at.0 at.1) (subst (λ place. joins place line) (sym at.2) join) in
-      (subst (λ line. line < lines_of g) (sym same) at.1, subst (λ line. splits line place) (sym same) (subst (splits at.0) at.2 (map.place at.0 at.1)))
+      let at = all_places g place_of map.lies_in places_apart place lies in
+      let same : line ≡ at.0 = map.back at.0 line at.1 (subst (λ place. joins place line) (sym at.2) join) in
+      (subst (λ line. line < lines_of g) (sym same) at.1, ap place_of same ∙ at.2)

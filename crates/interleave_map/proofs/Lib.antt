@@ -5,3 +5,4 @@ pub mod Exchange
 pub mod Numbering
 pub mod Onto
 pub mod PowersOfTwo
+pub mod ReadyMaps

@@ -1,8 +1,9 @@
-//! Where each line lies: maps from the lines of a host to the places of a geometry and back, made of two closures.
+//! Where each line lies: maps from the lines of a host to the places of a geometry and back.
 //!
-//! A `Map` keeps the caller's closures (`src/map.rt`); what is asked of them, and what follows, is in
-//! `specs/Inverse.antt`. The two maps that a profile may name are plain functions, `lines` and `xor`, each way. The place
-//! of a line in the array of its channel is its cell, whatever the map (`src/cells.rt`).
+//! What stands on a map asks for a `LineMap` (`src/line_map.rt`). A `Map` is one of two closures that a caller made
+//! (`src/map.rt`); what is asked of them, and what follows, is in `specs/Inverse.antt`. The two maps that a profile may name are
+//! plain functions, `lines` and `xor`, each way, and a `ReadyMap` is either of them as a value (`src/ready.rt`). The place of a
+//! line in the array of its channel is its cell, whatever the map (`src/cells.rt`).
 #![tactic(auto)]
 
 pub mod cells;
@@ -10,4 +11,7 @@ pub mod laws;
 pub mod line_map;
 pub mod lines;
 pub mod map;
+mod ready;
 pub mod xor;
+
+pub use ready::{Interleaving, ReadyMap};

@@ -7,7 +7,6 @@ ghost use Rattle.ddr4_timing.specs.declared.timing.Geometry.{Geometry};
 ghost use Rattle.interleave_map.specs.Inverse.{IsInterleaving};
 
 use ddr4_timing::place::Place;
-use std::marker::Brand;
 
 /// A map between the lines of a host and the places of a geometry. Each line lies at one place, no two lines share a place,
 /// and each place is one line's.
@@ -18,8 +17,8 @@ pub trait LineMap {
     /// The geometry that the map is of.
     ghost geometry_of: { Self → Geometry };
 
-    /// Holds of a line and its place.
-    ghost lies_at: { Self → ℕ → Place → Type 0 };
+    /// The place of each line below the number of lines.
+    ghost place_of: { Self → ℕ → Place };
 
     /// Holds of the maps that may be asked.
     ghost is_lawful: { Self → Type 0 };
@@ -28,32 +27,24 @@ pub trait LineMap {
     fn place(&self, line: u64) -> Place
         requires lawful { is_lawful self.now }
         requires line { line < lines_of (geometry_of self.now) }
-        ensures lies_at { lies_at self.now line result }
-        ensures lies_in { LiesIn (geometry_of self.now) result }
-        ensures only { (place : Place) → lies_at self.now line place → place ≡ result };
+        ensures { result ≡ place_of self.now line };
 
     /// Which line lies at the place. In constant time, as far as the map's own computation is.
     fn line(&self, place: Place) -> u64
         requires lawful { is_lawful self.now }
         requires place { LiesIn (geometry_of self.now) place }
         ensures below { result < lines_of (geometry_of self.now) }
-        ensures lies_at { lies_at self.now result place }
-        ensures only { (line : ℕ) → line < lines_of (geometry_of self.now)
-            → lies_at self.now line place → line ≡ result };
+        ensures back { place_of self.now result ≡ place };
 
     /// A law: what is true of each lawful map. It does nothing.
     fn interleaves(&self)
         requires { is_lawful self.now }
-        ensures { IsInterleaving (geometry_of self.now) (lies_at self.now) };
+        ensures { IsInterleaving (geometry_of self.now) (place_of self.now) };
 }
 
-/// Names the place of each line, where a type or a contract has to speak of the place of a line that no call was asked for.
-/// A caller picks the names at a call with `Brand`.
-pub trait Places {
+/// Names the place of each line for a map of closures: what a closure answers is known by a relation alone, and a type or a
+/// contract has to speak of the place of a line that no call was asked for. A ready-made map names its own places.
+pub trait Names {
     /// The place of each line below the number of lines.
-    ghost place_of: { ℕ → Place };
-}
-
-impl Places for Brand {
-    ghost place_of = { λ _. record { channel = 0; rank = 0; group = 0; bank = 0; row = 0; column = 0 } };
+    ghost place_of: { Self → ℕ → Place };
 }

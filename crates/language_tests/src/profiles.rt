@@ -2,7 +2,8 @@
 use crate::check::same;
 use ddr4_timing::profiles;
 use energy_budget::TINY_COSTS;
-use nv_profile::{MapWord, ModuleSizes, Profile, ProfileFault, TINY, read_profile};
+use interleave_map::Interleaving;
+use nv_profile::{ModuleSizes, Profile, ProfileFault, TINY, read_profile};
 use std::alloc::Global;
 use std::process::Abort;
 
@@ -83,7 +84,7 @@ fn costs_and_sizes_of_tiny(rt: HostRuntime) {
     let profile = tiny(&rt);
     same(&rt, profile.costs, TINY_COSTS);
     same(&rt, profile.sizes, sizes);
-    same(&rt, profile.map, MapWord::Lines);
+    same(&rt, profile.map, Interleaving::Lines);
 }
 
 #[test]
@@ -183,8 +184,8 @@ fn limits_of_all_lines(rt: HostRuntime) {
 fn maps(rt: HostRuntime) {
     let xor = with(&rt, "map", "\"xor\"");
     let profile = read_profile(rt.alloc(), xor.as_bytes()).expect(&rt, "a profile");
-    same(&rt, profile.map, MapWord::Xor);
-    let word = format!(in rt.alloc(); "{} {}", MapWord::Lines, MapWord::Xor).expect(&rt, "memory");
+    same(&rt, profile.map, Interleaving::Xor);
+    let word = format!(in rt.alloc(); "{} {}", Interleaving::Lines, Interleaving::Xor).expect(&rt, "memory");
     same(&rt, word.as_str(), "lines xor");
     for value in ["\"row\"", "\"\"", "\"Lines\"", "\"lines \"", "lines", "1"] {
         refuses(&rt, "map", value);

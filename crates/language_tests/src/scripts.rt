@@ -2,7 +2,7 @@
 use crate::check::same;
 use ddr4_timing::timing::Geometry;
 use line_memory::Write;
-use nv_profile::MapWord;
+use interleave_map::Interleaving;
 use nv_script::{SCRIPT_BYTES, ScriptFault, ScriptLine, read_script};
 use save_device::Pick;
 use std::alloc::Global;
@@ -70,7 +70,7 @@ fn each_verb(rt: HostRuntime) {
     is_just(&rt, "mark", ScriptLine::Mark);
 }
 
-fn restore(pick: Option<Pick>, map: Option<MapWord>) -> ScriptLine {
+fn restore(pick: Option<Pick>, map: Option<Interleaving>) -> ScriptLine {
     ScriptLine::Restore { pick, map }
 }
 
@@ -84,17 +84,17 @@ fn restores(rt: HostRuntime) {
     is_just(
         &rt,
         "restore old xor",
-        restore(Some(Pick::Old), Some(MapWord::Xor)),
+        restore(Some(Pick::Old), Some(Interleaving::Xor)),
     );
     is_just(
         &rt,
         "restore new lines",
-        restore(Some(Pick::New), Some(MapWord::Lines)),
+        restore(Some(Pick::New), Some(Interleaving::Lines)),
     );
     is_just(
         &rt,
         "restore torn00 xor",
-        restore(Some(Pick::Torn(0)), Some(MapWord::Xor)),
+        restore(Some(Pick::Torn(0)), Some(Interleaving::Xor)),
     );
 }
 

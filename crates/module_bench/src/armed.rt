@@ -1,17 +1,14 @@
 // An armed life: writes that are admitted by the energy for their save, and a loss of mains with full queues.
-ghost use Rattle.module_parts.specs.Lines.{HasPlaces};
-
 use crate::load::Load;
 use crate::measured::{Measured, Stall};
 use crate::opening::{DEPTH, open};
 use crate::picks::{Pick, Picks};
 use crate::rounds::formatted;
 use arm_state::Loss;
-use ddr4_timing::timing::Checked;
 use energy_budget::Meter;
+use interleave_map::ReadyMap;
 use interleave_map::cells::line_count;
-use interleave_map::line_map::{LineMap, Places};
-use line_channels::Drainable;
+use channel_port::ChannelPort;
 use line_memory::Write;
 use save_device::SaveDevice;
 use std::time::Instant;
@@ -31,7 +28,7 @@ pub struct Armed {
     pub count: u64,
 }
 
-impl<C: Drainable + Drop, D: SaveDevice + Drop> Load<C, D> {
+impl<K: ChannelPort + Drop, D: SaveDevice + Drop> Load<K, D> {
     // Arms, with energy for any save.
     fn arm(&mut self) -> Result<(), Stall> {
         self.gauge = Meter::with(ENERGY, 0);
@@ -43,7 +40,6 @@ impl<C: Drainable + Drop, D: SaveDevice + Drop> Load<C, D> {
 
     // Writes a line until its channel's queue is full.
     fn fill_queue_of(&mut self, line: u64)
-        requires { C.reaches }
     {
         for turn in 0..=DEPTH {
             let write = Write {
@@ -58,7 +54,6 @@ impl<C: Drainable + Drop, D: SaveDevice + Drop> Load<C, D> {
 
     // Fills the queue of each channel; how many writes wait then. The lowest lines lie on the channels in turn.
     fn fill(&mut self) -> u64
-        requires { C.reaches }
     {
         for line in 0..self.channels {
             self.fill_queue_of(line);
@@ -68,7 +63,6 @@ impl<C: Drainable + Drop, D: SaveDevice + Drop> Load<C, D> {
 
     // Loses the mains; the generation and the count that were saved.
     fn lose(&mut self) -> Result<(u64, u64), Stall>
-        requires { C.reaches }
     {
         match self.running.power_loss(&mut self.device, &mut self.gauge) {
             Loss::Saved { generation, count } => Ok((generation, count)),
@@ -78,12 +72,11 @@ impl<C: Drainable + Drop, D: SaveDevice + Drop> Load<C, D> {
 }
 
 // Writes so many lines, and works a channel where its queue is full.
-fn write_each<C: Drainable + Drop, D: SaveDevice + Drop>(
-    load: &mut Load<C, D>,
+fn write_each<K: ChannelPort + Drop, D: SaveDevice + Drop>(
+    load: &mut Load<K, D>,
     picks: &mut Picks,
     each: u64,
 ) -> Result<(), Stall>
-    requires { C.reaches }
 {
     for _ in 0..each {
         let Pick { line, byte } = picks.next();
@@ -92,19 +85,11 @@ fn write_each<C: Drainable + Drop, D: SaveDevice + Drop>(
     Ok(())
 }
 
-/// An armed life of a module over the map `lines`: so many writes, then as many as fill all queues, and the loss of mains.
-pub(crate) fn armed_life<M: LineMap, P: Places>(
-    rt: &HostRuntime,
-    map: &M,
-    checked: &Checked,
-    each: u64,
-) -> anyhow::Result<Armed>
-    requires places { HasPlaces (M.is_lawful map.now) (M.geometry_of map.now)
-        checked.now.geometry (M.lies_at map.now) P.place_of }
-{
-    let device = formatted(rt.alloc(), checked)?;
-    let mut load = open::<M, P, _>(rt.alloc(), map, checked, device)?;
-    let mut picks = Picks::new(line_count(checked));
+/// An armed life of a module: so many writes, then as many as fill all queues, and the loss of mains.
+pub(crate) fn armed_life(rt: &HostRuntime, map: &ReadyMap, each: u64) -> anyhow::Result<Armed> {
+    let device = formatted(rt.alloc(), &map.checked)?;
+    let mut load = open(rt.alloc(), map, device)?;
+    let mut picks = Picks::new(line_count(&map.checked));
     load.arm()?;
     let start = Instant::now(rt)?;
     write_each(&mut load, &mut picks, each)?;

@@ -4,11 +4,12 @@ ghost use Rattle.module_core.specs.Stands.{HasDevice, setup_of};
 
 use crate::measured::{Measured, Stall};
 use arm_state::WriteRefusal;
-use channel_answers::{Collected, Got, Ticket};
+use channel_port::{Collected, Got, Ticket};
 use energy_budget::Meter;
-use line_channels::Channels;
+use channel_port::ChannelPort;
 use line_memory::{Line, Write};
-use module_core::{Module, StepReply};
+use module_core::Module;
+use nv_machine::StepReply;
 use save_device::SaveDevice;
 
 /// How often a channel is worked for one write or read.
@@ -19,20 +20,20 @@ const SAVE_TURNS: u64 = 1 << 20;
 
 /// A module, its device and its gauge.
 #[derive(Drop)]
-pub struct Load<C: Channels, D: SaveDevice> {
-    pub(crate) running: Module<C>,
+pub struct Load<K: ChannelPort, D: SaveDevice> {
+    pub(crate) running: Module<K>,
     pub(crate) device: D,
     pub(crate) gauge: Meter,
     pub(crate) channels: u64,
-    ghost counted: { channels ≡ (setup_of C.Channels running).shape.channels },
-    ghost sized: { HasDevice C.Channels running (D.state device) },
+    ghost counted: { channels ≡ (setup_of K.ChannelPort running).shape.channels },
+    ghost sized: { HasDevice K.ChannelPort running (D.state device) },
 }
 
-impl<C: Channels + Drop, D: SaveDevice + Drop> Load<C, D> {
+impl<K: ChannelPort + Drop, D: SaveDevice + Drop> Load<K, D> {
     /// A module that was opened on this device.
-    pub(crate) fn new(running: Module<C>, device: D, channels: u64) -> Load<C, D>
-        requires channels { channels ≡ (setup_of C.Channels running).shape.channels }
-        requires size { HasDevice C.Channels running (D.state device) }
+    pub(crate) fn new(running: Module<K>, device: D, channels: u64) -> Load<K, D>
+        requires channels { channels ≡ (setup_of K.ChannelPort running).shape.channels }
+        requires size { HasDevice K.ChannelPort running (D.state device) }
     {
         Load {
             running,
@@ -83,7 +84,6 @@ impl<C: Channels + Drop, D: SaveDevice + Drop> Load<C, D> {
 
     // Makes a step of the save that runs; its generation after the last one.
     fn step(&mut self) -> Result<Option<u64>, Stall>
-        requires { C.reaches }
     {
         match self.running.save_step(&mut self.device, &mut self.gauge) {
             StepReply::Saved { generation, .. } => Ok(Some(generation)),
@@ -97,9 +97,7 @@ impl<C: Channels + Drop, D: SaveDevice + Drop> Load<C, D> {
     }
 }
 
-impl<C: Channels + Drop, D: SaveDevice + Drop> Measured for Load<C, D> {
-    ghost ready = { C.reaches };
-
+impl<K: ChannelPort + Drop, D: SaveDevice + Drop> Measured for Load<K, D> {
     fn write(&mut self, line: u64, data: Line) -> Result<(), Stall> {
         for _turn in 0..TURNS {
             match self.running.write(Write { line, data }) {

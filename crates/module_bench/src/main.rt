@@ -8,11 +8,6 @@
 //! restore begins a memory with it. An armed module writes as much again, and loses the mains with full queues.
 #![tactic(auto)]
 
-ghost use Rattle.std.specs.Prelude.{◌≡◌, ◌<◌};
-ghost use Rattle.ddr4_timing.specs.Limits.{lines_of};
-ghost use Rattle.ddr4_timing.specs.Places.{LiesIn};
-ghost use Rattle.interleave_map.specs.Interleaving.{place_by_lines, line_by_lines};
-
 mod armed;
 mod load;
 mod measured;
@@ -23,28 +18,20 @@ mod rounds;
 
 use crate::armed::{Armed, armed_life};
 use crate::rounds::{Amount, Nanos, Tally, module_rounds, plain_rounds};
-use ddr4_timing::place::Place;
 use ddr4_timing::profiles::{SMALL, TINY, WIDEST};
 use ddr4_timing::timing::{Checked, Geometry};
 use interleave_map::cells::line_count;
-use interleave_map::lines;
-use interleave_map::map::Map;
+use interleave_map::{Interleaving, ReadyMap};
 use std::env;
-use std::marker::Brand;
 
 // The rounds of a module over the map `lines`, and an armed life of one.
 fn by_lines(rt: &HostRuntime, checked: Checked, amount: Amount) -> anyhow::Result<(Tally, Armed)> {
-    let split = move |line: u64| -> Place
-        requires { line < lines_of checked.geometry }
-        ensures { result ≡ place_by_lines checked.geometry line }
-    { lines::split(&checked, line) };
-    let join = move |place: Place| -> u64
-        requires { LiesIn checked.geometry place }
-        ensures { result ≡ line_by_lines checked.geometry place }
-    { lines::join(&checked, place) };
-    let map = Map::new(split, join, &checked);
-    let tally = module_rounds::<_, Brand>(rt, &map, &checked, amount)?;
-    let armed = armed_life::<_, Brand>(rt, &map, &checked, amount.each)?;
+    let map = ReadyMap {
+        interleaving: Interleaving::Lines,
+        checked,
+    };
+    let tally = module_rounds(rt, &map, amount)?;
+    let armed = armed_life(rt, &map, amount.each)?;
     Ok((tally, armed))
 }
 

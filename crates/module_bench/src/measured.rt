@@ -27,18 +27,12 @@ pub enum Stall {
 
 /// A memory that can be saved.
 pub trait Measured {
-    /// What the calls need: a caller hands it on.
-    ghost ready: { Type 0 };
-
     /// Writes a line.
-    fn write(&mut self, line: u64, data: Line) -> Result<(), Stall>
-        requires { ready };
+    fn write(&mut self, line: u64, data: Line) -> Result<(), Stall>;
 
     /// Reads a line, after all writes before.
-    fn read(&mut self, line: u64) -> Result<Line, Stall>
-        requires { ready };
+    fn read(&mut self, line: u64) -> Result<Line, Stall>;
 
     /// Makes a whole save; its generation.
-    fn save(&mut self) -> Result<u64, Stall>
-        requires { ready };
+    fn save(&mut self) -> Result<u64, Stall>;
 }

@@ -1,17 +1,16 @@
 // A module on the image of a device.
 ghost use Rattle.std.specs.Prelude.{◌≡◌, IfOk};
-ghost use Rattle.module_parts.specs.Lines.{HasPlaces};
 ghost use Rattle.slot_store.specs.Slots.{IsCapacity};
 ghost use Rattle.ddr4_timing.specs.Limits.{lines_of};
 
 use crate::load::Load;
 use crate::measured::Stall;
+use ddr4_port::{Ddr4Port, channels_with_memory};
 use ddr4_timing::timing::Checked;
 use energy_budget::{Costs, TINY_COSTS};
+use interleave_map::ReadyMap;
 use interleave_map::cells::line_count;
-use interleave_map::line_map::{LineMap, Places};
 use module_core::{Module, Opened};
-use module_parts::Parts;
 use save_device::SaveDevice;
 use slot_store::{device_size, restore};
 use std::alloc::Global;
@@ -36,18 +35,15 @@ pub(crate) fn capacity_of(checked: &Checked) -> Result<usize, Stall>
 }
 
 /// A module over channels with the memory that a device restores to.
-pub(crate) fn open<'m, M: LineMap, P: Places, D: SaveDevice + Drop>(
+pub(crate) fn open<'m, D: SaveDevice + Drop>(
     alloc: Global,
-    map: &'m M,
-    checked: &Checked,
+    map: &'m ReadyMap,
     mut device: D,
-) -> anyhow::Result<Load<Parts<'m, M, P>, D>>
-    requires places { HasPlaces (M.is_lawful map.now) (M.geometry_of map.now)
-        checked.now.geometry (M.lies_at map.now) P.place_of }
-{
+) -> anyhow::Result<Load<Ddr4Port<'m, ReadyMap>, D>> {
     if !TINY_COSTS.is_in_limits() {
         return Err(Stall::Costs.into());
     }
+    let checked = &map.checked;
     let costs = Costs::of(checked, &TINY_COSTS);
     let lines = capacity_of(checked)?;
     if device.len() != device_size(lines) {
@@ -55,7 +51,7 @@ pub(crate) fn open<'m, M: LineMap, P: Places, D: SaveDevice + Drop>(
     }
     let restored = restore(alloc, &mut device, lines)?;
     let memory = &restored.lines;
-    let parts = Parts::with_memory(alloc, map, checked, memory, DEPTH, DEPTH, costs)?;
-    let module = Module::open(parts, Opened::of(&restored), lines, costs, TRAIL);
+    let channels = channels_with_memory(alloc, map, checked, memory, DEPTH, DEPTH, costs)?;
+    let module = Module::open(channels, Opened::of(&restored), TRAIL);
     Ok(Load::new(module, device, checked.geometry.channels))
 }

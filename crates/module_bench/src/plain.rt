@@ -55,8 +55,6 @@ impl<D: SaveDevice + Drop> Plain<D> {
 }
 
 impl<D: SaveDevice + Drop> Measured for Plain<D> {
-    ghost ready = { Unit {0} };
-
     fn write(&mut self, line: u64, data: Line) -> Result<(), Stall> {
         let Some(place) = self.lines.get_mut(line as usize) else {
             return Err(Stall::Write);

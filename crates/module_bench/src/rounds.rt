@@ -1,13 +1,11 @@
 // Rounds of a restore, writes, reads and a save, each of them timed.
-ghost use Rattle.module_parts.specs.Lines.{HasPlaces};
-
 use crate::measured::Measured;
 use crate::opening::{capacity_of, open};
 use crate::picks::{Pick, Picks};
 use crate::plain::Plain;
 use ddr4_timing::timing::Checked;
 use interleave_map::cells::line_count;
-use interleave_map::line_map::{LineMap, Places};
+use interleave_map::ReadyMap;
 use save_device::MemoryDevice;
 use slot_store::{device_size, format};
 use std::alloc::Global;
@@ -57,7 +55,6 @@ impl Tally {
     }
 
     fn write<T: Measured>(&mut self, memory: &mut T, each: u64) -> anyhow::Result<()>
-        requires { T.ready }
     {
         for _ in 0..each {
             let Pick { line, byte } = self.picks.next();
@@ -67,7 +64,6 @@ impl Tally {
     }
 
     fn read<T: Measured>(&mut self, memory: &mut T, each: u64) -> anyhow::Result<()>
-        requires { T.ready }
     {
         for _ in 0..each {
             let bytes = memory.read(self.picks.next().line)?;
@@ -83,7 +79,6 @@ impl Tally {
         memory: &mut T,
         each: u64,
     ) -> anyhow::Result<()>
-        requires { T.ready }
     {
         let start = Instant::now(rt)?;
         self.write(memory, each)?;
@@ -121,38 +116,30 @@ pub(crate) fn formatted(alloc: Global, checked: &Checked) -> anyhow::Result<Memo
 }
 
 // A module's round; the device after it.
-fn module_round<M: LineMap, P: Places>(
+fn module_round(
     rt: &HostRuntime,
-    map: &M,
-    checked: &Checked,
+    map: &ReadyMap,
     device: MemoryDevice,
     each: u64,
     tally: &mut Tally,
-) -> anyhow::Result<MemoryDevice>
-    requires places { HasPlaces (M.is_lawful map.now) (M.geometry_of map.now)
-        checked.now.geometry (M.lies_at map.now) P.place_of }
-{
+) -> anyhow::Result<MemoryDevice> {
     let start = Instant::now(rt)?;
-    let mut load = open::<M, P, MemoryDevice>(rt.alloc(), map, checked, device)?;
+    let mut load = open(rt.alloc(), map, device)?;
     tally.nanos.add_restore(start.elapsed(rt)?.as_nanos());
     tally.round(rt, &mut load, each)?;
     Ok(load.into_device())
 }
 
 /// The rounds of a module.
-pub(crate) fn module_rounds<M: LineMap, P: Places>(
+pub(crate) fn module_rounds(
     rt: &HostRuntime,
-    map: &M,
-    checked: &Checked,
+    map: &ReadyMap,
     amount: Amount,
-) -> anyhow::Result<Tally>
-    requires places { HasPlaces (M.is_lawful map.now) (M.geometry_of map.now)
-        checked.now.geometry (M.lies_at map.now) P.place_of }
-{
-    let mut tally = Tally::new(checked);
-    let mut device = formatted(rt.alloc(), checked)?;
+) -> anyhow::Result<Tally> {
+    let mut tally = Tally::new(&map.checked);
+    let mut device = formatted(rt.alloc(), &map.checked)?;
     for _ in 0..amount.rounds {
-        device = module_round::<M, P>(rt, map, checked, device, amount.each, &mut tally)?;
+        device = module_round(rt, map, device, amount.each, &mut tally)?;
     }
     Ok(tally)
 }

@@ -1,124 +1,111 @@
 -- One event of the module, from its step and what the device may leave.
-use Rattle.std.proofs.Common.{◌≡◌, ℕ, ◌≤◌, List, Bool, true, false, refl, sym, ◌∙◌, ap, subst, inl, inr, arith}
-use Rattle.std.specs.Prelude.{Option, Some, None, IfSome, IfNone, if◌then◌else◌}
-use Rattle.std.specs.Option.{ForSome}
-use Rattle.save_device.specs.Device.{DeviceState, MayLeave, present, LeavesOnly}
-use Rattle.save_device.proofs.Moments.{started, weaker}
-use Rattle.slot_store.specs.declared.plan.Step.TheVariants as step
-use Rattle.slot_store.specs.declared.saving.SaveRun.{SaveRun}
-use Rattle.slot_store.specs.Outcomes.{Outcome, restored}
-use Rattle.slot_store.specs.Steps.{reach_of}
-use Rattle.slot_store.specs.Rest.{IsAmong}
-use Rattle.slot_store.specs.Runs.{plan_of}
-use Rattle.energy_budget.specs.Gauge.{Gauge}
-use Rattle.channel_answers.specs.declared.answers.Done.{Done}
-use Rattle.line_channels.specs.View.{ChannelsView}
-use Rattle.line_channels.specs.declared.channels.Channels.{Ghosts}
-use Rattle.module_core.specs.declared.module.Module.{Module}
-use Rattle.module_core.specs.declared.events.Event.{Event}
-use Rattle.module_core.specs.declared.events.Event.TheVariants as events
-use Rattle.module_core.specs.declared.events.Reply.TheVariants as replies
-use Rattle.module_core.specs.declared.events.Reply.{Reply}
-use Rattle.module_core.specs.State.{Setup, RunningSave, Store, Machine}
-use Rattle.module_core.specs.Machine.{MachineStep}
-use Rattle.module_core.specs.Guard.{IsGuarded}
-use Rattle.module_core.specs.Device.{Holds, HoldsWhile}
-use Rattle.module_core.specs.Headline.{Point, Happens, WorksWhereDue, LeftWithin, IsAmongWithin, marks}
-use Rattle.module_core.specs.Stands.{Matches, ModuleStands, Follows, Answers, setup_of, point_of}
-use Rattle.module_core.proofs.StoreSteps.{stop_now}
+use Rattle.channel_port.specs.declared.answers.Done.{Done}
+use Rattle.channel_set.specs.Carrying.{KeepsAll}
+use Rattle.channel_set.specs.Set.{NextCommand}
+use Rattle.channel_set.specs.declared.set.ChannelSet.{ChannelSet}
+use Rattle.module_core.specs.Stands.{Answers, Follows, IsCarried, Point, SameNumbers, WorksWhereDue}
+use Rattle.module_core.specs.declared.opening.LifeTerms.{LifeTerms}
+use Rattle.nv_machine.proofs.Backing.{IsKnown}
+use Rattle.nv_machine.proofs.EachEvent.{guarded_event}
+use Rattle.nv_machine.proofs.HonestEvents.{honest_event}
+use Rattle.nv_machine.proofs.Leaving.{left_after, left_before}
+use Rattle.nv_machine.specs.Guard.{IsGuarded}
+use Rattle.nv_machine.specs.Headline.{RecoversMeanwhile}
+use Rattle.nv_machine.specs.Machine.{MachineStep}
+use Rattle.nv_machine.specs.declared.events.Event.TheVariants as events
+use Rattle.nv_machine.specs.declared.events.Reply.TheVariants as replies
+use Rattle.module_core.proofs.Common.{if◌then◌else◌, ℕ, ◌∙◌, ◌≡◌, Assembly, Bool, DeviceState, Event, ForSome, Gauge, Ghosts, HappensAt, Holds, IsAmong, LeavesOnly, Machine, Matches, Module, ModuleStands, None, Option, Outcome, Reply, Setup, Shape, Some, Waits, WaitsFrom, after, all_of, ap, assembly, base_of_life, false, hold_of, inl, inr, lines_of_module, marks, option_map, point_of, read_as, refl, restored, rules, setup_of, shape_of, start_of_life, started, subst, sym, true, view_of, weaker, world_of}
 use Rattle.module_core.proofs.Knowing.{holds_moved}
-use Rattle.module_core.proofs.Leaving.{left_before, left_after}
-use Rattle.module_core.proofs.Backing.{IsKnown}
-use Rattle.module_core.proofs.EachEvent.{guarded_event, honest_event}
+use Rattle.module_core.proofs.StoreSteps.{stop_now}
 
--- what the device says of a save that runs
-saves_known : (lines : ℕ) (s : Store) (state : DeviceState) (o : Option RunningSave) (r : Option SaveRun) (P : RunningSave → Type 0)
-    → ((save : RunningSave) (run : SaveRun) → r ≡ Some run → HoldsWhile (Some save) (Some run) lines s state → P save) → HoldsWhile o r lines s state → ForSome o P
-saves_known lines s state None r P so holds save some = absurd (let bad : ⊥ = cc in bad)
-saves_known lines s state (Some save) None P so none x some = absurd none
-saves_known lines s state (Some save) (Some run) P so holds x some = let same : save ≡ x = cc in subst P same (so save run refl holds)
+-- the command that comes next was issued, where there is one
+pub works_where_due : {K : Type 0} (L : Ghosts K) (channel : ℕ) (result : Option Done) (point : Point L) → NextCommand L point.channels channel (option_map (λ done. done.command) result)
+    → WorksWhereDue L (events.Work channel) (replies.Work result) point
+works_where_due L channel None point next = inr next
+works_where_due L channel (Some done) point next = next
 
--- the setup is that of the channels
-pub same_setup : (old new : ChannelsView) (trail : ℕ) → new.shape ≡ old.shape → ◌≡◌ {A = Setup} (record { shape = new.shape; trail = trail }) (record { shape = old.shape; trail = trail })
-same_setup old new trail is = cc is
+module _ {K : Type 0} (L : Ghosts K) where
+  known : (it : Module K L) (state : DeviceState) (m : Machine) → ModuleStands L it state m → IsKnown (setup_of L it) m
+  known it state m s = search rules
 
--- a command was issued where the channel has one
-pub works_where_due : {C : Type 0} (L : Ghosts C) (setup : Setup) (channel : ℕ) (result : Option Done) (point : Point C) → IfNone result (L.has_nothing point.channels channel) → IfSome result (λ done. L.has_nothing point.channels channel → ⊥)
-    → WorksWhereDue L setup (events.Work channel) (replies.Work result) point
-works_where_due L setup channel None point idle busy = inr idle
-works_where_due L setup channel (Some done) point idle busy = busy
-
-module _ {C : Type 0} (L : Ghosts C) where
-  pub known : (it : Module C L) (state : DeviceState) (m : Machine) → ModuleStands L it state m → IsKnown (setup_of L it) m
-  known it state m s = record {
-    shape = it.shaped;
-    guarded = s.guarded;
-    place = saves_known it.lines m.store state m.store.saving it.saves.saving (λ save. reach_of save.next ≤ (L.view it.channels).shape.lines)
-        (λ save run is holds.
-        let place : reach_of save.next ≤ (plan_of run).lines = subst (λ x. reach_of x ≤ (plan_of run).lines) holds.next run.place in
-        omega (arith, place, holds.plan.lines_are, it.sized))
-        s.holds;
-    going = saves_known it.lines m.store state m.store.saving it.saves.saving (λ save. save.next ≡ step.Done → ⊥) (λ save run is holds. holds.going) s.holds;
-  }
-
-  pub same_lines : (old new : Module C L) → setup_of L new ≡ setup_of L old → new.lines ≡ old.lines
-  same_lines old new setup = new.sized ∙ ap (λ (s : Setup). s.shape.lines) setup ∙ sym old.sized
-
-  -- An event without a call of the device.
-  pub alone : (event : Event) (reply : Reply) (Step : Machine → Machine → Type 0) (old new : Module C L) (device : DeviceState) (before later : Gauge) → setup_of L new ≡ setup_of L old → Follows L Step old new
-      → ((m n : Machine) → Step m n → MachineStep (setup_of L old) event reply (record { machine = m; device = device; gauge = before }) (record { machine = n; device = device; gauge = later }))
-      → marks reply ≡ false → ((m : Machine) → Matches L old m → WorksWhereDue L (setup_of L old) event reply (point_of L old m device before)) → Answers L event reply old device before new device later
-  alone event reply Step old new device before later setup follows moves unmarked works m s =
-      let f = follows m s.matches in let n : Machine = f.0 in let lines : ℕ = old.lines in
-      let step : MachineStep (setup_of L old) event reply (record { machine = m; device = device; gauge = before }) (record { machine = n; device = device; gauge = later }) = moves m n f.1 in
-      let guarded : IsGuarded n = guarded_event (setup_of L old) event reply (record { machine = m; device = device; gauge = before }) (record { machine = n; device = device; gauge = later }) step s.guarded in
-      let holds : Holds lines n.store new.saves.saving device = holds_moved lines m.store device old.saves new.saves n.store f.3 s.matches.knows s.holds in
-      let sized : lines ≡ (L.view old.channels).shape.lines = old.sized in
-      let was : (image : List ℕ) → MayLeave (present device) image → IsAmong m.store.maybe (restored (L.view old.channels).shape.lines image) =
-      λ image left. subst (λ (k : ℕ). IsAmong m.store.maybe (restored k image)) sized (stop_now lines m.store old.saves.saving device s.holds image left) in
-      let is : (image : List ℕ) → MayLeave (present device) image → IsAmong n.store.maybe (restored (L.view old.channels).shape.lines image) =
-      λ image left. subst (λ (k : ℕ). IsAmong n.store.maybe (restored k image)) sized (stop_now lines n.store new.saves.saving device holds image left) in (
-        n,
-        record { matches = f.2; holds = subst (λ (k : ℕ). Holds k n.store new.saves.saving device) (sym (same_lines old new setup)) holds; guarded = guarded },
-        record {
-          step = step;
-          idles = works m s.matches;
-          within = started {P = λ image. LeftWithin reply m n (restored (L.view old.channels).shape.lines image)} device (λ image left.
-              let outcome : Outcome = restored (L.view old.channels).shape.lines image in
-              let among : IsAmongWithin reply m.store.maybe n.store.maybe outcome =
-              inl (subst (λ (b : Bool). IsAmong (if b then record m.store.maybe { any_arm = true } else m.store.maybe) outcome) (sym unmarked) (was image left)) in
-              left_before reply m n s.guarded outcome (was image left) among);
-          at_end = λ image left. left_after n guarded (restored (L.view old.channels).shape.lines image) (is image left);
-          honest = λ honest backed. honest_event (setup_of L old) event reply (record { machine = m; device = device; gauge = before }) (record { machine = n; device = device; gauge = later }) step (known old device m s) honest backed;
-        },
-      )
-
-  -- An event that changes nothing.
-  pub unmoved : (event : Event) (reply : Reply) (it : Module C L) (device : DeviceState) (gauge : Gauge)
-      → ((m : Machine) → Matches L it m → MachineStep (setup_of L it) event reply (record { machine = m; device = device; gauge = gauge }) (record { machine = m; device = device; gauge = gauge }))
-      → marks reply ≡ false → ((m : Machine) → Matches L it m → WorksWhereDue L (setup_of L it) event reply (point_of L it m device gauge)) → Answers L event reply it device gauge it device gauge
-  unmoved event reply it device gauge step unmarked works =
-      alone event reply (λ m n. MachineStep (setup_of L it) event reply (record { machine = m; device = device; gauge = gauge }) (record { machine = n; device = device; gauge = gauge })) it it device gauge gauge refl
-      (λ m h. (m, step m h, h, inl (refl, refl))) (λ m n x. x) unmarked works
+  pub same_lines : (old new : Module K L) → setup_of L new ≡ setup_of L old → lines_of_module L new ≡ lines_of_module L old
+  same_lines old new setup = ap (λ (s : Setup). s.shape.lines) setup
 
   -- An event that may call the device.
-  pub asked : (event : Event) (reply : Reply) (old new : Module C L) (device device' : DeviceState) (before later : Gauge) → setup_of L new ≡ setup_of L old → (m : Machine) → ModuleStands L old device m → (n : Machine)
-      → MachineStep (setup_of L old) event reply (record { machine = m; device = device; gauge = before }) (record { machine = n; device = device'; gauge = later })
-      → Matches L new n → Holds old.lines n.store new.saves.saving device' → WorksWhereDue L (setup_of L old) event reply (point_of L old m device before)
-      → LeavesOnly device device' (λ image. IsGuarded n → LeftWithin reply m n (restored old.lines image))
-      → (n : Machine) × ModuleStands L new device' n × Happens L (setup_of L old) event reply (point_of L old m device before) (point_of L new n device' later)
-  asked event reply old new device device' before later setup m s n step matches holds works moments =
-      let guarded : IsGuarded n = guarded_event (setup_of L old) event reply (record { machine = m; device = device; gauge = before }) (record { machine = n; device = device'; gauge = later }) step s.guarded in
-      let sized : old.lines ≡ (L.view old.channels).shape.lines = old.sized in (
+  pub asked : (event : Event) (reply : Reply) (old new : Assembly L) → setup_of L new.it ≡ setup_of L old.it → (m : Machine) → ModuleStands L old.it old.device m → (n : Machine)
+      → MachineStep (setup_of L old.it) event reply (world_of L old m) (world_of L new n)
+      → Matches L new.it n → Holds (lines_of_module L old.it) n.store new.it.saves.saving new.device → WorksWhereDue L event reply (point_of L old m)
+      → LeavesOnly old.device new.device (λ bytes. IsGuarded n → RecoversMeanwhile reply m n (restored (lines_of_module L old.it) bytes))
+      → (n : Machine) × ModuleStands L new.it new.device n × HappensAt L (setup_of L old.it) event reply (point_of L old m) (point_of L new n)
+  asked event reply old new setup m s n step matches holds works moments =
+      let guarded : IsGuarded n = guarded_event (setup_of L old.it) event reply (world_of L old m) (world_of L new n) step s.guarded in let lines : ℕ = lines_of_module L old.it in (
         n,
-        record { matches = matches; holds = subst (λ (k : ℕ). Holds k n.store new.saves.saving device') (sym (same_lines old new setup)) holds; guarded = guarded },
+        record { matches = matches; holds = subst (λ (k : ℕ). Holds k n.store new.it.saves.saving new.device) (sym (same_lines old.it new.it setup)) holds; guarded = guarded },
         record {
-          step = step;
-          idles = works;
-          within = weaker device device' (λ image left. subst (λ (k : ℕ). LeftWithin reply m n (restored k image)) sized (left guarded)) moments;
-          at_end = λ image left.
-              left_after n guarded (restored (L.view old.channels).shape.lines image)
-              (subst (λ (k : ℕ). IsAmong n.store.maybe (restored k image)) sized (stop_now old.lines n.store new.saves.saving device' holds image left));
-          honest = λ honest backed. honest_event (setup_of L old) event reply (record { machine = m; device = device; gauge = before }) (record { machine = n; device = device'; gauge = later }) step (known old device m s) honest backed;
+          happens = record {
+            step = step;
+            meanwhile = weaker old.device new.device (λ bytes left. left guarded) moments;
+            at_end = λ bytes left. left_after n guarded (restored lines bytes) (stop_now lines n.store new.it.saves.saving new.device holds bytes left);
+            honest = λ honest backed. honest_event (setup_of L old.it) event reply (world_of L old m) (world_of L new n) step (known old.it old.device m s) honest backed;
+          };
+          works = works;
         },
       )
+
+  -- the setup stays where the shape and the terms do
+  pub same_setup : (old new : ChannelSet K L) (before after : LifeTerms) → shape_of L new ≡ shape_of L old → after ≡ before → ◌≡◌ {A = Setup} (record { shape = shape_of L new; trail = after.trail }) (record { shape = shape_of L old; trail = before.trail })
+  same_setup old new before after shape terms = ap (λ (s : Shape). record { shape = s; trail = after.trail }) shape ∙ ap (λ (t : LifeTerms). record { shape = shape_of L old; trail = t.trail }) terms
+
+  -- An event without a call of the device.
+  pub alone : (event : Event) (reply : Reply) (old new : Module K L) (device : DeviceState) (before later : Gauge) → setup_of L new ≡ setup_of L old
+      → Follows L (λ m n. MachineStep (setup_of L old) event reply (record { machine = m; device = device; gauge = before }) (record { machine = n; device = device; gauge = later })) old new
+      → marks reply ≡ false → ((m : Machine) → Matches L old m → WorksWhereDue L event reply (point_of L (assembly old device before) m)) → Answers L event reply (assembly old device before) (assembly new device later)
+  alone event reply old new device before later setup follows unmarked works m s =
+      let f = follows m s.matches in let n : Machine = f.later in let lines : ℕ = lines_of_module L old in
+      asked event reply (assembly old device before) (assembly new device later) setup m s n f.step f.matches (holds_moved lines m.store device old.saves new.saves n.store f.moves s.matches.knows s.holds) (works m s.matches)
+      (started {P = λ bytes. IsGuarded n → RecoversMeanwhile reply m n (restored lines bytes)} device (λ bytes left guarded.
+      let outcome : Outcome = restored lines bytes in let was : IsAmong m.store.maybe outcome = stop_now lines m.store old.saves.saving device s.holds bytes left in
+      left_before reply m n s.guarded outcome was (inl (subst (λ (b : Bool). IsAmong (if b then record m.store.maybe { any_arm = true } else m.store.maybe) outcome) (sym unmarked) was))))
+
+  -- An event that changes nothing.
+  pub unmoved : (event : Event) (reply : Reply) (it : Module K L) (device : DeviceState) (gauge : Gauge)
+      → ((m : Machine) → Matches L it m → MachineStep (setup_of L it) event reply (record { machine = m; device = device; gauge = gauge }) (record { machine = m; device = device; gauge = gauge }))
+      → marks reply ≡ false → ((m : Machine) → Matches L it m → WorksWhereDue L event reply (point_of L (assembly it device gauge) m)) → Answers L event reply (assembly it device gauge) (assembly it device gauge)
+  unmoved event reply it device gauge step unmarked works = alone event reply it it device gauge gauge refl (λ m h. record { later = m; step = step m h; matches = h; moves = inl (refl, refl) }) unmarked works
+
+  -- Nothing but the reading and what waits has changed of a module.
+  pub record StaysBut (old new : Module K L) : Type 0 where
+    pub numbers : SameNumbers L old new
+    pub mode : new.mode ≡ old.mode
+    pub saves : new.saves ≡ old.saves
+    pub shape : shape_of L new.channels ≡ shape_of L old.channels
+
+  matches_on : (old new : Module K L) (m : Machine) (reading : ℕ) (waits : Waits) → Matches L old m → StaysBut old new → new.reading ≡ reading → IsCarried L new.channels (record m { waits = waits })
+      → Matches L new (record m { reading = reading; waits = waits })
+  matches_on old new m reading waits h stays shown carried = search rules
+
+  -- another reading
+  pub reread : (old new : Module K L) (m : Machine) → Matches L old m → StaysBut old new → new.channels ≡ old.channels → Matches L new (read_as new.reading m)
+  reread old new m h stays same = matches_on old new m new.reading m.waits h stays refl (subst (λ (c : ChannelSet K L). IsCarried L c m) (sym same) h.carried)
+
+  -- An event after which something else waits, and nothing else is changed.
+  pub waited : (event : Event) (reply : Reply) (old new : Module K L) (device : DeviceState) (gauge : Gauge) → StaysBut old new → new.reading ≡ old.reading
+      → (view_of L new.channels).hold ≡ (view_of L old.channels).hold → KeepsAll L old.channels new.channels → marks reply ≡ false
+      → ((m : Machine) → Matches L old m → let later : Waits = (view_of L new.channels).waits in
+      MachineStep (setup_of L old) event reply (record { machine = m; device = device; gauge = gauge }) (record { machine = record m { waits = later }; device = device; gauge = gauge })
+      × ForSome (hold_of m.store.saving) (λ k. WaitsFrom k (all_of m) later.writes)
+      × WorksWhereDue L event reply (point_of L (assembly old device gauge) m))
+      → Answers L event reply (assembly old device gauge) (assembly new device gauge)
+  waited event reply old new device gauge stays shown hold keeps unmarked told =
+      alone event reply old new device gauge gauge (same_setup old.channels new.channels old.terms new.terms stays.shape stays.numbers.terms) (λ m h.
+      let later : Waits = (view_of L new.channels).waits in let t = told m h in record {
+        later = record m { waits = later };
+        step = t.0;
+        matches = matches_on old new m m.reading later h stays (shown ∙ h.reading) (record {
+          carries = keeps (base_of_life m.life) (start_of_life m.life) m.life.writes h.carried.carries;
+          waits = refl;
+          hold = hold ∙ h.carried.hold;
+          held = t.1;
+        });
+        moves = inl (refl, stays.saves);
+      }) unmarked (λ m h. (told m h).2)

@@ -1,324 +1,167 @@
--- A closing save, step by step.
-use Rattle.std.proofs.Common.{◌≡◌, ◌≢◌, ◌⊎◌, ℕ, suc, ◌+◌, ◌*◌, ◌<◌, ◌≤◌, List, [], ◌∷◌, ◌++◌, Bool, true, false, take, drop, refl, sym, ◌∙◌, ap, subst, inl, inr, arith}
-use Rattle.std.specs.Prelude.{Ok, Err, Some, None, Option, nat_lt}
-use Rattle.std.specs.Option.{option_map}
-use Rattle.std.proofs.lemmas.Bool.{ltb-true, ltb-false}
-use Rattle.std.proofs.lemmas.List.{map-append, append_assoc, append-nil, take-append-drop}
-use Rattle.save_image.specs.Image.{Image}
-use Rattle.save_device.specs.declared.calls.Call.{Call}
-use Rattle.save_device.specs.declared.calls.CallKind.{CallKind}
-use Rattle.save_device.specs.Calls.{called, all_good, MakesCalls}
-use Rattle.save_device.specs.Device.{DeviceState, LeavesOnly}
-use Rattle.save_device.proofs.Moments.{started, and_then, weaker}
-use Rattle.slot_store.specs.declared.plan.Newest.{Newest}
-use Rattle.slot_store.specs.declared.plan.Step.{Step}
-use Rattle.slot_store.specs.declared.plan.Step.TheVariants.{Close, SyncClosed, Header, Page, SyncBody, Open, SyncOpen, Done}
-use Rattle.slot_store.specs.declared.saving.SaveRun.{SaveRun}
-use Rattle.slot_store.specs.Outcomes.{Outcome, restored}
-use Rattle.slot_store.specs.Rest.{Candidates, IsAmong}
-use Rattle.slot_store.specs.Steps.{reach_of, step_after, steps_left, calls_left}
-use Rattle.slot_store.specs.Changes.{GivesPage}
-use Rattle.slot_store.specs.Runs.{plan_of, next_of}
-use Rattle.energy_budget.specs.declared.action.Action.{Action}
-use Rattle.energy_budget.specs.declared.costs.Costs.{Costs}
-use Rattle.energy_budget.specs.declared.energy.Dark.{Dark}
-use Rattle.energy_budget.specs.Actions.{cost_of, save_actions}
-use Rattle.energy_budget.specs.Gauge.{Gauge, PaysCost}
-use Rattle.line_channels.specs.Draining.{PaysInTurn}
-use Rattle.module_core.specs.declared.saves.Saves.{Saves}
-use Rattle.module_core.specs.State.{RunningSave, Store}
-use Rattle.module_core.specs.Moves.{step_failed, saved_in, after_steps}
-use Rattle.module_core.specs.Machine.{step_call}
-use Rattle.module_core.specs.Device.{Holds, HoldsWhile, IsResting, IsSaving}
-use Rattle.module_core.specs.Saving.{Knows, IsAmongEither, after_step}
-use Rattle.module_core.specs.Begins.{ReachesStore, IsReadyFor}
-use Rattle.module_core.specs.Closing.{action_of, calls_in, IsReadyToClose, SavesOn, DarkAfter, FaultAfter}
-use Rattle.module_core.proofs.Payments.{pays_append}
-use Rattle.module_core.proofs.StoreSteps.{stop_now, at_rest}
-use Rattle.module_core.proofs.SavePages.{same_call}
-use Rattle.module_core.proofs.RunningSaves.{the_run}
-use Rattle.module_core.proofs.ClosingSteps.{IsNext, drop_next, actions_left, actions_left-after, calls_left-after, reach_at, left_at, actions_at, calls_at}
-use Rattle.module_core.proofs.ClosingStores.{IsStage, stage_at, running, next_running, last_running, failed_running, among_next, among_failed}
+-- A closing save: what its steps, each paid for first, come to.
+use Rattle.std.proofs.Common.{◌||◌, if◌then◌else◌, zero}
+use Rattle.std.specs.Prelude.{MatchResult}
+use Rattle.channel_port.specs.Shape.{IsShape}
+use Rattle.module_core.specs.Saves.{Learns}
+use Rattle.module_core.specs.Closing.{PaysUntil, SavesClosing, arrays_at, calls_in, payments}
+use Rattle.module_core.specs.Device.{IsPlanFor}
+use Rattle.module_core.specs.Saving.{IsAmongEither}
+use Rattle.nv_machine.specs.Moves.{SaveProgress}
+use Rattle.save_device.specs.Device.{MayLeave}
+use Rattle.slot_store.proofs.StepsMade.{made_by}
+use Rattle.slot_store.proofs.StepsLeft.{left_later, reach_later}
+use Rattle.slot_store.specs.Finishing.{CallsFor, Finish, Finishes, LeavesInFirst, TriesFirst, calls_to_come, is_tried, step_on, steps_to_come, steps_tried, underway}
+use Rattle.slot_store.specs.Outcomes.{Found}
+use Rattle.slot_store.specs.Rest.{Candidates}
+use Rattle.slot_store.specs.Runs.{newest_made}
+use Rattle.slot_store.specs.Saving.{Leaves, image_of}
+use Rattle.slot_store.specs.Slots.{IsCapacity}
+use Rattle.slot_store.specs.Steps.{calls_left, step_later, steps_left}
+use Rattle.slot_store.specs.declared.source.BrokenOff.TheVariants as broken
+use Rattle.module_core.proofs.Common.{ℕ, ◌+◌, ◌<◌, ◌∙◌, ◌≡◌, ◌≢◌, ◌≤◌, ◌⊎◌, Action, Bool, CallKind, ChannelsView, Close, Costs, DeviceState, Done, Err, Gauge, HoldsWhile, Image, IsAmong, IsReadyToClose, IsSaving, Knows, LeavesOnly, List, Newest, None, Ok, Option, Outcome, Plan, ReachesStore, SaveRun, Saves, SavingAt, Shape, Slot, Some, Step, Store, ap, arith, begun_save, closed_before, false, inl, inr, next_of, plan_of, present, refl, save_actions, saved_in, saves_at, step_failed, subst, suc, sym, tried_of, true, weaker}
+use Rattle.module_core.proofs.ClosingSteps.{actions_left, paid_until}
+use Rattle.module_core.proofs.ClosingStores.{knows_given_up, leaves_in, new_given_up, progress, rests_given_up, store_given_up}
+use Rattle.module_core.proofs.Knowing.{knows_saved}
+use Rattle.module_core.proofs.StoreSteps.{closed_as, holds_saved, image_is, is_saving, new_in, saving_as, stop_now}
 
--- the module knows a store whatever save runs
-pub knows_running : (a b : Store) (saves : Saves) → a.maybe ≡ b.maybe → a.closed ≡ b.closed → a.unsettled ≡ b.unsettled → Knows saves.newest saves.closed saves.unsettled a → Knows saves.newest saves.closed saves.unsettled b
-knows_running a b saves maybe closed unsettled k = record {
-  slot = k.slot ∙ ap (λ (c : Candidates). c.slot) maybe;
-  generation = k.generation ∙ ap (λ (c : Candidates). c.newest.generation) maybe;
-  shut = k.shut ∙ closed;
-  open_end = k.open_end ∙ unsettled;
-}
+-- a step that was refused was not tried
+untried_at : (n : ℕ) (before : Bool) → before ≡ false → is_tried (Err broken.Refused) n before ≡ false
+untried_at zero before untried = untried
+untried_at (suc n) before untried = refl
 
--- no save runs where none has a coming step
-pub no_run : (o : Option SaveRun) → option_map next_of o ≡ None → o ≡ None
-no_run None is = refl
-no_run (Some run) is = absurd (let bad : ⊥ = cc in bad)
+-- The save had been taken from what the module knew, and what it says in the end is kept.
+module _ (shape : Shape) (shaped : IsShape shape) (s : Store) (made : Image) (old : Saves) (before : DeviceState) (gauge : Gauge) (ready : IsReadyToClose shape.lines s made old before)
+    (run : SaveRun) (runs : old.saving ≡ Some run) (channels : ChannelsView) (array : channels.array ≡ made.memory) (same : channels.shape ≡ shape) (later : SaveRun) (after : DeviceState) (left : Gauge)
+    (taken new : Saves) (same_newest : taken.newest ≡ old.newest) (same_unsettled : taken.unsettled ≡ old.unsettled) (none : taken.saving ≡ None) (learned : Learns later taken new) where
+  abbrev lines : ℕ
+  lines = shape.lines
 
--- one step is left before the last sync alone
-one_left : (lines : ℕ) (next : Step) → reach_of next ≤ lines → steps_left lines next ≡ 1 → next ≡ SyncOpen
-one_left lines Close reach one = absurd (omega (arith, one))
-one_left lines SyncClosed reach one = absurd (omega (arith, one))
-one_left lines Header reach one = absurd (omega (arith, one))
-one_left lines (Page k) reach one = absurd (omega (arith, one, reach))
-one_left lines SyncBody reach one = absurd (omega (arith, one))
-one_left lines Open reach one = absurd (omega (arith, one))
-one_left lines SyncOpen reach one = refl
-one_left lines Done reach one = absurd (omega (arith, one))
+  abbrev costs : Costs
+  costs = shape.costs
 
--- the first step's call goes by what was known of the gate at first
-same_gate : (s : Store) (made : Image) (next : Step) (at : Store) → IsStage s made next at → step_call at.closed next ≡ step_call s.closed next
-same_gate s made Close at is = ap (λ (t : Store). step_call t.closed Close) is
-same_gate s made SyncClosed at is = refl
-same_gate s made Header at is = refl
-same_gate s made (Page k) at is = refl
-same_gate s made SyncBody at is = refl
-same_gate s made Open at is = refl
-same_gate s made SyncOpen at is = refl
-same_gate s made Done at is = refl
+  abbrev begun : Store
+  begun = record s { saving = Some (begun_save made) }
 
--- the calls so far, and one more
-more_calls : (kinds : List CallKind) (i : ℕ) (kind : CallKind) (left : List CallKind) (old now new : List Call) (good : Bool) → IsNext kinds i kind left → now ≡ old ++ all_good (take i kinds) → new ≡ now ++ called kind good ∷ []
-    → new ≡ old ++ all_good (take i kinds) ++ called kind good ∷ []
-more_calls kinds i kind left old now new good next so more = more ∙ ap (λ (calls : List Call). calls ++ called kind good ∷ []) so
+  abbrev plan : Plan
+  plan = plan_of run
 
-all_more : (kinds : List CallKind) (i : ℕ) (kind : CallKind) (left : List CallKind) (old new : List Call) → IsNext kinds i kind left → new ≡ old ++ all_good (take i kinds) ++ called kind true ∷ [] → new ≡ old ++ all_good (take (suc i) kinds)
-all_more kinds i kind left old new next is =
-    is ∙ append_assoc old (all_good (take i kinds)) (called kind true ∷ [])
-    ∙ ap (λ (calls : List Call). old ++ calls) (sym (map-append (λ k. called k true) (take i kinds) (kind ∷ [])) ∙ ap all_good (sym next.taken))
+  v : IsSaving lines begun (begun_save made) run before
+  v = is_saving lines begun (begun_save made) run before (Some (begun_save made)) old.saving refl runs ready.holds
 
--- where nothing is left behind the first ones, they are all
-take_all : {X : Type 0} (xs : List X) (k : ℕ) → drop k xs ≡ [] → take k xs ≡ xs
-take_all {X} xs k none = sym (append-nil (take k xs)) ∙ ap (λ (ys : List X). take k xs ++ ys) (sym none) ∙ take-append-drop k xs
+  p : IsPlanFor lines s made plan
+  p = record { slot = v.plan.slot; generation = v.plan.generation; count = v.plan.count; arm = v.plan.arm; lines_are = v.plan.lines_are; rises = v.plan.rises }
 
--- one call
-one_made : (kind : CallKind) (old new : List Call) → MakesCalls (kind ∷ []) true old new → new ≡ old ++ called kind true ∷ []
-one_made kind old new made = made
+  capacity : IsCapacity lines
+  capacity = subst IsCapacity p.lines_are plan.capacity
 
-one_failed : (kind : CallKind) (old new : List Call) → MakesCalls (kind ∷ []) false old new → new ≡ old ++ called kind false ∷ []
-one_failed kind old new stop = by stop.done refl
-  where
-    by : (done : List CallKind) → stop.done ≡ done → new ≡ old ++ called kind false ∷ []
-    by [] none =
-        let first : kind ∷ [] ≡ stop.fails ∷ stop.rest = stop.in_order ∙ ap (λ (d : List CallKind). d ++ stop.fails ∷ stop.rest) none in
-        let same : stop.fails ≡ kind = cc in
-        stop.made ∙ ap (λ (d : List CallKind). old ++ all_good d ++ called stop.fails false ∷ []) none ∙ ap (λ (calls : List Call). calls ++ called stop.fails false ∷ []) (append-nil old)
-        ∙ ap (λ (k : CallKind). old ++ called k false ∷ []) same
-    by (d ∷ []) some = let two : kind ∷ [] ≡ d ∷ stop.fails ∷ stop.rest = stop.in_order ∙ ap (λ (l : List CallKind). l ++ stop.fails ∷ stop.rest) some in absurd (let bad : ⊥ = cc in bad)
-    by (d ∷ e ∷ more) some = let two : kind ∷ [] ≡ d ∷ e ∷ (more ++ stop.fails ∷ stop.rest) = stop.in_order ∙ ap (λ (l : List CallKind). l ++ stop.fails ∷ stop.rest) some in absurd (let bad : ⊥ = cc in bad)
+  -- the steps, with the lines of the shape
+  abbrev step : ℕ → Step
+  step n = step_later lines Close n
 
-module _ (lines : ℕ) (costs : Costs) (s : Store) (made : Image) (before : DeviceState) (gauge : Gauge) where
-  -- before a step
-  abbrev pub save_at : ℕ → RunningSave
-  save_at i = record { made = made; next = (after_steps lines s made i).0 }
+  at : (n : ℕ) → step_on run n ≡ step n
+  at n = ap (λ (k : ℕ). step_later k (next_of run) n) p.lines_are ∙ ap (λ (x : Step). step_later lines x n) v.next
 
-  abbrev pub store_at : ℕ → Store
-  store_at i = (after_steps lines s made i).1
-
-  pub record Running (i : ℕ) (saves : Saves) (device : DeviceState) (later : Gauge) : Type 0 where
-    pub below : i < costs.pages + 6
-    pub knows : Knows saves.newest saves.closed saves.unsettled (store_at i)
-    pub holds : Holds lines (running (Some (save_at i)) (store_at i)) saves.saving device
-    pub moments : LeavesOnly before device (IsAmongEither lines s (store_at i))
-    pub calls : device.calls ≡ before.calls ++ all_good (take i (calls_in lines s))
-    pub pays : PaysInTurn costs (take i (save_actions costs.pages)) gauge (Ok tt) later
-
-  -- so many steps were made, or all of them
-  abbrev pub ClosedTo : ℕ → Saves → DeviceState → Gauge → Type 0
-  ClosedTo i saves device later = Running i saves device later ⊎ SavesOn lines costs s made before gauge saves device later
-
-  pub begins : (saves : Saves) → IsReadyToClose lines s made saves before → Running 0 saves before gauge
-  begins saves ready = record {
-    below = omega arith;
-    knows = ready.knows;
-    holds = ready.holds;
-    moments = started before (λ image left. inl (stop_now lines (running (Some (save_at 0)) s) saves.saving before ready.holds image left));
-    calls = sym (append-nil before.calls);
-    pays = refl;
-  }
-
-  -- where no save runs any more all was made
-  pub all_closed : (i : ℕ) (saves : Saves) (device : DeviceState) (later : Gauge) → ClosedTo i saves device later → saves.saving ≡ None → SavesOn lines costs s made before gauge saves device later
-  all_closed i saves device later (inr done) none = done
-  all_closed i saves device later (inl r) none =
-      absurd (subst (λ (o : Option SaveRun). HoldsWhile (Some (save_at i)) o lines (running (Some (save_at i)) (store_at i)) device) none r.holds)
-
-  -- and where one runs not all was
-  pub runs_on : (i : ℕ) (saves : Saves) (device : DeviceState) (later : Gauge) (next : Step) → ClosedTo i saves device later → option_map next_of saves.saving ≡ Some next → Running i saves device later
-  runs_on i saves device later next (inl r) comes = r
-  runs_on i saves device later next (inr done) comes = absurd (not_both saves.saving done.makes.holds comes)
+  -- how many steps are left behind a later one
+  fewer : (tried : Bool) (k n : ℕ) → n ≤ steps_left lines Close → k < (if tried then suc n else n) → steps_left lines (step k) < 3 → steps_left lines (step n) < (if tried then 3 else 2)
+  fewer tried k n most before few = by tried before
     where
-      not_both : (o : Option SaveRun) → HoldsWhile None o lines (saved_in s made) device → option_map next_of o ≡ Some next → ⊥
-      not_both None holds comes = let bad : ⊥ = cc in bad
-      not_both (Some run) none comes = none
+      remaining : (j : ℕ) → j ≤ steps_left lines Close → steps_left lines (step j) + j ≡ steps_left lines Close
+      remaining j within = left_later lines capacity Close (omega arith) j within
 
-  -- all steps were counted
-  pub none_left : (i : ℕ) (saves : Saves) (device : DeviceState) (later : Gauge) → costs.pages + 6 ≤ i → ClosedTo i saves device later → SavesOn lines costs s made before gauge saves device later
-  none_left i saves device later ends (inr done) = done
-  none_left i saves device later ends (inl r) = absurd (omega (arith, r.below, ends))
+      by : (tried : Bool) → k < (if tried then suc n else n) → steps_left lines (step n) < (if tried then 3 else 2)
+      by true before = omega (arith, few, remaining k (omega (arith, before, most)), remaining n most)
+      by false before = omega (arith, few, remaining k (omega (arith, before, most)), remaining n most)
 
-  module _ (some : 1 ≤ costs.pages) (is : lines ≡ 64 * costs.pages) (i : ℕ) (saves : Saves) (device : DeviceState) (at : Gauge) (r : Running i saves device at) where
-    abbrev pub step_is : Step
-    step_is = (after_steps lines s made i).0
+  all_steps : steps_to_come run ≡ steps_left lines Close
+  all_steps = ap (λ (k : ℕ). steps_left k (next_of run)) p.lines_are ∙ ap (steps_left lines) v.next
 
-    more_left : steps_left lines step_is + i ≡ costs.pages + 6
-    more_left = left_at costs.pages lines some is s made i (omega (arith, r.below))
+  all_calls : calls_to_come run ≡ calls_in lines s
+  all_calls =
+      ap (λ (b : Bool). calls_left b plan.lines (next_of run)) (sym v.shut) ∙ ap (λ (k : ℕ). calls_left s.closed k (next_of run)) p.lines_are ∙ ap (calls_left s.closed lines) v.next
 
-    reach : reach_of step_is ≤ lines
-    reach = reach_at costs.pages lines some is s made i
+  module _ (finish : Finish) (told : Finishes payments finish (underway (arrays_at channels gauge) run before) (underway (arrays_at channels left) later after)) where
+    abbrev n : ℕ
+    n = told.made
 
-    -- the action that is paid for, and the call
-    next_action : IsNext (save_actions costs.pages) i (action_of step_is) (actions_left costs.pages (step_after lines step_is))
-    next_action = drop_next (save_actions costs.pages) i (action_of step_is) (actions_left costs.pages (step_after lines step_is))
-        (sym (actions_at costs.pages lines some is s made i (omega (arith, r.below))) ∙ actions_left-after costs.pages lines some is step_is reach (omega (arith, more_left, r.below)))
+    next_is : next_of later ≡ step n
+    next_is = told.stands.next ∙ at n
 
-    next_call : IsNext (calls_in lines s) i (step_call s.closed step_is) (calls_left s.closed lines (step_after lines step_is))
-    next_call = drop_next (calls_in lines s) i (step_call s.closed step_is) (calls_left s.closed lines (step_after lines step_is))
-        (sym (calls_at costs.pages lines some is s made s.closed i (omega (arith, r.below))) ∙ calls_left-after costs.pages lines some is s.closed step_is reach (omega (arith, more_left, r.below)))
+    tries : TriesFirst made.memory (steps_tried finish n) run before later after
+    tries = subst (λ (memory : List (List ℕ)). TriesFirst memory (steps_tried finish n) run before later after) array told.tries
 
-    pub the_run_is : (run : SaveRun) × (saves.saving ≡ Some run) × IsSaving lines (running (Some (save_at i)) (store_at i)) (save_at i) run device
-    the_run_is = the_run lines (running (Some (save_at i)) (store_at i)) device (save_at i) (Some (save_at i)) saves.saving refl r.holds
+    still : (next : Step) (tried : Bool) → next_of later ≡ next → tried_of later ≡ tried → SavingAt v.candidates v.image plan made.memory next tried after
+    still next tried next_is tried_is = saving_as later plan next tried told.stands.plan next_is tried_is v.candidates v.image made.memory after (tries.saving v.candidates v.image v.saving)
 
-    -- the coming step of the save
-    pub comes : (next : Step) → option_map next_of saves.saving ≡ Some next → next ≡ step_is
-    comes next told =
-        let run : SaveRun = the_run_is.0 in
-        let same : Some next ≡ Some (next_of run) = sym told ∙ ap (option_map next_of) the_run_is.1 in
-        let e : next ≡ next_of run = cc in e ∙ the_run_is.2.next
-
-    -- a page of the arrays is that of the image
-    pub ready_step : (array : List (List ℕ)) (next : Step) (page : List ℕ) → array ≡ made.memory → next ≡ step_is → GivesPage array next page → IsReadyFor lines (running (Some (save_at i)) (store_at i)) (save_at i) saves page device
-    ready_step array next page same told gives = record {
-      runs = refl;
-      gives = subst (λ (x : Step). GivesPage made.memory x page) told (subst (λ (m : List (List ℕ)). GivesPage m next page) same gives);
-      knows = knows_running (store_at i) (running (Some (save_at i)) (store_at i)) saves refl refl refl r.knows;
-      holds = r.holds;
-    }
-
-    -- the call of the coming step
-    pub call_is : (good : Bool) (old new : List Call) → ((run : SaveRun) → saves.saving ≡ Some run → MakesCalls (step_call (plan_of run).closed (next_of run) ∷ []) good old new) → MakesCalls (step_call s.closed step_is ∷ []) good old new
-    call_is good old new told =
-        let run : SaveRun = the_run_is.0 in let v = the_run_is.2 in
-        let kind : step_call (plan_of run).closed (next_of run) ≡ step_call s.closed step_is =
-        ap (step_call (plan_of run).closed) v.next ∙ same_call (plan_of run) (store_at i).closed step_is v.shut ∙ same_gate s made step_is (store_at i) (stage_at lines s made i) in
-        subst (λ (k : CallKind). MakesCalls (k ∷ []) good old new) kind (told run the_run_is.1)
-
-    -- a payment was refused
-    pub ends_dark : (dark : Dark) (later : Gauge) (ended : Saves) → ended.newest ≡ saves.newest → ended.closed ≡ saves.closed → ended.unsettled ≡ saves.unsettled → ended.saving ≡ None
-        → PaysCost at (cost_of costs (action_of step_is)) (Err dark) later → DarkAfter lines costs s made before gauge ended device later
-    ends_dark dark later ended newest closed unsettled none refused = record {
-      steps = i;
-      makes = record {
-        knows = ended_knows;
-        holds = subst (λ (o : Option SaveRun). HoldsWhile None o lines (running None (store_at i)) device) (sym none) rests;
-        moments = r.moments;
-      };
-      calls = r.calls;
-      mid = at;
-      pays = r.pays;
-      coming = action_of step_is;
-      comes = next_action.here;
-      answer = dark;
-      refused = refused;
-    }
+    -- what a stop leaves, where the new image may be found from the opening of the gate on
+    moments : (end : Store) → ((k : ℕ) → k < steps_tried finish n → steps_left lines (step k) < 3 → (o : Outcome) → o ≡ Found plan.slot (image_of plan made.memory) → IsAmong end.maybe o) → LeavesOnly before after (IsAmongEither lines s end)
+    moments end found = weaker before after each (tries.any_moment v.candidates v.image v.saving)
       where
-        here : IsResting lines (running (Some (save_at i)) (store_at i)) device
-        here = at_rest lines (running (Some (save_at i)) (store_at i)) device (Some (save_at i)) saves.saving r.holds
+        each : (image : List ℕ) → MayLeave (present before) image ⊎ LeavesInFirst v.candidates v.image made.memory run (steps_tried finish n) image → IsAmongEither lines s end image
+        each image (inl may) = inl (stop_now lines begun old.saving before ready.holds image may)
+        each image (inr first) =
+            leaves_in lines s v.candidates v.image made plan p v.newest v.among end.maybe (step first.0) (found first.0 first.1) image
+            (subst (λ (x : Step). Leaves v.candidates v.image plan made.memory x image) (at first.0) first.2)
 
-        rests : IsResting lines (running None (store_at i)) device
-        rests = record { candidates = here.candidates; image = here.image; newest = here.newest; rest = here.rest; among = here.among }
+    how_many : MatchResult finish (λ done. n ≡ steps_to_come run) (λ why. n < steps_to_come run)
+    how_many = made_by payments finish (underway (arrays_at channels gauge) run before) (underway (arrays_at channels left) later after) told
 
-        ended_knows : Knows ended.newest ended.closed ended.unsettled (running None (store_at i))
-        ended_knows = record {
-          slot = ap (λ (x : Newest). x.slot) newest ∙ r.knows.slot;
-          generation = ap (λ (x : Newest). x.generation) newest ∙ r.knows.generation;
-          shut = closed ∙ r.knows.shut;
-          open_end = unsettled ∙ r.knows.open_end;
+    calls : CallsFor (calls_in lines s) finish n before.calls after.calls
+    calls = subst (λ (kinds : List CallKind). CallsFor kinds finish n before.calls after.calls) all_calls told.calls
+
+    pays : PaysUntil costs (save_actions costs.pages) finish n gauge left
+    pays =
+        subst (λ (xs : List Action). PaysUntil costs xs finish n gauge left) (ap (actions_left costs.pages) v.next)
+        (paid_until costs plan.lines plan.capacity (p.lines_are ∙ shaped.pages) (next_of run) run.place finish n (arrays_at channels gauge) (arrays_at channels left)
+        how_many (ap (λ (x : Shape). x.costs) same) told.asks)
+
+    -- all was saved
+    saves_all : next_of later ≡ Done → ReachesStore lines s (saved_in s made) before new after
+    saves_all done =
+        let knows : Knows new.newest false false (saved_in s made) = knows_saved lines s made p.rises old.newest old.closed old.unsettled ready.knows new.newest plan ((learned.done done).0 ∙ ap newest_made told.stands.plan) p in
+        record {
+          knows = record { slot = knows.slot; generation = knows.generation; shut = learned.closed ∙ closed_as later plan Done (tried_of later) told.stands.plan done refl; open_end = (learned.done done).1 };
+          holds = subst (λ (r : Option SaveRun). HoldsWhile None r lines (saved_in s made) after) (sym (learned.saving ∙ none))
+              (holds_saved lines s v.candidates v.image made plan p v.newest after (tried_of later) (still Done (tried_of later) done refl));
+          moments = moments (saved_in s made) (λ k below few o is.
+              inl (record { arm = made.arm; own = λ none. refl; found = is ∙ ap (Found plan.slot) (image_is lines s made plan p) ∙ ap (λ (slot : Slot). Found slot made) p.slot }));
         }
 
-    module _ (later : Gauge) (paid : PaysCost at (cost_of costs (action_of step_is)) (Ok tt) later) (saves' : Saves) (device' : DeviceState) where
-      pays_more : PaysInTurn costs (take (suc i) (save_actions costs.pages)) gauge (Ok tt) later
-      pays_more = subst (λ (xs : List Action). PaysInTurn costs xs gauge (Ok tt) later) (sym next_action.taken)
-          (pays_append costs (take i (save_actions costs.pages)) (action_of step_is ∷ []) gauge at (Ok tt) later r.pays (later, paid, refl))
+    -- it was given up before a step, which failed or wasn't tried
+    gives_up : (tried : Bool) → tried_of later ≡ tried → steps_tried finish n ≡ (if tried then suc n else n) → n < steps_to_come run → next_of later ≢ Done → ReachesStore lines s (store_given_up s made (step n) tried) before new after
+    gives_up tried tried_is count more going =
+        let here : step n ≢ Done = λ done. going (next_is ∙ done) in let end : Store = store_given_up s made (step n) tried in let kept = learned.going going in
+        let knows : Knows old.newest (closed_before plan (step n) tried) (old.unsettled || tried) end = knows_given_up s made old.newest old.closed old.unsettled plan v.shut ready.knows (step n) tried here in
+        record {
+          knows = record {
+            slot = ap (λ (x : Newest). x.slot) (kept.0 ∙ same_newest) ∙ knows.slot;
+            generation = ap (λ (x : Newest). x.generation) (kept.0 ∙ same_newest) ∙ knows.generation;
+            shut = learned.closed ∙ closed_as later plan (step n) tried told.stands.plan next_is tried_is ∙ knows.shut;
+            open_end = kept.1 ∙ ap (λ (b : Bool). taken.unsettled || b) tried_is ∙ ap (λ (b : Bool). b || tried) same_unsettled ∙ knows.open_end;
+          };
+          holds = subst (λ (r : Option SaveRun). HoldsWhile end.saving r lines end after) (sym (learned.saving ∙ none))
+              (rests_given_up lines s v.candidates v.image made plan p v.newest v.among after v.shut (step n) tried here (still (step n) tried next_is tried_is));
+          moments = moments end (λ k below few o is.
+              let has : end.maybe ≡ record s.maybe { saved = Some made } = new_given_up lines s made (step n) tried (reach_later lines capacity Close (omega arith) n)
+              (fewer tried k n (omega (arith, more, all_steps)) (subst (λ (m : ℕ). k < m) count below) few) in
+              new_in lines s v.candidates v.image made plan p v.newest end.maybe (ap (λ (c : Candidates). c.slot) has) (ap (λ (c : Candidates). c.saved) has) o is);
+        }
 
-      -- what a stop since the first step leaves
-      moments_on : (then : Store) → ((o : Outcome) → IsAmong (store_at i).maybe o → IsAmong s.maybe o ⊎ IsAmong then.maybe o) → LeavesOnly device device' (IsAmongEither lines (store_at i) then) → LeavesOnly before device' (IsAmongEither lines s then)
-      moments_on then goes moments = and_then before device device'
-          (weaker before device (λ image is. first image is) r.moments) (weaker device device' (λ image is. second image is) moments)
-        where
-          first : (image : List ℕ) → IsAmongEither lines s (store_at i) image → IsAmongEither lines s then image
-          first image (inl was) = inl was
-          first image (inr at) = goes (restored lines image) at
+  abbrev FinishesSo : Finish → Type 0
+  FinishesSo finish = Finishes payments finish (underway (arrays_at channels gauge) run before) (underway (arrays_at channels left) later after)
 
-          second : (image : List ℕ) → IsAmongEither lines (store_at i) then image → IsAmongEither lines s then image
-          second image (inl at) = goes (restored lines image) at
-          second image (inr is) = inr is
-
-      failed : step_failed (running (Some (save_at i)) (store_at i)) made step_is ≡ step_failed (store_at i) made step_is
-      failed = failed_running (Some (save_at i)) (store_at i) made step_is
-
-      -- the device failed
-      pub ends_fault : ReachesStore lines (running (Some (save_at i)) (store_at i)) (step_failed (running (Some (save_at i)) (store_at i)) made step_is) device saves' device'
-          → MakesCalls (step_call s.closed step_is ∷ []) false device.calls device'.calls → FaultAfter lines costs s made before gauge saves' device' later
-      ends_fault makes call = record {
-        steps = i;
-        makes = record {
-          knows = subst (λ (t : Store). Knows saves'.newest saves'.closed saves'.unsettled t) failed makes.knows;
-          holds = subst (λ (t : Store). Holds lines t saves'.saving device') failed makes.holds;
-          moments = moments_on (step_failed (store_at i) made step_is) (among_failed s made step_is (store_at i) (stage_at lines s made i))
-              (subst (λ (t : Store). LeavesOnly device device' (IsAmongEither lines (store_at i) t)) failed
-              (weaker device device' (λ image is. is) makes.moments));
-        };
-        failed = step_call s.closed step_is;
-        comes = next_call.here;
-        calls = more_calls (calls_in lines s) i (step_call s.closed step_is) (calls_left s.closed lines (step_after lines step_is)) before.calls device.calls device'.calls false next_call r.calls
-            (one_failed (step_call s.closed step_is) device.calls device'.calls call);
-        pays = let next : suc i ≡ i + 1 = omega arith in subst (λ (k : ℕ). PaysInTurn costs (take k (save_actions costs.pages)) gauge (Ok tt) later) next pays_more;
+  pub saves_closing : (finish : Finish) → FinishesSo finish → SavesClosing shape s made finish (saves_at old before gauge) (saves_at new after left)
+  saves_closing (Ok done) told = record { steps = told.made; makes = saves_all (Ok done) told told.ends; calls = calls (Ok done) told; pays = pays (Ok done) told }
+  saves_closing (Err broken.Refused) told =
+      let untried : tried_of later ≡ false = told.stands.tried_is ∙ untried_at told.made (tried_of run) v.untried in
+      record {
+        steps = told.made;
+        makes = subst (λ (at : SaveProgress). ReachesStore lines s (record at.store { saving = None }) before new after) (sym (progress lines s made told.made)) (gives_up (Err broken.Refused) told false untried refl (how_many (Err broken.Refused) told) told.ends);
+        calls = calls (Err broken.Refused) told;
+        pays = pays (Err broken.Refused) told;
       }
-
-      -- a step was made
-      pub goes_on : ReachesStore lines (running (Some (save_at i)) (store_at i)) (after_step lines (running (Some (save_at i)) (store_at i)) (save_at i) step_is) device saves' device'
-          → MakesCalls (step_call s.closed step_is ∷ []) true device.calls device'.calls → ClosedTo (i + 1) saves' device' later
-      goes_on makes call = by_test (nat_lt (i + 1) (costs.pages + 6)) refl
-        where
-          made_calls : device'.calls ≡ before.calls ++ all_good (take (suc i) (calls_in lines s))
-          made_calls = all_more (calls_in lines s) i (step_call s.closed step_is) (calls_left s.closed lines (step_after lines step_is)) before.calls device'.calls next_call
-              (more_calls (calls_in lines s) i (step_call s.closed step_is) (calls_left s.closed lines (step_after lines step_is)) before.calls device.calls device'.calls true next_call r.calls
-              (one_made (step_call s.closed step_is) device.calls device'.calls call))
-
-          moments : (then : Store) → after_step lines (running (Some (save_at i)) (store_at i)) (save_at i) step_is ≡ then → LeavesOnly before device' (IsAmongEither lines s then)
-          moments then is = moments_on then
-              (λ o found. subst (λ (t : Store). IsAmong s.maybe o ⊎ IsAmong t.maybe o) is (among_next lines s made step_is (store_at i) (stage_at lines s made i) o found))
-              (subst (λ (t : Store). LeavesOnly device device' (IsAmongEither lines (store_at i) t)) is (weaker device device' (λ image found. found) makes.moments))
-
-          by_test : (b : Bool) → nat_lt (i + 1) (costs.pages + 6) ≡ b → ClosedTo (i + 1) saves' device' later
-          by_test true less =
-              let below : i + 1 < costs.pages + 6 = ltb-true (i + 1) (costs.pages + 6) less in
-              let further : step_is ≢ SyncOpen = λ same. let one : steps_left lines step_is ≡ 1 = ap (steps_left lines) same in omega (arith, one, more_left, below) in
-              let then : Store = store_at (suc i) in
-              let is_then : after_step lines (running (Some (save_at i)) (store_at i)) (save_at i) step_is ≡ running (Some (save_at (suc i))) then = next_running lines (store_at i) made step_is further in
-              let next : suc i ≡ i + 1 = omega arith in
-              let goes : Running (suc i) saves' device' later = record {
-                below = omega (arith, below);
-                knows = knows_running (running (Some (save_at (suc i))) then) then saves' refl refl refl (subst (λ (t : Store). Knows saves'.newest saves'.closed saves'.unsettled t) is_then makes.knows);
-                holds = subst (λ (t : Store). Holds lines t saves'.saving device') is_then makes.holds;
-                moments = moments (running (Some (save_at (suc i))) then) is_then;
-                calls = made_calls;
-                pays = pays_more;
-              } in
-              inl (subst (λ (k : ℕ). Running k saves' device' later) next goes)
-          by_test false last =
-              let ends : costs.pages + 6 ≤ i + 1 = ltb-false (i + 1) (costs.pages + 6) last in
-              let one : steps_left lines step_is ≡ 1 = omega (arith, more_left, ends, r.below) in
-              let same : step_is ≡ SyncOpen = one_left lines step_is reach one in
-              let at : Store = running (Some (save_at i)) (store_at i) in
-              let is_then : after_step lines at (save_at i) step_is ≡ saved_in s made = ap (after_step lines at (save_at i)) same ∙ last_running lines s made i (Some (save_at i)) in
-              let done : step_after lines step_is ≡ Done = ap (step_after lines) same in
-              inr (record {
-                makes = record {
-                  knows = subst (λ (t : Store). Knows saves'.newest saves'.closed saves'.unsettled t) is_then makes.knows;
-                  holds = subst (λ (t : Store). Holds lines t saves'.saving device') is_then makes.holds;
-                  moments = moments (saved_in s made) is_then;
-                };
-                calls = made_calls ∙ ap (λ (kinds : List CallKind). before.calls ++ all_good kinds) (take_all (calls_in lines s) (suc i) (next_call.rest ∙ ap (calls_left s.closed lines) done));
-                pays = subst (λ (xs : List Action). PaysInTurn costs xs gauge (Ok tt) later) (take_all (save_actions costs.pages) (suc i) (next_action.rest ∙ ap (actions_left costs.pages) done)) pays_more;
-              })
+  saves_closing (Err broken.Fault) told = record {
+    steps = told.made;
+    makes = subst (λ (at : SaveProgress). ReachesStore lines s (step_failed at.store made at.next) before new after) (sym (progress lines s made told.made)) (gives_up (Err broken.Fault) told true told.stands.tried_is refl (how_many (Err broken.Fault) told) told.ends);
+    calls = calls (Err broken.Fault) told;
+    pays = pays (Err broken.Fault) told;
+  }

@@ -1,35 +1,21 @@
--- The steps of a closing save: their actions, their calls, and what the store is between them.
-use Rattle.std.proofs.Common.{◌≡◌, ℕ, zero, suc, ◌+◌, ◌-◌, ◌*◌, ◌/◌, ◌<◌, ◌≤◌, List, [], ◌∷◌, ◌++◌, Bool, replicate, take, drop, refl, sym, ◌∙◌, ap, inl, inr, arith}
-use Rattle.std.specs.Prelude.{Some, if◌then◌else◌, slice_get}
-use Rattle.save_image.specs.Image.{Image}
-use Rattle.save_device.specs.declared.calls.CallKind.TheVariants.{Write, Sync}
-use Rattle.slot_store.specs.declared.plan.Step.{Step}
-use Rattle.slot_store.specs.declared.plan.Step.TheVariants.{Close, SyncClosed, Header, Page, SyncBody, Open, SyncOpen, Done}
-use Rattle.slot_store.specs.Steps.{reach_of, step_after, steps_left, page_calls, calls_left}
-use Rattle.slot_store.proofs.Standing.{below_or_not}
-use Rattle.energy_budget.specs.declared.action.Action.{Action}
-use Rattle.energy_budget.specs.declared.action.Action.TheVariants as actions
+-- The steps of a closing save, as the gauge is asked for them: which actions are paid for.
+use Rattle.std.proofs.Common.{◌*◌, ◌++◌, Err, zero}
+use Rattle.std.proofs.lemmas.List.{take-append-drop}
+use Rattle.std.specs.Prelude.{MatchResult}
+use Rattle.channel_port.specs.Draining.{PaysInTurn}
 use Rattle.energy_budget.specs.Actions.{page_actions, save_actions}
-use Rattle.module_core.specs.State.{Store}
-use Rattle.module_core.specs.Moves.{after_steps}
-use Rattle.module_core.specs.Machine.{step_call}
-use Rattle.module_core.specs.Closing.{action_of}
-
--- the next element of a list
-pub record IsNext {X : Type 0} (xs : List X) (i : ℕ) (x : X) (more : List X) : Type 0 where
-  pub rest : drop (suc i) xs ≡ more
-  pub taken : take (suc i) xs ≡ take i xs ++ x ∷ []
-  pub here : slice_get xs i ≡ Some x
-
-pub drop_next : {X : Type 0} (xs : List X) (i : ℕ) (x : X) (more : List X) → drop i xs ≡ x ∷ more → IsNext xs i x more
-drop_next [] zero x more is = absurd (let bad : ⊥ = cc in bad)
-drop_next [] (suc i) x more is = absurd (let bad : ⊥ = cc in bad)
-drop_next {X} (y ∷ ys) zero x more is =
-    let rest : ys ≡ more = cc in let head : y ≡ x = cc in
-    record { rest = rest; taken = ap (λ (z : X). z ∷ []) head; here = ap Some head }
-drop_next {X} (y ∷ ys) (suc i) x more is =
-    let later : IsNext ys i x more = drop_next ys i x more is in
-    record { rest = later.rest; taken = ap (λ (zs : List X). y ∷ zs) later.taken; here = later.here }
+use Rattle.energy_budget.specs.Gauge.{PaysCost}
+use Rattle.module_core.specs.Closing.{ArraysAt, PaysUntil, payments}
+use Rattle.nv_machine.proofs.Payments.{pays_append}
+use Rattle.slot_store.proofs.Standing.{below_or_not}
+use Rattle.slot_store.proofs.StepsLeft.{ComesAt, comes_at, drop_later, left_later, no_steps_left, reach_later}
+use Rattle.slot_store.specs.Finishing.{AsksFor, Finish, GrantsFirst}
+use Rattle.slot_store.specs.Slots.{IsCapacity}
+use Rattle.slot_store.specs.Steps.{reach_of, step_later, steps_left}
+use Rattle.slot_store.specs.declared.plan.Step.TheVariants.{Header, Open, SyncBody}
+use Rattle.energy_budget.specs.declared.action.Action.TheVariants as actions
+use Rattle.slot_store.specs.declared.source.BrokenOff.TheVariants as broken
+use Rattle.module_core.proofs.Common.{[], if◌then◌else◌, ℕ, ◌+◌, ◌-◌, ◌<◌, ◌∙◌, ◌∷◌, ◌≡◌, ◌≤◌, Action, Bool, ChannelsView, Close, Costs, Done, List, Ok, Page, Step, SyncClosed, SyncOpen, action_of, ap, append-nil, arith, cost_of, drop, inl, inr, refl, step_after, subst, suc, sym, take}
 
 -- the actions of the steps that are still to come, of so many pages
 abbrev pub actions_left : ℕ → Step → List Action
@@ -42,98 +28,78 @@ actions_left n Open = actions.OpenGate ∷ actions.Sync ∷ []
 actions_left n SyncOpen = actions.Sync ∷ []
 actions_left n Done = []
 
-module _ (n lines : ℕ) (some : 1 ≤ n) (is : lines ≡ 64 * n) where
-  page_next : (k : ℕ) → reach_of (Page k) ≤ lines → (n - k ≡ suc (n - (k + 1))) × (lines / 64 - k ≡ suc (lines / 64 - (k + 1)))
-  page_next k reach = (omega (arith, is, reach), omega (arith, is, reach))
+-- where nothing is left behind the first ones, they are all
+take_all : {X : Type 0} (xs : List X) (k : ℕ) → drop k xs ≡ [] → take k xs ≡ xs
+take_all {X} xs k none = sym (append-nil (take k xs)) ∙ ap (λ (ys : List X). take k xs ++ ys) (sym none) ∙ take-append-drop k xs
 
-  pub reach-after : (next : Step) → reach_of next ≤ lines → reach_of (step_after lines next) ≤ lines
-  reach-after Close reach = omega arith
-  reach-after SyncClosed reach = omega arith
-  reach-after Header reach = omega (arith, is, some)
-  reach-after (Page k) reach =
-      elim (below_or_not lines (64 * (k + 2))) [
-        | inl last ↦ let after : reach_of (step_after lines (Page k)) ≡ 0 = ap (λ (b : Bool). reach_of (if b then SyncBody else Page (k + 1))) last.0 in omega (arith, after)
-        | inr more ↦ let after : reach_of (step_after lines (Page k)) ≡ 64 * (k + 1 + 1) = ap (λ (b : Bool). reach_of (if b then SyncBody else Page (k + 1))) more.0 in omega (arith, after, more.1)
-      ]
-  reach-after SyncBody reach = omega arith
-  reach-after Open reach = omega arith
-  reach-after SyncOpen reach = omega arith
-  reach-after Done reach = omega arith
+-- from this step on
+module _ (costs : Costs) (lines : ℕ) (capacity : IsCapacity lines) (is : lines ≡ 64 * costs.pages) (first : Step) (reach : reach_of first ≤ lines) where
+  abbrev pages : ℕ
+  pages = costs.pages
 
-  pub actions_left-after : (next : Step) → reach_of next ≤ lines → 0 < steps_left lines next → actions_left n next ≡ action_of next ∷ actions_left n (step_after lines next)
+  abbrev step : ℕ → Step
+  step n = step_later lines first n
+
+  abbrev pub actions_to_come : List Action
+  actions_to_come = actions_left pages first
+
+  actions_left-after : (next : Step) → reach_of next ≤ lines → 0 < steps_left lines next → actions_left pages next ≡ action_of next ∷ actions_left pages (step_after lines next)
   unfolding save_actions page_actions
-  actions_left-after Close reach more = refl
-  actions_left-after SyncClosed reach more = refl
-  actions_left-after Header reach more = let none : n ≡ n - 0 = omega arith in ap (λ (j : ℕ). actions.WriteHeader ∷ page_actions j) none
+  actions_left-after Header reach more = let none : pages ≡ pages - 0 = omega arith in ap (λ (j : ℕ). actions.WriteHeader ∷ page_actions j) none
   actions_left-after (Page k) reach more =
-      let here : actions_left n (Page k) ≡ actions.WritePage ∷ page_actions (n - (k + 1)) = ap page_actions (page_next k reach).0 in
+      let here : actions_left pages (Page k) ≡ actions.WritePage ∷ page_actions (pages - (k + 1)) = ap page_actions (let one : pages - k ≡ suc (pages - (k + 1)) = omega (arith, is, reach) in one) in
       elim (below_or_not lines (64 * (k + 2))) [
         | inl last ↦
-            let none : n - (k + 1) ≡ 0 = omega (arith, last.1, is) in
-            here ∙ ap (λ (j : ℕ). actions.WritePage ∷ page_actions j) none ∙ ap (λ (b : Bool). actions.WritePage ∷ actions_left n (if b then SyncBody else Page (k + 1))) (sym last.0)
-        | inr further ↦ here ∙ ap (λ (b : Bool). actions.WritePage ∷ actions_left n (if b then SyncBody else Page (k + 1))) (sym further.0)
+            let none : pages - (k + 1) ≡ 0 = omega (arith, last.1, is) in
+            here ∙ ap (λ (j : ℕ). actions.WritePage ∷ page_actions j) none ∙ ap (λ (b : Bool). actions.WritePage ∷ actions_left pages (if b then SyncBody else Page (k + 1))) (sym last.0)
+        | inr further ↦ here ∙ ap (λ (b : Bool). actions.WritePage ∷ actions_left pages (if b then SyncBody else Page (k + 1))) (sym further.0)
       ]
-  actions_left-after SyncBody reach more = refl
-  actions_left-after Open reach more = refl
-  actions_left-after SyncOpen reach more = refl
   actions_left-after Done reach more = absurd (omega (arith, more))
+  actions_left-after next reach more = refl
 
-  pub calls_left-after : (closed : Bool) (next : Step) → reach_of next ≤ lines → 0 < steps_left lines next → calls_left closed lines next ≡ step_call closed next ∷ calls_left closed lines (step_after lines next)
-  calls_left-after closed Close reach more = refl
-  calls_left-after closed SyncClosed reach more = refl
-  calls_left-after closed Header reach more = refl
-  calls_left-after closed (Page k) reach more =
-      let here : page_calls lines k ≡ Write ∷ page_calls lines (k + 1) = ap (λ (j : ℕ). replicate j Write ++ (Sync ∷ Write ∷ Sync ∷ [])) (page_next k reach).1 in
-      elim (below_or_not lines (64 * (k + 2))) [
-        | inl last ↦
-            let none : lines / 64 - (k + 1) ≡ 0 = omega (arith, last.1, is) in
-            here ∙ ap (λ (j : ℕ). Write ∷ (replicate j Write ++ (Sync ∷ Write ∷ Sync ∷ []))) none ∙ ap (λ (b : Bool). Write ∷ calls_left closed lines (if b then SyncBody else Page (k + 1))) (sym last.0)
-        | inr further ↦ here ∙ ap (λ (b : Bool). Write ∷ calls_left closed lines (if b then SyncBody else Page (k + 1))) (sym further.0)
-      ]
-  calls_left-after closed SyncBody reach more = refl
-  calls_left-after closed Open reach more = refl
-  calls_left-after closed SyncOpen reach more = refl
-  calls_left-after closed Done reach more = absurd (omega (arith, more))
+  -- the actions behind the first steps, and the next one
+  pub actions_behind : (n : ℕ) → n ≤ steps_left lines first → drop n actions_to_come ≡ actions_left pages (step n)
+  actions_behind n most = drop_later lines capacity first reach (actions_left pages) action_of actions_left-after n most
 
-  pub left-after : (next : Step) → reach_of next ≤ lines → 0 < steps_left lines next → steps_left lines (step_after lines next) + 1 ≡ steps_left lines next
-  left-after Close reach more = omega arith
-  left-after SyncClosed reach more = omega arith
-  left-after Header reach more = omega arith
-  left-after (Page k) reach more =
-      elim (below_or_not lines (64 * (k + 2))) [
-        | inl last ↦ let after : steps_left lines (step_after lines (Page k)) ≡ 3 = ap (λ (b : Bool). steps_left lines (if b then SyncBody else Page (k + 1))) last.0 in omega (arith, after, last.1, is, reach)
-        | inr further ↦ let after : steps_left lines (step_after lines (Page k)) ≡ lines / 64 + 3 - (k + 1) = ap (λ (b : Bool). steps_left lines (if b then SyncBody else Page (k + 1))) further.0 in omega (arith, after, further.1)
-      ]
-  left-after SyncBody reach more = refl
-  left-after Open reach more = refl
-  left-after SyncOpen reach more = refl
-  left-after Done reach more = absurd (omega (arith, more))
+  pub action_comes : (n : ℕ) → n < steps_left lines first → ComesAt actions_to_come n (action_of (step n)) (actions_left pages (step (suc n)))
+  action_comes n more =
+      let left : steps_left lines (step n) + n ≡ steps_left lines first = left_later lines capacity first reach n (omega (arith, more)) in
+      comes_at actions_to_come n (action_of (step n)) (actions_left pages (step (suc n)))
+      (actions_behind n (omega (arith, more)) ∙ actions_left-after (step n) (reach_later lines capacity first reach n) (omega (arith, left, more)))
 
-  module _ (s : Store) (made : Image) where
-    abbrev pub next_at : ℕ → Step
-    next_at i = (after_steps lines s made i).0
+  -- the first steps that are granted are paid for
+  paid_once : (old new : ArraysAt) (next : Step) → old.channels.shape.costs ≡ costs → payments.asks old next (Ok tt) new → PaysInTurn costs (action_of next ∷ []) old.gauge (Ok tt) new.gauge
+  paid_once old new next same asked = (new.gauge, subst (λ (c : Costs). PaysCost old.gauge (cost_of c (action_of next)) (Ok tt) new.gauge) same asked.0, refl)
 
-    pub reach_at : (i : ℕ) → reach_of (next_at i) ≤ lines
-    reach_at zero = omega arith
-    reach_at (suc i) = reach-after (next_at i) (reach_at i)
+  pub paid_first : (n : ℕ) (old new : ArraysAt) → n ≤ steps_left lines first → old.channels.shape.costs ≡ costs → GrantsFirst payments.asks step n old new
+      → PaysInTurn costs (take n actions_to_come) old.gauge (Ok tt) new.gauge × (new.channels ≡ old.channels)
+  paid_first zero old new most same granted = (ap (λ (a : ArraysAt). a.gauge) granted, ap (λ (a : ArraysAt). a.channels) granted)
+  paid_first (suc n) old new most same granted =
+      let before = paid_first n old granted.0 (omega (arith, most)) same granted.1 in let asked = granted.2 in (
+        subst (λ (xs : List Action). PaysInTurn costs xs old.gauge (Ok tt) new.gauge) (sym (action_comes n (omega (arith, most))).taken)
+            (pays_append costs (take n actions_to_come) (action_of (step n) ∷ []) old.gauge granted.0.gauge (Ok tt) new.gauge before.0
+            (paid_once granted.0 new (step n) (ap (λ (v : ChannelsView). v.shape.costs) before.1 ∙ same) asked)),
+        asked.1 ∙ before.1,
+      )
 
-    pub left_at : (i : ℕ) → i ≤ n + 6 → steps_left lines (next_at i) + i ≡ n + 6
-    left_at zero below = omega (arith, is)
-    left_at (suc i) below =
-        let before : steps_left lines (next_at i) + i ≡ n + 6 = left_at i (omega (arith, below)) in
-        omega (arith, before, left-after (next_at i) (reach_at i) (omega (arith, before, below)), below)
-
-    -- what is still to come is what is left of all
-    pub actions_at : (i : ℕ) → i ≤ n + 6 → actions_left n (next_at i) ≡ drop i (save_actions n)
-    actions_at zero below = refl
-    actions_at (suc i) below =
-        let before : actions_left n (next_at i) ≡ drop i (save_actions n) = actions_at i (omega (arith, below)) in
-        let more : 0 < steps_left lines (next_at i) = let left : steps_left lines (next_at i) + i ≡ n + 6 = left_at i (omega (arith, below)) in omega (arith, left, below) in
-        sym (drop_next (save_actions n) i (action_of (next_at i)) (actions_left n (step_after lines (next_at i))) (sym before ∙ actions_left-after (next_at i) (reach_at i) more)).rest
-
-    pub calls_at : (closed : Bool) (i : ℕ) → i ≤ n + 6 → calls_left closed lines (next_at i) ≡ drop i (calls_left closed lines Close)
-    calls_at closed zero below = refl
-    calls_at closed (suc i) below =
-        let before : calls_left closed lines (next_at i) ≡ drop i (calls_left closed lines Close) = calls_at closed i (omega (arith, below)) in
-        let more : 0 < steps_left lines (next_at i) = let left : steps_left lines (next_at i) + i ≡ n + 6 = left_at i (omega (arith, below)) in omega (arith, left, below) in
-        sym (drop_next (calls_left closed lines Close) i (step_call closed (next_at i)) (calls_left closed lines (step_after lines (next_at i))) (sym before ∙ calls_left-after closed (next_at i) (reach_at i) more)).rest
+  -- and so is all that was asked for
+  pub paid_until : (finish : Finish) (n : ℕ) (old new : ArraysAt) → MatchResult finish (λ done. n ≡ steps_left lines first) (λ why. n < steps_left lines first) → old.channels.shape.costs ≡ costs
+      → AsksFor payments.asks step finish n old new → PaysUntil costs actions_to_come finish n old.gauge new.gauge
+  paid_until (Ok done) n old new all same asked =
+      let none : steps_left lines (step n) ≡ 0 = omega (arith, left_later lines capacity first reach n (omega (arith, all)), all) in
+      let ended : step n ≡ Done = no_steps_left lines (step n) (reach_later lines capacity first reach n) none in
+      subst (λ (xs : List Action). PaysInTurn costs xs old.gauge (Ok tt) new.gauge) (take_all actions_to_come n (actions_behind n (omega (arith, all)) ∙ ap (actions_left pages) ended))
+      (paid_first n old new (omega (arith, all)) same asked).0
+  paid_until (Err broken.Refused) n old new less same asked =
+      let first = paid_first n old asked.0 (omega (arith, less)) same asked.2 in let refused = asked.3.0 in
+      record {
+        mid = asked.0.gauge;
+        pays = first.0;
+        coming = action_of (step n);
+        comes = (action_comes n less).here;
+        answer = refused.0;
+        refused = subst (λ (c : Costs). PaysCost asked.0.gauge (cost_of c (action_of (step n))) (Err refused.0) new.gauge) (ap (λ (v : ChannelsView). v.shape.costs) first.1 ∙ same) refused.1;
+      }
+  paid_until (Err broken.Fault) n old new less same asked =
+      let one : suc n ≡ n + 1 = omega arith in
+      subst (λ (k : ℕ). PaysInTurn costs (take k actions_to_come) old.gauge (Ok tt) new.gauge) one (paid_first (suc n) old new (omega (arith, less)) same asked).0

@@ -1,130 +1,89 @@
 -- The store between the steps of a closing save.
-use Rattle.std.proofs.Common.{◌≡◌, ◌≢◌, ◌⊎◌, ℕ, zero, suc, ◌+◌, ◌*◌, Bool, true, false, refl, sym, ◌∙◌, ap, subst, inl, inr}
-use Rattle.std.specs.Prelude.{Some, None, Option, nat_lt, if◌then◌else◌}
-use Rattle.save_image.specs.Image.{Image}
-use Rattle.slot_store.specs.declared.slots.Slot.{Slot}
-use Rattle.slot_store.specs.declared.plan.Step.{Step}
-use Rattle.slot_store.specs.declared.plan.Step.TheVariants.{Close, SyncClosed, Header, Page, SyncBody, Open, SyncOpen, Done}
-use Rattle.slot_store.specs.Slots.{other}
-use Rattle.slot_store.specs.Steps.{step_after}
-use Rattle.slot_store.specs.Outcomes.{Outcome, Found}
-use Rattle.slot_store.specs.Rest.{Candidates, rearmed, only, IsAmong, IsSaved}
-use Rattle.module_core.specs.State.{RunningSave, Store}
-use Rattle.module_core.specs.Moves.{stepped, step_failed, saved_in, after_steps}
-use Rattle.module_core.specs.Saving.{after_step}
+use Rattle.std.proofs.Common.{◌*◌, ◌||◌, zero, ⊎_elim}
+use Rattle.module_core.specs.Device.{AreAmong, FindsNewest, IsPlanFor}
+use Rattle.nv_machine.specs.Moves.{SaveProgress}
+use Rattle.slot_store.proofs.Standing.{below_or_not}
+use Rattle.slot_store.specs.Outcomes.{Found}
+use Rattle.slot_store.specs.Rest.{Candidates}
+use Rattle.slot_store.specs.Saving.{FindsNew, FindsOld, Leaves, image_of, old_and_new, only_old}
+use Rattle.slot_store.specs.Steps.{reach_of, step_later, steps_left}
+use Rattle.slot_store.specs.declared.plan.Step.TheVariants.{Open, SyncBody}
+use Rattle.module_core.proofs.Common.{if◌then◌else◌, ℕ, ◌+◌, ◌<◌, ◌∙◌, ◌≡◌, ◌≢◌, ◌≤◌, ◌⊎◌, Bool, Close, DeviceState, Done, HoldsWhile, Image, IsAmong, Knows, List, Newest, None, Outcome, Page, Plan, SavingAt, Some, Step, Store, SyncClosed, SyncOpen, after_steps, ap, arith, closed_before, false, inl, inr, other, refl, restored, rules, step_after, step_failed, stepped, subst, suc, sym, true}
+use Rattle.module_core.proofs.StoreSteps.{alone_in, both_in, here, old_in, rests_in}
 
--- what may be found before a step of the save, as a store began it
-abbrev pub IsStage : Store → Image → Step → Store → Type 0
-IsStage s made Close at = at ≡ s
-IsStage s made SyncClosed at = at ≡ s
-IsStage s made SyncOpen at = at.maybe ≡ record s.maybe { saved = Some made }
-IsStage s made Done at = Unit {0}
-IsStage s made next at = at.maybe ≡ record s.maybe { saved = None }
+-- the store before a step of a save of this image, as this store began it
+abbrev pub store_before : Store → Image → Step → Store
+store_before s made Close = s
+store_before s made SyncClosed = s
+store_before s made SyncOpen = record s { maybe = record s.maybe { saved = Some made }; closed = false }
+store_before s made Done = record s { maybe = record s.maybe { saved = Some made }; closed = false }
+store_before s made step = record s { maybe = record s.maybe { saved = None }; closed = true }
 
-stage_next : (lines : ℕ) (s : Store) (made : Image) (next : Step) (at : Store) → IsStage s made next at → IsStage s made (step_after lines next) (stepped at made next)
-stage_next lines s made Close at is = is
-stage_next lines s made SyncClosed at is = ap (λ (t : Store). record t.maybe { saved = None }) is
-stage_next lines s made Header at is = is
-stage_next lines s made (Page k) at is = by_size (nat_lt lines (64 * (k + 2)))
-  where
-    by_size : (b : Bool) → IsStage s made (if b then SyncBody else Page (k + 1)) at
-    by_size true = is
-    by_size false = is
-stage_next lines s made SyncBody at is = is
-stage_next lines s made Open at is = ap (λ (c : Candidates). record c { saved = Some made }) is
-stage_next lines s made SyncOpen at is = tt
-stage_next lines s made Done at is = tt
+stepped_before : (lines : ℕ) (s : Store) (made : Image) (step : Step) → stepped (store_before s made step) made step ≡ store_before s made (step_after lines step)
+stepped_before lines s made (Page k) = elim (below_or_not lines (64 * (k + 2))) [
+  | inl last ↦ ap (λ (b : Bool). store_before s made (if b then SyncBody else Page (k + 1))) (sym last.0)
+  | inr further ↦ ap (λ (b : Bool). store_before s made (if b then SyncBody else Page (k + 1))) (sym further.0)
+]
+stepped_before lines s made step = refl
 
-pub stage_at : (lines : ℕ) (s : Store) (made : Image) (i : ℕ) → let at = after_steps lines s made i in IsStage s made at.0 at.1
-stage_at lines s made zero = refl
-stage_at lines s made (suc i) = let at = after_steps lines s made i in stage_next lines s made at.0 at.1 (stage_at lines s made i)
+-- how far a save has come after so many steps
+pub progress : (lines : ℕ) (s : Store) (made : Image) (n : ℕ) → let step = step_later lines Close n in after_steps lines s made n ≡ record { next = step; store = store_before s made step }
+progress lines s made zero = refl
+progress lines s made (suc n) =
+    let step = step_later lines Close n in
+    ap (λ (at : SaveProgress). record { next = step_after lines at.next; store = stepped at.store made at.next }) (progress lines s made n)
+    ∙ ap (λ (store : Store). record { next = step_after lines step; store = store }) (stepped_before lines s made step)
 
--- the same store, with another save that runs
-abbrev pub running : Option RunningSave → Store → Store
-running save s = record s { saving = save }
+-- the store where the save is given up before a step, which failed or wasn't tried
+abbrev pub store_given_up : Store → Image → Step → Bool → Store
+store_given_up s made step false = record (store_before s made step) { saving = None }
+store_given_up s made step true = step_failed (store_before s made step) made step
 
-pub failed_running : (save : Option RunningSave) (s : Store) (made : Image) (next : Step) → step_failed (running save s) made next ≡ step_failed s made next
-failed_running save s made Close = refl
-failed_running save s made SyncClosed = refl
-failed_running save s made Header = refl
-failed_running save s made (Page k) = refl
-failed_running save s made SyncBody = refl
-failed_running save s made Open = refl
-failed_running save s made SyncOpen = refl
-failed_running save s made Done = refl
+-- behind the opening of the gate, or where that failed, the new image may be found
+pub new_given_up : (lines : ℕ) (s : Store) (made : Image) (step : Step) (tried : Bool) → reach_of step ≤ lines → steps_left lines step < (if tried then 3 else 2)
+    → (store_given_up s made step tried).maybe ≡ record s.maybe { saved = Some made }
+new_given_up lines s made step tried reach few = search rules
 
--- the store after a step, and after the last one
-pub next_running : (lines : ℕ) (s : Store) (made : Image) (next : Step) → next ≢ SyncOpen → let save : RunningSave = record { made = made; next = next } in
-    after_step lines (running (Some save) s) save next ≡ running (Some (record { made = made; next = step_after lines next })) (stepped s made next)
-next_running lines s made Close more = refl
-next_running lines s made SyncClosed more = refl
-next_running lines s made Header more = refl
-next_running lines s made (Page k) more = refl
-next_running lines s made SyncBody more = refl
-next_running lines s made Open more = refl
-next_running lines s made SyncOpen more = absurd (more refl)
-next_running lines s made Done more = refl
+-- what the module knows then
+pub knows_given_up : (s : Store) (made : Image) (newest : Newest) (closed unsettled : Bool) (plan : Plan) → s.closed ≡ plan.closed → Knows newest closed unsettled s → (step : Step) (tried : Bool) → step ≢ Done
+    → Knows newest (closed_before plan step tried) (unsettled || tried) (store_given_up s made step tried)
+knows_given_up s made newest closed unsettled plan shut knows step tried going = search rules
 
-slot_stepped : (s : Store) (made : Image) (next : Step) → (stepped s made next).maybe.slot ≡ s.maybe.slot
-slot_stepped s made Close = refl
-slot_stepped s made SyncClosed = refl
-slot_stepped s made Header = refl
-slot_stepped s made (Page k) = refl
-slot_stepped s made SyncBody = refl
-slot_stepped s made Open = refl
-slot_stepped s made SyncOpen = refl
-slot_stepped s made Done = refl
+module _ (lines : ℕ) (s : Store) (candidates : Candidates) (image made : Image) (plan : Plan) (p : IsPlanFor lines s made plan) (n : FindsNewest s.maybe image) (among : AreAmong candidates s.maybe) where
+  old_left : (left : List ℕ) → FindsOld image plan left → IsAmong s.maybe (restored lines left)
+  old_left left old = old_in lines s candidates image made plan p n s.maybe refl refl refl (restored lines left) (here lines s candidates image made plan p n left (Found (other plan.slot) image) old)
 
-slot_at : (lines : ℕ) (s : Store) (made : Image) (i : ℕ) → (after_steps lines s made i).1.maybe.slot ≡ s.maybe.slot
-slot_at lines s made zero = refl
-slot_at lines s made (suc i) = let at = after_steps lines s made i in slot_stepped at.1 made at.0 ∙ slot_at lines s made i
+  new_left : (left : List ℕ) → FindsNew plan made.memory left → restored lines left ≡ Found plan.slot (image_of plan made.memory)
+  new_left left is = here lines s candidates image made plan p n left (Found plan.slot (image_of plan made.memory)) is
 
-pub last_running : (lines : ℕ) (s : Store) (made : Image) (i : ℕ) (save : Option RunningSave) → saved_in (running save (after_steps lines s made i).1) made ≡ saved_in s made
-last_running lines s made i save = ap (λ (x : Slot). record { maybe = only (other x) made; closed = false; unsettled = false; saving = None }) (slot_at lines s made i)
+  -- what a stop in a step leaves, where the new image may be found of a later store
+  pub leaves_in : (later : Candidates) (step : Step) → (steps_left lines step < 3 → (o : Outcome) → o ≡ Found plan.slot (image_of plan made.memory) → IsAmong later o)
+      → (left : List ℕ) → Leaves candidates image plan made.memory step left → IsAmong s.maybe (restored lines left) ⊎ IsAmong later (restored lines left)
+  leaves_in later Close new left leaves = inl (among (restored lines left) (subst (λ (k : ℕ). IsAmong candidates (restored k left)) p.lines_are leaves))
+  leaves_in later SyncClosed new left leaves = inl (among (restored lines left) (subst (λ (k : ℕ). IsAmong candidates (restored k left)) p.lines_are leaves))
+  leaves_in later Open new left leaves = ⊎_elim (λ old. inl (old_left left old)) (λ is. inr (new (omega arith) (restored lines left) (new_left left is))) leaves
+  leaves_in later SyncOpen new left leaves = ⊎_elim (λ old. inl (old_left left old)) (λ is. inr (new (omega arith) (restored lines left) (new_left left is))) leaves
+  leaves_in later Done new left leaves = inr (new (omega arith) (restored lines left) (new_left left leaves))
+  leaves_in later step new left leaves = inl (old_left left leaves)
 
--- a newest image stays among what may be found
-newest_kept : (a b : Candidates) → a ≡ record b { saved = a.saved } → (o : Outcome) → IsAmong a o → IsAmong b o ⊎ IsSaved a.saved (other a.slot) o
-newest_kept a b is o (inl found) = inl (inl (record {
-  arm = found.arm;
-  own = λ none. found.own (ap (λ (c : Candidates). c.any_arm) is ∙ none) ∙ ap (λ (c : Candidates). c.newest.arm) is;
-  found = found.found ∙ ap (λ (c : Candidates). Found c.slot (rearmed c.newest found.arm)) is;
-}))
-newest_kept a b is o (inr saved) = inr saved
+  -- the old image alone may be found, or the new one too
+  alone : AreAmong (only_old image plan) (record s.maybe { saved = None })
+  alone = alone_in lines s candidates image made plan p n (record s.maybe { saved = None }) refl refl refl
 
--- the newest image alone, where no other is saved
-only_newest : (a b : Candidates) → a ≡ record b { saved = None } → (o : Outcome) → IsAmong a o → IsAmong b o
-only_newest a b is o found = of (newest_kept a b (is ∙ ap (λ (saved : Option Image). record b { saved = saved }) (sym (ap (λ (c : Candidates). c.saved) is))) o found)
-  where
-    of : IsAmong b o ⊎ IsSaved a.saved (other a.slot) o → IsAmong b o
-    of (inl here) = here
-    of (inr saved) = absurd (subst (λ (x : Option Image). IsSaved x (other a.slot) o) (ap (λ (c : Candidates). c.saved) is) saved)
+  both : AreAmong (old_and_new image plan made.memory) (record s.maybe { saved = Some made })
+  both = both_in lines s candidates image made plan p n (record s.maybe { saved = Some made }) refl refl refl refl
 
--- once the new image may be found it is the one that the last step leaves
-or_saved : (a b : Candidates) (made : Image) → a ≡ record b { saved = Some made } → (o : Outcome) → IsAmong a o → IsAmong b o ⊎ IsAmong (only (other a.slot) made) o
-or_saved a b made is o found = of (newest_kept a b (is ∙ ap (λ (saved : Option Image). record b { saved = saved }) (sym (ap (λ (c : Candidates). c.saved) is))) o found)
-  where
-    of : IsAmong b o ⊎ IsSaved a.saved (other a.slot) o → IsAmong b o ⊎ IsAmong (only (other a.slot) made) o
-    of (inl here) = inl here
-    of (inr saved) = inr (inl (record { arm = made.arm; own = λ none. refl; found = subst (λ (x : Option Image). IsSaved x (other a.slot) o) (ap (λ (c : Candidates). c.saved) is) saved }))
-
--- what may be found before a step could be at first, or may be after the step
-pub among_next : (lines : ℕ) (s : Store) (made : Image) (next : Step) (at : Store) → IsStage s made next at → (o : Outcome) → IsAmong at.maybe o → let save : RunningSave = record { made = made; next = next } in
-    IsAmong s.maybe o ⊎ IsAmong (after_step lines (running (Some save) at) save next).maybe o
-among_next lines s made Close at is o found = inr found
-among_next lines s made SyncClosed at is o found = inl (subst (λ (t : Store). IsAmong t.maybe o) is found)
-among_next lines s made Header at is o found = inr found
-among_next lines s made (Page k) at is o found = inr found
-among_next lines s made SyncBody at is o found = inr found
-among_next lines s made Open at is o found = inl (only_newest at.maybe s.maybe is o found)
-among_next lines s made SyncOpen at is o found = or_saved at.maybe s.maybe made is o found
-among_next lines s made Done at is o found = inr found
-
-pub among_failed : (s : Store) (made : Image) (next : Step) (at : Store) → IsStage s made next at → (o : Outcome) → IsAmong at.maybe o → IsAmong s.maybe o ⊎ IsAmong (step_failed at made next).maybe o
-among_failed s made Close at is o found = inr found
-among_failed s made SyncClosed at is o found = inr found
-among_failed s made Header at is o found = inr found
-among_failed s made (Page k) at is o found = inr found
-among_failed s made SyncBody at is o found = inr found
-among_failed s made Open at is o found = inl (only_newest at.maybe s.maybe is o found)
-among_failed s made SyncOpen at is o found = inr found
-among_failed s made Done at is o found = inr found
+  module _ (state : DeviceState) (shut : s.closed ≡ plan.closed) where
+    -- the device rests where the save is given up
+    pub rests_given_up : (step : Step) (tried : Bool) → step ≢ Done → SavingAt candidates image plan made.memory step tried state
+        → HoldsWhile (store_given_up s made step tried).saving None lines (store_given_up s made step tried) state
+    rests_given_up Close false going saving = rests_in lines s candidates image made plan p n state (store_given_up s made Close false) refl refl refl Close false going shut among saving
+    rests_given_up Close true going saving = rests_in lines s candidates image made plan p n state (store_given_up s made Close true) refl refl refl Close true going shut among saving
+    rests_given_up SyncClosed false going saving = rests_in lines s candidates image made plan p n state (store_given_up s made SyncClosed false) refl refl refl SyncClosed false going shut among saving
+    rests_given_up SyncClosed true going saving = rests_in lines s candidates image made plan p n state (store_given_up s made SyncClosed true) refl refl refl SyncClosed true going shut among saving
+    rests_given_up Open true going saving = rests_in lines s candidates image made plan p n state (store_given_up s made Open true) refl refl refl Open true going refl both saving
+    rests_given_up SyncOpen false going saving = rests_in lines s candidates image made plan p n state (store_given_up s made SyncOpen false) refl refl refl SyncOpen false going refl both saving
+    rests_given_up SyncOpen true going saving = rests_in lines s candidates image made plan p n state (store_given_up s made SyncOpen true) refl refl refl SyncOpen true going refl both saving
+    rests_given_up Done tried going saving = absurd (going refl)
+    rests_given_up step false going saving = rests_in lines s candidates image made plan p n state (store_given_up s made step false) refl refl refl step false going refl alone saving
+    rests_given_up step true going saving = rests_in lines s candidates image made plan p n state (store_given_up s made step true) refl refl refl step true going refl alone saving

@@ -1,198 +1,191 @@
 -- The loss of mains: the module and its device afterwards.
-use Rattle.std.proofs.Common.{◌≡◌, ◌⊎◌, ℕ, [], true, false, refl, sym, ◌∙◌, ap, subst, inl}
-use Rattle.std.specs.Prelude.{Result, Option, Some, None}
-use Rattle.line_memory.specs.Memory.{IsMemory}
-use Rattle.save_image.specs.Image.{Image}
-use Rattle.save_device.specs.Device.{DeviceState, present, StopsWithin}
-use Rattle.save_device.proofs.Moments.{started, weaker}
-use Rattle.slot_store.specs.declared.plan.Newest.{Newest}
-use Rattle.slot_store.specs.declared.saving.SaveRun.{SaveRun}
-use Rattle.slot_store.specs.Outcomes.{restored}
-use Rattle.slot_store.specs.Rest.{IsAmong}
-use Rattle.arm_state.specs.declared.mode.Mode.{Mode}
-use Rattle.arm_state.specs.declared.mode.Mode.TheVariants as modes
-use Rattle.arm_state.specs.Modes.{is_backed, has_ended}
-use Rattle.energy_budget.specs.declared.costs.Costs.{Costs}
-use Rattle.energy_budget.specs.Gauge.{Gauge}
-use Rattle.line_channels.specs.declared.channels.Channels.{Ghosts}
-use Rattle.line_channels.specs.View.{Shape, ChannelsView}
-use Rattle.line_channels.specs.Memory.{Keeps}
-use Rattle.module_core.specs.declared.closing.Cut.{Cut}
-use Rattle.module_core.specs.declared.events.Event.TheVariants as events
-use Rattle.module_core.specs.declared.events.Reply.TheVariants as replies
 use Rattle.arm_state.specs.declared.loss.Loss.{Loss}
+use Rattle.channel_set.specs.Carrying.{CarriesAll, KeepsAll}
+use Rattle.channel_set.specs.declared.set.ChannelSet.{ChannelSet}
+use Rattle.line_memory.specs.declared.Write.{Write}
+use Rattle.module_core.specs.Closing.{ClosesChannels, ClosingAt, closing_at}
+use Rattle.module_core.specs.Stands.{EndsMains, EndsHoldAndReads, SameNumbers}
+use Rattle.slot_store.specs.Finishing.{Finish}
+use Rattle.slot_store.specs.declared.source.BrokenOff.{BrokenOff}
+use Rattle.nv_machine.proofs.GuardLaws.{for_none}
+use Rattle.nv_machine.proofs.Leaving.{left_within}
+use Rattle.nv_machine.specs.Losses.{LoseStep}
 use Rattle.arm_state.specs.declared.loss.Loss.TheVariants as loss
-use Rattle.module_core.specs.declared.module.Module.{Module}
-use Rattle.module_core.specs.declared.saves.Saves.{Saves}
-use Rattle.module_core.specs.State.{Store, Machine, made_of, begun_save, base_of_life, start_of_life, memory_of, hold_of}
-use Rattle.module_core.specs.Losses.{LoseStep}
-use Rattle.module_core.specs.Moves.{closed_unsaved}
-use Rattle.module_core.specs.Device.{Holds, HoldsWhile, IsResting}
-use Rattle.module_core.specs.Begins.{Begins, ReachesStore}
-use Rattle.module_core.specs.Closing.{IsReadyToClose, ClosesChannels}
-use Rattle.module_core.specs.Headline.{Happens}
-use Rattle.module_core.specs.Stands.{Matches, ModuleStands, EndsMains, SameButSaves, setup_of, point_of}
-use Rattle.module_core.proofs.GuardLaws.{for_none}
-use Rattle.module_core.proofs.StoreSteps.{stop_now, at_rest}
-use Rattle.module_core.proofs.RunningSaves.{holds_runs}
+use Rattle.arm_state.specs.declared.mode.Mode.TheVariants as modes
+use Rattle.slot_store.specs.declared.source.BrokenOff.TheVariants as broken
+use Rattle.nv_machine.specs.declared.events.Event.TheVariants as events
+use Rattle.nv_machine.specs.declared.events.Reply.TheVariants as replies
+use Rattle.module_core.proofs.Common.{[], ℕ, ◌∙◌, ◌≡◌, Assembly, BeginsSave, ChannelsView, Err, Gauge, Ghosts, HappensAt, HoldsWhile, Image, IsAmong, IsMemory, IsReadyToClose, IsResting, List, Machine, Matches, Mode, Module, ModuleStands, Newest, None, Ok, Option, ReachesStore, ReadsLevel, SaveRun, Shape, Some, StopsWithin, Store, Waits, after, ap, assembly, base_of_life, begun, begun_save, false, has_ended, hold_of, inl, is_backed, lines_of_module, made_of, memory_of, point_of, present, refl, restored, rules, saved_in, saves_at, setup_of, shape_of, start_of_life, started, subst, sym, true, view_of, weaker, world_of}
+use Rattle.module_core.proofs.Applying.{asked, same_setup}
 use Rattle.module_core.proofs.Knowing.{holds_begun}
-use Rattle.module_core.proofs.Leaving.{left_within}
-use Rattle.module_core.proofs.Continuing.{continues_lose}
-use Rattle.module_core.proofs.Applying.{asked}
+use Rattle.module_core.proofs.LossSteps.{all_saved, dark, fault, saved_on}
+use Rattle.module_core.proofs.RunningSaves.{holds_runs}
+use Rattle.module_core.proofs.StoreSteps.{at_rest, stop_now}
 
 -- neither ended nor backed
 disarmed_mode : (mode : Mode) → has_ended mode ≡ false → is_backed mode ≡ false → mode ≡ modes.Disarmed
-disarmed_mode modes.Disarmed on calm = refl
-disarmed_mode modes.Armed on calm = absurd (let bad : ⊥ = cc in bad)
-disarmed_mode modes.Disarming on calm = absurd (let bad : ⊥ = cc in bad)
-disarmed_mode modes.Stranded on calm = absurd (let bad : ⊥ = cc in bad)
-disarmed_mode modes.Closing on calm = absurd (let bad : ⊥ = cc in bad)
-disarmed_mode modes.Saved on calm = absurd (let bad : ⊥ = cc in bad)
+disarmed_mode mode on calm = search rules
 
-module _ {C : Type 0} (L : Ghosts C) where
+module _ {K : Type 0} (L : Ghosts K) where
   -- Mains were lost after this reading; the life goes no further.
-  pub record IsLost (old new : Module C L) (reading : ℕ) (mode : Mode) : Type 0 where
-    pub lines : new.lines ≡ old.lines
-    pub start : new.start ≡ old.start
-    pub accepted : new.accepted ≡ old.accepted
-    pub persisted : new.persisted ≡ old.persisted
+  pub record IsLost (old new : Module K L) (reading : ℕ) (mode : Mode) : Type 0 where
+    pub numbers : SameNumbers L old new
     pub shown : new.reading ≡ reading
     pub mode_is : new.mode ≡ mode
-    pub keeps : Keeps (L.carries old.channels) (L.carries new.channels)
-    pub hold : (L.view new.channels).hold ≡ None
+    pub keeps : KeepsAll L old.channels new.channels
+    pub shape : shape_of L new.channels ≡ shape_of L old.channels
+    pub hold : (view_of L new.channels).hold ≡ None
 
-  pub is_lost : (old begun done : Module C L) (reading : ℕ) → EndsMains L reading old begun → SameButSaves L begun done
-      → L.view done.channels ≡ record (L.view begun.channels) { waits = (L.view done.channels).waits; drained = (L.view done.channels).drained; array = (L.view done.channels).array }
-      → IsLost old done reading modes.Closing
-  is_lost old begun done reading ends same rest = record {
-    lines = same.lines ∙ ends.lines;
-    start = same.start ∙ ends.start;
-    accepted = same.accepted ∙ ends.accepted;
-    persisted = same.persisted ∙ ends.persisted;
-    shown = same.reading ∙ ends.shown;
-    mode_is = same.mode ∙ ends.mode;
-    keeps = λ base start writes carries. same.keeps base start writes (ends.channels.keeps base start writes carries);
-    hold = ap (λ (v : ChannelsView). v.hold) rest ∙ ap (λ (v : ChannelsView). v.hold) ends.channels.is;
+  -- the hold ends, then all reads are lost
+  pub loses_reads : (old mid new : ChannelSet K L) → view_of L mid ≡ record (view_of L old) { hold = None } → (view_of L new).waits ≡ record (view_of L mid).waits { reads = [] }
+      → view_of L new ≡ record (view_of L mid) { waits = (view_of L new).waits } → KeepsAll L old mid → KeepsAll L mid new → EndsHoldAndReads L old new
+  loses_reads old mid new held reads rest first second = record {
+    is = rest ∙ ap (λ (w : Waits). record (view_of L mid) { waits = w }) reads ∙ ap (λ (v : ChannelsView). record v { waits = record v.waits { reads = [] } }) held;
+    keeps = λ base start writes carries. second base start writes (first base start writes carries);
   }
 
-  module _ (old : Module C L) (m : Machine) (device : DeviceState) (stands : ModuleStands L old device m) where
+  module _ (old : Assembly L) (m : Machine) (stands : ModuleStands L old.it old.device m) where
     -- before the first drain
-    module _ (begun : Module C L) (reading : ℕ) (ends : EndsMains L reading old begun) (begins : Begins old.saves old.accepted false old.lines begun.saves) where
-      pub ready : IsReadyToClose begun.lines m.store (made_of false m) begun.saves device
-      ready =
-          let h = stands.matches in let made : Image = made_of false m in let s : Store = m.store in
-          let all : Begins old.saves made.count false old.lines begun.saves = subst (λ (k : ℕ). Begins old.saves k false old.lines begun.saves) h.accepted begins in
-          record {
-            knows = record {
-              slot = ap (λ (x : Newest). x.slot) all.newest ∙ h.knows.slot;
-              generation = ap (λ (x : Newest). x.generation) all.newest ∙ h.knows.generation;
-              shut = all.closed ∙ h.knows.shut;
-              open_end = all.unsettled ∙ h.knows.open_end;
-            };
-            holds = subst (λ (k : ℕ). HoldsWhile (Some (begun_save made)) begun.saves.saving k (record s { saving = Some (begun_save made) }) device) (sym ends.lines)
-                (holds_begun old.lines s device old.saves.saving old.saves begun.saves made false stands.holds h.knows all refl refl h.memory);
-          }
+    ready : (begun : Module K L) (reading : ℕ) → EndsMains L reading old.it begun → BeginsSave old.it.saves old.it.accepted false (lines_of_module L old.it) begun.saves
+        → IsReadyToClose (lines_of_module L begun) m.store (made_of false m) begun.saves old.device
+    ready begun reading ends begins =
+        let h = stands.matches in let made : Image = made_of false m in let s : Store = m.store in let lines : ℕ = lines_of_module L old.it in
+        let all : BeginsSave old.it.saves made.count false lines begun.saves = subst (λ (k : ℕ). BeginsSave old.it.saves k false lines begun.saves) h.accepted begins in
+        let same : lines_of_module L begun ≡ lines = ap (λ (v : ChannelsView). v.shape.lines) ends.channels.is in
+        record {
+          knows = record {
+            slot = ap (λ (x : Newest). x.slot) all.newest ∙ h.knows.slot;
+            generation = ap (λ (x : Newest). x.generation) all.newest ∙ h.knows.generation;
+            shut = all.closed ∙ h.knows.shut;
+            open_end = all.unsettled ∙ h.knows.open_end;
+          };
+          holds = subst (λ (k : ℕ). HoldsWhile (Some (begun_save made)) begun.saves.saving k (record s { saving = Some (begun_save made) }) old.device) (sym same)
+              (holds_begun lines s old.device old.it.saves.saving old.it.saves begun.saves made false stands.holds h.knows all refl refl h.memory);
+        }
 
-      pub carried : L.carries begun.channels (base_of_life m.life) (start_of_life m.life) m.life.writes
-      carried = ends.channels.keeps (base_of_life m.life) (start_of_life m.life) m.life.writes stands.matches.carried.carries
-
-      pub shape : (L.view begun.channels).shape ≡ (setup_of L old).shape
-      shape = ap (λ (v : ChannelsView). v.shape) ends.channels.is
-
-      pub waiting : (L.view begun.channels).waits.writes ≡ m.waits.writes
-      waiting = ap (λ (v : ChannelsView). v.waits.writes) ends.channels.is ∙ stands.matches.carried.writes
-
-      -- the closing, as the setup names it
-      pub closes_here : (result : Result (Unit {0}) Cut) (new : ChannelsView) (saves : Saves) (device' : DeviceState) (ticked later : Gauge)
-          → ClosesChannels begun.lines begun.costs m.store (made_of false m) result (L.view begun.channels) device ticked new saves device' later
-          → ClosesChannels (setup_of L old).shape.lines (setup_of L old).shape.costs m.store (made_of false m) result (L.view begun.channels) device ticked new saves device' later
-      closes_here result new saves device' ticked later closes =
-          subst (λ (k : ℕ). ClosesChannels k (setup_of L old).shape.costs m.store (made_of false m) result (L.view begun.channels) device ticked new saves device' later) (ends.lines ∙ old.sized)
-          (subst (λ (x : Costs). ClosesChannels begun.lines x m.store (made_of false m) result (L.view begun.channels) device ticked new saves device' later) (ends.costs ∙ old.priced) closes)
-
-      pub same_setup : setup_of L begun ≡ setup_of L old
-      same_setup = ap (λ (s : Shape). record { shape = s; trail = begun.trail }) shape ∙ ap (λ (k : ℕ). record { shape = (setup_of L old).shape; trail = k }) ends.trail
-
-    pub here : StopsWithin (λ image. IsAmong m.store.maybe (restored (setup_of L old).shape.lines image)) (present device)
-    here image left = subst (λ (k : ℕ). IsAmong m.store.maybe (restored k image)) old.sized (stop_now old.lines m.store old.saves.saving device stands.holds image left)
+    here : StopsWithin (λ bytes. IsAmong m.store.maybe (restored (lines_of_module L old.it) bytes)) (present old.device)
+    here bytes left = stop_now (lines_of_module L old.it) m.store old.it.saves.saving old.device stands.holds bytes left
 
     -- afterwards
-    module _ (new : Module C L) (reading : ℕ) (mode : Mode) (ended : has_ended mode ≡ true) (lost : IsLost old new reading mode) (reply : Loss) (store : Store) (none : store.saving ≡ None) (device' : DeviceState)
-        (makes : ReachesStore (setup_of L old).shape.lines m.store store device new.saves device') where
+    module _ (new : Assembly L) (reading : ℕ) (mode : Mode) (ended : has_ended mode ≡ true) (lost : IsLost old.it new.it reading mode) (reply : Loss) (store : Store) (none : store.saving ≡ None)
+        (makes : ReachesStore (lines_of_module L old.it) m.store store old.device new.it.saves new.device) where
       abbrev after_loss : Machine
-      after_loss = record { mode = mode; reading = reading; lost = Some reply; life = m.life; waits = record { writes = (L.view new.channels).waits.writes; reads = [] }; store = store }
+      after_loss = record { mode = mode; reading = reading; lost = Some reply; life = m.life; waits = (view_of L new.it.channels).waits; store = store }
 
-      matches : Matches L new after_loss
+      matches : Matches L new.it after_loss
       matches =
           let h = stands.matches in
           record {
             mode = lost.mode_is;
             reading = lost.shown;
-            start = lost.start ∙ h.start;
-            accepted = lost.accepted ∙ h.accepted;
-            persisted = lost.persisted ∙ h.persisted;
+            start = ap (λ t. t.start) lost.numbers.terms ∙ h.start;
+            accepted = lost.numbers.accepted ∙ h.accepted;
+            persisted = lost.numbers.persisted ∙ h.persisted;
             knows = makes.knows;
-            saving = holds_runs (setup_of L old).shape.lines store device' store.saving new.saves.saving makes.holds;
-            memory = subst (λ (k : ℕ). IsMemory k (memory_of m)) (sym lost.lines) h.memory;
+            saving = holds_runs (lines_of_module L old.it) store new.device store.saving new.it.saves.saving makes.holds;
+            memory = subst (λ (s : Shape). IsMemory s.lines (memory_of m)) (sym lost.shape) h.memory;
             carried = record {
               carries = lost.keeps (base_of_life m.life) (start_of_life m.life) m.life.writes h.carried.carries;
-              waits = λ runs. absurd (let bad : ⊥ = cc in bad);
-              writes = refl;
-              lost = λ is. refl;
+              waits = refl;
               hold = lost.hold ∙ sym (ap hold_of none);
               held = for_none (hold_of store.saving) _ (ap hold_of none);
             };
           }
 
-      pub answers_loss : (before later : Gauge) → setup_of L new ≡ setup_of L old
-          → LoseStep (setup_of L old) reply (record { machine = m; device = device; gauge = before }) (record { machine = after_loss; device = device'; gauge = later })
-          → (n : Machine) × ModuleStands L new device' n × Happens L (setup_of L old) events.Lose (replies.Lose reply) (point_of L old m device before) (point_of L new n device' later)
-      answers_loss before later same step =
-          asked L events.Lose (replies.Lose reply) old new device device' before later same m stands after_loss step matches
-          (subst (λ (k : ℕ). Holds k store new.saves.saving device') (sym old.sized) makes.holds) tt
-          (weaker device device' (λ image either guarded.
-          left_within (replies.Lose reply) m after_loss refl stands.guarded guarded
-          (continues_lose (setup_of L old) reply (record { machine = m; device = device; gauge = before }) (record { machine = after_loss; device = device'; gauge = later }) step stands.guarded) (restored old.lines image)
-          (subst (λ (k : ℕ). IsAmong m.store.maybe (restored k image) ⊎ IsAmong store.maybe (restored k image)) (sym old.sized) either))
+      answers_loss : LoseStep (setup_of L old.it) reply (world_of L old m) (world_of L new after_loss)
+          → (n : Machine) × ModuleStands L new.it new.device n × HappensAt L (setup_of L old.it) events.Lose (replies.Lose reply) (point_of L old m) (point_of L new n)
+      answers_loss step =
+          asked L events.Lose (replies.Lose reply) old new (same_setup L old.it.channels new.it.channels old.it.terms new.it.terms lost.shape lost.numbers.terms) m stands after_loss step matches makes.holds tt
+          (weaker old.device new.device (λ bytes either guarded.
+          left_within (setup_of L old.it) events.Lose (replies.Lose reply) (world_of L old m) (world_of L new after_loss) step stands.guarded refl refl (restored (lines_of_module L old.it) bytes) either)
           makes.moments)
 
     -- where nothing is backed nothing is saved
-    pub answers_unsaved : (new : Module C L) (gauge : Gauge) → EndsMains L old.reading old new → new.saves.saving ≡ None → new.saves.newest ≡ old.saves.newest → new.saves.closed ≡ old.saves.closed → new.saves.unsettled ≡ old.saves.unsettled
+    pub answers_unsaved : (new : Module K L) → EndsMains L old.it.reading old.it new → new.saves.saving ≡ None → new.saves.newest ≡ old.it.saves.newest → new.saves.closed ≡ old.it.saves.closed → new.saves.unsettled ≡ old.it.saves.unsettled
         → has_ended m.mode ≡ false → is_backed m.mode ≡ false
-        → (n : Machine) × ModuleStands L new device n × Happens L (setup_of L old) events.Lose (replies.Lose loss.Unsaved) (point_of L old m device gauge) (point_of L new n device gauge)
-    answers_unsaved new gauge ends none newest closed unsettled on calm =
-        let h = stands.matches in let n : Machine = closed_unsaved m in
-        let step : LoseStep (setup_of L old) loss.Unsaved (record { machine = m; device = device; gauge = gauge }) (record { machine = n; device = device; gauge = gauge }) = (disarmed_mode m.mode on calm, refl) in
-        let here : IsResting old.lines m.store device = at_rest old.lines m.store device m.store.saving old.saves.saving stands.holds in
-        let rests : IsResting old.lines n.store device = record { candidates = here.candidates; image = here.image; newest = here.newest; rest = here.rest; among = here.among } in
-        let holds : Holds old.lines n.store new.saves.saving device = subst (λ (o : Option SaveRun). HoldsWhile None o old.lines n.store device) (sym none) rests in
-        let shape : (L.view new.channels).shape ≡ (setup_of L old).shape = ap (λ (v : ChannelsView). v.shape) ends.channels.is in
-        asked L events.Lose (replies.Lose loss.Unsaved) old new device device gauge gauge
-        (ap (λ (s : Shape). record { shape = s; trail = new.trail }) shape ∙ ap (λ (k : ℕ). record { shape = (setup_of L old).shape; trail = k }) ends.trail) m stands n step
-        (record {
-          mode = ends.mode;
-          reading = ends.shown ∙ h.reading;
-          start = ends.start ∙ h.start;
-          accepted = ends.accepted ∙ h.accepted;
-          persisted = ends.persisted ∙ h.persisted;
+        → (n : Machine) × ModuleStands L new old.device n × HappensAt L (setup_of L old.it) events.Lose (replies.Lose loss.Unsaved) (point_of L old m) (point_of L (assembly new old.device old.gauge) n)
+    answers_unsaved new ends none newest closed unsettled on calm =
+        let h = stands.matches in let lines : ℕ = lines_of_module L old.it in let store : Store = record m.store { saving = None } in
+        let lost : IsLost old.it new m.reading modes.Closing = record {
+          numbers = ends.numbers;
+          shown = ends.shown ∙ h.reading;
+          mode_is = ends.mode;
+          keeps = ends.channels.keeps;
+          shape = ap (λ (v : ChannelsView). v.shape) ends.channels.is;
+          hold = ap (λ (v : ChannelsView). v.hold) ends.channels.is;
+        } in
+        let rest : IsResting lines m.store old.device = at_rest lines m.store old.device m.store.saving old.it.saves.saving stands.holds in
+        let rests : IsResting lines store old.device = record { candidates = rest.candidates; image = rest.image; newest = rest.newest; rest = rest.rest; among = rest.among } in
+        let makes : ReachesStore lines m.store store old.device new.saves old.device = record {
           knows = record {
             slot = ap (λ (x : Newest). x.slot) newest ∙ h.knows.slot;
             generation = ap (λ (x : Newest). x.generation) newest ∙ h.knows.generation;
             shut = closed ∙ h.knows.shut;
             open_end = unsettled ∙ h.knows.open_end;
           };
-          saving = holds_runs old.lines n.store device None new.saves.saving holds;
-          memory = subst (λ (k : ℕ). IsMemory k (memory_of m)) (sym ends.lines) h.memory;
-          carried = record {
-            carries = ends.channels.keeps (base_of_life m.life) (start_of_life m.life) m.life.writes h.carried.carries;
-            waits = λ runs. absurd (let bad : ⊥ = cc in bad);
-            writes = ap (λ (v : ChannelsView). v.waits.writes) ends.channels.is ∙ h.carried.writes;
-            lost = λ is. refl;
-            hold = ap (λ (v : ChannelsView). v.hold) ends.channels.is;
-            held = for_none None _ refl;
-          };
-        }) holds tt
-        (started device (λ image left guarded.
-        left_within (replies.Lose loss.Unsaved) m n refl stands.guarded guarded
-        (continues_lose (setup_of L old) loss.Unsaved (record { machine = m; device = device; gauge = gauge }) (record { machine = n; device = device; gauge = gauge }) step stands.guarded)
-        (restored old.lines image) (inl (stop_now old.lines m.store old.saves.saving device stands.holds image left))))
+          holds = subst (λ (o : Option SaveRun). HoldsWhile None o lines store old.device) (sym none) rests;
+          moments = started old.device (λ bytes left. inl (here bytes left));
+        } in
+        let waits : (view_of L new.channels).waits ≡ record m.waits { reads = [] } = ap (λ (v : ChannelsView). v.waits) ends.channels.is ∙ ap (λ (w : Waits). record w { reads = [] }) h.carried.waits in
+        answers_loss (assembly new old.device old.gauge) m.reading modes.Closing refl lost loss.Unsaved store refl makes (
+          disarmed_mode m.mode on calm,
+          ap (λ (w : Waits). record { machine = record { mode = modes.Closing; reading = m.reading; lost = Some loss.Unsaved; life = m.life; waits = w; store = store }; device = old.device; gauge = old.gauge }) waits,
+        )
+
+    -- After a tick a save of all was begun; then the channels were drained and the save was made, or both were broken off.
+    module _ (on : is_backed old.it.mode ≡ true) (reading : ℕ) (ticked : Gauge) (reads : ReadsLevel old.gauge reading ticked) (begun : Module K L) (ends : EndsMains L reading old.it begun)
+        (begins : BeginsSave old.it.saves old.it.accepted false (lines_of_module L old.it) begun.saves)
+        (new : Assembly L) (numbers : SameNumbers L begun new.it) (shown : new.it.reading ≡ begun.reading) (keeps : KeepsAll L begun.channels new.it.channels) where
+      abbrev emptied : ChannelsView
+      emptied = record (view_of L old.it.channels) { hold = None; waits = record (view_of L old.it.channels).waits { reads = [] } }
+
+      abbrev first : ClosingAt
+      first = record { channels = emptied; at = saves_at begun.saves old.device ticked }
+
+      -- what closing ensures
+      abbrev Closes : Finish → Type 0
+      Closes result =
+          (s : Store) (made : Image) (base : List (List ℕ)) (start : ℕ) (writes : List Write) → IsReadyToClose (lines_of_module L begun) s made begun.saves old.device → CarriesAll L begun.channels base start writes
+          → after base writes ≡ made.memory → ClosesChannels s made result (closing_at (assembly begun old.device ticked)) (closing_at new)
+
+      abbrev IsAnswered : Loss → Type 0
+      IsAnswered reply = (n : Machine) × ModuleStands L new.it new.device n × HappensAt L (setup_of L old.it) events.Lose (replies.Lose reply) (point_of L old m) (point_of L new n)
+
+      closed : (result : Finish) → Closes result → ClosesChannels m.store (made_of false m) result first (closing_at new)
+      closed result closes =
+          subst (λ (v : ChannelsView). ClosesChannels m.store (made_of false m) result (record { channels = v; at = saves_at begun.saves old.device ticked }) (closing_at new)) ends.channels.is
+          (closes m.store (made_of false m) (base_of_life m.life) (start_of_life m.life) m.life.writes (ready begun reading ends begins)
+          (ends.channels.keeps (base_of_life m.life) (start_of_life m.life) m.life.writes stands.matches.carried.carries) refl)
+
+      backed : is_backed m.mode ≡ true
+      backed = ap is_backed (sym stands.matches.mode) ∙ on
+
+      writes : emptied.waits.writes ≡ m.waits.writes
+      writes = ap (λ (w : Waits). w.writes) stands.matches.carried.waits
+
+      lost : (mode : Mode) → new.it.mode ≡ mode → view_of L new.it.channels ≡ record emptied { waits = (view_of L new.it.channels).waits; array = (view_of L new.it.channels).array } → IsLost old.it new.it reading mode
+      lost mode is rest = record {
+        numbers = record { terms = numbers.terms ∙ ends.numbers.terms; accepted = numbers.accepted ∙ ends.numbers.accepted; persisted = numbers.persisted ∙ ends.numbers.persisted };
+        shown = shown ∙ ends.shown;
+        mode_is = is;
+        keeps = λ base start all carries. keeps base start all (ends.channels.keeps base start all carries);
+        shape = ap (λ (v : ChannelsView). v.shape) rest;
+        hold = ap (λ (v : ChannelsView). v.hold) rest;
+      }
+
+      pub answers_saved : new.it.mode ≡ modes.Saved → Closes (Ok tt) → IsAnswered (loss.Saved new.it.saves.newest.generation new.it.accepted)
+      answers_saved is closes =
+          let on = saved_on old.it.terms.trail m old.gauge reading first (closing_at new) reads backed writes refl (closed (Ok tt) closes) in let reply : Loss = loss.Saved new.it.saves.newest.generation new.it.accepted in
+          answers_loss new reading modes.Saved refl (lost modes.Saved is on.1.rest) reply (saved_in m.store (made_of false m)) refl on.2.makes
+          (all_saved old.it.terms.trail m old.gauge reading first (closing_at new) reads backed writes refl new.it.saves.newest.generation new.it.accepted on.2.makes.knows.generation
+          (numbers.accepted ∙ ends.numbers.accepted ∙ stands.matches.accepted) on.0 on.1 on.2)
+
+      pub answers_dark : new.it.mode ≡ begun.mode → (cause : BrokenOff) → cause ≡ broken.Refused → Closes (Err cause) → IsAnswered loss.Dark
+      answers_dark is cause why closes =
+          let short = dark old.it.terms.trail m old.gauge reading first (closing_at new) reads backed writes refl here (closed (Err broken.Refused) (subst (λ (x : BrokenOff). Closes (Err x)) why closes)) in
+          answers_loss new reading modes.Closing refl (lost modes.Closing (is ∙ ends.mode) short.rest) loss.Dark short.store short.none short.makes short.step
+
+      pub answers_fault : new.it.mode ≡ begun.mode → (cause : BrokenOff) → cause ≡ broken.Fault → Closes (Err cause) → IsAnswered loss.Fault
+      answers_fault is cause why closes =
+          let short = fault old.it.terms.trail m old.gauge reading first (closing_at new) reads backed writes refl (closed (Err broken.Fault) (subst (λ (x : BrokenOff). Closes (Err x)) why closes)) in
+          answers_loss new reading modes.Closing refl (lost modes.Closing (is ∙ ends.mode) short.rest) loss.Fault short.store short.none short.makes short.step

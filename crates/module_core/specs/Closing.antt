@@ -1,31 +1,37 @@
 -- The parts of a closing save: the drains, and the save that follows, each action of it paid for first.
-use Rattle.std.specs.Prelude.{◌≡◌, ◌⊎◌, ℕ, ◌+◌, false, List, [], ◌∷◌, ◌++◌, take, slice_get, OnOk, Result, Ok, Err, Some, None}
-use Rattle.std.specs.List.{flat_map}
+use Rattle.std.specs.Prelude.{◌≡◌, ◌⊎◌, ℕ, ◌+◌, List, take, slice_get, Result, Ok, Err, Some, None}
 use Rattle.save_device.specs.declared.calls.CallKind.{CallKind}
-use Rattle.save_device.specs.Calls.{called, all_good}
 use Rattle.save_device.specs.Device.{DeviceState}
 use Rattle.save_image.specs.Image.{Image}
 use Rattle.slot_store.specs.declared.plan.Step.{Step}
 use Rattle.slot_store.specs.declared.plan.Step.TheVariants.{Close, Header, Page, Open}
 use Rattle.slot_store.specs.Steps.{calls_left}
+use Rattle.slot_store.specs.Finishing.{CallsFor, Finish}
 use Rattle.energy_budget.specs.declared.action.Action.{Action}
 use Rattle.energy_budget.specs.declared.action.Action.TheVariants as actions
 use Rattle.energy_budget.specs.declared.costs.Costs.{Costs}
 use Rattle.energy_budget.specs.declared.energy.Dark.{Dark}
-use Rattle.energy_budget.specs.Actions.{cost_of, drain_actions, save_actions}
+use Rattle.energy_budget.specs.Actions.{cost_of, save_actions}
 use Rattle.energy_budget.specs.Gauge.{Gauge, PaysCost}
-use Rattle.line_channels.specs.Waits.{Remain, nothing}
-use Rattle.line_channels.specs.View.{ChannelsView}
-use Rattle.line_channels.specs.Draining.{Paid, PaysInTurn}
-use Rattle.module_core.specs.declared.closing.Cut.{Cut}
-use Rattle.module_core.specs.declared.closing.Cut.TheVariants as cut
+use Rattle.channel_port.specs.declared.port.ChannelPort.{Ghosts}
+use Rattle.channel_port.specs.Shape.{Shape}
+use Rattle.channel_set.specs.Set.{ChannelsView, shape_of, view_of}
+use Rattle.channel_set.specs.Carrying.{CarriesAll}
+use Rattle.channel_set.specs.Draining.{DrainsAll}
+use Rattle.line_memory.specs.declared.Write.{Write}
+use Rattle.line_memory.specs.Memory.{after}
+use Rattle.channel_port.specs.Draining.{PaysInTurn}
+use Rattle.slot_store.specs.declared.source.BrokenOff.TheVariants as broken
+use Rattle.slot_store.specs.declared.source.Refused.{Refused}
+use Rattle.slot_store.specs.declared.source.SaveSource
+use Rattle.module_core.specs.declared.closing.PaidArrays.{PaidArrays}
 use Rattle.module_core.specs.declared.saves.Saves.{Saves}
-use Rattle.module_core.specs.State.{Store, begun_save}
-use Rattle.module_core.specs.Moves.{step_failed, saved_in, after_steps}
-use Rattle.module_core.specs.Losses.{pending_each}
+use Rattle.nv_machine.specs.State.{Store, begun_save}
+use Rattle.nv_machine.specs.Moves.{step_failed, saved_in, after_steps}
 use Rattle.module_core.specs.Device.{Holds}
 use Rattle.module_core.specs.Saving.{Knows}
-use Rattle.module_core.specs.Begins.{ReachesStore}
+use Rattle.module_core.specs.Saves.{ReachesStore}
+use Rattle.module_core.specs.Stands.{Assembly, lines_of_module}
 
 -- what is paid for a step of a save
 abbrev pub action_of : Step → Action
@@ -35,20 +41,41 @@ action_of (Page k) = actions.WritePage
 action_of Open = actions.OpenGate
 action_of step = actions.Sync
 
--- the drains of the channels, one after another, were paid for, or a payment was refused
-pub record DrainsAll (old : ChannelsView) (before : Gauge) (result : Paid) (new : ChannelsView) (later : Gauge) : Type 0 where
-  pub pays : PaysInTurn old.shape.costs (flat_map drain_actions (pending_each old.shape.channel_of old.shape.channels old.waits.writes)) before result later
-  pub rest : new ≡ record old { waits = new.waits; drained = new.drained; array = new.array }
-  pub remain : Remain old.waits.writes new.waits.writes
-  pub dry : OnOk result (new.waits ≡ nothing)
+-- a step was paid for, or refused since its payment was
+abbrev pub PaysFor : Costs → Step → Gauge → Result (Unit {0}) Refused → Gauge → Type 0
+PaysFor costs step old (Ok granted) new = PaysCost old (cost_of costs (action_of step)) (Ok tt) new
+PaysFor costs step old (Err refused) new = (dark : Dark) × PaysCost old (cost_of costs (action_of step)) (Err dark) new
 
--- A payment for a drain was refused, so that no save was begun.
-pub record DarkInDrains (lines : ℕ) (s : Store) (old : ChannelsView) (before : DeviceState) (gauge : Gauge) (saves : Saves) (new : ChannelsView) (device : DeviceState) (later : Gauge) : Type 0 where
-  pub answer : Dark
-  pub drains : DrainsAll old gauge (Err answer) new later
-  pub unasked : device ≡ before
-  pub knows : Knows saves.newest saves.closed saves.unsettled s
-  pub holds : Holds lines (record s { saving = None }) saves.saving device
+-- the same, of the arrays that are saved: the same gauge pays, and the channels stay
+module _ {K E : Type 0} (L : Ghosts K) (gauge : E → Gauge) where
+  pub record PaysForStep (old : PaidArrays K E L) (step : Step) (result : Result (Unit {0}) Refused) (new : PaidArrays K E L) : Type 0 where
+    pub pays : PaysFor (shape_of L old.channels.now).costs step (gauge old.energy.now) result (gauge new.energy.now)
+    pub gauge_is : new.energy.ghost_name ≡ old.energy.ghost_name
+    pub channels : new.channels ≡ old.channels
+
+-- the channels, whose arrays are saved, and the gauge that pays for it
+pub record ArraysAt : Type 0 where
+  pub channels : ChannelsView
+  pub gauge : Gauge
+
+abbrev pub arrays_at : ChannelsView → Gauge → ArraysAt
+arrays_at channels gauge = record { channels = channels; gauge = gauge }
+
+-- as a source: each step is paid for first
+abbrev pub payments : SaveSource.Ghosts ArraysAt
+payments = record {
+  memory = λ arrays. arrays.channels.array;
+  asks = λ old step result new. PaysFor old.channels.shape.costs step old.gauge result new.gauge × (new.channels ≡ old.channels);
+}
+
+-- the saves of a module, with its device and its gauge
+pub record SavesAt : Type 0 where
+  pub saves : Saves
+  pub device : DeviceState
+  pub gauge : Gauge
+
+abbrev pub saves_at : Saves → DeviceState → Gauge → SavesAt
+saves_at saves device gauge = record { saves = saves; device = device; gauge = gauge }
 
 -- the device calls of the save
 abbrev pub calls_in : ℕ → Store → List CallKind
@@ -59,40 +86,68 @@ pub record IsReadyToClose (lines : ℕ) (s : Store) (made : Image) (saves : Save
   pub knows : Knows saves.newest saves.closed saves.unsettled s
   pub holds : Holds lines (record s { saving = Some (begun_save made) }) saves.saving state
 
--- The save that runs, of this image, was made to its end.
-pub record SavesOn (lines : ℕ) (costs : Costs) (s : Store) (made : Image) (before : DeviceState) (gauge : Gauge) (saves : Saves) (device : DeviceState) (later : Gauge) : Type 0 where
-  pub makes : ReachesStore lines s (saved_in s made) before saves device
-  pub calls : device.calls ≡ before.calls ++ all_good (calls_in lines s)
-  pub pays : PaysInTurn costs (save_actions costs.pages) gauge (Ok tt) later
+-- the store where a save of this image ends so, after so many of its steps
+abbrev pub store_at_end : ℕ → Store → Image → Finish → ℕ → Store
+store_at_end lines s made (Ok done) steps = saved_in s made
+store_at_end lines s made (Err broken.Refused) steps = record (after_steps lines s made steps).store { saving = None }
+store_at_end lines s made (Err broken.Fault) steps = let at = after_steps lines s made steps in step_failed at.store made at.next
 
--- After so many of its steps a payment was refused.
-pub record DarkAfter (lines : ℕ) (costs : Costs) (s : Store) (made : Image) (before : DeviceState) (gauge : Gauge) (saves : Saves) (device : DeviceState) (later : Gauge) : Type 0 where
-  pub steps : ℕ
-  pub makes : ReachesStore lines s (record (after_steps lines s made steps).1 { saving = None }) before saves device
-  pub calls : device.calls ≡ before.calls ++ all_good (take steps (calls_in lines s))
+-- so many of these were paid for, and the payment of the next one was refused
+pub record RefusedAfter (costs : Costs) (actions : List Action) (paid : ℕ) (old new : Gauge) : Type 0 where
   pub mid : Gauge
-  pub pays : PaysInTurn costs (take steps (save_actions costs.pages)) gauge (Ok tt) mid
+  pub pays : PaysInTurn costs (take paid actions) old (Ok tt) mid
   pub coming : Action
-  pub comes : slice_get (save_actions costs.pages) steps ≡ Some coming
+  pub comes : slice_get actions paid ≡ Some coming
   pub answer : Dark
-  pub refused : PaysCost mid (cost_of costs coming) (Err answer) later
+  pub refused : PaysCost mid (cost_of costs coming) (Err answer) new
 
--- After so many of its steps the device failed in the next one.
-pub record FaultAfter (lines : ℕ) (costs : Costs) (s : Store) (made : Image) (before : DeviceState) (gauge : Gauge) (saves : Saves) (device : DeviceState) (later : Gauge) : Type 0 where
+-- The payments of a save that ends so, after so many steps: all, those before one that was refused, or those up to the step in
+-- which the device failed.
+abbrev pub PaysUntil : Costs → List Action → Finish → ℕ → Gauge → Gauge → Type 0
+PaysUntil costs actions (Ok done) steps old new = PaysInTurn costs actions old (Ok tt) new
+PaysUntil costs actions (Err broken.Refused) steps old new = RefusedAfter costs actions steps old new
+PaysUntil costs actions (Err broken.Fault) steps old new = PaysInTurn costs (take (steps + 1) actions) old (Ok tt) new
+
+-- The save that runs, of this image, was made until its end, each step paid for first.
+pub record SavesClosing (shape : Shape) (s : Store) (made : Image) (finish : Finish) (old new : SavesAt) : Type 0 where
   pub steps : ℕ
-  pub makes : ReachesStore lines s (let at = after_steps lines s made steps in step_failed at.1 made at.0) before saves device
-  pub failed : CallKind
-  pub comes : slice_get (calls_in lines s) steps ≡ Some failed
-  pub calls : device.calls ≡ before.calls ++ all_good (take steps (calls_in lines s)) ++ called failed false ∷ []
-  pub pays : PaysInTurn costs (take (steps + 1) (save_actions costs.pages)) gauge (Ok tt) later
+  pub makes : ReachesStore shape.lines s (store_at_end shape.lines s made finish steps) old.device new.saves new.device
+  pub calls : CallsFor (calls_in shape.lines s) finish steps old.device.calls new.device.calls
+  pub pays : PaysUntil shape.costs (save_actions shape.costs.pages) finish steps old.gauge new.gauge
 
-abbrev pub SavesClosing : ℕ → Costs → Store → Image → Result (Unit {0}) Cut → DeviceState → Gauge → Saves → DeviceState → Gauge → Type 0
-SavesClosing lines costs s made (Ok done) before gauge saves device later = SavesOn lines costs s made before gauge saves device later
-SavesClosing lines costs s made (Err cut.Dark) before gauge saves device later = DarkAfter lines costs s made before gauge saves device later
-SavesClosing lines costs s made (Err cut.Fault) before gauge saves device later = FaultAfter lines costs s made before gauge saves device later
+-- whichever store the device held, where a save of the arrays was begun over it
+abbrev pub ClosesSave : ChannelsView → Finish → SavesAt → SavesAt → Type 0
+ClosesSave channels finish old new =
+    (s : Store) (made : Image) → IsReadyToClose channels.shape.lines s made old.saves old.device → channels.array ≡ made.memory
+    → SavesClosing channels.shape s made finish old new
 
--- The channels were drained and the save was made, or both until something cut them short.
-abbrev pub ClosesChannels : ℕ → Costs → Store → Image → Result (Unit {0}) Cut → ChannelsView → DeviceState → Gauge → ChannelsView → Saves → DeviceState → Gauge → Type 0
-ClosesChannels lines costs s made result old before gauge new saves device later =
-    ((result ≡ Err cut.Dark) × DarkInDrains lines s old before gauge saves new device later)
-    ⊎ ((mid : Gauge) × DrainsAll old gauge (Ok tt) new mid × SavesClosing lines costs s made result before mid saves device later)
+-- the channels as they are seen, with the saves, the device and the gauge
+pub record ClosingAt : Type 0 where
+  pub channels : ChannelsView
+  pub at : SavesAt
+
+-- A payment for a drain was refused, so that no save was begun.
+pub record DarkInDrains (s : Store) (old new : ClosingAt) : Type 0 where
+  pub answer : Dark
+  pub drains : DrainsAll old.channels old.at.gauge (Err answer) new.channels new.at.gauge
+  pub unasked : new.at.device ≡ old.at.device
+  pub knows : Knows new.at.saves.newest new.at.saves.closed new.at.saves.unsettled s
+  pub holds : Holds old.channels.shape.lines (record s { saving = None }) new.at.saves.saving new.at.device
+
+-- The channels were drained and the save was made, or both until something broke them off.
+abbrev pub ClosesChannels : Store → Image → Finish → ClosingAt → ClosingAt → Type 0
+ClosesChannels s made finish old new =
+    ((finish ≡ Err broken.Refused) × DarkInDrains s old new)
+    ⊎ ((mid : Gauge) × DrainsAll old.channels old.at.gauge (Ok tt) new.channels mid
+    × SavesClosing old.channels.shape s made finish (record old.at { gauge = mid }) new.at)
+
+module _ {K : Type 0} {L : Ghosts K} where
+  abbrev pub closing_at : Assembly L → ClosingAt
+  closing_at a = record { channels = view_of L a.it.channels; at = saves_at a.it.saves a.device a.gauge }
+
+  -- whichever store the device held, where a save of what the channels carry was begun over it
+  abbrev pub ClosesModule : Finish → Assembly L → Assembly L → Type 0
+  ClosesModule finish old new =
+      (s : Store) (made : Image) (base : List (List ℕ)) (start : ℕ) (writes : List Write) → IsReadyToClose (lines_of_module L old.it) s made old.it.saves old.device
+      → CarriesAll L old.it.channels base start writes → after base writes ≡ made.memory
+      → ClosesChannels s made finish (closing_at old) (closing_at new)

@@ -12,7 +12,7 @@ use Rattle.slot_store.specs.Rest.{Candidates, rearmed, IsAmong, IsAtRest}
 use Rattle.slot_store.specs.Changes.{closed_before}
 use Rattle.slot_store.specs.Saving.{candidates_before}
 use Rattle.slot_store.specs.Runs.{plan_of, next_of, tried_of, Saving}
-use Rattle.module_core.specs.State.{RunningSave, Store}
+use Rattle.nv_machine.specs.State.{RunningSave, Store}
 
 -- a read finds the newest image, with some arm byte, which is its own where only that one may stand
 pub record FindsNewest (maybe : Candidates) (image : Image) : Type 0 where

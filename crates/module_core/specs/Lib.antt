@@ -1,19 +1,12 @@
-pub mod State
-pub mod Refusals
-pub mod Moves
-pub mod Losses
-pub mod Machine
-pub mod Guard
-pub mod Headline
+-- the store of the machine, and what the module and its device know of it
 pub mod Device
 pub mod Saving
-pub mod Begins
+pub mod Saves
+-- which machine a module stands for, and what each of its calls answers
 pub mod Stands
-pub mod Closing
 pub mod Opening
-pub mod Lives
-pub mod Honesty
-pub mod Survival
+pub mod Stepping
+pub mod Closing
+-- what the laws say of modules
 pub mod ModuleLives
-pub mod Telling
 pub mod Rising

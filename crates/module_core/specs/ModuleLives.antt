@@ -1,82 +1,83 @@
 -- The lives of modules: what a module promises of the events that it answers is a life.
 use Rattle.std.specs.Prelude.{◌≡◌, ℕ, List, [], ◌∷◌, ◌++◌, Option, Some, None}
 use Rattle.save_image.specs.Image.{Image}
-use Rattle.save_device.specs.Device.{DeviceState, present, MayLeave}
-use Rattle.energy_budget.specs.Gauge.{Gauge}
-use Rattle.line_channels.specs.declared.channels.Channels.{Ghosts}
-use Rattle.module_core.specs.declared.events.Event.{Event}
-use Rattle.module_core.specs.declared.events.Reply.{Reply}
-use Rattle.module_core.specs.declared.module.Module.{Module}
+use Rattle.save_device.specs.Device.{present, MayLeave}
+use Rattle.channel_port.specs.declared.port.ChannelPort.{Ghosts}
+use Rattle.nv_machine.specs.declared.events.Event.{Event}
+use Rattle.nv_machine.specs.declared.events.Reply.{Reply}
+use Rattle.nv_machine.specs.State.{Machine, World}
+use Rattle.nv_machine.specs.Lives.{Unanswered, Lived, IsLived, IsLeftAt, moments_since}
 use Rattle.module_core.specs.declared.opening.Opened.{Opened}
-use Rattle.module_core.specs.State.{Machine}
-use Rattle.module_core.specs.Headline.{Point}
-use Rattle.module_core.specs.Opening.{new_life}
-use Rattle.module_core.specs.Stands.{ModuleStands, Answers, AnswersAll, setup_of, point_of}
-use Rattle.module_core.specs.Lives.{Unanswered, Lived, IsLived, IsLeftAt, moments_since}
+use Rattle.module_core.specs.Opening.{opened_with}
+use Rattle.module_core.specs.Stands.{Assembly, ModuleStands, Answers, AnswersAll, setup_of, world_of}
 
--- the event that a stop cut, where it cut one
-abbrev pub cut_event : {C : Type 0} → Option (Unanswered C) → List Event
-cut_event None = []
-cut_event (Some cut) = cut.event ∷ []
+-- the event that a stop left unanswered, where it left one
+abbrev pub unanswered_event : Option Unanswered → List Event
+unanswered_event None = []
+unanswered_event (Some unanswered) = unanswered.event ∷ []
 
-module _ {C : Type 0} (L : Ghosts C) where
-  -- a module with its device and its gauge
-  pub record Assembly : Type 0 where
-    pub it : Module C L
-    pub device : DeviceState
-    pub gauge : Gauge
-
-  abbrev pub point_at : Assembly → Machine → Point C
-  point_at assembly m = point_of L assembly.it m assembly.device assembly.gauge
-
+module _ {K : Type 0} (L : Ghosts K) where
   -- a module that began with this image has answered these events
-  pub record HasAnswered (found : Opened) (image : Image) (events : List Event) (replies : List Reply) (old new : Assembly) : Type 0 where
-    pub begins : ModuleStands L old.it old.device (new_life found image)
-    pub answers : AnswersAll L events replies old.it old.device old.gauge new.it new.device new.gauge
+  pub record HasAnswered (found : Opened) (image : Image) (events : List Event) (replies : List Reply) (old new : Assembly L) : Type 0 where
+    pub begins : ModuleStands L old.it old.device (opened_with found image)
+    pub answers : AnswersAll L events replies old new
     pub setup : setup_of L new.it ≡ setup_of L old.it
 
-  -- its life: the machine that it stood for in the end, the event that a stop cut, and the bytes that this left
-  abbrev pub module_life : Opened → Image → List Event → List Reply → Assembly → Point C → Option (Unanswered C) → List ℕ → Lived C
-  module_life found image events replies old last cut bytes = record {
+  -- its life: the machine that it stood for in the end, the event that a stop left unanswered, and the bytes that this left
+  abbrev pub module_life : Opened → Image → List Event → List Reply → Assembly L → World → Option Unanswered → List ℕ → Lived
+  module_life found image events replies old last unanswered bytes = record {
     setup = setup_of L old.it;
-    found = found;
+    slot = found.newest.slot;
+    closed = found.closed;
     image = image;
     events = events;
     replies = replies;
-    first = point_at old (new_life found image);
+    first = world_of L old (opened_with found image);
     last = last;
-    cut = cut;
+    unanswered = unanswered;
     bytes = bytes;
   }
 
-  -- a stop after the events ends a life
-  abbrev pub LivesAfter : Type 0
-  LivesAfter =
-      (found : Opened) (image : Image) (events : List Event) (replies : List Reply) (old new : Assembly) → HasAnswered found image events replies old new
-      → (bytes : List ℕ) → MayLeave (present new.device) bytes
-      → (m : Machine) × ModuleStands L new.it new.device m × IsLived L (module_life found image events replies old (point_at new m) None bytes)
+  -- A stop after the events ended a life, that of the machine which the module stood for.
+  pub record EndsAfterEvents (found : Opened) (image : Image) (events : List Event) (replies : List Reply) (old new : Assembly L) (bytes : List ℕ) : Type 0 where
+    pub last : Machine
+    pub stands : ModuleStands L new.it new.device last
+    pub lived : IsLived (module_life found image events replies old (world_of L new last) None bytes)
 
-  -- a stop at any moment of one event more does
-  abbrev pub LivesWithin : Type 0
-  LivesWithin =
-      (found : Opened) (image : Image) (events : List Event) (replies : List Reply) (old new : Assembly) → HasAnswered found image events replies old new
-      → (event : Event) (reply : Reply) (later : Assembly) → Answers L event reply new.it new.device new.gauge later.it later.device later.gauge
-      → (bytes : List ℕ) → IsLeftAt (moments_since new.device later.device) bytes
-      → (m : Machine) × (n : Machine) × ModuleStands L new.it new.device m
-      × (let cut : Unanswered C = record { event = event; reply = reply; next = point_at later n } in
-      IsLived L (module_life found image events replies old (point_at new m) (Some cut) bytes))
+  -- A stop within one event more ended it, and left the event unanswered.
+  pub record EndsWithinEvent (found : Opened) (image : Image) (events : List Event) (replies : List Reply) (old new : Assembly L) (event : Event) (reply : Reply) (later : Assembly L)
+      (bytes : List ℕ) : Type 0 where
+    pub last : Machine
+    pub next : Machine
+    pub stands : ModuleStands L new.it new.device last
+    pub lived : let unanswered : Unanswered = record { event = event; reply = reply; next = world_of L later next } in
+        IsLived (module_life found image events replies old (world_of L new last) (Some unanswered) bytes)
 
-  -- A stop at any moment of the events ends a life: of the events before the one that it cut, or of all of them.
-  pub record StopsWhile (found : Opened) (image : Image) (events : List Event) (old : Assembly) (bytes : List ℕ) : Type 0 where
+  -- A stop among the events ended it: after those before the one that it left unanswered, or after all of them.
+  pub record EndsAmongEvents (found : Opened) (image : Image) (events : List Event) (old : Assembly L) (bytes : List ℕ) : Type 0 where
     pub front : List Event
     pub told : List Reply
-    pub last : Point C
-    pub cut : Option (Unanswered C)
+    pub last : World
+    pub unanswered : Option Unanswered
     pub rest : List Event
-    pub parts : events ≡ front ++ cut_event cut ++ rest
-    pub lived : IsLived L (module_life found image front told old last cut bytes)
+    pub parts : events ≡ front ++ unanswered_event unanswered ++ rest
+    pub lived : IsLived (module_life found image front told old last unanswered bytes)
 
-  abbrev pub LivesAnywhere : Type 0
-  LivesAnywhere =
-      (found : Opened) (image : Image) (events : List Event) (replies : List Reply) (old new : Assembly) → HasAnswered found image events replies old new
-      → (bytes : List ℕ) → IsLeftAt (moments_since old.device new.device) bytes → StopsWhile found image events old bytes
+  -- a stop after the events of a module ends a life
+  abbrev pub LivesEndAfterEvents : Type 0
+  LivesEndAfterEvents =
+      (found : Opened) (image : Image) (events : List Event) (replies : List Reply) (old new : Assembly L) → HasAnswered found image events replies old new
+      → (bytes : List ℕ) → MayLeave (present new.device) bytes → EndsAfterEvents found image events replies old new bytes
+
+  -- a stop at any moment of one event more does
+  abbrev pub LivesEndWithinEvent : Type 0
+  LivesEndWithinEvent =
+      (found : Opened) (image : Image) (events : List Event) (replies : List Reply) (old new : Assembly L) → HasAnswered found image events replies old new
+      → (event : Event) (reply : Reply) (later : Assembly L) → Answers L event reply new later
+      → (bytes : List ℕ) → IsLeftAt (moments_since new.device later.device) bytes → EndsWithinEvent found image events replies old new event reply later bytes
+
+  -- and so does one at any moment of the events
+  abbrev pub LivesEndAnywhere : Type 0
+  LivesEndAnywhere =
+      (found : Opened) (image : Image) (events : List Event) (replies : List Reply) (old new : Assembly L) → HasAnswered found image events replies old new
+      → (bytes : List ℕ) → IsLeftAt (moments_since old.device new.device) bytes → EndsAmongEvents found image events old bytes

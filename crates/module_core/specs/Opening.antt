@@ -1,42 +1,36 @@
--- How a life begins.
-use Rattle.std.specs.Prelude.{◌≡◌, ℕ, false, [], Some, None}
-use Rattle.line_memory.specs.Memory.{IsMemory}
+-- What a life begins over.
+use Rattle.std.specs.Prelude.{◌≡◌, ℕ, [], None}
 use Rattle.save_image.specs.Image.{Image}
 use Rattle.save_device.specs.Device.{DeviceState}
-use Rattle.slot_store.specs.Rest.{only, IsAtRestOn}
-use Rattle.arm_state.specs.declared.mode.Mode.TheVariants as modes
-use Rattle.line_channels.specs.declared.channels.Channels.{Ghosts}
-use Rattle.line_channels.specs.Waits.{nothing}
-use Rattle.line_channels.specs.View.{ChannelsView}
+use Rattle.slot_store.specs.Rest.{IsAtRestOn}
+use Rattle.channel_port.specs.declared.port.ChannelPort.{Ghosts}
+use Rattle.channel_port.specs.Waits.{nothing}
+use Rattle.channel_set.specs.declared.set.ChannelSet.{ChannelSet}
+use Rattle.channel_port.specs.declared.stage.Stage.TheVariants.{OnMains}
+use Rattle.channel_set.specs.Set.{AreAt, shape_of, view_of}
+use Rattle.channel_set.specs.Carrying.{CarriesAll}
 use Rattle.module_core.specs.declared.opening.Opened.{Opened}
-use Rattle.module_core.specs.State.{Setup, Machine}
+use Rattle.nv_machine.specs.Opening.{new_life}
+use Rattle.nv_machine.specs.State.{Setup, Machine}
 
--- The machine at the beginning of a life: the writes in the image that a restore found are persistent, and nothing waits.
-abbrev pub new_life : Opened → Image → Machine
-new_life found image = record {
-  mode = modes.Disarmed;
-  reading = 0;
-  lost = None;
-  life = record { opened = image; writes = []; persisted = image.count };
-  waits = nothing;
-  store = record { maybe = only found.newest.slot image; closed = found.closed; unsettled = false; saving = None };
-}
+-- the machine at the beginning of a life with what was found
+abbrev pub opened_with : Opened → Image → Machine
+opened_with found image = new_life found.newest.slot found.closed image
 
--- nothing was asked of the channels yet
-pub record IsUnasked (view : ChannelsView) : Type 0 where
-  pub waits : view.waits ≡ nothing
-  pub hold : view.hold ≡ None
-  pub awake : view.drained ≡ Some 0
+module _ {K : Type 0} (L : Ghosts K) where
+  -- nothing was asked of the channels yet
+  pub record AreUnasked (channels : ChannelSet K L) : Type 0 where
+    pub waits : (view_of L channels).waits ≡ nothing
+    pub hold : (view_of L channels).hold ≡ None
+    pub mains : AreAt L OnMains channels
 
-module _ {C : Type 0} (L : Ghosts C) where
-  abbrev pub setup_with : C → ℕ → Setup
-  setup_with channels trail = record { shape = (L.view channels).shape; trail = trail }
+  abbrev pub setup_with : ChannelSet K L → ℕ → Setup
+  setup_with channels trail = record { shape = shape_of L channels; trail = trail }
 
   -- The channels began with this image's memory, and the device is at rest on the image, as a restore that found it leaves
   -- the device.
-  pub record BeginsOn (channels : C) (found : Opened) (image : Image) (device : DeviceState) : Type 0 where
+  pub record BeginsOn (channels : ChannelSet K L) (found : Opened) (image : Image) (device : DeviceState) : Type 0 where
     pub generation : image.generation ≡ found.newest.generation
     pub count : image.count ≡ found.count
-    pub carries : L.carries channels image.memory image.count []
-    pub memory : IsMemory (L.view channels).shape.lines image.memory
-    pub rest : IsAtRestOn found.newest.slot image (L.view channels).shape.lines found.closed device
+    pub carries : CarriesAll L channels image.memory image.count []
+    pub rest : IsAtRestOn found.newest.slot image (shape_of L channels).lines found.closed device

@@ -1,17 +1,17 @@
 -- What the module knows of its device and of a save, and what a step of the save makes of it.
-use Rattle.std.specs.Prelude.{◌≡◌, ◌≢◌, ◌⊎◌, ℕ, ◌+◌, Bool, true, false, List, Result, Ok, Err, Option, Some, None, IfOk}
+use Rattle.std.specs.Prelude.{◌≡◌, ◌≢◌, ◌⊎◌, ℕ, ◌+◌, ◌≤◌, Bool, false, List, Result, Ok, Err, Option, Some, None, IfOk}
 use Rattle.std.specs.Option.{ForSome}
 use Rattle.save_device.specs.Device.{DeviceState}
 use Rattle.slot_store.specs.declared.plan.Newest.{Newest}
 use Rattle.slot_store.specs.declared.plan.Step.{Step}
-use Rattle.slot_store.specs.declared.plan.Step.TheVariants.{Close, SyncClosed, Open, SyncOpen}
+use Rattle.slot_store.specs.declared.plan.Step.TheVariants.{Close, SyncOpen, Done}
 use Rattle.slot_store.specs.declared.saving.SaveRun.{SaveRun}
 use Rattle.slot_store.specs.Slots.{other, HasSize}
 use Rattle.slot_store.specs.Outcomes.{restored}
 use Rattle.slot_store.specs.Rest.{IsAmong}
 use Rattle.slot_store.specs.Runs.{plan_of, next_of, tried_of}
-use Rattle.module_core.specs.State.{RunningSave, Store}
-use Rattle.module_core.specs.Moves.{stepped, step_failed, saved_in, advanced}
+use Rattle.nv_machine.specs.State.{RunningSave, Store}
+use Rattle.nv_machine.specs.Moves.{stepped, step_failed, saved_in, advanced}
 
 -- the store after a step that went well
 abbrev pub after_step : ℕ → Store → RunningSave → Step → Store
@@ -29,6 +29,12 @@ pub record Knows (newest : Newest) (closed unsettled : Bool) (s : Store) : Type 
   pub shut : closed ≡ s.closed
   pub open_end : unsettled ≡ s.unsettled
 
+-- a save over this image, of which some step is still to come
+pub record IsSaveOver (newest : Newest) (run : SaveRun) : Type 0 where
+  pub slot : (plan_of run).slot ≡ other newest.slot
+  pub generation : (plan_of run).generation ≡ newest.generation + 1
+  pub going : next_of run ≢ Done
+
 -- how many writes a save has in its image
 abbrev pub count_in : SaveRun → ℕ
 count_in run = (plan_of run).count
@@ -37,16 +43,20 @@ count_in run = (plan_of run).count
 abbrev pub IsOfLines : ℕ → Option SaveRun → Type 0
 IsOfLines lines saving = ForSome saving (λ run. (plan_of run).lines ≡ lines)
 
+-- the save that runs, where one does, makes an image of this generation at most
+abbrev pub MakesAtMost : ℕ → Option SaveRun → Type 0
+MakesAtMost most saving = ForSome saving (λ run. (plan_of run).generation ≤ most)
+
 -- the device has the size that its image needs
 abbrev pub IsSizedFor : Option SaveRun → DeviceState → Type 0
 IsSizedFor saving device = ForSome saving (λ run. HasSize (plan_of run).lines device)
 
--- the save that runs, by its next step, and the number of writes that it holds
-abbrev pub RunsAs : Option RunningSave → Option SaveRun → Type 0
-RunsAs None None = Unit {0}
-RunsAs (Some save) (Some run) = (next_of run ≡ save.next) × ((plan_of run).count ≡ save.made.count)
-RunsAs None (Some run) = ⊥
-RunsAs (Some save) None = ⊥
+-- the machine's save and the module's are one, with the same coming step and as many writes; or neither runs
+abbrev pub AreSameSave : Option RunningSave → Option SaveRun → Type 0
+AreSameSave None None = Unit {0}
+AreSameSave (Some save) (Some run) = (next_of run ≡ save.next) × ((plan_of run).count ≡ save.made.count)
+AreSameSave None (Some run) = ⊥
+AreSameSave (Some save) None = ⊥
 
 -- a save was begun over this image
 pub record IsBegun (newest : Newest) (closed : Bool) (count : ℕ) (armed : Bool) (lines : ℕ) (run : SaveRun) : Type 0 where
@@ -62,25 +72,6 @@ pub record IsBegun (newest : Newest) (closed : Bool) (count : ℕ) (armed : Bool
 -- a stop leaves an image that was possible before the step, or is after it
 abbrev pub IsAmongEither : ℕ → Store → Store → List ℕ → Type 0
 IsAmongEither lines old new bytes = IsAmong old.maybe (restored lines bytes) ⊎ IsAmong new.maybe (restored lines bytes)
-
--- what a step that went well makes of what the module knows
-abbrev pub saving_after : Step → SaveRun → Option SaveRun
-saving_after SyncOpen run = None
-saving_after step run = Some run
-
-abbrev pub closed_after : Step → Bool → Bool
-closed_after SyncClosed closed = true
-closed_after Open closed = false
-closed_after SyncOpen closed = false
-closed_after step closed = closed
-
-abbrev pub unsettled_after : Step → Bool → Bool
-unsettled_after SyncOpen unsettled = false
-unsettled_after step unsettled = unsettled
-
-abbrev pub newest_after : Step → Newest → Newest → Type 0
-newest_after SyncOpen old new = (new.slot ≡ other old.slot) × (new.generation ≡ old.generation + 1)
-newest_after step old new = new ≡ old
 
 -- what is told of a step: which it was, or none where it was the last one
 abbrev pub IsDone : Step → Option Step → Type 0

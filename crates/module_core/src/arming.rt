@@ -1,15 +1,16 @@
 // Arming.
 ghost use Rattle.std.specs.Prelude.{◌≡◌};
 
-use crate::{Event, Module, Reply};
+use crate::Module;
 use arm_state::{ArmRefusal, ArmReply, Mode, energy_refusal};
+use channel_port::ChannelPort;
 use energy_budget::Energy;
-use line_channels::Channels;
+use nv_machine::{Event, Reply};
 use save_device::SaveDevice;
 use slot_store::mark_armed;
 
-impl<C: Channels> Module<C> {
-    ghost use Rattle.module_core.specs.Stands.{Answers, HasDevice, setup_of};
+impl<K: ChannelPort> Module<K> {
+    ghost use Rattle.module_core.specs.Stands.{Answers, HasDevice, setup_of, assembly};
 
     /// Arms: from then on each accepted write is persistent at once, since the gauge has the energy for its save. The newest
     /// image is marked first, which a stop may leave done or not done; a fault of the device leaves the module disarmed.
@@ -18,12 +19,12 @@ impl<C: Channels> Module<C> {
         device: &mut D,
         energy: &mut E,
     ) -> Result<ArmReply, ArmRefusal>
-        requires { HasDevice C.Channels self.old (D.state device.old) }
-        ensures answers { Answers C.Channels Event.Arm (Reply.Arm result)
-            self.old (D.state device.old) (E.gauge energy.old)
-            self.new (D.state device.new) (E.gauge energy.new) }
-        ensures setup { setup_of C.Channels self.new ≡ setup_of C.Channels self.old }
-        ensures size { HasDevice C.Channels self.new (D.state device.new) }
+        requires { HasDevice K.ChannelPort self.old (D.state device.old) }
+        ensures answers { Answers K.ChannelPort Event.Arm (Reply.Arm result)
+            (assembly self.old (D.state device.old) (E.gauge energy.old))
+            (assembly self.new (D.state device.new) (E.gauge energy.new)) }
+        ensures setup { setup_of K.ChannelPort self.new ≡ setup_of K.ChannelPort self.old }
+        ensures size { HasDevice K.ChannelPort self.new (D.state device.new) }
     {
         if self.mode.is_armed() {
             return Ok(ArmReply::AlreadyArmed);

@@ -1,33 +1,22 @@
-// The parts of a closing save.
+// A closing save.
 ghost use Rattle.std.specs.Prelude.{◌≡◌, ◌*◌, Some};
 ghost use Rattle.std.specs.Option.{ForSome};
-ghost use Rattle.save_image.specs.Image.{Image};
 ghost use Rattle.slot_store.specs.Slots.{HasSize};
 ghost use Rattle.slot_store.specs.Runs.{plan_of};
-ghost use Rattle.line_channels.specs.View.{IsShape};
-ghost use Rattle.line_channels.specs.Memory.{Keeps};
-ghost use Rattle.module_core.specs.State.{Store};
-ghost use Rattle.module_core.specs.Closing.{DrainsAll, action_of};
+ghost use Rattle.channel_set.specs.Set.{shape_of, view_of};
+ghost use Rattle.slot_store.specs.Finishing.{Finishes, underway};
+ghost use Rattle.module_core.specs.Closing.{action_of, arrays_at, payments, saves_at};
 ghost use Rattle.module_core.specs.Saving.{IsOfLines};
 
 use crate::Saves;
-use crate::stepping::page_for;
-use energy_budget::{Action, Costs, Dark, Energy};
-use line_channels::{Channels, Drainable};
+use channel_port::ChannelPort;
+use channel_set::ChannelSet;
+use energy_budget::{Action, Energy};
 use save_device::SaveDevice;
-use slot_store::Step;
+use slot_store::{BrokenOff, Refused, SaveRun, SaveSource, Step};
 
-/// What cut a closing save short.
-#[derive(Clone, Copy)]
-pub enum Cut {
-    /// A payment was refused.
-    Dark,
-    /// The device failed.
-    Fault,
-}
-
-/// What is paid for a step of a save.
-pub fn action_of(step: Step) -> Action
+// What is paid for a step of a save.
+fn action_of(step: Step) -> Action
     ensures { result ≡ action_of step }
 {
     match step {
@@ -39,64 +28,72 @@ pub fn action_of(step: Step) -> Action
     }
 }
 
-/// Drains all channels in rising order, each action of it paid for first.
-pub fn drain_all<C: Drainable, E: Energy>(
-    channels: &mut C,
-    costs: &Costs,
-    energy: &mut E,
-) -> Result<(), Dark>
-    requires awake { (C.view channels.old).drained ≡ Some 0 }
-    requires shape { IsShape (C.view channels.old).shape }
-    requires costs { costs.now ≡ (C.view channels.old).shape.costs }
-    ensures drains { DrainsAll (C.view channels.old) (E.gauge energy.old) result
-        (C.view channels.new) (E.gauge energy.new) }
-    ensures keeps { Keeps (C.carries channels.old) (C.carries channels.new) }
-{
-    for channel in 0..costs.channels {
-        channels.drain(channel, costs, energy)?;
+// The arrays of the channels, as a memory that pays for each step of its save.
+#[derive(Drop)]
+struct PaidArrays<'a, K: ChannelPort, E: Energy> {
+    channels: &'a ChannelSet<K>,
+    energy: &'a mut E,
+}
+
+impl<K: ChannelPort, E: Energy> SaveSource for PaidArrays<'_, K, E> {
+    ghost use Rattle.module_core.specs.Closing.{PaysForStep};
+
+    ghost memory = { λ arrays. (view_of K.ChannelPort arrays.channels.now).array };
+
+    ghost asks = { PaysForStep K.ChannelPort E.gauge };
+
+    fn ask(&mut self, step: Step) -> Result<(), Refused> {
+        let cost = self.channels.costs().cost(action_of(step));
+        self.energy.pay(cost).map_err(|_| Refused)
     }
-    channels.nothing_waits();
-    Ok(())
+
+    fn page<'p>(&'p self, page: usize, room: &'p mut [u8; 4096]) -> &'p [u8; 4096] {
+        *room = self.channels.page(page);
+        room
+    }
+}
+
+// All steps of a save of the arrays, each paid for first.
+fn pay_and_finish<K: ChannelPort, D: SaveDevice, E: Energy>(
+    run: &mut SaveRun,
+    channels: &ChannelSet<K>,
+    device: &mut D,
+    energy: &mut E,
+) -> Result<(), BrokenOff>
+    requires lines { (plan_of run.old).lines ≡ (shape_of K.ChannelPort channels.now).lines }
+    requires size { HasSize (plan_of run.old).lines (D.state device.old) }
+    ensures { Finishes payments result
+        (underway (arrays_at (view_of K.ChannelPort channels.now) (E.gauge energy.old))
+        run.old (D.state device.old))
+        (underway (arrays_at (view_of K.ChannelPort channels.now) (E.gauge energy.new))
+        run.new (D.state device.new)) }
+{
+    run.finish(&mut PaidArrays { channels, energy }, device)
 }
 
 impl Saves {
-    ghost use Rattle.module_core.specs.Closing.{IsReadyToClose, SavesClosing};
+    ghost use Rattle.module_core.specs.Closing.{ClosesSave};
 
-    /// Makes all steps of the save that runs, each paid for first.
-    pub(crate) fn make_all<C: Channels, D: SaveDevice, E: Energy>(
+    /// Makes the save that runs to its end, each step of it paid for first.
+    pub(crate) fn finish<K: ChannelPort, D: SaveDevice, E: Energy>(
         &mut self,
-        channels: &C,
-        costs: &Costs,
+        channels: &ChannelSet<K>,
         device: &mut D,
         energy: &mut E,
-    ) -> Result<(), Cut>
-        requires reaches { C.reaches }
-        requires shape { IsShape (C.view channels.now).shape }
-        requires costs { costs.now ≡ (C.view channels.now).shape.costs }
-        requires lines { IsOfLines (C.view channels.now).shape.lines self.old.saving }
-        requires size { HasSize (C.view channels.now).shape.lines (D.state device.old) }
-        ensures saves { (s : Store) (made : Image)
-            → IsReadyToClose (C.view channels.now).shape.lines s made self.old (D.state device.old)
-            → (C.view channels.now).array ≡ made.memory
-            → SavesClosing (C.view channels.now).shape.lines costs.now s made result
-            (D.state device.old) (E.gauge energy.old)
-            self.new (D.state device.new) (E.gauge energy.new) }
-        ensures lines { IsOfLines (C.view channels.now).shape.lines self.new.saving }
-        ensures size { HasSize (C.view channels.now).shape.lines (D.state device.new) }
+    ) -> Result<(), BrokenOff>
+        requires lines { IsOfLines (shape_of K.ChannelPort channels.now).lines self.old.saving }
+        requires size { HasSize (shape_of K.ChannelPort channels.now).lines (D.state device.old) }
+        ensures saves { ClosesSave (view_of K.ChannelPort channels.now) result
+            (saves_at self.old (D.state device.old) (E.gauge energy.old))
+            (saves_at self.new (D.state device.new) (E.gauge energy.new)) }
+        ensures lines { IsOfLines (shape_of K.ChannelPort channels.now).lines self.new.saving }
+        ensures size { HasSize (shape_of K.ChannelPort channels.now).lines (D.state device.new) }
     {
-        for _done in 0..costs.pages + 6 {
-            let Some(step) = self.next() else {
-                return Ok(());
-            };
-            let Ok(()) = energy.pay(costs.cost(action_of(step))) else {
-                self.saving = None;
-                return Err(Cut::Dark);
-            };
-            let page = page_for(channels, step);
-            let Ok(_) = self.step(device, &page) else {
-                return Err(Cut::Fault);
-            };
-        }
-        Ok(())
+        let Some(mut run) = self.saving.take() else {
+            return Ok(());
+        };
+        let finished = pay_and_finish(&mut run, channels, device, energy);
+        self.learn(&run);
+        finished
     }
 }

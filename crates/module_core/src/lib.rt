@@ -1,27 +1,22 @@
 //! A module: a memory whose writes are accepted at once, saved on a device, and persistent where it is armed.
+//!
+//! Each call answers a step of the machine in `nv_machine`: `specs/Stands.antt` says which machine a module stands for, and
+//! `specs/ModuleLives.antt` that its answers make lives of the headline.
 #![tactic(auto)]
 
 mod arming;
 mod closing;
-mod events;
-mod honesty;
-mod lives;
+mod laws;
 mod losing;
 mod marks;
 mod module;
 mod opening;
-mod rising;
 mod running;
 mod saves;
 mod stepping;
-mod survival;
 mod telling;
 
-pub use events::{Accepted, Event, Reply, StepReply};
-pub use honesty::honest_run;
-pub use lives::one_history;
+pub use laws::{marks_rise, modules_live};
 pub use module::Module;
-pub use opening::Opened;
-pub use rising::{history_grows, marks_rise};
+pub use opening::{LifeTerms, Opened};
 pub use saves::Saves;
-pub use survival::{modules_live, survives_any_stop};

@@ -1,25 +1,25 @@
 // The loss of mains.
-ghost use Rattle.std.specs.Prelude.{◌≡◌, ◌+◌, ◌≤◌, ◌^◌, ℕ, List, length, true, false, None, Some};
-ghost use Rattle.line_memory.specs.declared.Write.{Write};
-ghost use Rattle.line_memory.specs.Memory.{after};
-ghost use Rattle.save_image.specs.Image.{Image};
+ghost use Rattle.std.specs.Prelude.{◌≡◌, ◌+◌, ◌≤◌, ◌^◌, ℕ, List, [], length, true, false, None, Some};
 ghost use Rattle.arm_state.specs.Modes.{has_ended};
-ghost use Rattle.module_core.specs.State.{Store};
+ghost use Rattle.channel_set.specs.Set.{AreAt, shape_of, view_of};
+ghost use Rattle.channel_port.specs.declared.stage.Stage.TheVariants.{OnBackup, OnMains};
 
-use crate::closing::{Cut, drain_all};
-use crate::{Event, Module, Reply};
+use crate::Module;
 use arm_state::{Loss, Mode};
+use channel_port::ChannelPort;
 use energy_budget::Energy;
-use line_channels::{Channels, Drainable};
+use nv_machine::{Event, Reply};
 use save_device::SaveDevice;
+use slot_store::BrokenOff;
 
-impl<C: Channels> Module<C> {
-    ghost use Rattle.module_core.specs.Begins.{Begins};
+impl<K: ChannelPort> Module<K> {
+    ghost use Rattle.module_core.specs.Saves.{BeginsSave};
     ghost use Rattle.module_core.specs.Stands.{EndsMains};
 
     // Ends all work on mains; a save that runs is given up.
     fn end_mains(&mut self)
-        ensures ends { EndsMains C.Channels self.old.reading self.old self.new }
+        requires { AreAt K.ChannelPort OnMains self.old.channels }
+        ensures ends { EndsMains K.ChannelPort self.old.reading self.old self.new }
         ensures none { self.new.saves.saving ≡ None }
         ensures newest { self.new.saves.newest ≡ self.old.saves.newest }
         ensures closed { self.new.saves.closed ≡ self.old.saves.closed }
@@ -27,63 +27,66 @@ impl<C: Channels> Module<C> {
     {
         self.mode = Mode::Closing;
         self.saves.saving = None;
-        self.channels.release();
+        self.channels.hold(None);
+        self.channels.lose_mains();
     }
 
     // The same after a reading, and begins the save of all accepted writes.
     fn begin_closing(&mut self, reading: u64)
-        requires { self.old.saves.newest.generation ≤ 2 ^ 62 }
-        ensures ends { EndsMains C.Channels reading self.old self.new }
-        ensures begins { Begins self.old.saves self.old.accepted false self.old.lines
-            self.new.saves }
+        requires generation { self.old.saves.newest.generation ≤ 2 ^ 62 }
+        requires mains { AreAt K.ChannelPort OnMains self.old.channels }
+        ensures ends { EndsMains K.ChannelPort reading self.old self.new }
+        ensures begins { BeginsSave self.old.saves self.old.accepted false
+            (shape_of K.ChannelPort self.old.channels).lines self.new.saves }
+        ensures backup { AreAt K.ChannelPort OnBackup self.new.channels }
     {
         self.reading = reading;
         self.mode = Mode::Closing;
-        self.saves.begin(self.accepted, false, self.lines);
-        self.channels.release();
+        self.saves
+            .begin(self.accepted, false, self.channels.lines());
+        self.channels.hold(None);
+        self.channels.lose_mains();
     }
 }
 
-impl<C: Drainable> Module<C> {
-    ghost use Rattle.module_core.specs.Closing.{IsReadyToClose, ClosesChannels};
-    ghost use Rattle.module_core.specs.Stands.{Answers, HasDevice, SameButSaves, setup_of};
+impl<K: ChannelPort> Module<K> {
+    ghost use Rattle.module_core.specs.Closing.{ClosesModule};
+    ghost use Rattle.module_core.specs.Stands.{Answers, HasDevice, SameButSaves, setup_of, assembly};
 
     // Drains the channels, and makes the save that was begun.
-    fn close<D: SaveDevice, E: Energy>(&mut self, device: &mut D, energy: &mut E) -> Result<(), Cut>
-        requires reaches { C.reaches }
+    fn close<D: SaveDevice, E: Energy>(
+        &mut self,
+        device: &mut D,
+        energy: &mut E,
+    ) -> Result<(), BrokenOff>
         requires ended { has_ended self.old.mode ≡ true }
-        requires awake { (C.view self.old.channels).drained ≡ Some 0 }
-        requires size { HasDevice C.Channels self.old (D.state device.old) }
-        ensures closes { (s : Store) (made : Image)
-            (base : List (List ℕ)) (start : ℕ) (writes : List Write)
-            → IsReadyToClose self.old.lines s made self.old.saves (D.state device.old)
-            → C.carries self.old.channels base start writes → after base writes ≡ made.memory
-            → ClosesChannels self.old.lines self.old.costs s made result
-            (C.view self.old.channels) (D.state device.old) (E.gauge energy.old)
-            (C.view self.new.channels) self.new.saves (D.state device.new) (E.gauge energy.new) }
-        ensures same { SameButSaves C.Channels self.old self.new }
-        ensures setup { setup_of C.Channels self.new ≡ setup_of C.Channels self.old }
-        ensures size { HasDevice C.Channels self.new (D.state device.new) }
+        requires backup { AreAt K.ChannelPort OnBackup self.old.channels }
+        requires lost { (view_of K.ChannelPort self.old.channels).waits.reads ≡ [] }
+        requires size { HasDevice K.ChannelPort self.old (D.state device.old) }
+        ensures closes { ClosesModule result
+            (assembly self.old (D.state device.old) (E.gauge energy.old))
+            (assembly self.new (D.state device.new) (E.gauge energy.new)) }
+        ensures same { SameButSaves K.ChannelPort self.old self.new }
+        ensures setup { setup_of K.ChannelPort self.new ≡ setup_of K.ChannelPort self.old }
+        ensures size { HasDevice K.ChannelPort self.new (D.state device.new) }
     {
-        let Ok(()) = drain_all(&mut self.channels, &self.costs, energy) else {
+        let Ok(()) = self.channels.drain(energy) else {
             self.saves.saving = None;
-            return Err(Cut::Dark);
+            return Err(BrokenOff::Refused);
         };
-        self.saves
-            .make_all(&self.channels, &self.costs, device, energy)
+        self.saves.finish(&self.channels, device, energy)
     }
 
     /// Mains were lost. Where acknowledged writes are to be saved, the channels are drained and all accepted writes are
-    /// saved, each action paid for first; a payment that is refused or a fault of the device cuts it short. Disarmed, nothing
+    /// saved, each action paid for first; a payment that is refused or a fault of the device breaks it off. Disarmed, nothing
     /// is written.
     pub fn power_loss<D: SaveDevice, E: Energy>(&mut self, device: &mut D, energy: &mut E) -> Loss
-        requires reaches { C.reaches }
-        requires size { HasDevice C.Channels self.old (D.state device.old) }
-        ensures answers { Answers C.Channels Event.Lose (Reply.Lose result)
-            self.old (D.state device.old) (E.gauge energy.old)
-            self.new (D.state device.new) (E.gauge energy.new) }
-        ensures setup { setup_of C.Channels self.new ≡ setup_of C.Channels self.old }
-        ensures size { HasDevice C.Channels self.new (D.state device.new) }
+        requires size { HasDevice K.ChannelPort self.old (D.state device.old) }
+        ensures answers { Answers K.ChannelPort Event.Lose (Reply.Lose result)
+            (assembly self.old (D.state device.old) (E.gauge energy.old))
+            (assembly self.new (D.state device.new) (E.gauge energy.new)) }
+        ensures setup { setup_of K.ChannelPort self.new ≡ setup_of K.ChannelPort self.old }
+        ensures size { HasDevice K.ChannelPort self.new (D.state device.new) }
     {
         if self.mode.has_ended() {
             return Loss::Closed;
@@ -101,8 +104,8 @@ impl<C: Drainable> Module<C> {
                     count: self.accepted,
                 }
             }
-            Err(Cut::Dark) => Loss::Dark,
-            Err(Cut::Fault) => Loss::Fault,
+            Err(BrokenOff::Refused) => Loss::Dark,
+            Err(BrokenOff::Fault) => Loss::Fault,
         }
     }
 }

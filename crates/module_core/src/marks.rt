@@ -3,9 +3,9 @@ ghost use Rattle.std.specs.Prelude.{◌≡◌, ◌≤◌, ◌^◌};
 
 use crate::Module;
 use arm_state::Mode;
-use line_channels::Channels;
+use channel_port::ChannelPort;
 
-impl<C: Channels> Module<C> {
+impl<K: ChannelPort> Module<K> {
     /// The number of writes accepted, counted from the first life on.
     pub fn accepted(&self) -> u64
         ensures is { result ≡ self.now.accepted }

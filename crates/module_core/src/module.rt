@@ -1,22 +1,24 @@
 // The module, and its calls that ask nothing of the device.
-ghost use Rattle.std.specs.Prelude.{◌≡◌, ◌==◌, ◌+◌, ◌-◌, ◌<◌, ◌≤◌, ◌^◌, ℕ, true, false, nat_le, None, Some, if◌then◌else◌};
+ghost use Rattle.std.specs.Prelude.{◌≡◌, ◌==◌, ◌+◌, ◌-◌, ◌<◌, ◌≤◌, ◌^◌, ℕ, true, false, nat_le, None, Some, IfErr, IfOk, if◌then◌else◌};
 ghost use Rattle.std.specs.Option.{ForSome};
-ghost use Rattle.slot_store.specs.Slots.{IsCapacity};
 ghost use Rattle.slot_store.specs.Runs.{plan_of};
 ghost use Rattle.save_device.specs.Device.{DeviceState};
 ghost use Rattle.arm_state.specs.Modes.{is_armed, is_backed, has_ended};
-ghost use Rattle.line_channels.specs.Waits.{AllBelow};
-ghost use Rattle.line_channels.specs.View.{IsShape, is_full, is_full_of_reads};
-ghost use Rattle.module_core.specs.State.{Machine};
-ghost use Rattle.module_core.specs.Saving.{IsOfLines};
+ghost use Rattle.channel_port.specs.Waits.{AllBelow, reads_on, writes_on};
+ghost use Rattle.channel_port.specs.declared.stage.Stage.TheVariants.{OnMains};
+ghost use Rattle.channel_set.specs.Set.{AreAt, place_in, shape_of, view_of};
+ghost use Rattle.nv_machine.specs.State.{Machine};
+ghost use Rattle.module_core.specs.Saving.{IsOfLines, MakesAtMost};
 
+use crate::opening::LifeTerms;
 use crate::saves::Saves;
-use crate::{Accepted, Event, Reply};
 use arm_state::{ArmRefusal, DisarmReply, Mode, ReadRefusal, SaveState, WriteRefusal};
-use channel_answers::{Collected, Done, Got, Ticket};
-use energy_budget::{Costs, Energy};
-use line_channels::Channels;
+use channel_port::{ChannelPort, Collected, Done, Got, Ticket};
+use channel_set::ChannelSet;
+use ddr4_timing::place::Place;
+use energy_budget::Energy;
 use line_memory::Write;
+use nv_machine::{Accepted, Event, Reply};
 
 /// No save is begun over a newest image of this generation or a greater one.
 const SPENT: u64 = 1 << 62;
@@ -26,14 +28,9 @@ const MOST_WRITES: u64 = 1 << 62;
 
 /// A life: its channels, how many writes it has accepted, and its saves.
 #[derive(Drop)]
-pub struct Module<C: Channels> {
-    pub(crate) channels: C,
-    pub(crate) lines: usize,
-    /// How many writes the life may accept.
-    pub(crate) trail: u64,
-    pub(crate) costs: Costs,
-    /// The number of the life's first write.
-    pub(crate) start: u64,
+pub struct Module<K: ChannelPort> {
+    pub(crate) channels: ChannelSet<K>,
+    pub(crate) terms: LifeTerms,
     /// How many writes were accepted, and how many of them are persistent, counted from the first life on.
     pub(crate) accepted: u64,
     pub(crate) persisted: u64,
@@ -41,18 +38,14 @@ pub struct Module<C: Channels> {
     /// The last reading of the gauge.
     pub(crate) reading: u64,
     pub(crate) saves: Saves,
-    ghost sized: { lines ≡ (C.view channels).shape.lines },
-    ghost priced: { costs ≡ (C.view channels).shape.costs },
-    ghost shaped: { IsShape (C.view channels).shape },
-    ghost from: { start ≤ accepted },
-    ghost kept: { accepted ≤ start + trail },
+    ghost from: { terms.start ≤ accepted },
+    ghost kept: { accepted ≤ terms.start + terms.trail },
     ghost numbers: { accepted ≤ 2 ^ 62 },
-    ghost below: { AllBelow accepted (C.view channels).waits.writes },
-    ghost awake: { has_ended mode ≡ false → (C.view channels).drained ≡ Some 0 },
-    ghost capacity: { IsCapacity lines },
+    ghost below: { AllBelow accepted (view_of K.ChannelPort channels).waits.writes },
+    ghost mains: { has_ended mode ≡ false → AreAt K.ChannelPort OnMains channels },
     ghost unspent: { is_backed mode ≡ true → saves.newest.generation ≤ 2 ^ 62 },
-    ghost running: { IsOfLines lines saves.saving },
-    ghost most: { is_armed mode ≡ true → ForSome saves.saving (λ run. (plan_of run).generation ≤ 2 ^ 62) },
+    ghost running: { IsOfLines (shape_of K.ChannelPort channels).lines saves.saving },
+    ghost most: { is_armed mode ≡ true → MakesAtMost (2 ^ 62) saves.saving },
 }
 
 // How many writes are persistent after one more was accepted.
@@ -62,68 +55,73 @@ fn persisted_after_write(mode: Mode, persisted: u64, accepted: u64) -> u64
     if mode.is_armed() { accepted } else { persisted }
 }
 
-impl<C: Channels> Module<C> {
-    ghost use Rattle.module_core.specs.Refusals.{is_low, need_for, saves_of, write_refusal, read_refusal};
-    ghost use Rattle.module_core.specs.Moves.{begun, disarming};
-    ghost use Rattle.module_core.specs.Stands.{Matches, Follows, FollowsReading, Answers, AnswersAlone, HasChannel, setup_of};
+impl<K: ChannelPort> Module<K> {
+    ghost use Rattle.nv_machine.specs.Refusals.{is_low, need_for, saves_of, write_refusal, read_refusal};
+    ghost use Rattle.nv_machine.specs.Moves.{begun, disarming};
+    ghost use Rattle.module_core.specs.Stands.{Matches, Follows, FollowsReading, Answers, AnswersAlone, HasChannel, assembly, lines_of_module, setup_of};
 
     // What the gauge has to show while this many writes wait.
     pub(crate) fn need_for(&self, pending: u64) -> u64
         requires { pending ≤ 1024 }
-        ensures value { result ≡ need_for (setup_of C.Channels self.now) pending }
+        ensures value { result ≡ need_for (setup_of K.ChannelPort self.now) pending }
     {
-        self.costs.need(pending)
+        self.channels.costs().need(pending)
     }
 
-    // Why a write isn't accepted.
-    fn write_refusal(&self, line: u64) -> Option<WriteRefusal>
-        requires { C.reaches }
-        ensures refusal { (m : Machine) → Matches C.Channels self.now m
-            → result ≡ write_refusal (setup_of C.Channels self.now) m line }
-        ensures line { result ≡ None → line < self.now.lines }
-        ensures running { result ≡ None → has_ended self.now.mode ≡ false }
-        ensures room { result ≡ None
-            → is_full (C.view self.now.channels).shape (C.view self.now.channels).waits line ≡ false }
-        ensures trail { result ≡ None → self.now.accepted < self.now.start + self.now.trail }
-        ensures numbers { result ≡ None → self.now.accepted < 2 ^ 62 }
+    // Where an accepted write goes, or why it isn't accepted.
+    fn admit_write(&self, line: u64) -> Result<Place, WriteRefusal>
+        ensures refusal { IfErr result (λ refusal. (m : Machine) → Matches K.ChannelPort self.now m
+            → write_refusal (setup_of K.ChannelPort self.now) m line ≡ Some refusal) }
+        ensures admitted { IfOk result (λ place. (m : Machine) → Matches K.ChannelPort self.now m
+            → write_refusal (setup_of K.ChannelPort self.now) m line ≡ None) }
+        ensures line { IfOk result (λ place. line < lines_of_module K.ChannelPort self.now) }
+        ensures place { IfOk result (λ place.
+            place ≡ place_in K.ChannelPort self.now.channels line) }
+        ensures running { IfOk result (λ place. has_ended self.now.mode ≡ false) }
+        ensures room { IfOk result (λ place.
+            (writes_on place.channel (view_of K.ChannelPort self.now.channels).waits.writes
+            == (shape_of K.ChannelPort self.now.channels).depth) ≡ false) }
+        ensures trail { IfOk result (λ place. self.now.accepted
+            < self.now.terms.start + self.now.terms.trail) }
+        ensures numbers { IfOk result (λ place. self.now.accepted < 2 ^ 62) }
     {
-        if line >= self.lines as u64 {
-            return Some(WriteRefusal::NoSuchLine);
-        }
+        let Some(place) = self.channels.locate(line) else {
+            return Err(WriteRefusal::NoSuchLine);
+        };
         if self.mode.has_ended() {
-            return Some(WriteRefusal::Closed);
+            return Err(WriteRefusal::Closed);
         }
         if self.mode.is_disarming() {
-            return Some(WriteRefusal::Disarming);
+            return Err(WriteRefusal::Disarming);
         }
-        if self.accepted - self.start == self.trail || self.accepted == MOST_WRITES {
-            return Some(WriteRefusal::TrailFull);
+        if self.accepted - self.terms.start == self.terms.trail || self.accepted == MOST_WRITES {
+            return Err(WriteRefusal::TrailFull);
         }
-        if self.channels.is_full(line) {
-            return Some(WriteRefusal::Full);
+        if self.channels.is_full(place.channel) {
+            return Err(WriteRefusal::Full);
         }
         let need = self.need_for(self.channels.pending() + 1);
         if self.mode.is_short(self.reading, need) {
-            return Some(WriteRefusal::EnergyLow {
+            return Err(WriteRefusal::EnergyLow {
                 need,
                 has: self.reading,
             });
         }
-        None
+        Ok(place)
     }
 
     /// Accepts a write, which later reads see; while armed it is persistent at once.
     pub fn write(&mut self, write: Write) -> Result<Accepted, WriteRefusal>
-        requires { C.reaches }
-        ensures answers { AnswersAlone C.Channels (Event.Write write) (Reply.Write result)
+        ensures answers { AnswersAlone K.ChannelPort (Event.Write write) (Reply.Write result)
             self.old self.new }
-        ensures setup { setup_of C.Channels self.new ≡ setup_of C.Channels self.old }
+        ensures setup { setup_of K.ChannelPort self.new ≡ setup_of K.ChannelPort self.old }
     {
-        if let Some(refusal) = self.write_refusal(write.line) {
-            return Err(refusal);
-        }
+        let place = match self.admit_write(write.line) {
+            Ok(place) => place,
+            Err(refusal) => return Err(refusal),
+        };
         let number = self.accepted;
-        self.channels.put(number, write);
+        self.channels.put(number, write, place);
         self.accepted = number + 1;
         self.persisted = persisted_after_write(self.mode, self.persisted, self.accepted);
         Ok(Accepted {
@@ -132,59 +130,59 @@ impl<C: Channels> Module<C> {
         })
     }
 
-    // Why a read isn't answered.
-    fn read_refusal(&self, line: u64) -> Option<ReadRefusal>
-        requires { C.reaches }
-        ensures refusal { (m : Machine) → Matches C.Channels self.now m
-            → result ≡ read_refusal (setup_of C.Channels self.now) m line }
-        ensures line { result ≡ None → line < self.now.lines }
-        ensures running { result ≡ None → has_ended self.now.mode ≡ false }
-        ensures room { result ≡ None
-            → is_full_of_reads (C.view self.now.channels).shape (C.view self.now.channels).waits line ≡ false }
+    // Where a read goes, or why it isn't answered.
+    fn admit_read(&self, line: u64) -> Result<Place, ReadRefusal>
+        ensures refusal { IfErr result (λ refusal. (m : Machine) → Matches K.ChannelPort self.now m
+            → read_refusal (setup_of K.ChannelPort self.now) m line ≡ Some refusal) }
+        ensures admitted { IfOk result (λ place. (m : Machine) → Matches K.ChannelPort self.now m
+            → read_refusal (setup_of K.ChannelPort self.now) m line ≡ None) }
+        ensures line { IfOk result (λ place. line < lines_of_module K.ChannelPort self.now) }
+        ensures place { IfOk result (λ place.
+            place ≡ place_in K.ChannelPort self.now.channels line) }
+        ensures running { IfOk result (λ place. has_ended self.now.mode ≡ false) }
+        ensures room { IfOk result (λ place.
+            (reads_on place.channel (view_of K.ChannelPort self.now.channels).waits.reads
+            == (shape_of K.ChannelPort self.now.channels).reads) ≡ false) }
     {
-        if line >= self.lines as u64 {
-            return Some(ReadRefusal::NoSuchLine);
-        }
+        let Some(place) = self.channels.locate(line) else {
+            return Err(ReadRefusal::NoSuchLine);
+        };
         if self.mode.has_ended() {
-            return Some(ReadRefusal::Closed);
+            return Err(ReadRefusal::Closed);
         }
-        if self.channels.is_full_of_reads(line) {
-            return Some(ReadRefusal::Full);
+        if self.channels.is_full_of_reads(place.channel) {
+            return Err(ReadRefusal::Full);
         }
-        None
+        Ok(place)
     }
 
     /// Reads a line of the memory after all accepted writes, at once or by a ticket.
     pub fn read(&mut self, line: u64) -> Result<Got, ReadRefusal>
-        requires { C.reaches }
-        ensures answers { AnswersAlone C.Channels (Event.Read line) (Reply.Read result)
+        ensures answers { AnswersAlone K.ChannelPort (Event.Read line) (Reply.Read result)
             self.old self.new }
-        ensures setup { setup_of C.Channels self.new ≡ setup_of C.Channels self.old }
+        ensures setup { setup_of K.ChannelPort self.new ≡ setup_of K.ChannelPort self.old }
     {
-        if let Some(refusal) = self.read_refusal(line) {
-            return Err(refusal);
+        match self.admit_read(line) {
+            Ok(place) => Ok(self.channels.get(line, place, self.accepted)),
+            Err(refusal) => Err(refusal),
         }
-        Ok(self.channels.get(line, self.accepted))
     }
 
     /// What there is for a ticket; `Unknown` once mains were lost.
     pub fn collect(&mut self, ticket: Ticket) -> Collected
-        ensures answers { AnswersAlone C.Channels (Event.Collect ticket) (Reply.Collect result)
+        ensures answers { AnswersAlone K.ChannelPort (Event.Collect ticket) (Reply.Collect result)
             self.old self.new }
-        ensures setup { setup_of C.Channels self.new ≡ setup_of C.Channels self.old }
+        ensures setup { setup_of K.ChannelPort self.new ≡ setup_of K.ChannelPort self.old }
     {
-        if self.mode.has_ended() {
-            return Collected::Unknown;
-        }
         self.channels.collect(ticket)
     }
 
     /// Issues one command of a channel, where mains are there and it has one.
     pub fn work(&mut self, channel: u64) -> Option<Done>
-        requires { HasChannel C.Channels self.old channel }
-        ensures answers { AnswersAlone C.Channels (Event.Work channel) (Reply.Work result)
+        requires { HasChannel K.ChannelPort self.old channel }
+        ensures answers { AnswersAlone K.ChannelPort (Event.Work channel) (Reply.Work result)
             self.old self.new }
-        ensures setup { setup_of C.Channels self.new ≡ setup_of C.Channels self.old }
+        ensures setup { setup_of K.ChannelPort self.new ≡ setup_of K.ChannelPort self.old }
     {
         if self.mode.has_ended() {
             return None;
@@ -195,8 +193,8 @@ impl<C: Channels> Module<C> {
     // While armed: the last reading is too low for what waits.
     fn is_low(&self) -> bool
         ensures armed { result ≡ true → is_armed self.now.mode ≡ true }
-        ensures low { (m : Machine) → Matches C.Channels self.now m
-            → result ≡ is_low (setup_of C.Channels self.now) m }
+        ensures low { (m : Machine) → Matches K.ChannelPort self.now m
+            → result ≡ is_low (setup_of K.ChannelPort self.now) m }
     {
         let need = self.need_for(self.channels.pending());
         self.mode.is_short(self.reading, need)
@@ -206,19 +204,20 @@ impl<C: Channels> Module<C> {
     fn begin(&mut self)
         requires generation { self.old.saves.newest.generation ≤ 2 ^ 62 }
         requires armed { is_armed self.old.mode ≡ true → self.old.saves.newest.generation < 2 ^ 62 }
-        ensures step { Follows C.Channels (λ m n. n ≡ begun m) self.old self.new }
-        ensures setup { setup_of C.Channels self.new ≡ setup_of C.Channels self.old }
+        ensures step { Follows K.ChannelPort (λ m n. n ≡ begun m) self.old self.new }
+        ensures setup { setup_of K.ChannelPort self.new ≡ setup_of K.ChannelPort self.old }
     {
         let count = self.accepted;
-        self.saves.begin(count, self.mode.is_armed(), self.lines);
-        self.channels.hold_from(count);
+        self.saves
+            .begin(count, self.mode.is_armed(), self.channels.lines());
+        self.channels.hold(Some(count));
     }
 
     // Refuses writes until a save of all accepted ones is done.
     fn begin_disarming(&mut self)
         requires { is_armed self.old.mode ≡ true }
-        ensures step { Follows C.Channels (λ m n. n ≡ disarming m) self.old self.new }
-        ensures setup { setup_of C.Channels self.new ≡ setup_of C.Channels self.old }
+        ensures step { Follows K.ChannelPort (λ m n. n ≡ disarming m) self.old self.new }
+        ensures setup { setup_of K.ChannelPort self.new ≡ setup_of K.ChannelPort self.old }
     {
         self.mode = Mode::Disarming;
         self.begin();
@@ -226,10 +225,10 @@ impl<C: Channels> Module<C> {
 
     // Takes a reading; where it is too low while armed the disarming is begun.
     pub(crate) fn take_reading(&mut self, reading: u64) -> bool
-        ensures step { FollowsReading C.Channels reading result self.old self.new }
+        ensures step { FollowsReading K.ChannelPort reading result self.old self.new }
         ensures stays { result ≡ false → self.new.saves ≡ self.old.saves }
         ensures mode { result ≡ false → self.new.mode ≡ self.old.mode }
-        ensures setup { setup_of C.Channels self.new ≡ setup_of C.Channels self.old }
+        ensures setup { setup_of K.ChannelPort self.new ≡ setup_of K.ChannelPort self.old }
     {
         self.reading = reading;
         if !self.is_low() {
@@ -243,9 +242,10 @@ impl<C: Channels> Module<C> {
     /// the last reading.
     pub fn sense<E: Energy>(&mut self, energy: &mut E) -> u64
         ensures answers { (device : DeviceState)
-            → Answers C.Channels Event.Sense (Reply.Sense result)
-            self.old device (E.gauge energy.old) self.new device (E.gauge energy.new) }
-        ensures setup { setup_of C.Channels self.new ≡ setup_of C.Channels self.old }
+            → Answers K.ChannelPort Event.Sense (Reply.Sense result)
+            (assembly self.old device (E.gauge energy.old))
+            (assembly self.new device (E.gauge energy.new)) }
+        ensures setup { setup_of K.ChannelPort self.new ≡ setup_of K.ChannelPort self.old }
     {
         if !self.mode.reads_gauge() {
             return self.reading;
@@ -257,9 +257,9 @@ impl<C: Channels> Module<C> {
 
     /// Begins the disarming of an armed module.
     pub fn disarm(&mut self) -> Result<DisarmReply, ArmRefusal>
-        ensures answers { AnswersAlone C.Channels Event.Disarm (Reply.Disarm result)
+        ensures answers { AnswersAlone K.ChannelPort Event.Disarm (Reply.Disarm result)
             self.old self.new }
-        ensures setup { setup_of C.Channels self.new ≡ setup_of C.Channels self.old }
+        ensures setup { setup_of K.ChannelPort self.new ≡ setup_of K.ChannelPort self.old }
     {
         if let Some(refusal) = self.mode.disarm_refusal() {
             return Err(refusal);
@@ -273,7 +273,7 @@ impl<C: Channels> Module<C> {
 
     /// What may stand in the way of arming and of a save.
     pub fn save_state(&self) -> SaveState
-        ensures state { (m : Machine) → Matches C.Channels self.now m → result ≡ saves_of m }
+        ensures state { (m : Machine) → Matches K.ChannelPort self.now m → result ≡ saves_of m }
         ensures spent { result.is_spent ≡ nat_le (2 ^ 62) self.now.saves.newest.generation }
     {
         SaveState {
@@ -286,9 +286,9 @@ impl<C: Channels> Module<C> {
     /// Begins a save of all writes accepted so far, which holds later ones back until its last page is written. A stranded
     /// disarming is begun again.
     pub fn save_begin(&mut self) -> Result<(), ArmRefusal>
-        ensures answers { AnswersAlone C.Channels Event.SaveBegin (Reply.SaveBegin result)
+        ensures answers { AnswersAlone K.ChannelPort Event.SaveBegin (Reply.SaveBegin result)
             self.old self.new }
-        ensures setup { setup_of C.Channels self.new ≡ setup_of C.Channels self.old }
+        ensures setup { setup_of K.ChannelPort self.new ≡ setup_of K.ChannelPort self.old }
     {
         if let Some(refusal) = self.mode.save_refusal(self.save_state()) {
             return Err(refusal);

@@ -3,12 +3,11 @@ ghost use Rattle.std.specs.Prelude.{◌≡◌};
 ghost use Rattle.save_device.specs.Device.{DeviceState};
 ghost use Rattle.save_image.specs.Header.{Fits};
 ghost use Rattle.save_image.specs.Image.{Image};
-ghost use Rattle.line_channels.specs.View.{IsShape};
 
 use crate::{Module, Saves};
 use arm_state::Mode;
-use energy_budget::Costs;
-use line_channels::Channels;
+use channel_port::ChannelPort;
+use channel_set::ChannelSet;
 use slot_store::{Newest, Restored};
 
 /// What a life begins with, besides its memory.
@@ -41,28 +40,34 @@ impl Opened {
     }
 }
 
-impl<C: Channels> Module<C> {
+/// What doesn't change in a life.
+#[derive(Clone, Copy, Debug, PartialEq, Eq)]
+pub struct LifeTerms {
+    /// The number of its first write.
+    pub start: u64,
+    /// How many writes it may accept.
+    pub trail: u64,
+}
+
+impl<K: ChannelPort> Module<K> {
+    ghost use Rattle.module_core.specs.Opening.{opened_with, setup_with, AreUnasked, BeginsOn};
     ghost use Rattle.module_core.specs.Stands.{ModuleStands, setup_of};
-    ghost use Rattle.module_core.specs.Opening.{new_life, setup_with, BeginsOn, IsUnasked};
 
     /// Begins a life, disarmed, over channels that hold the memory which a restore found. It may accept `trail` writes.
-    pub fn open(channels: C, found: Opened, lines: usize, costs: Costs, trail: u64) -> Module<C>
-        requires lines { lines ≡ (C.view channels).shape.lines }
-        requires costs { costs ≡ (C.view channels).shape.costs }
-        requires shape { IsShape (C.view channels).shape }
-        requires unasked { IsUnasked (C.view channels) }
+    pub fn open(channels: ChannelSet<K>, found: Opened, trail: u64) -> Module<K>
+        requires unasked { AreUnasked K.ChannelPort channels }
         requires numbers { Fits found.newest.generation found.count }
         ensures begins { (image : Image) (device : DeviceState)
-            → BeginsOn C.Channels channels found image device
-            → ModuleStands C.Channels result device (new_life found image) }
-        ensures setup { setup_of C.Channels result ≡ setup_with C.Channels channels trail }
+            → BeginsOn K.ChannelPort channels found image device
+            → ModuleStands K.ChannelPort result device (opened_with found image) }
+        ensures setup { setup_of K.ChannelPort result ≡ setup_with K.ChannelPort channels trail }
     {
         Module {
             channels,
-            lines,
-            trail,
-            costs,
-            start: found.count,
+            terms: LifeTerms {
+                start: found.count,
+                trail,
+            },
             accepted: found.count,
             persisted: found.count,
             mode: Mode::Disarmed,

@@ -1,15 +1,16 @@
 // Lists of events.
 ghost use Rattle.std.specs.Prelude.{◌≡◌, All, IfOk, IfErr};
-ghost use Rattle.module_core.specs.State.{Machine};
+ghost use Rattle.nv_machine.specs.State.{Machine};
 
-use crate::{Event, Module, Reply};
+use crate::Module;
+use channel_port::ChannelPort;
 use energy_budget::Energy;
-use line_channels::Drainable;
+use nv_machine::{Event, Reply};
 use save_device::SaveDevice;
 use std::alloc::{AllocError, Global};
 
-impl<C: Drainable> Module<C> {
-    ghost use Rattle.module_core.specs.Stands.{Answers, AnswersAll, HasDevice, IsForChannels, setup_of};
+impl<K: ChannelPort> Module<K> {
+    ghost use Rattle.module_core.specs.Stands.{Answers, AnswersAll, HasDevice, IsForChannels, setup_of, assembly};
 
     // Answers one event.
     fn apply<D: SaveDevice, E: Energy>(
@@ -18,14 +19,13 @@ impl<C: Drainable> Module<C> {
         device: &mut D,
         energy: &mut E,
     ) -> Reply
-        requires reaches { C.reaches }
-        requires channel { IsForChannels C.Channels self.old event }
-        requires size { HasDevice C.Channels self.old (D.state device.old) }
-        ensures answers { Answers C.Channels event result
-            self.old (D.state device.old) (E.gauge energy.old)
-            self.new (D.state device.new) (E.gauge energy.new) }
-        ensures setup { setup_of C.Channels self.new ≡ setup_of C.Channels self.old }
-        ensures size { HasDevice C.Channels self.new (D.state device.new) }
+        requires channel { IsForChannels K.ChannelPort self.old event }
+        requires size { HasDevice K.ChannelPort self.old (D.state device.old) }
+        ensures answers { Answers K.ChannelPort event result
+            (assembly self.old (D.state device.old) (E.gauge energy.old))
+            (assembly self.new (D.state device.new) (E.gauge energy.new)) }
+        ensures setup { setup_of K.ChannelPort self.new ≡ setup_of K.ChannelPort self.old }
+        ensures size { HasDevice K.ChannelPort self.new (D.state device.new) }
     {
         match event {
             Event::Write(write) => Reply::Write(self.write(write)),
@@ -52,14 +52,13 @@ impl<C: Drainable> Module<C> {
         device: &mut D,
         energy: &mut E,
     ) -> Result<Vec<Reply>, AllocError>
-        requires reaches { C.reaches }
-        requires channels { All (IsForChannels C.Channels self.old) events.now }
-        requires size { HasDevice C.Channels self.old (D.state device.old) }
-        ensures answers { IfOk result (λ replies. AnswersAll C.Channels events.now replies.items
-            self.old (D.state device.old) (E.gauge energy.old)
-            self.new (D.state device.new) (E.gauge energy.new)) }
-        ensures setup { setup_of C.Channels self.new ≡ setup_of C.Channels self.old }
-        ensures size { HasDevice C.Channels self.new (D.state device.new) }
+        requires channels { All (IsForChannels K.ChannelPort self.old) events.now }
+        requires size { HasDevice K.ChannelPort self.old (D.state device.old) }
+        ensures answers { IfOk result (λ replies. AnswersAll K.ChannelPort events.now replies.items
+            (assembly self.old (D.state device.old) (E.gauge energy.old))
+            (assembly self.new (D.state device.new) (E.gauge energy.new))) }
+        ensures setup { setup_of K.ChannelPort self.new ≡ setup_of K.ChannelPort self.old }
+        ensures size { HasDevice K.ChannelPort self.new (D.state device.new) }
         ensures unchanged { IfErr result (λ error. self.new ≡ self.old) }
         ensures device { IfErr result (λ error. device.new ≡ device.old) }
         ensures energy { IfErr result (λ error. energy.new ≡ energy.old) }

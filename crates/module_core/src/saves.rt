@@ -1,14 +1,14 @@
 // The saves of a module: the newest image, and a save that runs.
-ghost use Rattle.std.specs.Prelude.{◌≡◌, ◌+◌, ◌-◌, ◌<◌, ◌≤◌, ◌^◌, ℕ, [], ◌∷◌, is_ok, Some, IsSome, IfOk};
+ghost use Rattle.std.specs.Prelude.{◌≡◌, ◌+◌, ◌-◌, ◌<◌, ◌≤◌, ◌^◌, ℕ, [], ◌∷◌, is_ok, None, Some, IsSome, IfOk};
 ghost use Rattle.std.specs.Option.{ForSome, option_map};
 ghost use Rattle.save_device.specs.Calls.{MakesCalls};
 ghost use Rattle.slot_store.specs.declared.saving.SaveRun.{SaveRun};
 ghost use Rattle.slot_store.specs.Slots.{IsCapacity, HasSize};
 ghost use Rattle.slot_store.specs.Steps.{reach_of};
 ghost use Rattle.slot_store.specs.Runs.{plan_of, next_of};
-ghost use Rattle.module_core.specs.State.{RunningSave, Store};
-ghost use Rattle.module_core.specs.Machine.{step_call};
-ghost use Rattle.module_core.specs.Saving.{count_in, IsOfLines, IsSizedFor, TellsStep, store_after, saving_after, closed_after, unsettled_after, newest_after, IsDone};
+ghost use Rattle.nv_machine.specs.State.{RunningSave, Store};
+ghost use Rattle.nv_machine.specs.Machine.{step_call};
+ghost use Rattle.module_core.specs.Saving.{count_in, IsOfLines, IsSizedFor, MakesAtMost, TellsStep, store_after, IsSaveOver};
 
 use save_device::{DeviceFault, SaveDevice};
 use slot_store::{Newest, SaveRun, Step};
@@ -23,11 +23,11 @@ pub struct Saves {
     pub unsettled: bool,
     pub saving: Option<SaveRun>,
     pub ghost generation: { newest.generation < 2 ^ 63 },
-    pub ghost rises: { ForSome saving (λ run. (plan_of run).generation ≡ newest.generation + 1) },
+    pub ghost over: { ForSome saving (IsSaveOver newest) },
 }
 
 impl Saves {
-    ghost use Rattle.module_core.specs.Begins.{Begins, IsReadyFor, ReachesStore, StepTold};
+    ghost use Rattle.module_core.specs.Saves.{BeginsSave, IsReadyFor, Learns, ReachesStore, StepTold};
 
     /// The coming step of the save that runs, if one does.
     pub(crate) fn next(&self) -> Option<Step>
@@ -56,7 +56,7 @@ impl Saves {
         requires generation { self.old.newest.generation < 2 ^ 63 - 1 }
         requires count { count ≤ 2 ^ 62 }
         requires capacity { IsCapacity lines }
-        ensures { Begins self.old count armed lines self.new }
+        ensures { BeginsSave self.old count armed lines self.new }
     {
         let run = SaveRun::begin(self.newest, self.closed, count, armed, lines);
         self.saving = Some(run);
@@ -85,64 +85,37 @@ impl Saves {
         ensures told { StepTold result self.old self.new }
         ensures lines { (lines : ℕ) → IsOfLines lines self.old.saving
             → IsOfLines lines self.new.saving }
-        ensures most { (most : ℕ) → ForSome self.old.saving (λ run. (plan_of run).generation ≤ most)
-            → ForSome self.new.saving (λ run. (plan_of run).generation ≤ most) }
+        ensures most { (most : ℕ) → MakesAtMost most self.old.saving
+            → MakesAtMost most self.new.saving }
         ensures size { (lines : ℕ) → HasSize lines (D.state device.old)
             → HasSize lines (D.state device.new) }
     {
         let Some(mut run) = self.saving.take() else {
             unreachable!();
         };
-        match run.step(device, page) {
-            Ok(step) => {
-                self.pass(step, run);
-                Ok(self.told(step))
-            }
-            Err(fault) => {
-                self.closed = run.is_closed();
-                self.unsettled = true;
-                Err(fault)
-            }
+        let made = run.step(device, page);
+        self.learn(&run);
+        let step = made?;
+        if run.newest().is_some() {
+            return Ok(None);
         }
+        self.saving = Some(run);
+        Ok(Some(step))
     }
 
-    // The step, or none where it was the last one.
-    fn told(&self, step: Step) -> Option<Step>
-        ensures { IsDone step result }
+    // Keeps what a save says of the device, where it stands so: the image that it made, if it is done; whether the gate of its
+    // slot is closed; and that the device failed in it, if it did.
+    pub(crate) fn learn(&mut self, run: &SaveRun)
+        requires { self.old.saving ≡ None }
+        ensures { Learns run.now self.old self.new }
     {
-        if matches!(step, Step::SyncOpen) {
-            None
-        } else {
-            Some(step)
-        }
-    }
-
-    // After a step that went well.
-    fn pass(&mut self, step: Step, run: SaveRun)
-        requires { (plan_of run).generation ≡ self.old.newest.generation + 1 }
-        ensures saving { self.new.saving ≡ saving_after step run }
-        ensures closed { self.new.closed ≡ closed_after step self.old.closed }
-        ensures unsettled { self.new.unsettled ≡ unsettled_after step self.old.unsettled }
-        ensures newest { newest_after step self.old.newest self.new.newest }
-    {
-        match step {
-            Step::SyncClosed => {
-                self.closed = true;
-                self.saving = Some(run);
-            }
-            Step::Open => {
-                self.closed = false;
-                self.saving = Some(run);
-            }
-            Step::SyncOpen => {
-                self.newest = self.newest.next();
-                self.closed = false;
+        self.closed = run.is_closed();
+        match run.newest() {
+            Some(newest) => {
+                self.newest = newest;
                 self.unsettled = false;
-                self.saving = None;
             }
-            Step::Close | Step::Header | Step::Page(_) | Step::SyncBody | Step::Done => {
-                self.saving = Some(run);
-            }
+            None => self.unsettled = self.unsettled || run.has_failed(),
         }
     }
 }

@@ -5,14 +5,17 @@ ghost use Rattle.slot_store.specs.declared.saving.SaveRun.{SaveRun};
 ghost use Rattle.slot_store.specs.Steps.{reach_of};
 ghost use Rattle.slot_store.specs.Changes.{GivesPage};
 ghost use Rattle.slot_store.specs.Runs.{plan_of, next_of};
-ghost use Rattle.module_core.specs.State.{Machine, RunningSave};
-ghost use Rattle.module_core.specs.Moves.{persisted_at_end};
-ghost use Rattle.module_core.specs.Machine.{MadeStep, must_wait, step_call, is_made};
+ghost use Rattle.channel_set.specs.Set.{shape_of, view_of};
+ghost use Rattle.nv_machine.specs.State.{Machine, RunningSave};
+ghost use Rattle.nv_machine.specs.Moves.{persisted_at_end};
+ghost use Rattle.nv_machine.specs.Machine.{must_wait, step_call, is_made};
 
-use crate::{Event, Module, Reply, StepReply};
+use crate::Module;
 use arm_state::{Mode, Move};
+use channel_port::ChannelPort;
+use channel_set::ChannelSet;
 use energy_budget::Energy;
-use line_channels::Channels;
+use nv_machine::{Event, Reply, StepReply};
 use save_device::SaveDevice;
 use slot_store::Step;
 
@@ -24,10 +27,9 @@ fn persisted_after_save(mode: Mode, persisted: u64, count: u64) -> u64
 }
 
 // The page that a step writes.
-pub(crate) fn page_for<C: Channels>(channels: &C, step: Step) -> [u8; 4096]
-    requires reaches { C.reaches }
-    requires place { reach_of step ≤ (C.view channels.now).shape.lines }
-    ensures { GivesPage (C.view channels.now).array step result }
+fn page_for<K: ChannelPort>(channels: &ChannelSet<K>, step: Step) -> [u8; 4096]
+    requires { reach_of step ≤ (shape_of K.ChannelPort channels.now).lines }
+    ensures { GivesPage (view_of K.ChannelPort channels.now).array step result }
 {
     match step {
         Step::Page(page) => channels.page(page),
@@ -35,13 +37,13 @@ pub(crate) fn page_for<C: Channels>(channels: &C, step: Step) -> [u8; 4096]
     }
 }
 
-impl<C: Channels> Module<C> {
-    ghost use Rattle.module_core.specs.Begins.{IsReadyFor, ReachesStore};
-    ghost use Rattle.module_core.specs.Stands.{Matches, Answers, HasDevice, SameButHold, setup_of};
+impl<K: ChannelPort> Module<K> {
+    ghost use Rattle.module_core.specs.Stepping.{MakesReadyStep};
+    ghost use Rattle.module_core.specs.Stands.{Matches, Answers, HasDevice, SameButHold, assembly, lines_of_module, setup_of};
 
     // A write that the page of the coming step is to have waits for its array.
     fn must_wait(&self, step: Step) -> bool
-        ensures { (m : Machine) (save : RunningSave) → Matches C.Channels self.now m
+        ensures { (m : Machine) (save : RunningSave) → Matches K.ChannelPort self.now m
             → m.store.saving ≡ Some save → save.next ≡ step → result ≡ must_wait m save }
     {
         let Some(count) = self.saves.count() else {
@@ -55,37 +57,34 @@ impl<C: Channels> Module<C> {
 
     // Ends the hold once the last page is written.
     fn release_behind_pages(&mut self)
-        ensures { SameButHold C.Channels self.old self.new }
+        ensures { SameButHold K.ChannelPort self.old self.new }
     {
         let Some(step) = self.saves.next() else {
             return;
         };
         if matches!(step, Step::SyncBody) {
-            self.channels.release();
+            self.channels.hold(None);
         }
     }
 
     // Makes the coming step of the save that runs.
     fn make_step<D: SaveDevice>(&mut self, device: &mut D, page: &[u8; 4096]) -> StepReply
         requires runs { IsSome self.old.saves.saving }
-        requires size { HasDevice C.Channels self.old (D.state device.old) }
-        ensures made { (m : Machine) (save : RunningSave)
-            → IsReadyFor self.old.lines m.store save self.old.saves page.now (D.state device.old)
-            → Matches C.Channels self.old m
-            → (n : Machine) × MadeStep self.old.lines save result m n × Matches C.Channels self.new n
-            × ReachesStore self.old.lines m.store n.store (D.state device.old) self.new.saves (D.state device.new) }
+        requires size { HasDevice K.ChannelPort self.old (D.state device.old) }
+        ensures made { MakesReadyStep K.ChannelPort page.now result
+            self.old (D.state device.old) self.new (D.state device.new) }
         ensures call { (run : SaveRun) → self.old.saves.saving ≡ Some run
             → MakesCalls (step_call (plan_of run).closed (next_of run) ∷ []) (is_made result)
             (D.state device.old).calls (D.state device.new).calls }
-        ensures setup { setup_of C.Channels self.new ≡ setup_of C.Channels self.old }
-        ensures size { HasDevice C.Channels self.new (D.state device.new) }
+        ensures setup { setup_of K.ChannelPort self.new ≡ setup_of K.ChannelPort self.old }
+        ensures size { HasDevice K.ChannelPort self.new (D.state device.new) }
     {
         let Some(count) = self.saves.count() else {
             unreachable!();
         };
         match self.saves.step(device, page) {
             Err(_) => {
-                self.channels.release();
+                self.channels.hold(None);
                 self.mode = self.mode.after(Move::FailSave);
                 StepReply::Fault
             }
@@ -111,13 +110,12 @@ impl<C: Channels> Module<C> {
         device: &mut D,
         energy: &mut E,
     ) -> StepReply
-        requires reaches { C.reaches }
-        requires size { HasDevice C.Channels self.old (D.state device.old) }
-        ensures answers { Answers C.Channels Event.SaveStep (Reply.SaveStep result)
-            self.old (D.state device.old) (E.gauge energy.old)
-            self.new (D.state device.new) (E.gauge energy.new) }
-        ensures setup { setup_of C.Channels self.new ≡ setup_of C.Channels self.old }
-        ensures size { HasDevice C.Channels self.new (D.state device.new) }
+        requires size { HasDevice K.ChannelPort self.old (D.state device.old) }
+        ensures answers { Answers K.ChannelPort Event.SaveStep (Reply.SaveStep result)
+            (assembly self.old (D.state device.old) (E.gauge energy.old))
+            (assembly self.new (D.state device.new) (E.gauge energy.new)) }
+        ensures setup { setup_of K.ChannelPort self.new ≡ setup_of K.ChannelPort self.old }
+        ensures size { HasDevice K.ChannelPort self.new (D.state device.new) }
     {
         let Some(step) = self.saves.next() else {
             return StepReply::NoSave;

@@ -1,4 +1,4 @@
-//! The tests of a module (`module_core`) on DDR4 channels (`module_parts`), from a formatted device on. They stand apart from
+//! The tests of a module (`module_core`) on DDR4 channels (`ddr4_port`), from a formatted device on. They stand apart from
 //! both, since a crate with tests is proved a second time with them.
 #![tactic(auto)]
 

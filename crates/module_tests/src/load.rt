@@ -3,10 +3,11 @@ ghost use Rattle.std.specs.Prelude.{◌≡◌, length};
 ghost use Rattle.module_core.specs.Stands.{HasDevice, setup_of};
 
 use crate::check::same;
+use channel_port::ChannelPort;
 use energy_budget::Meter;
-use line_channels::Channels;
 use line_memory::{Line, Write};
-use module_core::{Module, StepReply};
+use module_core::Module;
+use nv_machine::StepReply;
 use save_device::SaveDevice;
 use slot_store::{Restored, Verdict, device_size, format, restore};
 use std::alloc::Global;
@@ -20,28 +21,24 @@ const TURNS: u64 = 1 << 20;
 
 /// A module, its device and its gauge.
 #[derive(Drop)]
-pub struct Load<C: Channels, D: SaveDevice> {
-    pub running: Module<C>,
+pub struct Load<K: ChannelPort, D: SaveDevice> {
+    pub running: Module<K>,
     pub device: D,
     pub gauge: Meter,
-    ghost counted: { (setup_of C.Channels running).shape.channels ≡ 2 },
-    ghost sized: { HasDevice C.Channels running (D.state device) },
+    ghost counted: { (setup_of K.ChannelPort running).shape.channels ≡ 2 },
+    ghost sized: { HasDevice K.ChannelPort running (D.state device) },
 }
 
-impl<C: Channels, D: SaveDevice> Load<C, D> {
+impl<K: ChannelPort, D: SaveDevice> Load<K, D> {
     // Issues a command of each channel, where it has one, and makes a step of the save that runs.
-    fn turn(&mut self) -> StepReply
-        requires { C.reaches }
-    {
+    fn turn(&mut self) -> StepReply {
         let _issued = self.running.work(0);
         let _issued = self.running.work(1);
         self.running.save_step(&mut self.device, &mut self.gauge)
     }
 
     // Makes a whole save; its generation.
-    fn save<R: Abort>(&mut self, rt: &R) -> u64
-        requires { C.reaches }
-    {
+    fn save<R: Abort>(&mut self, rt: &R) -> u64 {
         same(rt, self.running.save_begin(), Ok(()));
         for _turn in 0..TURNS {
             match self.turn() {
@@ -53,17 +50,13 @@ impl<C: Channels, D: SaveDevice> Load<C, D> {
         panic!(*rt; "not there in time")
     }
 
-    fn write<R: Abort>(&mut self, rt: &R, line: u64)
-        requires { C.reaches }
-    {
+    fn write<R: Abort>(&mut self, rt: &R, line: u64) {
         let data = [0x44; 64];
         same(rt, self.running.write(Write { line, data }).is_ok(), true);
     }
 
     /// Writes three lines, and saves them as the second image.
-    pub(crate) fn save_three_writes<R: Abort>(&mut self, rt: &R)
-        requires { C.reaches }
-    {
+    pub(crate) fn save_three_writes<R: Abort>(&mut self, rt: &R) {
         self.write(rt, 0);
         self.write(rt, 64);
         self.write(rt, 127);

@@ -6,7 +6,7 @@ ghost use Rattle.notice_book.specs.Told.{IsCallableAbove};
 
 use crate::check::same;
 use crate::load::{Image, Load, format_again, restores_to};
-use line_channels::Drainable;
+use channel_port::ChannelPort;
 use module_core::Module;
 use notice_book::{Notice, NoticeBook, Persisted};
 use save_device::SaveDevice;
@@ -39,10 +39,10 @@ fn full_book<R: Abort>(
 
 // The notices that the module calls answer so.
 #[tactic(auto, using(crate::proofs::Later::later_below))]
-fn notifies<C: Drainable, R: Abort>(
+fn notifies<K: ChannelPort, R: Abort>(
     rt: &R,
     alloc: Global,
-    module: &Module<C>,
+    module: &Module<K>,
     book: &mut NoticeBook,
     wanted: &[(u64, u64)],
 )
@@ -54,13 +54,11 @@ fn notifies<C: Drainable, R: Abort>(
 }
 
 /// Notices are called once a save has what they wait for, and not before.
-pub(crate) fn notify_of_a_save<C: Drainable, D: SaveDevice, R: Abort>(
+pub(crate) fn notify_of_a_save<K: ChannelPort, D: SaveDevice, R: Abort>(
     rt: &R,
     alloc: Global,
-    load: &mut Load<C, D>,
-)
-    requires { C.reaches }
-{
+    load: &mut Load<K, D>,
+) {
     let first: Notice = Box::new(alloc, |told: Persisted| told.mark).expect(rt, "memory");
     let second: Notice = Box::new(alloc, |told: Persisted| told.number).expect(rt, "memory");
     let third: Notice = Box::new(alloc, |told: Persisted| told.mark).expect(rt, "memory");
@@ -75,13 +73,11 @@ pub(crate) fn notify_of_a_save<C: Drainable, D: SaveDevice, R: Abort>(
 }
 
 /// Another writer formats the device of a life that goes on: what was told persistent is gone, and no verdict tells it.
-pub(crate) fn write_behind_its_back<C: Drainable, D: SaveDevice, R: Abort>(
+pub(crate) fn write_behind_its_back<K: ChannelPort, D: SaveDevice, R: Abort>(
     rt: &R,
     alloc: Global,
-    load: &mut Load<C, D>,
-)
-    requires { C.reaches }
-{
+    load: &mut Load<K, D>,
+) {
     load.save_three_writes(rt);
     same(rt, load.running.mark(), 3);
     format_again(rt, &mut load.device);

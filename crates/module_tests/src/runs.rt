@@ -5,27 +5,26 @@ ghost use Rattle.module_core.specs.Stands.{IsForChannels};
 use crate::check::same;
 use crate::load::{Image, Load, restores_to};
 use arm_state::{ArmReply, Loss, WriteRefusal};
+use channel_port::ChannelPort;
 use energy_budget::Meter;
-use line_channels::Drainable;
 use line_memory::Write;
-use module_core::{Accepted, Event, Reply, StepReply};
+use nv_machine::{Accepted, Event, Reply, StepReply};
 use save_device::SaveDevice;
 use slot_store::{Step, Verdict};
 use std::alloc::Global;
 use std::process::Abort;
 
 // A module answers a list of events so, on a gauge of this level, and leaves this image.
-fn answers_with<C: Drainable, D: SaveDevice, R: Abort>(
+fn answers_with<K: ChannelPort, D: SaveDevice, R: Abort>(
     rt: &R,
     alloc: Global,
-    load: &mut Load<C, D>,
+    load: &mut Load<K, D>,
     level: u64,
     events: &[Event],
     replies: &[Reply],
     image: Image,
 )
-    requires reaches { C.reaches }
-    requires channels { All (IsForChannels C.Channels load.old.running) events.now }
+    requires channels { All (IsForChannels K.ChannelPort load.old.running) events.now }
 {
     let mut gauge = Meter::with(level, 1);
     let answers = load
@@ -68,13 +67,11 @@ const SAVE_REPLIES: [Reply; 10] = [
 ];
 
 /// A write behind the beginning of a save isn't in its image.
-pub(crate) fn save_at_once<C: Drainable, D: SaveDevice, R: Abort>(
+pub(crate) fn save_at_once<K: ChannelPort, D: SaveDevice, R: Abort>(
     rt: &R,
     alloc: Global,
-    load: &mut Load<C, D>,
-)
-    requires { C.reaches }
-{
+    load: &mut Load<K, D>,
+) {
     let image = Image {
         generation: 2,
         count: 0,
@@ -111,13 +108,11 @@ const LOSS_REPLIES: [Reply; 5] = [
 ];
 
 /// A loss of mains saves what an armed module accepted.
-pub(crate) fn lose_at_once<C: Drainable, D: SaveDevice, R: Abort>(
+pub(crate) fn lose_at_once<K: ChannelPort, D: SaveDevice, R: Abort>(
     rt: &R,
     alloc: Global,
-    load: &mut Load<C, D>,
-)
-    requires { C.reaches }
-{
+    load: &mut Load<K, D>,
+) {
     let image = Image {
         generation: 2,
         count: 2,
@@ -148,13 +143,11 @@ const TURN_REPLIES: [Reply; 5] = [
 ];
 
 /// A gauge that shows just enough to arm, and a unit less at the first step of a save.
-pub(crate) fn turn_at_once<C: Drainable, D: SaveDevice, R: Abort>(
+pub(crate) fn turn_at_once<K: ChannelPort, D: SaveDevice, R: Abort>(
     rt: &R,
     alloc: Global,
-    load: &mut Load<C, D>,
-)
-    requires { C.reaches }
-{
+    load: &mut Load<K, D>,
+) {
     let image = Image {
         generation: 1,
         count: 0,

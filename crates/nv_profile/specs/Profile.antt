@@ -8,8 +8,8 @@ use Rattle.energy_budget.specs.CostNumbers.{AreCostsInLimits}
 use Rattle.toml.specs.Data.{Members}
 use Rattle.toml.specs.Parse.{parse_document}
 use Rattle.nv_profile.specs.declared.sizes.ModuleSizes.{ModuleSizes}
-use Rattle.nv_profile.specs.declared.profile.MapWord.{MapWord}
-use Rattle.nv_profile.specs.declared.profile.MapWord.TheVariants.{Lines, Xor}
+use Rattle.interleave_map.specs.declared.ready.Interleaving.{Interleaving}
+use Rattle.interleave_map.specs.Ready.{text_of}
 use Rattle.nv_profile.specs.declared.profile.Profile.{Profile}
 use Rattle.nv_profile.specs.declared.reading.TheConstants.{MOST_BYTES}
 use Rattle.nv_profile.specs.Nothing.{HoldsOfNone}
@@ -62,12 +62,7 @@ pub record SaysCosts (table : Members) (costs : CostNumbers) : Type 0 where
   pub leak : number_at (codes "leak") table ≡ Some costs.leak
   pub within : AreCostsInLimits costs
 
--- a map by its word
-abbrev pub text_of : MapWord → List ℕ
-text_of Lines = codes "lines"
-text_of Xor = codes "xor"
-
-pub record SaysModule (table : Members) (sizes : ModuleSizes) (word : MapWord) : Type 0 where
+pub record SaysModule (table : Members) (sizes : ModuleSizes) (word : Interleaving) : Type 0 where
   pub size : size_of table ≡ 5
   pub depth : number_at (codes "depth") table ≡ Some sizes.depth
   pub reads : number_at (codes "reads") table ≡ Some sizes.reads

@@ -11,6 +11,6 @@ mod sizes;
 mod table;
 mod timing;
 
-pub use profile::{MapWord, Profile};
+pub use profile::Profile;
 pub use reading::{MOST_BYTES, ProfileFault, TINY, read_profile};
 pub use sizes::ModuleSizes;

@@ -3,8 +3,8 @@ ghost use Rattle.std.specs.Prelude.{IfSome, IsNone};
 ghost use Rattle.toml.specs.View.{table_view};
 ghost use Rattle.nv_profile.specs.Profile.{SaysModule, SaysNoModule};
 
-use crate::profile::MapWord;
 use crate::table::{number_within, size, word};
+use interleave_map::Interleaving;
 use toml::Table;
 
 /// How much room a module has.
@@ -21,7 +21,7 @@ pub struct ModuleSizes {
 }
 
 /// What a table says of the module: exactly these keys, each with a number within its limits, and the word of a map.
-pub(crate) fn read_module(table: &Table) -> Option<(ModuleSizes, MapWord)>
+pub(crate) fn read_module(table: &Table) -> Option<(ModuleSizes, Interleaving)>
     ensures some { IfSome result (λ said. SaysModule (table_view table.now) said.0 said.1) }
     ensures none { IsNone result → SaysNoModule (table_view table.now) }
 {
@@ -34,6 +34,6 @@ pub(crate) fn read_module(table: &Table) -> Option<(ModuleSizes, MapWord)>
         trail: number_within(table, "trail", 1, 65_536)?,
         notices: number_within(table, "notices", 1, 4_096)?,
     };
-    let map = MapWord::named(word(table, "map")?)?;
+    let map = Interleaving::named(word(table, "map")?)?;
     Some((sizes, map))
 }

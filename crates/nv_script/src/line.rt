@@ -1,6 +1,6 @@
 // The lines of a script.
+use interleave_map::Interleaving;
 use line_memory::Write;
-use nv_profile::MapWord;
 use save_device::Pick;
 
 /// One line of a script that isn't skipped.
@@ -44,7 +44,7 @@ pub enum ScriptLine {
     /// `restore [PICK [MAP]]`: a stop with this pick, or with the old bytes, and a life with this map, or the profile's.
     Restore {
         pick: Option<Pick>,
-        map: Option<MapWord>,
+        map: Option<Interleaving>,
     },
     /// `mark`
     Mark,

@@ -8,8 +8,8 @@ ghost use Rattle.nv_script.specs.Line.{NamesChannelOf};
 use crate::line::ScriptLine;
 use crate::word::{BadWord, byte, number, pick};
 use ddr4_timing::timing::Geometry;
+use interleave_map::Interleaving;
 use line_memory::Write;
-use nv_profile::MapWord;
 use std::alloc::{AllocError, Global};
 use std::str;
 use thiserror::Error;
@@ -157,7 +157,7 @@ fn line_of(words: &[&str], geometry: &Geometry) -> Result<ScriptLine, BadWord>
         },
         ["restore", word, map] => ScriptLine::Restore {
             pick: Some(pick(word)?),
-            map: Some(MapWord::named(map).ok_or(BadWord)?),
+            map: Some(Interleaving::named(map).ok_or(BadWord)?),
         },
         _ => return Err(BadWord),
     };

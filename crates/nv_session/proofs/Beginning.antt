@@ -1,39 +1,106 @@
 -- How a life begins after a format, and after a restore.
-use Rattle.std.proofs.Common.{◌≡◌, ◌∙◌, ℕ, List, refl, sym, subst, true}
+use Rattle.std.proofs.Common.{◌≡◌, ◌∙◌, ℕ, List, Bool, [], refl, sym, ap, subst, true, Option}
+use Rattle.ddr4_timing.specs.Limits.{lines_of}
+use Rattle.interleave_map.specs.declared.ready.Interleaving.{Interleaving}
 use Rattle.line_memory.specs.Memory.{zero_lines}
 use Rattle.save_device.specs.Device.{DeviceState}
 use Rattle.save_image.specs.Image.{Image}
+use Rattle.slot_store.specs.declared.restoring.Restored.{Restored}
+use Rattle.slot_store.specs.declared.slots.Slot.{Slot}
 use Rattle.slot_store.specs.declared.slots.Slot.TheVariants.{First}
-use Rattle.slot_store.specs.Outcomes.{first_image}
+use Rattle.slot_store.specs.Outcomes.{Outcome, first_image, restored, verdict_of}
+use Rattle.slot_store.specs.Outcomes as outcome
 use Rattle.slot_store.specs.Rest.{IsAtRestOn}
-use Rattle.line_channels.specs.declared.channels.Channels.{Ghosts}
+use Rattle.slot_store.specs.Slots.{IsCapacity}
+use Rattle.slot_store.specs.Told.{IsRestored, image_of_restored}
+use Rattle.channel_port.specs.declared.port.ChannelPort.{Ghosts}
+use Rattle.channel_port.specs.Shape.{Shape}
+use Rattle.channel_set.specs.declared.set.ChannelSet.{ChannelSet}
+use Rattle.channel_set.specs.Carrying.{CarriesAll}
+use Rattle.nv_machine.specs.State.{Setup}
+use Rattle.nv_profile.specs.declared.profile.Profile.{Profile}
+use Rattle.module_core.specs.declared.module.Module.{Module}
 use Rattle.module_core.specs.declared.opening.Opened.{Opened}
-use Rattle.module_core.specs.Opening.{new_life}
-use Rattle.nv_session.specs.declared.life.Life.{Life}
-use Rattle.nv_session.specs.declared.life.Life.TheVariants.{Lines, Xor}
-use Rattle.nv_session.specs.declared.opening.Found as found_numbers
-use Rattle.nv_session.specs.Living.{LifeStands}
-use Rattle.nv_session.specs.Wired.{RestsOnFound}
-use Rattle.nv_session.specs.Sessions.{LifeBegins, LifeRevives, formatted}
+use Rattle.module_core.specs.Opening.{BeginsOn, opened_with}
+use Rattle.module_core.specs.Stands.{ModuleStands}
+use Rattle.nv_session.specs.declared.lives.Found.{Found}
+use Rattle.nv_session.specs.declared.session.Session.{Session}
+use Rattle.nv_session.specs.declared.wires.Wires as wires
+use Rattle.nv_session.specs.Wired.{BeginsLife, IsWired, RestsOnFound, formatted}
+use Rattle.nv_session.specs.Living.{IsShapeFor, RunsWith, fuse_state}
+use Rattle.nv_session.specs.Restoring.{Revives}
+use Rattle.nv_session.specs.Sessions.{restored_in, setup_over}
 
-module _ {C D : Type 0} (L : Ghosts C) (M : Ghosts D) where
-  begins_standing : (it : Life C D L M) (found : Opened) (memory : List (List ℕ)) (lines : ℕ) (image : Image) (device : DeviceState)
-      → LifeBegins L M found memory lines it → RestsOnFound found memory lines image device → LifeStands L M it device (new_life found image)
-  begins_standing (Lines it) found memory lines image device begins rests = begins image device rests
-  begins_standing (Xor it) found memory lines image device begins rests = begins image device rests
+-- a memory of the profile's lines fills whole pages
+pub is_capacity : (profile : Profile) (shape : Shape) (lines : ℕ) → IsShapeFor profile shape → lines ≡ lines_of profile.checked.geometry → IsCapacity lines
+is_capacity profile shape lines fits is =
+    subst (λ (n : ℕ). IsCapacity n) (fits.lines ∙ sym is) (record { some = fits.shaped.some; most = fits.shaped.most; whole = fits.shaped.whole })
 
-  pub begins_formatted : (it : Life C D L M) (lines lines' held : ℕ) (memory : List (List ℕ)) (device device' : DeviceState)
-      → LifeBegins L M formatted memory lines' it → lines' ≡ lines → held ≡ lines' → memory ≡ zero_lines held → IsAtRestOn First (first_image held) held true device → device' ≡ device
-      → LifeStands L M it device' (new_life formatted (first_image lines))
-  begins_formatted it lines lines' held memory device device' begins same holds zero rest stays =
-      subst (λ (d : DeviceState). LifeStands L M it d (new_life formatted (first_image lines))) (sym stays)
-      (subst (λ (n : ℕ). LifeStands L M it device (new_life formatted (first_image n))) (holds ∙ same)
-      (begins_standing it formatted memory held (first_image held) device (subst (λ (n : ℕ). LifeBegins L M formatted memory n it) (sym holds) begins)
-      (record { generation_is = refl; count_is = refl; memory_is = sym zero; rest = rest })))
+-- what a restore found is what the device is at rest on
+pub record FindsOpened (lines : ℕ) (it : Restored) (opened : Opened) (bytes : List ℕ) (device : DeviceState) : Type 0 where
+  pub restored_is : IsRestored it lines bytes
+  pub rests : (image : Image) → restored lines bytes ≡ outcome.Found it.slot image → IsAtRestOn it.slot image lines it.closed device
+  pub slot : opened.newest.slot ≡ it.slot
+  pub generation : opened.newest.generation ≡ it.generation
+  pub count : opened.count ≡ it.count
+  pub closed : opened.closed ≡ it.closed
 
-  pub revives_still : (it : Life C D L M) (found : found_numbers.Found) (lines lines' : ℕ) (bytes bytes' : List ℕ) (device device' : DeviceState)
-      → LifeRevives L M lines bytes found it device → lines ≡ lines' → bytes ≡ bytes' → device ≡ device' → LifeRevives L M lines' bytes' found it device'
-  revives_still it found lines lines' bytes bytes' device device' revives same left stays =
-      subst (λ (d : DeviceState). LifeRevives L M lines' bytes' found it d) stays
-      (subst (λ (bs : List ℕ). LifeRevives L M lines' bs found it device) left
-      (subst (λ (n : ℕ). LifeRevives L M n bytes found it device) same revives))
+module _ {K : Type 0} (L : Ghosts K) where
+  -- channels with what was found begin on it
+  pub begins_on : (shape : Shape) (lines : ℕ) (memory : List (List ℕ)) (channels : ChannelSet K L) (found : Opened) (image : Image) (device : DeviceState)
+      → IsWired L shape memory channels → shape.lines ≡ lines → RestsOnFound found memory lines image device → BeginsOn L channels found image device
+  begins_on shape lines memory channels found image device wired same rests = record {
+    generation = rests.generation_is;
+    count = rests.count_is;
+    carries = subst (λ (m : List (List ℕ)). CarriesAll L channels m image.count []) (sym rests.memory_is) (wired.carries image.count);
+    rest = subst (λ (n : ℕ). IsAtRestOn found.newest.slot image n found.closed device) (sym (ap (λ (s : Shape). s.lines) wired.shape_is ∙ same)) rests.rest;
+  }
+
+  pub begins_formatted : (it : Module K L) (lines held : ℕ) (memory : List (List ℕ)) (device : DeviceState) → BeginsLife L formatted memory lines it → held ≡ lines
+      → memory ≡ zero_lines held → IsAtRestOn First (first_image held) held true device → ModuleStands L it device (opened_with formatted (first_image lines))
+  begins_formatted it lines held memory device begins same zero rest =
+      begins (first_image lines) device
+      (record {
+        generation_is = refl;
+        count_is = refl;
+        memory_is = ap zero_lines (sym same) ∙ sym zero;
+        rest = subst (λ (n : ℕ). IsAtRestOn First (first_image n) n true device) same rest;
+      })
+
+  pub revives_opened : (lines : ℕ) (it : Restored) (opened : Opened) (bytes : List ℕ) (life : Module K L) (device : DeviceState)
+      → FindsOpened lines it opened bytes device → BeginsLife L opened it.lines.items lines life → Revives L (restored lines bytes) (record { opened = opened; verdict = it.verdict }) life device
+  revives_opened lines it opened bytes life device finds begins =
+      let restored_is : IsRestored it lines bytes = finds.restored_is in let image : Image = image_of_restored it restored_is.arm in
+      record {
+        image = image;
+        finds = restored_is.newest ∙ ap (λ (s : Slot). outcome.Found s image) (sym finds.slot);
+        tells = record { generation_is = finds.generation; count_is = finds.count; verdict_is = restored_is.judged };
+        stands = begins image device
+            (record {
+              generation_is = sym finds.generation;
+              count_is = sym finds.count;
+              memory_is = refl;
+              rest = subst (λ (b : Bool). IsAtRestOn opened.newest.slot image lines b device) (sym finds.closed)
+                  (subst (λ (s : Slot). IsAtRestOn s image lines it.closed device) (sym finds.slot) (finds.rests image restored_is.newest));
+            });
+      }
+
+  -- the same, with what it is told of by other names
+  pub revives_again : (setup setup' : Setup) (restores restores' : Outcome) (found : Found) (device : DeviceState) (life : Option (Module K L))
+      → setup ≡ setup' → restores ≡ restores' → RunsWith L setup (λ it. Revives L restores found it device) life → RunsWith L setup' (λ it. Revives L restores' found it device) life
+  revives_again setup setup' restores restores' found device life same same_image runs = record {
+    it = runs.it;
+    runs = runs.runs;
+    over = runs.over ∙ same;
+    holds = subst (λ (what : Outcome). Revives L what found runs.it device) same_image runs.holds;
+  }
+
+-- the setup is that of the profile and of what makes the channels
+pub same_setup : {K A : Type 0} {L : Ghosts K} {W : wires.Ghosts A K} (old new : Session K A L W) (map map' : Interleaving)
+    → new.profile ≡ old.profile → new.wires ≡ old.wires → map ≡ map' → setup_over new map ≡ setup_over old map'
+same_setup {W = W} old new map map' profile wires same = cc
+
+-- what the bytes restore to is told by them and the profile
+pub same_restored : {K A : Type 0} {L : Ghosts K} {W : wires.Ghosts A K} (old new : Session K A L W)
+    → new.profile ≡ old.profile → (fuse_state new.device).bytes ≡ (fuse_state old.device).bytes → restored_in new ≡ restored_in old
+same_restored {W = W} old new profile bytes = cc

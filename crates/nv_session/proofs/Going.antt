@@ -1,33 +1,62 @@
--- How the life that runs goes on.
-use Rattle.std.proofs.Common.{◌≡◌, List, sym, subst, Option, Some}
+-- How the life of a session goes on.
+use Rattle.std.proofs.Common.{◌≡◌, ℕ, ap, refl, sym, subst, Option, Some, None}
+use Rattle.std.proofs.Math.Logic.{∥∥₁_map}
+use Rattle.std.specs.Prelude.{MatchOption}
+use Rattle.ddr4_timing.specs.Limits.{lines_of}
 use Rattle.save_device.specs.Device.{DeviceState}
-use Rattle.energy_budget.specs.Gauge.{Gauge}
-use Rattle.line_channels.specs.declared.channels.Channels.{Ghosts}
-use Rattle.module_core.specs.declared.events.Event.{Event}
-use Rattle.module_core.specs.declared.events.Reply.{Reply}
-use Rattle.module_core.specs.State.{Setup, Machine}
-use Rattle.nv_session.specs.declared.life.Life.{Life}
-use Rattle.nv_session.specs.declared.life.Life.TheVariants.{Lines, Xor}
-use Rattle.nv_session.specs.Coming.{Tale}
-use Rattle.nv_session.specs.Living.{LifeComes, LifeComesAlone, setup_of_life}
-use Rattle.nv_session.specs.Sessions.{GoesOnBy, GoesOnAlone}
-use Rattle.nv_session.proofs.Coming.{comes_retold}
+use Rattle.slot_store.specs.Slots.{HasSize}
+use Rattle.channel_port.specs.declared.port.ChannelPort.{Ghosts}
+use Rattle.nv_machine.specs.State.{Setup, Machine}
+use Rattle.nv_profile.specs.declared.profile.Profile.{Profile}
+use Rattle.module_core.specs.declared.module.Module.{Module}
+use Rattle.module_core.specs.Stands.{Assembly, HasDevice, ModuleStands, assembly, setup_of}
+use Rattle.nv_session.specs.Coming.{Tale, ComesTo, Comes, ComesAlone}
+use Rattle.nv_session.specs.Living.{GoesOnBy, GoesOnAlone, IsLiving, IsShapeFor, LivesOn, SessionAt, StandsForSome, session_at}
 
-module _ {C D : Type 0} (L : Ghosts C) (M : Ghosts D) where
-  -- the same events, of which something else is told too
-  pub life_retold : (Told Next : Tale) (old new : Life C D L M) (device device' : DeviceState) (gauge gauge' : Gauge) → LifeComes L M Told old device gauge new device' gauge'
-      → ((events : List Event) (replies : List Reply) (m n : Machine) → Told events replies m n → Next events replies m n) → LifeComes L M Next old device gauge new device' gauge'
-  life_retold Told Next (Lines old) (Lines new) device device' gauge gauge' comes tells = comes_retold L Told Next old new device device' gauge gauge' comes tells
-  life_retold Told Next (Xor old) (Xor new) device device' gauge gauge' comes tells = comes_retold M Told Next old new device device' gauge gauge' comes tells
-  life_retold Told Next (Lines old) (Xor new) device device' gauge gauge' comes tells = absurd comes
-  life_retold Told Next (Xor old) (Lines new) device device' gauge gauge' comes tells = absurd comes
+module _ {K : Type 0} (L : Ghosts K) where
+  pub goes_on_by : (Told : Setup → Tale) (old new : SessionAt L) (it later : Module K L) → old.life ≡ Some it → new.life ≡ Some later
+      → Comes L (Told (setup_of L it)) (assembly it old.device old.gauge) (assembly later new.device new.gauge) → setup_of L later ≡ setup_of L it → GoesOnBy L Told old new
+  goes_on_by Told old new it later was runs comes same =
+      subst (λ (life : Option (Module K L)). MatchOption life (new ≡ old) (λ it. LivesOn L Told it old new)) (sym was) (record { it = later; runs = runs; over = same; holds = comes })
 
-  pub goes_on_by : (Told : Setup → Tale) (life : Option (Life C D L M)) (old new : Life C D L M) (device device' : DeviceState) (gauge gauge' : Gauge) → life ≡ Some old
-      → LifeComes L M (Told (setup_of_life L M old)) old device gauge new device' gauge' → setup_of_life L M new ≡ setup_of_life L M old → GoesOnBy L M Told life device gauge (Some new) device' gauge'
-  goes_on_by Told life old new device device' gauge gauge' is comes same =
-      subst (λ (o : Option (Life C D L M)). GoesOnBy L M Told o device gauge (Some new) device' gauge') (sym is) (comes, same)
+  pub goes_on_alone : (Told : Setup → Tale) (life : Option (Module K L)) (it later : Module K L) → life ≡ Some it
+      → ComesAlone L (Told (setup_of L it)) it later → setup_of L later ≡ setup_of L it → GoesOnAlone L Told life (Some later)
+  goes_on_alone Told life it later was comes same =
+      λ device gauge. goes_on_by Told (session_at life device gauge) (session_at (Some later) device gauge) it later was refl (comes device gauge) same
 
-  pub goes_on_alone : (Told : Setup → Tale) (life : Option (Life C D L M)) (old new : Life C D L M) → life ≡ Some old
-      → LifeComesAlone L M (Told (setup_of_life L M old)) old new → setup_of_life L M new ≡ setup_of_life L M old → GoesOnAlone L M Told life (Some new)
-  goes_on_alone Told life old new is comes same =
-      λ device gauge. goes_on_by Told life old new device device gauge gauge is (comes device gauge) same
+  -- the life that runs, or this one
+  abbrev running_or : Module K L → Option (Module K L) → Module K L
+  running_or other (Some it) = it
+  running_or other None = other
+
+  pub begins_living : (profile : Profile) (it : Module K L) (device : DeviceState) → HasSize (lines_of profile.checked.geometry) device
+      → IsShapeFor profile (setup_of L it).shape → StandsForSome L it device → IsLiving L profile (Some it) device
+  begins_living profile it device size fits stands = record {
+    size = size;
+    fits = λ other same. subst (λ (l : Module K L). IsShapeFor profile (setup_of L l).shape) (ap (running_or it) same) fits;
+    stands = λ other same. subst (λ (l : Module K L). StandsForSome L l device) (ap (running_or it) same) stands;
+  }
+
+  still_fits : (profile : Profile) (life : Option (Module K L)) (old new : Assembly L) → life ≡ Some old.it → IsLiving L profile life old.device → setup_of L new.it ≡ setup_of L old.it
+      → IsShapeFor profile (setup_of L new.it).shape
+  still_fits profile life old new was living same = subst (λ (s : Setup). IsShapeFor profile s.shape) (sym same) (living.fits old.it was)
+
+  lives_with : (Told : Tale) (profile : Profile) (life : Option (Module K L)) (old new : Assembly L) → life ≡ Some old.it → IsLiving L profile life old.device
+      → Comes L Told old new → setup_of L new.it ≡ setup_of L old.it → HasSize (lines_of profile.checked.geometry) new.device → IsLiving L profile (Some new.it) new.device
+  lives_with Told profile life old new was living comes same size =
+      begins_living profile new.it new.device size (still_fits profile life old new was living same)
+      (∥∥₁_map (living.stands old.it was)
+      (λ (standing : (m : Machine) × ModuleStands L old.it old.device m). let c : ComesTo L Told old standing.0 new = comes standing.0 standing.1 in (c.runs.last, c.runs.stands)))
+
+  -- after calls that may call the device
+  pub lives_on : (Told : Tale) (profile : Profile) (life : Option (Module K L)) (old new : Assembly L) → life ≡ Some old.it → IsLiving L profile life old.device
+      → Comes L Told old new → setup_of L new.it ≡ setup_of L old.it → HasDevice L new.it new.device → IsLiving L profile (Some new.it) new.device
+  lives_on Told profile life old new was living comes same size =
+      lives_with Told profile life old new was living comes same
+      (subst (λ (n : ℕ). HasSize n new.device) (let fits : IsShapeFor profile (setup_of L new.it).shape = still_fits profile life old new was living same in fits.lines) size)
+
+  -- after calls that don't
+  pub lives_on_alone : (Told : Tale) (profile : Profile) (life : Option (Module K L)) (old new : Assembly L) → life ≡ Some old.it → new.device ≡ old.device
+      → IsLiving L profile life old.device → Comes L Told old new → setup_of L new.it ≡ setup_of L old.it → IsLiving L profile (Some new.it) new.device
+  lives_on_alone Told profile life old new was idle living comes same =
+      lives_with Told profile life old new was living comes same (subst (λ (d : DeviceState). HasSize (lines_of profile.checked.geometry) d) (sym idle) living.size)

@@ -2,12 +2,9 @@ pub mod Coming
 pub mod Promised
 pub mod Awaiting
 pub mod Reading
-pub mod Saving
+pub mod SaveSteps
 pub mod Stepping
 pub mod Turning
-pub mod OneEvents
-pub mod LifeEvents
 pub mod Going
 pub mod Beginning
 pub mod Restoring
-pub mod InLife

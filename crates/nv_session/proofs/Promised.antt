@@ -3,13 +3,13 @@ use Rattle.std.proofs.Common.{◌≡◌, ℕ, List, ◌∷◌, suc, refl, sym, s
 use Rattle.std.specs.Prelude.{insert, remove}
 use Rattle.std.proofs.lemmas.List.Elements.{All-append, All-take, All-drop, All-cons, All-set, All-get_or}
 use Rattle.std.proofs.lemmas.Option.{slice_get_within, get_or_from_slice_get}
-use Rattle.channel_answers.specs.declared.answers.Ticket.{Ticket}
-use Rattle.channel_answers.specs.declared.answers.Collected.{Collected}
-use Rattle.channel_answers.specs.declared.answers.Collected.TheVariants.{Data, Pending, Unknown}
-use Rattle.channel_answers.specs.declared.answers.Served.{Served}
-use Rattle.channel_answers.specs.declared.answers.Served.TheVariants as served
-use Rattle.line_channels.specs.Waits.{OpenRead, Waits, IsNewTicket}
-use Rattle.line_channels.specs.Answers.{IsCollected, IsServed, open_read}
+use Rattle.channel_port.specs.declared.answers.Ticket.{Ticket}
+use Rattle.channel_port.specs.declared.answers.Collected.{Collected}
+use Rattle.channel_port.specs.declared.answers.Collected.TheVariants.{Data, Pending, Unknown}
+use Rattle.channel_port.specs.declared.answers.Served.{Served}
+use Rattle.channel_port.specs.declared.answers.Served.TheVariants as served
+use Rattle.channel_port.specs.Waits.{OpenRead, Waits, IsNewTicket}
+use Rattle.channel_port.specs.Answers.{IsCollected, IsServed, open_read}
 
 -- what holds of each item holds of the one at a place
 pub all_at : {X : Type 0} (P : X → Type 0) (xs : List X) (i : ℕ) (x : X) → All P xs → slice_get xs i ≡ Some x → P x
@@ -36,12 +36,12 @@ pub promised_given : (ticket : Ticket) (bytes : List ℕ) (line : ℕ) (got : Li
     → IsCollected ticket (Data line got at) old new → All (Has ticket bytes) old.reads → got ≡ bytes
 promised_given ticket bytes line got at old new told all = all_at (Has ticket bytes) old.reads told.0.0 (open_read ticket line got at true) all told.0.1 refl
 
-pub promised_served : (ticket : Ticket) (bytes : List ℕ) (channel_of : ℕ → ℕ) (hold : Option ℕ) (channel : ℕ) (answer : Option Served) (old new : Waits)
-    → IsServed channel_of hold channel answer old new → All (Has ticket bytes) old.reads → All (Has ticket bytes) new.reads
-promised_served ticket bytes channel_of hold channel None old new told all = subst (λ (w : Waits). All (Has ticket bytes) w.reads) (sym told) all
-promised_served ticket bytes channel_of hold channel (Some (served.Write number)) old new told all =
+pub promised_served : (ticket : Ticket) (bytes : List ℕ) (hold : Option ℕ) (channel : ℕ) (answer : Option Served) (old new : Waits)
+    → IsServed hold channel answer old new → All (Has ticket bytes) old.reads → All (Has ticket bytes) new.reads
+promised_served ticket bytes hold channel None old new told all = subst (λ (w : Waits). All (Has ticket bytes) w.reads) (sym told) all
+promised_served ticket bytes hold channel (Some (served.Write number)) old new told all =
     subst (λ (rs : List OpenRead). All (Has ticket bytes) rs) (sym told.reads) all
-promised_served ticket bytes channel_of hold channel (Some (served.Read other)) old new told all =
+promised_served ticket bytes hold channel (Some (served.Read other)) old new told all =
     subst (λ (rs : List OpenRead). All (Has ticket bytes) rs) (sym told.reads)
     (All-set (Has ticket bytes) old.reads told.place (record told.read { answered = true }) (all_at (Has ticket bytes) old.reads told.place told.read all told.stands) all)
 

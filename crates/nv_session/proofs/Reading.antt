@@ -1,25 +1,24 @@
 -- A read, at once or awaited.
-use Rattle.std.proofs.Common.{◌≡◌, ℕ, List, [], ◌∷◌, ◌++◌, refl, sym, subst, None, Ok, Err}
-use Rattle.channel_answers.specs.declared.answers.Ticket.{Ticket}
-use Rattle.channel_answers.specs.declared.answers.Got.TheVariants.{Now, Later}
-use Rattle.line_channels.specs.declared.channels.Channels.{Ghosts}
-use Rattle.line_channels.specs.Waits.{OpenRead}
-use Rattle.line_channels.specs.Answers.{line_of}
-use Rattle.std.proofs.Common.{All}
+use Rattle.std.proofs.Common.{◌≡◌, ℕ, List, [], ◌∷◌, ◌++◌, refl, sym, subst, None, Ok, Err, All}
+use Rattle.channel_port.specs.declared.answers.Ticket.{Ticket}
+use Rattle.channel_port.specs.declared.answers.Got.TheVariants.{Now, Later}
+use Rattle.channel_port.specs.declared.port.ChannelPort.{Ghosts}
+use Rattle.channel_port.specs.Waits.{OpenRead}
+use Rattle.line_memory.specs.Memory.{line_of}
 use Rattle.module_core.specs.declared.module.Module.{Module}
-use Rattle.module_core.specs.declared.events.Event.{Event}
-use Rattle.module_core.specs.declared.events.Event.TheVariants as events
-use Rattle.module_core.specs.declared.events.Reply.{Reply}
-use Rattle.module_core.specs.declared.events.Reply.TheVariants as replies
+use Rattle.nv_machine.specs.declared.events.Event.{Event}
+use Rattle.nv_machine.specs.declared.events.Event.TheVariants as events
+use Rattle.nv_machine.specs.declared.events.Reply.{Reply}
+use Rattle.nv_machine.specs.declared.events.Reply.TheVariants as replies
 use Rattle.arm_state.specs.declared.refusal.ReadRefusal.{ReadRefusal}
-use Rattle.module_core.specs.State.{Setup, Machine, memory_of, all_of}
-use Rattle.module_core.specs.Refusals.{read_refusal}
-use Rattle.module_core.specs.Machine.{ReadStep}
-use Rattle.module_core.specs.Stands.{AnswersAlone, setup_of}
+use Rattle.nv_machine.specs.State.{Setup, Machine, memory_of, all_of}
+use Rattle.nv_machine.specs.Refusals.{read_refusal}
+use Rattle.nv_machine.specs.Machine.{ReadStep}
+use Rattle.module_core.specs.Stands.{AnswersAlone, assembly, setup_of}
 use Rattle.nv_session.specs.Coming.{ComesAlone}
 use Rattle.nv_session.specs.Turns.{SameButWaits, IsPromised, SeesPromised, SeesLine}
-use Rattle.nv_session.specs.declared.turns.Seen.{Seen}
-use Rattle.nv_session.specs.declared.turns.Seen.TheVariants.{Content}
+use Rattle.nv_session.specs.declared.turns.LineSeen.{LineSeen}
+use Rattle.nv_session.specs.declared.turns.LineSeen.TheVariants.{Content}
 use Rattle.nv_session.proofs.Coming.{Starts, starts_at, comes_further, comes_on}
 use Rattle.nv_session.proofs.Promised.{Has, promised_new}
 use Rattle.nv_session.proofs.Awaiting.{same_after}
@@ -51,37 +50,37 @@ refused_seen : (setup : Setup) (line : ℕ) (refusal : ReadRefusal) (es fs : Lis
 refused_seen setup line refusal es fs rs ts m n l told step =
     subst (λ (x : Machine). SeesLine setup line (Err refusal) fs ts x l) told.same (step.0, step.1)
 
-promise_kept : (setup : Setup) (line : ℕ) (ticket : Ticket) (seen : Seen) (es fs : List Event) (rs ts : List Reply) (m n l : Machine)
+promise_kept : (setup : Setup) (line : ℕ) (ticket : Ticket) (seen : LineSeen) (es fs : List Event) (rs ts : List Reply) (m n l : Machine)
     → PromisesLine setup line ticket es rs m n → SeesPromised ticket seen fs ts n l → SeesLine setup line (Ok seen) (es ++ fs) (rs ++ ts) m l
 promise_kept setup line ticket seen es fs rs ts m n l told next =
     (told.unrefused, next.promised (line_of (memory_of m) line) told.promised, same_after m n l told.same next.same)
 
-module _ {C : Type 0} (L : Ghosts C) where
-  pub sees_now : (line : ℕ) (bytes : List ℕ) (old new : Module C L) → AnswersAlone L (events.Read line) (replies.Read (Ok (Now bytes))) old new
+module _ {K : Type 0} (L : Ghosts K) where
+  pub sees_now : (line : ℕ) (bytes : List ℕ) (old new : Module K L) → AnswersAlone L (events.Read line) (replies.Read (Ok (Now bytes))) old new
       → ComesAlone L (SeesLine (setup_of L old) line (Ok (Content bytes))) old new
   sees_now line bytes old new answers device gauge =
-      comes_further L Starts (SeesLine (setup_of L old) line (Ok (Content bytes))) (events.Read line) (replies.Read (Ok (Now bytes))) old old new device device device gauge gauge gauge refl
-      (starts_at L old device gauge) (answers device gauge)
+      comes_further L Starts (SeesLine (setup_of L old) line (Ok (Content bytes))) (events.Read line) (replies.Read (Ok (Now bytes))) (assembly old device gauge) (assembly old device gauge) (assembly new device gauge) refl
+      (starts_at L (assembly old device gauge)) (answers device gauge)
       (λ es rs m n l stands told happens. now_seen (setup_of L old) line bytes es (es ++ events.Read line ∷ []) rs (rs ++ replies.Read (Ok (Now bytes)) ∷ []) m n l told happens.step.1)
 
-  pub sees_refusal : (line : ℕ) (refusal : ReadRefusal) (old new : Module C L) → AnswersAlone L (events.Read line) (replies.Read (Err refusal)) old new
+  pub sees_refusal : (line : ℕ) (refusal : ReadRefusal) (old new : Module K L) → AnswersAlone L (events.Read line) (replies.Read (Err refusal)) old new
       → ComesAlone L (SeesLine (setup_of L old) line (Err refusal)) old new
   sees_refusal line refusal old new answers device gauge =
-      comes_further L Starts (SeesLine (setup_of L old) line (Err refusal)) (events.Read line) (replies.Read (Err refusal)) old old new device device device gauge gauge gauge refl
-      (starts_at L old device gauge) (answers device gauge)
+      comes_further L Starts (SeesLine (setup_of L old) line (Err refusal)) (events.Read line) (replies.Read (Err refusal)) (assembly old device gauge) (assembly old device gauge) (assembly new device gauge) refl
+      (starts_at L (assembly old device gauge)) (answers device gauge)
       (λ es rs m n l stands told happens. refused_seen (setup_of L old) line refusal es (es ++ events.Read line ∷ []) rs (rs ++ replies.Read (Err refusal) ∷ []) m n l told happens.step.1)
 
-  promises_later : (line : ℕ) (ticket : Ticket) (old new : Module C L) → AnswersAlone L (events.Read line) (replies.Read (Ok (Later ticket))) old new
+  promises_later : (line : ℕ) (ticket : Ticket) (old new : Module K L) → AnswersAlone L (events.Read line) (replies.Read (Ok (Later ticket))) old new
       → ComesAlone L (PromisesLine (setup_of L old) line ticket) old new
   promises_later line ticket old new answers device gauge =
-      comes_further L Starts (PromisesLine (setup_of L old) line ticket) (events.Read line) (replies.Read (Ok (Later ticket))) old old new device device device gauge gauge gauge refl
-      (starts_at L old device gauge) (answers device gauge)
+      comes_further L Starts (PromisesLine (setup_of L old) line ticket) (events.Read line) (replies.Read (Ok (Later ticket))) (assembly old device gauge) (assembly old device gauge) (assembly new device gauge) refl
+      (starts_at L (assembly old device gauge)) (answers device gauge)
       (λ es rs m n l stands told happens. later_promised (setup_of L old) line ticket es (es ++ events.Read line ∷ []) rs (rs ++ replies.Read (Ok (Later ticket)) ∷ []) m n l told happens.step.1)
 
-  pub sees_later : (line : ℕ) (ticket : Ticket) (seen : Seen) (old mid new : Module C L) → setup_of L mid ≡ setup_of L old
+  pub sees_later : (line : ℕ) (ticket : Ticket) (seen : LineSeen) (old mid new : Module K L) → setup_of L mid ≡ setup_of L old
       → AnswersAlone L (events.Read line) (replies.Read (Ok (Later ticket))) old mid → ComesAlone L (SeesPromised ticket seen) mid new
       → ComesAlone L (SeesLine (setup_of L old) line (Ok seen)) old new
   sees_later line ticket seen old mid new same answers next device gauge =
-      comes_on L (PromisesLine (setup_of L old) line ticket) (SeesPromised ticket seen) (SeesLine (setup_of L old) line (Ok seen)) old mid new device device device gauge gauge gauge same
+      comes_on L (PromisesLine (setup_of L old) line ticket) (SeesPromised ticket seen) (SeesLine (setup_of L old) line (Ok seen)) (assembly old device gauge) (assembly mid device gauge) (assembly new device gauge) same
       (promises_later line ticket old mid answers device gauge) (next device gauge)
       (λ es fs rs ts m n l told later. promise_kept (setup_of L old) line ticket seen es fs rs ts m n l told later)

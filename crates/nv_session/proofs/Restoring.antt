@@ -2,6 +2,7 @@
 use Rattle.std.proofs.Common.{◌≡◌, ◌≢◌, ◌∙◌, ℕ, ◌≤◌, List, false, inl, inr, refl, sym, ap, subst, arith, Option, Some, None}
 use Rattle.std.proofs.Math.Logic.{∥∥₁_map, ∥∥₁_elim}
 use Rattle.std.proofs.lemmas.Grind.{merely}
+use Rattle.ddr4_timing.specs.Limits.{lines_of}
 use Rattle.save_device.specs.Device.{DeviceState, present, MayLeave, LeavesOnly, IsSettled}
 use Rattle.save_device.proofs.Moments.{last_within}
 use Rattle.save_device.proofs.Rows.{same_rows}
@@ -14,27 +15,20 @@ use Rattle.slot_store.specs.declared.restoring.RestoreError.{RestoreError}
 use Rattle.slot_store.specs.declared.restoring.RestoreError.TheVariants as errors
 use Rattle.slot_store.specs.Rest.{Candidates, IsAmong, only, rearmed}
 use Rattle.arm_state.specs.Modes.{is_armed}
-use Rattle.line_channels.specs.declared.channels.Channels.{Ghosts}
-use Rattle.module_core.specs.declared.module.Module.{Module}
-use Rattle.module_core.specs.State.{Machine, newest_of, memory_after}
-use Rattle.module_core.specs.Guard.{IsPrefix, HasCause}
-use Rattle.module_core.specs.Headline.{LeftAfter}
-use Rattle.module_core.specs.Stands.{ModuleStands, setup_of}
-use Rattle.module_core.proofs.Leaving.{left_after}
-use Rattle.module_core.proofs.StoreSteps.{stop_now}
-use Rattle.module_core.proofs.SurvivedLives.{clear_where}
-use Rattle.nv_session.specs.declared.life.Life.{Life}
-use Rattle.nv_session.specs.declared.life.Life.TheVariants.{Lines, Xor}
-use Rattle.ddr4_timing.specs.Limits.{lines_of}
-use Rattle.nv_profile.specs.declared.profile.MapWord.{MapWord}
+use Rattle.channel_port.specs.declared.port.ChannelPort.{Ghosts}
+use Rattle.nv_machine.specs.State.{Machine, Setup, newest_of, memory_after}
+use Rattle.nv_machine.specs.Guard.{IsPrefix, HasCause}
+use Rattle.nv_machine.specs.Headline.{RecoversAfterwards}
+use Rattle.nv_machine.proofs.SurvivedLives.{clear_where}
 use Rattle.nv_profile.specs.declared.profile.Profile.{Profile}
-use Rattle.nv_session.specs.declared.opening.Found.{Found}
+use Rattle.module_core.specs.declared.module.Module.{Module}
+use Rattle.module_core.specs.Stands.{Assembly, ModuleStands, assembly, lines_of_module, setup_of}
+use Rattle.module_core.proofs.StoreSteps.{stop_now}
+use Rattle.nv_session.specs.declared.lives.Found.{Found}
 use Rattle.nv_session.specs.Turns.{HasSaved}
-use Rattle.nv_session.specs.Living.{LifeStands, IsInLife, setup_of_life}
-use Rattle.nv_session.specs.Wired.{Revives}
-use Rattle.nv_session.specs.Fitting.{IsShapeFor, FitsLife}
-use Rattle.nv_session.specs.Sessions.{LifeRevives, RunsOver}
-use Rattle.nv_session.specs.Restoring.{FindsSaved, FindsPrefix, FindsPrefixOf, GoesBackTo, IsLeftBy, KeepsPrefixOf, TellsPrefix}
+use Rattle.nv_session.specs.Living.{IsLiving, IsShapeFor, RunsWith, SessionAt, session_at}
+use Rattle.nv_session.specs.Restoring.{FindsSaved, FindsPrefix, FindsPrefixOf, GoesBackTo, IsLeftBy, KeepsPrefixOf, Revives, TellsImage, TellsPrefix}
+use Rattle.nv_session.proofs.Coming.{left_by_life}
 
 among_only : (slot : Slot) (image : Image) (found : Outcome) → IsAmong (only slot image) found → found ≡ outcome.Found slot image
 among_only slot image found (inl r) = r.found ∙ ap (λ (arm : ℕ). outcome.Found slot (rearmed image arm)) (r.own refl)
@@ -49,20 +43,18 @@ image_in image (outcome.Damaged slot) = image
 
 -- what is told of the image that a stop leaves
 tells_prefix : (m : Machine) (found : Found) (image : Image) (what : Outcome) (slot : Slot)
-    → found.generation ≡ image.generation → found.count ≡ image.count → found.verdict ≡ verdict_of image.arm image.count
-    → what ≡ outcome.Found slot image → LeftAfter m what → TellsPrefix m found image
-tells_prefix m found image what slot generation count verdict is left =
-    let r = left.recovers in
+    → TellsImage found image → what ≡ outcome.Found slot image → RecoversAfterwards m what → TellsPrefix m found image
+tells_prefix m found image what slot tells is left =
+    let r = left.recovers in let count = tells.count_is in
     let same : r.image ≡ image = ap (image_in image) (sym r.found ∙ is) in
     record {
-      generation_is = generation;
-      count_is = count;
+      tells = tells;
       prefix = subst (λ (i : Image). IsPrefix m i) same r.prefix;
       complete = λ told.
-          omega (arith, count, subst (λ (i : Image). i.arm ≡ 0 → m.life.persisted ≤ i.count) same r.complete (clear_where image.arm image.count (sym verdict ∙ told)));
+          omega (arith, count, subst (λ (i : Image). i.arm ≡ 0 → m.life.persisted ≤ i.count) same r.complete (clear_where image.arm image.count (sym tells.verdict_is ∙ told)));
       whole = λ calm. omega (arith, count, subst (λ (i : Image). m.life.persisted ≤ i.count) same (r.whole calm));
       cause = λ other.
-          subst (λ (i : Image). i.arm ≢ 0 → HasCause m i) same r.cause (λ clear. other (verdict ∙ ap (λ (a : ℕ). verdict_of a image.count) clear));
+          subst (λ (i : Image). i.arm ≢ 0 → HasCause m i) same r.cause (λ clear. other (tells.verdict_is ∙ ap (λ (a : ℕ). verdict_of a image.count) clear));
     }
 
 -- a stop of a settled device leaves its bytes
@@ -84,139 +76,84 @@ only_fails errors.NoImage what found refuses = ∥∥₁_elim found (λ x y. abs
 only_fails errors.WrongSize what found refuses = ∥∥₁_elim found (λ x y. absurd x) (λ f. subst IsNotFound (sym refuses ∙ f.2) tt)
 only_fails (errors.Damaged slot) what found refuses = ∥∥₁_elim found (λ x y. absurd x) (λ f. subst IsNotFound (sym refuses ∙ f.2) tt)
 
-module _ {C : Type 0} (L : Ghosts C) where
-  module_stopped : (it : Module C L) (m : Machine) (device : DeviceState) (bytes : List ℕ) → ModuleStands L it device m → MayLeave (present device) bytes
-      → LeftAfter m (restored (setup_of L it).shape.lines bytes)
-  module_stopped it m device bytes stands left =
-      left_after m stands.guarded (restored (setup_of L it).shape.lines bytes)
-      (subst (λ (n : ℕ). IsAmong m.store.maybe (restored n bytes)) it.sized (stop_now it.lines m.store it.saves.saving device stands.holds bytes left))
+module _ {K : Type 0} (L : Ghosts K) where
+  -- what a stop leaves of a save that is done
+  saved_left : (it : Assembly L) (m : Machine) (generation count : ℕ) (bytes : List ℕ) → ModuleStands L it.it it.device m → HasSaved generation count m
+      → MayLeave (present it.device) bytes → restored (lines_of_module L it.it) bytes ≡ outcome.Found m.store.maybe.slot (newest_of m)
+  saved_left it m generation count bytes stands saved left =
+      let lines : ℕ = lines_of_module L it.it in
+      among_only m.store.maybe.slot (newest_of m) (restored lines bytes)
+      (subst (λ (c : Candidates). IsAmong c (restored lines bytes)) saved.alone (stop_now lines m.store it.it.saves.saving it.device stands.holds bytes left))
 
-  module_tells : (it : Module C L) (m : Machine) (lines : ℕ) (bytes : List ℕ) (found : Found) (device : DeviceState)
-      → LeftAfter m (restored lines bytes) → (revives : Revives L lines bytes found it device) → TellsPrefix m found revives.image
-  module_tells it m lines bytes found device left revives =
-      tells_prefix m found revives.image (restored lines bytes) revives.opened.newest.slot revives.generation_is revives.count_is revives.verdict_is revives.finds left
-
-  module_left : (it : Module C L) (m : Machine) (device : DeviceState) (generation count : ℕ) (bytes : List ℕ) → ModuleStands L it device m → HasSaved generation count m
-      → MayLeave (present device) bytes → restored (setup_of L it).shape.lines bytes ≡ outcome.Found m.store.maybe.slot (newest_of m)
-  module_left it m device generation count bytes stands saved left =
-      subst (λ (n : ℕ). restored n bytes ≡ outcome.Found m.store.maybe.slot (newest_of m)) it.sized
-      (among_only m.store.maybe.slot (newest_of m) (restored it.lines bytes)
-      (subst (λ (c : Candidates). IsAmong c (restored it.lines bytes)) saved.alone
-      (stop_now it.lines m.store it.saves.saving device stands.holds bytes left)))
-
-  image_is : (lines : ℕ) (bytes : List ℕ) (found : Found) (it : Module C L) (device : DeviceState) (slot : Slot) (image : Image)
-      → restored lines bytes ≡ outcome.Found slot image → (revives : Revives L lines bytes found it device) → revives.image ≡ image
-  image_is lines bytes found it device slot image is revives = ap (image_in image) (sym revives.finds ∙ is)
-
-module _ {C D : Type 0} (L : Ghosts C) (M : Ghosts D) where
-  life_left : (it : Life C D L M) (m : Machine) (device : DeviceState) (generation count : ℕ) (bytes : List ℕ) → LifeStands L M it device m → HasSaved generation count m
-      → MayLeave (present device) bytes → restored (setup_of_life L M it).shape.lines bytes ≡ outcome.Found m.store.maybe.slot (newest_of m)
-  life_left (Lines it) m device generation count bytes stands saved left = module_left L it m device generation count bytes stands saved left
-  life_left (Xor it) m device generation count bytes stands saved left = module_left M it m device generation count bytes stands saved left
-
-  finds_image : (it : Life C D L M) (m : Machine) (generation count lines : ℕ) (bytes : List ℕ) (found : Found) (device : DeviceState)
-      → HasSaved generation count m → is_armed m.mode ≡ false → restored lines bytes ≡ outcome.Found m.store.maybe.slot (newest_of m)
-      → LifeRevives L M lines bytes found it device → FindsSaved L M generation count (memory_after m count) found it device
-  finds_image (Lines it) m generation count lines bytes found device saved unarmed is revives =
-      let same = image_is L lines bytes found it device m.store.maybe.slot (newest_of m) is revives in
+  pub save_restored : (old new : Assembly L) (m : Machine) (generation count : ℕ) (bytes : List ℕ) (found : Found)
+      → ModuleStands L old.it old.device m → HasSaved generation count m → is_armed m.mode ≡ false → MayLeave (present old.device) bytes
+      → Revives L (restored (lines_of_module L old.it) bytes) found new.it new.device → FindsSaved L generation count (memory_after m count) found new.it new.device
+  save_restored old new m generation count bytes found stands saved unarmed left revives =
+      let same : revives.image ≡ newest_of m = ap (image_in (newest_of m)) (sym revives.finds ∙ saved_left old m generation count bytes stands saved left) in
       record {
-        generation_is = revives.generation_is ∙ ap (λ (i : Image). i.generation) same ∙ saved.generation_is;
-        count_is = revives.count_is ∙ ap (λ (i : Image). i.count) same ∙ saved.count_is;
-        complete = revives.verdict_is ∙ ap (λ (n : ℕ). verdict_of n revives.image.count) (ap (λ (i : Image). i.arm) same ∙ saved.complete unarmed);
-        opened = revives.opened;
-        image = revives.image;
-        stands = revives.stands;
-        memory_is = ap (λ (i : Image). i.memory) same ∙ saved.memory;
-      }
-  finds_image (Xor it) m generation count lines bytes found device saved unarmed is revives =
-      let same = image_is M lines bytes found it device m.store.maybe.slot (newest_of m) is revives in
-      record {
-        generation_is = revives.generation_is ∙ ap (λ (i : Image). i.generation) same ∙ saved.generation_is;
-        count_is = revives.count_is ∙ ap (λ (i : Image). i.count) same ∙ saved.count_is;
-        complete = revives.verdict_is ∙ ap (λ (n : ℕ). verdict_of n revives.image.count) (ap (λ (i : Image). i.arm) same ∙ saved.complete unarmed);
-        opened = revives.opened;
+        generation_is = revives.tells.generation_is ∙ ap (λ (i : Image). i.generation) same ∙ saved.generation_is;
+        count_is = revives.tells.count_is ∙ ap (λ (i : Image). i.count) same ∙ saved.count_is;
+        complete = revives.tells.verdict_is ∙ ap (λ (n : ℕ). verdict_of n revives.image.count) (ap (λ (i : Image). i.arm) same ∙ saved.complete unarmed);
         image = revives.image;
         stands = revives.stands;
         memory_is = ap (λ (i : Image). i.memory) same ∙ saved.memory;
       }
 
-  pub save_restored : (old new : Life C D L M) (m : Machine) (generation count : ℕ) (device device' : DeviceState) (bytes : List ℕ) (found : Found)
-      → LifeStands L M old device m → HasSaved generation count m → is_armed m.mode ≡ false → MayLeave (present device) bytes
-      → LifeRevives L M (setup_of_life L M old).shape.lines bytes found new device' → FindsSaved L M generation count (memory_after m count) found new device'
-  save_restored old new m generation count device device' bytes found stands saved unarmed left revives =
-      finds_image new m generation count (setup_of_life L M old).shape.lines bytes found device' saved unarmed
-      (life_left old m device generation count bytes stands saved left) revives
-
-  life_stopped : (it : Life C D L M) (m : Machine) (device : DeviceState) (bytes : List ℕ) → LifeStands L M it device m → MayLeave (present device) bytes
-      → LeftAfter m (restored (setup_of_life L M it).shape.lines bytes)
-  life_stopped (Lines it) m device bytes stands left = module_stopped L it m device bytes stands left
-  life_stopped (Xor it) m device bytes stands left = module_stopped M it m device bytes stands left
-
-  finds_prefix : (it : Life C D L M) (m : Machine) (lines : ℕ) (bytes : List ℕ) (found : Found) (device : DeviceState) → LeftAfter m (restored lines bytes)
-      → LifeRevives L M lines bytes found it device → FindsPrefix L M m found it device
-  finds_prefix (Lines it) m lines bytes found device left revives = record {
-    opened = revives.opened;
+  finds_prefix : (it : Module K L) (m : Machine) (lines : ℕ) (bytes : List ℕ) (found : Found) (device : DeviceState) → RecoversAfterwards m (restored lines bytes)
+      → Revives L (restored lines bytes) found it device → FindsPrefix L m found it device
+  finds_prefix it m lines bytes found device left revives = record {
     image = revives.image;
     stands = revives.stands;
-    tells = module_tells L it m lines bytes found device left revives;
-  }
-  finds_prefix (Xor it) m lines bytes found device left revives = record {
-    opened = revives.opened;
-    image = revives.image;
-    stands = revives.stands;
-    tells = module_tells M it m lines bytes found device left revives;
+    tells = tells_prefix m found revives.image (restored lines bytes) found.opened.newest.slot revives.tells revives.finds left;
   }
 
-  pub stop_restored : (old new : Life C D L M) (m : Machine) (device device' : DeviceState) (bytes : List ℕ) (found : Found)
-      → LifeStands L M old device m → MayLeave (present device) bytes → LifeRevives L M (setup_of_life L M old).shape.lines bytes found new device'
-      → FindsPrefix L M m found new device'
-  stop_restored old new m device device' bytes found stands left revives =
-      finds_prefix new m (setup_of_life L M old).shape.lines bytes found device' (life_stopped old m device bytes stands left) revives
+  pub stop_restored : (old new : Assembly L) (m : Machine) (bytes : List ℕ) (found : Found) → ModuleStands L old.it old.device m → MayLeave (present old.device) bytes
+      → Revives L (restored (lines_of_module L old.it) bytes) found new.it new.device → FindsPrefix L m found new.it new.device
+  stop_restored old new m bytes found stands left revives = finds_prefix new.it m (lines_of_module L old.it) bytes found new.device (left_by_life L old m stands bytes left) revives
 
-  -- a stop of a session, whose life fits the profile if one runs
-  life_leaves : (profile : Profile) (life : Option (Life C D L M)) (m : Machine) (device : DeviceState) → FitsLife L M profile life
-      → GoesBackTo L M (lines_of profile.checked.geometry) life device m → IsLeftBy (lines_of profile.checked.geometry) m device
-  life_leaves profile (Some it) m device fits stands = λ bytes left.
-      subst (λ (n : ℕ). LeftAfter m (restored n bytes)) (let fit : IsShapeFor profile (setup_of_life L M it).shape = fits it refl in fit.lines)
-      (life_stopped it m device bytes stands left)
-  life_leaves profile None m device fits left_by = left_by
+  -- a stop of a session leaves what one does after each machine that it goes back to
+  life_left : (profile : Profile) (life : Option (Module K L)) (old : SessionAt L) (m : Machine) → IsLiving L profile life old.device
+      → GoesBackTo L (lines_of profile.checked.geometry) (session_at life old.device old.gauge) m → IsLeftBy (lines_of profile.checked.geometry) m old.device
+  life_left profile (Some it) old m living stands =
+      let fits : IsShapeFor profile (setup_of L it).shape = living.fits it refl in
+      subst (λ (n : ℕ). IsLeftBy n m old.device) fits.lines (left_by_life L (assembly it old.device old.gauge) m stands)
+  life_left profile None old m living left_by = left_by
 
-  -- a session's restore: its life before fitted the profile, and what began runs over a map
-  pub session_finds : (map : MapWord) (profile : Profile) (life life' : Option (Life C D L M)) (device device' : DeviceState) (bytes : List ℕ) (found : Found)
-      → FitsLife L M profile life → MayLeave (present device) bytes
-      → RunsOver L M map (λ it. LifeRevives L M (lines_of profile.checked.geometry) bytes found it device') life'
-      → FindsPrefixOf L M (lines_of profile.checked.geometry) map life device found life' device'
-  session_finds map profile life life' device device' bytes found fits left runs m is = record {
+  -- a session's restore: its life before fitted the profile, and the life that it began is of this setup
+  pub session_finds : (profile : Profile) (setup : Setup) (old new : SessionAt L) (bytes : List ℕ) (found : Found)
+      → IsLiving L profile old.life old.device → MayLeave (present old.device) bytes
+      → RunsWith L setup (λ it. Revives L (restored (lines_of profile.checked.geometry) bytes) found it new.device) new.life
+      → FindsPrefixOf L (lines_of profile.checked.geometry) setup old found new
+  session_finds profile setup old new bytes found living left runs m is = record {
     it = runs.it;
     runs = runs.runs;
     over = runs.over;
-    holds = finds_prefix runs.it m (lines_of profile.checked.geometry) bytes found device' (life_leaves profile life m device fits is bytes left) runs.holds;
+    holds = finds_prefix runs.it m (lines_of profile.checked.geometry) bytes found new.device (life_left profile old.life old m living is bytes left) runs.holds;
   }
 
   -- refused, it settled no more than the stop had
-  pub session_keeps : (profile : Profile) (life : Option (Life C D L M)) (device stopped device' : DeviceState) (error : RestoreError) → FitsLife L M profile life
-      → MayLeave (present device) stopped.bytes → IsSettled stopped → LeavesOnly stopped device' (MayLeave (present stopped))
-      → Refuses error (restored (lines_of profile.checked.geometry) stopped.bytes) → KeepsPrefixOf L M (lines_of profile.checked.geometry) life device error device'
-  session_keeps profile life device stopped device' error fits left settled within refuses =
+  pub session_keeps : (profile : Profile) (old new : SessionAt L) (stopped : DeviceState) (error : RestoreError) → IsLiving L profile old.life old.device
+      → MayLeave (present old.device) stopped.bytes → IsSettled stopped → LeavesOnly stopped new.device (MayLeave (present stopped))
+      → Refuses error (restored (lines_of profile.checked.geometry) stopped.bytes) → KeepsPrefixOf L (lines_of profile.checked.geometry) old error new
+  session_keeps profile old new stopped error living left settled within refuses =
       let lines : ℕ = lines_of profile.checked.geometry in
       record {
         leaves = λ m is bytes again.
-            subst (λ (bs : List ℕ). LeftAfter m (restored lines bs)) (sym (settled_bytes stopped bytes settled (last_within stopped device' within bytes again)))
-            (life_leaves profile life m device fits is stopped.bytes left);
+            subst (λ (bs : List ℕ). RecoversAfterwards m (restored lines bs)) (sym (settled_bytes stopped bytes settled (last_within stopped new.device within bytes again)))
+            (life_left profile old.life old m living is stopped.bytes left);
         fails = λ m is.
-            let after : LeftAfter m (restored lines stopped.bytes) = life_leaves profile life m device fits is stopped.bytes left in
+            let after : RecoversAfterwards m (restored lines stopped.bytes) = life_left profile old.life old m living is stopped.bytes left in
             only_fails error (restored lines stopped.bytes) (merely (after.recovers.slot, after.recovers.image, after.recovers.found)) refuses;
       }
 
   -- where a life ran its stop left an image
-  pub session_fails : (profile : Profile) (life : Option (Life C D L M)) (device : DeviceState) (bytes : List ℕ) (error : RestoreError) → FitsLife L M profile life → IsInLife L M life device
-      → MayLeave (present device) bytes → Refuses error (restored (lines_of profile.checked.geometry) bytes) → life ≢ None → IsFailure error
-  session_fails profile None device bytes error fits in_life left refuses runs = absurd (runs refl)
-  session_fails profile (Some it) device bytes error fits in_life left refuses runs =
+  pub session_fails : (profile : Profile) (life : Option (Module K L)) (old : SessionAt L) (bytes : List ℕ) (error : RestoreError) → IsLiving L profile life old.device
+      → MayLeave (present old.device) bytes → Refuses error (restored (lines_of profile.checked.geometry) bytes) → life ≢ None → IsFailure error
+  session_fails profile None old bytes error living left refuses runs = absurd (runs refl)
+  session_fails profile (Some it) old bytes error living left refuses runs =
       only_fails error (restored (lines_of profile.checked.geometry) bytes)
-      (∥∥₁_map (in_life it refl)
-      (λ stood.
-      let fit : IsShapeFor profile (setup_of_life L M it).shape = fits it refl in
-      let after = subst (λ (n : ℕ). LeftAfter stood.0 (restored n bytes)) fit.lines (life_stopped it stood.0 device bytes stood.1 left) in
+      (∥∥₁_map (living.stands it refl)
+      (λ (stood : (m : Machine) × ModuleStands L it old.device m).
+      let after : RecoversAfterwards stood.0 (restored (lines_of profile.checked.geometry) bytes) = life_left profile (Some it) old stood.0 living stood.1 bytes left in
       (after.recovers.slot, after.recovers.image, after.recovers.found)))
       refuses

@@ -1,33 +1,34 @@
 -- What calls on a module come to: events in turn.
-use Rattle.std.specs.Prelude.{List}
+use Rattle.std.specs.Prelude.{◌≡◌, List, [], ◌∷◌}
 use Rattle.save_device.specs.Device.{DeviceState}
 use Rattle.energy_budget.specs.Gauge.{Gauge}
-use Rattle.line_channels.specs.declared.channels.Channels.{Ghosts}
+use Rattle.channel_port.specs.declared.port.ChannelPort.{Ghosts}
 use Rattle.module_core.specs.declared.module.Module.{Module}
-use Rattle.module_core.specs.declared.events.Event.{Event}
-use Rattle.module_core.specs.declared.events.Reply.{Reply}
-use Rattle.module_core.specs.State.{Machine}
-use Rattle.module_core.specs.Headline.{Run}
-use Rattle.module_core.specs.Stands.{ModuleStands, setup_of, point_of}
+use Rattle.nv_machine.specs.declared.events.Event.{Event}
+use Rattle.nv_machine.specs.declared.events.Reply.{Reply}
+use Rattle.nv_machine.specs.State.{Machine}
+use Rattle.module_core.specs.Stands.{Assembly, ModuleStands, RunsTo, assembly}
 
 -- what is told of events, their replies, and the machine before and after them
 abbrev pub Tale : Type 1
 Tale = List Event → List Reply → Machine → Machine → Type 0
 
-module _ {C : Type 0} (L : Ghosts C) where
-  -- A module and its device stood for a machine. Some events, of which this is told, led from it to one that they stand for now.
-  pub record ComesTo (Told : Tale) (old : Module C L) (m : Machine) (device : DeviceState) (gauge : Gauge) (new : Module C L) (device' : DeviceState) (gauge' : Gauge) : Type 0 where
-    pub last : Machine
+-- this one event, with this reply
+abbrev pub IsOneEvent : Event → Reply → Tale
+IsOneEvent event reply events replies old new = (events ≡ event ∷ []) × (replies ≡ reply ∷ [])
+
+module _ {K : Type 0} (L : Ghosts K) where
+  -- A module stood for a machine. It has answered some events since, of which this is told.
+  pub record ComesTo (Told : Tale) (old : Assembly L) (m : Machine) (new : Assembly L) : Type 0 where
     pub events : List Event
     pub replies : List Reply
-    pub told : Told events replies m last
-    pub stands : ModuleStands L new device' last
-    pub run : Run L (setup_of L old) events replies (point_of L old m device gauge) (point_of L new last device' gauge')
+    pub runs : RunsTo L events replies old m new
+    pub told : Told events replies m runs.last
 
-  -- the same of each machine that they may have stood for
-  abbrev pub Comes : Tale → Module C L → DeviceState → Gauge → Module C L → DeviceState → Gauge → Type 0
-  Comes Told old device gauge new device' gauge' = (m : Machine) → ModuleStands L old device m → ComesTo Told old m device gauge new device' gauge'
+  -- the same of each machine that it may have stood for
+  abbrev pub Comes : Tale → Assembly L → Assembly L → Type 0
+  Comes Told old new = (m : Machine) → ModuleStands L old.it old.device m → ComesTo Told old m new
 
   -- the same of calls that ask neither the device nor the gauge
-  abbrev pub ComesAlone : Tale → Module C L → Module C L → Type 0
-  ComesAlone Told old new = (device : DeviceState) (gauge : Gauge) → Comes Told old device gauge new device gauge
+  abbrev pub ComesAlone : Tale → Module K L → Module K L → Type 0
+  ComesAlone Told old new = (device : DeviceState) (gauge : Gauge) → Comes Told (assembly old device gauge) (assembly new device gauge)

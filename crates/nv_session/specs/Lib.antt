@@ -1,7 +1,9 @@
+-- what calls on a module come to
 pub mod Coming
 pub mod Turns
+-- how a life begins, and the life of a session
 pub mod Wired
 pub mod Living
-pub mod Fitting
-pub mod Sessions
 pub mod Restoring
+-- sessions as values
+pub mod Sessions

@@ -1,56 +1,95 @@
--- A life over one of two kinds of channels, and what its calls come to.
-use Rattle.std.specs.Prelude.{◌≡◌, ℕ, [], ◌∷◌, Option, Some}
-use Rattle.save_device.specs.Device.{DeviceState}
-use Rattle.arm_state.specs.declared.mode.Mode.{Mode}
+-- The life of a session, and how it goes on.
+use Rattle.std.specs.Prelude.{◌≡◌, ℕ, ◌+◌, List, Option, Some, MatchOption, nat_lt, if◌then◌else◌}
+use Rattle.std.specs.Option.{option_map}
+use Rattle.ddr4_timing.specs.declared.command.Stamped.{Stamped}
+use Rattle.ddr4_timing.specs.Limits.{lines_of}
+use Rattle.save_device.specs.declared.fuse.Fuse.{Fuse}
+use Rattle.save_device.specs.declared.memory.MemoryDevice.{MemoryDevice}
+use Rattle.save_device.specs.Device.{DeviceState, with_calls}
+use Rattle.save_device.specs.Memory.{state_of}
+use Rattle.slot_store.specs.Slots.{HasSize}
 use Rattle.energy_budget.specs.Gauge.{Gauge}
-use Rattle.line_channels.specs.declared.channels.Channels.{Ghosts}
-use Rattle.module_core.specs.declared.events.Event.{Event}
-use Rattle.module_core.specs.declared.events.Reply.{Reply}
-use Rattle.module_core.specs.State.{Setup, Machine}
-use Rattle.module_core.specs.Stands.{ModuleStands, setup_of}
-use Rattle.nv_session.specs.declared.life.Life.{Life}
-use Rattle.nv_session.specs.declared.life.Life.TheVariants.{Lines, Xor}
-use Rattle.nv_session.specs.Coming.{Tale, Comes}
+use Rattle.arm_state.specs.declared.refusal.ReadRefusal.{ReadRefusal}
+use Rattle.arm_state.specs.declared.refusal.ReadRefusal.TheVariants as read
+use Rattle.arm_state.specs.declared.refusal.WriteRefusal.{WriteRefusal}
+use Rattle.arm_state.specs.declared.refusal.WriteRefusal.TheVariants as write
+use Rattle.channel_port.specs.declared.answers.Done.{Done}
+use Rattle.channel_port.specs.declared.port.ChannelPort.{Ghosts}
+use Rattle.channel_port.specs.Shape.{Shape, IsShape}
+use Rattle.nv_profile.specs.declared.profile.Profile.{Profile}
+use Rattle.nv_machine.specs.declared.events.Event.{Event}
+use Rattle.nv_machine.specs.declared.events.Event.TheVariants as event
+use Rattle.nv_machine.specs.declared.events.Reply.{Reply}
+use Rattle.nv_machine.specs.declared.events.Reply.TheVariants as reply
+use Rattle.nv_machine.specs.State.{Setup, Machine}
+use Rattle.module_core.specs.declared.module.Module.{Module}
+use Rattle.module_core.specs.Stands.{ModuleStands, assembly, setup_of}
+use Rattle.nv_session.specs.Coming.{Tale, IsOneEvent, Comes}
 
--- this one event, with this reply
-abbrev pub IsOneEvent : Event → Reply → Tale
-IsOneEvent event reply events replies old new = (events ≡ event ∷ []) × (replies ≡ reply ∷ [])
+-- why a line isn't written or read where no life runs, in a memory of so many lines
+abbrev pub write_refusal_at_rest : ℕ → ℕ → WriteRefusal
+write_refusal_at_rest lines line = if nat_lt line lines then write.Closed else write.NoSuchLine
 
-module _ {C D : Type 0} (L : Ghosts C) (M : Ghosts D) where
-  -- what doesn't change in a life
-  abbrev pub setup_of_life : Life C D L M → Setup
-  setup_of_life (Lines it) = setup_of L it
-  setup_of_life (Xor it) = setup_of M it
+abbrev pub read_refusal_at_rest : ℕ → ℕ → ReadRefusal
+read_refusal_at_rest lines line = if nat_lt line lines then read.Closed else read.NoSuchLine
 
-  -- its module and the device stand for a machine
-  abbrev pub LifeStands : Life C D L M → DeviceState → Machine → Type 0
-  LifeStands (Lines it) device m = ModuleStands L it device m
-  LifeStands (Xor it) device m = ModuleStands M it device m
+-- the work on a channel, of which this command was issued, if one was
+pub record IsWork (channel : ℕ) (command : Option Stamped) (events : List Event) (replies : List Reply) (old new : Machine) : Type 0 where
+  pub done : Option Done
+  pub is : command ≡ option_map (λ done. done.command) done
+  pub one : IsOneEvent (event.Work channel) (reply.Work done) events replies old new
 
-  -- its calls come to events of which this is told, and its channels are of the kind that they were
-  abbrev pub LifeComes : Tale → Life C D L M → DeviceState → Gauge → Life C D L M → DeviceState → Gauge → Type 0
-  LifeComes Told (Lines old) device gauge (Lines new) device' gauge' = Comes L Told old device gauge new device' gauge'
-  LifeComes Told (Xor old) device gauge (Xor new) device' gauge' = Comes M Told old device gauge new device' gauge'
-  LifeComes Told (Lines old) device gauge (Xor new) device' gauge' = ⊥
-  LifeComes Told (Xor old) device gauge (Lines new) device' gauge' = ⊥
+-- the gauge once this level was set: one below the last is a fault
+abbrev pub set_to : ℕ → Gauge → Gauge
+set_to level gauge = record gauge { level = level; faults = gauge.faults + (if nat_lt level gauge.level then 1 else 0) }
+
+-- channels of this shape have the profile's lines and channels
+pub record IsShapeFor (profile : Profile) (shape : Shape) : Type 0 where
+  pub shaped : IsShape shape
+  pub lines : shape.lines ≡ lines_of profile.checked.geometry
+  pub channels : shape.channels ≡ profile.checked.geometry.channels
+
+-- the device as the life sees it, through its fuse
+abbrev pub fuse_state : Fuse MemoryDevice → DeviceState
+fuse_state fuse = with_calls (state_of fuse.device) fuse.calls
+
+-- a session at a moment: the life that runs, if one does, with the device and the gauge
+pub record SessionAt {K : Type 0} (L : Ghosts K) : Type 0 where
+  pub life : Option (Module K L)
+  pub device : DeviceState
+  pub gauge : Gauge
+
+abbrev pub session_at : {K : Type 0} {L : Ghosts K} → Option (Module K L) → DeviceState → Gauge → SessionAt L
+session_at life device gauge = record { life = life; device = device; gauge = gauge }
+
+module _ {K : Type 0} (L : Ghosts K) where
+  -- the module and the device stand for some machine
+  abbrev pub StandsForSome : Module K L → DeviceState → Type 0
+  StandsForSome it device = ∥ ((m : Machine) × ModuleStands L it device m) ∥₁
+
+  -- The device is one for images of the profile's lines. The life that runs, if one does, has the profile's lines and channels,
+  -- and stands with the device for some machine.
+  pub record IsLiving (profile : Profile) (life : Option (Module K L)) (device : DeviceState) : Type 0 where
+    pub size : HasSize (lines_of profile.checked.geometry) device
+    pub fits : (it : Module K L) → life ≡ Some it → IsShapeFor profile (setup_of L it).shape
+    pub stands : (it : Module K L) → life ≡ Some it → StandsForSome it device
+
+  -- a life of this setup runs
+  pub record RunsWith (setup : Setup) (Of : Module K L → Type 0) (life : Option (Module K L)) : Type 0 where
+    pub it : Module K L
+    pub runs : life ≡ Some it
+    pub over : setup_of L it ≡ setup
+    pub holds : Of it
+
+  -- a life went on by events of which this is told, and its setup stayed
+  abbrev pub LivesOn : (Setup → Tale) → Module K L → SessionAt L → SessionAt L → Type 0
+  LivesOn Told it old new =
+      RunsWith (setup_of L it) (λ later. Comes L (Told (setup_of L it)) (assembly it old.device old.gauge) (assembly later new.device new.gauge)) new.life
+
+  -- the life that runs, if one does, goes on so; else nothing happens
+  abbrev pub GoesOnBy : (Setup → Tale) → SessionAt L → SessionAt L → Type 0
+  GoesOnBy Told old new = MatchOption old.life (new ≡ old) (λ it. LivesOn Told it old new)
 
   -- the same of calls that ask neither the device nor the gauge
-  abbrev pub LifeComesAlone : Tale → Life C D L M → Life C D L M → Type 0
-  LifeComesAlone Told old new = (device : DeviceState) (gauge : Gauge) → LifeComes Told old device gauge new device gauge
-
-  -- how many writes are persistent, and what the module does with writes
-  abbrev pub persisted_in : Life C D L M → ℕ
-  persisted_in (Lines it) = it.persisted
-  persisted_in (Xor it) = it.persisted
-
-  abbrev pub mode_in : Life C D L M → Mode
-  mode_in (Lines it) = it.mode
-  mode_in (Xor it) = it.mode
-
-  -- its module and the device stand for some machine
-  abbrev pub LifeStandsForSome : Life C D L M → DeviceState → Type 0
-  LifeStandsForSome it device = ∥ ((m : Machine) × LifeStands it device m) ∥₁
-
-  -- so does the life that runs, if one does
-  abbrev pub IsInLife : Option (Life C D L M) → DeviceState → Type 0
-  IsInLife life device = (it : Life C D L M) → life ≡ Some it → LifeStandsForSome it device
+  abbrev pub GoesOnAlone : (Setup → Tale) → Option (Module K L) → Option (Module K L) → Type 0
+  GoesOnAlone Told old new = (device : DeviceState) (gauge : Gauge) → GoesOnBy Told (session_at old device gauge) (session_at new device gauge)

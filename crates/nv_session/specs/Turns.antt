@@ -3,19 +3,19 @@ use Rattle.std.specs.Prelude.{◌≡◌, ◌⊎◌, ℕ, List, [], ◌∷◌, �
 use Rattle.slot_store.specs.Rest.{only}
 use Rattle.arm_state.specs.declared.refusal.ArmRefusal.{ArmRefusal}
 use Rattle.arm_state.specs.Modes.{is_armed}
-use Rattle.channel_answers.specs.declared.answers.Ticket.{Ticket}
-use Rattle.line_channels.specs.Answers.{line_of}
-use Rattle.module_core.specs.declared.events.Event.{Event}
-use Rattle.module_core.specs.declared.events.Event.TheVariants as events
-use Rattle.module_core.specs.declared.events.Reply.{Reply}
-use Rattle.module_core.specs.declared.events.Reply.TheVariants as replies
+use Rattle.channel_port.specs.declared.answers.Ticket.{Ticket}
+use Rattle.line_memory.specs.Memory.{line_of}
+use Rattle.nv_machine.specs.declared.events.Event.{Event}
+use Rattle.nv_machine.specs.declared.events.Event.TheVariants as events
+use Rattle.nv_machine.specs.declared.events.Reply.{Reply}
+use Rattle.nv_machine.specs.declared.events.Reply.TheVariants as replies
 use Rattle.arm_state.specs.declared.refusal.ReadRefusal.{ReadRefusal}
-use Rattle.module_core.specs.declared.events.StepReply.{StepReply}
-use Rattle.module_core.specs.declared.events.StepReply.TheVariants as step
-use Rattle.module_core.specs.State.{Setup, Machine, memory_of, memory_after, newest_of}
-use Rattle.module_core.specs.Refusals.{read_refusal}
-use Rattle.nv_session.specs.declared.turns.Seen.{Seen}
-use Rattle.nv_session.specs.declared.turns.Seen.TheVariants.{Content, Waiting}
+use Rattle.nv_machine.specs.declared.events.StepReply.{StepReply}
+use Rattle.nv_machine.specs.declared.events.StepReply.TheVariants as step
+use Rattle.nv_machine.specs.State.{Setup, Machine, memory_of, memory_after, newest_of}
+use Rattle.nv_machine.specs.Refusals.{read_refusal}
+use Rattle.nv_session.specs.declared.turns.LineSeen.{LineSeen}
+use Rattle.nv_session.specs.declared.turns.LineSeen.TheVariants.{Content, Waiting}
 
 -- nothing has changed but what waits
 abbrev pub SameButWaits : Machine → Machine → Type 0
@@ -26,7 +26,7 @@ abbrev pub IsPromised : Ticket → List ℕ → Machine → Type 0
 IsPromised ticket bytes m = All (λ r. r.ticket ≡ ticket → r.bytes ≡ bytes) m.waits.reads
 
 -- these bytes are seen, or none yet
-abbrev pub IsSeen : List ℕ → Seen → Type 0
+abbrev pub IsSeen : List ℕ → LineSeen → Type 0
 IsSeen bytes (Content seen) = seen ≡ bytes
 IsSeen bytes Waiting = Unit {0}
 
@@ -36,12 +36,12 @@ pub record AwaitsRead (ticket : Ticket) (events : List Event) (replies : List Re
   pub keeps : (bytes : List ℕ) → IsPromised ticket bytes old → IsPromised ticket bytes new
 
 -- the same, until this is seen
-pub record SeesPromised (ticket : Ticket) (seen : Seen) (events : List Event) (replies : List Reply) (old new : Machine) : Type 0 where
+pub record SeesPromised (ticket : Ticket) (seen : LineSeen) (events : List Event) (replies : List Reply) (old new : Machine) : Type 0 where
   pub same : SameButWaits old new
   pub promised : (bytes : List ℕ) → IsPromised ticket bytes old → IsSeen bytes seen
 
 -- a read sees its line of the memory after all accepted writes, which stays what it was
-abbrev pub SeesLine : Setup → ℕ → Result Seen ReadRefusal → List Event → List Reply → Machine → Machine → Type 0
+abbrev pub SeesLine : Setup → ℕ → Result LineSeen ReadRefusal → List Event → List Reply → Machine → Machine → Type 0
 SeesLine setup line (Ok seen) events replies old new = (read_refusal setup old line ≡ None) × IsSeen (line_of (memory_of old) line) seen × SameButWaits old new
 SeesLine setup line (Err refusal) events replies old new = (read_refusal setup old line ≡ Some refusal) × (new ≡ old)
 

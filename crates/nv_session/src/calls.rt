@@ -1,23 +1,27 @@
-// The calls of a session on the life that runs, and on its gauge and device.
+// The calls of a session that ask nothing of the device.
 ghost use Rattle.std.specs.Prelude.{◌≡◌, ◌<◌, unwrap_or, Err, None, Some};
 ghost use Rattle.std.specs.Option.{option_map};
-ghost use Rattle.ddr4_timing.specs.Limits.{lines_of};
 ghost use Rattle.save_device.specs.Device.{DeviceState};
 ghost use Rattle.energy_budget.specs.Meter.{meter_gauge, lie_of};
-ghost use Rattle.nv_session.specs.Turns.{SeesLine, MakesStep, GoesOnSaving};
-ghost use Rattle.nv_session.specs.Living.{IsOneEvent, persisted_in, mode_in};
-ghost use Rattle.nv_session.specs.Sessions.{GoesOnBy, GoesOnAlone, IsWork, set_to, read_refusal_at_rest, write_refusal_at_rest};
+ghost use Rattle.nv_session.specs.Turns.{SeesLine};
+ghost use Rattle.nv_session.specs.Coming.{IsOneEvent};
+ghost use Rattle.nv_session.specs.Living.{GoesOnBy, GoesOnAlone, IsWork, fuse_state, session_at, set_to, read_refusal_at_rest, write_refusal_at_rest};
 
 use crate::session::{ALL_CALLS, Session};
-use crate::turns::Seen;
+use crate::turns::{LineSeen, read};
 use crate::wires::Wires;
-use arm_state::{ArmRefusal, ArmReply, DisarmReply, Mode, ReadRefusal, WriteRefusal};
-use channel_answers::Done;
+use arm_state::{ArmRefusal, DisarmReply, Mode, ReadRefusal, WriteRefusal};
+use channel_port::{ChannelPort, Done};
 use ddr4_timing::command::Stamped;
-use line_channels::Channels;
 use line_memory::Write;
-use module_core::{Accepted, Event, Reply, StepReply};
-use save_device::{Fuse, MemoryDevice, SaveDevice};
+use nv_machine::{Accepted, Event, Reply};
+
+/// What a gauge shows, and what the module does with writes then, where a life runs.
+#[derive(Clone, Copy, Debug, PartialEq, Eq)]
+pub struct Level {
+    pub reading: u64,
+    pub mode: Option<Mode>,
+}
 
 // The command that was issued, if one was.
 fn command_of(done: Option<Done>) -> Option<Stamped>
@@ -29,25 +33,20 @@ fn command_of(done: Option<Done>) -> Option<Stamped>
     }
 }
 
-impl<C, D, A, B> Session<C, D, A, B>
-where
-    C: Channels + Drop,
-    D: Channels + Drop,
-    A: Wires<C> + Drop,
-    B: Wires<D> + Drop,
-{
+impl<K: ChannelPort + Drop, A: Wires<K> + Drop> Session<K, A> {
+    ghost use Rattle.nv_session.specs.Sessions.{line_count_in};
+
     /// Accepts a write.
     pub fn write(&mut self, write: Write) -> Result<Accepted, WriteRefusal>
-        requires lines { C.reaches }
-        requires xor { D.reaches }
-        ensures comes { GoesOnAlone C.Channels D.Channels
+        ensures comes { GoesOnAlone K.ChannelPort
             (λ setup. IsOneEvent (Event.Write write) (Reply.Write result))
             self.old.life self.new.life }
-        ensures none { self.old.life ≡ None → result ≡ Err (write_refusal_at_rest
-            (lines_of self.old.profile.checked.geometry) write.line) }
+        ensures none { self.old.life ≡ None
+            → result ≡ Err (write_refusal_at_rest (line_count_in self.old) write.line) }
         ensures device { self.new.device ≡ self.old.device }
         ensures gauge { self.new.gauge ≡ self.old.gauge }
         ensures profile { self.new.profile ≡ self.old.profile }
+        ensures wires { self.new.wires ≡ self.old.wires }
     {
         let lines = self.lines();
         match &mut self.life {
@@ -58,22 +57,20 @@ where
     }
 
     /// Reads a line of the memory after all accepted writes. A read that must wait works its channel up to 64 times.
-    pub fn read(&mut self, line: u64) -> Result<Seen, ReadRefusal>
-        requires lines { C.reaches }
-        requires xor { D.reaches }
-        ensures comes { GoesOnAlone C.Channels D.Channels
-            (λ setup. SeesLine setup line result)
+    pub fn read(&mut self, line: u64) -> Result<LineSeen, ReadRefusal>
+        ensures comes { GoesOnAlone K.ChannelPort (λ setup. SeesLine setup line result)
             self.old.life self.new.life }
-        ensures none { self.old.life ≡ None → result ≡ Err (read_refusal_at_rest
-            (lines_of self.old.profile.checked.geometry) line) }
+        ensures none { self.old.life ≡ None
+            → result ≡ Err (read_refusal_at_rest (line_count_in self.old) line) }
         ensures device { self.new.device ≡ self.old.device }
         ensures gauge { self.new.gauge ≡ self.old.gauge }
         ensures profile { self.new.profile ≡ self.old.profile }
+        ensures wires { self.new.wires ≡ self.old.wires }
     {
         let lines = self.lines();
         let channels = self.profile.checked.geometry.channels;
         match &mut self.life {
-            Some(life) => life.read(channels, line),
+            Some(life) => read(life, channels, line),
             None if line < lines => Err(ReadRefusal::Closed),
             None => Err(ReadRefusal::NoSuchLine),
         }
@@ -82,13 +79,13 @@ where
     /// Issues one command of a channel, where it has one.
     pub fn work(&mut self, channel: u64) -> Option<Stamped>
         requires { channel < self.old.profile.checked.geometry.channels }
-        ensures comes { GoesOnAlone C.Channels D.Channels
-            (λ setup. IsWork channel result)
+        ensures comes { GoesOnAlone K.ChannelPort (λ setup. IsWork channel result)
             self.old.life self.new.life }
         ensures none { self.old.life ≡ None → result ≡ None }
         ensures device { self.new.device ≡ self.old.device }
         ensures gauge { self.new.gauge ≡ self.old.gauge }
         ensures profile { self.new.profile ≡ self.old.profile }
+        ensures wires { self.new.wires ≡ self.old.wires }
     {
         match &mut self.life {
             Some(life) => command_of(life.work(channel)),
@@ -96,90 +93,44 @@ where
         }
     }
 
-    /// A save, or the rest of one that runs: up to 4,096 turns of a step, or where that waits of one work on each channel.
-    pub fn save(&mut self) -> Result<StepReply, ArmRefusal>
-        requires lines { C.reaches }
-        requires xor { D.reaches }
-        ensures comes { GoesOnBy C.Channels D.Channels (λ setup. GoesOnSaving result)
-            self.old.life (⟦<Fuse<MemoryDevice> as SaveDevice>⟧.state self.old.device)
-            (meter_gauge self.old.gauge)
-            self.new.life (⟦<Fuse<MemoryDevice> as SaveDevice>⟧.state self.new.device)
-            (meter_gauge self.new.gauge) }
-        ensures none { self.old.life ≡ None → result ≡ Err ArmRefusal.Closed }
-        ensures profile { self.new.profile ≡ self.old.profile }
-    {
-        let channels = self.profile.checked.geometry.channels;
-        match &mut self.life {
-            Some(life) => life.save(channels, &mut self.device, &mut self.gauge),
-            None => Err(ArmRefusal::Closed),
-        }
-    }
-
-    /// One step of a save, which is begun where none runs.
-    pub fn step(&mut self) -> Result<StepReply, ArmRefusal>
-        requires lines { C.reaches }
-        requires xor { D.reaches }
-        ensures comes { GoesOnBy C.Channels D.Channels (λ setup. MakesStep result)
-            self.old.life (⟦<Fuse<MemoryDevice> as SaveDevice>⟧.state self.old.device)
-            (meter_gauge self.old.gauge)
-            self.new.life (⟦<Fuse<MemoryDevice> as SaveDevice>⟧.state self.new.device)
-            (meter_gauge self.new.gauge) }
-        ensures none { self.old.life ≡ None → result ≡ Err ArmRefusal.Closed }
-        ensures profile { self.new.profile ≡ self.old.profile }
-    {
-        match &mut self.life {
-            Some(life) => life.step(&mut self.device, &mut self.gauge),
-            None => Err(ArmRefusal::Closed),
-        }
-    }
-
     /// Sets the level of the gauge and reads it, where the mode reads gauges; with the mode where a life runs.
-    pub fn sense(&mut self, level: u64) -> (u64, Option<Mode>)
-        ensures comes { (device : DeviceState) → GoesOnBy C.Channels D.Channels
-            (λ setup. IsOneEvent Event.Sense (Reply.Sense result.0))
-            self.old.life device (set_to level (meter_gauge self.old.gauge))
-            self.new.life device (meter_gauge self.new.gauge) }
-        ensures mode { result.1 ≡ option_map (mode_in C.Channels D.Channels) self.new.life }
-        ensures none { self.old.life ≡ None → result.0 ≡ level }
+    pub fn sense(&mut self, level: u64) -> Level
+        ensures comes { (device : DeviceState) → GoesOnBy K.ChannelPort
+            (λ setup. IsOneEvent Event.Sense (Reply.Sense result.reading))
+            (session_at self.old.life device (set_to level (meter_gauge self.old.gauge)))
+            (session_at self.new.life device (meter_gauge self.new.gauge)) }
+        ensures mode { result.mode ≡ option_map (λ life. life.mode) self.new.life }
+        ensures none { self.old.life ≡ None → result.reading ≡ level }
         ensures device { self.new.device ≡ self.old.device }
         ensures profile { self.new.profile ≡ self.old.profile }
+        ensures wires { self.new.wires ≡ self.old.wires }
     {
         self.gauge.set(level);
         match &mut self.life {
             Some(life) => {
                 let reading = life.sense(&mut self.gauge);
-                (reading, Some(life.mode()))
+                Level {
+                    reading,
+                    mode: Some(life.mode()),
+                }
             }
-            None => (level, None),
-        }
-    }
-
-    /// Arms.
-    pub fn arm(&mut self) -> Result<ArmReply, ArmRefusal>
-        ensures comes { GoesOnBy C.Channels D.Channels
-            (λ setup. IsOneEvent Event.Arm (Reply.Arm result))
-            self.old.life (⟦<Fuse<MemoryDevice> as SaveDevice>⟧.state self.old.device)
-            (meter_gauge self.old.gauge)
-            self.new.life (⟦<Fuse<MemoryDevice> as SaveDevice>⟧.state self.new.device)
-            (meter_gauge self.new.gauge) }
-        ensures none { self.old.life ≡ None → result ≡ Err ArmRefusal.Closed }
-        ensures profile { self.new.profile ≡ self.old.profile }
-    {
-        match &mut self.life {
-            Some(life) => life.arm(&mut self.device, &mut self.gauge),
-            None => Err(ArmRefusal::Closed),
+            None => Level {
+                reading: level,
+                mode: None,
+            },
         }
     }
 
     /// Begins the disarming.
     pub fn disarm(&mut self) -> Result<DisarmReply, ArmRefusal>
-        ensures comes { GoesOnAlone C.Channels D.Channels
+        ensures comes { GoesOnAlone K.ChannelPort
             (λ setup. IsOneEvent Event.Disarm (Reply.Disarm result))
             self.old.life self.new.life }
         ensures none { self.old.life ≡ None → result ≡ Err ArmRefusal.Closed }
         ensures device { self.new.device ≡ self.old.device }
         ensures gauge { self.new.gauge ≡ self.old.gauge }
         ensures profile { self.new.profile ≡ self.old.profile }
+        ensures wires { self.new.wires ≡ self.old.wires }
     {
         match &mut self.life {
             Some(life) => life.disarm(),
@@ -194,6 +145,7 @@ where
         ensures device { self.new.device ≡ self.old.device }
         ensures life { self.new.life ≡ self.old.life }
         ensures profile { self.new.profile ≡ self.old.profile }
+        ensures wires { self.new.wires ≡ self.old.wires }
     {
         self.gauge.lie(units);
     }
@@ -202,19 +154,18 @@ where
     pub fn fuse(&mut self, calls: Option<u64>)
         ensures passes { self.new.device.left ≡ unwrap_or calls ALL_CALLS }
         ensures device { self.new.device.device ≡ self.old.device.device }
-        ensures state { ⟦<Fuse<MemoryDevice> as SaveDevice>⟧.state self.new.device
-            ≡ ⟦<Fuse<MemoryDevice> as SaveDevice>⟧.state self.old.device }
+        ensures state { fuse_state self.new.device ≡ fuse_state self.old.device }
         ensures gauge { self.new.gauge ≡ self.old.gauge }
         ensures life { self.new.life ≡ self.old.life }
         ensures profile { self.new.profile ≡ self.old.profile }
+        ensures wires { self.new.wires ≡ self.old.wires }
     {
         self.device.left = calls.unwrap_or(ALL_CALLS);
     }
 
     /// The number of writes that are persistent; 0 where no life runs.
     pub fn mark(&self) -> u64
-        ensures { result
-            ≡ unwrap_or (option_map (persisted_in C.Channels D.Channels) self.now.life) 0 }
+        ensures { result ≡ unwrap_or (option_map (λ life. life.persisted) self.now.life) 0 }
     {
         match &self.life {
             Some(life) => life.mark(),

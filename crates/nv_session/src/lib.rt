@@ -1,21 +1,18 @@
 //! A session: what a script talks to, line by line. It has a device in memory, a gauge whose level is set from outside, and a
-//! life where one runs: a module over the channels of one of two maps.
+//! life where one runs: a module over the channels of one of the ready-made maps.
 #![tactic(auto)]
 
 mod calls;
 mod laws;
-mod life;
 mod lives;
-mod losing;
-mod opening;
+mod saving;
 mod session;
 mod turns;
 mod wires;
 
+pub use calls::Level;
 pub use laws::{restore_after_any_stop, restore_after_save};
-pub use life::Life;
-pub use lives::FormatError;
-pub use opening::Found;
+pub use lives::{FormatError, Found};
 pub use session::Session;
-pub use turns::Seen;
+pub use turns::LineSeen;
 pub use wires::Wires;

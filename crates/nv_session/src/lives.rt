@@ -1,29 +1,25 @@
 // How a session's lives begin: a format, and a restore.
 ghost use Rattle.std.specs.Prelude.{◌≡◌, ◌≢◌, unwrap_or, None, Some, IfErr, IfOk, OnOk};
-ghost use Rattle.ddr4_timing.specs.Limits.{lines_of};
-ghost use Rattle.line_memory.specs.Memory.{IsMemory, zero_lines};
+ghost use Rattle.line_memory.specs.Memory.{IsMemory};
 ghost use Rattle.save_image.specs.Header.{Fits};
 ghost use Rattle.save_device.specs.Device.{LeavesOnly, MayLeave, present};
 ghost use Rattle.save_device.specs.Memory.{state_of, IsPicked};
-ghost use Rattle.slot_store.specs.Outcomes.{first_image, restored};
+ghost use Rattle.slot_store.specs.Outcomes.{first_image};
 ghost use Rattle.slot_store.specs.Told.{Refuses, IsFailure};
 ghost use Rattle.energy_budget.specs.Meter.{meter_gauge, lie_of};
-ghost use Rattle.module_core.specs.Opening.{new_life};
-ghost use Rattle.nv_session.specs.Living.{LifeStands, LifeStandsForSome, setup_of_life};
-ghost use Rattle.nv_session.specs.Fitting.{IsShapeFor};
-ghost use Rattle.nv_session.specs.Restoring.{FindsPrefixOf, KeepsPrefixOf};
-ghost use Rattle.nv_session.specs.Sessions.{IsOverMap, LifeBegins, LifeRevives, RunsOver, formatted};
+ghost use Rattle.module_core.specs.Opening.{opened_with};
+ghost use Rattle.module_core.specs.Stands.{ModuleStands, setup_of};
+ghost use Rattle.nv_session.specs.Wired.{BeginsLife, formatted};
+ghost use Rattle.nv_session.specs.Living.{StandsForSome, RunsWith, fuse_state};
 
-use crate::life::Life;
-use crate::opening::{Found, open, revive};
 use crate::session::Session;
 use crate::wires::Wires;
-use line_channels::Channels;
-use line_memory::{Line, zero};
-use module_core::Opened;
-use nv_profile::MapWord;
-use save_device::{Fuse, MemoryDevice, Pick, SaveDevice};
-use slot_store::{Newest, RestoreError, Slot, format};
+use channel_port::ChannelPort;
+use interleave_map::Interleaving;
+use line_memory::{Line, zero_memory};
+use module_core::{Module, Opened};
+use save_device::Pick;
+use slot_store::{Newest, RestoreError, Slot, Verdict, format, restore};
 use std::alloc::{AllocError, Global};
 
 /// Why a format began no life.
@@ -33,79 +29,60 @@ pub enum FormatError {
     Memory,
 }
 
-// A memory of zero lines.
-fn zero_memory(alloc: Global, lines: usize) -> Result<Vec<Line>, AllocError>
-    ensures { IfOk result (λ memory. memory.items ≡ zero_lines lines) }
-{
-    let mut memory = Vec::from_elem(alloc, [0; 64], lines)?;
-    zero(&mut memory);
-    Ok(memory)
+/// What a restore found: what the life begins with, and whether a write that was persistent may be missing.
+#[derive(Clone, Copy, Debug, PartialEq, Eq)]
+pub struct Found {
+    pub opened: Opened,
+    pub verdict: Verdict,
 }
 
-impl<C, D, A, B> Session<C, D, A, B>
-where
-    C: Channels + Drop,
-    D: Channels + Drop,
-    A: Wires<C> + Drop,
-    B: Wires<D> + Drop,
-{
-    // A life with this memory, over a map.
+impl<K: ChannelPort + Drop, A: Wires<K> + Drop> Session<K, A> {
+    ghost use Rattle.nv_session.specs.Restoring.{Revives, FindsPrefixOf, KeepsPrefixOf};
+    ghost use Rattle.nv_session.specs.Sessions.{line_count_in, moment_in, restored_in, setup_over};
+
+    // A life with this memory, over a map. It refuses only where there is no memory for the channels.
     fn open(
         &self,
         alloc: Global,
-        map: MapWord,
+        map: Interleaving,
         found: Opened,
         memory: &[Line],
-    ) -> Result<Life<C, D>, AllocError>
-        requires memory { IsMemory (lines_of self.now.profile.checked.geometry) memory.now }
+    ) -> Result<Module<K>, AllocError>
+        requires memory { IsMemory (line_count_in self.now) memory.now }
         requires numbers { Fits found.newest.generation found.count }
-        ensures begins { IfOk result (λ it. LifeBegins C.Channels D.Channels found memory.now
-            (lines_of self.now.profile.checked.geometry) it) }
-        ensures over { IfOk result (IsOverMap C.Channels D.Channels map) }
-        ensures fits { IfOk result (λ it.
-            IsShapeFor self.now.profile (setup_of_life C.Channels D.Channels it).shape) }
+        ensures begins { IfOk result
+            (BeginsLife K.ChannelPort found memory.now (line_count_in self.now)) }
+        ensures setup { IfOk result
+            (λ life. setup_of K.ChannelPort life ≡ setup_over self.now map) }
     {
-        let trail = self.profile.sizes.trail;
-        match map {
-            MapWord::Lines => {
-                let costs = self.by_lines.costs();
-                let it = open(&self.by_lines, alloc, found, memory, costs, trail)?;
-                Ok(Life::Lines(it))
-            }
-            MapWord::Xor => {
-                let costs = self.by_xor.costs();
-                let it = open(&self.by_xor, alloc, found, memory, costs, trail)?;
-                Ok(Life::Xor(it))
-            }
-        }
+        let channels = self.wires.wire(alloc, map, memory)?;
+        Ok(Module::open(channels, found, self.profile.sizes.trail))
     }
 
-    // From now on this life runs.
-    fn begin(&mut self, life: Life<C, D>)
-        requires fits { IsShapeFor self.old.profile
-            (setup_of_life C.Channels D.Channels life).shape }
-        requires stands { LifeStandsForSome C.Channels D.Channels life
-            (⟦<Fuse<MemoryDevice> as SaveDevice>⟧.state self.old.device) }
+    // From now on this life runs, over a map.
+    fn begin(&mut self, life: Module<K>, map: Interleaving)
+        requires over { setup_of K.ChannelPort life ≡ setup_over self.old map }
+        requires stands { StandsForSome K.ChannelPort life (fuse_state self.old.device) }
         ensures life { self.new.life ≡ Some life }
-        ensures device { ⟦<Fuse<MemoryDevice> as SaveDevice>⟧.state self.new.device
-            ≡ ⟦<Fuse<MemoryDevice> as SaveDevice>⟧.state self.old.device }
+        ensures device { fuse_state self.new.device ≡ fuse_state self.old.device }
         ensures gauge { self.new.gauge ≡ self.old.gauge }
         ensures profile { self.new.profile ≡ self.old.profile }
+        ensures wires { self.new.wires ≡ self.old.wires }
     {
         self.life = Some(life);
     }
 
     /// Makes the device a store of zero lines, and begins a life on it over the profile's map.
     pub fn format(&mut self, alloc: Global) -> Result<(), FormatError>
-        ensures begins { OnOk result (RunsOver C.Channels D.Channels self.old.profile.map
-            (λ it. LifeStands C.Channels D.Channels it
-            (⟦<Fuse<MemoryDevice> as SaveDevice>⟧.state self.new.device)
-            (new_life formatted (first_image (lines_of self.old.profile.checked.geometry))))
-            self.new.life) }
+        ensures begins { OnOk result (RunsWith K.ChannelPort
+            (setup_over self.old self.old.profile.map)
+            (λ life. ModuleStands K.ChannelPort life (fuse_state self.new.device)
+            (opened_with formatted (first_image (line_count_in self.old)))) self.new.life) }
         ensures none { IfErr result (λ error. self.new.life ≡ None) }
         ensures lie { lie_of self.new.gauge ≡ None }
         ensures gauge { meter_gauge self.new.gauge ≡ meter_gauge self.old.gauge }
         ensures profile { self.new.profile ≡ self.old.profile }
+        ensures wires { self.new.wires ≡ self.old.wires }
     {
         self.stop(Pick::Old);
         let lines = self.lines() as usize;
@@ -115,7 +92,7 @@ where
         let Ok(()) = format(&mut self.device, lines) else {
             return Err(FormatError::Device);
         };
-        let found = Opened {
+        let opened = Opened {
             newest: Newest {
                 slot: Slot::First,
                 generation: 1,
@@ -123,64 +100,41 @@ where
             count: 0,
             closed: true,
         };
-        let Ok(life) = self.open(alloc, self.profile.map, found, &memory) else {
+        let map = self.profile.map;
+        let Ok(life) = self.open(alloc, map, opened, &memory) else {
             return Err(FormatError::Memory);
         };
-        self.begin(life);
+        self.begin(life, map);
         Ok(())
     }
 
-    // A life with the newest image of the device, over a map.
-    fn revive(&mut self, alloc: Global, map: MapWord) -> Result<(Life<C, D>, Found), RestoreError>
+    // Begins a life with the newest image of the device, over a map. `Memory` comes also where there is none for the channels.
+    fn revive(&mut self, alloc: Global, map: Interleaving) -> Result<Found, RestoreError>
         requires { self.old.life ≡ None }
-        ensures revives { IfOk result (λ it. LifeRevives C.Channels D.Channels
-            (lines_of self.old.profile.checked.geometry)
-            (state_of self.old.device.device).bytes it.1 it.0
-            (⟦<Fuse<MemoryDevice> as SaveDevice>⟧.state self.new.device)) }
-        ensures over { IfOk result (λ it. IsOverMap C.Channels D.Channels map it.0) }
-        ensures fits { IfOk result (λ it.
-            IsShapeFor self.old.profile (setup_of_life C.Channels D.Channels it.0).shape) }
-        ensures refused { IfErr result (λ error. Refuses error
-            (restored (lines_of self.old.profile.checked.geometry)
-            (state_of self.old.device.device).bytes)) }
+        ensures revives { IfOk result (λ found. RunsWith K.ChannelPort (setup_over self.old map)
+            (λ life. Revives K.ChannelPort (restored_in self.old) found
+            life (fuse_state self.new.device)) self.new.life) }
+        ensures refused { IfErr result (λ error. Refuses error (restored_in self.old)) }
+        ensures none { IfErr result (λ error. self.new.life ≡ None) }
         ensures same { (state_of self.new.device.device).bytes
             ≡ (state_of self.old.device.device).bytes }
-        ensures any_moment { LeavesOnly
-            (⟦<Fuse<MemoryDevice> as SaveDevice>⟧.state self.old.device)
-            (⟦<Fuse<MemoryDevice> as SaveDevice>⟧.state self.new.device)
+        ensures any_moment { LeavesOnly (fuse_state self.old.device) (fuse_state self.new.device)
             (MayLeave (present (state_of self.old.device.device))) }
-        ensures life { self.new.life ≡ self.old.life }
         ensures gauge { self.new.gauge ≡ self.old.gauge }
         ensures profile { self.new.profile ≡ self.old.profile }
+        ensures wires { self.new.wires ≡ self.old.wires }
     {
         let lines = self.lines() as usize;
-        let trail = self.profile.sizes.trail;
-        match map {
-            MapWord::Lines => {
-                let costs = self.by_lines.costs();
-                let (it, found) = revive(
-                    &self.by_lines,
-                    alloc,
-                    &mut self.device,
-                    lines,
-                    costs,
-                    trail,
-                )?;
-                Ok((Life::Lines(it), found))
-            }
-            MapWord::Xor => {
-                let costs = self.by_xor.costs();
-                let (it, found) = revive(
-                    &self.by_xor,
-                    alloc,
-                    &mut self.device,
-                    lines,
-                    costs,
-                    trail,
-                )?;
-                Ok((Life::Xor(it), found))
-            }
-        }
+        let restored = restore(alloc, &mut self.device, lines)?;
+        let opened = Opened::of(&restored);
+        let Ok(life) = self.open(alloc, map, opened, &restored.lines) else {
+            return Err(RestoreError::Memory);
+        };
+        self.begin(life, map);
+        Ok(Found {
+            opened,
+            verdict: restored.verdict,
+        })
     }
 
     /// A stop, which leaves of the unsettled bytes what the pick says, and a life on the newest image, over a map or the
@@ -191,36 +145,30 @@ where
         &mut self,
         alloc: Global,
         pick: Pick,
-        map: Option<MapWord>,
+        map: Option<Interleaving>,
     ) -> Result<Found, RestoreError>
         ensures left { MayLeave (present (state_of self.old.device.device))
             (state_of self.new.device.device).bytes }
         ensures picked { IsPicked pick self.old.device.device
             (state_of self.new.device.device).bytes }
-        ensures revives { IfOk result (λ found. RunsOver C.Channels D.Channels
-            (unwrap_or map self.old.profile.map) (λ it. LifeRevives C.Channels D.Channels
-            (lines_of self.old.profile.checked.geometry)
-            (state_of self.new.device.device).bytes found it
-            (⟦<Fuse<MemoryDevice> as SaveDevice>⟧.state self.new.device)) self.new.life) }
-        ensures finds { IfOk result (λ found. FindsPrefixOf C.Channels D.Channels
-            (lines_of self.old.profile.checked.geometry) (unwrap_or map self.old.profile.map)
-            self.old.life (⟦<Fuse<MemoryDevice> as SaveDevice>⟧.state self.old.device) found
-            self.new.life (⟦<Fuse<MemoryDevice> as SaveDevice>⟧.state self.new.device)) }
-        ensures refused { IfErr result (λ error. Refuses error (restored
-            (lines_of self.old.profile.checked.geometry) (state_of self.new.device.device).bytes)) }
+        ensures revives { IfOk result (λ found. RunsWith K.ChannelPort
+            (setup_over self.old (unwrap_or map self.old.profile.map))
+            (λ life. Revives K.ChannelPort (restored_in self.new) found
+            life (fuse_state self.new.device)) self.new.life) }
+        ensures finds { IfOk result (λ found. FindsPrefixOf K.ChannelPort (line_count_in self.old)
+            (setup_over self.old (unwrap_or map self.old.profile.map))
+            (moment_in self.old) found (moment_in self.new)) }
+        ensures refused { IfErr result (λ error. Refuses error (restored_in self.new)) }
         ensures fails { IfErr result (λ error. self.old.life ≢ None → IsFailure error) }
-        ensures keeps { IfErr result (λ error. KeepsPrefixOf C.Channels D.Channels
-            (lines_of self.old.profile.checked.geometry)
-            self.old.life (⟦<Fuse<MemoryDevice> as SaveDevice>⟧.state self.old.device) error
-            (⟦<Fuse<MemoryDevice> as SaveDevice>⟧.state self.new.device)) }
+        ensures keeps { IfErr result (λ error. KeepsPrefixOf K.ChannelPort (line_count_in self.old)
+            (moment_in self.old) error (moment_in self.new)) }
         ensures none { IfErr result (λ error. self.new.life ≡ None) }
         ensures lie { lie_of self.new.gauge ≡ None }
         ensures gauge { meter_gauge self.new.gauge ≡ meter_gauge self.old.gauge }
         ensures profile { self.new.profile ≡ self.old.profile }
+        ensures wires { self.new.wires ≡ self.old.wires }
     {
         self.stop(pick);
-        let (life, found) = self.revive(alloc, map.unwrap_or(self.profile.map))?;
-        self.begin(life);
-        Ok(found)
+        self.revive(alloc, map.unwrap_or(self.profile.map))
     }
 }

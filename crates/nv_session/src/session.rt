@@ -1,62 +1,46 @@
 // What a script talks to.
 ghost use Rattle.std.specs.Prelude.{◌≡◌, ◌≤◌, replicate, None, IfOk};
 ghost use Rattle.ddr4_timing.specs.Limits.{lines_of};
+ghost use Rattle.interleave_map.specs.declared.ready.Interleaving.{Interleaving};
 ghost use Rattle.save_device.specs.Device.{IsSettled, MayLeave, present};
 ghost use Rattle.save_device.specs.Memory.{state_of, IsPicked};
-ghost use Rattle.slot_store.specs.Slots.{HasSize, device_size};
+ghost use Rattle.slot_store.specs.Slots.{device_size};
 ghost use Rattle.energy_budget.specs.Meter.{meter_gauge, level_of, lie_of};
-ghost use Rattle.nv_session.specs.Living.{IsInLife};
-ghost use Rattle.nv_session.specs.Fitting.{IsShapeFor, FitsLife};
+ghost use Rattle.nv_session.specs.Living.{IsShapeFor, IsLiving, fuse_state};
 
-use crate::life::Life;
 use crate::wires::Wires;
+use channel_port::ChannelPort;
 use energy_budget::Meter;
+use interleave_map::Interleaving;
 use interleave_map::cells::line_count;
-use line_channels::Channels;
+use module_core::Module;
 use nv_profile::Profile;
 use save_device::{Fuse, MemoryDevice, Pick, SaveDevice};
 use slot_store::device_size;
 use std::alloc::{AllocError, Global};
 
-/// A device in memory, a gauge, and the life that runs, if one does: over the channels that `A` or `B` makes, the ones of
-/// the map `lines` and of the map `xor`.
+/// A device in memory, a gauge, and the life that runs, if one does, over the channels that `wires` makes.
 #[derive(Drop)]
-pub struct Session<C: Channels, D: Channels, A: Wires<C>, B: Wires<D>> {
+pub struct Session<K: ChannelPort, A: Wires<K>> {
     pub(crate) device: Fuse<MemoryDevice>,
     pub(crate) gauge: Meter,
     pub(crate) profile: Profile,
-    pub(crate) by_lines: A,
-    pub(crate) by_xor: B,
-    pub(crate) life: Option<Life<C, D>>,
-    ghost lines_fit: { IsShapeFor profile (A.shape by_lines) },
-    ghost xor_fits: { IsShapeFor profile (B.shape by_xor) },
-    ghost sized: { HasSize (lines_of profile.checked.geometry) (state_of device.device) },
-    ghost life_fits: { FitsLife C.Channels D.Channels profile life },
-    ghost stands: { IsInLife C.Channels D.Channels life
-        (⟦<Fuse<MemoryDevice> as SaveDevice>⟧.state device) },
+    pub(crate) wires: A,
+    pub(crate) life: Option<Module<K>>,
+    ghost fits: { (map : Interleaving) → IsShapeFor profile (A.shape wires map) },
+    ghost living: { IsLiving K.ChannelPort profile life (fuse_state device) },
 }
 
 /// The calls that a device passes where it passes all.
 pub(crate) const ALL_CALLS: u64 = u64::MAX;
 
-impl<C, D, A, B> Session<C, D, A, B>
-where
-    C: Channels + Drop,
-    D: Channels + Drop,
-    A: Wires<C> + Drop,
-    B: Wires<D> + Drop,
-{
+impl<K: ChannelPort + Drop, A: Wires<K> + Drop> Session<K, A> {
     /// A session with no life, on a device of zero bytes, with a gauge that shows 0. It refuses only where there is no memory
     /// for the device.
-    pub fn new(
-        alloc: Global,
-        profile: &Profile,
-        by_lines: A,
-        by_xor: B,
-    ) -> Result<Session<C, D, A, B>, AllocError>
-        requires lines { IsShapeFor profile.now (A.shape by_lines) }
-        requires xor { IsShapeFor profile.now (B.shape by_xor) }
+    pub fn new(alloc: Global, profile: &Profile, wires: A) -> Result<Session<K, A>, AllocError>
+        requires { (map : Interleaving) → IsShapeFor profile.now (A.shape wires map) }
         ensures profile { IfOk result (λ session. session.profile ≡ profile.now) }
+        ensures wires { IfOk result (λ session. session.wires ≡ wires) }
         ensures life { IfOk result (λ session. session.life ≡ None) }
         ensures device { IfOk result (λ session. (state_of session.device.device).bytes
             ≡ replicate (device_size (lines_of profile.now.checked.geometry)) 0) }
@@ -69,8 +53,7 @@ where
             device: Fuse::new(MemoryDevice::new(alloc, bytes)?, ALL_CALLS),
             gauge: Meter::with(0, 0),
             profile: *profile,
-            by_lines,
-            by_xor,
+            wires,
             life: None,
         })
     }
@@ -103,6 +86,7 @@ where
             (state_of self.new.device.device).bytes }
         ensures settled { IsSettled (state_of self.new.device.device) }
         ensures profile { self.new.profile ≡ self.old.profile }
+        ensures wires { self.new.wires ≡ self.old.wires }
     {
         self.life = None;
         self.device.left = ALL_CALLS;

@@ -1,15 +1,15 @@
 // What a line of a script asks of a module that takes several of its calls.
 ghost use Rattle.std.specs.Prelude.{◌≡◌};
-ghost use Rattle.module_core.specs.Stands.{HasChannel, HasDevice, setup_of};
+ghost use Rattle.module_core.specs.Stands.{HasChannel, HasDevice, assembly, setup_of};
 ghost use Rattle.nv_session.specs.Coming.{Comes, ComesAlone};
 ghost use Rattle.nv_session.specs.Turns.{SeesPromised, SeesLine, MakesStep, OnlyWorks, GoesOnSaving};
 
 use arm_state::{ArmRefusal, ReadRefusal};
-use channel_answers::{Collected, Got, Ticket};
+use channel_port::{ChannelPort, Collected, Got, Ticket};
 use energy_budget::Energy;
-use line_channels::Channels;
 use line_memory::Line;
-use module_core::{Module, StepReply};
+use module_core::Module;
+use nv_machine::StepReply;
 use save_device::SaveDevice;
 
 /// How often the channel of a read is worked before the read is left waiting.
@@ -20,65 +20,63 @@ const SAVE_TURNS: u64 = 4096;
 
 /// What is seen of a line.
 #[derive(Clone, Copy, Debug, PartialEq, Eq)]
-pub enum Seen {
+pub enum LineSeen {
     Content(Line),
     /// The read waits for a command of its channel.
     Waiting,
 }
 
 // Works the channel of a read that waits, until it has its bytes or the channel is idle.
-fn await_read<C: Channels>(running: &mut Module<C>, ticket: Ticket) -> Seen
-    requires { HasChannel C.Channels running.old ticket.channel }
-    ensures comes { ComesAlone C.Channels (SeesPromised ticket result) running.old running.new }
-    ensures setup { setup_of C.Channels running.new ≡ setup_of C.Channels running.old }
+fn await_read<K: ChannelPort>(running: &mut Module<K>, ticket: Ticket) -> LineSeen
+    requires { HasChannel K.ChannelPort running.old ticket.channel }
+    ensures comes { ComesAlone K.ChannelPort (SeesPromised ticket result) running.old running.new }
+    ensures setup { setup_of K.ChannelPort running.new ≡ setup_of K.ChannelPort running.old }
 {
     for _turn in 0..READ_TURNS {
         if let Collected::Data { bytes, .. } = running.collect(ticket) {
-            return Seen::Content(bytes);
+            return LineSeen::Content(bytes);
         }
         if running.work(ticket.channel).is_none() {
-            return Seen::Waiting;
+            return LineSeen::Waiting;
         }
     }
     match running.collect(ticket) {
-        Collected::Data { bytes, .. } => Seen::Content(bytes),
-        _ => Seen::Waiting,
+        Collected::Data { bytes, .. } => LineSeen::Content(bytes),
+        _ => LineSeen::Waiting,
     }
 }
 
 /// Reads a line of the memory after all accepted writes. Where its bytes are to come with a command, its channel is worked.
-pub(crate) fn read<C: Channels>(
-    running: &mut Module<C>,
+pub(crate) fn read<K: ChannelPort>(
+    running: &mut Module<K>,
     channels: u64,
     line: u64,
-) -> Result<Seen, ReadRefusal>
-    requires reaches { C.reaches }
-    requires channels { channels ≡ (setup_of C.Channels running.old).shape.channels }
-    ensures comes { ComesAlone C.Channels (SeesLine (setup_of C.Channels running.old) line result)
-        running.old running.new }
-    ensures setup { setup_of C.Channels running.new ≡ setup_of C.Channels running.old }
+) -> Result<LineSeen, ReadRefusal>
+    requires channels { channels ≡ (setup_of K.ChannelPort running.old).shape.channels }
+    ensures comes { ComesAlone K.ChannelPort
+        (SeesLine (setup_of K.ChannelPort running.old) line result) running.old running.new }
+    ensures setup { setup_of K.ChannelPort running.new ≡ setup_of K.ChannelPort running.old }
 {
     match running.read(line) {
-        Ok(Got::Now(bytes)) => Ok(Seen::Content(bytes)),
+        Ok(Got::Now(bytes)) => Ok(LineSeen::Content(bytes)),
         Ok(Got::Later(ticket)) if ticket.channel < channels => Ok(await_read(running, ticket)),
-        Ok(Got::Later(_)) => Ok(Seen::Waiting),
+        Ok(Got::Later(_)) => Ok(LineSeen::Waiting),
         Err(refusal) => Err(refusal),
     }
 }
 
 /// Makes a step of the save that runs, or begins one and makes its first step.
-pub(crate) fn step<C: Channels, D: SaveDevice, E: Energy>(
-    running: &mut Module<C>,
+pub(crate) fn step<K: ChannelPort, D: SaveDevice, E: Energy>(
+    running: &mut Module<K>,
     device: &mut D,
     energy: &mut E,
 ) -> Result<StepReply, ArmRefusal>
-    requires reaches { C.reaches }
-    requires size { HasDevice C.Channels running.old (D.state device.old) }
-    ensures comes { Comes C.Channels (MakesStep result)
-        running.old (D.state device.old) (E.gauge energy.old)
-        running.new (D.state device.new) (E.gauge energy.new) }
-    ensures setup { setup_of C.Channels running.new ≡ setup_of C.Channels running.old }
-    ensures size { HasDevice C.Channels running.new (D.state device.new) }
+    requires size { HasDevice K.ChannelPort running.old (D.state device.old) }
+    ensures comes { Comes K.ChannelPort (MakesStep result)
+        (assembly running.old (D.state device.old) (E.gauge energy.old))
+        (assembly running.new (D.state device.new) (E.gauge energy.new)) }
+    ensures setup { setup_of K.ChannelPort running.new ≡ setup_of K.ChannelPort running.old }
+    ensures size { HasDevice K.ChannelPort running.new (D.state device.new) }
 {
     match running.save_step(device, energy) {
         StepReply::NoSave => match running.save_begin() {
@@ -90,10 +88,10 @@ pub(crate) fn step<C: Channels, D: SaveDevice, E: Energy>(
 }
 
 // One work on each channel.
-fn work_each<C: Channels>(running: &mut Module<C>, channels: u64)
-    requires { channels ≡ (setup_of C.Channels running.old).shape.channels }
-    ensures comes { ComesAlone C.Channels OnlyWorks running.old running.new }
-    ensures setup { setup_of C.Channels running.new ≡ setup_of C.Channels running.old }
+fn work_each<K: ChannelPort>(running: &mut Module<K>, channels: u64)
+    requires { channels ≡ (setup_of K.ChannelPort running.old).shape.channels }
+    ensures comes { ComesAlone K.ChannelPort OnlyWorks running.old running.new }
+    ensures setup { setup_of K.ChannelPort running.new ≡ setup_of K.ChannelPort running.old }
 {
     for channel in 0..channels {
         let _ = running.work(channel);
@@ -106,10 +104,10 @@ fn goes_on(reply: StepReply) -> bool {
 }
 
 // Works each channel where a step had to wait.
-fn work_where_waiting<C: Channels>(running: &mut Module<C>, channels: u64, reply: StepReply)
-    requires { channels ≡ (setup_of C.Channels running.old).shape.channels }
-    ensures comes { ComesAlone C.Channels OnlyWorks running.old running.new }
-    ensures setup { setup_of C.Channels running.new ≡ setup_of C.Channels running.old }
+fn work_where_waiting<K: ChannelPort>(running: &mut Module<K>, channels: u64, reply: StepReply)
+    requires { channels ≡ (setup_of K.ChannelPort running.old).shape.channels }
+    ensures comes { ComesAlone K.ChannelPort OnlyWorks running.old running.new }
+    ensures setup { setup_of K.ChannelPort running.new ≡ setup_of K.ChannelPort running.old }
 {
     if reply == StepReply::Waiting {
         work_each(running, channels);
@@ -118,20 +116,19 @@ fn work_where_waiting<C: Channels>(running: &mut Module<C>, channels: u64, reply
 
 /// Makes a whole save, or the rest of one that runs: a step in each turn, or where that waits a work on each channel. It
 /// answers the step that ended it, or `Waiting` where the turns don't suffice.
-pub(crate) fn save<C: Channels, D: SaveDevice, E: Energy>(
-    running: &mut Module<C>,
+pub(crate) fn save<K: ChannelPort, D: SaveDevice, E: Energy>(
+    running: &mut Module<K>,
     channels: u64,
     device: &mut D,
     energy: &mut E,
 ) -> Result<StepReply, ArmRefusal>
-    requires reaches { C.reaches }
-    requires channels { channels ≡ (setup_of C.Channels running.old).shape.channels }
-    requires size { HasDevice C.Channels running.old (D.state device.old) }
-    ensures comes { Comes C.Channels (GoesOnSaving result)
-        running.old (D.state device.old) (E.gauge energy.old)
-        running.new (D.state device.new) (E.gauge energy.new) }
-    ensures setup { setup_of C.Channels running.new ≡ setup_of C.Channels running.old }
-    ensures size { HasDevice C.Channels running.new (D.state device.new) }
+    requires channels { channels ≡ (setup_of K.ChannelPort running.old).shape.channels }
+    requires size { HasDevice K.ChannelPort running.old (D.state device.old) }
+    ensures comes { Comes K.ChannelPort (GoesOnSaving result)
+        (assembly running.old (D.state device.old) (E.gauge energy.old))
+        (assembly running.new (D.state device.new) (E.gauge energy.new)) }
+    ensures setup { setup_of K.ChannelPort running.new ≡ setup_of K.ChannelPort running.old }
+    ensures size { HasDevice K.ChannelPort running.new (D.state device.new) }
 {
     let mut reply = match step(running, device, energy) {
         Ok(reply) => reply,

@@ -1,56 +1,70 @@
--- Each event keeps what is true of what lies behind the lock.
-use Rattle.std.proofs.Common.{◌≡◌, ℕ, ap, subst, sym, ◌∙◌}
-use Rattle.std.proofs.Math.Logic.{∥∥₁_map, ∥∥₁_elim}
+-- What is known of a module between two events, and where the marks are after one.
+use Rattle.std.proofs.Common.{◌≡◌, ◌≤◌, ℕ, ap, arith, subst, sym, ◌∙◌}
+use Rattle.std.specs.Prelude.{Option, Some, None}
+use Rattle.std.proofs.Math.Logic.{∥∥₁_elim}
+use Rattle.std.proofs.Math.Nat.{ℕ_set}
 use Rattle.std.proofs.Math.Bridge.{le_prop}
 use Rattle.atomic_table.specs.Seated.{TableId}
-use Rattle.mark_board.specs.SeenMarks.{SeenMarks}
+use Rattle.mark_board.specs.SeenMarks.{SeenMarks, seen_marks}
 use Rattle.save_device.specs.Device.{DeviceState}
+use Rattle.save_device.specs.declared.device.SaveDevice.{Ghosts as DeviceGhosts}
 use Rattle.slot_store.specs.Slots.{HasSize}
-use Rattle.line_channels.specs.declared.channels.Channels.{Ghosts}
-use Rattle.module_core.specs.declared.events.Event.{Event}
-use Rattle.module_core.specs.declared.events.Reply.{Reply}
+use Rattle.slot_store.specs.declared.saving.SaveRun.{SaveRun}
+use Rattle.energy_budget.specs.declared.energy.Energy.{Ghosts as GaugeGhosts}
+use Rattle.channel_port.specs.declared.port.ChannelPort.{Ghosts}
+use Rattle.nv_machine.specs.declared.events.Event.{Event}
+use Rattle.nv_machine.specs.declared.events.Reply.{Reply}
+use Rattle.nv_machine.specs.State.{Machine, RunningSave, Setup, Store}
+use Rattle.nv_machine.specs.Rising.{Rises}
+use Rattle.nv_machine.proofs.RisingMarks.{event_rises}
 use Rattle.module_core.specs.declared.module.Module.{Module}
-use Rattle.module_core.specs.Rising.{MarksRise}
-use Rattle.module_core.specs.State.{Setup, Machine}
-use Rattle.module_core.specs.Stands.{ModuleStands, HasDevice, setup_of}
-use Rattle.module_core.proofs.RisingMarks.{call_rises}
-use Rattle.nv_workers.specs.Lent.{Lent, StepsBy, StandsForSome, IsBehind, IsLendable, marks_of}
+use Rattle.module_core.specs.Device.{HoldsWhile}
+use Rattle.module_core.specs.Stands.{ModuleStands, HasDevice, setup_of, world_of}
+use Rattle.nv_workers.specs.declared.recorded_module.RecordedModule.{RecordedModule}
+use Rattle.nv_workers.specs.Kept.{IsRecordKept, StandsWith}
+use Rattle.nv_workers.specs.Marks.{IsBehind, marks_of}
+use Rattle.nv_workers.specs.Steps.{StepsTo, assembly_of}
 
-module _ {C : Type 0} (L : Ghosts C) where
-  still_stands : (event : Event) (reply : Reply) (old new : Lent L) → StandsForSome L old → StepsBy L event reply old new → StandsForSome L new
-  still_stands event reply old new stands steps = ∥∥₁_map stands (λ s. let next = steps s.0 s.1 in (next.0, next.1))
+-- a device that holds a store is of the size that its images need
+right_size : (lines : ℕ) (s : Store) (save : Option RunningSave) (run : Option SaveRun) (device : DeviceState) → HoldsWhile save run lines s device → HasSize lines device
+right_size lines s None None device resting = resting.rest.size
+right_size lines s (Some save) (Some run) device saving = subst (λ (lines : ℕ). HasSize lines device) saving.plan.lines_are saving.saving.size
+right_size lines s None (Some run) device none = absurd none
+right_size lines s (Some save) None device none = absurd none
 
-  -- a machine that it stands for
-  abbrev Standing : Lent L → Type 0
-  Standing lent = (m : Machine) × ModuleStands L lent.it lent.device m
-
-  rising : (event : Event) (reply : Reply) (old new : Lent L) → StepsBy L event reply old new → Standing old → MarksRise L old.it new.it
-  rising event reply old new steps s = call_rises L event reply old.it new.it old.device new.device old.gauge new.gauge s.0 s.1 steps
-
-  -- a device of the module's size is so still
-  pub same_size : (old new : Module C L) (device : DeviceState) → HasDevice L old device → setup_of L new ≡ setup_of L old → HasDevice L new device
-  same_size old new device size same = subst (λ (lines : ℕ). HasSize lines device) (old.sized ∙ ap (λ (s : Setup). s.shape.lines) (sym same) ∙ sym new.sized) size
-
+module _ {K : Type 0} (L : Ghosts K) where
   -- the module has as many channels still
-  pub same_channels : (old new : Module C L) (channels : ℕ) → (setup_of L old).shape.channels ≡ channels → setup_of L new ≡ setup_of L old → (setup_of L new).shape.channels ≡ channels
+  pub same_channels : (old new : Module K L) (channels : ℕ) → (setup_of L old).shape.channels ≡ channels → setup_of L new ≡ setup_of L old → (setup_of L new).shape.channels ≡ channels
   same_channels old new channels is same = ap (λ (s : Setup). s.shape.channels) same ∙ is
 
-  -- the marks of before aren't above the module's numbers after an event
-  pub falls_behind : (board : TableId) (marks : SeenMarks) (event : Event) (reply : Reply) (old new : Lent L) → IsLendable L board old marks → StepsBy L event reply old new
-      → IsBehind L new.it marks
-  falls_behind board marks event reply old new held steps =
-      subst (λ (m : SeenMarks). IsBehind L new.it m) (sym held.marks_are)
-      (record {
-        accepted = ∥∥₁_elim held.stands le_prop (λ s. (rising event reply old new steps s).accepted);
-        persisted = ∥∥₁_elim held.stands le_prop (λ s. (rising event reply old new steps s).persisted);
-        ordered = ∥∥₁_elim held.stands le_prop (λ s. (rising event reply old new steps s).ordered.within);
-      })
+  -- the persistent writes are accepted ones
+  in_order : (it : Module K L) (device : DeviceState) (m : Machine) → ModuleStands L it device m → it.persisted ≤ it.accepted
+  in_order it device m stands = omega (arith, stands.matches.accepted, stands.matches.persisted, stands.guarded.most)
 
-  -- after an event and the marks' move to the module's numbers
-  pub keeps_held : (board board' : TableId) (before marks : SeenMarks) (event : Event) (reply : Reply) (old new : Lent L) → IsLendable L board old before → StepsBy L event reply old new
-      → HasDevice L new.it new.device → board' ≡ board → marks ≡ marks_of L board' new.it → IsLendable L board new marks
-  keeps_held board board' before marks event reply old new held steps size is marks_are = record {
-    stands = still_stands event reply old new held.stands steps;
-    size = size;
-    marks_are = marks_are ∙ ap (λ (b : TableId). marks_of L b new.it) is;
-  }
+module _ {K D E : Type 0} (L : Ghosts K) (M : DeviceGhosts D) (it : RecordedModule K D E L) (kept : IsRecordKept L M it) where
+  -- the device has the module's size
+  pub has_device : HasDevice L it.running (M.state it.device)
+  has_device = ∥∥₁_elim kept.stands (ℕ_set _ _) (λ s. right_size _ s.0.store _ _ (M.state it.device) s.1.stands.holds)
+
+  -- words that show no more than is persistent aren't above the module's two numbers
+  pub opened_behind : (board : TableId) (mark : ℕ) → mark ≤ it.running.persisted → IsBehind L it.running (seen_marks board mark mark)
+  opened_behind board mark least =
+      let ordered : it.running.persisted ≤ it.running.accepted = ∥∥₁_elim kept.stands le_prop (λ s. in_order L it.running (M.state it.device) s.0 s.1.stands) in
+      record { accepted = omega (arith, least, ordered); persisted = least; ordered = ordered }
+
+module _ {K D E : Type 0} (L : Ghosts K) (M : DeviceGhosts D) (N : GaugeGhosts E) (event : Event) (reply : Reply) (old new : RecordedModule K D E L) (kept : IsRecordKept L M old)
+    (steps : StepsTo L M N event reply old new) where
+  rises : (m : Machine) (with : StandsWith L M old m) → Rises m (steps m with.stands).0
+  rises m with =
+      let next = steps m with.stands in
+      event_rises (setup_of L old.running) event reply (world_of L (assembly_of L M N old) m) (world_of L (assembly_of L M N new) next.0) next.2.happens.step with.stands.guarded
+
+  -- the marks of before aren't above the module's numbers after an event
+  pub falls_behind : (board : TableId) (marks : SeenMarks) → marks ≡ marks_of L board old.running → IsBehind L new.running marks
+  falls_behind board marks shown =
+      subst (λ (m : SeenMarks). IsBehind L new.running m) (sym shown)
+      (record {
+        accepted = ∥∥₁_elim kept.stands le_prop (λ s. omega (arith, (rises s.0 s.1).accepted, s.1.stands.matches.accepted, (steps s.0 s.1.stands).1.matches.accepted));
+        persisted = ∥∥₁_elim kept.stands le_prop (λ s. omega (arith, (rises s.0 s.1).persisted, s.1.stands.matches.persisted, (steps s.0 s.1.stands).1.matches.persisted));
+        ordered = ∥∥₁_elim kept.stands le_prop (λ s. let next = steps s.0 s.1.stands in in_order L new.running (M.state new.device) next.0 next.1);
+      })

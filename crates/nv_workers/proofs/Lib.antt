@@ -1,5 +1,4 @@
 pub mod Holding
 pub mod IfOkGives
 pub mod Keeping
-pub mod NewestImages
 pub mod Quiet

@@ -5,25 +5,28 @@ use Rattle.std.proofs.Math.Logic.{∥∥₁_elim}
 use Rattle.std.proofs.Math.Nat.{ℕ_set}
 use Rattle.std.proofs.lemmas.List.{length-append}
 use Rattle.atomic_table.specs.Seated.{TableId}
-use Rattle.mark_board.specs.SeenMarks.{SeenMarks}
 use Rattle.line_memory.specs.declared.Write as line_write
-use Rattle.channel_answers.specs.declared.answers.Ticket.{Ticket}
-use Rattle.channel_answers.specs.declared.answers.Got.{Got}
-use Rattle.channel_answers.specs.declared.answers.Collected.{Collected}
-use Rattle.channel_answers.specs.declared.answers.Done.{Done}
-use Rattle.line_channels.specs.declared.channels.Channels.{Ghosts}
-use Rattle.module_core.specs.declared.events.Accepted.{Accepted}
+use Rattle.save_device.specs.declared.device.SaveDevice.{Ghosts as DeviceGhosts}
+use Rattle.energy_budget.specs.declared.energy.Energy.{Ghosts as GaugeGhosts}
+use Rattle.channel_port.specs.declared.answers.Ticket.{Ticket}
+use Rattle.channel_port.specs.declared.answers.Got.{Got}
+use Rattle.channel_port.specs.declared.answers.Collected.{Collected}
+use Rattle.channel_port.specs.declared.answers.Done.{Done}
+use Rattle.channel_port.specs.declared.port.ChannelPort.{Ghosts}
+use Rattle.nv_machine.specs.declared.events.Accepted.{Accepted}
 use Rattle.arm_state.specs.declared.refusal.ReadRefusal.{ReadRefusal}
 use Rattle.arm_state.specs.declared.refusal.WriteRefusal.{WriteRefusal}
-use Rattle.module_core.specs.declared.events.Event.{Event}
-use Rattle.module_core.specs.declared.events.Event.TheVariants as events
-use Rattle.module_core.specs.declared.events.Reply.{Reply}
-use Rattle.module_core.specs.declared.events.Reply.TheVariants as replies
-use Rattle.module_core.specs.State.{Setup, Life, Machine, World}
-use Rattle.module_core.specs.Machine.{MachineStep}
-use Rattle.module_core.specs.Stands.{HasDevice, setup_of, point_of}
-use Rattle.nv_workers.specs.Lent.{Lent, StepsBy, StandsForSome, IsCounted, IsLendable, marks_of}
-use Rattle.nv_workers.proofs.Holding.{keeps_held}
+use Rattle.nv_machine.specs.declared.events.Event.{Event}
+use Rattle.nv_machine.specs.declared.events.Event.TheVariants as events
+use Rattle.nv_machine.specs.declared.events.Reply.{Reply}
+use Rattle.nv_machine.specs.declared.events.Reply.TheVariants as replies
+use Rattle.nv_machine.specs.State.{Setup, Life, Machine, World}
+use Rattle.nv_machine.specs.Machine.{MachineStep}
+use Rattle.module_core.specs.Stands.{setup_of, world_of}
+use Rattle.nv_workers.specs.declared.recorded_module.RecordedModule.{RecordedModule}
+use Rattle.nv_workers.specs.Kept.{IsRecordKept, StandsWith}
+use Rattle.nv_workers.specs.Marks.{IsCounted, marks_of}
+use Rattle.nv_workers.specs.Steps.{StepsTo, assembly_of}
 
 -- the event leaves the life as it is
 abbrev pub IsQuiet : Event → Reply → Type 0
@@ -43,52 +46,39 @@ pub work_is_quiet : (channel : ℕ) (done : Option Done) → IsQuiet (events.Wor
 work_is_quiet channel None setup old new step = ap life_of step.1
 work_is_quiet channel (Some done) setup old new step = ap life_of step.1.2
 
-module _ {C : Type 0} (L : Ghosts C) where
-  pub same_accepted : (event : Event) (reply : Reply) (old new : Lent L) → IsQuiet event reply → StandsForSome L old → StepsBy L event reply old new
-      → new.it.accepted ≡ old.it.accepted
-  same_accepted event reply old new quiet stands steps =
-      ∥∥₁_elim stands (ℕ_set _ _)
-      (λ s.
-      let next = steps s.0 s.1 in
-      next.1.matches.accepted
-      ∙ ap (λ (l : Life). l.opened.count + length l.writes) (quiet (setup_of L old.it) (point_of L old.it s.0 old.device old.gauge).world (point_of L new.it next.0 new.device new.gauge).world next.2.step)
-      ∙ sym s.1.matches.accepted)
+module _ {K D E : Type 0} (L : Ghosts K) (M : DeviceGhosts D) (N : GaugeGhosts E) where
+  module _ (event : Event) (reply : Reply) (old new : RecordedModule K D E L) (kept : IsRecordKept L M old) (steps : StepsTo L M N event reply old new) (quiet : IsQuiet event reply) where
+    same_life : (m : Machine) (with : StandsWith L M old m) → (steps m with.stands).0.life ≡ m.life
+    same_life m with =
+        let next = steps m with.stands in quiet (setup_of L old.running) (world_of L (assembly_of L M N old) m) (world_of L (assembly_of L M N new) next.0) next.2.happens.step
 
-  same_persisted : (event : Event) (reply : Reply) (old new : Lent L) → IsQuiet event reply → StandsForSome L old → StepsBy L event reply old new
-      → new.it.persisted ≡ old.it.persisted
-  same_persisted event reply old new quiet stands steps =
-      ∥∥₁_elim stands (ℕ_set _ _)
-      (λ s.
-      let next = steps s.0 s.1 in
-      next.1.matches.persisted
-      ∙ ap (λ (l : Life). l.persisted) (quiet (setup_of L old.it) (point_of L old.it s.0 old.device old.gauge).world (point_of L new.it next.0 new.device new.gauge).world next.2.step)
-      ∙ sym s.1.matches.persisted)
-
-  pub same_marks : (board : TableId) (event : Event) (reply : Reply) (old new : Lent L) → IsQuiet event reply → StandsForSome L old → StepsBy L event reply old new
-      → marks_of L board old.it ≡ marks_of L board new.it
-  same_marks board event reply old new quiet stands steps =
-      rw (same_accepted event reply old new quiet stands steps, same_persisted event reply old new quiet stands steps) refl
-
-  -- after such an event the marks that were are the module's numbers still
-  pub keeps_quiet : (board : TableId) (before marks : SeenMarks) (event : Event) (reply : Reply) (old new : Lent L) → IsQuiet event reply → IsLendable L board old before
-      → StepsBy L event reply old new → HasDevice L new.it new.device → marks ≡ before → IsLendable L board new marks
-  keeps_quiet board before marks event reply old new quiet held steps size same =
-      keeps_held L board board before marks event reply old new held steps size refl (same ∙ held.marks_are ∙ same_marks board event reply old new quiet held.stands steps)
-
-  counted : (write : line_write.Write) (accepted : Accepted) (old new : Lent L) → StandsForSome L old → StepsBy L (events.Write write) (replies.Write (Ok accepted)) old new
-      → IsCounted L accepted old.it new.it
-  counted write accepted old new stands steps = record {
-    number = ∥∥₁_elim stands (ℕ_set _ _) (λ s. (steps s.0 s.1).2.step.1.1.number ∙ sym s.1.matches.accepted);
-    mark = ∥∥₁_elim stands (ℕ_set _ _) (λ s. let next = steps s.0 s.1 in next.2.step.1.1.mark ∙ sym next.1.matches.persisted);
-    one = ∥∥₁_elim stands (ℕ_set _ _)
+    same_accepted : new.running.accepted ≡ old.running.accepted
+    same_accepted =
+        ∥∥₁_elim kept.stands (ℕ_set _ _)
         (λ s.
-        let next = steps s.0 s.1 in let done = next.2.step.1.1 in
-        let more : length next.0.life.writes ≡ length s.0.life.writes + 1 = ap (λ (m : Machine). length m.life.writes) done.is ∙ length-append s.0.life.writes (write ∷ []) in
-        let from : next.0.life.opened.count ≡ s.0.life.opened.count = ap (λ (m : Machine). m.life.opened.count) done.is in
-        omega (arith, next.1.matches.accepted, done.number, more, from));
-  }
+        (steps s.0 s.1.stands).1.matches.accepted ∙ ap (λ (l : Life). l.opened.count + length l.writes) (same_life s.0 s.1) ∙ sym s.1.stands.matches.accepted)
 
-  pub told_counted : (write : line_write.Write) (result : Result Accepted WriteRefusal) (old new : Lent L) → StandsForSome L old
-      → StepsBy L (events.Write write) (replies.Write result) old new → IfOk result (λ accepted. IsCounted L accepted old.it new.it)
-  told_counted write (Ok accepted) old new stands steps = counted write accepted old new stands steps
-  told_counted write (Err refusal) old new stands steps = tt
+    same_persisted : new.running.persisted ≡ old.running.persisted
+    same_persisted =
+        ∥∥₁_elim kept.stands (ℕ_set _ _)
+        (λ s. (steps s.0 s.1.stands).1.matches.persisted ∙ ap (λ (l : Life). l.persisted) (same_life s.0 s.1) ∙ sym s.1.stands.matches.persisted)
+
+    pub same_marks : (board : TableId) → marks_of L board old.running ≡ marks_of L board new.running
+    same_marks board = rw (same_accepted, same_persisted) refl
+
+  module _ (write : line_write.Write) (old new : RecordedModule K D E L) (kept : IsRecordKept L M old) where
+    counted : (accepted : Accepted) → StepsTo L M N (events.Write write) (replies.Write (Ok accepted)) old new → IsCounted L accepted old.running new.running
+    counted accepted steps = record {
+      number = ∥∥₁_elim kept.stands (ℕ_set _ _) (λ s. (steps s.0 s.1.stands).2.happens.step.1.1.number ∙ sym s.1.stands.matches.accepted);
+      mark = ∥∥₁_elim kept.stands (ℕ_set _ _) (λ s. let next = steps s.0 s.1.stands in next.2.happens.step.1.1.mark ∙ sym next.1.matches.persisted);
+      one = ∥∥₁_elim kept.stands (ℕ_set _ _)
+          (λ s.
+          let next = steps s.0 s.1.stands in let done = next.2.happens.step.1.1 in
+          let more : length next.0.life.writes ≡ length s.0.life.writes + 1 = ap (λ (m : Machine). length m.life.writes) done.is ∙ length-append s.0.life.writes (write ∷ []) in
+          let from : next.0.life.opened.count ≡ s.0.life.opened.count = ap (λ (m : Machine). m.life.opened.count) done.is in
+          omega (arith, next.1.matches.accepted, done.number, more, from));
+    }
+
+    pub told_counted : (result : Result Accepted WriteRefusal) → StepsTo L M N (events.Write write) (replies.Write result) old new → IfOk result (λ accepted. IsCounted L accepted old.running new.running)
+    told_counted (Ok accepted) steps = counted accepted steps
+    told_counted (Err refusal) steps = tt

@@ -1,10 +1,9 @@
 -- When a life bears out what its hosts were told.
 use Rattle.std.specs.Prelude.{◌≡◌, ℕ, List, All, slice_get, take, Some, MatchBool}
-use Rattle.life_record.specs.Recorded.{Recorded, IsSeenAt}
-use Rattle.line_channels.specs.Answers.{line_of}
-use Rattle.line_channels.specs.Memory.{write_at}
+use Rattle.line_memory.specs.History.{Recorded, IsSeenAt}
+use Rattle.line_memory.specs.Memory.{line_of, memory_at}
+use Rattle.line_memory.specs.History.{write_at}
 use Rattle.line_memory.specs.declared.Write.{Write}
-use Rattle.line_memory.specs.Memory.{memory_at}
 use Rattle.nv_workers.specs.declared.ending.Stranger.{Stranger}
 use Rattle.nv_workers.specs.declared.host.Receipt.{Receipt}
 use Rattle.nv_workers.specs.declared.host.Seen.{Seen}

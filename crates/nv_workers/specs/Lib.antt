@@ -2,9 +2,9 @@ pub mod Boards
 pub mod Client
 pub mod Ending
 pub mod Kept
-pub mod Lent
+pub mod Marks
 pub mod Newest
-pub mod Opened
+pub mod Opening
 pub mod Savers
 pub mod Steps
 pub mod Turns

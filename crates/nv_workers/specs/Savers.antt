@@ -4,8 +4,8 @@ use Rattle.arm_state.specs.declared.mode.Mode.{Mode}
 use Rattle.arm_state.specs.declared.mode.Mode.TheVariants.{Disarmed, Armed, Stranded}
 use Rattle.arm_state.specs.declared.refusal.SaveState.{SaveState}
 use Rattle.arm_state.specs.Modes.{has_ended}
-use Rattle.module_core.specs.State.{Machine, all_of}
-use Rattle.module_core.specs.Refusals.{saves_of}
+use Rattle.nv_machine.specs.State.{Machine, all_of}
+use Rattle.nv_machine.specs.Refusals.{saves_of}
 use Rattle.nv_workers.specs.declared.saver.SaverTurn.{SaverTurn}
 use Rattle.nv_workers.specs.declared.saver.SaverTurn.TheVariants.{Begin, Step, Rest, End}
 use Rattle.nv_workers.specs.declared.saver.Saving.{Saving}

@@ -1,18 +1,24 @@
 -- One event at what lies behind the lock.
 use Rattle.save_device.specs.declared.device.SaveDevice.{Ghosts as DeviceGhosts}
 use Rattle.energy_budget.specs.declared.energy.Energy.{Ghosts as GaugeGhosts}
-use Rattle.line_channels.specs.declared.channels.Channels.{Ghosts}
-use Rattle.module_core.specs.declared.events.Event.{Event}
-use Rattle.module_core.specs.declared.events.Reply.{Reply}
-use Rattle.nv_workers.specs.declared.room.Room.{Ghosts as RoomGhosts}
+use Rattle.channel_port.specs.declared.port.ChannelPort.{Ghosts}
+use Rattle.nv_machine.specs.declared.events.Event.{Event}
+use Rattle.nv_machine.specs.declared.events.Reply.{Reply}
+use Rattle.module_core.specs.Stands.{Assembly, assembly, Answers}
+use Rattle.nv_workers.specs.declared.board_name.BoardName.{Ghosts as NameGhosts}
 use Rattle.nv_workers.specs.declared.held.Held.{Held}
-use Rattle.nv_workers.specs.Lent.{Lent, lent, StepsBy}
+use Rattle.nv_workers.specs.declared.recorded_module.RecordedModule.{RecordedModule}
 
-module _ {C D E B : Type 0} (L : Ghosts C) (M : DeviceGhosts D) (N : GaugeGhosts E) (O : RoomGhosts B) where
+module _ {K D E : Type 0} (L : Ghosts K) (M : DeviceGhosts D) (N : GaugeGhosts E) where
   -- the module, and what is known of its device and of its gauge
-  abbrev pub lent_of : Held C D E B L M N O → Lent L
-  lent_of held = lent L held.running (M.state held.device) (N.gauge held.energy)
+  abbrev pub assembly_of : RecordedModule K D E L → Assembly L
+  assembly_of it = assembly it.running (M.state it.device) (N.gauge it.energy)
 
   -- the event was answered by this reply
-  abbrev pub Steps : Event → Reply → Held C D E B L M N O → Held C D E B L M N O → Type 0
-  Steps event reply old new = StepsBy L event reply (lent_of old) (lent_of new)
+  abbrev pub StepsTo : Event → Reply → RecordedModule K D E L → RecordedModule K D E L → Type 0
+  StepsTo event reply old new = Answers L event reply (assembly_of old) (assembly_of new)
+
+module _ {K D E B : Type 0} (L : Ghosts K) (M : DeviceGhosts D) (N : GaugeGhosts E) (O : NameGhosts B) where
+  -- the same of what lies behind the lock
+  abbrev pub Steps : Event → Reply → Held K D E B L M N O → Held K D E B L M N O → Type 0
+  Steps event reply old new = StepsTo L M N event reply old.recorded new.recorded

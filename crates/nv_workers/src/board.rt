@@ -1,30 +1,40 @@
 // The lock.
 ghost use Rattle.std.specs.Prelude.{◌<◌};
 
+use crate::board_name::BoardName;
 use crate::held::Held;
-use crate::room::Room;
 use crate::saver::Saving;
 use arm_state::{ArmRefusal, ArmReply, DisarmReply, Loss, ReadRefusal};
-use channel_answers::{Collected, Ticket};
+use channel_port::{ChannelPort, Collected, Ticket};
 use energy_budget::Energy;
-use line_channels::{Channels, Drainable};
 use line_memory::Line;
-use module_core::StepReply;
 use notice_book::Notices;
+use nv_machine::StepReply;
 use save_device::SaveDevice;
 use std::sync::{Mutex, Wait};
 use std::thread;
 
+/// What a channel's worker did.
+#[derive(Clone, Copy)]
+pub(crate) enum Working {
+    /// It issued a command.
+    Issued,
+    /// Nothing: the channel had no command to issue.
+    Rested,
+    /// Nothing any more: mains were lost.
+    Closed,
+}
+
 /// A module that threads share, and a book of notices behind a lock of its own. No call takes both locks.
 #[derive(Drop)]
-pub struct Board<C: Channels, D: SaveDevice, E: Energy, B: Room, N: Notices> {
-    pub(crate) held: Mutex<Held<C, D, E, B>>,
+pub struct Board<K: ChannelPort, D: SaveDevice, E: Energy, B: BoardName, N: Notices> {
+    pub(crate) held: Mutex<Held<K, D, E, B>>,
     pub(crate) notices: Mutex<N>,
 }
 
-impl<C: Channels, D: SaveDevice, E: Energy, B: Room, N: Notices> Board<C, D, E, B, N> {
+impl<K: ChannelPort, D: SaveDevice, E: Energy, B: BoardName, N: Notices> Board<K, D, E, B, N> {
     /// Puts a module and a book of notices behind their locks.
-    pub fn new(held: Held<C, D, E, B>, notices: N) -> Board<C, D, E, B, N> {
+    pub fn new(held: Held<K, D, E, B>, notices: N) -> Board<K, D, E, B, N> {
         Board {
             held: Mutex::new(held),
             notices: Mutex::new(notices),
@@ -52,26 +62,28 @@ impl<C: Channels, D: SaveDevice, E: Energy, B: Room, N: Notices> Board<C, D, E, 
     }
 
     /// Makes the coming step of the save that runs.
-    pub fn save_step(&self, rt: &impl Wait) -> StepReply
-        requires { C.reaches }
-    {
+    pub fn save_step(&self, rt: &impl Wait) -> StepReply {
         self.held.lock(rt).save_step()
     }
 
     // One turn of a saver.
-    pub(crate) fn save(&self, rt: &impl Wait) -> Saving
-        requires { C.reaches }
-    {
+    pub(crate) fn save(&self, rt: &impl Wait) -> Saving {
         self.held.lock(rt).save()
     }
 
-    // One command of a channel. It says whether mains were lost.
-    pub(crate) fn work(&self, rt: &impl Wait, channel: u64) -> bool
+    // One turn of a channel's worker.
+    pub(crate) fn work(&self, rt: &impl Wait, channel: u64) -> Working
         requires { channel < B.channels }
     {
         let mut held = self.held.lock(rt);
-        let _issued = held.work(channel);
-        held.has_ended()
+        let done = held.work(channel);
+        if held.has_ended() {
+            Working::Closed
+        } else if done.is_some() {
+            Working::Issued
+        } else {
+            Working::Rested
+        }
     }
 
     // Asks for the answer to a read until it is there. A loss of mains ends it.
@@ -88,11 +100,9 @@ impl<C: Channels, D: SaveDevice, E: Energy, B: Room, N: Notices> Board<C, D, E, 
     }
 }
 
-impl<C: Drainable, D: SaveDevice, E: Energy, B: Room, N: Notices> Board<C, D, E, B, N> {
+impl<K: ChannelPort, D: SaveDevice, E: Energy, B: BoardName, N: Notices> Board<K, D, E, B, N> {
     /// Mains were lost: where acknowledged writes are to be saved, all accepted ones are.
-    pub fn power_loss(&self, rt: &impl Wait) -> Loss
-        requires { C.reaches }
-    {
+    pub fn power_loss(&self, rt: &impl Wait) -> Loss {
         self.held.lock(rt).power_loss()
     }
 }

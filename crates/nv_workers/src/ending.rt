@@ -1,31 +1,29 @@
 // The end of a board, and the check of receipts and answers.
 ghost use Rattle.std.specs.Prelude.{◌≡◌, ◌+◌, ◌≤◌, ◌↔◌, All, Some, length, sum_by, IfOk, IfErr, IfSome, IfNone, IsTrue};
-ghost use Rattle.life_record.specs.Recorded.{Recorded};
+ghost use Rattle.line_memory.specs.History.{Recorded};
 ghost use Rattle.line_memory.specs.declared.Write.{Write};
+ghost use Rattle.nv_workers.specs.Kept.{IsRecordKept};
 ghost use Rattle.nv_workers.specs.Ending.{IsBorneOut, IsFirstNot, IsFirstStranger, StandsIn, receipted};
-ghost use Rattle.nv_workers.specs.Kept.{IsRecorded};
-ghost use Rattle.nv_workers.specs.Lent.{lent};
-ghost use Rattle.nv_workers.specs.Newest.{HasNewest};
 
 use crate::board::Board;
+use crate::board_name::BoardName;
 use crate::held::Held;
 use crate::host::{Host, Receipt, Seen};
-use crate::life::Life;
-use crate::room::Room;
+use crate::recorded_module::RecordedModule;
 use crate::tally::Tally;
+use channel_port::ChannelPort;
 use energy_budget::Energy;
-use life_record::LifeRecord;
-use line_channels::Channels;
-use line_memory::Write;
+use line_memory::{History, Write};
 use mark_board::{BoardSeat, MarkBoard};
 use notice_book::Notices;
 use save_device::SaveDevice;
 use std::sync::ledger::Share;
 
-/// What a board leaves: the life, the notices that were not called, and how many receipts and answers were checked.
+/// What a board leaves: the module with its record, the notices that were not called, and how many receipts and answers were
+/// checked.
 #[derive(Drop)]
-pub struct Closed<C: Channels, D, E, N> {
-    pub life: Life<C, D, E>,
+pub struct Closed<K: ChannelPort, D, E, N> {
+    pub recorded: RecordedModule<K, D, E>,
     pub notices: N,
     pub checked: u64,
 }
@@ -48,7 +46,7 @@ fn is_of(found: Option<Write>, receipt: &Receipt) -> bool
 }
 
 // Whether the write of a receipt stands in the history.
-fn stands_in(history: &LifeRecord, receipt: &Receipt) -> bool
+fn stands_in(history: &History, receipt: &Receipt) -> bool
     ensures { IsTrue result ↔ StandsIn history.now receipt.now }
 {
     is_of(history.accepted_write(receipt.number), receipt)
@@ -56,14 +54,14 @@ fn stands_in(history: &LifeRecord, receipt: &Receipt) -> bool
 
 // Whether an answer is its line after the writes before it.
 #[tactic(auto, unfolding(crate::specs::Ending::IsBorneOut))]
-fn is_borne_out(history: &LifeRecord, answer: &Seen) -> bool
+fn is_borne_out(history: &History, answer: &Seen) -> bool
     ensures { IsTrue result ↔ IsBorneOut history.now answer.now }
 {
     history.knows(answer.line, answer.at) && history.value_of(answer.line, answer.at) == answer.data
 }
 
 // The first receipt that doesn't stand in the history.
-fn strange_receipt(history: &LifeRecord, receipts: &[Receipt]) -> Option<usize>
+fn strange_receipt(history: &History, receipts: &[Receipt]) -> Option<usize>
     ensures some { IfSome result (λ i. IsFirstNot (StandsIn history.now) receipts.now i) }
     ensures none { IfNone result (All (StandsIn history.now) receipts.now) }
 {
@@ -73,7 +71,7 @@ fn strange_receipt(history: &LifeRecord, receipts: &[Receipt]) -> Option<usize>
 }
 
 // The first answer that the history doesn't bear out.
-fn strange_answer(history: &LifeRecord, answers: &[Seen]) -> Option<usize>
+fn strange_answer(history: &History, answers: &[Seen]) -> Option<usize>
     ensures some { IfSome result (λ i. IsFirstNot (IsBorneOut history.now) answers.now i) }
     ensures none { IfNone result (All (IsBorneOut history.now) answers.now) }
 {
@@ -83,11 +81,7 @@ fn strange_answer(history: &LifeRecord, answers: &[Seen]) -> Option<usize>
 }
 
 /// The first receipt, else the first answer, that a life doesn't bear out.
-pub fn find_stranger(
-    history: &LifeRecord,
-    receipts: &[Receipt],
-    answers: &[Seen],
-) -> Option<Stranger>
+pub fn find_stranger(history: &History, receipts: &[Receipt], answers: &[Seen]) -> Option<Stranger>
     ensures some { IfSome result (λ s.
         IsFirstStranger history.now receipts.now answers.now s) }
     ensures receipts { IfNone result (All (StandsIn history.now) receipts.now) }
@@ -109,7 +103,12 @@ pub fn find_stranger(
 }
 
 // Ends a host, whose share goes to the others'. It has seen no mark above the words.
-fn end_host<B: Room>(marks: &MarkBoard, seat: &mut BoardSeat, rest: &mut Share<B>, host: Host<B>)
+fn end_host<B: BoardName>(
+    marks: &MarkBoard,
+    seat: &mut BoardSeat,
+    rest: &mut Share<B>,
+    host: Host<B>,
+)
     requires board { marks.now ≡ B.board }
     requires seat { seat.old.board ≡ B.board }
     ensures same { seat.new ≡ seat.old }
@@ -126,34 +125,24 @@ fn end_host<B: Room>(marks: &MarkBoard, seat: &mut BoardSeat, rest: &mut Share<B
     rest.merge(share);
 }
 
-impl<C: Channels, D: SaveDevice, E: Energy, B: Room> Held<C, D, E, B> {
-    // Ends the hosts, all those of the board, and gives the life.
-    fn conclude(self, hosts: Vec<Host<B>>) -> Life<C, D, E>
+impl<K: ChannelPort, D: SaveDevice, E: Energy, B: BoardName> Held<K, D, E, B> {
+    // Ends the hosts, all those of the board, and gives the module with its record.
+    fn conclude(self, hosts: Vec<Host<B>>) -> RecordedModule<K, D, E>
     where
-        C: Drop,
+        K: Drop,
         D: Drop,
         E: Drop,
         requires { length hosts.items ≡ B.parts }
-        ensures running { result.running ≡ self.running }
-        ensures device { result.device ≡ self.device }
-        ensures energy { result.energy ≡ self.energy }
-        ensures history { result.history ≡ self.history }
-        ensures newest { HasNewest C.Channels result.saved result.running (D.state result.device) }
-        ensures recorded { IsRecorded C.Channels
-            (lent C.Channels result.running (D.state result.device) (E.gauge result.energy))
-            result.history }
+        ensures same { result ≡ self.recorded }
+        ensures kept { IsRecordKept K.ChannelPort D.SaveDevice result }
         ensures shares { length result.history.writes
             ≡ B.before + sum_by (λ h. h.writes) hosts.items }
         ensures marks { All (λ h. h.persisted ≤ result.running.persisted) hosts.items }
     {
         let Held {
-            running,
-            device,
-            energy,
+            recorded,
             marks,
             mut seat,
-            saved,
-            history,
             tally,
         } = self;
         let Tally { mut book, mut rest } = tally;
@@ -161,55 +150,46 @@ impl<C: Channels, D: SaveDevice, E: Energy, B: Room> Held<C, D, E, B> {
             end_host(&marks, &mut seat, &mut rest, host);
         }
         book.audit(&mut rest);
-        Life {
-            running,
-            device,
-            energy,
-            saved,
-            history,
-        }
+        recorded
     }
 }
 
 /// Ends a board once all its threads were joined, with all its hosts: the receipts and the answers are checked against the
-/// history, and life and notices come back. A stranger among them gives the board and the hosts back. It takes no memory.
-pub fn close<C, D, E, B, N>(
-    board: Board<C, D, E, B, N>,
+/// history, and the module with its record and the notices come back. A stranger among them gives the board and the hosts back.
+/// It takes no memory.
+pub fn close<K, D, E, B, N>(
+    board: Board<K, D, E, B, N>,
     hosts: Vec<Host<B>>,
     receipts: &[Receipt],
     answers: &[Seen],
-) -> Result<Closed<C, D, E, N>, (Board<C, D, E, B, N>, Vec<Host<B>>, Stranger)>
+) -> Result<Closed<K, D, E, N>, (Board<K, D, E, B, N>, Vec<Host<B>>, Stranger)>
 where
-    C: Channels + Drop,
+    K: ChannelPort + Drop,
     D: SaveDevice + Drop,
     E: Energy + Drop,
-    B: Room,
+    B: BoardName,
     N: Notices + Drop,
     requires { length hosts.items ≡ B.parts }
-    ensures receipts { IfOk result (λ c. All (StandsIn c.life.history) receipts.now) }
-    ensures answers { IfOk result (λ c. All (IsBorneOut c.life.history) answers.now) }
-    ensures shares { IfOk result (λ c. length c.life.history.writes
+    ensures receipts { IfOk result (λ c. All (StandsIn c.recorded.history) receipts.now) }
+    ensures answers { IfOk result (λ c. All (IsBorneOut c.recorded.history) answers.now) }
+    ensures shares { IfOk result (λ c. length c.recorded.history.writes
         ≡ B.before + sum_by (λ h. h.writes) hosts.items) }
     ensures marks { IfOk result (λ c.
-        All (λ h. h.persisted ≤ c.life.running.persisted) hosts.items) }
-    ensures recorded { IfOk result (λ c. IsRecorded C.Channels
-        (lent C.Channels c.life.running (D.state c.life.device) (E.gauge c.life.energy))
-        c.life.history) }
-    ensures newest { IfOk result (λ c.
-        HasNewest C.Channels c.life.saved c.life.running (D.state c.life.device)) }
+        All (λ h. h.persisted ≤ c.recorded.running.persisted) hosts.items) }
+    ensures kept { IfOk result (λ c. IsRecordKept K.ChannelPort D.SaveDevice c.recorded) }
     ensures checked { IfOk result (λ c. c.checked ≡ length receipts.now + length answers.now) }
     ensures err { IfErr result (λ e. e.1 ≡ hosts) }
 {
     let Board { held, notices } = board;
     let held = held.into_inner();
     let notices = notices.into_inner();
-    if let Some(stranger) = find_stranger(&held.history, receipts, answers) {
+    if let Some(stranger) = find_stranger(&held.recorded.history, receipts, answers) {
         return Err((Board::new(held, notices), hosts, stranger));
     }
-    let life = held.conclude(hosts);
+    let recorded = held.conclude(hosts);
     let checked = receipts.len() as u64 + answers.len() as u64;
     Ok(Closed {
-        life,
+        recorded,
         notices,
         checked,
     })

@@ -1,14 +1,15 @@
 // The workers, and the gate that they pass.
 ghost use Rattle.std.specs.Prelude.{◌≡◌, ◌<◌};
 
-use crate::board::Board;
-use crate::room::Room;
+use crate::board::{Board, Working};
+use crate::board_name::BoardName;
 use crate::saver::Saving;
+use channel_port::ChannelPort;
 use energy_budget::Energy;
-use line_channels::Channels;
 use notice_book::Notices;
 use save_device::SaveDevice;
 use std::sync::Wait;
+use std::thread;
 
 /// What a worker is told to do at its turn: one event, nothing, or to return.
 #[derive(Clone, Copy, Debug, PartialEq, Eq)]
@@ -34,18 +35,19 @@ pub trait Gate {
     fn pass(&self, worker: u64, turn: u64) -> Turn;
 }
 
-/// Issues one command of a channel at each `Go`, until the gate says stop or mains were lost.
-pub fn channel_worker<C, D, E, B, N, G, R>(
+/// Issues one command of a channel at each `Go`, until the gate says stop or mains were lost. A turn that finds no command gives
+/// the processor away.
+pub fn channel_worker<K, D, E, B, N, G, R>(
     rt: &R,
-    board: &Board<C, D, E, B, N>,
+    board: &Board<K, D, E, B, N>,
     channel: u64,
     gate: &G,
 ) -> Ended
 where
-    C: Channels,
+    K: ChannelPort,
     D: SaveDevice,
     E: Energy,
-    B: Room,
+    B: BoardName,
     N: Notices,
     G: Gate,
     R: Wait,
@@ -53,11 +55,11 @@ where
 {
     for turn in 0..u64::MAX {
         match gate.pass(channel, turn) {
-            Turn::Go => {
-                if board.work(rt, channel) {
-                    return Ended::Closed;
-                }
-            }
+            Turn::Go => match board.work(rt, channel) {
+                Working::Issued => {}
+                Working::Rested => thread::yield_now(),
+                Working::Closed => return Ended::Closed,
+            },
             Turn::Hold => {}
             Turn::Stop => return Ended::Stopped,
         }
@@ -65,32 +67,31 @@ where
     Ended::Stopped
 }
 
-/// Takes one turn of a saver at each `Go`, until the gate says stop or mains were lost. It is asked for by the number of
-/// channels.
-pub fn saver_worker<C, D, E, B, N, G, R>(
+/// Takes one turn of a saver at each `Go`, until the gate says stop or mains were lost. A turn at rest gives the processor away.
+/// The gate is asked for it by the number of channels.
+pub fn saver_worker<K, D, E, B, N, G, R>(
     rt: &R,
-    board: &Board<C, D, E, B, N>,
+    board: &Board<K, D, E, B, N>,
     channels: u64,
     gate: &G,
 ) -> Ended
 where
-    C: Channels,
+    K: ChannelPort,
     D: SaveDevice,
     E: Energy,
-    B: Room,
+    B: BoardName,
     N: Notices,
     G: Gate,
     R: Wait,
-    requires reaches { C.reaches }
     requires number { channels ≡ B.channels }
 {
     for turn in 0..u64::MAX {
         match gate.pass(channels, turn) {
-            Turn::Go => {
-                if matches!(board.save(rt), Saving::Closed) {
-                    return Ended::Closed;
-                }
-            }
+            Turn::Go => match board.save(rt) {
+                Saving::Began(_) | Saving::Stepped(_) => {}
+                Saving::Rested => thread::yield_now(),
+                Saving::Closed => return Ended::Closed,
+            },
             Turn::Hold => {}
             Turn::Stop => return Ended::Stopped,
         }

@@ -3,20 +3,19 @@ ghost use Rattle.std.specs.Prelude.{◌≡◌, ◌+◌, ◌<◌, ◌≤◌, ◌+
 ghost use Rattle.std.specs.Arc.{arc_value};
 ghost use Rattle.module_core.specs.Stands.{setup_of};
 ghost use Rattle.nv_workers.specs.Client.{SeesNoLess, client};
-ghost use Rattle.nv_workers.specs.Lent.{told_at};
+ghost use Rattle.nv_workers.specs.Marks.{told_at};
 ghost use Rattle.nv_workers.specs.Steps.{Steps};
 
 use crate::board::Board;
-use crate::held::Held;
-use crate::room::Room;
+use crate::board_name::BoardName;
+use crate::held::{Held, ReadAt};
 use arm_state::{ReadRefusal, WriteRefusal};
-use channel_answers::Got;
+use channel_port::{ChannelPort, Got};
 use energy_budget::Energy;
-use line_channels::Channels;
 use line_memory::{Line, Write};
 use mark_board::{HostSeat, MarkBoard};
-use module_core::{Event, Reply};
 use notice_book::{Notices, Persisted};
+use nv_machine::{Event, Reply};
 use save_device::SaveDevice;
 use std::alloc::Global;
 use std::marker::Model;
@@ -48,13 +47,13 @@ pub struct Behind {
 
 /// A host of one board. Contracts see the marks that it has seen, and how many of its writes were accepted.
 #[derive(Drop)]
-pub struct Host<B: Room> {
+pub struct Host<B: BoardName> {
     pub(crate) marks: Arc<MarkBoard, Global>,
     pub(crate) seat: HostSeat,
     pub(crate) share: Share<B>,
 }
 
-impl<B: Room> Model for Host<B> {
+impl<B: BoardName> Model for Host<B> {
     ghost use Rattle.std.specs.Prelude.{◌≡◌};
     ghost use Rattle.std.specs.Arc.{arc_value};
     ghost use Rattle.nv_workers.specs.Client.{Client, client};
@@ -63,10 +62,11 @@ impl<B: Room> Model for Host<B> {
 
     ghost view = { λ h. client h.seat.accepted h.seat.persisted h.share.amount };
 
-    ghost invariant = { λ h. (arc_value h.marks ≡ B.board) × (h.seat.board ≡ B.board) × (h.share.parts ≡ 1) };
+    ghost invariant = { λ h. (arc_value h.marks ≡ B.board)
+        × (h.seat.board ≡ B.board) × (h.share.parts ≡ 1) };
 }
 
-impl<B: Room> Host<B> {
+impl<B: BoardName> Host<B> {
     // A host with a seat of the board and one part of its ledger.
     pub(crate) fn new(marks: Arc<MarkBoard, Global>, seat: HostSeat, share: Share<B>) -> Host<B>
         requires board { arc_value marks ≡ B.board }
@@ -78,18 +78,19 @@ impl<B: Room> Host<B> {
     }
 
     /// Writes a line at the module that is lent.
-    pub fn write_in<C: Channels, D: SaveDevice, E: Energy>(
+    pub fn write_in<K: ChannelPort, D: SaveDevice, E: Energy>(
         &mut self,
-        held: &mut Held<C, D, E, B>,
+        held: &mut Held<K, D, E, B>,
         write: Write,
     ) -> Result<Receipt, WriteRefusal>
-        requires { C.reaches }
-        ensures ok { IfOk result (λ r. Steps C.Channels D.SaveDevice E.Energy B.Room.own
-            (Event.Write write) (Reply.Write (Ok (told_at r.number held.new.running.persisted)))
+        ensures ok { IfOk result (λ r. Steps K.ChannelPort D.SaveDevice E.Energy B.BoardName.own
+            (Event.Write write)
+            (Reply.Write (Ok (told_at r.number held.new.recorded.running.persisted)))
             held.old held.new) }
-        ensures err { IfErr result (λ refusal. Steps C.Channels D.SaveDevice E.Energy B.Room.own
+        ensures err { IfErr result (λ refusal.
+            Steps K.ChannelPort D.SaveDevice E.Energy B.BoardName.own
             (Event.Write write) (Reply.Write (Err refusal)) held.old held.new) }
-        ensures number { IfOk result (λ r. r.number ≡ held.old.running.accepted) }
+        ensures number { IfOk result (λ r. r.number ≡ held.old.recorded.running.accepted) }
         ensures line { IfOk result (λ r. r.line ≡ write.line) }
         ensures data { IfOk result (λ r. r.data ≡ write.data) }
         ensures seen { IfOk result (λ r. r.number < self.new.accepted) }
@@ -97,13 +98,13 @@ impl<B: Room> Host<B> {
         ensures one { IfOk result (λ r. self.new.writes ≡ self.old.writes + 1) }
         ensures none { IfErr result (λ e. self.new.writes ≡ self.old.writes) }
         ensures adds { IfOk result (λ r.
-            held.new.history.writes ≡ held.old.history.writes ++ write ∷ []) }
+            held.new.recorded.history.writes ≡ held.old.recorded.history.writes ++ write ∷ []) }
         ensures stays { IfErr result (λ e.
-            held.new.history.writes ≡ held.old.history.writes) }
-        ensures device { held.new.device ≡ held.old.device }
-        ensures energy { held.new.energy ≡ held.old.energy }
-        ensures setup { setup_of C.Channels held.new.running
-            ≡ setup_of C.Channels held.old.running }
+            held.new.recorded.history.writes ≡ held.old.recorded.history.writes) }
+        ensures device { held.new.recorded.device ≡ held.old.recorded.device }
+        ensures energy { held.new.recorded.energy ≡ held.old.recorded.energy }
+        ensures setup { setup_of K.ChannelPort held.new.recorded.running
+            ≡ setup_of K.ChannelPort held.old.recorded.running }
     {
         let data = write.data;
         match held.write(&mut self.seat, &mut self.share, write) {
@@ -117,13 +118,12 @@ impl<B: Room> Host<B> {
     }
 
     /// Writes a line.
-    pub fn write<C: Channels, D: SaveDevice, E: Energy, N: Notices>(
+    pub fn write<K: ChannelPort, D: SaveDevice, E: Energy, N: Notices>(
         &mut self,
         rt: &impl Wait,
-        board: &Board<C, D, E, B, N>,
+        board: &Board<K, D, E, B, N>,
         write: Write,
     ) -> Result<Receipt, WriteRefusal>
-        requires { C.reaches }
         ensures line { IfOk result (λ r. r.line ≡ write.line) }
         ensures data { IfOk result (λ r. r.data ≡ write.data) }
         ensures seen { IfOk result (λ r. r.number < self.new.accepted) }
@@ -136,26 +136,26 @@ impl<B: Room> Host<B> {
     }
 
     /// Reads a line at the module that is lent. The number is how many writes were accepted before it.
-    pub fn read_in<C: Channels, D: SaveDevice, E: Energy>(
+    pub fn read_in<K: ChannelPort, D: SaveDevice, E: Energy>(
         &mut self,
-        held: &mut Held<C, D, E, B>,
+        held: &mut Held<K, D, E, B>,
         line: u64,
     ) -> Result<(Got, u64), ReadRefusal>
-        requires { C.reaches }
-        ensures ok { IfOk result (λ r. Steps C.Channels D.SaveDevice E.Energy B.Room.own
+        ensures ok { IfOk result (λ r. Steps K.ChannelPort D.SaveDevice E.Energy B.BoardName.own
             (Event.Read line) (Reply.Read (Ok r.0)) held.old held.new) }
-        ensures err { IfErr result (λ refusal. Steps C.Channels D.SaveDevice E.Energy B.Room.own
+        ensures err { IfErr result (λ refusal.
+            Steps K.ChannelPort D.SaveDevice E.Energy B.BoardName.own
             (Event.Read line) (Reply.Read (Err refusal)) held.old held.new) }
-        ensures at { IfOk result (λ r. r.1 ≡ held.old.running.accepted) }
+        ensures at { IfOk result (λ r. r.1 ≡ held.old.recorded.running.accepted) }
         ensures seen { IfOk result (λ r. self.old.accepted ≤ r.1) }
         ensures rises { SeesNoLess self.old self.new }
         ensures writes { self.new.writes ≡ self.old.writes }
-        ensures device { held.new.device ≡ held.old.device }
-        ensures energy { held.new.energy ≡ held.old.energy }
-        ensures setup { setup_of C.Channels held.new.running
-            ≡ setup_of C.Channels held.old.running }
+        ensures device { held.new.recorded.device ≡ held.old.recorded.device }
+        ensures energy { held.new.recorded.energy ≡ held.old.recorded.energy }
+        ensures setup { setup_of K.ChannelPort held.new.recorded.running
+            ≡ setup_of K.ChannelPort held.old.recorded.running }
     {
-        let (reply, at) = held.read(&mut self.seat, line);
+        let ReadAt { reply, at } = held.read(&mut self.seat, line);
         match reply {
             Ok(got) => Ok((got, at)),
             Err(refusal) => Err(refusal),
@@ -163,13 +163,12 @@ impl<B: Room> Host<B> {
     }
 
     /// Reads a line, and waits for the answer.
-    pub fn read<C: Channels, D: SaveDevice, E: Energy, N: Notices>(
+    pub fn read<K: ChannelPort, D: SaveDevice, E: Energy, N: Notices>(
         &mut self,
         rt: &impl Wait,
-        board: &Board<C, D, E, B, N>,
+        board: &Board<K, D, E, B, N>,
         line: u64,
     ) -> Result<Seen, ReadRefusal>
-        requires { C.reaches }
         ensures line { IfOk result (λ s. s.line ≡ line) }
         ensures at { IfOk result (λ s. self.old.accepted ≤ s.at) }
         ensures rises { SeesNoLess self.old self.new }
@@ -186,13 +185,12 @@ impl<B: Room> Host<B> {
     }
 
     // Asks under the lock, and lets go of it.
-    fn ask<C: Channels, D: SaveDevice, E: Energy, N: Notices>(
+    fn ask<K: ChannelPort, D: SaveDevice, E: Energy, N: Notices>(
         &mut self,
         rt: &impl Wait,
-        board: &Board<C, D, E, B, N>,
+        board: &Board<K, D, E, B, N>,
         line: u64,
     ) -> Result<(Got, u64), ReadRefusal>
-        requires { C.reaches }
         ensures at { IfOk result (λ r. self.old.accepted ≤ r.1) }
         ensures rises { SeesNoLess self.old self.new }
         ensures writes { self.new.writes ≡ self.old.writes }

@@ -7,27 +7,29 @@ use std::alloc::{AllocError, Global};
 use std::marker::Model;
 use std::sync::ledger::Blank;
 
-/// The words and the ledger of a board that isn't there yet. Its caller makes it, and then picks the board's name (`Room`).
+/// The words and the ledger of a board that isn't there yet. Its caller makes it, and then picks the board's name (`BoardName`).
 /// Contracts see which ledger and which words these are, for how many hosts, and what the words show.
 #[derive(Drop)]
 pub struct Opening {
-    blank: Blank,
-    marks: MarkBoard,
-    seat: BoardSeat,
-    seats: Vec<HostSeat>,
-    mark: u64,
+    pub(crate) blank: Blank,
+    pub(crate) marks: MarkBoard,
+    pub(crate) seat: BoardSeat,
+    pub(crate) seats: Vec<HostSeat>,
+    pub(crate) mark: u64,
 }
 
 impl Model for Opening {
     ghost use Rattle.std.specs.Prelude.{◌≡◌, vec_len};
     ghost use Rattle.mark_board.specs.SeenMarks.{AllHaveSeen, seen_marks};
-    ghost use Rattle.nv_workers.specs.Opened.{Opened, opening};
+    ghost use Rattle.nv_workers.specs.Opening.{OpeningView, opening};
 
-    ghost Value = { Opened };
+    ghost Value = { OpeningView };
 
     ghost view = { λ o. opening o.blank.name o.blank.parts o.marks o.mark };
 
-    ghost invariant = { λ o. (o.seat ≡ seen_marks o.marks o.mark o.mark) × (vec_len o.seats ≡ o.blank.parts) × AllHaveSeen (seen_marks o.marks o.mark o.mark) o.seats.items };
+    ghost invariant = { λ o. let shown = seen_marks o.marks o.mark o.mark in
+        (o.seat ≡ shown) × (vec_len o.seats ≡ o.blank.parts)
+        × AllHaveSeen shown o.seats.items };
 }
 
 impl Opening {
@@ -46,25 +48,5 @@ impl Opening {
             seats,
             mark,
         })
-    }
-
-    // The ledger, the words, the seats, and what the words show.
-    pub(crate) fn into_parts(self) -> (Blank, MarkBoard, BoardSeat, Vec<HostSeat>, u64)
-        ensures name { result.0.name ≡ self.name }
-        ensures parts { result.0.parts ≡ self.parts }
-        ensures board { result.1 ≡ self.board }
-        ensures seat { result.2 ≡ seen_marks self.board self.mark self.mark }
-        ensures number { vec_len result.3 ≡ self.parts }
-        ensures seats { AllHaveSeen (seen_marks self.board self.mark self.mark) result.3.items }
-        ensures mark { result.4 ≡ self.mark }
-    {
-        let Opening {
-            blank,
-            marks,
-            seat,
-            seats,
-            mark,
-        } = self;
-        (blank, marks, seat, seats, mark)
     }
 }

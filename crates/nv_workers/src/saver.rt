@@ -1,15 +1,15 @@
 // A saver's turn at what lies behind the lock.
 ghost use Rattle.std.specs.Prelude.{◌≡◌};
-ghost use Rattle.module_core.specs.State.{Machine};
+ghost use Rattle.nv_machine.specs.State.{Machine};
 ghost use Rattle.module_core.specs.Stands.{setup_of};
 ghost use Rattle.nv_workers.specs.Savers.{needs_save, turn_at, turn_of, turn_taken};
 
+use crate::board_name::BoardName;
 use crate::held::Held;
-use crate::room::Room;
 use arm_state::{ArmRefusal, Mode, SaveState};
+use channel_port::ChannelPort;
 use energy_budget::Energy;
-use line_channels::Channels;
-use module_core::StepReply;
+use nv_machine::StepReply;
 use save_device::SaveDevice;
 
 /// What a saver is to do.
@@ -62,30 +62,30 @@ fn turn_at(mode: Mode, saves: SaveState, saved: u64, accepted: u64) -> SaverTurn
     SaverTurn::Rest
 }
 
-impl<C: Channels, D: SaveDevice, E: Energy, B: Room> Held<C, D, E, B> {
+impl<K: ChannelPort, D: SaveDevice, E: Energy, B: BoardName> Held<K, D, E, B> {
     ghost use Rattle.module_core.specs.Stands.{Matches};
     ghost use Rattle.nv_workers.specs.Turns.{TakesTurn};
 
     /// What a saver is to do now.
     pub fn saver_turn(&self) -> SaverTurn
-        ensures { (m : Machine) → Matches C.Channels self.now.running m
-            → result ≡ turn_of m self.now.saved }
+        ensures { (m : Machine) → Matches K.ChannelPort self.now.recorded.running m
+            → result ≡ turn_of m self.now.recorded.saved }
     {
-        let mode = self.running.mode();
-        let saves = self.running.save_state();
-        turn_at(mode, saves, self.saved, self.running.accepted())
+        let mode = self.recorded.running.mode();
+        let saves = self.recorded.running.save_state();
+        let accepted = self.recorded.running.accepted();
+        turn_at(mode, saves, self.recorded.saved, accepted)
     }
 
     /// Takes a saver's turn: it begins a save where one is needed and none runs, makes one step of the save that runs, or
     /// does nothing.
     pub fn save(&mut self) -> Saving
-        requires { C.reaches }
-        ensures turn { (m : Machine) → Matches C.Channels self.old.running m
-            → turn_taken result ≡ turn_of m self.old.saved }
-        ensures steps { TakesTurn C.Channels D.SaveDevice E.Energy B.Room.own
+        ensures turn { (m : Machine) → Matches K.ChannelPort self.old.recorded.running m
+            → turn_taken result ≡ turn_of m self.old.recorded.saved }
+        ensures steps { TakesTurn K.ChannelPort D.SaveDevice E.Energy B.BoardName.own
             result self.old self.new }
-        ensures setup { setup_of C.Channels self.new.running
-            ≡ setup_of C.Channels self.old.running }
+        ensures setup { setup_of K.ChannelPort self.new.recorded.running
+            ≡ setup_of K.ChannelPort self.old.recorded.running }
     {
         match self.saver_turn() {
             SaverTurn::Begin => Saving::Began(self.save_begin()),
@@ -97,6 +97,6 @@ impl<C: Channels, D: SaveDevice, E: Energy, B: Room> Held<C, D, E, B> {
 
     /// Were mains lost?
     pub(crate) fn has_ended(&self) -> bool {
-        self.running.mode().has_ended()
+        self.recorded.running.mode().has_ended()
     }
 }

@@ -2,21 +2,19 @@
 ghost use Rattle.std.specs.Prelude.{◌≡◌, ◌≤◌, length, vec_len, All, IfOk, IfErr};
 ghost use Rattle.std.specs.Arc.{arc_value};
 ghost use Rattle.mark_board.specs.SeenMarks.{AllHaveSeen, seen_marks};
-ghost use Rattle.module_core.specs.Stands.{HasDevice, setup_of};
+ghost use Rattle.module_core.specs.Stands.{setup_of};
 ghost use Rattle.nv_workers.specs.Client.{client};
-ghost use Rattle.nv_workers.specs.Kept.{HasRoomForAll, IsRecorded};
-ghost use Rattle.nv_workers.specs.Lent.{lent};
-ghost use Rattle.nv_workers.specs.Newest.{HasNewest};
+ghost use Rattle.nv_workers.specs.Kept.{IsRecordKept};
 
 use crate::board::Board;
+use crate::board_name::BoardName;
 use crate::held::{Held, publish};
 use crate::host::Host;
-use crate::life::Life;
 use crate::opening::Opening;
-use crate::room::Room;
+use crate::recorded_module::RecordedModule;
 use crate::tally::Tally;
+use channel_port::ChannelPort;
 use energy_budget::Energy;
-use line_channels::Channels;
 use mark_board::{HostSeat, MarkBoard};
 use notice_book::Notices;
 use save_device::SaveDevice;
@@ -25,7 +23,7 @@ use std::sync::Arc;
 use std::sync::ledger::Share;
 
 // A host for each seat, each with one part of the ledger.
-fn seated<B: Room>(
+fn seated<B: BoardName>(
     alloc: Global,
     marks: &Arc<MarkBoard, Global>,
     seats: Vec<HostSeat>,
@@ -50,49 +48,43 @@ fn seated<B: Room>(
     Ok(hosts)
 }
 
-/// Puts a life and a book of notices behind their locks, with as many hosts as the opening has seats. The board's name is picked from the opening: a
-/// caller is generic over the room. It refuses only where there is no memory for the hosts, and then gives life and book back.
-pub fn start<C: Channels, D: SaveDevice, E: Energy, B: Room, N: Notices>(
+/// Puts a module with its record and a book of notices behind their locks, with as many hosts as the opening has seats. The
+/// board's name is picked from the opening: a caller is generic over it. It refuses only where there is no memory for the hosts,
+/// and then gives module and book back.
+pub fn start<K: ChannelPort, D: SaveDevice, E: Energy, B: BoardName, N: Notices>(
     alloc: Global,
     opening: Opening,
-    life: Life<C, D, E>,
+    recorded: RecordedModule<K, D, E>,
     notices: N,
-) -> Result<(Board<C, D, E, B, N>, Vec<Host<B>>), (Life<C, D, E>, N, AllocError)>
+) -> Result<(Board<K, D, E, B, N>, Vec<Host<B>>), (RecordedModule<K, D, E>, N, AllocError)>
     requires name { opening.name ≡ B.name }
     requires parts { opening.parts ≡ B.parts }
     requires board { opening.board ≡ B.board }
-    requires mark { opening.mark ≤ life.running.persisted }
-    requires before { length life.history.writes ≡ B.before }
-    requires recorded { IsRecorded C.Channels
-        (lent C.Channels life.running (D.state life.device) (E.gauge life.energy)) life.history }
-    requires room { HasRoomForAll C.Channels
-        (lent C.Channels life.running (D.state life.device) (E.gauge life.energy)) life.history }
-    requires newest { HasNewest C.Channels life.saved life.running (D.state life.device) }
-    requires channels { (setup_of C.Channels life.running).shape.channels ≡ B.channels }
-    requires size { HasDevice C.Channels life.running (D.state life.device) }
+    requires mark { opening.mark ≤ recorded.running.persisted }
+    requires before { length recorded.history.writes ≡ B.before }
+    requires kept { IsRecordKept K.ChannelPort D.SaveDevice recorded }
+    requires channels { (setup_of K.ChannelPort recorded.running).shape.channels ≡ B.channels }
     ensures number { IfOk result (λ s. vec_len s.1 ≡ B.parts) }
     ensures hosts { IfOk result (λ s.
         All (λ h. h ≡ client opening.mark opening.mark 0) s.1.items) }
-    ensures life { IfErr result (λ e. e.0 ≡ life) }
+    ensures recorded { IfErr result (λ e. e.0 ≡ recorded) }
     ensures notices { IfErr result (λ e. e.1 ≡ notices) }
 {
-    let (blank, marks, mut seat, seats, mark) = opening.into_parts();
+    let Opening {
+        blank,
+        marks,
+        mut seat,
+        seats,
+        mark,
+    } = opening;
     let (book, mut rest) = blank.open::<B>();
     let Ok(marks) = Arc::new(alloc, marks) else {
-        return Err((life, notices, AllocError));
+        return Err((recorded, notices, AllocError));
     };
     let Ok(hosts) = seated(alloc, &marks, seats, &mut rest, mark) else {
-        return Err((life, notices, AllocError));
+        return Err((recorded, notices, AllocError));
     };
-    publish(&marks, &mut seat, &life.running);
-    let Life {
-        running,
-        device,
-        energy,
-        saved,
-        history,
-    } = life;
-    let tally = Tally { book, rest };
-    let held = Held::new(running, device, energy, marks, seat, saved, history, tally);
+    publish(&marks, &mut seat, &recorded.running);
+    let held = Held::new(recorded, marks, seat, Tally { book, rest });
     Ok((Board::new(held, notices), hosts))
 }

@@ -1,31 +1,30 @@
 // How many writes of the hosts were accepted.
 ghost use Rattle.std.specs.Prelude.{◌≡◌, ◌+◌, ◌<◌, ◌++◌, ◌↔◌, length, IsTrue};
 ghost use Rattle.std.specs.Result.{IsOk};
-ghost use Rattle.life_record.specs.Recorded.{Recorded};
-ghost use Rattle.module_core.specs.Rising.{added};
+ghost use Rattle.line_memory.specs.History.{Recorded};
+ghost use Rattle.nv_machine.specs.Rising.{added};
 
-use crate::room::Room;
+use crate::board_name::BoardName;
 use arm_state::WriteRefusal;
-use life_record::LifeRecord;
-use line_memory::Write;
-use module_core::{Accepted, Event, Reply};
+use line_memory::{History, Write};
+use nv_machine::{Accepted, Event, Reply};
 use std::sync::ledger::{Book, Share};
 
 /// The book of a board's ledger, and a share of no parts that the hosts' are merged into when the board is closed. Contracts
 /// see the book's total, how many writes of the hosts were accepted.
 #[derive(Drop)]
-pub struct Tally<B: Room> {
+pub struct Tally<B: BoardName> {
     pub(crate) book: Book<B>,
     pub(crate) rest: Share<B>,
     ghost parts: { rest.parts ≡ 0 },
     ghost amount: { rest.amount ≡ 0 },
 }
 
-impl<B: Room> Tally<B> {
+impl<B: BoardName> Tally<B> {
     // Takes note of a write where it was accepted: in the history, and in the share of the host that wrote it.
     pub(crate) fn note(
         &mut self,
-        history: &mut LifeRecord,
+        history: &mut History,
         share: &mut Share<B>,
         write: Write,
         reply: Result<Accepted, WriteRefusal>,

@@ -4,16 +4,16 @@ ghost use Rattle.notice_book.specs.NoticeBooks.{refused_notice};
 ghost use Rattle.nv_workers.specs.Client.{client};
 
 use crate::board::Board;
+use crate::board_name::BoardName;
 use crate::host::{Host, Receipt};
-use crate::room::Room;
+use channel_port::ChannelPort;
 use energy_budget::Energy;
-use line_channels::Channels;
 use notice_book::{InsertRefusal, Notices};
 use save_device::SaveDevice;
 use std::alloc::{AllocError, Global};
 use std::sync::Wait;
 
-impl<C: Channels, D: SaveDevice, E: Energy, B: Room, N: Notices> Board<C, D, E, B, N> {
+impl<K: ChannelPort, D: SaveDevice, E: Energy, B: BoardName, N: Notices> Board<K, D, E, B, N> {
     /// Calls the notices below a mark that the host loads anew, each once and in rising order, and gives the number and the
     /// answer of each. It takes the lock of the notices alone. It refuses only where there is no memory for the answers:
     /// then none was called.
@@ -33,13 +33,13 @@ impl<C: Channels, D: SaveDevice, E: Energy, B: Room, N: Notices> Board<C, D, E, 
     }
 }
 
-impl<B: Room> Host<B> {
+impl<B: BoardName> Host<B> {
     /// Puts a notice in, to be called once the receipt's write is persistent. It takes the lock of the notices alone. Refused
     /// `Full` where the book has no room, and else `Taken` where a notice of the number is there: the notice comes back.
-    pub fn notify<C: Channels, D: SaveDevice, E: Energy, N: Notices>(
+    pub fn notify<K: ChannelPort, D: SaveDevice, E: Energy, N: Notices>(
         &self,
         rt: &impl Wait,
-        board: &Board<C, D, E, B, N>,
+        board: &Board<K, D, E, B, N>,
         receipt: &Receipt,
         notice: N::Notice,
     ) -> Result<(), InsertRefusal<N::Notice>>

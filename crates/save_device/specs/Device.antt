@@ -13,7 +13,7 @@ pub record Moment : Type 0 where
 pub record DeviceState : Type 0 where
   pub bytes : List ℕ
   pub unsettled : ℕ → Bool
-  pub past : List Moment
+  pub earlier : List Moment
   pub calls : List Call
 
 -- how it is
@@ -22,11 +22,11 @@ present state = record { bytes = state.bytes; unsettled = state.unsettled }
 
 -- the same with these calls, as they were made of something around it
 abbrev pub with_calls : DeviceState → List Call → DeviceState
-with_calls state calls = record { bytes = state.bytes; unsettled = state.unsettled; past = state.past; calls = calls }
+with_calls state calls = record { bytes = state.bytes; unsettled = state.unsettled; earlier = state.earlier; calls = calls }
 
 -- all moments so far, the present one last
 abbrev pub moments_of : DeviceState → List Moment
-moments_of state = state.past ++ present state ∷ []
+moments_of state = state.earlier ++ present state ∷ []
 
 -- how many calls failed
 abbrev pub faults_of : DeviceState → ℕ

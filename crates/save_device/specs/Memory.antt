@@ -14,7 +14,7 @@ abbrev pub state_of : MemoryDevice → DeviceState
 state_of device = record {
   bytes = device.content.bytes.items;
   unsettled = λ place. slice_index_or device.content.unsettled.items place false;
-  past = map moment_of device.past.items;
+  earlier = map moment_of device.earlier.items;
   calls = device.calls;
 }
 

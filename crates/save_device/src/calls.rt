@@ -3,7 +3,7 @@ ghost use Rattle.std.specs.Prelude.{◌≡◌, ◌-◌, ◌^◌, [], ◌∷◌, 
 ghost use Rattle.save_device.specs.declared.calls.Call.{Call};
 ghost use Rattle.save_device.specs.Calls.{called, faults_in};
 
-use past::Past;
+use ghost_trace::Trace;
 use std::marker::Model;
 
 /// What a call of a device is.
@@ -26,7 +26,7 @@ pub struct Call {
 #[derive(Drop)]
 pub struct CallLog {
     faults: u64,
-    calls: Past<Call>,
+    calls: Trace<Call>,
 }
 
 impl Model for CallLog {
@@ -44,7 +44,7 @@ impl CallLog {
     {
         CallLog {
             faults: 0,
-            calls: Past::new(),
+            calls: Trace::new(),
         }
     }
 

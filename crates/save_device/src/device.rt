@@ -17,7 +17,7 @@ pub struct DeviceFault;
 ///
 /// No call takes memory.
 pub trait SaveDevice {
-    /// What is known of the device: its bytes, which of them are unsettled, its past and its calls.
+    /// What is known of the device: its bytes, which of them are unsettled, its earlier moments and its calls.
     ghost state: { Self → DeviceState };
 
     /// The number of bytes, which no call changes.

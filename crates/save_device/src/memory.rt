@@ -1,4 +1,4 @@
-// A device in memory, which doesn't fail. It keeps no past contents: only proofs read those.
+// A device in memory, which doesn't fail. It keeps no earlier contents: only proofs read those.
 ghost use Rattle.std.specs.Prelude.{◌≡◌, ◌⊎◌, ◌↔◌, ℕ, ◌+◌, ◌<◌, ◌≤◌, ◌^◌, min, max, length, true, false, replicate, slice_index, slice_index_or, slice_range, is_ok, IsTrue, IfOk, OnOk, IsOk};
 ghost use Rattle.save_device.specs.declared.calls.CallKind.TheVariants.{Read};
 ghost use Rattle.save_device.specs.Rows.{overwritten, IsInRange};
@@ -9,7 +9,7 @@ ghost use Rattle.save_device.specs.Flags.{AllUpWithin, CopiedWithin, ClearedWith
 ghost use Rattle.save_device.specs.Pick.{IsPickedFrom};
 
 use crate::{CallKind, CallLog, DeviceFault, SaveDevice};
-use past::Past;
+use ghost_trace::Trace;
 use std::alloc::{AllocError, Global};
 
 /// Which of the images that a stop may leave.
@@ -59,7 +59,7 @@ pub struct MemoryDevice {
     // the bytes at the last sync
     settled: Vec<u8>,
     span: Span,
-    past: Past<Content>,
+    earlier: Trace<Content>,
     calls: CallLog,
     ghost small: { length content.bytes.items < 2 ^ 64 },
     ghost flags: { length content.unsettled.items ≡ length content.bytes.items },
@@ -126,7 +126,7 @@ impl MemoryDevice {
             content: Content { bytes, unsettled },
             settled,
             span: Span::NONE,
-            past: Past::new(),
+            earlier: Trace::new(),
             calls: CallLog::new(),
         })
     }
@@ -140,7 +140,7 @@ impl MemoryDevice {
         ensures time { Elapses (state_of self.old) (state_of self.new) }
         ensures calls { (state_of self.new).calls ≡ (state_of self.old).calls }
     {
-        self.past.note(&self.content);
+        self.earlier.note(&self.content);
         choose(
             &mut self.content.bytes,
             &self.settled,
@@ -202,7 +202,7 @@ impl SaveDevice for MemoryDevice {
         ensures ok { IsOk result }
 
         // No more than the call is new, in what the next sync and the next stop are to do either.
-        ensures past { (state_of self.new).past ≡ (state_of self.old).past }
+        ensures earlier { (state_of self.new).earlier ≡ (state_of self.old).earlier }
         ensures settled_row { settled_row_of self.new ≡ settled_row_of self.old }
     {
         into.copy_from_slice(&self.content.bytes[at..at + into.len()]);
@@ -222,7 +222,7 @@ impl SaveDevice for MemoryDevice {
             ⊎ IsInRange at (length bytes.now) place) }
         ensures settled_row { settled_row_of self.new ≡ settled_row_of self.old }
     {
-        self.past.note(&self.content);
+        self.earlier.note(&self.content);
         overwrite(&mut self.content.bytes, at, bytes);
         raise(&mut self.content.unsettled, at, bytes.len());
         self.span = self.span.with(at, bytes.len());
@@ -235,7 +235,7 @@ impl SaveDevice for MemoryDevice {
         ensures ok { IsOk result }
         ensures settled_row { settled_row_of self.new ≡ (state_of self.old).bytes }
     {
-        self.past.note(&self.content);
+        self.earlier.note(&self.content);
         self.span.copy(&self.content.bytes, &mut self.settled);
         self.span.clear(&mut self.content.unsettled);
         self.span = Span::NONE;

@@ -11,13 +11,15 @@ use Rattle.line_memory.specs.declared.Write.{Write}
 use Rattle.line_memory.specs.Memory.{after, after_write, zero_lines}
 use Rattle.save_image.specs.Image.{Image}
 use Rattle.save_device.specs.Device.{DeviceState}
-use Rattle.line_channels.specs.declared.channels.Channels.{Ghosts}
+use Rattle.energy_budget.specs.Gauge.{Gauge}
+use Rattle.channel_port.specs.declared.port.ChannelPort.{Ghosts}
+use Rattle.nv_machine.specs.State.{Machine, all_of, memory_of, start_of_life}
+use Rattle.nv_machine.specs.Guard.{IsPrefix}
+use Rattle.module_core.specs.declared.module.Module.{Module}
 use Rattle.module_core.specs.declared.opening.Opened.{Opened}
-use Rattle.module_core.specs.State.{Machine, all_of, memory_of, start_of_life}
-use Rattle.module_core.specs.Guard.{IsPrefix}
-use Rattle.module_core.specs.Opening.{new_life}
-use Rattle.nv_session.specs.declared.life.Life.{Life}
-use Rattle.nv_session.specs.Living.{LifeStands}
+use Rattle.module_core.specs.Opening.{opened_with}
+use Rattle.module_core.specs.Stands.{ModuleStands}
+use Rattle.nv_session.specs.Living.{SessionAt, session_at}
 use Rattle.nv_session.specs.Restoring.{GoesBackTo, IsLeftBy}
 use Rattle.nv_script.specs.declared.line.ScriptLine.{ScriptLine}
 use Rattle.nv_script.specs.declared.answer.Answer.{Answer}
@@ -48,7 +50,7 @@ kept_on lines ledger m n asked given kept opened writes rises told = record {
 
 -- a new life began with a prefix of its writes
 pub first_kept : (lines : ℕ) (ledger : Ledger) (m : Machine) (found : Opened) (image : Image) (count : ℕ) → IsKeptBy lines ledger m → count ≡ image.count → IsPrefix m image
-    → IsKeptBy lines (first_of count ledger) (new_life found image)
+    → IsKeptBy lines (first_of count ledger) (opened_with found image)
 first_kept lines ledger m found image count kept is prefix =
     let all = kept_all lines ledger m kept in
     let few : count ≤ length ledger.writes = omega (arith, all, is, prefix.to) in
@@ -69,13 +71,13 @@ first_kept lines ledger m found image count kept is prefix =
 pub the_ledger : (ledger other : Ledger) → Some ledger ≡ Some other → ledger ≡ other
 the_ledger ledger other is = ap (λ (known : Option Ledger). unwrap_or known ledger) is
 
-module _ {C D : Type 0} (L : Ghosts C) (M : Ghosts D) where
+module _ {K : Type 0} (L : Ghosts K) where
   -- What an answer to a line comes to where the life stood for a machine.
-  pub record GoneOn (asked : ScriptLine) (given : Answer) (m : Machine) (life' : Option (Life C D L M)) (device' : DeviceState) : Type 0 where
-    pub it : Life C D L M
-    pub runs : life' ≡ Some it
+  pub record GoneOn (asked : ScriptLine) (given : Answer) (m : Machine) (new : SessionAt L) : Type 0 where
+    pub it : Module K L
+    pub runs : new.life ≡ Some it
     pub n : Machine
-    pub stands : LifeStands L M it device' n
+    pub stands : ModuleStands L it new.device n
     pub opened : n.life.opened ≡ m.life.opened
     pub writes : n.life.writes ≡ m.life.writes ++ accepted_by asked given
     pub rises : m.life.persisted ≤ n.life.persisted
@@ -84,25 +86,32 @@ module _ {C D : Type 0} (L : Ghosts C) (M : Ghosts D) where
     pub holds : (lines : ℕ) (ledger : Ledger) → IsKeptBy lines ledger m → IsTrueBy lines given ledger
 
   -- the same of each machine that it may have stood for
-  abbrev pub GoesOnWith : ScriptLine → Answer → Option (Life C D L M) → DeviceState → Option (Life C D L M) → DeviceState → Type 0
-  GoesOnWith asked given life device life' device' = (it : Life C D L M) (m : Machine) → life ≡ Some it → LifeStands L M it device m → GoneOn asked given m life' device'
+  abbrev pub GoesOnWith : ScriptLine → Answer → SessionAt L → SessionAt L → Type 0
+  GoesOnWith asked given old new = (it : Module K L) (m : Machine) → old.life ≡ Some it → ModuleStands L it old.device m → GoneOn asked given m new
 
   -- What one comes to where no life runs: it tells of nothing that is accepted or persistent.
-  pub record StayedAtRest (asked : ScriptLine) (given : Answer) (device : DeviceState) (life' : Option (Life C D L M)) (device' : DeviceState) : Type 0 where
-    pub none : life' ≡ None
-    pub same : device' ≡ device
+  pub record StayedAtRest (asked : ScriptLine) (given : Answer) (old new : SessionAt L) : Type 0 where
+    pub none : new.life ≡ None
+    pub same : new.device ≡ old.device
     pub adds : accepted_by asked given ≡ []
     pub tells : told_by given ≡ 0
     pub holds : (lines : ℕ) (ledger : Ledger) → ledger.runs ≡ false → IsTrueBy lines given ledger
 
-  abbrev pub StaysAtRest : ScriptLine → Answer → Option (Life C D L M) → DeviceState → Option (Life C D L M) → DeviceState → Type 0
-  StaysAtRest asked given life device life' device' = life ≡ None → StayedAtRest asked given device life' device'
+  abbrev pub StaysAtRest : ScriptLine → Answer → SessionAt L → SessionAt L → Type 0
+  StaysAtRest asked given old new = old.life ≡ None → StayedAtRest asked given old new
+
+  -- a session with a life goes back to what this stands for, and one without to what the device is left by
+  pub back_to_life : (lines : ℕ) (at : SessionAt L) (it : Module K L) (m : Machine) → at.life ≡ Some it → ModuleStands L it at.device m → GoesBackTo L lines at m
+  back_to_life lines at it m runs stands = subst (λ (life : Option (Module K L)). GoesBackTo L lines (session_at life at.device at.gauge) m) (sym runs) stands
+
+  pub back_at_rest : (lines : ℕ) (at : SessionAt L) (m : Machine) → at.life ≡ None → IsLeftBy lines m at.device → GoesBackTo L lines at m
+  back_at_rest lines at m none left = subst (λ (life : Option (Module K L)). GoesBackTo L lines (session_at life at.device at.gauge) m) (sym none) left
 
   -- the answer was true, and what is known has grown and is borne out
-  told_truly : (lines : ℕ) (asked : ScriptLine) (given : Answer) (life' : Option (Life C D L M)) (device' : DeviceState) (ledger : Ledger) → IsOfLine asked given
+  told_truly : (lines : ℕ) (asked : ScriptLine) (given : Answer) (new : SessionAt L) (ledger : Ledger) → IsOfLine asked given
       → known_behind asked given (Some ledger) ≡ Some (grown asked given ledger) → IsTrueBy lines given ledger → told_by given ≤ length (grown asked given ledger).writes
-      → Bears L M lines (grown asked given ledger) life' device' → TellsTruly L M lines asked given (Some ledger) life' device'
-  told_truly lines asked given life' device' ledger of behind is_true most borne =
+      → Bears L lines (grown asked given ledger) new → TellsTruly L lines asked given (Some ledger) new
+  told_truly lines asked given new ledger of behind is_true most borne =
       let same : (other : Ledger) → known_behind asked given (Some ledger) ≡ Some other → grown asked given ledger ≡ other = λ other is. the_ledger (grown asked given ledger) other (sym behind ∙ is) in
       record {
         holds = record {
@@ -110,39 +119,34 @@ module _ {C D : Type 0} (L : Ghosts C) (M : Ghosts D) where
           holds = λ other is. subst (λ (l : Ledger). IsTrueBy lines given l) (the_ledger ledger other is) is_true;
           within = λ other is. subst (λ (l : Ledger). told_by given ≤ length l.writes) (same other is) most;
         };
-        bears = λ other is. subst (λ (l : Ledger). Bears L M lines l life' device') (same other is) borne;
+        bears = λ other is. subst (λ (l : Ledger). Bears L lines l new) (same other is) borne;
       }
 
-  grown_truly : (lines : ℕ) (asked : ScriptLine) (given : Answer) (life life' : Option (Life C D L M)) (device device' : DeviceState) (ledger : Ledger) → IsOfLine asked given
-      → known_behind asked given (Some ledger) ≡ Some (grown asked given ledger) → GoesOnWith asked given life device life' device' → StaysAtRest asked given life device life' device'
-      → Bears L M lines ledger life device → TellsTruly L M lines asked given (Some ledger) life' device'
-  grown_truly lines asked given (Some it) life' device device' ledger of behind goes stays bears =
-      let gone : GoneOn asked given bears.m life' device' = goes it bears.m refl bears.back in
+  grown_truly : (lines : ℕ) (asked : ScriptLine) (given : Answer) (life : Option (Module K L)) (device : DeviceState) (gauge : Gauge) (new : SessionAt L) (ledger : Ledger) → IsOfLine asked given
+      → known_behind asked given (Some ledger) ≡ Some (grown asked given ledger) → GoesOnWith asked given (session_at life device gauge) new → StaysAtRest asked given (session_at life device gauge) new
+      → Bears L lines ledger (session_at life device gauge) → TellsTruly L lines asked given (Some ledger) new
+  grown_truly lines asked given (Some it) device gauge new ledger of behind goes stays bears =
+      let gone : GoneOn asked given bears.m new = goes it bears.m refl bears.back in
       let kept : IsKeptBy lines (grown asked given ledger) gone.n = kept_on lines ledger bears.m gone.n asked given bears.kept gone.opened gone.writes gone.rises gone.told in
-      told_truly lines asked given life' device' ledger of behind (gone.holds lines ledger bears.kept)
+      told_truly lines asked given new ledger of behind (gone.holds lines ledger bears.kept)
       (omega (arith, kept_all lines (grown asked given ledger) gone.n kept, gone.told, gone.most))
-      (record {
-        runs = bears.runs ∙ sym (ap is_some gone.runs);
-        m = gone.n;
-        back = subst (λ (l : Option (Life C D L M)). GoesBackTo L M lines l device' gone.n) (sym gone.runs) gone.stands;
-        kept = kept;
-      })
-  grown_truly lines asked given None life' device device' ledger of behind goes stays bears =
-      let stayed : StayedAtRest asked given device life' device' = stays refl in
+      (record { runs = bears.runs ∙ sym (ap is_some gone.runs); m = gone.n; back = back_to_life lines new gone.it gone.n gone.runs gone.stands; kept = kept })
+  grown_truly lines asked given None device gauge new ledger of behind goes stays bears =
+      let stayed : StayedAtRest asked given (session_at None device gauge) new = stays refl in
       let m : Machine = bears.m in
       let nothing : m.life.writes ≡ m.life.writes ++ accepted_by asked given = sym (append-nil m.life.writes) ∙ ap (λ (ws : List Write). m.life.writes ++ ws) (sym stayed.adds) in
-      told_truly lines asked given life' device' ledger of behind (stayed.holds lines ledger bears.runs) (omega (arith, stayed.tells))
+      told_truly lines asked given new ledger of behind (stayed.holds lines ledger bears.runs) (omega (arith, stayed.tells))
       (record {
         runs = bears.runs ∙ sym (ap is_some stayed.none);
         m = m;
-        back = subst (λ (l : Option (Life C D L M)). GoesBackTo L M lines l device' m) (sym stayed.none) (subst (λ (d : DeviceState). IsLeftBy lines m d) (sym stayed.same) bears.back);
+        back = back_at_rest lines new m stayed.none (subst (λ (d : DeviceState). IsLeftBy lines m d) (sym stayed.same) bears.back);
         kept = kept_on lines ledger m m asked given bears.kept refl nothing (omega arith) (omega (arith, stayed.tells));
       })
 
   -- an answer for which nothing has to be shown
-  pub stays_quiet : (asked : ScriptLine) (given : Answer) (life life' : Option (Life C D L M)) (device device' : DeviceState) → (life ≡ None → (life' ≡ None) × (device' ≡ device))
-      → accepted_by asked given ≡ [] → (life ≡ None → told_by given ≡ 0) → ((lines : ℕ) (ledger : Ledger) → IsTrueBy lines given ledger) → StaysAtRest asked given life device life' device'
-  stays_quiet asked given life life' device device' stays adds tells holds none = record {
+  pub stays_quiet : (asked : ScriptLine) (given : Answer) (old new : SessionAt L) → (old.life ≡ None → (new.life ≡ None) × (new.device ≡ old.device))
+      → accepted_by asked given ≡ [] → (old.life ≡ None → told_by given ≡ 0) → ((lines : ℕ) (ledger : Ledger) → IsTrueBy lines given ledger) → StaysAtRest asked given old new
+  stays_quiet asked given old new stays adds tells holds none = record {
     none = (stays none).0;
     same = (stays none).1;
     adds = adds;
@@ -151,9 +155,8 @@ module _ {C D : Type 0} (L : Ghosts C) (M : Ghosts D) where
   }
 
   -- where nothing was known an answer tells nothing to be borne out
-  pub nothing_known : (lines : ℕ) (asked : ScriptLine) (given : Answer) (life' : Option (Life C D L M)) (device' : DeviceState) → IsOfLine asked given
-      → known_behind asked given None ≡ None → TellsTruly L M lines asked given None life' device'
-  nothing_known lines asked given life' device' of behind = record {
+  pub nothing_known : (lines : ℕ) (asked : ScriptLine) (given : Answer) (new : SessionAt L) → IsOfLine asked given → known_behind asked given None ≡ None → TellsTruly L lines asked given None new
+  nothing_known lines asked given new of behind = record {
     holds = record {
       of = of;
       holds = λ other is. absurd (none-some other is);
@@ -163,9 +166,9 @@ module _ {C D : Type 0} (L : Ghosts C) (M : Ghosts D) where
   }
 
   -- an answer after which what was known has grown
-  pub goes_truly : (lines : ℕ) (asked : ScriptLine) (given : Answer) (life life' : Option (Life C D L M)) (device device' : DeviceState) → IsOfLine asked given
-      → ((known : Option Ledger) → known_behind asked given known ≡ option_map (grown asked given) known) → GoesOnWith asked given life device life' device'
-      → StaysAtRest asked given life device life' device' → AnswersTruly L M lines asked given life device life' device'
-  goes_truly lines asked given life life' device device' of behind goes stays None bears = nothing_known lines asked given life' device' of (behind None)
-  goes_truly lines asked given life life' device device' of behind goes stays (Some ledger) bears =
-      grown_truly lines asked given life life' device device' ledger of (behind (Some ledger)) goes stays (bears ledger refl)
+  pub goes_truly : (lines : ℕ) (asked : ScriptLine) (given : Answer) (old new : SessionAt L) → IsOfLine asked given
+      → ((known : Option Ledger) → known_behind asked given known ≡ option_map (grown asked given) known) → GoesOnWith asked given old new
+      → StaysAtRest asked given old new → AnswersTruly L lines asked given old new
+  goes_truly lines asked given old new of behind goes stays None bears = nothing_known lines asked given new of (behind None)
+  goes_truly lines asked given old new of behind goes stays (Some ledger) bears =
+      grown_truly lines asked given old.life old.device old.gauge new ledger of (behind (Some ledger)) goes stays (bears ledger refl)

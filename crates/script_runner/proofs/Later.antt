@@ -1,26 +1,24 @@
 -- Where a life stood for a machine, what its calls came to.
-use Rattle.std.proofs.Common.{◌≡◌, ◌≤◌, ◌++◌, List, [], ◌∷◌, All, Option, Some, None, refl, sym, subst}
+use Rattle.std.proofs.Common.{◌≡◌, ◌≤◌, ◌++◌, List, [], ◌∷◌, All, Option, Some, sym, subst}
+use Rattle.std.specs.Prelude.{MatchOption}
 use Rattle.std.proofs.lemmas.List.Elements.{All-contains, All-head, Contains-push}
 use Rattle.save_device.specs.Device.{DeviceState}
 use Rattle.energy_budget.specs.Gauge.{Gauge}
-use Rattle.line_channels.specs.declared.channels.Channels.{Ghosts}
+use Rattle.channel_port.specs.declared.port.ChannelPort.{Ghosts}
 use Rattle.module_core.specs.declared.module.Module.{Module}
-use Rattle.module_core.specs.declared.events.Event.{Event}
-use Rattle.module_core.specs.declared.events.Reply.{Reply}
-use Rattle.module_core.specs.State.{Setup, Machine, all_of}
-use Rattle.module_core.specs.Machine.{MachineStep}
-use Rattle.module_core.specs.Guard.{IsGuarded}
-use Rattle.module_core.specs.Headline.{Point, Happens, Run}
-use Rattle.module_core.specs.Rising.{Rises}
-use Rattle.module_core.specs.Stands.{ModuleStands, setup_of, point_of}
-use Rattle.module_core.specs.Survival.{told_mark}
-use Rattle.module_core.proofs.RisingMarks.{run_rises}
-use Rattle.module_core.proofs.ToldMarks.{told_along}
-use Rattle.nv_session.specs.declared.life.Life.{Life}
-use Rattle.nv_session.specs.declared.life.Life.TheVariants.{Lines, Xor}
+use Rattle.nv_machine.specs.declared.events.Event.{Event}
+use Rattle.nv_machine.specs.declared.events.Reply.{Reply}
+use Rattle.nv_machine.specs.State.{Setup, Machine, World, all_of}
+use Rattle.nv_machine.specs.Machine.{MachineStep}
+use Rattle.nv_machine.specs.Guard.{IsGuarded}
+use Rattle.nv_machine.specs.Headline.{Happens, Run}
+use Rattle.nv_machine.specs.Rising.{Rises}
+use Rattle.nv_machine.specs.Survival.{told_mark}
+use Rattle.nv_machine.proofs.RisingMarks.{run_rises, told_along}
+use Rattle.module_core.specs.Stands.{Assembly, ModuleStands, assembly, point_of, setup_of, world_of}
+use Rattle.module_core.proofs.RunsOn.{run_worlds}
 use Rattle.nv_session.specs.Coming.{Tale, ComesTo}
-use Rattle.nv_session.specs.Living.{LifeStands}
-use Rattle.nv_session.specs.Sessions.{GoesOnBy}
+use Rattle.nv_session.specs.Living.{GoesOnBy, LivesOn, SessionAt}
 
 -- a step between two machines, whatever device and gauge it found
 pub record IsStep (setup : Setup) (event : Event) (reply : Reply) (m n : Machine) : Type 0 where
@@ -48,59 +46,43 @@ of_one P xs x is all = All-head P x [] (subst (All P) is all)
 pub of_last : {X : Type 0} (P : X → Type 0) (xs before : List X) (x : X) → xs ≡ before ++ x ∷ [] → All P xs → P x
 of_last P xs before x is all = All-contains P (before ++ x ∷ []) x (subst (All P) is all) (Contains-push before x)
 
-module _ {C : Type 0} (L : Ghosts C) where
-  one_step : (setup : Setup) (events : List Event) (replies : List Reply) (event : Event) (reply : Reply) (old new : Module C L) (m n : Machine) (device device' : DeviceState) (gauge gauge' : Gauge)
-      → events ≡ event ∷ [] → replies ≡ reply ∷ [] → Run L setup events replies (point_of L old m device gauge) (point_of L new n device' gauge') → IsStep setup event reply m n
-  one_step setup events replies event reply old new m n device device' gauge gauge' is_event is_reply run =
-      let from : Point C = point_of L old m device gauge in
-      let to : Point C = point_of L new n device' gauge' in
-      let r : Run L setup (event ∷ []) (reply ∷ []) from to =
-      subst (λ (es : List Event). Run L setup es (reply ∷ []) from to) is_event (subst (λ (rs : List Reply). Run L setup events rs from to) is_reply run) in
-      let h : Happens L setup event reply from to = subst (λ (p : Point C). Happens L setup event reply from p) (sym r.2) r.1 in
-      record { device = device; device' = device'; gauge = gauge; gauge' = gauge'; step = h.step }
+one_step : (setup : Setup) (events : List Event) (replies : List Reply) (event : Event) (reply : Reply) (old new : World) → events ≡ event ∷ [] → replies ≡ reply ∷ []
+    → Run setup events replies old new → MachineStep setup event reply old new
+one_step setup events replies event reply old new is_event is_reply run =
+    let r : Run setup (event ∷ []) (reply ∷ []) old new =
+    subst (λ (es : List Event). Run setup es (reply ∷ []) old new) is_event (subst (λ (rs : List Reply). Run setup events rs old new) is_reply run) in
+    let h : Happens setup event reply old new = subst (λ (w : World). Happens setup event reply old w) (sym r.2) r.1 in
+    h.step
 
-  went : (Told : Tale) (old new : Module C L) (m : Machine) (device device' : DeviceState) (gauge gauge' : Gauge) → ModuleStands L old device m
-      → (comes : ComesTo L Told old m device gauge new device' gauge') → Went Told (setup_of L old) m comes.last
-  went Told old new m device device' gauge gauge' stands comes =
-      let from : Point C = point_of L old m device gauge in
-      let to : Point C = point_of L new comes.last device' gauge' in
+module _ {K : Type 0} (L : Ghosts K) where
+  went : (Told : Tale) (old new : Assembly L) (m : Machine) → ModuleStands L old.it old.device m → (comes : ComesTo L Told old m new) → Went Told (setup_of L old.it) m comes.runs.last
+  went Told old new m stands comes =
+      let setup : Setup = setup_of L old.it in let n : Machine = comes.runs.last in let from : World = world_of L old m in let to : World = world_of L new n in
+      let run : Run setup comes.events comes.replies from to = run_worlds L setup comes.events comes.replies (point_of L old m) (point_of L new n) comes.runs.run in
       record {
         events = comes.events;
         replies = comes.replies;
         told = comes.told;
-        rises = run_rises L (setup_of L old) comes.events comes.replies from to comes.run stands.guarded;
-        marks = told_along L (setup_of L old) comes.events comes.replies from to comes.run stands.guarded;
+        rises = run_rises setup comes.events comes.replies from to run stands.guarded;
+        marks = told_along setup comes.events comes.replies from to run stands.guarded;
         guarded = stands.guarded;
-        most = comes.stands.guarded.most;
+        most = comes.runs.stands.guarded.most;
         one = λ event reply is_event is_reply.
-            one_step (setup_of L old) comes.events comes.replies event reply old new m comes.last device device' gauge gauge' is_event is_reply comes.run;
+            record { device = old.device; device' = new.device; gauge = old.gauge; gauge' = new.gauge; step = one_step setup comes.events comes.replies event reply from to is_event is_reply run };
       }
 
-module _ {C D : Type 0} (L : Ghosts C) (M : Ghosts D) where
   -- A life runs then, and stands for a machine that events led to.
-  pub record Later (Told : Setup → Tale) (m : Machine) (life' : Option (Life C D L M)) (device' : DeviceState) : Type 0 where
-    pub it : Life C D L M
-    pub runs : life' ≡ Some it
+  pub record Later (Told : Setup → Tale) (m : Machine) (new : SessionAt L) : Type 0 where
+    pub it : Module K L
+    pub runs : new.life ≡ Some it
     pub n : Machine
-    pub stands : LifeStands L M it device' n
+    pub stands : ModuleStands L it new.device n
     pub setup : Setup
     pub went : Went (Told setup) setup m n
 
-  of_some : (Told : Setup → Tale) (it : Life C D L M) (m : Machine) (life' : Option (Life C D L M)) (device device' : DeviceState) (gauge gauge' : Gauge) → LifeStands L M it device m
-      → GoesOnBy L M Told (Some it) device gauge life' device' gauge' → Later Told m life' device'
-  of_some Told (Lines old) m (Some (Lines new)) device device' gauge gauge' stands goes =
-      let comes : ComesTo L (Told (setup_of L old)) old m device gauge new device' gauge' = goes.0 m stands in
-      record { it = Lines new; runs = refl; n = comes.last; stands = comes.stands; setup = setup_of L old; went = went L (Told (setup_of L old)) old new m device device' gauge gauge' stands comes }
-  of_some Told (Xor old) m (Some (Xor new)) device device' gauge gauge' stands goes =
-      let comes : ComesTo M (Told (setup_of M old)) old m device gauge new device' gauge' = goes.0 m stands in
-      record { it = Xor new; runs = refl; n = comes.last; stands = comes.stands; setup = setup_of M old; went = went M (Told (setup_of M old)) old new m device device' gauge gauge' stands comes }
-  of_some Told (Lines old) m (Some (Xor new)) device device' gauge gauge' stands goes = absurd goes.0
-  of_some Told (Xor old) m (Some (Lines new)) device device' gauge gauge' stands goes = absurd goes.0
-  of_some Told (Lines old) m None device device' gauge gauge' stands goes = absurd goes
-  of_some Told (Xor old) m None device device' gauge gauge' stands goes = absurd goes
-
-  pub later : (Told : Setup → Tale) (life : Option (Life C D L M)) (it : Life C D L M) (m : Machine) (life' : Option (Life C D L M)) (device device' : DeviceState) (gauge gauge' : Gauge) → life ≡ Some it
-      → LifeStands L M it device m → GoesOnBy L M Told life device gauge life' device' gauge' → Later Told m life' device'
-  later Told life it m life' device device' gauge gauge' is stands goes =
-      of_some Told it m life' device device' gauge gauge' stands
-      (subst (λ (l : Option (Life C D L M)). GoesOnBy L M Told l device gauge life' device' gauge') is goes)
+  pub later : (Told : Setup → Tale) (old new : SessionAt L) (it : Module K L) (m : Machine) → old.life ≡ Some it → ModuleStands L it old.device m → GoesOnBy L Told old new → Later Told m new
+  later Told old new it m is stands goes =
+      let lives : LivesOn L Told it old new = subst (λ (life : Option (Module K L)). MatchOption life (new ≡ old) (λ it. LivesOn L Told it old new)) is goes in
+      let from : Assembly L = assembly it old.device old.gauge in let to : Assembly L = assembly lives.it new.device new.gauge in
+      let comes : ComesTo L (Told (setup_of L it)) from m to = lives.holds m stands in
+      record { it = lives.it; runs = lives.runs; n = comes.runs.last; stands = comes.runs.stands; setup = setup_of L it; went = went (Told (setup_of L it)) from to m stands comes }

@@ -1,7 +1,7 @@
-pub mod Naming
 pub mod Results
 pub mod Later
 pub mod Bearing
+pub mod Alone
 pub mod Answering
 pub mod Telling
 pub mod Turns

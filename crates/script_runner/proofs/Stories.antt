@@ -7,9 +7,8 @@ use Rattle.std.proofs.lemmas.List.{append-nil, length-append, length-map, append
 use Rattle.std.proofs.lemmas.List.Elements.{All-append, All-cons, All-nil}
 use Rattle.std.proofs.lemmas.List.Sums.{fold-append}
 use Rattle.std.proofs.lemmas.Option.{none-some}
-use Rattle.save_device.specs.Device.{DeviceState}
-use Rattle.line_channels.specs.declared.channels.Channels.{Ghosts}
-use Rattle.nv_session.specs.declared.life.Life.{Life}
+use Rattle.channel_port.specs.declared.port.ChannelPort.{Ghosts}
+use Rattle.nv_session.specs.Living.{SessionAt}
 use Rattle.nv_script.specs.declared.line.ScriptLine.{ScriptLine}
 use Rattle.nv_script.specs.declared.answer.Answer.{Answer}
 use Rattle.script_runner.specs.Ledger.{Ledger}
@@ -62,48 +61,46 @@ nearly_push lines asked old mid new answered next whole grown holds =
       whole = subst (λ (list : List Exchange). All IsWhole list) (sym taken) whole;
     }
 
-module _ {C D : Type 0} (L : Ghosts C) (M : Ghosts D) (lines : ℕ) where
-  pub through_begins : (old : List Answer) (life : Option (Life C D L M)) (device : DeviceState) → GoesThrough L M lines [] old old life device
-  through_begins old life device = record {
+module _ {K : Type 0} (L : Ghosts K) (lines : ℕ) where
+  pub through_begins : (old : List Answer) (at : SessionAt L) → GoesThrough L lines [] old old at
+  through_begins old at = record {
     answered = none_answered lines old old refl;
     whole = All-nil IsWhole;
     bears = λ ledger is. absurd (none-some ledger is);
   }
 
-  abbrev pushed : (asked : List ScriptLine) (line : ScriptLine) (old mid new : List Answer) (life life' : Option (Life C D L M)) (device device' : DeviceState) → GoesThrough L M lines asked old mid life device
-      → AnswersWhole L M lines line mid new life device life' device' → GoesThrough L M lines (asked ++ line ∷ []) old new life' device'
-  pushed asked line old mid new life life' device device' through whole =
-      let next : Exchange = record { asked = line; answers = whole.line.part.given } in
+  abbrev pushed : (asked : List ScriptLine) (line : ScriptLine) (old mid new : List Answer) (last next : SessionAt L) → GoesThrough L lines asked old mid last
+      → AnswersWhole L lines line mid new last next → GoesThrough L lines (asked ++ line ∷ []) old new next
+  pushed asked line old mid new last next through whole =
+      let exchange : Exchange = record { asked = line; answers = whole.line.part.given } in
       let story : List Exchange = through.answered.story in
       record {
-        answered = answered_push lines asked old mid new through.answered next whole.line.part.grown_by (whole.line.part.holds (known_after None story) through.bears);
-        whole = All-append IsWhole story (next ∷ []) through.whole (All-cons IsWhole next [] whole.whole (All-nil IsWhole));
-        bears = subst (λ (k : Option Ledger). BearsOut L M lines k life' device') (sym (after_push None story next)) (whole.line.keeps (known_after None story) through.bears);
+        answered = answered_push lines asked old mid new through.answered exchange whole.line.part.grown_by (whole.line.part.holds (known_after None story) through.bears);
+        whole = All-append IsWhole story (exchange ∷ []) through.whole (All-cons IsWhole exchange [] whole.whole (All-nil IsWhole));
+        bears = subst (λ (k : Option Ledger). BearsOut L lines k next) (sym (after_push None story exchange)) (whole.line.keeps (known_after None story) through.bears);
       }
 
   -- the next of the lines
-  pub through_grows : (other : ℕ) → other ≡ lines → (script : List ScriptLine) (i : ℕ) (none : ScriptLine) (old mid new : List Answer) {life life' : Option (Life C D L M)} {device device' : DeviceState} → i < length script
-      → GoesThrough L M lines (take i script) old mid life device → AnswersWhole L M other (get_or script i none) mid new life device life' device'
-      → GoesThrough L M lines (take (i + 1) script) old new life' device'
-  through_grows other same script i none old mid new {life} {life'} {device} {device'} inside through whole =
-      subst (λ (ls : List ScriptLine). GoesThrough L M lines ls old new life' device') (sym (take_more script i none inside))
-      (pushed (take i script) (get_or script i none) old mid new life life' device device' through
-      (subst (λ (n : ℕ). AnswersWhole L M n (get_or script i none) mid new life device life' device') same whole))
+  pub through_grows : (other : ℕ) → other ≡ lines → (script : List ScriptLine) (i : ℕ) (none : ScriptLine) (old mid new : List Answer) (last next : SessionAt L) → i < length script
+      → GoesThrough L lines (take i script) old mid last → AnswersWhole L other (get_or script i none) mid new last next → GoesThrough L lines (take (i + 1) script) old new next
+  through_grows other same script i none old mid new last next inside through whole =
+      subst (λ (ls : List ScriptLine). GoesThrough L lines ls old new next) (sym (take_more script i none inside))
+      (pushed (take i script) (get_or script i none) old mid new last next through
+      (subst (λ (n : ℕ). AnswersWhole L n (get_or script i none) mid new last next) same whole))
 
-  pub through_cut : (other : ℕ) → other ≡ lines → (script : List ScriptLine) (i : ℕ) (none : ScriptLine) (old mid new : List Answer) {life : Option (Life C D L M)} {device : DeviceState} → i < length script
-      → GoesThrough L M lines (take i script) old mid life device → AnswersPart L M other (get_or script i none) mid new life device → AreCutShort lines script old new
-  through_cut other same script i none old mid new {life} {device} inside through cut =
-      let part : AnswersPart L M lines (get_or script i none) mid new life device = subst (λ (n : ℕ). AnswersPart L M n (get_or script i none) mid new life device) same cut in
-      let next : Exchange = record { asked = get_or script i none; answers = part.given } in
+  pub through_cut : (other : ℕ) → other ≡ lines → (script : List ScriptLine) (i : ℕ) (none : ScriptLine) (old mid new : List Answer) (last : SessionAt L) → i < length script
+      → GoesThrough L lines (take i script) old mid last → AnswersPart L other (get_or script i none) mid new last → AreCutShort lines script old new
+  through_cut other same script i none old mid new last inside through cut =
+      let part : AnswersPart L lines (get_or script i none) mid new last = subst (λ (n : ℕ). AnswersPart L n (get_or script i none) mid new last) same cut in
+      let exchange : Exchange = record { asked = get_or script i none; answers = part.given } in
       record {
         run = i + 1;
         nearly = subst (λ (ls : List ScriptLine). AreNearlyAnswered lines ls old new) (sym (take_more script i none inside))
-            (nearly_push lines (take i script) old mid new through.answered next through.whole part.grown_by (part.holds (known_after None through.answered.story) through.bears));
+            (nearly_push lines (take i script) old mid new through.answered exchange through.whole part.grown_by (part.holds (known_after None through.answered.story) through.bears));
       }
 
-  pub through_ends : (script : List ScriptLine) (i : ℕ) (old new : List Answer) {life : Option (Life C D L M)} {device : DeviceState} → i ≡ length script
-      → GoesThrough L M lines (take i script) old new life device → AreAllAnswered lines script old new
-  through_ends script i old new {life} {device} all so_far =
+  pub through_ends : (script : List ScriptLine) (i : ℕ) (old new : List Answer) (last : SessionAt L) → i ≡ length script → GoesThrough L lines (take i script) old new last → AreAllAnswered lines script old new
+  through_ends script i old new last all so_far =
       let taken : take i script ≡ script = ap (λ (n : ℕ). take n script) all ∙ take-length script in
-      let through : GoesThrough L M lines script old new life device = subst (λ (ls : List ScriptLine). GoesThrough L M lines ls old new life device) taken so_far in
+      let through : GoesThrough L lines script old new last = subst (λ (ls : List ScriptLine). GoesThrough L lines ls old new last) taken so_far in
       record { answered = through.answered; whole = through.whole }

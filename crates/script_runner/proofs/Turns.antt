@@ -3,9 +3,8 @@ use Rattle.std.proofs.Common.{◌≡◌, ◌∙◌, ℕ, ◌+◌, ◌<◌, true,
 use Rattle.std.proofs.lemmas.List.{append-nil, append_assoc, length-append}
 use Rattle.std.proofs.lemmas.List.Elements.{All-append, All-cons, All-nil}
 use Rattle.std.proofs.lemmas.List.Sums.{fold-append}
-use Rattle.save_device.specs.Device.{DeviceState}
-use Rattle.line_channels.specs.declared.channels.Channels.{Ghosts}
-use Rattle.nv_session.specs.declared.life.Life.{Life}
+use Rattle.channel_port.specs.declared.port.ChannelPort.{Ghosts}
+use Rattle.nv_session.specs.Living.{SessionAt}
 use Rattle.nv_script.specs.declared.line.ScriptLine.{ScriptLine}
 use Rattle.nv_script.specs.declared.answer.Answer.{Answer}
 use Rattle.script_runner.specs.Ledger.{Ledger, known_behind, IsTrueOf}
@@ -22,25 +21,24 @@ pub known_push : (asked : ScriptLine) (given : List Answer) (answer : Answer) (k
     → known_behind_all asked (given ++ answer ∷ []) known ≡ known_behind asked answer (known_behind_all asked given known)
 known_push asked given answer known = fold-append (λ (k : Option Ledger) (a : Answer). known_behind asked a k) known given (answer ∷ [])
 
-module _ {C D : Type 0} (L : Ghosts C) (M : Ghosts D) (lines : ℕ) (asked : ScriptLine) where
-  abbrev pub line_grows : (answer : Answer) (old mid new : List Answer) (life life' life'' : Option (Life C D L M)) (device device' device'' : DeviceState)
-      → AnswersLine L M lines asked old mid life device life' device' → AnswersTruly L M lines asked answer life' device' life'' device'' → new ≡ mid ++ answer ∷ []
-      → AnswersLine L M lines asked old new life device life'' device''
-  line_grows answer old mid new life life' life'' device device' device'' line truly more =
+module _ {K : Type 0} (L : Ghosts K) (lines : ℕ) (asked : ScriptLine) where
+  abbrev pub line_grows : (answer : Answer) (old mid new : List Answer) (first last next : SessionAt L)
+      → AnswersLine L lines asked old mid first last → AnswersTruly L lines asked answer last next → new ≡ mid ++ answer ∷ [] → AnswersLine L lines asked old new first next
+  line_grows answer old mid new first last next line truly more =
       let given : List Answer = line.part.given in
-      let next : (known : Option Ledger) → BearsOut L M lines known life device → TellsTruly L M lines asked answer (known_behind_all asked given known) life'' device'' =
+      let then : (known : Option Ledger) → BearsOut L lines known first → TellsTruly L lines asked answer (known_behind_all asked given known) next =
       λ known bears. truly (known_behind_all asked given known) (line.keeps known bears) in
       record {
         part = record {
           given = given ++ answer ∷ [];
           grown_by = more ∙ ap (λ (list : List Answer). list ++ answer ∷ []) line.part.grown_by ∙ append_assoc old given (answer ∷ []);
-          holds = λ known bears. true_push lines known asked given answer (line.part.holds known bears) (next known bears).holds;
+          holds = λ known bears. true_push lines known asked given answer (line.part.holds known bears) (then known bears).holds;
         };
-        keeps = λ known bears. subst (λ (k : Option Ledger). BearsOut L M lines k life'' device'') (sym (known_push asked given answer known)) (next known bears).bears;
+        keeps = λ known bears. subst (λ (k : Option Ledger). BearsOut L lines k next) (sym (known_push asked given answer known)) (then known bears).bears;
       }
 
-  pub turns_begin : (old : List Answer) (life : Option (Life C D L M)) (device : DeviceState) → AnswersTurns L M lines 0 asked old old life device life device
-  turns_begin old life device = record {
+  pub turns_begin : (old : List Answer) (at : SessionAt L) → AnswersTurns L lines 0 asked old old at at
+  turns_begin old at = record {
     line = record {
       part = record { given = []; grown_by = sym (append-nil old); holds = λ known bears. tt };
       keeps = λ known bears. bears;
@@ -48,32 +46,31 @@ module _ {C D : Type 0} (L : Ghosts C) (M : Ghosts D) (lines : ℕ) (asked : Scr
     taken = record { busy = All-nil (λ (answer : Answer). is_busy answer ≡ true); count = refl };
   }
 
-  pub turns_grow : (other : ℕ) → other ≡ lines → (turns : ℕ) (answer : Answer) (old mid new : List Answer) {life life' life'' : Option (Life C D L M)} {device device' device'' : DeviceState}
-      → AnswersTurns L M lines turns asked old mid life device life' device' → AnswersTruly L M other asked answer life' device' life'' device'' → new ≡ mid ++ answer ∷ [] → is_busy answer ≡ true
-      → AnswersTurns L M lines (turns + 1) asked old new life device life'' device''
-  turns_grow other same turns answer old mid new {life} {life'} {life''} {device} {device'} {device''} so_far truly more busy =
+  pub turns_grow : (other : ℕ) → other ≡ lines → (turns : ℕ) (answer : Answer) (old mid new : List Answer) (first last next : SessionAt L)
+      → AnswersTurns L lines turns asked old mid first last → AnswersTruly L other asked answer last next → new ≡ mid ++ answer ∷ [] → is_busy answer ≡ true
+      → AnswersTurns L lines (turns + 1) asked old new first next
+  turns_grow other same turns answer old mid new first last next so_far truly more busy =
       let given : List Answer = so_far.line.part.given in
       let IsBusy : Answer → Type 0 = λ answer. is_busy answer ≡ true in
       record {
-        line = line_grows answer old mid new life life' life'' device device' device'' so_far.line (subst (λ (n : ℕ). AnswersTruly L M n asked answer life' device' life'' device'') same truly) more;
+        line = line_grows answer old mid new first last next so_far.line (subst (λ (n : ℕ). AnswersTruly L n asked answer last next) same truly) more;
         taken = record {
           busy = All-append IsBusy given (answer ∷ []) so_far.taken.busy (All-cons IsBusy answer [] busy (All-nil IsBusy));
           count = let size = length-append given (answer ∷ []) in omega (arith, size, so_far.taken.count);
         };
       }
 
-  pub turns_end : (turns : ℕ) (old new : List Answer) {life life' : Option (Life C D L M)} {device device' : DeviceState}
-      → AnswersTurns L M lines turns asked old new life device life' device' → turns ≡ turns_of asked → AnswersWhole L M lines asked old new life device life' device'
-  turns_end turns old new so_far all = record {
+  pub turns_end : (turns : ℕ) (old new : List Answer) (first last : SessionAt L) → AnswersTurns L lines turns asked old new first last → turns ≡ turns_of asked → AnswersWhole L lines asked old new first last
+  turns_end turns old new first last so_far all = record {
     line = so_far.line;
     whole = inl (subst (λ (n : ℕ). TakesTurns n so_far.line.part.given) all so_far.taken);
   }
 
-  pub turns_idle : (other : ℕ) → other ≡ lines → (turns : ℕ) (answer : Answer) (old mid new : List Answer) {life life' life'' : Option (Life C D L M)} {device device' device'' : DeviceState}
-      → AnswersTurns L M lines turns asked old mid life device life' device' → AnswersTruly L M other asked answer life' device' life'' device'' → new ≡ mid ++ answer ∷ [] → is_busy answer ≡ false
-      → turns < turns_of asked → AnswersWhole L M lines asked old new life device life'' device''
-  turns_idle other same turns answer old mid new {life} {life'} {life''} {device} {device'} {device''} so_far truly more idle early = record {
-    line = line_grows answer old mid new life life' life'' device device' device'' so_far.line (subst (λ (n : ℕ). AnswersTruly L M n asked answer life' device' life'' device'') same truly) more;
+  pub turns_idle : (other : ℕ) → other ≡ lines → (turns : ℕ) (answer : Answer) (old mid new : List Answer) (first last next : SessionAt L)
+      → AnswersTurns L lines turns asked old mid first last → AnswersTruly L other asked answer last next → new ≡ mid ++ answer ∷ [] → is_busy answer ≡ false
+      → turns < turns_of asked → AnswersWhole L lines asked old new first next
+  turns_idle other same turns answer old mid new first last next so_far truly more idle early = record {
+    line = line_grows answer old mid new first last next so_far.line (subst (λ (n : ℕ). AnswersTruly L n asked answer last next) same truly) more;
     whole = inr (record {
       before = so_far.line.part.given;
       last = answer;

@@ -2,10 +2,9 @@
 use Rattle.std.specs.Prelude.{◌≡◌, ℕ, ◌≤◌, max, Bool, true, false, List, [], ◌∷◌, ◌++◌, length, take, Option, Some, None}
 use Rattle.std.specs.Option.{option_map}
 use Rattle.line_memory.specs.declared.Write.{Write}
-use Rattle.line_memory.specs.Memory.{after, zero_lines}
+use Rattle.line_memory.specs.Memory.{after, zero_lines, line_of}
 use Rattle.slot_store.specs.Told.{IsFailure}
 use Rattle.slot_store.specs.declared.restoring.Verdict.TheVariants.{Complete}
-use Rattle.line_channels.specs.Answers.{line_of}
 use Rattle.nv_script.specs.declared.line.ScriptLine.{ScriptLine}
 use Rattle.nv_script.specs.declared.line.ScriptLine.TheVariants as line
 use Rattle.nv_script.specs.declared.answer.Answer.{Answer}

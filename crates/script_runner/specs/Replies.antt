@@ -8,14 +8,14 @@ use Rattle.arm_state.specs.declared.refusal.ArmReply.{ArmReply}
 use Rattle.arm_state.specs.declared.refusal.ArmReply.TheVariants as arm
 use Rattle.arm_state.specs.declared.refusal.DisarmReply.{DisarmReply}
 use Rattle.arm_state.specs.declared.refusal.DisarmReply.TheVariants as disarm
-use Rattle.module_core.specs.declared.events.Accepted.{Accepted}
+use Rattle.nv_machine.specs.declared.events.Accepted.{Accepted}
 use Rattle.arm_state.specs.declared.refusal.WriteRefusal.{WriteRefusal}
 use Rattle.arm_state.specs.declared.refusal.ReadRefusal.{ReadRefusal}
-use Rattle.module_core.specs.declared.events.StepReply.{StepReply}
-use Rattle.module_core.specs.declared.events.StepReply.TheVariants as step
-use Rattle.nv_session.specs.declared.opening.Found.{Found}
-use Rattle.nv_session.specs.declared.turns.Seen.{Seen}
-use Rattle.nv_session.specs.declared.turns.Seen.TheVariants as seen
+use Rattle.nv_machine.specs.declared.events.StepReply.{StepReply}
+use Rattle.nv_machine.specs.declared.events.StepReply.TheVariants as step
+use Rattle.nv_session.specs.declared.lives.Found.{Found}
+use Rattle.nv_session.specs.declared.turns.LineSeen.{LineSeen}
+use Rattle.nv_session.specs.declared.turns.LineSeen.TheVariants as seen
 use Rattle.nv_script.specs.declared.answer.Answer.{Answer}
 use Rattle.nv_script.specs.declared.answer.Answer.TheVariants as answer
 
@@ -24,7 +24,7 @@ abbrev pub write_told : Result Accepted WriteRefusal → Answer
 write_told (Ok accepted) = answer.Accepted accepted.number accepted.mark
 write_told (Err refusal) = answer.WriteRefused refusal
 
-abbrev pub read_told : ℕ → Result Seen ReadRefusal → Answer
+abbrev pub read_told : ℕ → Result LineSeen ReadRefusal → Answer
 read_told line (Ok (seen.Content bytes)) = answer.Content line bytes
 read_told line (Ok seen.Waiting) = answer.ReadWaiting line
 read_told line (Err refusal) = answer.ReadRefused refusal
@@ -62,5 +62,5 @@ disarm_told (Err refusal) = answer.DisarmRefused refusal
 
 -- the answer to a restore
 abbrev pub restore_told : Result Found RestoreError → Answer
-restore_told (Ok found) = answer.Restored found.generation found.count found.verdict
+restore_told (Ok found) = answer.Restored found.opened.newest.generation found.opened.count found.verdict
 restore_told (Err error) = answer.RestoreRefused error

@@ -1,17 +1,30 @@
--- What the channels of a profile are.
-use Rattle.std.specs.Prelude.{ℕ}
-use Rattle.ddr4_timing.specs.declared.place.Place.{Place}
+-- What makes the channels of a life.
+use Rattle.ddr4_timing.specs.declared.timing.Geometry.{Geometry}
 use Rattle.energy_budget.specs.declared.costs.Costs.{Costs}
-use Rattle.line_channels.specs.View.{Shape}
-use Rattle.module_parts.specs.Beginning.{zero_parts}
-use Rattle.module_parts.specs.Seen.{shape_of}
+use Rattle.interleave_map.specs.declared.ready.Interleaving.{Interleaving}
+use Rattle.interleave_map.specs.declared.ready.Interleaving.TheVariants.{Lines, Xor}
+use Rattle.interleave_map.specs.declared.line_map.LineMap.{Ghosts}
+use Rattle.channel_port.specs.Shape.{Shape}
+use Rattle.ddr4_port.specs.Memory.{shape_over}
+use Rattle.ddr4_port.specs.Port.{HasMap}
 use Rattle.nv_profile.specs.declared.profile.Profile.{Profile}
 
--- what channels are made of: a profile, and what a closing save costs by it
-pub record WiredProfile : Type 0 where
+-- a lawful map of this geometry
+abbrev pub IsMapOf : {M : Type 0} → Ghosts M → Geometry → M → Type 0
+IsMapOf L g map = HasMap (L.is_lawful map) (L.geometry_of map) g
+
+-- both maps, the profile, and what a closing save costs by it
+pub record WiredMaps (M : Type 0) : Type 0 where
+  pub lines_map : M
+  pub xor_map : M
   pub profile : Profile
   pub costs : Costs
 
--- the channels of a profile, each line at the place of its name
-abbrev pub shape_over : (ℕ → Place) → WiredProfile → Shape
-shape_over place_of w = shape_of place_of (zero_parts w.profile.checked w.profile.sizes.depth w.profile.sizes.reads w.costs)
+-- the map of an interleaving
+abbrev pub map_in : {M : Type 0} → WiredMaps M → Interleaving → M
+map_in w Lines = w.lines_map
+map_in w Xor = w.xor_map
+
+-- what doesn't change of the channels over it
+abbrev pub wired_shape : {M : Type 0} → Ghosts M → WiredMaps M → Interleaving → Shape
+wired_shape L w map = shape_over (L.place_of (map_in w map)) w.profile.checked w.profile.sizes.depth w.profile.sizes.reads w.costs

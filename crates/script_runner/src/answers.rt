@@ -4,9 +4,9 @@ ghost use Rattle.script_runner.specs.Replies.{write_told, read_told, work_told, 
 
 use arm_state::{ArmRefusal, ArmReply, DisarmReply, ReadRefusal, WriteRefusal};
 use ddr4_timing::command::Stamped;
-use module_core::{Accepted, StepReply};
+use nv_machine::{Accepted, StepReply};
 use nv_script::Answer;
-use nv_session::{Found, Seen};
+use nv_session::{Found, LineSeen};
 use slot_store::RestoreError;
 
 /// The answer to a write.
@@ -20,12 +20,12 @@ pub(crate) fn write_answer(reply: Result<Accepted, WriteRefusal>) -> Answer
 }
 
 /// The answer to a read of a line.
-pub(crate) fn read_answer(line: u64, reply: Result<Seen, ReadRefusal>) -> Answer
+pub(crate) fn read_answer(line: u64, reply: Result<LineSeen, ReadRefusal>) -> Answer
     ensures { result ≡ read_told line reply }
 {
     match reply {
-        Ok(Seen::Content(bytes)) => Answer::Content { line, bytes },
-        Ok(Seen::Waiting) => Answer::ReadWaiting { line },
+        Ok(LineSeen::Content(bytes)) => Answer::Content { line, bytes },
+        Ok(LineSeen::Waiting) => Answer::ReadWaiting { line },
         Err(refusal) => Answer::ReadRefused(refusal),
     }
 }
@@ -92,15 +92,9 @@ pub(crate) fn restore_answer(reply: Result<Found, RestoreError>) -> Answer
     ensures { result ≡ restore_told reply }
 {
     match reply {
-        Ok(
-            Found {
-                generation,
-                count,
-                verdict,
-            },
-        ) => Answer::Restored {
-            generation,
-            count,
+        Ok(Found { opened, verdict }) => Answer::Restored {
+            generation: opened.newest.generation,
+            count: opened.count,
             verdict,
         },
         Err(error) => Answer::RestoreRefused(error),

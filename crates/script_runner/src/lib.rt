@@ -2,12 +2,11 @@
 #![tactic(auto)]
 
 mod answers;
-mod maps;
 mod report;
+mod running;
 mod script;
 mod wiring;
 
-pub use maps::{run_on_maps, run_script};
 pub use report::{Printer, Report};
-pub use script::run_lines;
+pub use running::{run_lines, run_script};
 pub use wiring::Wiring;

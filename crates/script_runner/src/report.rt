@@ -4,7 +4,7 @@ ghost use Rattle.nv_script.specs.declared.answer.Answer.{Answer};
 ghost use Rattle.script_runner.specs.Story.{GivesOut};
 
 use nv_script::{Answer, ScriptFault};
-use past::Past;
+use ghost_trace::Trace;
 use std::io;
 
 /// What takes the answers to a script.
@@ -23,7 +23,7 @@ pub trait Report {
 #[derive(Drop)]
 pub struct Printer<'w, W: io::Write> {
     writer: &'w mut W,
-    taken: Past<Answer>,
+    taken: Trace<Answer>,
 }
 
 impl<'w, W: io::Write> Printer<'w, W> {
@@ -33,7 +33,7 @@ impl<'w, W: io::Write> Printer<'w, W> {
     {
         Printer {
             writer,
-            taken: Past::new(),
+            taken: Trace::new(),
         }
     }
 }

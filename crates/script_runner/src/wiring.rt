@@ -1,79 +1,98 @@
-// The channels of a life: the parts of a profile's geometry over a map.
+// The channels of a life: those of a profile's geometry, over either map.
 ghost use Rattle.std.specs.Prelude.{◌≡◌};
-ghost use Rattle.interleave_map.specs.Inverse.{NamesPlaces};
-ghost use Rattle.nv_session.specs.Fitting.{IsShapeFor};
+ghost use Rattle.interleave_map.specs.declared.ready.Interleaving.{Interleaving};
+ghost use Rattle.nv_session.specs.Living.{IsShapeFor};
 
+use channel_set::ChannelSet;
+use ddr4_port::{Ddr4Port, channels_with_memory};
 use energy_budget::Costs;
-use interleave_map::line_map::{LineMap, Places};
+use interleave_map::Interleaving;
+use interleave_map::line_map::LineMap;
 use line_memory::Line;
-use module_parts::Parts;
 use nv_profile::Profile;
 use nv_session::Wires;
 use std::alloc::{AllocError, Global};
-use std::marker::{Model, PhantomData};
+use std::marker::Model;
 
-/// Makes the channels of a profile over a lawful map of its geometry.
+/// Makes the channels of a profile over either of two lawful maps of its geometry.
 #[derive(Drop)]
-pub struct Wiring<'m, M: LineMap, P: Places> {
-    map: &'m M,
+pub struct Wiring<'m, M: LineMap> {
+    lines_map: &'m M,
+    xor_map: &'m M,
     profile: Profile,
     costs: Costs,
-    of: PhantomData<P>,
 }
 
-impl<'m, M: LineMap, P: Places> Model for Wiring<'m, M, P> {
+impl<'m, M: LineMap> Model for Wiring<'m, M> {
     ghost use Rattle.energy_budget.specs.Costs.{AreReckonedFor};
-    ghost use Rattle.module_parts.specs.Lines.{HasPlaces};
-    ghost use Rattle.script_runner.specs.Wiring.{WiredProfile};
+    ghost use Rattle.script_runner.specs.Wiring.{IsMapOf, WiredMaps};
 
-    ghost Value = { WiredProfile };
+    ghost Value = { WiredMaps M };
 
-    ghost view = { λ w. record { profile = w.profile; costs = w.costs } };
+    ghost view = { λ w. record {
+      lines_map = w.lines_map.now;
+      xor_map = w.xor_map.now;
+      profile = w.profile;
+      costs = w.costs;
+    } };
 
     ghost invariant = { λ w. AreReckonedFor w.profile.checked w.costs
-        × HasPlaces (M.is_lawful w.map.now) (M.geometry_of w.map.now)
-        w.profile.checked.geometry (M.lies_at w.map.now) P.place_of };
+        × IsMapOf M.LineMap w.profile.checked.geometry w.lines_map.now
+        × IsMapOf M.LineMap w.profile.checked.geometry w.xor_map.now };
 }
 
-impl<'m, M: LineMap, P: Places> Wiring<'m, M, P> {
-    ghost use Rattle.script_runner.specs.Wiring.{shape_over};
+impl<'m, M: LineMap> Wiring<'m, M> {
+    ghost use Rattle.script_runner.specs.Wiring.{IsMapOf, map_in, wired_shape};
 
-    /// Over a lawful map of the profile's geometry, by the names of its places.
-    pub fn new(map: &'m M, profile: &Profile) -> Wiring<'m, M, P>
-        requires lawful { M.is_lawful map.now }
-        requires geometry { M.geometry_of map.now ≡ profile.now.checked.geometry }
-        requires names { NamesPlaces profile.now.checked.geometry (M.lies_at map.now) P.place_of }
-        ensures fits { IsShapeFor profile.now (shape_over P.place_of result) }
+    /// Over two lawful maps of the profile's geometry.
+    pub fn new(lines_map: &'m M, xor_map: &'m M, profile: &Profile) -> Wiring<'m, M>
+        requires lines_map { IsMapOf M.LineMap profile.now.checked.geometry lines_map.now }
+        requires xor_map { IsMapOf M.LineMap profile.now.checked.geometry xor_map.now }
+        ensures fits { (map : Interleaving)
+            → IsShapeFor profile.now (wired_shape M.LineMap result map) }
         ensures profile { result.profile ≡ profile.now }
         ensures costs { result.costs.numbers ≡ profile.now.costs }
+        ensures lines_map { result.lines_map ≡ lines_map.now }
+        ensures xor_map { result.xor_map ≡ xor_map.now }
     {
-        map.interleaves();
         Wiring {
-            map,
+            lines_map,
+            xor_map,
             profile: *profile,
             costs: Costs::of(&profile.checked, &profile.costs),
-            of: PhantomData,
+        }
+    }
+
+    // The map of an interleaving.
+    fn map_of(&self, interleaving: Interleaving) -> &'m M
+        ensures lawful { IsMapOf M.LineMap self.now.profile.checked.geometry result.now }
+        ensures is { result.now ≡ map_in self.now interleaving }
+    {
+        match interleaving {
+            Interleaving::Lines => self.lines_map,
+            Interleaving::Xor => self.xor_map,
         }
     }
 }
 
-impl<'m, M: LineMap, P: Places> Wires<Parts<'m, M, P>> for Wiring<'m, M, P> {
-    ghost use Rattle.script_runner.specs.Wiring.{shape_over};
+impl<'m, M: LineMap> Wires<Ddr4Port<'m, M>> for Wiring<'m, M> {
+    ghost use Rattle.script_runner.specs.Wiring.{wired_shape};
 
-    ghost shape = { shape_over P.place_of };
+    ghost shape = { wired_shape M.LineMap };
 
-    fn costs(&self) -> Costs {
-        self.costs
-    }
-
-    fn wire(&self, alloc: Global, memory: &[Line]) -> Result<Parts<'m, M, P>, AllocError> {
-        let profile = &self.profile;
-        let depth = profile.sizes.depth as usize;
-        let reads = profile.sizes.reads as usize;
-        Parts::with_memory(
+    fn wire(
+        &self,
+        alloc: Global,
+        map: Interleaving,
+        memory: &[Line],
+    ) -> Result<ChannelSet<Ddr4Port<'m, M>>, AllocError> {
+        let checked = &self.profile.checked;
+        let depth = self.profile.sizes.depth as usize;
+        let reads = self.profile.sizes.reads as usize;
+        channels_with_memory(
             alloc,
-            self.map,
-            &profile.checked,
+            self.map_of(map),
+            checked,
             memory,
             depth,
             reads,

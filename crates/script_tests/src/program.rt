@@ -1,7 +1,8 @@
 // The program's words, faults and exit status.
 use crate::check::same;
 use command_line::{Fault, profile_of, run};
-use nv_profile::{MapWord, TINY};
+use interleave_map::Interleaving;
+use nv_profile::TINY;
 use nv_script::ScriptFault;
 use std::env::{self, Env};
 use std::fs;
@@ -236,7 +237,7 @@ fn profiles(rt: HostRuntime) {
     let place = place(&rt, process::id(rt.process()));
     let place = place.as_str();
     let (head, _) = TINY.split_once("map").expect(&rt, "a map");
-    let other = format!(in rt.alloc(); "{head}map = \"{}\"\n", MapWord::Xor);
+    let other = format!(in rt.alloc(); "{head}map = \"{}\"\n", Interleaving::Xor);
     let other = other.expect(&rt, "memory");
     file_has_map(&rt, place, "%tiny", TINY.as_bytes(), "lines");
     file_has_map(&rt, place, "%xor", other.as_bytes(), "xor");

@@ -1,6 +1,6 @@
 // Scripts and what they are to write, with a slash at the end of each line but the last.
+use command_line::run_on_maps;
 use nv_profile::{TINY, read_profile};
-use script_runner::run_script;
 use std::alloc::Global;
 use std::process::Abort;
 
@@ -10,7 +10,7 @@ fn written(alloc: Global, profile: &str, script: &[u8]) -> Option<String> {
         return None;
     };
     let mut text = Vec::new(alloc);
-    match run_script(alloc, &profile, script, &mut text) {
+    match run_on_maps(alloc, &profile, script, &mut text) {
         Ok(_) => String::from_utf8(text).ok(),
         Err(_) => None,
     }

@@ -1,8 +1,8 @@
 // What scripts write.
 use crate::running::{answers_on, are_answered, is_answered};
+use command_line::run_on_maps;
 use nv_profile::{TINY, read_profile};
 use nv_script::ScriptFault;
-use script_runner::run_script;
 use std::alloc::Global;
 use std::process::Abort;
 
@@ -138,7 +138,7 @@ fn is_bad(alloc: Global, script: &[u8]) -> bool {
         return false;
     };
     let mut text = Vec::new(alloc);
-    match run_script(alloc, &profile, script, &mut text) {
+    match run_on_maps(alloc, &profile, script, &mut text) {
         Err(fault) => fault == ScriptFault::Line { number: 1 } && text.is_empty(),
         Ok(_) => false,
     }
@@ -157,7 +157,7 @@ fn is_cut_off(alloc: Global, script: &[u8], written: [u8; 14]) -> bool {
     };
     let mut room = [0; 14];
     let mut writer = room.as_mut_slice();
-    let is_told = match run_script(alloc, &profile, script, &mut writer) {
+    let is_told = match run_on_maps(alloc, &profile, script, &mut writer) {
         Err(fault) => fault == ScriptFault::Writer,
         Ok(_) => false,
     };

@@ -1,35 +1,17 @@
 -- What stands while a store is made.
-use Rattle.std.proofs.Common.{◌≡◌, ℕ, zero, suc, ◌+◌, ◌-◌, ◌*◌, ◌<◌, ◌≤◌, List, [], ◌∷◌, ◌++◌, length, get_or, take, slice_index, true, false, Bool, Result, Ok, Err, OnOk, OnErr, refl, sym, ◌∙◌, ap, arith, subst}
-use Rattle.std.specs.Prelude.{replicate, slice_range}
+use Rattle.std.proofs.Common.{OnErr, OnOk}
+use Rattle.std.proofs.lemmas.List.{drop-replicate, replicate-append-replicate, take-replicate}
 use Rattle.std.specs.List.{concat}
-use Rattle.std.proofs.lemmas.List.{replicate-append-replicate, take-replicate, drop-replicate}
-use Rattle.save_device.specs.Rows.{overwritten, DiffersOnlyAt}
-use Rattle.save_device.specs.Device.{DeviceState, IsSettled, LeavesOnly, Elapses}
-use Rattle.save_device.specs.Changes.{Touches}
-use Rattle.save_device.proofs.Moments.{within_call}
-use Rattle.save_device.proofs.Rows.{differs_within, holds-within}
-use Rattle.line_memory.specs.Memory.{IsMemory, zero_line, zero_lines}
-use Rattle.line_memory.proofs.MemoryLaws.{zero_lines-IsMemory}
-use Rattle.save_image.specs.Header.{arm_byte}
+use Rattle.std.specs.Prelude.{replicate}
+use Rattle.line_memory.specs.Memory.{zero_line, zero_lines}
 use Rattle.save_image.specs.Body.{page_of}
-use Rattle.save_image.specs.Image.{Image, image_bytes}
-use Rattle.slot_store.specs.declared.slots.Slot.{Slot}
-use Rattle.slot_store.specs.declared.slots.Slot.TheVariants.{First, Second}
-use Rattle.slot_store.specs.declared.plan.Plan.{Plan}
-use Rattle.slot_store.specs.declared.plan.Step.{Step}
-use Rattle.slot_store.specs.declared.plan.Step.TheVariants.{Close, SyncClosed, Header, Page, SyncBody, Open, SyncOpen, Done}
-use Rattle.slot_store.specs.Slots.{slot_size, device_size, HasSize, start_of, slot_state, Full}
+use Rattle.slot_store.specs.Formatted.{HasShutGates, IsFormatted}
 use Rattle.slot_store.specs.Outcomes.{first_image}
-use Rattle.slot_store.specs.Steps.{reach_of}
-use Rattle.slot_store.specs.Changes.{gate_of, change_of, GivesPage}
-use Rattle.slot_store.specs.Rest.{IsAtRestOn}
-use Rattle.slot_store.specs.Saving.{image_of, GateShut, SlotHas}
-use Rattle.slot_store.specs.Formatted.{IsFormatted, HasShutGates}
+use Rattle.slot_store.proofs.Common.{[], ℕ, ◌*◌, ◌++◌, ◌+◌, ◌-◌, ◌<◌, ◌∙◌, ◌∷◌, ◌≡◌, ◌≤◌, Bool, DeviceState, DiffersOnlyAt, Done, Err, First, Full, GateShut, HasSize, Image, IsAtRestOn, IsInRange, IsMemory, IsSettled, List, Ok, Plan, Result, Second, Slot, SlotHas, ap, arith, arm_byte, device_size, differs_within, false, gate_of, get_or, holds-within, image_bytes, image_of, length, overwritten, refl, slice_index, slice_range, slot_size, slot_state, start_of, subst, suc, sym, take, true, zero, zero_lines-IsMemory}
 use Rattle.slot_store.proofs.Gates.{closed_gate}
-use Rattle.slot_store.proofs.Torn.{holds_new}
-use Rattle.slot_store.proofs.Stops.{writes_here}
-use Rattle.slot_store.proofs.Resting.{rest_alone, nothing}
 use Rattle.slot_store.proofs.ImageBytes.{written_bytes}
+use Rattle.slot_store.proofs.Resting.{nothing, rest_alone}
+use Rattle.slot_store.proofs.Torn.{holds_new}
 
 -- the first image is planned, in the first slot
 pub record IsFirstPlan (lines : ℕ) (plan : Plan) : Type 0 where
@@ -63,26 +45,14 @@ page_of-zero_lines k lines within =
     ap (λ (rest : List (List ℕ)). concat (take 64 rest)) (drop-replicate (64 * k) lines zero_line)
     ∙ ap concat (take-replicate 64 (lines - 64 * k) zero_line (omega arith)) ∙ concat_zeros 64
 
--- what each step is given
-pub gives_zeros : (lines : ℕ) (next : Step) (page : List ℕ) → reach_of next ≤ lines → ((k lines : ℕ) → 64 * (k + 1) ≤ lines → page ≡ page_of k (zero_lines lines)) → GivesPage (zero_lines lines) next page
-gives_zeros lines (Page k) page reach is = is k lines reach
-gives_zeros lines Close page reach is = tt
-gives_zeros lines SyncClosed page reach is = tt
-gives_zeros lines Header page reach is = tt
-gives_zeros lines SyncBody page reach is = tt
-gives_zeros lines Open page reach is = tt
-gives_zeros lines SyncOpen page reach is = tt
-gives_zeros lines Done page reach is = tt
-
 module _ (lines : ℕ) (plan : Plan) (is : IsFirstPlan lines plan) where
   gate_is : gate_of plan ≡ 0
   gate_is = ap (start_of plan.lines) is.slot
 
-  -- a step of the first save leaves the second slot
-  pub keeps_second : (next : Step) (page old mid new : List ℕ) → length page ≡ 4096 → reach_of next ≤ plan.lines → DiffersOnlyAt (Touches (change_of plan next page)) mid new → KeepsSecond lines old mid → KeepsSecond lines old new
-  keeps_second next page old mid new n reach d keeps =
-      let out : (k : ℕ) → slot_size lines ≤ k → Touches (change_of plan next page) k → ⊥ =
-      λ k least w. let i = writes_here plan next page k n reach w in omega (arith, i.most, gate_is, is.lines_are) in
+  -- the first save leaves the second slot
+  pub keeps_second : (old mid new : List ℕ) → DiffersOnlyAt (IsInRange (gate_of plan) (slot_size plan.lines)) mid new → KeepsSecond lines old mid → KeepsSecond lines old new
+  keeps_second old mid new d keeps =
+      let out : (k : ℕ) → slot_size lines ≤ k → IsInRange (gate_of plan) (slot_size plan.lines) k → ⊥ = λ k least w. omega (arith, w.1, gate_is, is.lines_are) in
       record {
         size = d.size ∙ keeps.size;
         shut = d.outside (slot_size lines) (out (slot_size lines) (omega arith)) ∙ keeps.shut;
@@ -124,10 +94,6 @@ module _ (lines : ℕ) (plan : Plan) (is : IsFirstPlan lines plan) where
       second = keeps.shut;
       rest = keeps.rest;
     }
-
--- a call that leaves the size
-pub sized_within : (lines : ℕ) (old new : DeviceState) → Elapses old new → HasSize lines old → HasSize lines new → LeavesOnly old new (λ image. length image ≡ device_size lines)
-sized_within lines old new time before after = within_call old new time (λ image left. left.size ∙ before) (λ image left. left.size ∙ after)
 
 -- both gates after they were closed
 pub both_shut : (lines : ℕ) (old one two : List ℕ) → length old ≡ device_size lines → one ≡ overwritten old 0 (0 ∷ []) → two ≡ overwritten one (slot_size lines) (0 ∷ []) → HasShutGates lines old two

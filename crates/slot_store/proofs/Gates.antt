@@ -1,14 +1,10 @@
 -- A closed gate hides its slot, and an open one shows it.
-use Rattle.std.proofs.Common.{◌≡◌, ◌≢◌, ℕ, ◌+◌, ◌-◌, ◌<◌, List, length, get_or, drop, Bool, true, false, sym, ◌∙◌, ap, arith, slice_index, ⊎_elim}
-use Rattle.std.specs.Prelude.{◌==◌, nat_lt, if◌then◌else◌, Option, Some, None}
-use Rattle.std.proofs.lemmas.List.{get_or-take, get_or-drop}
-use Rattle.std.proofs.lemmas.Bool.Decides.{eqb_tells, Decides-ltb, nat_tests, Decides-eqb}
+use Rattle.std.proofs.lemmas.Bool.Decides.{Decides-eqb, Decides-ltb, nat_tests}
+use Rattle.std.specs.Prelude.{◌==◌, None, Option}
 use Rattle.save_image.specs.declared.reading.Header.{Header}
-use Rattle.save_image.specs.Image.{Image, header_in}
-use Rattle.slot_store.specs.declared.slots.Slot.{Slot}
-use Rattle.slot_store.specs.declared.slots.Slot.TheVariants.{First, Second}
-use Rattle.slot_store.specs.Slots.{start_of, device_size, other, opened, page_in, body_in, slot_state, SlotState, Closed, Full}
-use Rattle.slot_store.specs.Outcomes.{Found, Damaged, WrongSize, restored, chosen, newer}
+use Rattle.slot_store.specs.Outcomes.{newer, restored}
+use Rattle.slot_store.specs.Slots.{opened, slot_state}
+use Rattle.slot_store.proofs.Common.{if◌then◌else◌, ℕ, ◌+◌, ◌-◌, ◌<◌, ◌∙◌, ◌≡◌, ◌≢◌, Bool, Closed, Damaged, First, Found, Full, Image, List, Second, Slot, SlotState, Some, WrongSize, ap, arith, body_in, chosen, device_size, drop, eqb_tells, false, get_or, get_or-drop, get_or-take, header_in, length, nat_lt, other, page_in, slice_index, start_of, sym, true, ⊎_elim}
 
 pub gate_in_page : (lines : ℕ) (slot : Slot) (c : List ℕ) → slice_index (page_in lines slot c) 0 ≡ slice_index c (start_of lines slot)
 gate_in_page lines slot c =

@@ -1,20 +1,10 @@
 -- A save that begins, one that is given up, and one that is done.
-use Rattle.std.proofs.Common.{◌≡◌, ◌≢◌, ℕ, ◌<◌, List, Bool, true, false, refl, sym, ◌∙◌, ap, inl, inr, ⊎_elim, subst}
-use Rattle.save_device.specs.Device.{DeviceState}
-use Rattle.line_memory.specs.Memory.{IsMemory}
-use Rattle.save_image.specs.Image.{Image}
-use Rattle.slot_store.specs.declared.slots.Slot.{Slot}
-use Rattle.slot_store.specs.declared.plan.Plan.{Plan}
-use Rattle.slot_store.specs.declared.plan.Step.{Step}
-use Rattle.slot_store.specs.declared.plan.Step.TheVariants.{Close, SyncClosed, Header, Page, SyncBody, Open, SyncOpen, Done}
-use Rattle.slot_store.specs.Slots.{other, slot_state}
-use Rattle.slot_store.specs.Outcomes.{Found, restored}
-use Rattle.slot_store.specs.Changes.{closed_before}
-use Rattle.slot_store.specs.Rest.{Candidates, IsAmong, IsHarmless, IsShut, IsAtRest, IsAtRestOn}
-use Rattle.slot_store.specs.Saving.{image_of, GateShut, IsWritten, IsSettledButGate, IsKept, SavingAt, FindsEither, old_and_new, only_old, candidates_before}
+use Rattle.slot_store.specs.Rest.{IsHarmless}
+use Rattle.slot_store.specs.Saving.{FindsEither, IsSettledButGate, candidates_before, old_and_new, only_old}
+use Rattle.slot_store.proofs.Common.{ℕ, ◌<◌, ◌∙◌, ◌≡◌, ◌≢◌, Bool, Candidates, Close, DeviceState, Done, Found, GateShut, Header, Image, IsAmong, IsAtRest, IsAtRestOn, IsKept, IsMemory, IsShut, IsWritten, List, Open, Page, Plan, SavingAt, Slot, Step, SyncBody, SyncClosed, SyncOpen, ap, closed_before, false, image_of, inl, inr, other, refl, restored, slot_state, subst, sym, true, ⊎_elim}
+use Rattle.slot_store.proofs.Resting.{among_only, older, other_other, rest_alone}
+use Rattle.slot_store.proofs.Stops.{more, shut_old, torn_gate}
 use Rattle.slot_store.proofs.Torn.{holds_new}
-use Rattle.slot_store.proofs.Stops.{more, torn_gate, shut_old}
-use Rattle.slot_store.proofs.Resting.{other_other, older, rest_alone, among_only}
 
 -- a save over the newest image stands at its first step
 pub saving_begins : (candidates : Candidates) (newest : Image) (plan : Plan) (memory : List (List ℕ)) (slot : Slot) (state : DeviceState) → plan.slot ≡ other slot → newest.generation < plan.generation

@@ -1,19 +1,9 @@
 -- How a save goes on, after a step that went well or one that failed.
-use Rattle.std.proofs.Common.{◌≡◌, ℕ, ◌+◌, ◌*◌, ◌≤◌, Bool, List, length, true, false, ◌∙◌, inl, inr, ⊎_elim}
-use Rattle.std.specs.Prelude.{if◌then◌else◌, nat_lt}
-use Rattle.save_device.specs.Device.{DeviceState, LeavesOnly}
-use Rattle.save_device.specs.Changes.{Touches, Makes}
-use Rattle.save_image.specs.Image.{Image}
-use Rattle.slot_store.specs.declared.plan.Plan.{Plan}
-use Rattle.slot_store.specs.declared.plan.Step.{Step}
-use Rattle.slot_store.specs.declared.plan.Step.TheVariants.{Close, SyncClosed, Header, Page, SyncBody, Open, SyncOpen, Done}
-use Rattle.slot_store.specs.Steps.{step_after, reach_of}
-use Rattle.slot_store.specs.Changes.{gate_of, change_of, GivesPage}
-use Rattle.slot_store.specs.Rest.{Candidates, IsHarmless}
-use Rattle.slot_store.specs.Saving.{IsKept, Guards, SavingAt, Leaves}
-use Rattle.save_device.proofs.Moments.{within_call}
+use Rattle.slot_store.specs.Rest.{IsHarmless}
+use Rattle.slot_store.specs.Saving.{Guards}
+use Rattle.slot_store.proofs.Common.{if◌then◌else◌, ℕ, ◌*◌, ◌+◌, ◌∙◌, ◌≡◌, ◌≤◌, Bool, Candidates, Close, DeviceState, Done, GivesPage, Header, Image, IsKept, Leaves, LeavesOnly, List, Makes, Open, Page, Plan, SavingAt, Step, SyncBody, SyncClosed, SyncOpen, Touches, change_of, false, gate_of, inl, inr, length, nat_lt, reach_of, step_after, true, within_call, ⊎_elim}
+use Rattle.slot_store.proofs.Standing.{stands_again, stands_next}
 use Rattle.slot_store.proofs.Stops.{closes_gate, kept_after, newest_after, stop_before, stop_leaves, torn_after}
-use Rattle.slot_store.proofs.Standing.{stands_next, stands_again}
 
 module _ (candidates : Candidates) (old : Image) (plan : Plan) (memory : List (List ℕ)) (page : List ℕ) (before after : DeviceState) (n : length page ≡ 4096) where
   module _ (next : Step) (good : Bool) (m : Makes (change_of plan next page) good before after) where

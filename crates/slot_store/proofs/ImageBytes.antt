@@ -1,22 +1,18 @@
 -- A slot that holds an image has exactly its bytes.
-use Rattle.std.proofs.Common.{◌≡◌, ℕ, zero, suc, ◌+◌, ◌-◌, ◌*◌, ◌≤◌, List, [], ◌++◌, length, take, drop, Bool, true, refl, sym, ◌∙◌, ap, subst, arith, slice_index, length-drop, length-take}
-use Rattle.std.specs.Prelude.{slice_range, All, Option, Some, None, if◌then◌else◌, ◌==◌}
 use Rattle.std.proofs.Math.Seq.{take-add}
-use Rattle.std.proofs.lemmas.List.{drop-drop, take_all, take_at, length-take-le, append_cancel_left, append-nil}
-use Rattle.std.proofs.lemmas.List.Elements.{All-nil, All-cons}
-use Rattle.line_memory.specs.Memory.{IsMemory}
+use Rattle.std.proofs.lemmas.List.{append_cancel_left, drop-drop, length-take-le, take_all, take_at}
+use Rattle.std.proofs.lemmas.List.Elements.{All-cons, All-nil}
+use Rattle.std.specs.Prelude.{◌==◌, All, None, Option}
+use Rattle.save_image.proofs.Again.{again_gate, is_spelled, length-header, read_again}
+use Rattle.save_image.proofs.BodyLaws.{bytes_of-lines_in, length-lines_in, lines_in-bytes_of, lines_in-take}
+use Rattle.save_image.specs.Body.{bytes_of}
+use Rattle.save_image.specs.Header.{Fits}
+use Rattle.save_image.specs.Image.{IsImage, image_bytes}
 use Rattle.save_image.specs.declared.reading.Header.{Header}
-use Rattle.save_image.specs.Header.{header, Fits}
-use Rattle.save_image.specs.Body.{bytes_of, lines_in}
-use Rattle.save_image.specs.Image.{Image, IsImage, image_bytes, header_in}
-use Rattle.save_image.proofs.BodyLaws.{bytes_of-lines_in, length-lines_in, lines_in-take, lines_in-bytes_of}
-use Rattle.save_image.proofs.Again.{is_spelled, again_gate, read_again, length-header}
-use Rattle.slot_store.specs.declared.slots.Slot.{Slot}
-use Rattle.slot_store.specs.declared.plan.Plan.{Plan}
-use Rattle.slot_store.specs.Slots.{slot_size, device_size, start_of, page_in, body_in, image_with, opened, slot_state, Closed, Full}
-use Rattle.slot_store.specs.Changes.{gate_of, planned}
-use Rattle.slot_store.specs.Saving.{image_of, IsWritten}
-use Rattle.slot_store.proofs.Gates.{gate_in_page, equal, open_gate, gate_open}
+use Rattle.slot_store.specs.Changes.{planned}
+use Rattle.slot_store.specs.Slots.{opened, slot_state}
+use Rattle.slot_store.proofs.Common.{[], if◌then◌else◌, ℕ, ◌*◌, ◌++◌, ◌+◌, ◌-◌, ◌∙◌, ◌≡◌, ◌≤◌, Bool, Closed, Full, Image, IsMemory, IsWritten, List, Plan, Slot, Some, ap, append-nil, arith, body_in, device_size, drop, gate_of, header, header_in, image_of, image_with, length, length-drop, length-take, lines_in, page_in, refl, slice_index, slice_range, slot_size, start_of, subst, suc, sym, take, true, zero}
+use Rattle.slot_store.proofs.Gates.{equal, gate_in_page, gate_open, open_gate}
 use Rattle.slot_store.proofs.Stops.{within}
 
 -- a header page, and then the bytes of the lines

@@ -1,3 +1,4 @@
+pub mod Common
 pub mod Same
 pub mod Gates
 pub mod Picked
@@ -11,5 +12,6 @@ pub mod GivenUp
 pub mod ImageBytes
 pub mod StepsLeft
 pub mod Rearmed
+pub mod StepsMade
 pub mod FirstSave
 pub mod WholeSaves

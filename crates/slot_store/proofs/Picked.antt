@@ -1,13 +1,10 @@
 -- Which slot's image two readings pick.
-use Rattle.std.proofs.Common.{◌≡◌, ◌≢◌, ℕ, List, length, Result, Ok, Err, if◌then◌else◌, refl, sym, ◌∙◌, ap, Bool, false}
-use Rattle.slot_store.specs.declared.slots.Slot.{Slot}
-use Rattle.slot_store.specs.declared.slots.Slot.TheVariants.{First, Second}
+use Rattle.std.proofs.Common.{if◌then◌else◌}
+use Rattle.slot_store.specs.Outcomes.{restored}
+use Rattle.slot_store.specs.Told.{IsChosen, IsFailure, IsNewestIn, NamesOutcome, Refuses, memory_in, state_other}
 use Rattle.slot_store.specs.declared.restoring.Choice.{Choice}
-use Rattle.slot_store.specs.declared.restoring.RestoreError.{RestoreError}
 use Rattle.slot_store.specs.declared.restoring.RestoreError.TheVariants as errors
-use Rattle.slot_store.specs.Slots.{SlotState, slot_state, device_size, body_in, image_with, is_closed, other}
-use Rattle.slot_store.specs.Outcomes.{Outcome, Found, WrongSize, chosen, restored}
-use Rattle.slot_store.specs.Told.{IsChosen, IsFailure, IsNewestIn, NamesOutcome, Refuses, is_fault, memory_in, state_other}
+use Rattle.slot_store.proofs.Common.{ℕ, ◌∙◌, ◌≡◌, ◌≢◌, Bool, Err, First, Found, List, Ok, Outcome, RestoreError, Result, Second, Slot, SlotState, WrongSize, ap, body_in, chosen, device_size, false, image_with, is_closed, is_fault, length, other, refl, slot_state, sym}
 use Rattle.slot_store.proofs.Gates.{by_states, not_equal}
 
 memory_of : (lines : ℕ) (slot : Slot) (bytes : List ℕ) → memory_in slot (body_in lines First bytes) (body_in lines Second bytes) ≡ body_in lines slot bytes

@@ -1,26 +1,14 @@
 -- An image whose arm byte is written.
-use Rattle.std.proofs.Common.{◌≡◌, ◌≢◌, ◌⊎◌, ℕ, zero, suc, ◌+◌, ◌-◌, ◌<◌, ◌≤◌, List, [], ◌∷◌, length, get_or, take, drop, Bool, true, false, refl, sym, ◌∙◌, ap, arith, slice_index, inl, inr, ⊎_elim, length-take, length-drop}
-use Rattle.std.specs.Prelude.{IsTrue}
-use Rattle.std.proofs.lemmas.Grind.{same_number_lists}
-use Rattle.std.proofs.lemmas.List.{get_or-take, get_or-drop}
 use Rattle.std.proofs.lemmas.Bool.{cases_eq}
-use Rattle.save_device.specs.Rows.{overwritten, IsInRange, DiffersOnlyAt}
-use Rattle.save_device.specs.Device.{DeviceState, present, MayLeave, LeavesOnly, IsSettled}
-use Rattle.save_device.specs.Changes.{Put, Settle, Makes}
-use Rattle.save_device.proofs.Moments.{and_then, within_call}
-use Rattle.save_device.proofs.Rows.{differs_within, holds-within}
 use Rattle.save_image.specs.Header.{header}
-use Rattle.save_image.specs.Image.{Image, image_bytes}
-use Rattle.slot_store.specs.declared.slots.Slot.{Slot}
-use Rattle.slot_store.specs.declared.slots.Slot.TheVariants.{First, Second}
-use Rattle.slot_store.specs.Slots.{start_of, slot_size, device_size, other, slot_state, is_closed, Full}
-use Rattle.slot_store.specs.Outcomes.{Found, restored}
-use Rattle.slot_store.specs.Rest.{rearmed, with_any_arm, IsAmong, IsShut, IsAtRestOn, IsAtRestRearmed}
-use Rattle.slot_store.proofs.Same.{state_same}
+use Rattle.save_image.specs.Image.{image_bytes}
+use Rattle.slot_store.specs.Rest.{IsAtRestRearmed, with_any_arm}
+use Rattle.slot_store.proofs.Common.{[], ℕ, ◌+◌, ◌-◌, ◌<◌, ◌∙◌, ◌∷◌, ◌≡◌, ◌≢◌, ◌≤◌, ◌⊎◌, Bool, DeviceState, DiffersOnlyAt, First, Found, Full, Image, IsAmong, IsAtRestOn, IsInRange, IsSettled, IsShut, IsTrue, LeavesOnly, List, Makes, MayLeave, Put, Second, Settle, Slot, and_then, ap, arith, device_size, differs_within, drop, false, get_or, get_or-drop, get_or-take, holds-within, inl, inr, is_closed, length, length-drop, length-take, other, overwritten, present, rearmed, refl, restored, same_number_lists, slice_index, slot_size, slot_state, start_of, suc, sym, take, true, within_call, zero, ⊎_elim}
 use Rattle.slot_store.proofs.Gates.{the_newer}
-use Rattle.slot_store.proofs.ImageBytes.{image_from_full, full_from_image}
+use Rattle.slot_store.proofs.ImageBytes.{full_from_image, image_from_full}
+use Rattle.slot_store.proofs.Resting.{Behind, alone_in, among_only, found_only, nothing, older, restored_finds}
+use Rattle.slot_store.proofs.Same.{state_same}
 use Rattle.slot_store.proofs.Stops.{more, within}
-use Rattle.slot_store.proofs.Resting.{Behind, nothing, older, alone_in, among_only, found_only, restored_finds}
 
 -- the place of the arm byte
 abbrev arm_of : ℕ → Slot → ℕ

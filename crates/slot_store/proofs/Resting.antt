@@ -1,21 +1,13 @@
 -- A device between two saves.
-use Rattle.std.proofs.Common.{◌≡◌, ◌⊎◌, ℕ, ◌+◌, ◌<◌, ◌≤◌, List, [], ◌∷◌, length, Bool, true, false, refl, sym, ◌∙◌, ap, arith, slice_index, inl, inr, ⊎_elim, subst, get_or, ◌-◌}
-use Rattle.std.specs.Prelude.{IsTrue, nat_lt, if◌then◌else◌}
-use Rattle.std.proofs.lemmas.Bool.Decides.{eqb_tells}
-use Rattle.save_device.specs.Rows.{overwritten, DiffersOnlyAt}
-use Rattle.save_device.specs.Device.{DeviceState, IsSettled, present, MayLeave}
-use Rattle.save_device.proofs.Rows.{differs_within, holds-within}
-use Rattle.save_image.specs.Image.{Image, IsImage}
-use Rattle.slot_store.specs.declared.slots.Slot.{Slot}
-use Rattle.slot_store.specs.declared.slots.Slot.TheVariants.{First, Second}
-use Rattle.slot_store.specs.Slots.{start_of, slot_size, device_size, HasSize, other, is_closed, slot_state, SlotState, Closed, Broken, Full}
-use Rattle.slot_store.specs.Outcomes.{Outcome, Damaged, Found, restored, chosen, newer}
-use Rattle.slot_store.specs.Rest.{Candidates, only, rearmed, IsAmong, IsShut, IsAtRest, IsAtRestOn}
-use Rattle.slot_store.proofs.Same.{state_same}
-use Rattle.slot_store.proofs.Gates.{closed_gate, shut_gate, gate_open, by_states, the_newer}
+use Rattle.save_image.specs.Image.{IsImage}
+use Rattle.slot_store.specs.Outcomes.{newer}
+use Rattle.slot_store.specs.Slots.{Broken}
+use Rattle.slot_store.proofs.Common.{[], if◌then◌else◌, ℕ, ◌+◌, ◌-◌, ◌<◌, ◌∙◌, ◌∷◌, ◌≡◌, ◌≤◌, ◌⊎◌, Bool, Candidates, Closed, Damaged, DeviceState, DiffersOnlyAt, First, Found, Full, HasSize, Image, IsAmong, IsAtRest, IsAtRestOn, IsSettled, IsShut, IsTrue, List, MayLeave, Outcome, Second, Slot, SlotState, ap, arith, chosen, device_size, differs_within, eqb_tells, false, get_or, holds-within, inl, inr, is_closed, length, nat_lt, only, other, overwritten, present, rearmed, refl, restored, slice_index, slot_size, slot_state, start_of, subst, sym, true, ⊎_elim}
+use Rattle.slot_store.proofs.Gates.{by_states, closed_gate, gate_open, shut_gate, the_newer}
 use Rattle.slot_store.proofs.ImageBytes.{image_from_full}
-use Rattle.slot_store.proofs.Stops.{more, within}
+use Rattle.slot_store.proofs.Same.{state_same}
 use Rattle.slot_store.proofs.Standing.{below_or_not}
+use Rattle.slot_store.proofs.Stops.{more, within}
 
 pub other_other : (slot : Slot) → other (other slot) ≡ slot
 other_other First = refl

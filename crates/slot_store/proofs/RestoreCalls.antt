@@ -1,16 +1,13 @@
 -- The calls of a restore, by its answer.
-use Rattle.std.proofs.Common.{ℕ, ◌/◌, Bool, true, false, not, [], ◌∷◌, replicate, Err}
-use Rattle.save_device.specs.declared.calls.CallKind.TheVariants.{Read, Sync}
-use Rattle.save_device.specs.Calls.{MakesCalls}
-use Rattle.save_device.specs.Device.{DeviceState, IsSettled, present, MayLeave, LeavesOnly}
-use Rattle.save_device.specs.Changes.{Settle, Makes, OnlyReads}
-use Rattle.save_device.proofs.CallLists.{calls_on, first_fails, more_planned}
-use Rattle.save_device.proofs.ReadRuns.{settled_same, reads_on, sync_leaves}
-use Rattle.save_device.proofs.Moments.{last_within, and_then, weaker}
-use Rattle.slot_store.specs.declared.restoring.RestoreError.{RestoreError}
-use Rattle.slot_store.specs.declared.restoring.RestoreError.TheVariants as errors
+use Rattle.std.proofs.Common.{not}
+use Rattle.save_device.proofs.CallLists.{more_planned}
+use Rattle.save_device.proofs.Moments.{last_within}
+use Rattle.save_device.proofs.ReadRuns.{settled_same, sync_leaves}
+use Rattle.save_device.specs.declared.calls.CallKind.TheVariants.{Read}
+use Rattle.slot_store.specs.Told.{CallsOfRestore, IsFailure, IsOfHeaders, header_calls, pages_read, restore_calls}
 use Rattle.slot_store.specs.declared.restoring.Restored.{Restored}
-use Rattle.slot_store.specs.Told.{IsFailure, IsOfHeaders, is_fault, pages_read, header_calls, restore_calls, CallsOfRestore}
+use Rattle.slot_store.specs.declared.restoring.RestoreError.TheVariants as errors
+use Rattle.slot_store.proofs.Common.{[], ℕ, ◌/◌, ◌∷◌, Bool, DeviceState, Err, IsSettled, LeavesOnly, Makes, MakesCalls, MayLeave, OnlyReads, RestoreError, Settle, Sync, and_then, calls_on, false, first_fails, is_fault, present, reads_on, replicate, true, weaker}
 
 -- the sync failed
 pub calls_of_fault : (lines : ℕ) (old new : DeviceState) → Makes Settle false old new → CallsOfRestore lines (Err errors.Device) old new

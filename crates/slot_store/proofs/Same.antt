@@ -1,10 +1,7 @@
 -- What a slot says depends on its own bytes alone.
-use Rattle.std.proofs.Common.{◌≡◌, ℕ, zero, suc, ◌+◌, ◌-◌, ◌*◌, ◌<◌, ◌≤◌, List, length, get_or, take, drop, refl, sym, ◌∙◌, ap, arith, length-drop, length-take}
-use Rattle.std.proofs.lemmas.Grind.{same_number_lists}
-use Rattle.std.proofs.lemmas.List.{get_or-take, get_or-drop, drop-drop}
-use Rattle.save_image.specs.Body.{lines_in}
-use Rattle.slot_store.specs.declared.slots.Slot.{Slot}
-use Rattle.slot_store.specs.Slots.{start_of, slot_size, slot_with, page_in, body_in, slot_state}
+use Rattle.std.proofs.lemmas.List.{drop-drop}
+use Rattle.slot_store.specs.Slots.{slot_state, slot_with}
+use Rattle.slot_store.proofs.Common.{ℕ, ◌*◌, ◌+◌, ◌-◌, ◌<◌, ◌∙◌, ◌≡◌, ◌≤◌, List, Slot, ap, arith, body_in, drop, get_or, get_or-drop, get_or-take, length, length-drop, length-take, lines_in, page_in, refl, same_number_lists, slot_size, start_of, suc, sym, take, zero}
 
 -- two rows have the same bytes from here on, n of them
 pub record Agree (from n : ℕ) (xs ys : List ℕ) : Type 0 where

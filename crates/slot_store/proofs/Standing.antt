@@ -1,25 +1,15 @@
 -- What stands in the slot that is written after a step, one that went well or one that failed.
-use Rattle.std.proofs.Common.{◌≡◌, ◌≢◌, ◌⊎◌, ℕ, ◌+◌, ◌-◌, ◌*◌, ◌<◌, ◌≤◌, List, [], ◌∷◌, ◌++◌, length, get_or, take, drop, suc, Bool, true, false, refl, sym, ◌∙◌, ap, arith, slice_index, inl, inr, ⊎_elim, subst, length-take, length-drop}
-use Rattle.std.specs.Prelude.{IsTrue, if◌then◌else◌, nat_lt, slice_range, All}
-use Rattle.std.proofs.lemmas.Grind.{same_number_lists}
-use Rattle.std.proofs.lemmas.List.{get_or-take, get_or-drop, length-take-le, append-nil}
-use Rattle.std.proofs.lemmas.List.Elements.{All-take, All-drop}
-use Rattle.std.proofs.lemmas.Bool.Decides.{leb_tells}
 use Rattle.std.proofs.Math.Seq.{take-add}
-use Rattle.save_device.specs.Device.{DeviceState}
-use Rattle.save_device.specs.Changes.{Put, Settle, Touches, changed, Makes}
-use Rattle.save_device.proofs.Rows.{holds-within}
-use Rattle.line_memory.specs.Memory.{IsMemory}
-use Rattle.save_image.specs.Body.{page_of, lines_in, bytes_of}
-use Rattle.save_image.proofs.BodyLaws.{lines_in-page, lines_in-bytes_of}
-use Rattle.slot_store.specs.declared.plan.Plan.{Plan}
-use Rattle.slot_store.specs.declared.plan.Step.{Step}
-use Rattle.slot_store.specs.declared.plan.Step.TheVariants.{Close, SyncClosed, Header, Page, SyncBody, Open, SyncOpen, Done}
-use Rattle.slot_store.specs.Slots.{slot_size, HasSize}
-use Rattle.slot_store.specs.Steps.{step_after, reach_of}
-use Rattle.slot_store.specs.Changes.{gate_of, change_of, GivesPage}
-use Rattle.slot_store.specs.Saving.{GateShut, HasHeader, HasLines, IsWritten, SlotHas}
-use Rattle.slot_store.proofs.Stops.{within, closes_gate}
+use Rattle.std.proofs.lemmas.Bool.Decides.{leb_tells}
+use Rattle.std.proofs.lemmas.List.{length-take-le}
+use Rattle.std.proofs.lemmas.List.Elements.{All-drop, All-take}
+use Rattle.std.specs.Prelude.{All}
+use Rattle.save_device.specs.Changes.{changed}
+use Rattle.save_image.proofs.BodyLaws.{lines_in-bytes_of, lines_in-page}
+use Rattle.save_image.specs.Body.{bytes_of, page_of}
+use Rattle.slot_store.specs.Saving.{HasHeader, HasLines}
+use Rattle.slot_store.proofs.Common.{[], if◌then◌else◌, ℕ, ◌*◌, ◌++◌, ◌+◌, ◌-◌, ◌<◌, ◌∙◌, ◌∷◌, ◌≡◌, ◌≢◌, ◌≤◌, ◌⊎◌, Bool, Close, DeviceState, Done, GateShut, GivesPage, HasSize, Header, IsMemory, IsTrue, IsWritten, List, Makes, Open, Page, Plan, Put, Settle, SlotHas, Step, SyncBody, SyncClosed, SyncOpen, Touches, ap, append-nil, arith, change_of, drop, false, gate_of, get_or, get_or-drop, get_or-take, holds-within, inl, inr, length, length-drop, length-take, lines_in, nat_lt, reach_of, refl, same_number_lists, slice_index, slice_range, slot_size, step_after, subst, suc, sym, take, true, ⊎_elim}
+use Rattle.slot_store.proofs.Stops.{closes_gate, within}
 use Rattle.slot_store.proofs.Torn.{header_but_gate, header_written, lines_stand, written_but_gate}
 
 -- a test of two numbers, and what it tells

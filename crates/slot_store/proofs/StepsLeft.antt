@@ -1,18 +1,11 @@
 -- The steps that are still to come, and their calls.
-use Rattle.std.proofs.Common.{◌≡◌, ℕ, suc, ◌+◌, ◌-◌, ◌*◌, ◌/◌, ◌<◌, ◌≤◌, Bool, true, false, List, [], ◌∷◌, ◌++◌, replicate, refl, sym, ◌∙◌, ap, arith, inl, inr, subst}
-use Rattle.std.specs.Prelude.{if◌then◌else◌, nat_lt}
+use Rattle.save_device.specs.Changes.{call_of}
 use Rattle.save_device.specs.declared.calls.CallKind.{CallKind}
-use Rattle.save_device.specs.declared.calls.CallKind.TheVariants.{Write, Sync}
-use Rattle.save_device.specs.declared.calls.Call.{Call}
-use Rattle.save_device.specs.Calls.{called, MakesCalls}
-use Rattle.save_device.specs.Changes.{Put, Settle, call_of}
-use Rattle.save_device.proofs.CallLists.{MadeSoFar, made_more, made_fault}
-use Rattle.slot_store.specs.declared.plan.Plan.{Plan}
-use Rattle.slot_store.specs.declared.plan.Step.{Step}
-use Rattle.slot_store.specs.declared.plan.Step.TheVariants.{Close, SyncClosed, Header, Page, SyncBody, Open, SyncOpen, Done}
 use Rattle.slot_store.specs.Slots.{IsCapacity}
-use Rattle.slot_store.specs.Steps.{steps_left, step_after, reach_of, page_calls, calls_left}
-use Rattle.slot_store.specs.Changes.{gate_of, change_of}
+use Rattle.slot_store.specs.Steps.{page_calls, step_later}
+use Rattle.std.specs.Prelude.{slice_get}
+use Rattle.std.proofs.Common.{drop, rules, take, zero}
+use Rattle.slot_store.proofs.Common.{[], if◌then◌else◌, ℕ, ◌*◌, ◌++◌, ◌+◌, ◌-◌, ◌/◌, ◌<◌, ◌∙◌, ◌∷◌, ◌≡◌, ◌≤◌, Bool, Close, Done, Header, List, Open, Page, Plan, Put, Settle, Step, Sync, SyncBody, SyncClosed, SyncOpen, Write, ap, arith, calls_left, change_of, false, gate_of, inl, inr, nat_lt, reach_of, refl, replicate, step_after, steps_left, suc, sym, true, Some}
 use Rattle.slot_store.proofs.Standing.{below_or_not}
 
 -- each step leaves one less
@@ -34,6 +27,10 @@ steps_left-after lines Open cap reach some = refl
 steps_left-after lines SyncOpen cap reach some = refl
 steps_left-after lines Done cap reach some = absurd (omega (arith, some))
 
+-- a step ends within the memory where the one before does
+pub reach_after : (lines : ℕ) (next : Step) → IsCapacity lines → reach_of next ≤ lines → reach_of (step_after lines next) ≤ lines
+reach_after lines next capacity reach = search rules
+
 -- where no step is left, the save is done
 pub no_steps_left : (lines : ℕ) (next : Step) → reach_of next ≤ lines → steps_left lines next ≡ 0 → next ≡ Done
 no_steps_left lines Close reach none = absurd (omega (arith, none))
@@ -44,6 +41,43 @@ no_steps_left lines SyncBody reach none = absurd (omega (arith, none))
 no_steps_left lines Open reach none = absurd (omega (arith, none))
 no_steps_left lines SyncOpen reach none = absurd (omega (arith, none))
 no_steps_left lines Done reach none = refl
+
+-- an element of a list, with those behind it
+pub record ComesAt {X : Type 0} (xs : List X) (n : ℕ) (x : X) (behind : List X) : Type 0 where
+  pub rest : drop (suc n) xs ≡ behind
+  pub taken : take (suc n) xs ≡ take n xs ++ x ∷ []
+  pub here : slice_get xs n ≡ Some x
+
+pub comes_at : {X : Type 0} (xs : List X) (n : ℕ) (x : X) (behind : List X) → drop n xs ≡ x ∷ behind → ComesAt xs n x behind
+comes_at [] zero x behind is = absurd (let bad : ⊥ = cc in bad)
+comes_at [] (suc n) x behind is = absurd (let bad : ⊥ = cc in bad)
+comes_at {X} (y ∷ ys) zero x behind is =
+    let rest : ys ≡ behind = cc in let head : y ≡ x = cc in
+    record { rest = rest; taken = ap (λ (z : X). z ∷ []) head; here = ap Some head }
+comes_at {X} (y ∷ ys) (suc n) x behind is =
+    let later : ComesAt ys n x behind = comes_at ys n x behind is in
+    record { rest = later.rest; taken = ap (λ (zs : List X). y ∷ zs) later.taken; here = later.here }
+
+-- The steps from one on: each ends within the memory, so many are left behind it, and what is left of a list that has one element
+-- for each of them.
+module _ (lines : ℕ) (capacity : IsCapacity lines) (first : Step) (reach : reach_of first ≤ lines) where
+  pub reach_later : (n : ℕ) → reach_of (step_later lines first n) ≤ lines
+  reach_later zero = reach
+  reach_later (suc n) = reach_after lines (step_later lines first n) capacity (reach_later n)
+
+  pub left_later : (n : ℕ) → n ≤ steps_left lines first → steps_left lines (step_later lines first n) + n ≡ steps_left lines first
+  left_later zero most = omega arith
+  left_later (suc n) most =
+      let before : steps_left lines (step_later lines first n) + n ≡ steps_left lines first = left_later n (omega (arith, most)) in
+      omega (arith, before, most, steps_left-after lines (step_later lines first n) capacity (reach_later n) (omega (arith, before, most)))
+
+  pub drop_later : {X : Type 0} (of : Step → List X) (one : Step → X) → ((next : Step) → reach_of next ≤ lines → 0 < steps_left lines next → of next ≡ one next ∷ of (step_after lines next))
+      → (n : ℕ) → n ≤ steps_left lines first → drop n (of first) ≡ of (step_later lines first n)
+  drop_later of one goes zero most = refl
+  drop_later {X} of one goes (suc n) most =
+      let at : Step = step_later lines first n in
+      let left : steps_left lines at + n ≡ steps_left lines first = left_later n (omega (arith, most)) in
+      (comes_at (of first) n (one at) (of (step_after lines at)) (drop_later of one goes n (omega (arith, most)) ∙ goes at (reach_later n) (omega (arith, left, most)))).rest
 
 -- the call of a page, and those behind it
 page_call : (lines k : ℕ) → 64 * (k + 1) ≤ lines → page_calls lines k ≡ Write ∷ page_calls lines (k + 1)
@@ -76,15 +110,3 @@ calls_left-after plan SyncBody page reach some = refl
 calls_left-after plan Open page reach some = refl
 calls_left-after plan SyncOpen page reach some = refl
 calls_left-after plan Done page reach some = absurd (omega (arith, some))
-
--- how the calls go on by a step
-module _ (kinds : List CallKind) (plan : Plan) (next : Step) (page : List ℕ) (old now new : List Call) (reach : reach_of next ≤ plan.lines) (some : 0 < steps_left plan.lines next)
-    (so : MadeSoFar kinds (calls_left plan.closed plan.lines next) old now) where
-  with_step : MadeSoFar kinds (call_of (change_of plan next page) ∷ calls_left plan.closed plan.lines (step_after plan.lines next)) old now
-  with_step = subst (λ (left : List CallKind). MadeSoFar kinds left old now) (calls_left-after plan next page reach some) so
-
-  pub step_made : new ≡ now ++ called (call_of (change_of plan next page)) true ∷ [] → MadeSoFar kinds (calls_left plan.closed plan.lines (step_after plan.lines next)) old new
-  step_made more = made_more kinds (calls_left plan.closed plan.lines (step_after plan.lines next)) (call_of (change_of plan next page)) old now new with_step more
-
-  pub step_failed : new ≡ now ++ called (call_of (change_of plan next page)) false ∷ [] → MakesCalls kinds false old new
-  step_failed more = made_fault kinds (calls_left plan.closed plan.lines (step_after plan.lines next)) (call_of (change_of plan next page)) old now new with_step more

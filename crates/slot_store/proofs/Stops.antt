@@ -1,22 +1,9 @@
 -- What a stop in a step of a save leaves.
-use Rattle.std.proofs.Common.{◌≡◌, ◌⊎◌, ℕ, ◌+◌, ◌<◌, ◌≤◌, Bool, List, [], ◌∷◌, length, true, false, refl, sym, ◌∙◌, arith, slice_index, inl, inr, ⊎_elim}
-use Rattle.std.specs.Prelude.{IsTrue, if◌then◌else◌}
-use Rattle.save_device.specs.Rows.{IsInRange, DiffersOnlyAt}
-use Rattle.save_device.specs.Device.{DeviceState, present, MayLeave}
-use Rattle.save_device.specs.Changes.{Put, Settle, Touches}
-use Rattle.save_image.specs.Image.{Image}
-use Rattle.slot_store.specs.declared.slots.Slot.{Slot}
-use Rattle.slot_store.specs.declared.slots.Slot.TheVariants.{First, Second}
-use Rattle.slot_store.specs.declared.plan.Plan.{Plan}
-use Rattle.slot_store.specs.declared.plan.Step.{Step}
-use Rattle.slot_store.specs.declared.plan.Step.TheVariants.{Close, SyncClosed, Header, Page, SyncBody, Open, SyncOpen, Done}
-use Rattle.slot_store.specs.Slots.{start_of, slot_size, device_size, other, slot_state, Full}
-use Rattle.slot_store.specs.Steps.{reach_of}
-use Rattle.slot_store.specs.Changes.{gate_of, change_of}
-use Rattle.slot_store.specs.Rest.{Candidates}
-use Rattle.slot_store.specs.Saving.{GateShut, IsWritten, IsKept, SavingAt, FindsOld, FindsNew, FindsEither, Leaves}
+use Rattle.save_device.specs.Device.{Elapses}
+use Rattle.slot_store.specs.Saving.{FindsEither, FindsNew, FindsOld}
+use Rattle.slot_store.proofs.Common.{[], if◌then◌else◌, ℕ, ◌+◌, ◌<◌, ◌∙◌, ◌∷◌, ◌≡◌, ◌≤◌, ◌⊎◌, Bool, Candidates, Close, DeviceState, DiffersOnlyAt, Done, First, Full, GateShut, HasSize, Header, Image, IsInRange, IsKept, IsTrue, IsWritten, Leaves, LeavesOnly, List, MayLeave, Open, Page, Plan, Put, SavingAt, Second, Settle, Slot, Step, SyncBody, SyncClosed, SyncOpen, Touches, arith, change_of, device_size, false, gate_of, inl, inr, length, other, present, reach_of, refl, slice_index, slot_size, slot_state, start_of, sym, true, within_call, ⊎_elim}
 use Rattle.slot_store.proofs.Same.{state_same}
-use Rattle.slot_store.proofs.Torn.{length-tail, written_but_gate, old_alone, new_alone, old_or_new}
+use Rattle.slot_store.proofs.Torn.{length-tail, new_alone, old_alone, old_or_new, written_but_gate}
 
 pub record InSlot (plan : Plan) (k : ℕ) : Type 0 where
   pub least : gate_of plan ≤ k
@@ -47,9 +34,17 @@ pub within : (lines : ℕ) (slot : Slot) → start_of lines slot + slot_size lin
 within lines First = omega arith
 within lines Second = omega arith
 
+-- a call that leaves the size
+pub sized_within : (lines : ℕ) (old new : DeviceState) → Elapses old new → HasSize lines old → HasSize lines new → LeavesOnly old new (λ image. length image ≡ device_size lines)
+sized_within lines old new time before after = within_call old new time (λ image left. left.size ∙ before) (λ image left. left.size ∙ after)
+
 -- rows that differ at most here differ at most there
 pub more : {V W : ℕ → Type 0} {bytes image : List ℕ} → ((k : ℕ) → V k → W k) → DiffersOnlyAt V bytes image → DiffersOnlyAt W bytes image
 more so m = record { size = m.size; outside = λ k none. m.outside k (λ v. none (so k v)) }
+
+-- what a step leaves outside its slot
+pub in_slot : {old new : List ℕ} (plan : Plan) (next : Step) (page : List ℕ) → length page ≡ 4096 → reach_of next ≤ plan.lines → DiffersOnlyAt (Touches (change_of plan next page)) old new → DiffersOnlyAt (IsInRange (gate_of plan) (slot_size plan.lines)) old new
+in_slot plan next page n r d = more (λ k w. let i : InSlot plan k = writes_here plan next page k n r w in (i.least, i.most)) d
 
 -- what a stop leaves after a call is what it leaves of a torn one
 pub torn_after : {W : ℕ → Type 0} (old new : DeviceState) (image : List ℕ) → DiffersOnlyAt W old.bytes new.bytes → ((k : ℕ) → IsTrue (new.unsettled k) → IsTrue (old.unsettled k) ⊎ W k)

@@ -1,23 +1,13 @@
 -- What a row restores to where the slot that is written is shut, and where all of it but the gate is written.
-use Rattle.std.proofs.Common.{◌≡◌, ◌≢◌, ◌⊎◌, ℕ, ◌+◌, ◌-◌, ◌*◌, ◌<◌, ◌≤◌, List, ◌∷◌, length, get_or, take, drop, suc, sym, ◌∙◌, ap, arith, slice_index, inl, inr, ⊎_elim, length-drop, length-take, drop-cons}
-use Rattle.std.specs.Prelude.{slice_range, Some}
-use Rattle.std.proofs.lemmas.Grind.{same_number_lists}
-use Rattle.std.proofs.lemmas.List.{get_or-take, get_or-drop, take_all}
-use Rattle.std.proofs.lemmas.Bool.Decides.{eqb_tells}
-use Rattle.save_device.specs.Rows.{IsInRange, overwritten}
-use Rattle.save_device.proofs.Rows.{holds-within}
-use Rattle.line_memory.specs.Memory.{IsMemory}
+use Rattle.std.proofs.Common.{drop-cons}
+use Rattle.std.proofs.lemmas.List.{take_all}
+use Rattle.save_image.proofs.Again.{header-gate, length-header, read_again}
 use Rattle.save_image.specs.declared.reading.Header.{Header}
-use Rattle.save_image.specs.Image.{Image, header_in}
-use Rattle.save_image.specs.Header.{arm_byte}
-use Rattle.save_image.proofs.Again.{length-header, header-gate, read_again}
-use Rattle.slot_store.specs.declared.plan.Plan.{Plan}
-use Rattle.slot_store.specs.Slots.{start_of, slot_size, device_size, other, page_in, body_in, image_with, slot_state, Full}
-use Rattle.slot_store.specs.Outcomes.{Found, restored}
-use Rattle.slot_store.specs.Changes.{gate_of, planned}
-use Rattle.slot_store.specs.Saving.{image_of, HasHeader, HasLines, IsWritten}
-use Rattle.slot_store.proofs.Same.{Agree, part_same, lines_same, state_same}
-use Rattle.slot_store.proofs.Gates.{closed_gate, open_gate, only_other, the_newer}
+use Rattle.slot_store.specs.Changes.{planned}
+use Rattle.slot_store.specs.Saving.{HasHeader, HasLines}
+use Rattle.slot_store.proofs.Common.{ℕ, ◌*◌, ◌+◌, ◌-◌, ◌<◌, ◌∙◌, ◌∷◌, ◌≡◌, ◌≢◌, ◌≤◌, ◌⊎◌, Found, Full, Image, IsInRange, IsMemory, IsWritten, List, Plan, Some, ap, arith, arm_byte, body_in, device_size, drop, eqb_tells, gate_of, get_or, get_or-drop, get_or-take, header_in, holds-within, image_of, image_with, inl, inr, length, length-drop, length-take, other, overwritten, page_in, restored, same_number_lists, slice_index, slice_range, slot_size, slot_state, start_of, suc, sym, take, ⊎_elim}
+use Rattle.slot_store.proofs.Gates.{closed_gate, only_other, open_gate, the_newer}
+use Rattle.slot_store.proofs.Same.{Agree, lines_same, part_same, state_same}
 
 page_split : (start : ℕ) (c : List ℕ) → start < length c → slice_range c start (start + 4096) ≡ get_or c start 0 ∷ take 4095 (drop (start + 1) c)
 page_split start c less =

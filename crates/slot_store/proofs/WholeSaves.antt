@@ -1,20 +1,13 @@
 -- What the steps of a save are, taken together.
-use Rattle.std.proofs.Common.{◌≡◌, ℕ, ◌+◌, List, length, Bool, true, false, refl, sym, ◌∙◌, ap, inl, inr, ⊎_elim, subst}
-use Rattle.save_device.specs.Device.{DeviceState}
-use Rattle.save_image.specs.Header.{arm_byte}
-use Rattle.save_image.specs.Image.{Image}
-use Rattle.slot_store.specs.declared.slots.Slot.{Slot}
+use Rattle.slot_store.specs.Finishing.{LeavesInFirst}
+use Rattle.slot_store.specs.Rest.{IsAmongOr, IsAtRestStill}
+use Rattle.slot_store.specs.Runs.{plan_of}
+use Rattle.slot_store.specs.Saving.{candidates_before, old_and_new}
+use Rattle.slot_store.specs.Whole.{FindsOldOrNew, IsReady, made_over}
 use Rattle.slot_store.specs.declared.plan.Newest.{Newest}
-use Rattle.slot_store.specs.declared.plan.Plan.{Plan}
-use Rattle.slot_store.specs.declared.plan.Step.{Step}
-use Rattle.slot_store.specs.declared.plan.Step.TheVariants.{Close, SyncClosed, Header, Page, SyncBody, Open, SyncOpen, Done}
-use Rattle.slot_store.specs.Slots.{other}
-use Rattle.slot_store.specs.Outcomes.{Outcome, Found, restored}
-use Rattle.slot_store.specs.Changes.{closed_before}
-use Rattle.slot_store.specs.Rest.{Candidates, only, rearmed, IsAmong, IsAmongOr, IsAtRest, IsAtRestOn, IsAtRestStill}
-use Rattle.slot_store.specs.Saving.{image_of, Leaves, old_and_new, candidates_before}
-use Rattle.slot_store.specs.Whole.{made_over, FindsOldOrNew}
-use Rattle.slot_store.proofs.Resting.{other_other, found_only}
+use Rattle.slot_store.specs.declared.saving.SaveRun.{SaveRun}
+use Rattle.slot_store.proofs.Common.{ℕ, ◌+◌, ◌∙◌, ◌≡◌, ◌⊎◌, Bool, Candidates, Close, DeviceState, Done, Found, Header, Image, IsAmong, IsAtRest, IsAtRestOn, Leaves, LeavesOnly, List, MayLeave, Open, Outcome, Page, Plan, Slot, Step, SyncBody, SyncClosed, SyncOpen, ap, arm_byte, closed_before, false, image_of, inl, inr, length, only, other, present, rearmed, refl, restored, step_on, subst, sym, told, true, weaker, ⊎_elim}
+use Rattle.slot_store.proofs.Resting.{found_only, newest_among, other_other, rest_leaves}
 
 module _ (candidates : Candidates) (old : Image) (plan : Plan) (memory : List (List ℕ)) (among : IsAmong candidates (Found (other plan.slot) old)) where
   old_among : (outcome : Outcome) → outcome ≡ Found (other plan.slot) old → IsAmongOr candidates plan.slot (image_of plan memory) outcome
@@ -78,6 +71,18 @@ module _ (newest : Newest) (closed : Bool) (count : ℕ) (armed : Bool) (memory 
   stop_in_step candidates old next image among leaves =
       subst (λ (lines : ℕ). IsAmongOr candidates (other newest.slot) (made_over newest count armed memory) (restored lines image)) is.lines_are
       (among_in candidates (restored plan.lines image) (leaves_among candidates old plan memory (found_in candidates old among) next image leaves))
+
+  -- at any moment of it
+  pub stops_over : (candidates : Candidates) (old : Image) (run : SaveRun) (before after : DeviceState) (tried : ℕ) → plan_of run ≡ plan → IsReady candidates old newest closed memory before
+      → LeavesOnly before after (λ left. MayLeave (present before) left ⊎ LeavesInFirst candidates old memory run tried left)
+      → LeavesOnly before after (λ left. IsAmongOr candidates (other newest.slot) (made_over newest count armed memory) (restored (length memory) left))
+  stops_over candidates old run before after tried same ready leaves = weaker before after each leaves
+    where
+      each : (left : List ℕ) → MayLeave (present before) left ⊎ LeavesInFirst candidates old memory run tried left → IsAmongOr candidates (other newest.slot) (made_over newest count armed memory) (restored (length memory) left)
+      each left (inl may) = inl (rest_leaves before left ready.rest may)
+      each left (inr first) =
+          stop_in_step candidates old (step_on run first.0) left (newest_among candidates old newest.slot (length memory) closed before ready.rest)
+          (subst (λ (p : Plan). Leaves candidates old p memory (step_on run first.0) left) same first.2)
 
   -- at its end
   pub saved_over : (state : DeviceState) → IsAtRestOn plan.slot (image_of plan memory) plan.lines false state → IsAtRestOn (other newest.slot) (made_over newest count armed memory) (length memory) false state

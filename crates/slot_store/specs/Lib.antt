@@ -6,5 +6,6 @@ pub mod Changes
 pub mod Rest
 pub mod Saving
 pub mod Runs
+pub mod Finishing
 pub mod Formatted
 pub mod Whole

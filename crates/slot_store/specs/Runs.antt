@@ -2,6 +2,7 @@
 use Rattle.std.specs.Prelude.{◌≡◌, ℕ, Bool, not, if◌then◌else◌, List}
 use Rattle.save_device.specs.Device.{DeviceState}
 use Rattle.save_image.specs.Image.{Image}
+use Rattle.slot_store.specs.declared.plan.Newest.{Newest}
 use Rattle.slot_store.specs.declared.plan.Plan.{Plan}
 use Rattle.slot_store.specs.declared.plan.Step.{Step}
 use Rattle.slot_store.specs.declared.saving.SaveRun.{SaveRun}
@@ -22,6 +23,10 @@ next_of run = run.next
 -- it was tried already, and failed
 abbrev pub tried_of : SaveRun → Bool
 tried_of run = run.tried
+
+-- the image of this plan, as the newest one
+abbrev pub newest_made : Plan → Newest
+newest_made plan = record { slot = plan.slot; generation = plan.generation }
 
 -- after a step that went well the next one comes, and after one that failed the same one again
 pub record GoesOnFrom (good : Bool) (old new : SaveRun) : Type 0 where

@@ -1,5 +1,5 @@
 -- The steps of a save, each one call of the device.
-use Rattle.std.specs.Prelude.{ℕ, ◌+◌, ◌-◌, ◌*◌, ◌/◌, Bool, if◌then◌else◌, nat_lt, List, [], ◌∷◌, ◌++◌, replicate}
+use Rattle.std.specs.Prelude.{ℕ, zero, suc, ◌+◌, ◌-◌, ◌*◌, ◌/◌, Bool, if◌then◌else◌, nat_lt, List, [], ◌∷◌, ◌++◌, replicate}
 use Rattle.save_device.specs.declared.calls.CallKind.{CallKind}
 use Rattle.save_device.specs.declared.calls.CallKind.TheVariants.{Write, Sync}
 use Rattle.slot_store.specs.declared.plan.Step.{Step}
@@ -20,6 +20,11 @@ step_after lines SyncBody = Open
 step_after lines Open = SyncOpen
 step_after lines SyncOpen = Done
 step_after lines Done = Done
+
+-- the step that comes once so many more were made
+abbrev pub step_later : ℕ → Step → ℕ → Step
+step_later lines next zero = next
+step_later lines next (suc made) = step_after lines (step_later lines next made)
 
 -- how many steps are still to come
 abbrev pub steps_left : ℕ → Step → ℕ

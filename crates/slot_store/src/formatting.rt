@@ -4,23 +4,36 @@ ghost use Rattle.save_device.specs.declared.calls.CallKind.TheVariants.{Write, S
 ghost use Rattle.save_device.specs.Calls.{MakesCalls};
 ghost use Rattle.save_device.specs.Device.{IsSettled, LeavesOnly};
 ghost use Rattle.line_memory.specs.Memory.{zero_lines};
-ghost use Rattle.save_image.specs.Body.{page_of};
 ghost use Rattle.slot_store.specs.declared.slots.Slot.TheVariants.{First};
 ghost use Rattle.slot_store.specs.Slots.{IsCapacity, HasSize, slot_size, device_size};
 ghost use Rattle.slot_store.specs.Steps.{format_calls};
 ghost use Rattle.slot_store.specs.Outcomes.{first_image};
 ghost use Rattle.slot_store.specs.Rest.{IsAtRestOn};
+ghost use Rattle.slot_store.specs.Finishing.{GrantsEach};
 ghost use Rattle.slot_store.specs.Formatted.{IsFormatted, HasShutGates};
 
-use crate::SaveRun;
 use crate::slots::slot_size;
+use crate::{Refused, SaveRun, SaveSource, Step};
 use save_device::{DeviceFault, SaveDevice};
 
-// A page of zero bytes, any page of a memory of zero lines.
-fn zero_page() -> [u8; 4096]
-    ensures { (k lines : ℕ) → 64 * (k + 1) ≤ lines → result ≡ page_of k (zero_lines lines) }
-{
-    [0; 4096]
+// A memory of so many zero lines.
+#[derive(Drop)]
+struct ZeroLines {
+    lines: usize,
+}
+
+impl SaveSource for ZeroLines {
+    ghost memory = { λ zeros. zero_lines zeros.lines };
+
+    ghost asks = { GrantsEach };
+
+    fn ask(&mut self, _step: Step) -> Result<(), Refused> {
+        Ok(())
+    }
+
+    fn page<'p>(&'p self, _page: usize, _room: &'p mut [u8; 4096]) -> &'p [u8; 4096] {
+        &[0; 4096]
+    }
 }
 
 // Closes both gates and makes that durable.
@@ -61,10 +74,9 @@ pub fn format<D: SaveDevice>(device: &mut D, lines: usize) -> Result<(), DeviceF
         (λ image. length image ≡ device_size lines) }
 {
     shut_gates(device, lines)?;
-    let page = zero_page();
     let mut run = SaveRun::behind_shut_gates(lines);
-    for _done in 0..run.steps_left() {
-        run.step(device, &page)?;
-    }
+    let Ok(()) = run.finish(&mut ZeroLines { lines }, device) else {
+        return Err(DeviceFault);
+    };
     Ok(())
 }

@@ -4,15 +4,20 @@
 //! is open, and of two images the one of the greater generation is the newest. A save goes to the other slot: it closes the
 //! gate there, makes that durable, writes header and pages, makes these durable, opens the gate and makes that durable,
 //! so that a stop at any moment leaves the old image or the new one: the clause `old_or_new` of `save`.
+//!
+//! One loop makes the steps of a save, `SaveRun::finish`, and asks its source for each before it is made. `save` and `format`
+//! are uses of it, and so is a save that pays for its steps: its source pays where it is asked.
 #![tactic(auto)]
 
 mod arming;
+mod finishing;
 mod formatting;
 mod laws;
 mod plan;
 mod restoring;
 mod saving;
 mod slots;
+mod source;
 mod whole;
 
 pub use arming::mark_armed;
@@ -25,4 +30,5 @@ pub use plan::{Newest, Plan, Step};
 pub use restoring::{RestoreError, Restored, Verdict, restore};
 pub use saving::SaveRun;
 pub use slots::{Slot, device_size};
+pub use source::{BrokenOff, Refused, SaveSource};
 pub use whole::{SaveFault, save};

@@ -1,12 +1,15 @@
 // A save, one device call a step.
 ghost use Rattle.std.specs.Prelude.{◌≡◌, ◌⊎◌, ◌↔◌, ℕ, ◌+◌, ◌-◌, ◌*◌, ◌<◌, ◌≤◌, ◌^◌, true, false, List, drop, length, is_ok, IsTrue, OnOk, IfOk};
+ghost use Rattle.std.specs.Option.{SomeIff};
+ghost use Rattle.save_device.specs.Rows.{IsInRange, DiffersOnlyAt};
 ghost use Rattle.save_device.specs.Device.{DeviceState, LeavesOnly};
 ghost use Rattle.save_device.specs.Changes.{Put, Settle, Makes};
 ghost use Rattle.line_memory.specs.Memory.{IsMemory};
 ghost use Rattle.save_image.specs.Image.{Image};
-ghost use Rattle.slot_store.specs.Slots.{IsCapacity, HasSize, other};
+ghost use Rattle.slot_store.specs.declared.plan.Step.TheVariants.{Done};
+ghost use Rattle.slot_store.specs.Slots.{IsCapacity, HasSize, other, slot_size};
 ghost use Rattle.slot_store.specs.Steps.{step_after, steps_left, reach_of};
-ghost use Rattle.slot_store.specs.Changes.{change_of, closed_before, GivesPage};
+ghost use Rattle.slot_store.specs.Changes.{gate_of, change_of, closed_before, GivesPage};
 ghost use Rattle.slot_store.specs.Rest.{Candidates, IsAtRest};
 ghost use Rattle.slot_store.specs.Saving.{Leaves};
 
@@ -37,7 +40,7 @@ fn tail_of(header: &[u8; 4096]) -> &[u8]
 }
 
 impl SaveRun {
-    ghost use Rattle.slot_store.specs.Runs.{plan_of, next_of, tried_of, GoesOnFrom, HasSoFar, Saving};
+    ghost use Rattle.slot_store.specs.Runs.{plan_of, next_of, tried_of, newest_made, GoesOnFrom, HasSoFar, Saving};
 
     /// A save of a memory after `count` writes over the newest image, in the other slot, with the next generation; its
     /// arm byte is 0x5A where it is `armed`. `closed` says that the other slot's gate is known closed and settled. It makes
@@ -153,6 +156,27 @@ impl SaveRun {
         }
     }
 
+    /// The image that it made, once its last step was made; none before. It is the newest image from then on: a caller keeps it
+    /// in place of the one that it had, and begins the next save over it, with what `is_closed` says of the other slot's gate.
+    pub fn newest(&self) -> Option<Newest>
+        ensures { SomeIff result (next_of self.now ≡ Done) (newest_made (plan_of self.now)) }
+    {
+        match self.next {
+            Step::Done => Some(Newest {
+                slot: self.plan.slot,
+                generation: self.plan.generation,
+            }),
+            _ => None,
+        }
+    }
+
+    /// Whether the coming step was tried already, and the device failed in it.
+    pub fn has_failed(&self) -> bool
+        ensures { result ≡ tried_of self.now }
+    {
+        self.tried
+    }
+
     // The step after the coming one.
     fn after(&self) -> Step
         ensures after { result ≡ step_after self.now.plan.lines self.now.next }
@@ -215,9 +239,12 @@ impl SaveRun {
     ) -> Result<Step, DeviceFault>
         requires { HasSize (plan_of self.old).lines (D.state device.old) }
 
-        // The one call that the plan says, and what it makes of each byte.
+        // The one call that the plan says, and what it makes of each byte. Nothing outside the slot is written.
         ensures call { Makes (change_of (plan_of self.old) (next_of self.old) page.now)
             (is_ok result) (D.state device.old) (D.state device.new) }
+        ensures outside { DiffersOnlyAt
+            (IsInRange (gate_of (plan_of self.old)) (slot_size (plan_of self.old).lines))
+            (D.state device.old).bytes (D.state device.new).bytes }
         ensures step { IfOk result (λ step. step ≡ next_of self.old) }
         ensures next { GoesOnFrom (is_ok result) self.old self.new }
 

@@ -6,15 +6,13 @@ ghost use Rattle.save_image.specs.Image.{Image};
 ghost use Rattle.slot_store.specs.declared.plan.Step.TheVariants.{Close};
 ghost use Rattle.slot_store.specs.Slots.{IsCapacity, HasSize, other};
 ghost use Rattle.slot_store.specs.Outcomes.{restored};
-ghost use Rattle.slot_store.specs.Steps.{reach_of, calls_left};
-ghost use Rattle.slot_store.specs.Changes.{GivesPage};
+ghost use Rattle.slot_store.specs.Steps.{calls_left};
 ghost use Rattle.slot_store.specs.Rest.{Candidates, only, IsAmongOr, IsAtRestOn, IsAtRestStill};
 ghost use Rattle.slot_store.specs.Whole.{IsReady, made_over, FindsOldOrNew};
 
-use crate::{Newest, SaveRun, Step};
+use crate::{Newest, SaveRun};
 use line_memory::Line;
 use save_device::SaveDevice;
-use save_image::page_bytes;
 use thiserror::Error;
 
 /// A save that failed, on a call of the device.
@@ -72,24 +70,11 @@ pub fn save<D: SaveDevice>(
     ensures size { HasSize (length memory.now) (D.state device.new) }
 {
     let mut run = SaveRun::begin(newest, closed, count, armed, memory.len());
-    for _done in 0..run.steps_left() {
-        let page = page_for(run.next(), memory);
-        let Ok(_step) = run.step(device, page) else {
-            return Err(SaveFault {
-                closed: run.is_closed(),
-            });
-        };
-    }
+    let mut lines = memory;
+    let Ok(()) = run.finish(&mut lines, device) else {
+        return Err(SaveFault {
+            closed: run.is_closed(),
+        });
+    };
     Ok(newest.next())
-}
-
-// The page that a step writes. A step that writes none is given zeros, and doesn't read them.
-fn page_for(step: Step, memory: &[Line]) -> &[u8; 4096]
-    requires { reach_of step ≤ length memory.now }
-    ensures { GivesPage memory.now step result.now }
-{
-    match step {
-        Step::Page(page) => page_bytes(memory, page),
-        _ => &[0; 4096],
-    }
 }

@@ -2,19 +2,14 @@
 //
 // A channel is rested where no command went before, and busy where it worked with a full queue until each of its ranks owed
 // nearly eight refreshes.
-ghost use Rattle.std.specs.Prelude.{◌≡◌, ◌<◌};
-ghost use Rattle.ddr4_timing.specs.Limits.{lines_of};
-ghost use Rattle.ddr4_timing.specs.Places.{LiesIn};
-ghost use Rattle.interleave_map.specs.Interleaving.{place_by_lines, line_by_lines};
+ghost use Rattle.std.specs.Prelude.{◌≡◌};
 
 use crate::load::{DEPTH, Load};
-use ddr4_timing::place::Place;
 use ddr4_timing::profiles::{SMALL, TINY, WIDEST};
 use ddr4_timing::timing::Checked;
 use drain_core::DrainReport;
 use interleave_map::line_map::LineMap;
-use interleave_map::lines;
-use interleave_map::map::Map;
+use interleave_map::{Interleaving, ReadyMap};
 use std::time::Instant;
 
 // One drain, and how many nanoseconds it took.
@@ -38,15 +33,10 @@ fn drain_once<M: LineMap>(
 }
 
 fn time(rt: &HostRuntime, checked: Checked, busy: bool) -> anyhow::Result<(DrainReport, u128)> {
-    let split = move |line: u64| -> Place
-        requires { line < lines_of checked.geometry }
-        ensures { result ≡ place_by_lines checked.geometry line }
-    { lines::split(&checked, line) };
-    let join = move |place: Place| -> u64
-        requires { LiesIn checked.geometry place }
-        ensures { result ≡ line_by_lines checked.geometry place }
-    { lines::join(&checked, place) };
-    let map = Map::new(split, join, &checked);
+    let map = ReadyMap {
+        interleaving: Interleaving::Lines,
+        checked,
+    };
     drain_once(rt, &map, &checked, busy)
 }
 

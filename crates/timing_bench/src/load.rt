@@ -3,7 +3,7 @@ ghost use Rattle.std.specs.Prelude.{◌≡◌};
 
 use anyhow::Context;
 use chan_core::{Channel, Phase};
-use channel_answers::Served;
+use channel_port::Served;
 use ddr4_timing::timing::Checked;
 use drain_core::laws::running_channel_may_drain;
 use drain_core::{DrainReport, drain};

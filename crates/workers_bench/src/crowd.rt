@@ -3,13 +3,14 @@ ghost use Rattle.std.specs.Prelude.{◌≡◌, ◌<◌, length};
 
 use crate::gate::UntilDone;
 use arm_state::{ReadRefusal, WriteRefusal};
+use channel_port::ChannelPort;
 use ddr4_boards::Ready;
 use energy_budget::Meter;
-use line_channels::Drainable;
 use line_memory::Write;
 use notice_book::{NoticeBook, Notices};
 use nv_workers::{
-    Board, Closed, Ended, Host, Life, Receipt, Room, Seen, channel_worker, close, saver_worker,
+    Board, BoardName, Closed, Ended, Host, Receipt, RecordedModule, Seen, channel_worker, close,
+    saver_worker,
 };
 use save_device::SaveDevice;
 use std::alloc::{AllocError, Global};
@@ -34,10 +35,11 @@ pub(crate) struct Plan {
     pub lost_at: Option<u64>,
 }
 
-/// What a crowd came to: the life, how many receipts and answers were checked, and how long the hosts took in nanoseconds.
+/// What a crowd came to: the module with its record, how many receipts and answers were checked, and how long the hosts took in
+/// nanoseconds.
 #[derive(Drop)]
-pub(crate) struct Outcome<C: Drainable, D> {
-    pub life: Life<C, D, Meter>,
+pub(crate) struct Outcome<K: ChannelPort, D> {
+    pub recorded: RecordedModule<K, D, Meter>,
     pub checked: u64,
     pub nanos: u128,
 }
@@ -53,7 +55,7 @@ pub(crate) enum Wrong {
 
 /// What one host was told.
 #[derive(Drop)]
-struct Told<B: Room> {
+struct Told<B: BoardName> {
     host: Host<B>,
     receipts: Vec<Receipt>,
     answers: Vec<Seen>,
@@ -61,7 +63,7 @@ struct Told<B: Room> {
 
 /// What all hosts were told.
 #[derive(Drop)]
-struct Gathered<B: Room> {
+struct Gathered<B: BoardName> {
     hosts: Vec<Host<B>>,
     receipts: Vec<Receipt>,
     answers: Vec<Seen>,
@@ -76,20 +78,19 @@ impl Plan {
 }
 
 // The writes of a host. One that finds its channel full is made again; a loss of mains ends them.
-fn write_all<C, D, B, N, R>(
+fn write_all<K, D, B, N, R>(
     rt: &R,
     alloc: Global,
-    board: &Board<C, D, Meter, B, N>,
+    board: &Board<K, D, Meter, B, N>,
     host: &mut Host<B>,
     plan: &Plan,
 ) -> Result<Vec<Receipt>, AllocError>
 where
-    C: Drainable,
+    K: ChannelPort,
     D: SaveDevice,
-    B: Room,
+    B: BoardName,
     N: Notices,
     R: Wait,
-    requires { C.reaches }
 {
     let mut receipts = Vec::new(alloc);
     for turn in 0..TRIES {
@@ -115,20 +116,19 @@ where
 }
 
 // The reads of a host.
-fn read_all<C, D, B, N, R>(
+fn read_all<K, D, B, N, R>(
     rt: &R,
     alloc: Global,
-    board: &Board<C, D, Meter, B, N>,
+    board: &Board<K, D, Meter, B, N>,
     host: &mut Host<B>,
     plan: &Plan,
 ) -> Result<Vec<Seen>, AllocError>
 where
-    C: Drainable,
+    K: ChannelPort,
     D: SaveDevice,
-    B: Room,
+    B: BoardName,
     N: Notices,
     R: Wait,
-    requires { C.reaches }
 {
     let mut answers = Vec::new(alloc);
     for _ in 0..TRIES {
@@ -145,20 +145,19 @@ where
 }
 
 // All that a host does.
-fn busy<C, D, B, N, R>(
+fn busy<K, D, B, N, R>(
     rt: &R,
     alloc: Global,
-    board: &Board<C, D, Meter, B, N>,
+    board: &Board<K, D, Meter, B, N>,
     mut host: Host<B>,
     plan: &Plan,
 ) -> Result<Told<B>, AllocError>
 where
-    C: Drainable,
+    K: ChannelPort,
     D: SaveDevice,
-    B: Room,
+    B: BoardName,
     N: Notices,
     R: Wait,
-    requires { C.reaches }
 {
     let receipts = write_all(rt, alloc, board, &mut host, plan)?;
     let answers = read_all(rt, alloc, board, &mut host, plan)?;
@@ -170,81 +169,76 @@ where
 }
 
 // The hosts at once, with the workers beside them.
-fn run<C, D, B, N, R>(
+fn run<K, D, B, N, R>(
     rt: &R,
     alloc: Global,
-    board: &Board<C, D, Meter, B, N>,
+    board: &Board<K, D, Meter, B, N>,
     hosts: Vec<Host<B>>,
     channels: u64,
     plan: &Plan,
 ) -> Result<Vec<Result<Told<B>, AllocError>>, AllocError>
 where
-    C: Drainable + Send,
+    K: ChannelPort + Send,
     D: SaveDevice + Send,
-    B: Room + Send + Sync,
+    B: BoardName + Send + Sync,
     N: Notices + Send,
     R: Threads + Wait + Sync,
-    requires reaches { C.reaches }
-    requires channels { channels ≡ B.channels }
+    requires { channels ≡ B.channels }
 {
     let gate = UntilDone::new();
     let (ended, told) = thread::join(
         rt,
         || -> Result<Vec<Ended>, AllocError>
-            requires { C.reaches × (channels ≡ B.channels) }
+            requires { channels ≡ B.channels }
         { work_all(rt, alloc, board, channels, &gate, plan) },
-        || -> Result<Vec<Result<Told<B>, AllocError>>, AllocError>
-            requires { C.reaches }
-        { host_all(rt, alloc, board, hosts, &gate, plan) },
+        || -> Result<Vec<Result<Told<B>, AllocError>>, AllocError> {
+            host_all(rt, alloc, board, hosts, &gate, plan)
+        },
     );
     ended?;
     told
 }
 
 // The hosts at once; then the workers may end.
-fn host_all<C, D, B, N, R>(
+fn host_all<K, D, B, N, R>(
     rt: &R,
     alloc: Global,
-    board: &Board<C, D, Meter, B, N>,
+    board: &Board<K, D, Meter, B, N>,
     hosts: Vec<Host<B>>,
     gate: &UntilDone,
     plan: &Plan,
 ) -> Result<Vec<Result<Told<B>, AllocError>>, AllocError>
 where
-    C: Drainable + Send,
+    K: ChannelPort + Send,
     D: SaveDevice + Send,
-    B: Room + Send + Sync,
+    B: BoardName + Send + Sync,
     N: Notices + Send,
     R: Threads + Wait + Sync,
-    requires { C.reaches }
 {
     let told = thread::map_vec(
         rt,
         hosts,
-        &|host: Host<B>| -> Result<Told<B>, AllocError>
-            requires { C.reaches }
-        { busy(rt, alloc, board, host, plan) },
+        &|host: Host<B>| -> Result<Told<B>, AllocError> { busy(rt, alloc, board, host, plan) },
     );
     gate.finish();
     told
 }
 
 // A channel's worker, or behind those the saver.
-fn work_one<C, D, B, N, R>(
+fn work_one<K, D, B, N, R>(
     rt: &R,
-    board: &Board<C, D, Meter, B, N>,
+    board: &Board<K, D, Meter, B, N>,
     channels: u64,
     worker: u64,
     gate: &UntilDone,
 ) -> Ended
 where
-    C: Drainable,
+    K: ChannelPort,
     D: SaveDevice,
-    B: Room,
+    B: BoardName,
     N: Notices,
     R: Wait,
-    requires reaches { C.reaches }
-    requires channels { channels ≡ B.channels }
+    requires { channels ≡ B.channels }
 {
     if worker < channels {
         channel_worker(rt, board, worker, gate)
@@ -254,22 +248,21 @@ where
 }
 
 // A worker for each channel, and a saver where the plan has one.
-fn work_all<C, D, B, N, R>(
+fn work_all<K, D, B, N, R>(
     rt: &R,
     alloc: Global,
-    board: &Board<C, D, Meter, B, N>,
+    board: &Board<K, D, Meter, B, N>,
     channels: u64,
     gate: &UntilDone,
     plan: &Plan,
 ) -> Result<Vec<Ended>, AllocError>
 where
-    C: Drainable + Send,
+    K: ChannelPort + Send,
     D: SaveDevice + Send,
-    B: Room + Send + Sync,
+    B: BoardName + Send + Sync,
     N: Notices + Send,
     R: Threads + Wait + Sync,
-    requires reaches { C.reaches }
-    requires channels { channels ≡ B.channels }
+    requires { channels ≡ B.channels }
 {
     let workers = channels.saturating_add(u64::from(plan.saves));
     thread::map_indices(
@@ -277,13 +270,13 @@ where
         alloc,
         workers as usize,
         &|worker: usize| -> Ended
-            requires { C.reaches × (channels ≡ B.channels) }
+            requires { channels ≡ B.channels }
         { work_one(rt, board, channels, worker as u64, gate) },
     )
 }
 
 // The hosts, and what they were told.
-fn gather<B: Room>(
+fn gather<B: BoardName>(
     alloc: Global,
     told: Vec<Result<Told<B>, AllocError>>,
 ) -> Result<Gathered<B>, AllocError> {
@@ -303,24 +296,23 @@ fn gather<B: Room>(
     })
 }
 
-/// A crowd on the board of a life, up to its end: each receipt and each answer was checked.
-pub(crate) fn crowd<C, D, B, R>(
+/// A crowd on the board of a module, up to its end: each receipt and each answer was checked.
+pub(crate) fn crowd<K, D, B, R>(
     rt: &R,
     alloc: Global,
-    ready: Ready<C, D, Meter>,
+    ready: Ready<K, D, Meter>,
     plan: &Plan,
-) -> anyhow::Result<Outcome<C, D>>
+) -> anyhow::Result<Outcome<K, D>>
 where
-    C: Drainable + Drop + Send,
+    K: ChannelPort + Drop + Send,
     D: SaveDevice + Drop + Send,
-    B: Room + Send + Sync,
+    B: BoardName + Send + Sync,
     R: Threads + Wait + Clock + Sync,
-    requires reaches { C.reaches }
     requires name { ready.opening.name ≡ B.name }
     requires parts { ready.opening.parts ≡ B.parts }
     requires hosts { B.parts ≡ plan.now.hosts }
     requires board { ready.opening.board ≡ B.board }
-    requires before { length ready.life.history.writes ≡ B.before }
+    requires before { length ready.recorded.history.writes ≡ B.before }
     requires channels { ready.channels ≡ B.channels }
 {
     let channels = ready.channels;
@@ -343,8 +335,14 @@ where
         return Err(Wrong::Hosts.into());
     }
     match close(board, hosts, receipts.as_slice(), answers.as_slice()) {
-        Ok(Closed { life, checked, .. }) => Ok(Outcome {
-            life,
+        Ok(
+            Closed {
+                recorded,
+                checked,
+                ..
+            },
+        ) => Ok(Outcome {
+            recorded,
             checked,
             nanos,
         }),

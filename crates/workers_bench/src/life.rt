@@ -1,14 +1,12 @@
 // Lives of a board over a map.
 ghost use Rattle.std.specs.Prelude.{◌≡◌};
-ghost use Rattle.module_parts.specs.Lines.{HasPlaces};
 
 use crate::crowd::{Plan, crowd};
 use ddr4_boards::{formatted, open};
 use ddr4_timing::timing::Checked;
 use energy_budget::Meter;
-use interleave_map::line_map::{LineMap, Places};
-use life_record::LifeRecord;
-use save_device::MemoryDevice;
+use interleave_map::line_map::LineMap;
+use line_memory::History;
 use std::alloc::Global;
 use std::marker::Brand;
 use std::sync::Wait;
@@ -38,7 +36,7 @@ pub(crate) struct Lived {
 }
 
 // Whether a line of the restored life differs from that of the earlier one after the same writes.
-fn differs(earlier: &LifeRecord, later: &LifeRecord, line: u64, count: u64) -> bool {
+fn differs(earlier: &History, later: &History, line: u64, count: u64) -> bool {
     if !earlier.knows(line, count) || !later.knows(line, count) {
         return true;
     }
@@ -46,7 +44,7 @@ fn differs(earlier: &LifeRecord, later: &LifeRecord, line: u64, count: u64) -> b
 }
 
 // How many of the first lines do.
-fn differing(earlier: &LifeRecord, later: &LifeRecord, lines: u64, count: u64) -> u64 {
+fn differing(earlier: &History, later: &History, lines: u64, count: u64) -> u64 {
     let mut differ: u64 = 0;
     for line in 0..lines {
         if differs(earlier, later, line, count) {
@@ -57,7 +55,7 @@ fn differing(earlier: &LifeRecord, later: &LifeRecord, lines: u64, count: u64) -
 }
 
 /// A life of a board from a formatted device on; where it was saved or its mains were lost, what the next life begins with.
-pub(crate) fn life_over<M, P, R>(
+pub(crate) fn life_over<M, R>(
     rt: &R,
     alloc: Global,
     map: &M,
@@ -66,33 +64,28 @@ pub(crate) fn life_over<M, P, R>(
 ) -> anyhow::Result<Lived>
 where
     M: LineMap + Sync,
-    P: Places + Send + Sync,
     R: Threads + Wait + Clock + Sync,
-    requires places { HasPlaces (M.is_lawful map.now) (M.geometry_of map.now)
-        checked.now.geometry (M.lies_at map.now) P.place_of }
+    requires lawful { M.is_lawful map.now }
+    requires geometry { M.geometry_of map.now ≡ checked.now.geometry }
 {
     let device = formatted(alloc, checked)?;
     let meter = Meter::with(AMPLE, 1);
-    let hosts = plan.hosts;
-    let ready = open::<M, P, MemoryDevice, Meter>(
-        alloc, map, checked, device, meter, TRAIL, hosts,
-    )?;
+    let ready = open(alloc, map, checked, device, meter, TRAIL, plan.hosts)?;
     let outcome = crowd::<_, _, Brand, R>(rt, alloc, ready, plan)?;
-    let life = outcome.life;
+    let earlier = outcome.recorded;
     let mut lived = Lived {
-        accepted: life.history.writes().len() as u64,
+        accepted: earlier.history.writes().len() as u64,
         checked: outcome.checked,
         nanos: outcome.nanos,
         back: None,
     };
     if plan.saves || plan.lost_at.is_some() {
         let meter = Meter::with(AMPLE, 1);
-        let device = life.device;
-        let next = open::<M, P, MemoryDevice, Meter>(alloc, map, checked, device, meter, TRAIL, 1)?;
-        let count = next.life.running.accepted();
+        let later = open(alloc, map, checked, earlier.device, meter, TRAIL, 1)?.recorded;
+        let count = later.running.accepted();
         lived.back = Some(Back {
             count,
-            differ: differing(&life.history, &next.life.history, plan.lines, count),
+            differ: differing(&earlier.history, &later.history, plan.lines, count),
         });
     }
     Ok(lived)

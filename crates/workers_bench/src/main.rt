@@ -9,25 +9,17 @@
 //! the history's.
 #![tactic(auto)]
 
-ghost use Rattle.std.specs.Prelude.{◌≡◌, ◌<◌};
-ghost use Rattle.ddr4_timing.specs.Limits.{lines_of};
-ghost use Rattle.ddr4_timing.specs.Places.{LiesIn};
-ghost use Rattle.interleave_map.specs.Interleaving.{place_by_lines, line_by_lines};
-
 mod crowd;
 mod gate;
 mod life;
 
 use crate::crowd::Plan;
 use crate::life::{Back, Lived, life_over};
-use ddr4_timing::place::Place;
 use ddr4_timing::profiles::{SMALL, TINY, WIDEST};
 use ddr4_timing::timing::Checked;
-use interleave_map::lines;
-use interleave_map::map::Map;
+use interleave_map::{Interleaving, ReadyMap};
 use std::alloc::Global;
 use std::env;
-use std::marker::Brand;
 use std::sync::Wait;
 use std::thread::Threads;
 use std::time::Clock;
@@ -39,16 +31,11 @@ fn by_lines<R: Threads + Wait + Clock + Sync>(
     checked: Checked,
     plan: &Plan,
 ) -> anyhow::Result<Lived> {
-    let split = move |line: u64| -> Place
-        requires { line < lines_of checked.geometry }
-        ensures { result ≡ place_by_lines checked.geometry line }
-    { lines::split(&checked, line) };
-    let join = move |place: Place| -> u64
-        requires { LiesIn checked.geometry place }
-        ensures { result ≡ line_by_lines checked.geometry place }
-    { lines::join(&checked, place) };
-    let map = Map::new(split, join, &checked);
-    life_over::<_, Brand, R>(rt, alloc, &map, &checked, plan)
+    let map = ReadyMap {
+        interleaving: Interleaving::Lines,
+        checked,
+    };
+    life_over(rt, alloc, &map, &checked, plan)
 }
 
 // A plan of so many hosts, without a saver.

@@ -6,12 +6,12 @@ use crate::check::same;
 use crate::ends::{ends, is_strange};
 use crate::gates::{Always, Holds, Turns};
 use arm_state::{ArmRefusal, ArmReply, DisarmReply, Loss, ReadRefusal, WriteRefusal};
+use channel_port::ChannelPort;
 use energy_budget::Energy;
-use line_channels::Drainable;
-use module_core::StepReply;
 use notice_book::{Notices, Persisted};
+use nv_machine::StepReply;
 use nv_workers::{
-    Behind, Board, Ended, Host, Receipt, Room, Seen, Stranger, channel_worker, saver_worker,
+    Behind, Board, BoardName, Ended, Host, Receipt, Seen, Stranger, channel_worker, saver_worker,
 };
 use save_device::SaveDevice;
 use slot_store::Step;
@@ -29,28 +29,27 @@ fn first_receipt(line: u64) -> Receipt {
 }
 
 // So many turns of the saver, and how it ended.
-fn saved<C, D, E, B, N, R>(rt: &R, board: &Board<C, D, E, B, N>, most: u64) -> Ended
+fn saved<K, D, E, B, N, R>(rt: &R, board: &Board<K, D, E, B, N>, most: u64) -> Ended
 where
-    C: Drainable,
+    K: ChannelPort,
     D: SaveDevice,
     E: Energy,
-    B: Room,
+    B: BoardName,
     N: Notices,
     R: Wait,
-    requires reaches { C.reaches }
-    requires channels { CHANNELS ≡ B.channels }
+    requires { CHANNELS ≡ B.channels }
 {
     let worker = CHANNELS;
     saver_worker(rt, board, CHANNELS, &Turns { worker, most })
 }
 
 // So many turns of channel 0, and how its worker ended.
-fn worked<C, D, E, B, N, R>(rt: &R, board: &Board<C, D, E, B, N>, most: u64) -> Ended
+fn worked<K, D, E, B, N, R>(rt: &R, board: &Board<K, D, E, B, N>, most: u64) -> Ended
 where
-    C: Drainable,
+    K: ChannelPort,
     D: SaveDevice,
     E: Energy,
-    B: Room,
+    B: BoardName,
     N: Notices,
     R: Wait,
     requires { CHANNELS ≡ B.channels }
@@ -59,17 +58,17 @@ where
 }
 
 // The number and the answer of the first notice that is called.
-fn told<C, D, E, B, N, R>(
+fn told<K, D, E, B, N, R>(
     rt: &R,
     alloc: Global,
-    board: &Board<C, D, E, B, N>,
+    board: &Board<K, D, E, B, N>,
     host: &mut Host<B>,
 ) -> Option<(u64, u64)>
 where
-    C: Drainable,
+    K: ChannelPort,
     D: SaveDevice,
     E: Energy,
-    B: Room,
+    B: BoardName,
     N: Notices,
     R: Wait,
 {
@@ -78,23 +77,22 @@ where
 }
 
 /// A disarmed write that another host reads; it is persistent once a save ended, and then its notice is called.
-pub(crate) fn write_disarmed<C, D, E, B, N, R>(
+pub(crate) fn write_disarmed<K, D, E, B, N, R>(
     rt: &R,
     alloc: Global,
-    board: &Board<C, D, E, B, N>,
+    board: &Board<K, D, E, B, N>,
     first: &mut Host<B>,
     second: &mut Host<B>,
     notice: N::Notice,
 )
 where
-    C: Drainable,
+    K: ChannelPort,
     D: SaveDevice,
     E: Energy,
-    B: Room,
+    B: BoardName,
     N: Notices,
     N::Notice: Drop,
     R: Wait + Abort,
-    requires reaches { C.reaches }
     requires channels { CHANNELS ≡ B.channels }
     requires notice { (number : ℕ) → N.is_callable number notice }
 {
@@ -125,15 +123,14 @@ where
 }
 
 /// Arms: a write is persistent at once, and a loss of mains saves it; from then on nothing is taken.
-pub(crate) fn lose_armed<C, D, E, B, N, R>(rt: &R, board: &Board<C, D, E, B, N>, host: &mut Host<B>)
+pub(crate) fn lose_armed<K, D, E, B, N, R>(rt: &R, board: &Board<K, D, E, B, N>, host: &mut Host<B>)
 where
-    C: Drainable,
+    K: ChannelPort,
     D: SaveDevice,
     E: Energy,
-    B: Room,
+    B: BoardName,
     N: Notices,
     R: Wait + Abort,
-    requires { C.reaches }
 {
     same(rt, board.arm(rt), Ok(ArmReply::Armed));
     let receipt = first_receipt(0);
@@ -156,20 +153,19 @@ where
 }
 
 /// A save by hand, and a disarming whose save the saver makes.
-pub(crate) fn save_by_hand<C, D, E, B, N, R>(
+pub(crate) fn save_by_hand<K, D, E, B, N, R>(
     rt: &R,
-    board: &Board<C, D, E, B, N>,
+    board: &Board<K, D, E, B, N>,
     host: &mut Host<B>,
 )
 where
-    C: Drainable,
+    K: ChannelPort,
     D: SaveDevice,
     E: Energy,
-    B: Room,
+    B: BoardName,
     N: Notices,
     R: Wait + Abort,
-    requires reaches { C.reaches }
-    requires channels { CHANNELS ≡ B.channels }
+    requires { CHANNELS ≡ B.channels }
 {
     same(rt, board.sense(rt), AMPLE - 1);
     same(rt, board.disarm(rt), Ok(DisarmReply::AlreadyDisarmed));
@@ -198,20 +194,19 @@ where
 }
 
 /// A line that isn't there; then gates that hold or stop at once, and a loss of mains, end each worker.
-pub(crate) fn end_workers<C, D, E, B, N, R>(
+pub(crate) fn end_workers<K, D, E, B, N, R>(
     rt: &R,
-    board: &Board<C, D, E, B, N>,
+    board: &Board<K, D, E, B, N>,
     host: &mut Host<B>,
 )
 where
-    C: Drainable,
+    K: ChannelPort,
     D: SaveDevice,
     E: Energy,
-    B: Room,
+    B: BoardName,
     N: Notices,
     R: Wait + Abort,
-    requires reaches { C.reaches }
-    requires channels { CHANNELS ≡ B.channels }
+    requires { CHANNELS ≡ B.channels }
 {
     let nowhere = WriteRefusal::NoSuchLine;
     same(rt, host.write(rt, board, write_of(128, 5)), Err(nowhere));
@@ -232,16 +227,16 @@ where
 
 /// Ends a board whose one write is that of line 0: a receipt and an answer that nobody was given are found, and the board
 /// and its hosts are left.
-pub(crate) fn end_with_strangers<C, D, E, B, N, R>(
+pub(crate) fn end_with_strangers<K, D, E, B, N, R>(
     rt: &R,
-    board: Board<C, D, E, B, N>,
+    board: Board<K, D, E, B, N>,
     hosts: Vec<Host<B>>,
 )
 where
-    C: Drainable + Drop,
+    K: ChannelPort + Drop,
     D: SaveDevice + Drop,
     E: Energy + Drop,
-    B: Room,
+    B: BoardName,
     N: Notices + Drop,
     R: Abort,
     requires { length hosts.items ≡ B.parts }

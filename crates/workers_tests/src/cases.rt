@@ -1,26 +1,19 @@
 // The cases, each on a board over the channels of the small profile, from a formatted device on.
-ghost use Rattle.std.specs.Prelude.{◌≡◌, ◌<◌, [], length, ℕ};
-ghost use Rattle.ddr4_timing.specs.Limits.{lines_of};
-ghost use Rattle.ddr4_timing.specs.Places.{LiesIn};
-ghost use Rattle.interleave_map.specs.Interleaving.{place_by_lines, line_by_lines};
-ghost use Rattle.module_parts.specs.Lines.{HasPlaces};
+ghost use Rattle.std.specs.Prelude.{◌≡◌, length};
 
 use crate::alone::{end_with_strangers, end_workers, lose_armed, save_by_hand, write_disarmed};
 use crate::silent::Silent;
 use crate::together::{lose_threads, work_apart};
+use channel_port::ChannelPort;
 use ddr4_boards::{Ready, formatted, open};
-use ddr4_timing::place::Place;
 use ddr4_timing::profiles::{SMALL, TINY};
 use ddr4_timing::timing::Checked;
 use energy_budget::{Energy, Meter};
-use interleave_map::line_map::{LineMap, Places};
-use interleave_map::lines;
-use interleave_map::map::Map;
-use line_channels::Drainable;
+use interleave_map::{Interleaving, ReadyMap};
 use line_memory::Write;
 use notice_book::{Notice, NoticeBook, Persisted};
-use nv_workers::Room;
-use save_device::{MemoryDevice, SaveDevice};
+use nv_workers::BoardName;
+use save_device::SaveDevice;
 use std::alloc::Global;
 use std::marker::Brand;
 use std::process::Abort;
@@ -54,18 +47,17 @@ pub(crate) fn write_of(line: u64, byte: u8) -> Write {
 }
 
 // Tries a case of one thread.
-fn try_alone<C, D, E, B, R>(rt: &R, alloc: Global, ready: Ready<C, D, E>, case: Case)
+fn try_alone<K, D, E, B, R>(rt: &R, alloc: Global, ready: Ready<K, D, E>, case: Case)
 where
-    C: Drainable + Drop,
+    K: ChannelPort + Drop,
     D: SaveDevice + Drop,
     E: Energy + Drop,
-    B: Room,
+    B: BoardName,
     R: Wait + Abort,
-    requires reaches { C.reaches }
     requires name { ready.opening.name ≡ B.name }
     requires parts { ready.opening.parts ≡ B.parts }
     requires board { ready.opening.board ≡ B.board }
-    requires before { length ready.life.history.writes ≡ B.before }
+    requires before { length ready.recorded.history.writes ≡ B.before }
     requires number { ready.channels ≡ B.channels }
     requires channels { CHANNELS ≡ B.channels }
     requires hosts { B.parts ≡ 4 }
@@ -88,18 +80,17 @@ where
 }
 
 // Tries a case of several threads.
-fn try_threads<C, D, E, B, R>(rt: &R, alloc: Global, ready: Ready<C, D, E>, case: Case)
+fn try_threads<K, D, E, B, R>(rt: &R, alloc: Global, ready: Ready<K, D, E>, case: Case)
 where
-    C: Drainable + Drop + Send,
+    K: ChannelPort + Drop + Send,
     D: SaveDevice + Drop + Send,
     E: Energy + Drop + Send,
-    B: Room + Send + Sync,
+    B: BoardName + Send + Sync,
     R: Threads + Wait + Clock + Abort + Copy + Send + Sync,
-    requires reaches { C.reaches }
     requires name { ready.opening.name ≡ B.name }
     requires parts { ready.opening.parts ≡ B.parts }
     requires board { ready.opening.board ≡ B.board }
-    requires before { length ready.life.history.writes ≡ B.before }
+    requires before { length ready.recorded.history.writes ≡ B.before }
     requires number { ready.channels ≡ B.channels }
     requires channels { CHANNELS ≡ B.channels }
     requires hosts { B.parts ≡ 4 }
@@ -116,18 +107,17 @@ where
 }
 
 // Tries a case on a board of this module.
-fn try_board<C, D, E, B, R>(rt: &R, alloc: Global, ready: Ready<C, D, E>, case: Case)
+fn try_board<K, D, E, B, R>(rt: &R, alloc: Global, ready: Ready<K, D, E>, case: Case)
 where
-    C: Drainable + Drop + Send,
+    K: ChannelPort + Drop + Send,
     D: SaveDevice + Drop + Send,
     E: Energy + Drop + Send,
-    B: Room + Send + Sync,
+    B: BoardName + Send + Sync,
     R: Threads + Wait + Clock + Abort + Copy + Send + Sync,
-    requires reaches { C.reaches }
     requires name { ready.opening.name ≡ B.name }
     requires parts { ready.opening.parts ≡ B.parts }
     requires board { ready.opening.board ≡ B.board }
-    requires before { length ready.life.history.writes ≡ B.before }
+    requires before { length ready.recorded.history.writes ≡ B.before }
     requires number { ready.channels ≡ B.channels }
     requires hosts { B.parts ≡ 4 }
 {
@@ -138,30 +128,10 @@ where
         case,
         Case::Disarmed | Case::Armed | Case::Modes | Case::Ends
     ) {
-        try_alone::<C, D, E, B, R>(rt, alloc, ready, case);
+        try_alone::<K, D, E, B, R>(rt, alloc, ready, case);
     } else {
-        try_threads::<C, D, E, B, R>(rt, alloc, ready, case);
+        try_threads::<K, D, E, B, R>(rt, alloc, ready, case);
     }
-}
-
-// Tries a case on a module over this map.
-fn try_case<M, P, R>(rt: &R, alloc: Global, map: &M, checked: &Checked, case: Case)
-where
-    M: LineMap + Sync,
-    P: Places + Send + Sync,
-    R: Threads + Wait + Clock + Abort + Copy + Send + Sync,
-    requires places { HasPlaces (M.is_lawful map.now) (M.geometry_of map.now)
-        checked.now.geometry (M.lies_at map.now) P.place_of }
-{
-    let Ok(device) = formatted(alloc, checked) else {
-        panic!(*rt; "a device");
-    };
-    let energy = Meter::with(AMPLE, 1);
-    let Ok(ready) = open::<M, P, MemoryDevice, Meter>(alloc, map, checked, device, energy, 1_024, 4)
-    else {
-        panic!(*rt; "a module");
-    };
-    try_board::<_, _, _, Brand, R>(rt, alloc, ready, case);
 }
 
 // The small profile.
@@ -172,49 +142,59 @@ fn small<R: Abort>(rt: &R) -> Checked {
     }
 }
 
-// Tries a case over the map `lines`.
-fn by_lines<R>(rt: &R, alloc: Global, checked: Checked, case: Case)
+// Tries a case on a board over the map `lines` of the small profile.
+fn try_case<R>(rt: &R, alloc: Global, case: Case)
 where
     R: Threads + Wait + Clock + Abort + Copy + Send + Sync,
 {
-    let split = move |line: u64| -> Place
-        requires { line < lines_of checked.geometry }
-        ensures { result ≡ place_by_lines checked.geometry line }
-    { lines::split(&checked, line) };
-    let join = move |place: Place| -> u64
-        requires { LiesIn checked.geometry place }
-        ensures { result ≡ line_by_lines checked.geometry place }
-    { lines::join(&checked, place) };
-    let map = Map::new(split, join, &checked);
-    try_case::<_, Brand, R>(rt, alloc, &map, &checked, case);
+    let checked = small(rt);
+    let map = ReadyMap {
+        interleaving: Interleaving::Lines,
+        checked,
+    };
+    let Ok(device) = formatted(alloc, &checked) else {
+        panic!(*rt; "a device");
+    };
+    let Ok(ready) = open(
+        alloc,
+        &map,
+        &checked,
+        device,
+        Meter::with(AMPLE, 1),
+        1_024,
+        4,
+    ) else {
+        panic!(*rt; "a module");
+    };
+    try_board::<_, _, _, Brand, R>(rt, alloc, ready, case);
 }
 
 #[test]
 fn a_disarmed_write_and_its_notice(rt: HostRuntime) {
-    by_lines(&rt, rt.alloc(), small(&rt), Case::Disarmed);
+    try_case(&rt, rt.alloc(), Case::Disarmed);
 }
 
 #[test]
 fn an_armed_write_and_a_loss(rt: HostRuntime) {
-    by_lines(&rt, rt.alloc(), small(&rt), Case::Armed);
+    try_case(&rt, rt.alloc(), Case::Armed);
 }
 
 #[test]
 fn saves_by_hand_and_by_the_saver(rt: HostRuntime) {
-    by_lines(&rt, rt.alloc(), small(&rt), Case::Modes);
+    try_case(&rt, rt.alloc(), Case::Modes);
 }
 
 #[test]
 fn workers_end(rt: HostRuntime) {
-    by_lines(&rt, rt.alloc(), small(&rt), Case::Ends);
+    try_case(&rt, rt.alloc(), Case::Ends);
 }
 
 #[test]
 fn channels_are_worked_apart(rt: HostRuntime) {
-    by_lines(&rt, rt.alloc(), small(&rt), Case::Apart);
+    try_case(&rt, rt.alloc(), Case::Apart);
 }
 
 #[test]
 fn a_loss_ends_what_waits(rt: HostRuntime) {
-    by_lines(&rt, rt.alloc(), small(&rt), Case::Parted);
+    try_case(&rt, rt.alloc(), Case::Parted);
 }

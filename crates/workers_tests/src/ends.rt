@@ -2,52 +2,52 @@
 ghost use Rattle.std.specs.Prelude.{◌≡◌, length};
 
 use crate::check::same;
+use channel_port::ChannelPort;
 use energy_budget::Energy;
-use line_channels::Channels;
 use notice_book::Notices;
-use nv_workers::{Board, Host, Receipt, Room, Seen, Stranger, close};
+use nv_workers::{Board, BoardName, Host, Receipt, Seen, Stranger, close};
 use save_device::SaveDevice;
 use std::process::Abort;
 
 /// Fails where a board isn't closed with these receipts and answers: so many were checked, and so long is the history.
-pub(crate) fn ends<C, D, E, B, N, R>(
+pub(crate) fn ends<K, D, E, B, N, R>(
     rt: &R,
-    board: Board<C, D, E, B, N>,
+    board: Board<K, D, E, B, N>,
     hosts: Vec<Host<B>>,
     receipts: &[Receipt],
     answers: &[Seen],
     wanted: (u64, usize),
 )
 where
-    C: Channels + Drop,
+    K: ChannelPort + Drop,
     D: SaveDevice + Drop,
     E: Energy + Drop,
-    B: Room,
+    B: BoardName,
     N: Notices + Drop,
     R: Abort,
     requires { length hosts.items ≡ B.parts }
 {
     let got = match close(board, hosts, receipts, answers) {
-        Ok(closed) => (closed.checked, closed.life.history.writes().len()),
+        Ok(closed) => (closed.checked, closed.recorded.history.writes().len()),
         Err(left) => (0, left.2.index),
     };
     same(rt, got, wanted);
 }
 
 /// Fails where a board is closed, or where another than this is the stranger. The board and its hosts are left.
-pub(crate) fn is_strange<C, D, E, B, N, R>(
+pub(crate) fn is_strange<K, D, E, B, N, R>(
     rt: &R,
-    board: Board<C, D, E, B, N>,
+    board: Board<K, D, E, B, N>,
     hosts: Vec<Host<B>>,
     receipts: &[Receipt],
     answers: &[Seen],
     wanted: Stranger,
-) -> (Board<C, D, E, B, N>, Vec<Host<B>>)
+) -> (Board<K, D, E, B, N>, Vec<Host<B>>)
 where
-    C: Channels + Drop,
+    K: ChannelPort + Drop,
     D: SaveDevice + Drop,
     E: Energy + Drop,
-    B: Room,
+    B: BoardName,
     N: Notices + Drop,
     R: Abort,
     requires { length hosts.items ≡ B.parts }

@@ -5,10 +5,10 @@ use crate::cases::{CHANNELS, write_of};
 use crate::check::same;
 use crate::gates::{Always, OtherFirst};
 use arm_state::{Loss, ReadRefusal};
+use channel_port::ChannelPort;
 use energy_budget::Energy;
-use line_channels::Drainable;
 use notice_book::Notices;
-use nv_workers::{Board, Ended, Host, Room, Seen, channel_worker, saver_worker};
+use nv_workers::{Board, BoardName, Ended, Host, Seen, channel_worker, saver_worker};
 use save_device::SaveDevice;
 use std::process::Abort;
 use std::sync::Wait;
@@ -17,30 +17,27 @@ use std::thread::Threads;
 use std::time::{Clock, Duration};
 
 // Works channel 1 beside a write on it.
-fn work_and_write<C, D, E, B, N, R>(
+fn work_and_write<K, D, E, B, N, R>(
     rt: &R,
-    board: &Board<C, D, E, B, N>,
+    board: &Board<K, D, E, B, N>,
     host: &mut Host<B>,
     gate: &OtherFirst<R>,
 )
 where
-    C: Drainable + Send,
+    K: ChannelPort + Send,
     D: SaveDevice + Send,
     E: Energy + Send,
-    B: Room + Send + Sync,
+    B: BoardName + Send + Sync,
     N: Notices + Send,
     R: Threads + Wait + Clock + Send + Sync,
-    requires reaches { C.reaches }
-    requires channels { CHANNELS ≡ B.channels }
+    requires { CHANNELS ≡ B.channels }
 {
     thread::join(
         rt,
         || -> Ended
             requires { CHANNELS ≡ B.channels }
         { channel_worker(rt, board, 1, gate) },
-        ||
-            requires { C.reaches }
-        {
+        || {
             if host.write(rt, board, write_of(1, 11)).is_ok() {
                 gate.answer();
             }
@@ -49,16 +46,15 @@ where
 }
 
 /// Channel 1 is worked while channel 0 is held.
-pub(crate) fn work_apart<C, D, E, B, N, R>(rt: &R, board: &Board<C, D, E, B, N>, mut host: Host<B>)
+pub(crate) fn work_apart<K, D, E, B, N, R>(rt: &R, board: &Board<K, D, E, B, N>, mut host: Host<B>)
 where
-    C: Drainable + Send,
+    K: ChannelPort + Send,
     D: SaveDevice + Send,
     E: Energy + Send,
-    B: Room + Send + Sync,
+    B: BoardName + Send + Sync,
     N: Notices + Send,
     R: Threads + Wait + Clock + Abort + Copy + Send + Sync,
-    requires reaches { C.reaches }
-    requires channels { CHANNELS ≡ B.channels }
+    requires { CHANNELS ≡ B.channels }
 {
     let gate = OtherFirst::new(*rt);
     thread::join(
@@ -67,32 +63,29 @@ where
             requires { CHANNELS ≡ B.channels }
         { channel_worker(rt, board, 0, &gate) },
         ||
-            requires { C.reaches × (CHANNELS ≡ B.channels) }
+            requires { CHANNELS ≡ B.channels }
         { work_and_write(rt, board, &mut host, &gate) },
     );
     same(rt, gate.is_late(), false);
 }
 
 // A saver that goes on, and a loss of mains.
-fn save_and_lose<C, D, E, B, N, R>(rt: &R, board: &Board<C, D, E, B, N>) -> (Ended, Loss)
+fn save_and_lose<K, D, E, B, N, R>(rt: &R, board: &Board<K, D, E, B, N>) -> (Ended, Loss)
 where
-    C: Drainable + Send,
+    K: ChannelPort + Send,
     D: SaveDevice + Send,
     E: Energy + Send,
-    B: Room + Send + Sync,
+    B: BoardName + Send + Sync,
     N: Notices + Send,
     R: Threads + Wait + Clock + Sync,
-    requires reaches { C.reaches }
-    requires channels { CHANNELS ≡ B.channels }
+    requires { CHANNELS ≡ B.channels }
 {
     thread::join(
         rt,
         || -> Ended
-            requires { C.reaches × (CHANNELS ≡ B.channels) }
+            requires { CHANNELS ≡ B.channels }
         { saver_worker(rt, board, CHANNELS, &Always) },
-        || -> Loss
-            requires { C.reaches }
-        {
+        || -> Loss {
             thread::sleep(rt, Duration::from_millis(5));
             board.power_loss(rt)
         },
@@ -100,28 +93,25 @@ where
 }
 
 /// A read that waits, and a saver that goes on, end by a loss of mains.
-pub(crate) fn lose_threads<C, D, E, B, N, R>(
+pub(crate) fn lose_threads<K, D, E, B, N, R>(
     rt: &R,
-    board: &Board<C, D, E, B, N>,
+    board: &Board<K, D, E, B, N>,
     mut host: Host<B>,
 )
 where
-    C: Drainable + Send,
+    K: ChannelPort + Send,
     D: SaveDevice + Send,
     E: Energy + Send,
-    B: Room + Send + Sync,
+    B: BoardName + Send + Sync,
     N: Notices + Send,
     R: Threads + Wait + Clock + Abort + Copy + Send + Sync,
-    requires reaches { C.reaches }
-    requires channels { CHANNELS ≡ B.channels }
+    requires { CHANNELS ≡ B.channels }
 {
     let (seen, lost) = thread::join(
         rt,
-        || -> Result<Seen, ReadRefusal>
-            requires { C.reaches }
-        { host.read(rt, board, 5) },
+        || -> Result<Seen, ReadRefusal> { host.read(rt, board, 5) },
         || -> (Ended, Loss)
-            requires { C.reaches × (CHANNELS ≡ B.channels) }
+            requires { CHANNELS ≡ B.channels }
         { save_and_lose(rt, board) },
     );
     same(rt, seen, Err(ReadRefusal::Closed));

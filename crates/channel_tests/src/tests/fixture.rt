@@ -2,9 +2,8 @@
 ghost use Rattle.std.specs.Prelude.{◌≡◌};
 ghost use Rattle.energy_budget.specs.Costs.{AreReckonedFor};
 
-use crate::tests::by_lines::ByLines;
 use chan_core::{Channel, Phase, RECENT, ReadsFull};
-use channel_answers::{Collected, Done, Got, Ticket};
+use channel_port::{Collected, Done, Got, Ticket};
 use ddr4_timing::command::Stamped;
 use ddr4_timing::fault::{Fault, first_fault};
 use ddr4_timing::place::Place;
@@ -14,6 +13,7 @@ use drain_core::{DrainReport, drain};
 use energy_budget::{Costs, TINY_COSTS};
 use interleave_map::cells::cells;
 use interleave_map::line_map::LineMap;
+use interleave_map::{Interleaving, ReadyMap};
 use line_memory::Line;
 use std::process::Abort;
 use wpq_core::Full;
@@ -21,7 +21,7 @@ use wpq_core::Full;
 /// Channel 0 of a profile, with the map `lines`, its costs and the number of its next write.
 #[derive(Drop)]
 pub struct Fixture {
-    map: ByLines,
+    map: ReadyMap,
     channel: Channel,
     costs: Costs,
     number: u64,
@@ -43,7 +43,10 @@ impl Fixture {
         let checked = timing.check(geometry).expect(rt, "a profile");
         let channel = Channel::new(rt.alloc(), &checked, 0, depth, reads).expect(rt, "memory");
         Fixture {
-            map: ByLines { checked },
+            map: ReadyMap {
+                interleaving: Interleaving::Lines,
+                checked,
+            },
             channel,
             costs: Costs::of(&checked, &TINY_COSTS),
             number: 0,

@@ -5,7 +5,6 @@ ghost use Rattle.ddr4_timing.specs.Limits.{close_of};
 ghost use Rattle.energy_budget.specs.Costs.{AreReckonedFor};
 ghost use Rattle.ddr4_timing.specs.declared.command.Command.TheVariants.{Act};
 
-use crate::tests::by_lines::ByLines;
 use crate::tests::check::same;
 use crate::tests::profiles::behind;
 use chan_core::Channel;
@@ -16,6 +15,7 @@ use ddr4_timing::profiles::{SMALL, TINY};
 use ddr4_timing::timing::Checked;
 use drain_core::{DrainReport, drain};
 use energy_budget::{Costs, TINY_COSTS};
+use interleave_map::{Interleaving, ReadyMap};
 use std::process::Abort;
 
 // Opens a row at a clock, as the first command of a channel, and drains it from the next clock on.
@@ -43,7 +43,10 @@ fn with_a_write<R: Abort + AllocGlobal>(rt: &R, checked: &Checked) -> Channel
     ensures checked { result.checked ≡ checked.now }
     ensures new { result.commands ≡ [] }
 {
-    let map = ByLines { checked: *checked };
+    let map = ReadyMap {
+        interleaving: Interleaving::Lines,
+        checked: *checked,
+    };
     let mut channel = Channel::new(rt.alloc(), checked, 0, 8, 8).expect(rt, "memory");
     assert!(*rt; channel.has_line(&map, 0));
     assert!(*rt; channel.put(&map, 0, 0, [0x11; 64]).is_ok());

@@ -4,7 +4,7 @@ use crate::tests::fixture::Fixture;
 use crate::tests::picks::Picks;
 use crate::tests::profiles::FOUR_RANKS;
 use crate::tests::run::refreshes;
-use channel_answers::{Collected, Got, Served, Ticket};
+use channel_port::{Collected, Got, Served, Ticket};
 use ddr4_timing::command::Stamped;
 use ddr4_timing::profiles::{SHORT_ROWS, SMALL, TIGHT, TINY};
 use std::process::Abort;

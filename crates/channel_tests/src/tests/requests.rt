@@ -3,7 +3,7 @@ use crate::tests::check::same;
 use crate::tests::fixture::Fixture;
 use crate::tests::profiles::text;
 use chan_core::ReadsFull;
-use channel_answers::{Collected, Got, Ticket};
+use channel_port::{Collected, Got, Ticket};
 use ddr4_timing::command::Stamped;
 use ddr4_timing::profiles::{SMALL, TINY};
 use std::process::Abort;

@@ -3,7 +3,7 @@ use crate::tests::check::same;
 use crate::tests::fixture::Fixture;
 use crate::tests::picks::Picks;
 use crate::tests::plain::{Plain, spent};
-use channel_answers::Served;
+use channel_port::Served;
 use ddr4_timing::command::{Command, Stamped};
 use ddr4_timing::place::Place;
 use ddr4_timing::timing::{Geometry, Timing};

@@ -3,17 +3,15 @@ ghost use Rattle.std.specs.Prelude.{◌≡◌, ◌<◌};
 ghost use Rattle.ddr4_timing.specs.Limits.{lines_of};
 ghost use Rattle.ddr4_timing.specs.Places.{LiesIn};
 ghost use Rattle.interleave_map.specs.Interleaving.{place_by_lines, line_by_lines, place_by_xor, line_by_xor};
-ghost use Rattle.interleave_map.specs.Inverse.{NamesPlaces};
 
 use crate::tests::check::same;
 use ddr4_timing::place::Place;
 use ddr4_timing::profiles::{SMALL, TINY, WIDEST};
 use ddr4_timing::timing::{Checked, Geometry};
 use interleave_map::cells::{cell_of, cells, line_count};
-use interleave_map::line_map::{LineMap, Places};
+use interleave_map::line_map::LineMap;
 use interleave_map::map::Map;
-use interleave_map::{lines, xor};
-use std::marker::Brand;
+use interleave_map::{Interleaving, ReadyMap, lines, xor};
 use std::process::Abort;
 
 const FIRST: Place = Place {
@@ -30,6 +28,7 @@ fn try_all<M: LineMap, R: Abort>(rt: &R, map: &M, checked: &Checked)
     requires lawful { M.is_lawful map.now }
     requires geometry { M.geometry_of map.now ≡ checked.now.geometry }
 {
+    map.interleaves();
     for line in 0..line_count(checked) {
         let place = map.place(line);
         same(rt, place.lies_in(&checked.geometry), true);
@@ -49,7 +48,11 @@ fn try_lines<R: Abort>(rt: &R, checked: Checked) {
         requires { LiesIn checked.geometry place }
         ensures { result ≡ line_by_lines checked.geometry place }
     { lines::join(&checked, place) };
-    let map = Map::new(split, join, &checked);
+    let names = ReadyMap {
+        interleaving: Interleaving::Lines,
+        checked,
+    };
+    let map = Map::new(split, join, names, &checked);
     try_all(rt, &map, &checked);
 }
 
@@ -62,7 +65,11 @@ fn try_xor<R: Abort>(rt: &R, checked: Checked) {
         requires { LiesIn checked.geometry place }
         ensures { result ≡ line_by_xor checked.geometry place }
     { xor::join(&checked, place) };
-    let map = Map::new(split, join, &checked);
+    let names = ReadyMap {
+        interleaving: Interleaving::Xor,
+        checked,
+    };
+    let map = Map::new(split, join, names, &checked);
     try_all(rt, &map, &checked);
 }
 
@@ -157,17 +164,6 @@ fn places_on_the_largest(rt: HostRuntime) {
     same(&rt, cell_of(&checked, &last), 8191);
 }
 
-// The place of a line by its name.
-fn named_place<M: LineMap, P: Places>(map: &M, checked: &Checked, line: u64) -> Place
-    requires lawful { M.is_lawful map.now }
-    requires geometry { M.geometry_of map.now ≡ checked.now.geometry }
-    requires names { NamesPlaces checked.now.geometry (M.lies_at map.now) P.place_of }
-    requires line { line < lines_of checked.now.geometry }
-    ensures { result ≡ P.place_of line }
-{
-    map.place(line)
-}
-
 fn place_by_map(checked: Checked, line: u64) -> Place
     requires { line < lines_of checked.geometry }
     ensures { result ≡ place_by_xor checked.geometry line }
@@ -180,8 +176,11 @@ fn place_by_map(checked: Checked, line: u64) -> Place
         requires { LiesIn checked.geometry place }
         ensures { result ≡ line_by_xor checked.geometry place }
     { xor::join(&checked, place) };
-    let map = Map::new(split, join, &checked);
-    named_place::<_, Brand>(&map, &checked, line)
+    let names = ReadyMap {
+        interleaving: Interleaving::Xor,
+        checked,
+    };
+    Map::new(split, join, names, &checked).place(line)
 }
 
 #[test]

@@ -22,12 +22,12 @@ no_rank = record {
 
 -- what a rank keeps, for each list
 rank_of_list : (b : BanksState) (list : List Stamped) (rank : ℕ) → Stands b list → rank < b.checked.geometry.ranks →
-    RankStands b.checked list b.machine.next b.machine.write (slice_index_or b.machine.columns rank 0) rank (slice_index_or b.machine.ranks rank no_rank)
+    RankStands b.checked list b.state.next b.state.write (slice_index_or b.state.columns rank 0) rank (slice_index_or b.state.ranks rank no_rank)
 rank_of_list b list rank s h = s.ranks rank 0 no_rank h
 
 bank_of_list : (b : BanksState) (list : List Stamped) (at : BankAddress) → Stands b list → HasBank b.checked.geometry at →
-    let r = slice_index_or b.machine.ranks at.rank no_rank in
-    BankStands b.checked.timing list b.machine.next b.machine.write (slice_index_or b.machine.columns at.rank 0) at r (slice_index_or r.banks (slot_of at) (record { act = 0; column = 0; pre = 0 }))
+    let r = slice_index_or b.state.ranks at.rank no_rank in
+    BankStands b.checked.timing list b.state.next b.state.write (slice_index_or b.state.columns at.rank 0) at r (slice_index_or r.banks (slot_of at) (record { act = 0; column = 0; pre = 0 }))
     (slice_index_or r.group_act at.group 0) (slice_index_or r.group_rd at.group 0) (slice_index_or r.group_wr at.group 0)
 bank_of_list b list at s h = (rank_of_list b list at.rank s h.rank).banks at _ 0 h refl
 

@@ -1,18 +1,18 @@
 use Rattle.std.proofs.Common.{◌<◌, ◌∙◌, refl, sym, subst}
-use Rattle.channel_answers.specs.declared.answers.Collected.{Collected}
-use Rattle.module_core.specs.declared.events.Event.TheVariants as events
-use Rattle.module_core.specs.declared.events.Reply.TheVariants as replies
-use Rattle.module_core.specs.State.{Setup}
+use Rattle.channel_port.specs.declared.answers.Collected.{Collected}
+use Rattle.nv_machine.specs.declared.events.Event.TheVariants as events
+use Rattle.nv_machine.specs.declared.events.Reply.TheVariants as replies
+use Rattle.nv_machine.specs.State.{Setup}
 use Rattle.module_core.specs.Stands.{AnswersAlone}
 use Rattle.nv_session.proofs.Awaiting.{awaits_itself, awaits_collect, awaits_work, sees_content, sees_waiting}
 use Rattle.nv_session.proofs.turns.await_read.Goals as goal
 
 pub loop-turn-init : goal.loop-turn-init
-loop-turn-init g c = record { setup = refl; comes = awaits_itself g.C.Channels c.args.ticket c.args.running.now }
+loop-turn-init g c = record { setup = refl; comes = awaits_itself g.K.ChannelPort c.args.ticket c.args.running.now }
 
 pub returns-in-Data-clause-comes : goal.returns-in-Data-clause-comes
 returns-in-Data-clause-comes g c =
-    let L = g.C.Channels in
+    let L = g.K.ChannelPort in
     sees_content L c.args.ticket c.in-Data.line c.in-Data.bytes c.in-Data.at c.args.running.now c.loop-turn.running c.collect.new.self c.loop-turn.invariant.setup c.loop-turn.invariant.comes
     (subst (λ (answer : Collected). AnswersAlone L (events.Collect c.args.ticket) (replies.Collect answer) c.loop-turn.running c.collect.new.self) c.in-Data.is c.collect.ensures.answers)
 
@@ -24,7 +24,7 @@ work-requires g c = subst (λ (s : Setup). c.args.ticket.channel < s.shape.chann
 
 pub returns-then-is_none : goal.returns-then-is_none
 returns-then-is_none g c =
-    let L = g.C.Channels in let inv = c.loop-turn.invariant in
+    let L = g.K.ChannelPort in let inv = c.loop-turn.invariant in
     record {
       comes = sees_waiting L c.args.ticket c.args.running.now c.work.new.self
           (awaits_work L c.args.ticket c.args.ticket.channel c.work.result c.args.running.now c.collect.new.self c.work.new.self (c.collect.ensures.setup ∙ inv.setup)
@@ -34,7 +34,7 @@ returns-then-is_none g c =
 
 pub loop-turn-preserved : goal.loop-turn-preserved
 loop-turn-preserved g c =
-    let L = g.C.Channels in let inv = c.loop-turn.invariant in
+    let L = g.K.ChannelPort in let inv = c.loop-turn.invariant in
     record {
       setup = c.work.ensures.setup ∙ c.collect.ensures.setup ∙ inv.setup;
       comes = awaits_work L c.args.ticket c.args.ticket.channel c.work.result c.args.running.now c.collect.new.self c.work.new.self (c.collect.ensures.setup ∙ inv.setup)
@@ -43,7 +43,7 @@ loop-turn-preserved g c =
 
 pub returns-in-Data-collect-clause-comes : goal.returns-in-Data-collect-clause-comes
 returns-in-Data-collect-clause-comes g c =
-    let L = g.C.Channels in let last = c.in-Data-collect in
+    let L = g.K.ChannelPort in let last = c.in-Data-collect in
     sees_content L c.args.ticket last.line last.bytes last.at c.args.running.now c.loop-turn.running c.collect-2.new.self c.loop-turn.invariant.setup c.loop-turn.invariant.comes
     (subst (λ (answer : Collected). AnswersAlone L (events.Collect c.args.ticket) (replies.Collect answer) c.loop-turn.running c.collect-2.new.self) last.is c.collect-2.ensures.answers)
 
@@ -52,7 +52,7 @@ returns-in-Data-collect-clause-setup g c = c.collect-2.ensures.setup ∙ c.loop-
 
 pub returns-in_default-collect : goal.returns-in_default-collect
 returns-in_default-collect g c =
-    let L = g.C.Channels in let inv = c.loop-turn.invariant in
+    let L = g.K.ChannelPort in let inv = c.loop-turn.invariant in
     record {
       comes = sees_waiting L c.args.ticket c.args.running.now c.collect-2.new.self
           (awaits_collect L c.args.ticket c.args.ticket c.collect-2.result c.args.running.now c.loop-turn.running c.collect-2.new.self inv.setup inv.comes c.collect-2.ensures.answers);

@@ -6,7 +6,7 @@ use Rattle.nv_session.proofs.turns.await_read.Given as goal
 
 abbrev pub invariant-loop-turn : goal.invariant-loop-turn
 invariant-loop-turn g l =
-    let L = g.C.Channels in
+    let L = g.K.ChannelPort in
     record {
       setup : setup_of L l.running ≡ setup_of L l.fn.running;
       comes : ComesAlone L (AwaitsRead l.fn.ticket) l.fn.running l.running;

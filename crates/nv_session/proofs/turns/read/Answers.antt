@@ -1,30 +1,30 @@
 use Rattle.std.proofs.Common.{◌∙◌, ap, subst, Result, Ok}
-use Rattle.channel_answers.specs.declared.answers.Got.{Got}
+use Rattle.channel_port.specs.declared.answers.Got.{Got}
 use Rattle.arm_state.specs.declared.refusal.ReadRefusal.{ReadRefusal}
-use Rattle.module_core.specs.declared.events.Event.TheVariants as events
-use Rattle.module_core.specs.declared.events.Reply.TheVariants as replies
+use Rattle.nv_machine.specs.declared.events.Event.TheVariants as events
+use Rattle.nv_machine.specs.declared.events.Reply.TheVariants as replies
 use Rattle.module_core.specs.Stands.{AnswersAlone}
-use Rattle.nv_session.specs.declared.turns.Seen.TheVariants.{Waiting}
+use Rattle.nv_session.specs.declared.turns.LineSeen.TheVariants.{Waiting}
 use Rattle.nv_session.proofs.Awaiting.{awaits_itself, sees_waiting}
 use Rattle.nv_session.proofs.Reading.{sees_now, sees_later, sees_refusal}
 use Rattle.nv_session.proofs.turns.read.Goals as goal
 
 pub returns-in-Ok-Now-clause-comes : goal.returns-in-Ok-Now-clause-comes
 returns-in-Ok-Now-clause-comes g c =
-    let L = g.C.Channels in
+    let L = g.K.ChannelPort in
     sees_now L c.args.line c.in-Ok-Now.bytes c.args.running.now c.read.new.self
     (subst (λ (answer : Result Got ReadRefusal). AnswersAlone L (events.Read c.args.line) (replies.Read answer) c.args.running.now c.read.new.self) (c.in-Ok-Now.is ∙ ap (λ (got : Got). Ok got) c.in-Ok-Now.field-0-is) c.read.ensures.answers)
 
 pub returns-in-Ok-Later-clause-comes : goal.returns-in-Ok-Later-clause-comes
 returns-in-Ok-Later-clause-comes g c =
-    let L = g.C.Channels in
+    let L = g.K.ChannelPort in
     sees_later L c.args.line c.in-Ok-Later.ticket c.await_read.result c.args.running.now c.read.new.self c.await_read.new.running c.read.ensures.setup
     (subst (λ (answer : Result Got ReadRefusal). AnswersAlone L (events.Read c.args.line) (replies.Read answer) c.args.running.now c.read.new.self) (c.in-Ok-Later.is ∙ ap (λ (got : Got). Ok got) c.in-Ok-Later.field-0-is) c.read.ensures.answers)
     c.await_read.ensures.comes
 
 pub returns-in-Ok-Later-2-clause-comes : goal.returns-in-Ok-Later-2-clause-comes
 returns-in-Ok-Later-2-clause-comes g c =
-    let L = g.C.Channels in let ticket = c.in-Ok-Later-2.field-0-0 in
+    let L = g.K.ChannelPort in let ticket = c.in-Ok-Later-2.field-0-0 in
     sees_later L c.args.line ticket Waiting c.args.running.now c.read.new.self c.read.new.self c.read.ensures.setup
     (subst (λ (answer : Result Got ReadRefusal). AnswersAlone L (events.Read c.args.line) (replies.Read answer) c.args.running.now c.read.new.self)
     (c.in-Ok-Later.is ∙ ap (λ (got : Got). Ok got) c.in-Ok-Later-2.field-0-is) c.read.ensures.answers)
@@ -32,6 +32,6 @@ returns-in-Ok-Later-2-clause-comes g c =
 
 pub returns-in-Err-clause-comes : goal.returns-in-Err-clause-comes
 returns-in-Err-clause-comes g c =
-    let L = g.C.Channels in
+    let L = g.K.ChannelPort in
     sees_refusal L c.args.line c.in-Err.refusal c.args.running.now c.read.new.self
     (subst (λ (answer : Result Got ReadRefusal). AnswersAlone L (events.Read c.args.line) (replies.Read answer) c.args.running.now c.read.new.self) c.in-Err.is c.read.ensures.answers)

@@ -1,14 +1,14 @@
 use Rattle.std.proofs.Common.{◌≡◌, Ok}
-use Rattle.module_core.specs.Stands.{HasDevice, setup_of}
+use Rattle.module_core.specs.Stands.{HasDevice, assembly, setup_of}
 use Rattle.nv_session.specs.Coming.{Comes}
 use Rattle.nv_session.specs.Turns.{GoesOnSaving}
 use Rattle.nv_session.proofs.turns.save.Given as goal
 
 abbrev pub invariant-loop-turn : goal.invariant-loop-turn
 invariant-loop-turn g l =
-    let L = g.C.Channels in let S = g.D.SaveDevice in let E = g.E.Energy in
+    let L = g.K.ChannelPort in let S = g.D.SaveDevice in let E = g.E.Energy in
     record {
       size : HasDevice L l.running (S.state l.device);
       setup : setup_of L l.running ≡ setup_of L l.fn.running;
-      comes : Comes L (GoesOnSaving (Ok l.reply)) l.fn.running (S.state l.fn.device) (E.gauge l.fn.energy) l.running (S.state l.device) (E.gauge l.energy);
+      comes : Comes L (GoesOnSaving (Ok l.reply)) (assembly l.fn.running (S.state l.fn.device) (E.gauge l.fn.energy)) (assembly l.running (S.state l.device) (E.gauge l.energy));
     }

@@ -1,10 +1,10 @@
 use Rattle.std.proofs.Common.{◌<◌, ◌∙◌, refl, sym, subst, ap, ℕ}
-use Rattle.module_core.specs.State.{Setup}
+use Rattle.nv_machine.specs.State.{Setup}
 use Rattle.nv_session.proofs.Turning.{no_work, one_work}
 use Rattle.nv_session.proofs.turns.work_each.Goals as goal
 
 pub loop-channel-init : goal.loop-channel-init
-loop-channel-init g c = record { setup = refl; comes = no_work g.C.Channels c.args.running.now }
+loop-channel-init g c = record { setup = refl; comes = no_work g.K.ChannelPort c.args.running.now }
 
 pub work-requires : goal.work-requires
 work-requires g c =
@@ -15,7 +15,7 @@ loop-channel-preserved g c =
     let inv = c.loop-channel.invariant in
     record {
       setup = c.work.ensures.setup ∙ inv.setup;
-      comes = one_work g.C.Channels c.loop-channel.channel c.work.result c.args.running.now c.loop-channel.running c.work.new.self inv.setup inv.comes c.work.ensures.answers;
+      comes = one_work g.K.ChannelPort c.loop-channel.channel c.work.result c.args.running.now c.loop-channel.running c.work.new.self inv.setup inv.comes c.work.ensures.answers;
     }
 
 pub returns-clause-comes : goal.returns-clause-comes

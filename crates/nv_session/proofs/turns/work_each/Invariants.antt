@@ -6,7 +6,7 @@ use Rattle.nv_session.proofs.turns.work_each.Given as goal
 
 abbrev pub invariant-loop-channel : goal.invariant-loop-channel
 invariant-loop-channel g l =
-    let L = g.C.Channels in
+    let L = g.K.ChannelPort in
     record {
       setup : setup_of L l.running ≡ setup_of L l.fn.running;
       comes : ComesAlone L OnlyWorks l.fn.running l.running;

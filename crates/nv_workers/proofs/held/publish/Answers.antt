@@ -1,5 +1,5 @@
 use Rattle.std.proofs.Common.{◌≡◌, refl, max, arith}
-use Rattle.nv_workers.specs.Lent.{marks_of}
+use Rattle.nv_workers.specs.Marks.{marks_of}
 use Rattle.nv_workers.proofs.held.publish.Goals as goal
 
 pub accept-requires : goal.accept-requires
@@ -8,4 +8,4 @@ accept-requires g c = record { board = c.requires.board; rises = rw c.accepted.e
 pub returns : goal.returns
 returns g c =
     let most : max c.args.seat.now.persisted c.args.running.now.persisted ≡ c.args.running.now.persisted = omega (arith, c.requires.behind.persisted) in
-    rw (c.raise.ensures, c.accept.ensures, c.accepted.ensures.is, c.mark.ensures, most) (refl {a = marks_of g.C.Channels c.args.marks.now c.args.running.now})
+    rw (c.raise.ensures, c.accept.ensures, c.accepted.ensures.is, c.mark.ensures, most) (refl {a = marks_of g.K.ChannelPort c.args.marks.now c.args.running.now})

@@ -1,53 +1,50 @@
-use Rattle.std.proofs.Common.{◌≡◌, ◌∙◌, ℕ, get_or, length, refl, sym, ap, subst, rules}
+use Rattle.std.proofs.Common.{◌≡◌, ◌∙◌, get_or, length, refl, sym, ap, subst, rules}
 use Rattle.std.proofs.lemmas.List.Elements.{All-get_or}
 use Rattle.ddr4_timing.specs.Limits.{lines_of}
-use Rattle.save_device.specs.Device.{with_calls}
-use Rattle.save_device.specs.Memory.{state_of}
 use Rattle.nv_profile.specs.declared.profile.Profile.{Profile}
 use Rattle.nv_script.specs.Line.{NamesChannelOf}
 use Rattle.nv_script.specs.declared.line.ScriptLine.TheVariants.{Format}
+use Rattle.nv_session.specs.Sessions.{line_count_in, moment_in}
 use Rattle.script_runner.specs.Story.{AreCutShort}
 use Rattle.script_runner.proofs.Results.{if_err_so}
 use Rattle.script_runner.proofs.Stories.{through_begins, through_grows, through_cut, through_ends}
 use Rattle.script_runner.proofs.script.answer_lines.Goals as goal
 
-pub answer_line-requires-clause-line : goal.answer_line-requires-clause-line
-answer_line-requires-clause-line g c =
+pub answer_line-requires : goal.answer_line-requires
+answer_line-requires g c =
     let lines = c.args.lines.now in let index = c.loop-line.line-index in
     let Names : Profile → Type 0 = λ profile. NamesChannelOf profile.checked.geometry (get_or lines index Format) in
-    subst Names (sym c.loop-line.invariant.profile)
-    (All-get_or (NamesChannelOf c.args.session.now.profile.checked.geometry) lines index Format c.loop-line-test.true c.requires.names)
+    record {
+      line = subst Names (sym c.loop-line.invariant.profile)
+          (All-get_or (NamesChannelOf c.args.session.now.profile.checked.geometry) lines index Format c.loop-line-test.true c.requires.names);
+    }
 
 pub loop-line-init : goal.loop-line-init
 loop-line-init g c = record {
   profile = refl;
-  through = through_begins g.C.Channels g.D.Channels (lines_of c.args.session.now.profile.checked.geometry) (g.R.Report.answers c.args.report.now) c.args.session.now.life _;
+  through = through_begins g.K.ChannelPort (line_count_in c.args.session.now) (g.R.Report.answers c.args.report.now) (moment_in c.args.session.now);
 }
 
 pub loop-line-preserved : goal.loop-line-preserved
 loop-line-preserved g c =
-    let lines : Profile → ℕ = λ profile. lines_of profile.checked.geometry in let answers = g.R.Report.answers in
-    let mid = c.loop-line.session in let new = c.answer_line.new.session in
+    let answers = g.R.Report.answers in let old = c.args.session.now in let mid = c.loop-line.session in
     record {
       profile = c.answer_line.ensures.profile ∙ c.loop-line.invariant.profile;
-      through = through_grows g.C.Channels g.D.Channels (lines c.args.session.now.profile) (lines c.loop-line.session.profile) (ap lines c.loop-line.invariant.profile) c.args.lines.now c.loop-line.line-index Format
-          (answers c.args.report.now) (answers c.loop-line.report) (answers c.answer_line.new.report)
-          {device = with_calls (state_of mid.device.device) mid.device.calls} {device' = with_calls (state_of new.device.device) new.device.calls}
+      through = through_grows g.K.ChannelPort (line_count_in old) (line_count_in mid) (ap (λ (profile : Profile). lines_of profile.checked.geometry) c.loop-line.invariant.profile) c.args.lines.now c.loop-line.line-index Format
+          (answers c.args.report.now) (answers c.loop-line.report) (answers c.answer_line.new.report) (moment_in mid) (moment_in c.answer_line.new.session)
           c.loop-line-test.true c.loop-line.invariant.through c.in_ok-answer_line.ensures.whole;
     }
 
 pub returns-in_err-answer_line-clause-cut : goal.returns-in_err-answer_line-clause-cut
 returns-in_err-answer_line-clause-cut g c =
-    let lines : Profile → ℕ = λ profile. lines_of profile.checked.geometry in let answers = g.R.Report.answers in
-    let mid = c.loop-line.session in
-    if_err_so c.from_residual.result (AreCutShort (lines c.args.session.now.profile) c.args.lines.now (answers c.args.report.now) (answers c.answer_line.new.report))
-    (through_cut g.C.Channels g.D.Channels (lines c.args.session.now.profile) (lines c.loop-line.session.profile) (ap lines c.loop-line.invariant.profile) c.args.lines.now c.loop-line.line-index Format
-    (answers c.args.report.now) (answers c.loop-line.report) (answers c.answer_line.new.report)
-    {device = with_calls (state_of mid.device.device) mid.device.calls}
+    let answers = g.R.Report.answers in let old = c.args.session.now in let mid = c.loop-line.session in
+    if_err_so c.from_residual.result (AreCutShort (line_count_in old) c.args.lines.now (answers c.args.report.now) (answers c.answer_line.new.report))
+    (through_cut g.K.ChannelPort (line_count_in old) (line_count_in mid) (ap (λ (profile : Profile). lines_of profile.checked.geometry) c.loop-line.invariant.profile) c.args.lines.now c.loop-line.line-index Format
+    (answers c.args.report.now) (answers c.loop-line.report) (answers c.answer_line.new.report) (moment_in mid)
     c.loop-line-test.true c.loop-line.invariant.through c.in_err-answer_line.ensures.part)
 
 pub returns-clause-answered : goal.returns-clause-answered
 returns-clause-answered g c =
-    let lines : Profile → ℕ = λ profile. lines_of profile.checked.geometry in let answers = g.R.Report.answers in
+    let answers = g.R.Report.answers in
     let all : c.loop-line.line-index ≡ length c.args.lines.now = search rules in
-    through_ends g.C.Channels g.D.Channels (lines c.args.session.now.profile) c.args.lines.now c.loop-line.line-index (answers c.args.report.now) (answers c.loop-line.report) all c.loop-line.invariant.through
+    through_ends g.K.ChannelPort (line_count_in c.args.session.now) c.args.lines.now c.loop-line.line-index (answers c.args.report.now) (answers c.loop-line.report) (moment_in c.loop-line.session) all c.loop-line.invariant.through

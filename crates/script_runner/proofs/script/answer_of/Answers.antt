@@ -1,80 +1,103 @@
-use Rattle.std.proofs.Common.{rules, refl}
-use Rattle.ddr4_timing.specs.Limits.{lines_of}
-use Rattle.script_runner.proofs.Answering.{write_truly, read_truly, work_truly, sense_truly, arm_truly, disarm_truly, save_truly, step_truly, lose_truly}
+use Rattle.std.proofs.Common.{refl, ap, sym, subst}
+use Rattle.save_device.specs.declared.fuse.Fuse.{Fuse}
+use Rattle.save_device.specs.declared.memory.MemoryDevice.{MemoryDevice}
+use Rattle.energy_budget.specs.Gauge.{Gauge}
+use Rattle.energy_budget.specs.Meter.{meter_gauge}
+use Rattle.nv_machine.specs.declared.events.Event.TheVariants as events
+use Rattle.nv_machine.specs.declared.events.Reply.TheVariants as replies
+use Rattle.nv_session.specs.Coming.{IsOneEvent}
+use Rattle.nv_session.specs.Turns.{SeesLine}
+use Rattle.nv_session.specs.Living.{GoesOnBy, IsWork, fuse_state, session_at, set_to}
+use Rattle.nv_script.specs.declared.line.ScriptLine.TheVariants as line
+use Rattle.nv_script.specs.declared.answer.Answer.TheVariants as answer
+use Rattle.nv_session.specs.Sessions.{line_count_in, moment_in}
+use Rattle.script_runner.specs.Replies.{read_told, work_told}
+use Rattle.script_runner.proofs.Answering.{write_truly, read_truly, work_truly, sense_truly, arm_truly, disarm_truly, save_truly, step_truly, lose_truly, regauged}
 use Rattle.script_runner.proofs.Telling.{truly_as, lie_truly, fuse_truly, mark_truly, format_truly, fault_truly, restored_truly}
+use Rattle.script_runner.proofs.Alone.{goes_alone}
 use Rattle.script_runner.proofs.script.answer_of.Goals as goal
 
 pub returns-in-Ok-clause-truly : goal.returns-in-Ok-clause-truly
 returns-in-Ok-clause-truly g c =
-    let L = g.C.Channels in let M = g.D.Channels in let lines = lines_of c.args.session.now.profile.checked.geometry in
-    truly_as L M c.in-Format.is refl (format_truly L M lines c.args.session.now.profile.map c.in-Ok.ensures.begins)
+    let L = g.K.ChannelPort in let it = c.args.session.now in let lines = line_count_in it in let old = moment_in it in
+    truly_as L c.in-Format.is refl (format_truly L lines _ old (moment_in c.format.new.self) c.in-Ok.ensures.begins)
 
 pub returns-in-Err-Device-clause-truly : goal.returns-in-Err-Device-clause-truly
 returns-in-Err-Device-clause-truly g c =
-    let L = g.C.Channels in let M = g.D.Channels in let lines = lines_of c.args.session.now.profile.checked.geometry in
-    truly_as L M c.in-Format.is refl (fault_truly L M lines)
+    let L = g.K.ChannelPort in let it = c.args.session.now in let lines = line_count_in it in let old = moment_in it in
+    truly_as L c.in-Format.is refl (fault_truly L lines old (moment_in c.format.new.self))
 
 pub returns-in-Write-clause-truly : goal.returns-in-Write-clause-truly
 returns-in-Write-clause-truly g c =
-    let L = g.C.Channels in let M = g.D.Channels in let lines = lines_of c.args.session.now.profile.checked.geometry in
-    truly_as L M c.in-Write.is c.write_answer.ensures (write_truly L M lines c.in-Write.write c.write.result _ (search (rules, c.write.ensures.device)) c.write.ensures.none c.write.ensures.comes)
+    let L = g.K.ChannelPort in let it = c.args.session.now in let lines = line_count_in it in let old = moment_in it in
+    let made = c.write.new.self in let ensures = c.write.ensures in
+    truly_as L c.in-Write.is c.write_answer.ensures (write_truly L lines c.in-Write.write c.write.result _ old (moment_in made) ensures.none (goes_alone L (λ setup. IsOneEvent (events.Write c.in-Write.write) (replies.Write c.write.result)) it made ensures.device ensures.gauge ensures.comes))
 
 pub returns-in-Read-clause-truly : goal.returns-in-Read-clause-truly
 returns-in-Read-clause-truly g c =
-    let L = g.C.Channels in let M = g.D.Channels in let lines = lines_of c.args.session.now.profile.checked.geometry in
-    truly_as L M c.in-Read.is c.read_answer.ensures (read_truly L M lines c.in-Read.line c.read.result _ (search (rules, c.read.ensures.device)) c.read.ensures.none c.read.ensures.comes)
+    let L = g.K.ChannelPort in let it = c.args.session.now in let lines = line_count_in it in let old = moment_in it in
+    let made = c.read.new.self in let ensures = c.read.ensures in
+    truly_as L {said = read_told c.in-Read.line c.read.result} c.in-Read.is c.read_answer.ensures (read_truly L lines c.in-Read.line c.read.result _ old (moment_in made) ensures.none (goes_alone L (λ setup. SeesLine setup c.in-Read.line c.read.result) it made ensures.device ensures.gauge ensures.comes))
 
 pub returns-in-Work-clause-truly : goal.returns-in-Work-clause-truly
 returns-in-Work-clause-truly g c =
-    let L = g.C.Channels in let M = g.D.Channels in let lines = lines_of c.args.session.now.profile.checked.geometry in
-    truly_as L M c.in-Work.is c.work_answer.ensures (work_truly L M lines c.in-Work.channel c.in-Work.most c.work.result (search (rules, c.work.ensures.device)) c.work.ensures.comes)
+    let L = g.K.ChannelPort in let it = c.args.session.now in let lines = line_count_in it in let old = moment_in it in
+    let made = c.work.new.self in let ensures = c.work.ensures in
+    truly_as L {said = work_told c.in-Work.channel c.work.result} c.in-Work.is c.work_answer.ensures (work_truly L lines c.in-Work.channel c.in-Work.most c.work.result old (moment_in made) (goes_alone L (λ setup. IsWork c.in-Work.channel c.work.result) it made ensures.device ensures.gauge ensures.comes))
 
 pub returns-in-Save-clause-truly : goal.returns-in-Save-clause-truly
 returns-in-Save-clause-truly g c =
-    let L = g.C.Channels in let M = g.D.Channels in let lines = lines_of c.args.session.now.profile.checked.geometry in
-    truly_as L M c.in-Save.is c.save_answer.ensures (save_truly L M lines c.save.result _ _ c.save.ensures.none c.save.ensures.comes)
+    let L = g.K.ChannelPort in let it = c.args.session.now in let lines = line_count_in it in let old = moment_in it in
+    truly_as L c.in-Save.is c.save_answer.ensures (save_truly L lines c.save.result old (moment_in c.save.new.self) c.save.ensures.none c.save.ensures.comes)
 
 pub returns-in-Step-clause-truly : goal.returns-in-Step-clause-truly
 returns-in-Step-clause-truly g c =
-    let L = g.C.Channels in let M = g.D.Channels in let lines = lines_of c.args.session.now.profile.checked.geometry in
-    truly_as L M c.in-Step.is c.step_answer.ensures (step_truly L M lines c.step.result _ _ c.step.ensures.none c.step.ensures.comes)
+    let L = g.K.ChannelPort in let it = c.args.session.now in let lines = line_count_in it in let old = moment_in it in
+    truly_as L c.in-Step.is c.step_answer.ensures (step_truly L lines c.step.result old (moment_in c.step.new.self) c.step.ensures.none c.step.ensures.comes)
 
 pub returns-in-Arm-clause-truly : goal.returns-in-Arm-clause-truly
 returns-in-Arm-clause-truly g c =
-    let L = g.C.Channels in let M = g.D.Channels in let lines = lines_of c.args.session.now.profile.checked.geometry in
-    truly_as L M c.in-Arm.is c.arm_answer.ensures (arm_truly L M lines c.arm.result _ _ c.arm.ensures.comes)
+    let L = g.K.ChannelPort in let it = c.args.session.now in let lines = line_count_in it in let old = moment_in it in
+    truly_as L c.in-Arm.is c.arm_answer.ensures (arm_truly L lines c.arm.result old (moment_in c.arm.new.self) c.arm.ensures.comes)
 
 pub returns-in-Disarm-clause-truly : goal.returns-in-Disarm-clause-truly
 returns-in-Disarm-clause-truly g c =
-    let L = g.C.Channels in let M = g.D.Channels in let lines = lines_of c.args.session.now.profile.checked.geometry in
-    truly_as L M c.in-Disarm.is c.disarm_answer.ensures (disarm_truly L M lines c.disarm.result (search (rules, c.disarm.ensures.device)) c.disarm.ensures.comes)
+    let L = g.K.ChannelPort in let it = c.args.session.now in let lines = line_count_in it in let old = moment_in it in
+    let made = c.disarm.new.self in let ensures = c.disarm.ensures in
+    truly_as L c.in-Disarm.is c.disarm_answer.ensures (disarm_truly L lines c.disarm.result old (moment_in made) (goes_alone L (λ setup. IsOneEvent events.Disarm (replies.Disarm c.disarm.result)) it made ensures.device ensures.gauge ensures.comes))
 
 pub returns-in-Lose-clause-truly : goal.returns-in-Lose-clause-truly
 returns-in-Lose-clause-truly g c =
-    let L = g.C.Channels in let M = g.D.Channels in let lines = lines_of c.args.session.now.profile.checked.geometry in
-    truly_as L M c.in-Lose.is refl (lose_truly L M lines c.lose.result _ _ c.lose.ensures.none c.lose.ensures.comes)
+    let L = g.K.ChannelPort in let it = c.args.session.now in let lines = line_count_in it in let old = moment_in it in
+    truly_as L c.in-Lose.is refl (lose_truly L lines c.lose.result old (moment_in c.lose.new.self) c.lose.ensures.none c.lose.ensures.comes)
 
 pub returns-in-Lie-clause-truly : goal.returns-in-Lie-clause-truly
 returns-in-Lie-clause-truly g c =
-    let L = g.C.Channels in let M = g.D.Channels in let lines = lines_of c.args.session.now.profile.checked.geometry in
-    truly_as L M c.in-Lie.is refl (lie_truly L M lines c.in-Lie.units c.lie.ensures.life (search (rules, c.lie.ensures.device)))
+    let L = g.K.ChannelPort in let it = c.args.session.now in let lines = line_count_in it in let old = moment_in it in
+    truly_as L c.in-Lie.is refl (lie_truly L lines c.in-Lie.units old (moment_in c.lie.new.self) c.lie.ensures.life (ap fuse_state c.lie.ensures.device))
 
 pub returns-in-Fuse-clause-truly : goal.returns-in-Fuse-clause-truly
 returns-in-Fuse-clause-truly g c =
-    let L = g.C.Channels in let M = g.D.Channels in let lines = lines_of c.args.session.now.profile.checked.geometry in
-    truly_as L M c.in-Fuse.is refl (fuse_truly L M lines c.in-Fuse.calls c.fuse.ensures.life c.fuse.ensures.state)
+    let L = g.K.ChannelPort in let it = c.args.session.now in let lines = line_count_in it in let old = moment_in it in
+    truly_as L c.in-Fuse.is refl (fuse_truly L lines c.in-Fuse.calls old (moment_in c.fuse.new.self) c.fuse.ensures.life c.fuse.ensures.state)
 
 pub returns-in-Mark-clause-truly : goal.returns-in-Mark-clause-truly
 returns-in-Mark-clause-truly g c =
-    let L = g.C.Channels in let M = g.D.Channels in let lines = lines_of c.args.session.now.profile.checked.geometry in
-    truly_as L M c.in-Mark.is refl (mark_truly L M lines c.mark.result c.mark.ensures)
+    let L = g.K.ChannelPort in let it = c.args.session.now in let lines = line_count_in it in let old = moment_in it in
+    truly_as L c.in-Mark.is refl (mark_truly L lines c.mark.result old c.mark.ensures)
 
 pub returns-in-Sense-clause-truly : goal.returns-in-Sense-clause-truly
 returns-in-Sense-clause-truly g c =
-    let L = g.C.Channels in let M = g.D.Channels in let lines = lines_of c.args.session.now.profile.checked.geometry in
-    truly_as L M c.in-Sense.is refl (sense_truly L M lines c.in-Sense.level c.sense-reading.result.0 c.sense-reading.result.1 _ _ (search (rules, c.sense-reading.ensures.device)) (c.sense-reading.ensures.comes _))
+    let L = g.K.ChannelPort in let it = c.args.session.now in let lines = line_count_in it in let level = c.in-Sense.level in
+    let made = c.sense-reading.new.self in let told = c.sense-reading.result in let ensures = c.sense-reading.ensures in
+    let set : Gauge = set_to level (meter_gauge it.gauge) in
+    truly_as L c.in-Sense.is refl
+    (regauged L lines (line.Sense level) (answer.Level told.reading told.mode) (moment_in it) (moment_in made) set
+    (sense_truly L lines level told.reading told.mode (session_at it.life (fuse_state it.device) set) (moment_in made)
+    (subst (λ (d : Fuse MemoryDevice). GoesOnBy L (λ setup. IsOneEvent events.Sense (replies.Sense told.reading)) (session_at it.life (fuse_state it.device) set) (session_at made.life (fuse_state d) (meter_gauge made.gauge)))
+    (sym ensures.device) (ensures.comes (fuse_state it.device)))))
 
 pub returns-in-Restore-clause-truly : goal.returns-in-Restore-clause-truly
 returns-in-Restore-clause-truly g c =
-    let L = g.C.Channels in let M = g.D.Channels in let lines = lines_of c.args.session.now.profile.checked.geometry in
-    truly_as L M c.in-Restore.is c.restore_answer.ensures (restored_truly L M lines c.in-Restore.pick c.in-Restore.map _ c.restore.result c.restore.ensures.finds c.restore.ensures.keeps c.restore.ensures.none)
+    let L = g.K.ChannelPort in let it = c.args.session.now in let lines = line_count_in it in let old = moment_in it in
+    truly_as L c.in-Restore.is c.restore_answer.ensures (restored_truly L lines c.in-Restore.pick c.in-Restore.map _ c.restore.result old (moment_in c.restore.new.self) c.restore.ensures.finds c.restore.ensures.keeps c.restore.ensures.none)

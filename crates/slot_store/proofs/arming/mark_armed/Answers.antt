@@ -1,9 +1,7 @@
-use Rattle.std.proofs.Common.{[], ◌∷◌, Bool, true, false}
-use Rattle.save_device.specs.declared.calls.CallKind.TheVariants.{Write, Sync}
-use Rattle.save_device.specs.Calls.{MakesCalls}
-use Rattle.save_device.proofs.CallLists.{calls_on, one_call, first_fails, on_err}
-use Rattle.slot_store.proofs.Rearmed.{arm_alone, write_leaves, write_failed, both_alone, both_leave, both_failed, both_armed}
+use Rattle.save_device.proofs.CallLists.{one_call}
+use Rattle.slot_store.proofs.Common.{[], ◌∷◌, Bool, MakesCalls, Sync, Write, calls_on, false, first_fails, on_err, true}
 use Rattle.slot_store.proofs.FirstSave.{on_any_err}
+use Rattle.slot_store.proofs.Rearmed.{arm_alone, both_alone, both_armed, both_failed, both_leave, write_failed, write_leaves}
 use Rattle.slot_store.proofs.arming.mark_armed.Goals as goal
 
 pub returns-in_err-write_at-clause-calls : goal.returns-in_err-write_at-clause-calls

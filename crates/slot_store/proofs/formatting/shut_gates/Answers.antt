@@ -1,15 +1,11 @@
-use Rattle.std.proofs.Common.{◌≡◌, [], ◌∷◌, Bool, false, Result, Ok, Err, OnOk, is_ok, subst, sym, ◌∙◌}
+use Rattle.std.proofs.Common.{OnOk, is_ok}
 use Rattle.std.specs.Bool.{OnTrue}
-use Rattle.save_device.specs.declared.calls.CallKind.TheVariants.{Write, Sync}
-use Rattle.save_device.specs.Calls.{MakesCalls}
-use Rattle.save_device.specs.Rows.{overwritten}
-use Rattle.save_device.specs.Device.{IsSettled}
-use Rattle.save_device.proofs.CallLists.{calls_on, one_call, first_fails, on_err}
-use Rattle.save_device.proofs.Moments.{and_then}
+use Rattle.save_device.proofs.CallLists.{one_call}
 use Rattle.save_device.proofs.Rows.{same_rows}
-use Rattle.slot_store.specs.Slots.{slot_size, HasSize}
 use Rattle.slot_store.specs.Formatted.{HasShutGates}
-use Rattle.slot_store.proofs.FirstSave.{sized_within, both_shut, on_any_ok}
+use Rattle.slot_store.proofs.Common.{[], ◌∙◌, ◌∷◌, ◌≡◌, Bool, Err, HasSize, IsSettled, MakesCalls, Ok, Result, Sync, Write, and_then, calls_on, false, first_fails, on_err, overwritten, slot_size, subst, sym}
+use Rattle.slot_store.proofs.FirstSave.{both_shut, on_any_ok}
+use Rattle.slot_store.proofs.Stops.{sized_within}
 use Rattle.slot_store.proofs.formatting.shut_gates.Goals as goal
 
 when_ok : {T E : Type 0} (r : Result T E) (P : Type 0) → OnTrue (is_ok r) P → OnOk r P

@@ -1,4 +1,4 @@
-use Rattle.slot_store.proofs.ImageBytes.{image_from_full, full_from_image}
+use Rattle.slot_store.proofs.ImageBytes.{full_from_image, image_from_full}
 use Rattle.slot_store.proofs.laws.full_slots.Goals as goal
 
 pub returns : goal.returns

@@ -1,6 +1,4 @@
-use Rattle.std.proofs.Common.{subst}
-use Rattle.slot_store.specs.declared.plan.Step.{Step}
-use Rattle.slot_store.specs.Saving.{SavingAt}
+use Rattle.slot_store.proofs.Common.{SavingAt, Step, subst}
 use Rattle.slot_store.proofs.GivenUp.{save_done}
 use Rattle.slot_store.proofs.laws.save_done.Goals as goal
 

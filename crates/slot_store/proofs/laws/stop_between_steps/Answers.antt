@@ -1,5 +1,5 @@
-use Rattle.std.proofs.Common.{ℕ, replicate}
 use Rattle.std.proofs.lemmas.List.{length-replicate}
+use Rattle.slot_store.proofs.Common.{ℕ, replicate}
 use Rattle.slot_store.proofs.Stops.{stop_before}
 use Rattle.slot_store.proofs.laws.stop_between_steps.Goals as goal
 

@@ -1,5 +1,5 @@
-use Rattle.std.proofs.Common.{ℕ, ap, sym}
 use Rattle.slot_store.specs.Outcomes.{verdict_of}
+use Rattle.slot_store.proofs.Common.{ℕ, ap, sym}
 use Rattle.slot_store.proofs.restoring.judged.Goals as goal
 
 pub returns-then-arm-eq0 : goal.returns-then-arm-eq0

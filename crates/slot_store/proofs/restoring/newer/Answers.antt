@@ -1,7 +1,6 @@
-use Rattle.std.proofs.Common.{refl, arith}
-use Rattle.slot_store.specs.Slots.{image_with}
+use Rattle.slot_store.proofs.Common.{arith, image_with, refl}
 use Rattle.slot_store.proofs.Gates.{chosen_newer, chosen_older}
-use Rattle.slot_store.proofs.restoring.newer.Goals.{then-first-second-2, else-first-second-2}
+use Rattle.slot_store.proofs.restoring.newer.Goals.{else-first-second-2, then-first-second-2}
 use Rattle.slot_store.proofs.restoring.newer.Goals as goal
 
 pub returns-clause-chosen : goal.returns-clause-chosen

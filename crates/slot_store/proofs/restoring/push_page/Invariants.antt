@@ -1,5 +1,5 @@
-use Rattle.std.proofs.Common.{◌≡◌, ◌++◌, take}
 use Rattle.std.specs.Prelude.{vec_capacity}
+use Rattle.slot_store.proofs.Common.{◌++◌, ◌≡◌, take}
 use Rattle.slot_store.proofs.restoring.push_page.Given as goal
 
 abbrev pub invariant-loop-line : goal.invariant-loop-line

@@ -1,11 +1,7 @@
-use Rattle.std.proofs.Common.{◌≡◌, ℕ, List, [], Bool, true, false, not, ap, sym, ◌∙◌, subst, arith}
-use Rattle.save_device.specs.Device.{Moment}
-use Rattle.save_device.specs.Changes.{OnlyReads}
-use Rattle.save_device.proofs.ReadRuns.{reads_on, reads_stop}
-use Rattle.slot_store.specs.declared.slots.Slot.TheVariants.{First, Second}
-use Rattle.slot_store.specs.Slots.{slot_state, body_in}
-use Rattle.slot_store.specs.Told.{told, is_fault}
-use Rattle.slot_store.proofs.Picked.{picked, not_fault}
+use Rattle.std.proofs.Common.{not}
+use Rattle.save_device.proofs.ReadRuns.{reads_stop}
+use Rattle.slot_store.proofs.Common.{[], ℕ, ◌∙◌, ◌≡◌, Bool, First, List, Moment, OnlyReads, Second, ap, arith, body_in, false, is_fault, reads_on, slot_state, subst, sym, told, true}
+use Rattle.slot_store.proofs.Picked.{not_fault, picked}
 use Rattle.slot_store.proofs.restoring.read_both.Goals as goal
 
 pub returns-in_default-clause-reads : goal.returns-in_default-clause-reads

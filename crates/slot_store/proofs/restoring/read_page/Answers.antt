@@ -1,7 +1,5 @@
-use Rattle.std.proofs.Common.{Bool}
-use Rattle.save_device.specs.Changes.{OnlyReads}
-use Rattle.save_device.proofs.CallLists.{on_err}
 use Rattle.save_device.proofs.ReadRuns.{one_read}
+use Rattle.slot_store.proofs.Common.{Bool, OnlyReads, on_err}
 use Rattle.slot_store.proofs.restoring.read_page.Goals as goal
 
 pub returns-in_err-read-clause-reads : goal.returns-in_err-read-clause-reads

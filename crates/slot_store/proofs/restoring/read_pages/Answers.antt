@@ -1,9 +1,6 @@
-use Rattle.std.proofs.Common.{◌≡◌, ℕ, ◌+◌, ◌*◌, ◌++◌, List, length, drop, true, false, ap, sym, ◌∙◌, arith}
-use Rattle.std.specs.Prelude.{slice_range}
-use Rattle.save_device.specs.Device.{Moment}
-use Rattle.save_device.proofs.ReadRuns.{reads_on, reads_stop}
-use Rattle.save_image.specs.Body.{lines_in}
-use Rattle.save_image.proofs.BodyLaws.{lines_in-page, length-lines_in}
+use Rattle.save_device.proofs.ReadRuns.{reads_stop}
+use Rattle.save_image.proofs.BodyLaws.{length-lines_in, lines_in-page}
+use Rattle.slot_store.proofs.Common.{ℕ, ◌*◌, ◌++◌, ◌+◌, ◌∙◌, ◌≡◌, List, Moment, ap, arith, drop, false, length, lines_in, reads_on, slice_range, sym, true}
 use Rattle.slot_store.proofs.restoring.read_pages.Goals as goal
 
 pub returns-in_default-read_page-clause-reads : goal.returns-in_default-read_page-clause-reads

@@ -1,7 +1,5 @@
-use Rattle.std.proofs.Common.{◌≡◌, ◌*◌, true, drop}
 use Rattle.std.specs.Prelude.{vec_capacity}
-use Rattle.save_device.specs.Changes.{OnlyReads}
-use Rattle.save_image.specs.Body.{lines_in}
+use Rattle.slot_store.proofs.Common.{◌*◌, ◌≡◌, OnlyReads, drop, lines_in, true}
 use Rattle.slot_store.proofs.restoring.read_pages.Given as goal
 
 abbrev pub invariant-loop-page : goal.invariant-loop-page

@@ -1,6 +1,5 @@
-use Rattle.std.proofs.Common.{◌≡◌, ℕ, ◌+◌, List, ap, sym, ◌∙◌}
-use Rattle.std.specs.Prelude.{slice_range}
-use Rattle.slot_store.specs.Slots.{slot_state, slot_with, page_in, body_in}
+use Rattle.slot_store.specs.Slots.{slot_state, slot_with}
+use Rattle.slot_store.proofs.Common.{ℕ, ◌+◌, ◌∙◌, ◌≡◌, List, ap, body_in, page_in, slice_range, sym}
 use Rattle.slot_store.proofs.restoring.read_slot.Goals as goal
 
 pub returns-clause-state : goal.returns-clause-state

@@ -1,18 +1,11 @@
-use Rattle.std.proofs.Common.{◌≡◌, ◌+◌, ◌*◌, ◌/◌, ℕ, List, length, drop, true, false, refl, subst, ap, sym, ◌∙◌, arith}
 use Rattle.std.proofs.lemmas.Result.{err_from_is_err_and}
-use Rattle.save_device.specs.Device.{Moment, DeviceState}
+use Rattle.save_device.proofs.ReadRuns.{settled_same, sync_leaves}
 use Rattle.save_device.proofs.Rows.{same_rows}
-use Rattle.save_device.proofs.ReadRuns.{settled_same, sync_leaves, reads_on}
-use Rattle.save_image.specs.Body.{lines_in}
-use Rattle.line_memory.specs.Memory.{IsMemory}
-use Rattle.slot_store.specs.declared.slots.Slot.{Slot}
-use Rattle.slot_store.specs.declared.restoring.RestoreError.{RestoreError}
-use Rattle.slot_store.specs.Slots.{start_of, device_size, slot_state, is_closed, other, body_in, image_with}
-use Rattle.slot_store.specs.Outcomes.{Found, restored}
 use Rattle.slot_store.specs.Told.{Refuses}
-use Rattle.slot_store.proofs.Resting.{rest_restored, found_image}
+use Rattle.slot_store.proofs.Common.{ℕ, ◌*◌, ◌+◌, ◌/◌, ◌∙◌, ◌≡◌, DeviceState, Found, IsMemory, List, Moment, RestoreError, Slot, ap, arith, body_in, device_size, drop, false, image_with, is_closed, length, lines_in, other, reads_on, refl, restored, slot_state, start_of, subst, sym, true}
 use Rattle.slot_store.proofs.Picked.{wrong_size}
-use Rattle.slot_store.proofs.RestoreCalls.{calls_of_fault, calls_of_headers, calls_of_pages, calls_of_all, sync_and_reads}
+use Rattle.slot_store.proofs.Resting.{found_image, rest_restored}
+use Rattle.slot_store.proofs.RestoreCalls.{calls_of_all, calls_of_fault, calls_of_headers, calls_of_pages, sync_and_reads}
 use Rattle.slot_store.proofs.restoring.restore.Goals as goal
 
 -- the lines that were read of these bytes are the slot's

@@ -1,5 +1,5 @@
-use Rattle.std.proofs.Common.{◌≡◌, ℕ, List, length, take, drop, ap, ◌∙◌, length-drop, arith}
 use Rattle.std.proofs.Math.Seq.{take-length}
+use Rattle.slot_store.proofs.Common.{ℕ, ◌∙◌, ◌≡◌, List, ap, arith, drop, length, length-drop, take}
 use Rattle.slot_store.proofs.saving.tail_of.Goals as goal
 
 rest_is : (xs : List ℕ) → length xs ≡ 4096 → take 4095 (drop 1 xs) ≡ drop 1 xs

@@ -1,4 +1,4 @@
-use Rattle.std.proofs.Common.{ℕ, ◌*◌, ap}
+use Rattle.slot_store.proofs.Common.{ℕ, ◌*◌, ap}
 use Rattle.slot_store.proofs.slots.device_size.Goals as goal
 
 pub returns : goal.returns

@@ -4,9 +4,9 @@ use Rattle.workers_bench.proofs.life.life_over.Given as goal
 abbrev pub ghosts-crowd-B-Ledger : goal.ghosts-crowd-B-Ledger
 ghosts-crowd-B-Ledger g a = record { name = a.ready.opening.name; parts = a.ready.opening.parts }
 
-abbrev pub ghosts-crowd-B-Room : goal.ghosts-crowd-B-Room
-ghosts-crowd-B-Room g a = record {
+abbrev pub ghosts-crowd-B-BoardName : goal.ghosts-crowd-B-BoardName
+ghosts-crowd-B-BoardName g a = record {
   board = a.ready.opening.board;
   channels = a.ready.channels;
-  before = length a.ready.life.history.writes;
+  before = length a.ready.recorded.history.writes;
 }

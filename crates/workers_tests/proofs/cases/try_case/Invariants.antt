@@ -4,5 +4,9 @@ use Rattle.workers_tests.proofs.cases.try_case.Given as goal
 abbrev pub ghosts-try_board-B-Ledger : goal.ghosts-try_board-B-Ledger
 ghosts-try_board-B-Ledger g a = record { name = a.ready.opening.name; parts = a.ready.opening.parts }
 
-abbrev pub ghosts-try_board-B-Room : goal.ghosts-try_board-B-Room
-ghosts-try_board-B-Room g a = record { board = a.ready.opening.board; channels = a.ready.channels; before = length a.ready.life.history.writes }
+abbrev pub ghosts-try_board-B-BoardName : goal.ghosts-try_board-B-BoardName
+ghosts-try_board-B-BoardName g a = record {
+  board = a.ready.opening.board;
+  channels = a.ready.channels;
+  before = length a.ready.recorded.history.writes;
+}

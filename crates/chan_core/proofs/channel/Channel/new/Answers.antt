@@ -1,5 +1,6 @@
-use Rattle.std.proofs.Common.{refl, arith}
-use Rattle.line_memory.proofs.Zeroed.{zeroed}
+use Rattle.std.proofs.Common.{refl, sym, subst, arith}
+use Rattle.line_memory.specs.Memory.{IsMemory}
+use Rattle.line_memory.proofs.MemoryLaws.{zero_lines-IsMemory}
 use Rattle.chan_core.proofs.Common.{last_clock}
 use Rattle.frfcfs.proofs.refreshes.MarginEnds.{new_keeps}
 use Rattle.chan_core.proofs.Holding.{new-holds}
@@ -11,7 +12,7 @@ invariant_of-result c =
     let queue = c.in_ok-with_depth.ensures in
     record {
       are = rw queue.empty
-          (new-holds _ (zeroed c.zero.new.lines.items _ _ c.zero.ensures.items (omega (arith, c.in_ok-array.ensures.len, c.in_ok-array.array.ok, c.cells.ensures.is))) (rw queue.empty at queue.queue) refl c.in_ok-with_room.ensures
+          (new-holds _ (subst (IsMemory _) (sym c.in_ok-array.ensures) (rw (← c.cells.ensures.is) (zero_lines-IsMemory c.cells.result))) (rw queue.empty at queue.queue) refl c.in_ok-with_room.ensures
           c.in_ok-with_capacity-2.ensures.items c.requires.reads refl);
       room_for_reads = omega (arith, c.in_ok-with_capacity-2.ensures.capacity);
     }

@@ -1,66 +1,57 @@
-use Rattle.std.proofs.Common.{◌≡◌, ◌∙◌, ℕ, ◌+◌, [], ◌∷◌, false, List, length, refl, sym, ap, subst, inl, arith}
-use Rattle.std.specs.Prelude.{Ok, Err, if◌then◌else◌}
-use Rattle.std.proofs.lemmas.List.{length-append}
-use Rattle.line_memory.specs.declared.Write.{Write}
-use Rattle.line_memory.specs.Memory.{IsMemory}
+use Rattle.channel_port.specs.Answers.{Puts}
+use Rattle.channel_port.specs.Waits.{waiting}
+use Rattle.ddr4_timing.specs.declared.place.Place.{Place}
 use Rattle.line_memory.proofs.MemoryLaws.{after-push, after_write-IsMemory}
-use Rattle.arm_state.specs.declared.mode.Mode.{Mode}
-use Rattle.arm_state.specs.Modes.{is_armed, has_ended}
-use Rattle.line_channels.specs.View.{ChannelsView}
-use Rattle.line_channels.specs.Waits.{Waits}
-use Rattle.line_channels.specs.Answers.{Puts}
-use Rattle.line_channels.specs.Memory.{WaitsFrom}
-use Rattle.module_core.specs.State.{Machine, Life, all_of, memory_of, base_of_life, start_of_life}
-use Rattle.module_core.specs.Moves.{written}
-use Rattle.module_core.proofs.Waits.{held_joined}
-use Rattle.module_core.specs.declared.events.Event.TheVariants as events
-use Rattle.module_core.specs.declared.events.Reply.TheVariants as replies
-use Rattle.module_core.specs.Machine.{WriteStep}
-use Rattle.module_core.specs.Stands.{setup_of}
-use Rattle.module_core.proofs.Applying.{same_setup, alone, unmoved}
+use Rattle.line_memory.specs.declared.Write.{Write}
+use Rattle.module_core.specs.Saving.{IsOfLines}
+use Rattle.nv_machine.specs.Moves.{written}
+use Rattle.nv_machine.specs.declared.events.Accepted.{Accepted}
+use Rattle.nv_machine.specs.declared.events.Event.TheVariants as events
+use Rattle.nv_machine.specs.declared.events.Reply.TheVariants as replies
+use Rattle.module_core.specs.Stands.{IsCarried}
+use Rattle.module_core.proofs.Common.{rules, shape_of, [], ℕ, ◌+◌, ◌∙◌, ◌∷◌, ◌≡◌, ChannelsView, Err, IsMemory, Machine, Ok, Setup, Waits, WaitsFrom, all_of, ap, arith, base_of_life, inl, length, length-append, lines_of_module, memory_of, refl, setup_of, start_of_life, subst, sym, view_of}
+use Rattle.module_core.proofs.Applying.{alone, same_setup, unmoved}
+use Rattle.module_core.proofs.Waits.{below_joined, held_joined}
 use Rattle.module_core.proofs.module.Module.write.Goals as goal
 
 pub returns-clause-answers : goal.returns-clause-answers
 returns-clause-answers g c = λ device gauge.
-    alone g.C.Channels (events.Write c.args.write) (replies.Write (Ok (record { number = c.args.self.now.accepted; mark = c.persisted_after_write-self.result }))) (WriteStep (setup_of g.C.Channels c.args.self.now) c.args.write (Ok (record { number = c.args.self.now.accepted; mark = c.persisted_after_write-self.result }))) c.args.self.now _ device gauge gauge (same_setup (g.C.Channels.view c.args.self.now.channels) (g.C.Channels.view c.put.new.self) c.args.self.now.trail (ap (λ (v : ChannelsView). v.shape) c.put.ensures.rest)) (λ m h.
-    let L = g.C.Channels in let old = c.args.self.now in let write : Write = c.args.write in let later : Waits = (L.view c.put.new.self).waits in
-    let runs : has_ended m.mode ≡ false = ap has_ended (sym h.mode) ∙ c.write_refusal.ensures.running c.in_default.is in
-    let was : (L.view old.channels).waits ≡ m.waits = h.carried.waits runs in
-    let life : Life = written m.mode m.life write in
-    let n : Machine = record m { life = life; waits = later } in
-    let puts : Puts (all_of m) write.line m.waits later =
-    subst (λ (k : ℕ). Puts k write.line m.waits later) h.accepted (subst (λ (w : Waits). Puts old.accepted write.line w later) was c.put.ensures.puts) in
-    let size : length life.writes ≡ length m.life.writes + 1 = length-append m.life.writes (write ∷ []) in
+    let L = g.K.ChannelPort in let old = c.args.self.now in let write : Write = c.args.write in let later : Waits = (view_of L c.put.new.self).waits in let setup : Setup = setup_of L old in
+    let accepted : Accepted = record { number = old.accepted; mark = c.persisted_after_write-self.result } in
+    alone L (events.Write write) (replies.Write (Ok accepted)) old _ device gauge gauge
+    (same_setup L old.channels c.put.new.self old.terms old.terms (ap (λ (v : ChannelsView). v.shape) c.put.ensures.rest) refl) (λ m h.
+    let n : Machine = record m { life = written m.mode m.life write; waits = later } in let channel : ℕ = setup.shape.channel_of write.line in
+    let puts : Puts (all_of m) channel m.waits later =
+    subst (λ (k : ℕ). Puts k channel m.waits later) h.accepted (subst (λ (w : Waits). Puts old.accepted channel w later) h.carried.waits
+    (subst (λ (p : Place). Puts old.accepted p.channel (view_of L old.channels).waits later) c.in-Ok.ensures.place c.put.ensures.puts)) in
+    let size : length n.life.writes ≡ length m.life.writes + 1 = length-append m.life.writes (write ∷ []) in
     let more : all_of n ≡ all_of m + 1 = omega (arith, size) in
-    let persisted : c.persisted_after_write-self.result ≡ life.persisted =
-    c.persisted_after_write-self.ensures ∙ ap (λ (x : Mode). if is_armed x then old.accepted + 1 else old.persisted) h.mode
-    ∙ ap (λ (x : ℕ). if is_armed m.mode then x + 1 else old.persisted) h.accepted ∙ ap (λ (x : ℕ). if is_armed m.mode then all_of m + 1 else x) h.persisted in (
-      n,
-      (sym (c.write_refusal.ensures.refusal m h) ∙ c.in_default.is, record { number = h.accepted; mark = persisted; puts = puts; is = refl }),
-      record {
-        mode = h.mode;
-        reading = h.reading;
-        start = h.start;
-        accepted = ap (λ (k : ℕ). k + 1) h.accepted ∙ sym more;
-        persisted = persisted;
-        knows = h.knows;
-        saving = h.saving;
-        memory = subst (λ (memory : List (List ℕ)). IsMemory old.lines memory) (sym (after-push (base_of_life m.life) m.life.writes write))
-            (after_write-IsMemory old.lines (memory_of m) write (let long : length write.«data» ≡ 64 = omega arith in long) h.memory);
-        carried = record {
-          carries = c.put.ensures.carries (base_of_life m.life) (start_of_life m.life) m.life.writes h.carried.carries h.accepted;
-          waits = λ running. refl;
-          writes = refl;
-          lost = λ ended. absurd (let bad : ⊥ = cc in bad);
-          hold = ap (λ v. v.hold) c.put.ensures.rest ∙ h.carried.hold;
-          held = λ k some. subst (λ (end : ℕ). WaitsFrom k end later.writes) (sym more)
-              (held_joined k (all_of m) (record { number = all_of m; line = write.line }) m.waits.writes later.writes refl puts.joins (h.carried.held k some));
-        };
-      },
-      inl (refl, refl),
-    ))
-    (λ m n x. (refl, x)) refl (λ m h. tt)
+    let persisted : accepted.mark ≡ n.life.persisted = cc in
+    let memory : IsMemory (shape_of L c.put.new.self).lines (memory_of n) = subst (λ (v : ChannelsView). IsMemory v.shape.lines (memory_of n)) (sym c.put.ensures.rest)
+    (subst (IsMemory (lines_of_module L old)) (sym (after-push (base_of_life m.life) m.life.writes write))
+    (after_write-IsMemory (lines_of_module L old) (memory_of m) write (let long : length write.«data» ≡ 64 = omega arith in long) h.memory)) in
+    let carried : IsCarried L c.put.new.self n = record {
+      carries = c.put.ensures.carries (base_of_life m.life) (start_of_life m.life) m.life.writes h.carried.carries h.accepted;
+      waits = refl;
+      hold = ap (λ v. v.hold) c.put.ensures.rest ∙ h.carried.hold;
+      held = λ k some. subst (λ (end : ℕ). WaitsFrom k end later.writes) (sym more)
+          (held_joined k (all_of m) (waiting (all_of m) channel) m.waits.writes later.writes refl puts.joins (h.carried.held k some));
+    } in record {
+      later = n;
+      step = (refl, (c.in-Ok.ensures.admitted m h, record { number = h.accepted; mark = persisted; puts = puts; is = refl }));
+      matches = search rules;
+      moves = inl (refl, refl);
+    }) refl (λ m h. tt)
 
-pub returns-in-Some-clause-answers : goal.returns-in-Some-clause-answers
-returns-in-Some-clause-answers g c = λ device gauge.
-    unmoved g.C.Channels (events.Write c.args.write) (replies.Write (Err c.in-Some.refusal)) c.args.self.now device gauge (λ m h. (refl, (sym (c.write_refusal.ensures.refusal m h) ∙ c.in-Some.is, refl))) refl (λ m h. tt)
+pub returns-in-Err-clause-answers : goal.returns-in-Err-clause-answers
+returns-in-Err-clause-answers g c = λ device gauge.
+    unmoved g.K.ChannelPort (events.Write c.args.write) (replies.Write (Err c.in-Err.refusal)) c.args.self.now device gauge (λ m h. (refl, (c.in-Err.ensures.refusal m h, refl))) refl (λ m h. tt)
+
+pub invariant_of-self-clause-below : goal.invariant_of-self-clause-below
+invariant_of-self-clause-below g c = below_joined c.args.self.now.accepted c.in-Ok.place.channel (view_of g.K.ChannelPort c.args.self.now.channels).waits (view_of g.K.ChannelPort c.put.new.self).waits c.put.ensures.puts c.args.self.now.below
+
+pub invariant_of-self-clause-running : goal.invariant_of-self-clause-running
+invariant_of-self-clause-running g c = subst (λ (v : ChannelsView). IsOfLines v.shape.lines c.args.self.now.saves.saving) (sym c.put.ensures.rest) c.args.self.now.running
+
+pub put-requires-clause-mains : goal.put-requires-clause-mains
+put-requires-clause-mains g c = c.args.self.now.mains c.in-Ok.ensures.running

@@ -1,4 +1,4 @@
-use Rattle.std.proofs.Common.{refl}
+use Rattle.module_core.proofs.Common.{refl}
 use Rattle.module_core.proofs.saves.Saves.begin.Goals as goal
 
 pub returns : goal.returns

@@ -1,26 +1,23 @@
-use Rattle.save_device.specs.Device.{DeviceState, with_calls}
-use Rattle.save_device.specs.Memory.{state_of}
-use Rattle.energy_budget.specs.Gauge.{Gauge}
+use Rattle.std.proofs.Common.{refl}
 use Rattle.energy_budget.specs.Meter.{meter_gauge}
-use Rattle.module_core.specs.declared.events.Event.TheVariants as events
-use Rattle.module_core.specs.declared.events.Reply.TheVariants as replies
-use Rattle.nv_session.specs.Living.{IsOneEvent}
-use Rattle.nv_session.proofs.InLife.{stays_fitting, stays_in_life}
-use Rattle.nv_session.proofs.Going.{goes_on_alone}
+use Rattle.nv_machine.specs.declared.events.Event.TheVariants as events
+use Rattle.nv_machine.specs.declared.events.Reply.TheVariants as replies
+use Rattle.module_core.specs.Stands.{assembly}
+use Rattle.nv_session.specs.Coming.{IsOneEvent}
+use Rattle.nv_session.specs.Living.{fuse_state}
+use Rattle.nv_session.proofs.Coming.{one_event_alone}
+use Rattle.nv_session.proofs.Going.{goes_on_alone, lives_on_alone}
 use Rattle.nv_session.proofs.session.Session.disarm.Goals as goal
 
 pub returns-in-Some-clause-comes : goal.returns-in-Some-clause-comes
 returns-in-Some-clause-comes g c =
-    goes_on_alone g.C.Channels g.D.Channels (λ setup. IsOneEvent events.Disarm (replies.Disarm c.disarm.result)) c.args.self.now.life c.in-Some.life c.disarm.new.self c.in-Some.is c.disarm.ensures.comes c.disarm.ensures.setup
+    let L = g.K.ChannelPort in let reply = replies.Disarm c.disarm.result in
+    goes_on_alone L (λ setup. IsOneEvent events.Disarm reply) c.args.self.now.life c.in-Some.life c.disarm.new.self c.in-Some.is
+    (one_event_alone L events.Disarm reply c.in-Some.life c.disarm.new.self c.disarm.ensures.answers) c.disarm.ensures.setup
 
-pub invariant_of-self : goal.invariant_of-self
-invariant_of-self g c =
-    let L = g.C.Channels in let M = g.D.Channels in let it = c.args.self.now in
-    let device : DeviceState = with_calls (state_of it.device.device) it.device.calls in let gauge : Gauge = meter_gauge it.gauge in
-    record {
-      lines_fit = it.lines_fit;
-      xor_fits = it.xor_fits;
-      sized = it.sized;
-      life_fits = stays_fitting L M it.profile it.life c.in-Some.life c.disarm.new.self c.in-Some.is it.life_fits c.disarm.ensures.setup;
-      stands = stays_in_life L M (IsOneEvent events.Disarm (replies.Disarm c.disarm.result)) it.life c.in-Some.life c.disarm.new.self device device gauge gauge c.in-Some.is it.stands (c.disarm.ensures.comes device gauge);
-    }
+pub invariant_of-self-clause-living : goal.invariant_of-self-clause-living
+invariant_of-self-clause-living g c =
+    let L = g.K.ChannelPort in let it = c.args.self.now in let reply = replies.Disarm c.disarm.result in
+    let device = fuse_state it.device in let gauge = meter_gauge it.gauge in
+    lives_on_alone L (IsOneEvent events.Disarm reply) it.profile it.life (assembly c.in-Some.life device gauge) (assembly c.disarm.new.self device gauge) c.in-Some.is refl it.living
+    (one_event_alone L events.Disarm reply c.in-Some.life c.disarm.new.self c.disarm.ensures.answers device gauge) c.disarm.ensures.setup

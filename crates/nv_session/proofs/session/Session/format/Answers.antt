@@ -1,37 +1,48 @@
-use Rattle.std.proofs.Common.{◌∙◌, ℕ, ap, subst}
-use Rattle.ddr4_timing.specs.Limits.{lines_of}
-use Rattle.line_memory.proofs.Zeroed.{zeroed}
-use Rattle.nv_profile.specs.declared.profile.MapWord.{MapWord}
-use Rattle.nv_profile.specs.declared.profile.Profile.{Profile}
-use Rattle.nv_session.specs.Sessions.{IsOverMap}
-use Rattle.nv_session.proofs.Beginning.{begins_formatted}
-use Rattle.std.proofs.Common.{refl}
+use Rattle.std.proofs.Common.{◌∙◌, ℕ, List, ap, sym, subst}
 use Rattle.std.proofs.lemmas.Grind.{merely}
+use Rattle.ddr4_timing.specs.Limits.{lines_of}
+use Rattle.line_memory.specs.Memory.{IsMemory, zero_lines}
+use Rattle.line_memory.proofs.MemoryLaws.{zero_lines-IsMemory}
+use Rattle.save_device.specs.Device.{DeviceState}
 use Rattle.slot_store.specs.Outcomes.{first_image}
-use Rattle.module_core.specs.Opening.{new_life}
-use Rattle.nv_session.specs.Sessions.{formatted}
+use Rattle.nv_profile.specs.declared.profile.Profile.{Profile}
+use Rattle.module_core.specs.Opening.{opened_with}
+use Rattle.module_core.specs.Stands.{ModuleStands}
+use Rattle.nv_session.specs.Living.{fuse_state}
+use Rattle.nv_session.specs.Wired.{formatted}
+use Rattle.nv_session.proofs.Beginning.{begins_formatted, is_capacity, same_setup}
 use Rattle.nv_session.proofs.session.Session.format.Goals as goal
+use Rattle.nv_session.proofs.session.Session.format.Goals.{In-Ok-open}
+
+pub format-requires-clause-capacity : goal.format-requires-clause-capacity
+format-requires-clause-capacity g c = let it = c.stop.new.self in is_capacity it.profile (g.A.Wires.shape it.wires it.profile.map) c.lines-lines.result (it.fits it.profile.map) c.lines-lines.ensures.is
 
 pub open-requires-clause-memory : goal.open-requires-clause-memory
-open-requires-clause-memory g c = zeroed c.deref.result.now c.lines-lines.result _ (c.deref.ensures.value ∙ c.in-Ok.ensures) c.lines-lines.ensures.is
+open-requires-clause-memory g c =
+    let lines : ℕ = lines_of c.stop.new.self.profile.checked.geometry in
+    subst (λ (memory : List (List ℕ)). IsMemory lines memory) (sym (c.deref.ensures.value ∙ c.in-Ok.ensures ∙ ap zero_lines c.lines-lines.ensures.is)) (zero_lines-IsMemory lines)
 
-pub returns-clause-begins : goal.returns-clause-begins
-returns-clause-begins g c =
-    let L = g.C.Channels in let M = g.D.Channels in let it = c.in-Ok-open.life in let same = c.stop.ensures.profile in
-    let lines : ℕ = lines_of c.args.self.now.profile.checked.geometry in let lines' : ℕ = lines_of c.stop.new.self.profile.checked.geometry in
-    record {
-      it = it;
-      runs = c.begin.ensures.life;
-      over = subst (λ (w : MapWord). IsOverMap L M w it) (ap (λ (p : Profile). p.map) same) c.in-Ok-open.ensures.over;
-      holds = begins_formatted L M it lines lines' c.lines-lines.result c.deref.result.now _ _ c.in-Ok-open.ensures.begins (ap (λ (p : Profile). lines_of p.checked.geometry) same) c.lines-lines.ensures.is
-          (c.deref.ensures.value ∙ c.in-Ok.ensures) c.in-Ok-format.ensures.at_rest c.begin.ensures.device;
-    }
+-- the life that was opened is a new one
+formatted_life : (g : _) (c : In-Ok-open g)
+    → ModuleStands g.K.ChannelPort c.in-Ok-open.life (fuse_state c.format.new.device) (opened_with formatted (first_image (lines_of c.stop.new.self.profile.checked.geometry)))
+formatted_life g c =
+    begins_formatted g.K.ChannelPort c.in-Ok-open.life (lines_of c.stop.new.self.profile.checked.geometry) c.lines-lines.result c.deref.result.now (fuse_state c.format.new.device) c.in-Ok-open.ensures.begins
+    c.lines-lines.ensures.is (c.deref.ensures.value ∙ c.in-Ok.ensures) c.in-Ok-format.ensures.at_rest
 
 pub begin-requires-clause-stands : goal.begin-requires-clause-stands
 begin-requires-clause-stands g c =
-    let lines : ℕ = lines_of c.stop.new.self.profile.checked.geometry in
-    merely (
-      new_life formatted (first_image lines),
-      begins_formatted g.C.Channels g.D.Channels c.in-Ok-open.life lines lines c.lines-lines.result c.deref.result.now _ _ c.in-Ok-open.ensures.begins refl c.lines-lines.ensures.is
-          (c.deref.ensures.value ∙ c.in-Ok.ensures) c.in-Ok-format.ensures.at_rest refl,
-    )
+    merely (opened_with formatted (first_image (lines_of c.stop.new.self.profile.checked.geometry)), formatted_life g (goal.at.begin-requires-clause-stands g c).In-Ok-open)
+
+pub returns-clause-begins : goal.returns-clause-begins
+returns-clause-begins g c =
+    let L = g.K.ChannelPort in let old = c.args.self.now in let stopped = c.stop.new.self in let life = c.in-Ok-open.life in
+    let Stands : ℕ → DeviceState → Type 0 = λ n d. ModuleStands L life d (opened_with formatted (first_image n)) in
+    let lines : ℕ = lines_of old.profile.checked.geometry in
+    record {
+      it = life;
+      runs = c.begin.ensures.life;
+      over = c.in-Ok-open.ensures.setup ∙ same_setup old stopped stopped.profile.map old.profile.map c.stop.ensures.profile c.stop.ensures.wires (ap (λ (p : Profile). p.map) c.stop.ensures.profile);
+      holds = subst (λ (d : DeviceState). Stands lines d) (sym c.begin.ensures.device)
+          (subst (λ (n : ℕ). Stands n (fuse_state c.format.new.device)) (ap (λ (p : Profile). lines_of p.checked.geometry) c.stop.ensures.profile)
+          (formatted_life g (goal.at.returns-clause-begins g c).In-Ok-open));
+    }

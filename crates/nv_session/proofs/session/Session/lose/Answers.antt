@@ -1,29 +1,23 @@
-use Rattle.save_device.specs.Device.{DeviceState, with_calls}
-use Rattle.save_device.specs.Memory.{state_of}
-use Rattle.energy_budget.specs.Gauge.{Gauge}
+use Rattle.std.proofs.Common.{refl}
 use Rattle.energy_budget.specs.Meter.{meter_gauge}
-use Rattle.module_core.specs.declared.events.Event.TheVariants as events
-use Rattle.module_core.specs.declared.events.Reply.TheVariants as replies
-use Rattle.nv_session.specs.Living.{IsOneEvent}
-use Rattle.nv_session.proofs.InLife.{stays_fitting, stays_in_life, stays_sized}
-use Rattle.nv_session.proofs.Going.{goes_on_by}
+use Rattle.nv_machine.specs.declared.events.Event.TheVariants as events
+use Rattle.nv_machine.specs.declared.events.Reply.TheVariants as replies
+use Rattle.module_core.specs.Stands.{Assembly, assembly}
+use Rattle.nv_session.specs.Coming.{IsOneEvent}
+use Rattle.nv_session.specs.Living.{fuse_state, session_at}
+use Rattle.nv_session.proofs.Coming.{one_event}
+use Rattle.nv_session.proofs.Going.{goes_on_by, lives_on}
 use Rattle.nv_session.proofs.session.Session.lose.Goals as goal
 
 pub returns-in-Some-clause-comes : goal.returns-in-Some-clause-comes
 returns-in-Some-clause-comes g c =
-    let it = c.args.self.now in
-    let device : DeviceState = with_calls (state_of it.device.device) it.device.calls in let device' : DeviceState = with_calls (state_of c.lose.new.device.device) c.lose.new.device.calls in
-    goes_on_by g.C.Channels g.D.Channels (λ setup. IsOneEvent events.Lose (replies.Lose c.lose.result)) it.life c.in-Some.life c.lose.new.self device device' (meter_gauge it.gauge) (meter_gauge c.lose.new.energy) c.in-Some.is c.lose.ensures.comes c.lose.ensures.setup
+    let L = g.K.ChannelPort in let it = c.args.self.now in let reply = replies.Lose c.power_loss.result in
+    let old : Assembly L = assembly c.in-Some.life (fuse_state it.device) (meter_gauge it.gauge) in let new : Assembly L = assembly c.power_loss.new.self (fuse_state c.power_loss.new.device) (meter_gauge c.power_loss.new.energy) in
+    goes_on_by L (λ setup. IsOneEvent events.Lose reply) (session_at it.life old.device old.gauge) (session_at _ new.device new.gauge) old.it new.it c.in-Some.is refl
+    (one_event L events.Lose reply old new c.power_loss.ensures.answers) c.power_loss.ensures.setup
 
-pub invariant_of-self : goal.invariant_of-self
-invariant_of-self g c =
-    let L = g.C.Channels in let M = g.D.Channels in let it = c.args.self.now in
-    let device : DeviceState = with_calls (state_of it.device.device) it.device.calls in let gauge : Gauge = meter_gauge it.gauge in
-    let device' : DeviceState = with_calls (state_of c.lose.new.device.device) c.lose.new.device.calls in let gauge' : Gauge = meter_gauge c.lose.new.energy in
-    record {
-      lines_fit = it.lines_fit;
-      xor_fits = it.xor_fits;
-      sized = stays_sized L M it.profile it.life c.in-Some.life c.lose.new.self device' c.in-Some.is it.life_fits c.lose.ensures.setup c.lose.ensures.size;
-      life_fits = stays_fitting L M it.profile it.life c.in-Some.life c.lose.new.self c.in-Some.is it.life_fits c.lose.ensures.setup;
-      stands = stays_in_life L M (IsOneEvent events.Lose (replies.Lose c.lose.result)) it.life c.in-Some.life c.lose.new.self device device' gauge gauge' c.in-Some.is it.stands c.lose.ensures.comes;
-    }
+pub invariant_of-self-clause-living : goal.invariant_of-self-clause-living
+invariant_of-self-clause-living g c =
+    let L = g.K.ChannelPort in let it = c.args.self.now in let reply = replies.Lose c.power_loss.result in
+    let old : Assembly L = assembly c.in-Some.life (fuse_state it.device) (meter_gauge it.gauge) in let new : Assembly L = assembly c.power_loss.new.self (fuse_state c.power_loss.new.device) (meter_gauge c.power_loss.new.energy) in
+    lives_on L (IsOneEvent events.Lose reply) it.profile it.life old new c.in-Some.is it.living (one_event L events.Lose reply old new c.power_loss.ensures.answers) c.power_loss.ensures.setup c.power_loss.ensures.size

@@ -1,11 +1,11 @@
-use Rattle.std.proofs.Common.{ℕ, subst}
-use Rattle.nv_session.specs.Wired.{BeginsLife}
+use Rattle.ddr4_timing.specs.Limits.{lines_of}
+use Rattle.channel_port.specs.Shape.{Shape}
+use Rattle.nv_session.specs.Living.{IsShapeFor}
+use Rattle.nv_session.proofs.Beginning.{begins_on}
 use Rattle.nv_session.proofs.session.Session.open.Goals as goal
 
-pub returns-in_ok-it-in-Lines-clause-begins : goal.returns-in_ok-it-in-Lines-clause-begins
-returns-in_ok-it-in-Lines-clause-begins g c =
-    subst (λ (n : ℕ). BeginsLife g.C.Channels c.args.found c.args.memory.now n c.in_ok-it-in-Lines.it) c.args.self.now.lines_fit.lines c.in_ok-it-in-Lines.ensures.begins
-
-pub returns-in_ok-it-in-Xor-clause-begins : goal.returns-in_ok-it-in-Xor-clause-begins
-returns-in_ok-it-in-Xor-clause-begins g c =
-    subst (λ (n : ℕ). BeginsLife g.D.Channels c.args.found c.args.memory.now n c.in_ok-it-in-Xor.it) c.args.self.now.xor_fits.lines c.in_ok-it-in-Xor.ensures.begins
+pub returns-clause-begins : goal.returns-clause-begins
+returns-clause-begins g c = λ image device rests.
+    let it = c.args.self.now in let shape : Shape = g.A.Wires.shape it.wires c.args.map in let fits : IsShapeFor it.profile shape = it.fits c.args.map in
+    c.open.ensures.begins image device
+    (begins_on g.K.ChannelPort shape (lines_of it.profile.checked.geometry) c.args.memory.now c.in_ok-channels.channels c.args.found image device c.in_ok-channels.ensures fits.lines rests)

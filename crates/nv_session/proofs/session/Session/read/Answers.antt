@@ -1,25 +1,17 @@
-use Rattle.nv_session.specs.Turns.{SeesLine}
-use Rattle.nv_session.proofs.Going.{goes_on_alone}
-use Rattle.save_device.specs.Device.{DeviceState, with_calls}
-use Rattle.save_device.specs.Memory.{state_of}
-use Rattle.energy_budget.specs.Gauge.{Gauge}
+use Rattle.std.proofs.Common.{refl}
 use Rattle.energy_budget.specs.Meter.{meter_gauge}
-use Rattle.nv_session.specs.Living.{setup_of_life}
-use Rattle.nv_session.proofs.InLife.{stays_fitting, stays_in_life}
+use Rattle.module_core.specs.Stands.{assembly, setup_of}
+use Rattle.nv_session.specs.Turns.{SeesLine}
+use Rattle.nv_session.specs.Living.{fuse_state}
+use Rattle.nv_session.proofs.Going.{goes_on_alone, lives_on_alone}
 use Rattle.nv_session.proofs.session.Session.read.Goals as goal
 
 pub returns-in-Some-clause-comes : goal.returns-in-Some-clause-comes
 returns-in-Some-clause-comes g c =
-    goes_on_alone g.C.Channels g.D.Channels (λ setup. SeesLine setup c.args.line c.read.result) c.args.self.now.life c.in-Some.life c.read.new.self c.in-Some.is c.read.ensures.comes c.read.ensures.setup
+    goes_on_alone g.K.ChannelPort (λ setup. SeesLine setup c.args.line c.read.result) c.args.self.now.life c.in-Some.life c.read.new.running c.in-Some.is c.read.ensures.comes c.read.ensures.setup
 
-pub invariant_of-self : goal.invariant_of-self
-invariant_of-self g c =
-    let L = g.C.Channels in let M = g.D.Channels in let it = c.args.self.now in
-    let device : DeviceState = with_calls (state_of it.device.device) it.device.calls in let gauge : Gauge = meter_gauge it.gauge in
-    record {
-      lines_fit = it.lines_fit;
-      xor_fits = it.xor_fits;
-      sized = it.sized;
-      life_fits = stays_fitting L M it.profile it.life c.in-Some.life c.read.new.self c.in-Some.is it.life_fits c.read.ensures.setup;
-      stands = stays_in_life L M (SeesLine (setup_of_life L M c.in-Some.life) c.args.line c.read.result) it.life c.in-Some.life c.read.new.self device device gauge gauge c.in-Some.is it.stands (c.read.ensures.comes device gauge);
-    }
+pub invariant_of-self-clause-living : goal.invariant_of-self-clause-living
+invariant_of-self-clause-living g c =
+    let L = g.K.ChannelPort in let it = c.args.self.now in let life = c.in-Some.life in let device = fuse_state it.device in let gauge = meter_gauge it.gauge in
+    lives_on_alone L (SeesLine (setup_of L life) c.args.line c.read.result) it.profile it.life (assembly life device gauge) (assembly c.read.new.running device gauge) c.in-Some.is refl it.living
+    (c.read.ensures.comes device gauge) c.read.ensures.setup

@@ -1,64 +1,60 @@
-use Rattle.std.proofs.Common.{◌∙◌, ℕ, List, ap, sym, subst, unwrap_or}
+use Rattle.std.proofs.Common.{◌∙◌, ◌≢◌, ℕ, List, ap, sym, subst, unwrap_or, None}
+use Rattle.std.proofs.lemmas.Result.{IfOk-weaker, IfErr-weaker}
 use Rattle.ddr4_timing.specs.Limits.{lines_of}
-use Rattle.save_device.specs.Device.{DeviceState, MayLeave, present, with_calls}
-use Rattle.save_device.specs.Memory.{state_of}
-use Rattle.nv_profile.specs.declared.profile.MapWord.{MapWord}
-use Rattle.nv_profile.specs.declared.profile.Profile.{Profile}
-use Rattle.nv_session.specs.Sessions.{IsOverMap}
-use Rattle.nv_session.proofs.Beginning.{revives_still}
-use Rattle.std.proofs.Common.{refl, rules, ◌≢◌, None}
-use Rattle.std.specs.Prelude.{IfErr}
+use Rattle.interleave_map.specs.declared.ready.Interleaving.{Interleaving}
+use Rattle.save_device.specs.Device.{DeviceState, MayLeave, present}
 use Rattle.slot_store.specs.Outcomes.{restored}
 use Rattle.slot_store.specs.Told.{Refuses, IsFailure}
-use Rattle.slot_store.specs.declared.restoring.RestoreError.{RestoreError}
-use Rattle.nv_session.proofs.InLife.{revived_stands, if_err_holds, if_err_tells}
-use Rattle.nv_session.specs.Restoring.{KeepsPrefixOf}
+use Rattle.nv_machine.specs.State.{Setup}
+use Rattle.nv_profile.specs.declared.profile.Profile.{Profile}
+use Rattle.nv_session.specs.Living.{RunsWith, fuse_state}
+use Rattle.nv_session.specs.Restoring.{FindsPrefixOf, KeepsPrefixOf, Revives}
+use Rattle.nv_session.specs.Sessions.{moment_in, restored_in, setup_over}
+use Rattle.nv_session.proofs.Beginning.{revives_again, same_restored, same_setup}
 use Rattle.nv_session.proofs.Restoring.{session_finds, session_fails, session_keeps}
 use Rattle.nv_session.proofs.session.Session.restore.Goals as goal
 
 pub returns-clause-revives : goal.returns-clause-revives
 returns-clause-revives g c =
-    let L = g.C.Channels in let M = g.D.Channels in let it = c.in_ok-life.life in let same = c.stop.ensures.profile in
-    record {
-      it = it;
-      runs = c.begin.ensures.life;
-      over = subst (λ (w : MapWord). IsOverMap L M w it) (c.unwrap_or.ensures ∙ ap (λ (p : Profile). unwrap_or c.args.map p.map) same) c.in_ok-life.ensures.over;
-      holds = revives_still L M it c.in_ok-life.found _ _ _ _ _ _ c.in_ok-life.ensures.revives (ap (λ (p : Profile). lines_of p.checked.geometry) same)
-          (sym (ap (λ (s : DeviceState). s.bytes) c.begin.ensures.device ∙ c.revive.ensures.same)) (sym c.begin.ensures.device);
-    }
+    let L = g.K.ChannelPort in let old = c.args.self.now in let stopped = c.stop.new.self in let new = c.revive.new.self in
+    let map : Interleaving = unwrap_or c.args.map old.profile.map in
+    let device : DeviceState = fuse_state new.device in
+    IfOk-weaker c.revive.result
+    (λ found. RunsWith L (setup_over stopped c.unwrap_or.result) (λ it. Revives L (restored_in stopped) found it device) new.life)
+    (λ found. RunsWith L (setup_over old map) (λ it. Revives L (restored_in new) found it device) new.life)
+    (λ found runs.
+    revives_again L (setup_over stopped c.unwrap_or.result) (setup_over old map) (restored_in stopped) (restored_in new) found device new.life
+    (same_setup old stopped c.unwrap_or.result map c.stop.ensures.profile c.stop.ensures.wires (c.unwrap_or.ensures ∙ ap (λ (p : Profile). unwrap_or c.args.map p.map) c.stop.ensures.profile))
+    (sym (same_restored stopped new c.revive.ensures.profile c.revive.ensures.same)) runs)
+    c.revive.ensures.revives
 
 pub returns-clause-finds : goal.returns-clause-finds
 returns-clause-finds g c =
-    let old = c.args.self.now in
-    let same = sym (ap (λ (s : DeviceState). s.bytes) c.begin.ensures.device ∙ c.revive.ensures.same) in
-    session_finds g.C.Channels g.D.Channels (unwrap_or c.args.map old.profile.map) old.profile old.life _ (with_calls (state_of old.device.device) old.device.calls) _ _ c.in_ok-life.found old.life_fits
-    (subst (λ (bytes : List ℕ). MayLeave (present (state_of old.device.device)) bytes) same c.stop.ensures.left) (returns-clause-revives g c)
+    let L = g.K.ChannelPort in let old = c.args.self.now in let new = c.revive.new.self in
+    let setup : Setup = setup_over old (unwrap_or c.args.map old.profile.map) in
+    let device : DeviceState = fuse_state new.device in let lines : ℕ = lines_of old.profile.checked.geometry in
+    IfOk-weaker c.revive.result (λ found. RunsWith L setup (λ it. Revives L (restored_in new) found it device) new.life) (λ found. FindsPrefixOf L lines setup (moment_in old) found (moment_in new))
+    (λ found runs.
+    session_finds L old.profile setup (moment_in old) (moment_in new) device.bytes found old.living
+    (subst (λ (bytes : List ℕ). MayLeave (present (fuse_state old.device)) bytes) (sym c.revive.ensures.same) c.stop.ensures.left)
+    (subst (λ (p : Profile). RunsWith L setup (λ it. Revives L (restored (lines_of p.checked.geometry) device.bytes) found it device) new.life) (c.revive.ensures.profile ∙ c.stop.ensures.profile) runs))
+    (returns-clause-revives g c)
 
-pub begin-requires-clause-stands : goal.begin-requires-clause-stands
-begin-requires-clause-stands g c = revived_stands g.C.Channels g.D.Channels c.in_ok-life.life _ _ c.in_ok-life.found _ _ c.in_ok-life.ensures.revives refl
+pub returns-clause-fails : goal.returns-clause-fails
+returns-clause-fails g c =
+    let old = c.args.self.now in let lines : ℕ = lines_of old.profile.checked.geometry in let bytes : List ℕ = (fuse_state c.stop.new.self.device).bytes in
+    IfErr-weaker c.revive.result (λ error. Refuses error (restored (lines_of c.stop.new.self.profile.checked.geometry) bytes)) (λ error. old.life ≢ None → IsFailure error)
+    (λ error refuses.
+    session_fails g.K.ChannelPort old.profile old.life (moment_in old) bytes error old.living c.stop.ensures.left
+    (subst (λ (p : Profile). Refuses error (restored (lines_of p.checked.geometry) bytes)) c.stop.ensures.profile refuses))
+    c.revive.ensures.refused
 
-pub returns-in_err-life-clause-none : goal.returns-in_err-life-clause-none
-returns-in_err-life-clause-none g c = if_err_holds c.from_residual.result (c.revive.ensures.life ∙ c.stop.ensures.life)
-
-pub returns-in_err-life-clause-fails : goal.returns-in_err-life-clause-fails
-returns-in_err-life-clause-fails g c =
-    let old = c.args.self.now in
-    let bytes : List ℕ = (state_of c.revive.new.self.device.device).bytes in
-    let Told : RestoreError → Type 0 = λ error. Refuses error (restored (lines_of old.profile.checked.geometry) bytes) in
-    let refused : IfErr c.from_residual.result Told = search rules in
-    if_err_tells c.from_residual.result Told (λ error. old.life ≢ None → IsFailure error) refused
-    (λ error refuses. session_fails g.C.Channels g.D.Channels old.profile old.life (with_calls (state_of old.device.device) old.device.calls) bytes error old.life_fits old.stands
-    (subst (λ (bytes : List ℕ). MayLeave (present (state_of old.device.device)) bytes) (sym c.revive.ensures.same) c.stop.ensures.left) refuses)
-
-pub returns-in_err-life-clause-keeps : goal.returns-in_err-life-clause-keeps
-returns-in_err-life-clause-keeps g c =
-    let L = g.C.Channels in let M = g.D.Channels in let old = c.args.self.now in
-    let device : DeviceState = with_calls (state_of old.device.device) old.device.calls in
-    let stopped : DeviceState = with_calls (state_of c.stop.new.self.device.device) c.stop.new.self.device.calls in
-    let device' : DeviceState = with_calls (state_of c.revive.new.self.device.device) c.revive.new.self.device.calls in
-    let lines : ℕ = lines_of old.profile.checked.geometry in
-    let Told : RestoreError → Type 0 = λ error. Refuses error (restored lines device'.bytes) in
-    let refused : IfErr c.from_residual.result Told = search rules in
-    if_err_tells c.from_residual.result Told (λ error. KeepsPrefixOf L M lines old.life device error device') refused
-    (λ error refuses. session_keeps L M old.profile old.life device stopped device' error old.life_fits c.stop.ensures.left c.stop.ensures.settled c.revive.ensures.any_moment
-    (subst (λ (bytes : List ℕ). Refuses error (restored lines bytes)) c.revive.ensures.same refuses))
+pub returns-clause-keeps : goal.returns-clause-keeps
+returns-clause-keeps g c =
+    let L = g.K.ChannelPort in let old = c.args.self.now in let new = c.revive.new.self in
+    let stopped : DeviceState = fuse_state c.stop.new.self.device in let lines : ℕ = lines_of old.profile.checked.geometry in
+    IfErr-weaker c.revive.result (λ error. Refuses error (restored (lines_of c.stop.new.self.profile.checked.geometry) stopped.bytes)) (λ error. KeepsPrefixOf L lines (moment_in old) error (moment_in new))
+    (λ error refuses.
+    session_keeps L old.profile (moment_in old) (moment_in new) stopped error old.living c.stop.ensures.left c.stop.ensures.settled c.revive.ensures.any_moment
+    (subst (λ (p : Profile). Refuses error (restored (lines_of p.checked.geometry) stopped.bytes)) c.stop.ensures.profile refuses))
+    c.revive.ensures.refused

@@ -1,25 +1,16 @@
-use Rattle.std.proofs.Common.{refl}
-use Rattle.module_core.specs.declared.events.Event.TheVariants as events
-use Rattle.module_core.specs.declared.events.Reply.TheVariants as replies
-use Rattle.nv_workers.specs.Lent.{Lent, lent}
-use Rattle.nv_workers.proofs.Holding.{same_size, same_channels}
+use Rattle.std.proofs.Common.{◌∙◌, refl}
+use Rattle.nv_machine.specs.declared.events.Event.TheVariants as events
+use Rattle.nv_machine.specs.declared.events.Reply.TheVariants as replies
 use Rattle.nv_workers.proofs.Keeping.{keeps_same}
-use Rattle.nv_workers.proofs.Quiet.{keeps_quiet, work_is_quiet}
-use Rattle.nv_workers.proofs.NewestImages.{keeps_newest}
+use Rattle.nv_workers.proofs.Quiet.{work_is_quiet, same_marks}
 use Rattle.nv_workers.proofs.held.Held.work.Goals as goal
 
-pub invariant_of-self : goal.invariant_of-self
-invariant_of-self g c =
-    let L = g.C.Channels in let it = c.args.self.now in
-    let old : Lent L = lent L it.running (g.D.SaveDevice.state it.device) (g.E.Energy.gauge it.energy) in
-    let new : Lent L = lent L c.work.new.self (g.D.SaveDevice.state it.device) (g.E.Energy.gauge it.energy) in
-    record {
-      board = it.board;
-      channels = same_channels L it.running c.work.new.self g.B.Room.channels it.channels c.work.ensures.setup;
-      newest = keeps_newest L it.saved _ (events.Work c.args.channel) (replies.Work c.work.result) old new it.newest (c.work.ensures.answers (g.D.SaveDevice.state it.device) (g.E.Energy.gauge it.energy)) refl;
-      held = keeps_quiet L g.B.Room.board it.seat _ (events.Work c.args.channel) (replies.Work c.work.result) old new (work_is_quiet c.args.channel c.work.result) it.held (c.work.ensures.answers (g.D.SaveDevice.state it.device) (g.E.Energy.gauge it.energy)) (same_size L it.running c.work.new.self (g.D.SaveDevice.state it.device) it.held.size c.work.ensures.setup) refl;
-      kept = keeps_same L g.B.Room.before (events.Work c.args.channel) (replies.Work c.work.result) old new it.history it.tally.book.total refl it.kept (c.work.ensures.answers (g.D.SaveDevice.state it.device) (g.E.Energy.gauge it.energy)) c.work.ensures.setup;
-    }
+pub invariant_of-self-clause-kept : goal.invariant_of-self-clause-kept
+invariant_of-self-clause-kept g c =
+    let it = c.args.self.now in let call = c.work in let after = record it.recorded { running = call.new.self } in
+    keeps_same g.K.ChannelPort g.D.SaveDevice g.E.Energy (events.Work c.args.channel) (replies.Work call.result) it.recorded after it.kept (call.ensures.answers _ _) call.ensures.setup refl refl refl
 
-pub returns-clause-steps : goal.returns-clause-steps
-returns-clause-steps g c = c.work.ensures.answers (g.D.SaveDevice.state c.args.self.now.device) (g.E.Energy.gauge c.args.self.now.energy)
+pub invariant_of-self-clause-shown : goal.invariant_of-self-clause-shown
+invariant_of-self-clause-shown g c =
+    let it = c.args.self.now in let call = c.work in let after = record it.recorded { running = call.new.self } in
+    it.shown ∙ same_marks g.K.ChannelPort g.D.SaveDevice g.E.Energy (events.Work c.args.channel) (replies.Work call.result) it.recorded after it.kept (call.ensures.answers _ _) (work_is_quiet c.args.channel call.result) g.B.BoardName.board

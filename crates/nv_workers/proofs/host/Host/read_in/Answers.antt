@@ -1,10 +1,10 @@
 use Rattle.std.proofs.Common.{ap, arith, subst}
 use Rattle.std.specs.Prelude.{Result}
-use Rattle.channel_answers.specs.declared.answers.Got.{Got}
+use Rattle.channel_port.specs.declared.answers.Got.{Got}
 use Rattle.mark_board.specs.SeenMarks.{SeenMarks}
 use Rattle.arm_state.specs.declared.refusal.ReadRefusal.{ReadRefusal}
-use Rattle.module_core.specs.declared.events.Event.TheVariants as events
-use Rattle.module_core.specs.declared.events.Reply.TheVariants as replies
+use Rattle.nv_machine.specs.declared.events.Event.TheVariants as events
+use Rattle.nv_machine.specs.declared.events.Reply.TheVariants as replies
 use Rattle.nv_workers.specs.Client.{Client}
 use Rattle.nv_workers.specs.Steps.{Steps}
 use Rattle.nv_workers.proofs.host.Host.read_in.Goals.{in-Ok, in-Err}
@@ -12,12 +12,12 @@ use Rattle.nv_workers.proofs.host.Host.read_in.Goals as goal
 
 pub returns-clause-ok : goal.returns-clause-ok
 returns-clause-ok g c =
-    let Stepped : Result Got ReadRefusal → Type 0 = λ r. Steps g.C.Channels g.D.SaveDevice g.E.Energy g.B.Room (events.Read c.args.line) (replies.Read r) c.args.held.now c.read-reply.new.self in
+    let Stepped : Result Got ReadRefusal → Type 0 = λ r. Steps g.K.ChannelPort g.D.SaveDevice g.E.Energy g.B.BoardName (events.Read c.args.line) (replies.Read r) c.args.held.now c.read-reply.new.self in
     elim c.match-reply.branch [ in-Ok w ↦ rw w.result-is (subst Stepped w.in-Ok.is c.read-reply.ensures.steps) | in-Err w ↦ rw w.result-is tt ]
 
 pub returns-clause-err : goal.returns-clause-err
 returns-clause-err g c =
-    let Stepped : Result Got ReadRefusal → Type 0 = λ r. Steps g.C.Channels g.D.SaveDevice g.E.Energy g.B.Room (events.Read c.args.line) (replies.Read r) c.args.held.now c.read-reply.new.self in
+    let Stepped : Result Got ReadRefusal → Type 0 = λ r. Steps g.K.ChannelPort g.D.SaveDevice g.E.Energy g.B.BoardName (events.Read c.args.line) (replies.Read r) c.args.held.now c.read-reply.new.self in
     elim c.match-reply.branch [ in-Ok w ↦ rw w.result-is tt | in-Err w ↦ rw w.result-is (subst Stepped w.in-Err.is c.read-reply.ensures.steps) ]
 
 pub returns-clause-at : goal.returns-clause-at

@@ -1,18 +1,18 @@
 use Rattle.std.proofs.Common.{ℕ, ap, arith, subst}
 use Rattle.std.specs.Prelude.{Result, Ok}
 use Rattle.mark_board.specs.SeenMarks.{SeenMarks}
-use Rattle.module_core.specs.declared.events.Accepted.{Accepted}
+use Rattle.nv_machine.specs.declared.events.Accepted.{Accepted}
 use Rattle.arm_state.specs.declared.refusal.WriteRefusal.{WriteRefusal}
-use Rattle.module_core.specs.declared.events.Event.TheVariants as events
-use Rattle.module_core.specs.declared.events.Reply.TheVariants as replies
-use Rattle.nv_workers.specs.Lent.{told_at}
+use Rattle.nv_machine.specs.declared.events.Event.TheVariants as events
+use Rattle.nv_machine.specs.declared.events.Reply.TheVariants as replies
+use Rattle.nv_workers.specs.Marks.{told_at}
 use Rattle.nv_workers.specs.Steps.{Steps}
 use Rattle.nv_workers.proofs.host.Host.write_in.Goals.{in-Ok, in-Err}
 use Rattle.nv_workers.proofs.host.Host.write_in.Goals as goal
 
 pub returns-clause-ok : goal.returns-clause-ok
 returns-clause-ok g c =
-    let Stepped : Result Accepted WriteRefusal → Type 0 = λ r. Steps g.C.Channels g.D.SaveDevice g.E.Energy g.B.Room (events.Write c.args.write) (replies.Write r) c.args.held.now c.write.new.self in
+    let Stepped : Result Accepted WriteRefusal → Type 0 = λ r. Steps g.K.ChannelPort g.D.SaveDevice g.E.Energy g.B.BoardName (events.Write c.args.write) (replies.Write r) c.args.held.now c.write.new.self in
     elim c.match-write.branch [ in-Ok w ↦ rw w.result-is (subst (λ (mark : ℕ). Stepped (Ok (told_at w.in-Ok.accepted.number mark))) w.in-Ok.ensures.counted.mark w.in-Ok.ensures.steps) | in-Err w ↦ rw w.result-is tt ]
 
 pub returns-clause-err : goal.returns-clause-err

@@ -9,7 +9,7 @@ pub returns-clause-makes : goal.returns-clause-makes
 returns-clause-makes c =
     let old = state_of c.args.self.now in let m = c.args.self.now in
     record {
-      call = record { counted = c.note-2.ensures; time = elapses_noted old _ (noted m.past.items c.note.new.self.items m.content c.note.ensures) };
+      call = record { counted = c.note-2.ensures; time = elapses_noted old _ (noted m.earlier.items c.note.new.self.items m.content c.note.ensures) };
       done = refl;
       settled = none_up m.span.low m.span.high m.content.unsettled.items c.clear.new.flags.items m.spanned c.clear.ensures;
       outside = record { size = refl; outside = λ place out. refl };

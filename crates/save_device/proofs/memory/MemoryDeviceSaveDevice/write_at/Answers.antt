@@ -24,7 +24,7 @@ pub returns-clause-makes : goal.returns-clause-makes
 returns-clause-makes c =
     let old = state_of c.args.self.now in let m = c.args.self.now in let n = length c.args.bytes.now in
     record {
-      call = record { counted = c.note-2.ensures; time = elapses_noted old _ (noted m.past.items c.note.new.self.items m.content c.note.ensures) };
+      call = record { counted = c.note-2.ensures; time = elapses_noted old _ (noted m.earlier.items c.note.new.self.items m.content c.note.ensures) };
       done = c.overwrite.ensures;
       settled = tt;
       outside = differs_within m.content.bytes.items c.overwrite.new.row.items c.args.bytes.now c.args.at c.requires c.overwrite.ensures;

@@ -1,8 +1,6 @@
-use Rattle.std.proofs.Common.{◌≡◌, ◌<◌, ◌+◌, ◌*◌, ℕ, Bool, if◌then◌else◌, ap, sym, ◌∙◌, arith}
+use Rattle.std.proofs.Common.{if◌then◌else◌}
 use Rattle.std.proofs.lemmas.Bool.Decides.{Decides-ltb}
-use Rattle.slot_store.specs.declared.plan.Step.{Step}
-use Rattle.slot_store.specs.declared.plan.Step.TheVariants.{Page, SyncBody}
-use Rattle.slot_store.specs.Steps.{step_after}
+use Rattle.slot_store.proofs.Common.{ℕ, ◌*◌, ◌+◌, ◌<◌, ◌∙◌, ◌≡◌, Bool, Page, Step, SyncBody, ap, arith, step_after, sym}
 use Rattle.slot_store.proofs.saving.SaveRun.after.Goals as goal
 
 after_the_last : (lines k : ℕ) (next : Step) → next ≡ Page k → lines < 64 * (k + 2) → step_after lines next ≡ SyncBody

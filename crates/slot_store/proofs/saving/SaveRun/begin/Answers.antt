@@ -1,4 +1,4 @@
-use Rattle.std.proofs.Common.{refl}
+use Rattle.slot_store.proofs.Common.{refl}
 use Rattle.slot_store.proofs.saving.SaveRun.begin.Goals as goal
 
 pub returns-clause-count : goal.returns-clause-count

@@ -1,9 +1,6 @@
-use Rattle.std.proofs.Common.{◌≡◌, ◌⊎◌, inl, inr, ◌+◌, ◌*◌, ℕ, List, [], ◌∷◌, Bool, true, false, is_ok, if◌then◌else◌, ap, sym, ◌∙◌, subst}
-use Rattle.save_device.specs.Changes.{Change, Put, Settle, Makes}
-use Rattle.slot_store.specs.declared.plan.Plan.{Plan}
-use Rattle.slot_store.specs.declared.plan.Step.{Step}
-use Rattle.slot_store.specs.declared.plan.Step.TheVariants.{Close, SyncClosed, Page, SyncBody, Open, SyncOpen, Done}
-use Rattle.slot_store.specs.Changes.{change_of, gate_of}
+use Rattle.std.proofs.Common.{if◌then◌else◌, is_ok}
+use Rattle.save_device.specs.Changes.{Change}
+use Rattle.slot_store.proofs.Common.{[], ℕ, ◌*◌, ◌+◌, ◌∙◌, ◌∷◌, ◌≡◌, ◌⊎◌, Bool, Close, Done, List, Makes, Open, Page, Plan, Put, Settle, Step, SyncBody, SyncClosed, SyncOpen, ap, change_of, false, gate_of, inl, inr, subst, sym, true}
 use Rattle.slot_store.proofs.saving.SaveRun.call.Goals as goal
 
 -- what a step changes that stands at this one

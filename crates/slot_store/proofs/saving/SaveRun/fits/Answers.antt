@@ -1,5 +1,5 @@
-use Rattle.std.proofs.Common.{sym, ◌∙◌}
 use Rattle.std.proofs.lemmas.Bool.Decides.{Decides-eqb}
+use Rattle.slot_store.proofs.Common.{◌∙◌, sym}
 use Rattle.slot_store.proofs.saving.SaveRun.fits.Goals as goal
 
 pub returns : goal.returns

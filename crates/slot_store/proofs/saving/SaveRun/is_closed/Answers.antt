@@ -1,6 +1,4 @@
-use Rattle.std.proofs.Common.{ap, sym}
-use Rattle.slot_store.specs.declared.plan.Step.{Step}
-use Rattle.slot_store.specs.Changes.{closed_before}
+use Rattle.slot_store.proofs.Common.{Step, ap, closed_before, sym}
 use Rattle.slot_store.proofs.saving.SaveRun.is_closed.Goals as goal
 
 pub returns-in-Open : goal.returns-in-Open

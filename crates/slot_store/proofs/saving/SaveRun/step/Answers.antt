@@ -1,12 +1,14 @@
-use Rattle.std.proofs.Common.{false, refl, sym, subst}
-use Rattle.slot_store.specs.declared.plan.Step.{Step}
-use Rattle.slot_store.specs.Saving.{SlotHas, SavingAt}
-use Rattle.slot_store.proofs.Standing.{stands_next, stands_again}
-use Rattle.slot_store.proofs.Going.{saving_next, saving_again, stop_within}
+use Rattle.slot_store.proofs.Common.{SavingAt, SlotHas, Step, false, refl, subst, sym}
+use Rattle.slot_store.proofs.Going.{saving_again, saving_next, stop_within}
+use Rattle.slot_store.proofs.Standing.{stands_again, stands_next}
+use Rattle.slot_store.proofs.Stops.{in_slot}
 use Rattle.slot_store.proofs.saving.SaveRun.step.Goals as goal
 
 pub returns-in-Err-clause-call : goal.returns-in-Err-clause-call
 returns-in-Err-clause-call g c = rw c.in-Err.is at c.call.ensures
+
+pub returns-in-Err-clause-outside : goal.returns-in-Err-clause-outside
+returns-in-Err-clause-outside g c = let run = c.args.self.now in in_slot run.plan run.next c.args.page.now c.told-page run.place c.call.ensures.outside
 
 pub returns-in-Err-clause-next : goal.returns-in-Err-clause-next
 returns-in-Err-clause-next g c = record { plan = refl; next = refl; tried = refl }
@@ -28,6 +30,9 @@ returns-in-Err-clause-any_moment g c = λ candidates old memory s.
 
 pub returns-in-Ok-clause-call : goal.returns-in-Ok-clause-call
 returns-in-Ok-clause-call g c = rw c.in-Ok.is at c.call.ensures
+
+pub returns-in-Ok-clause-outside : goal.returns-in-Ok-clause-outside
+returns-in-Ok-clause-outside g c = let run = c.args.self.now in in_slot run.plan run.next c.args.page.now c.told-page run.place c.call.ensures.outside
 
 pub returns-in-Ok-clause-next : goal.returns-in-Ok-clause-next
 returns-in-Ok-clause-next g c = record { plan = refl; next = c.after-self.ensures.after; tried = refl }

@@ -1,5 +1,4 @@
-use Rattle.std.proofs.Common.{ap, sym}
-use Rattle.slot_store.specs.Steps.{steps_left}
+use Rattle.slot_store.proofs.Common.{ap, steps_left, sym}
 use Rattle.slot_store.proofs.saving.SaveRun.steps_left.Goals as goal
 
 pub returns-in-SyncOpen : goal.returns-in-SyncOpen

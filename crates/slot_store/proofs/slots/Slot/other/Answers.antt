@@ -1,5 +1,4 @@
-use Rattle.std.proofs.Common.{ap, sym}
-use Rattle.slot_store.specs.Slots.{other}
+use Rattle.slot_store.proofs.Common.{ap, other, sym}
 use Rattle.slot_store.proofs.slots.Slot.other.Goals as goal
 
 pub returns-in-First : goal.returns-in-First

@@ -1,5 +1,4 @@
-use Rattle.std.proofs.Common.{ap, sym}
-use Rattle.slot_store.specs.Slots.{start_of}
+use Rattle.slot_store.proofs.Common.{ap, start_of, sym}
 use Rattle.slot_store.proofs.slots.Slot.start.Goals as goal
 
 pub returns-in-First : goal.returns-in-First

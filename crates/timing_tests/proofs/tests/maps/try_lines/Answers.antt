@@ -1,12 +1,7 @@
 use Rattle.std.proofs.Common.{rules}
-use Rattle.interleave_map.specs.Interleaving.{place_by_lines}
-use Rattle.interleave_map.proofs.Closures.{closures_by_lines}
+use Rattle.interleave_map.specs.declared.ready.Interleaving.TheVariants.{Lines}
+use Rattle.interleave_map.proofs.Closures.{closures_by_ready}
 use Rattle.timing_tests.proofs.tests.maps.try_lines.Goals as goal
 
 pub new-map-requires : goal.new-map-requires
-new-map-requires g c =
-    let geometry = c.args.checked.geometry in (
-      place_by_lines geometry,
-      closures_by_lines geometry c.args.checked.is_small (search rules)
-          (record { callable = search rules; value = search rules; only = search rules }),
-    )
+new-map-requires g c = closures_by_ready c.args.checked Lines (search rules) (record { callable = search rules; value = search rules; only = search rules })

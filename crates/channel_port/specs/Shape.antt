@@ -1,0 +1,29 @@
+-- What doesn't change of the channels of a memory.
+use Rattle.std.specs.Prelude.{◌≡◌, ◌==◌, ℕ, ◌*◌, ◌%◌, ◌≤◌, Bool}
+use Rattle.energy_budget.specs.declared.costs.Costs.{Costs}
+use Rattle.channel_port.specs.Waits.{Waits, writes_on, reads_on}
+
+-- How many lines there are and the channel of each, how many channels, how many writes may wait in one and how many reads may
+-- be open in one, and what a closing save of them costs.
+pub record Shape : Type 0 where
+  pub lines : ℕ
+  pub channels : ℕ
+  pub channel_of : ℕ → ℕ
+  pub depth : ℕ
+  pub reads : ℕ
+  pub costs : Costs
+
+-- the numbers of a profile: whole pages, 1,024 of them at most, and costs that are reckoned for them
+pub record IsShape (s : Shape) : Type 0 where
+  pub some : 64 ≤ s.lines
+  pub most : s.lines ≤ 65536
+  pub whole : s.lines % 64 ≡ 0
+  pub pages : s.lines ≡ 64 * s.costs.pages
+  pub channels : s.channels ≡ s.costs.channels
+
+-- whether the line's channel has no room for a further write, and for a further read
+abbrev pub is_full_at : Shape → Waits → ℕ → Bool
+is_full_at s waits line = writes_on (s.channel_of line) waits.writes == s.depth
+
+abbrev pub is_full_of_reads_at : Shape → Waits → ℕ → Bool
+is_full_of_reads_at s waits line = reads_on (s.channel_of line) waits.reads == s.reads

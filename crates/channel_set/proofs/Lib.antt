@@ -1,0 +1,14 @@
+pub mod Common
+pub mod Lists
+pub mod Piles
+pub mod Alike
+pub mod Written
+pub mod Counted
+pub mod Carried
+pub mod Putting
+pub mod Settling
+pub mod Answered
+pub mod Paging
+pub mod Turned
+pub mod Paying
+pub mod Drained

@@ -1,0 +1,4 @@
+pub mod Ports
+pub mod Set
+pub mod Carrying
+pub mod Draining

@@ -1,0 +1,44 @@
+// Backup: mains and the reads are lost, and the channels are drained.
+ghost use Rattle.std.specs.Prelude.{◌≡◌, []};
+ghost use Rattle.channel_port.specs.declared.stage.Stage.TheVariants.{OnBackup, OnMains};
+
+use crate::ChannelSet;
+use channel_port::ChannelPort;
+use energy_budget::{Dark, Energy};
+
+impl<K: ChannelPort> ChannelSet<K> {
+    ghost use Rattle.channel_set.specs.Set.{AreAt, view_of};
+    ghost use Rattle.channel_set.specs.Carrying.{KeepsAll};
+    ghost use Rattle.channel_set.specs.Draining.{DrainsAll};
+
+    /// Ends the work on mains, as backup begins: all reads are lost, and their tickets are unknown from now on.
+    pub fn lose_mains(&mut self)
+        requires { AreAt K.ChannelPort OnMains self.old }
+        ensures reads { (view_of K.ChannelPort self.new).waits
+            ≡ record (view_of K.ChannelPort self.old).waits { reads = [] } }
+        ensures rest { view_of K.ChannelPort self.new ≡ record (view_of K.ChannelPort self.old) {
+          waits = (view_of K.ChannelPort self.new).waits;
+        } }
+        ensures backup { AreAt K.ChannelPort OnBackup self.new }
+        ensures keeps { KeepsAll K.ChannelPort self.old self.new }
+    {
+        for port in self.ports.iter_mut() {
+            port.lose_mains();
+        }
+    }
+
+    /// Drains all channels in rising order, each action of it paid for before it is made, where no read is open any more. Where
+    /// a payment is refused nothing runs after it. Once all are drained nothing waits.
+    pub fn drain<E: Energy>(&mut self, energy: &mut E) -> Result<(), Dark>
+        requires backup { AreAt K.ChannelPort OnBackup self.old }
+        requires lost { (view_of K.ChannelPort self.old).waits.reads ≡ [] }
+        ensures drains { DrainsAll (view_of K.ChannelPort self.old) (E.gauge energy.old) result
+            (view_of K.ChannelPort self.new) (E.gauge energy.new) }
+        ensures keeps { KeepsAll K.ChannelPort self.old self.new }
+    {
+        for port in self.ports.iter_mut() {
+            port.drain(&self.costs, energy)?;
+        }
+        Ok(())
+    }
+}

@@ -1,0 +1,152 @@
+-- A channel whose array is filled with the lines of a memory, one line after the other.
+use Rattle.std.proofs.Common.{◌≡◌, ◌≢◌, ◌+◌, ◌<◌, ◌≤◌, ◌^◌, ℕ, List, [], filter, length, nat_lt, slice_get, slice_index_or, Some, refl, sym, ap, subst, ◌∙◌, arith, length-set, get_or-set_same, get_or-set_other, ⊎_elim}
+use Rattle.std.proofs.lemmas.Bool.Decides.{eqb_tells}
+use Rattle.line_memory.specs.Memory.{line_of}
+use Rattle.ddr4_timing.specs.Limits.{lines_of}
+use Rattle.ddr4_timing.specs.Places.{LiesIn}
+use Rattle.ddr4_timing.specs.declared.command.Stamped.{Stamped}
+use Rattle.ddr4_timing.specs.declared.place.Place.{Place}
+use Rattle.ddr4_timing.specs.declared.timing.Checked.{Checked}
+use Rattle.ddr4_timing.specs.declared.timing.Geometry.{Geometry}
+use Rattle.interleave_map.specs.Cells.{cells_of}
+use Rattle.interleave_map.specs.Inverse.{IsInterleaving}
+use Rattle.interleave_map.proofs.Numbering.{cell_within, same_cell_same_place}
+use Rattle.wpq_core.specs.declared.queue.PendingWrite.{PendingWrite}
+use Rattle.wpq_core.specs.PendingMemory.{after_pending}
+use Rattle.frfcfs.specs.Margin.{last_clock}
+use Rattle.channel_port.specs.declared.stage.Stage.TheVariants.{OnMains}
+use Rattle.chan_core.specs.Always.{IsChannel}
+use Rattle.chan_core.specs.Calls.{loaded_at}
+use Rattle.chan_core.specs.Mapped.{IsPlaceOn, LiesOn}
+use Rattle.chan_core.specs.State.{ChannelState, cell_in, stored_at}
+use Rattle.ddr4_port.specs.Carrying.{Carries}
+use Rattle.ddr4_port.specs.Memory.{HoldsFirst, IsFresh}
+use Rattle.ddr4_port.proofs.Keeping.{carried}
+use Rattle.ddr4_port.proofs.Seen.{place-named, places_of}
+use Rattle.ddr4_port.proofs.Standing.{IsPort}
+
+-- So far it has no command and no request, and its first lines are those of the memory.
+pub record IsFilling (f : ℕ → Place) (checked : Checked) (number depth reads : ℕ) (memory : List (List ℕ)) (n : ℕ) (s : ChannelState) : Type 0 where
+  pub fresh : IsFresh checked number depth reads s
+  pub size : length s.array ≡ cells_of checked.geometry
+  pub holds : HoldsFirst f memory n s
+
+module _ (f : ℕ → Place) (checked : Checked) (number depth reads : ℕ) (memory : List (List ℕ)) (map : IsInterleaving checked.geometry f) (n : ℕ) (s : ChannelState) (fill : IsFilling f checked number depth reads memory n s) where
+  same-checked : s.checked ≡ checked
+  same-checked = ap (λ (x : ChannelState). x.checked) fill.fresh
+
+  same-number : s.channel ≡ number
+  same-number = ap (λ (x : ChannelState). x.channel) fill.fresh
+
+  seen : IsInterleaving s.checked.geometry f
+  seen = subst (λ (c : Checked). IsInterleaving c.geometry f) (sym same-checked) map
+
+  in-all : n < lines_of checked.geometry → n < lines_of s.checked.geometry
+  in-all less = subst (λ (c : Checked). n < lines_of c.geometry) (sym same-checked) less
+
+  -- the next line's place, where it is on this channel
+  pub loads-there : n < lines_of checked.geometry → (f n).channel ≡ number → IsPlaceOn s (f n)
+  loads-there less here = record { lies_in = seen.lies_in n (in-all less); here = here ∙ sym same-number }
+
+  pub loads-quiet : s.requests ≡ []
+  loads-quiet = ap (λ (x : ChannelState). x.requests) fill.fresh
+
+  -- another channel's line
+  pub passes : (f n).channel ≢ number → IsFilling f checked number depth reads memory (n + 1) s
+  passes other = record {
+    fresh = fill.fresh;
+    size = fill.size;
+    holds = λ line below lies. ⊎_elim
+        (λ same. absurd (other (sym (ap (λ k. (f k).channel) same.1) ∙ lies.here ∙ same-number)))
+        (λ apart. fill.holds line (omega (arith, below, apart.1)) lies)
+        (eqb_tells line n);
+  }
+
+  -- a line of this channel
+  module _ (bytes : List ℕ) (less : n < lines_of checked.geometry) (here : (f n).channel ≡ number) (value : bytes ≡ line_of memory n) where
+    abbrev later : ChannelState
+    later = loaded_at s (f n) bytes
+
+    within : cell_in s (f n) < length s.array
+    within =
+        let size : length s.array ≡ cells_of s.checked.geometry = fill.size ∙ sym (ap (λ (c : Checked). cells_of c.geometry) same-checked) in
+        omega (arith, size, cell_within s.checked.geometry (f n) (seen.lies_in n (in-all less)))
+
+    line-here : stored_at later (f n) ≡ line_of memory n
+    line-here = get_or-set_same s.array (cell_in s (f n)) bytes [] within ∙ value
+
+    line-elsewhere : (line : ℕ) → line < n → LiesOn f s line → stored_at later (f line) ≡ line_of memory line
+    line-elsewhere line below lies =
+        let g = s.checked.geometry in
+        let other : cell_in s (f line) ≢ cell_in s (f n) = λ e.
+        let same = seen.apart line n lies.below (in-all less) (same_cell_same_place g (f line) (f n) (seen.lies_in line lies.below) (seen.lies_in n (in-all less)) (lies.here ∙ same-number ∙ sym here) e) in
+        omega (arith, below, same) in
+        get_or-set_other s.array (cell_in s (f n)) (cell_in s (f line)) bytes [] other ∙ fill.holds line below lies
+
+    pub loads : IsFilling f checked number depth reads memory (n + 1) later
+    loads = record {
+      fresh = ap (λ (x : ChannelState). record x { array = later.array }) fill.fresh;
+      size = length-set s.array (cell_in s (f n)) bytes ∙ fill.size;
+      holds = λ line below lies. ⊎_elim
+          (λ same. subst (λ k. stored_at later (f k) ≡ line_of memory k) (sym same.1) line-here)
+          (λ apart. line-elsewhere line (omega (arith, below, apart.1)) (record { below = lies.below; here = lies.here }))
+          (eqb_tells line n);
+    }
+
+zero-clock : last_clock [] < 2 ^ 62 + 2 ^ 24
+unfolding last_clock
+zero-clock = omega arith
+
+-- With all lines of the memory it is a port.
+module _ (f : ℕ → Place) (checked : Checked) (number depth reads : ℕ) (memory : List (List ℕ)) (of_map : Geometry) (geometry : of_map ≡ checked.geometry) (map : IsInterleaving of_map f) (n : ℕ) (s : ChannelState)
+    (fill : IsFilling f checked number depth reads memory n s) where
+  its-checked : s.checked ≡ checked
+  its-checked = ap (λ (x : ChannelState). x.checked) fill.fresh
+
+  its-map : IsInterleaving s.checked.geometry f
+  its-map = subst (λ g. IsInterleaving g f) (geometry ∙ sym (ap (λ (c : Checked). c.geometry) its-checked)) map
+
+  placed : (line : ℕ) → line < lines_of s.checked.geometry → places_of f s line ≡ f line
+  placed line less = place-named f s.checked.geometry line less
+
+  seen-places : IsInterleaving s.checked.geometry (places_of f s)
+  seen-places = record {
+    lies_in = λ line less. subst (LiesIn s.checked.geometry) (sym (placed line less)) (its-map.lies_in line less);
+    apart = λ line other less below same. its-map.apart line other less below (sym (placed line less) ∙ same ∙ placed other below);
+    onto = λ place lies. let is = its-map.onto place lies in (is.0, is.1, placed is.0 is.1 ∙ is.2);
+  }
+
+  pub begins-right : (lawful : Type 0) → lawful → IsChannel s → IsPort lawful of_map f OnMains s
+  begins-right lawful is channel = (
+    record { lawful = is; geometry = geometry ∙ sym (ap (λ (c : Checked). c.geometry) its-checked) },
+    record {
+      channel = channel;
+      places = seen-places;
+      staged = record {
+        mains = λ on. record {
+          running = ap (λ (x : ChannelState). x.phase) fill.fresh;
+          early = subst (λ (commands : List Stamped). last_clock commands < 2 ^ 62 + 2 ^ 24) (sym (ap (λ (x : ChannelState). x.commands) fill.fresh)) zero-clock;
+        };
+        backup = λ on. absurd cc;
+        lost = λ off. absurd (off refl);
+      };
+    },
+  )
+
+  -- it carries the memory, and no write
+  pub begins-carries : length memory ≡ lines_of checked.geometry → length memory ≤ n → Carries (places_of f s) s memory []
+  begins-carries lines whole = carried (places_of f s) s memory [] (lines ∙ sym (ap (λ (c : Checked). lines_of c.geometry) its-checked)) (λ i w there. absurd (none i w there))
+      (λ line own. ap (λ ws. slice_index_or (after_pending s.array ws) (cell_in s (places_of f s line)) []) empty ∙ stored line own)
+      (λ k line waits own. ap (λ ws. slice_index_or (after_pending s.array (filter (λ w. nat_lt w.number k) ws)) (cell_in s (places_of f s line)) []) empty ∙ stored line own)
+    where
+      empty : s.writes ≡ []
+      empty = ap (λ (x : ChannelState). x.writes) fill.fresh
+
+      none : (i : ℕ) (w : PendingWrite) → slice_get s.writes i ≡ Some w → ⊥
+      none i w there = let gone : slice_get {X = PendingWrite} [] i ≡ Some w = ap (λ ws. slice_get ws i) (sym empty) ∙ there in cc
+
+      stored : (line : ℕ) → LiesOn (places_of f s) s line → stored_at s (places_of f s line) ≡ line_of memory line
+      stored line own =
+          let is = placed line own.below in
+          let all : lines_of s.checked.geometry ≡ lines_of checked.geometry = ap (λ (c : Checked). lines_of c.geometry) its-checked in
+          ap (stored_at s) is ∙ fill.holds line (omega (arith, all, own.below, lines, whole)) (record { below = own.below; here = sym (ap (λ (p : Place). p.channel) is) ∙ own.here })

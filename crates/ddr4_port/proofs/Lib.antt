@@ -1,0 +1,14 @@
+pub mod Numbers
+pub mod Keeping
+pub mod EarlyClocks
+pub mod Sending
+pub mod Telling
+pub mod Working
+pub mod Putting
+pub mod Seen
+pub mod Standing
+pub mod Paying
+pub mod Draining
+pub mod Beginning
+pub mod Shaping
+pub mod Assembling

@@ -1,0 +1,53 @@
+-- A port as the host's lines see it.
+use Rattle.std.proofs.Common.{◌≡◌, ◌<◌, ℕ, List, [], ◌∷◌, ◌++◌, Ok, sym, ap, subst, ◌∙◌, arith}
+use Rattle.std.proofs.lemmas.List.FromFn.{get_or-map-range_with_len}
+use Rattle.line_memory.specs.Memory.{after, line_of}
+use Rattle.line_memory.specs.Parts.{AreBefore, numbered, writes_of}
+use Rattle.line_memory.specs.declared.parts.Numbered.{Numbered}
+use Rattle.line_memory.specs.declared.Write.{Write}
+use Rattle.ddr4_timing.specs.Limits.{lines_of}
+use Rattle.ddr4_timing.specs.declared.place.Place.{Place}
+use Rattle.ddr4_timing.specs.declared.timing.Checked.{Checked}
+use Rattle.ddr4_timing.specs.declared.timing.Geometry.{Geometry}
+use Rattle.channel_port.specs.declared.answers.Got.{Got}
+use Rattle.channel_port.specs.declared.stage.Stage.{Stage}
+use Rattle.channel_port.specs.Answers.{IsGot}
+use Rattle.channel_port.specs.Carried.{KeepsCarried}
+use Rattle.channel_port.specs.Waits.{AllBelow}
+use Rattle.channel_set.specs.Ports.{nowhere}
+use Rattle.chan_core.specs.Calls.{AddsWrite, AnswersGet, WritesAt, after_get}
+use Rattle.chan_core.specs.Mapped.{LiesOn}
+use Rattle.chan_core.specs.State.{ChannelState, line_at}
+use Rattle.ddr4_port.specs.Carrying.{Carries}
+use Rattle.ddr4_port.specs.Port.{IsRightPort, listed_place, places_by, port_state, waits_of}
+use Rattle.ddr4_port.proofs.Putting.{above-there, carries-more}
+use Rattle.ddr4_port.proofs.Telling.{tells-got}
+
+pub place-named : (f : ℕ → Place) (g : Geometry) (line : ℕ) → line < lines_of g → listed_place (places_by f g) line ≡ f line
+place-named f g line less = get_or-map-range_with_len f 0 (lines_of g) line line nowhere less (omega arith)
+
+-- the places by which a channel of this profile is seen
+abbrev pub places_of : (ℕ → Place) → ChannelState → ℕ → Place
+places_of f s = listed_place (places_by f s.checked.geometry)
+
+-- where the profile stays, so do the places
+pub carries-seen : (f : ℕ → Place) (s t : ChannelState) → t.checked ≡ s.checked → KeepsCarried (Carries (places_of f s) s) (Carries (places_of f s) t) → KeepsCarried (Carries (places_of f s) s) (Carries (places_of f t) t)
+carries-seen f s t checked keeps base mine c = subst (λ (k : Checked). Carries (listed_place (places_by f k.geometry)) t base mine) (sym checked) (keeps base mine c)
+
+module _ (f : ℕ → Place) (stage : Stage) (s : ChannelState) (right : IsRightPort (port_state f stage s)) where
+  own-line : (line : ℕ) (place : Place) → line < lines_of s.checked.geometry → place ≡ places_of f s line → place.channel ≡ s.channel → LiesOn (places_of f s) s line
+  own-line line place less named here = record { below = less; here = sym (ap (λ (p : Place). p.channel) named) ∙ here }
+
+  pub put-carries : (t : ChannelState) (number : ℕ) (write : Write) (place : Place) → write.line < lines_of s.checked.geometry → place ≡ places_of f s write.line → place.channel ≡ s.channel
+      → AllBelow number (waits_of s).writes → AddsWrite s number place write.«data» t → WritesAt s place write.«data» t
+      → (base : List (List ℕ)) (mine : List Numbered) → Carries (places_of f s) s base mine → AreBefore number mine → Carries (places_of f t) t base (mine ++ numbered number write ∷ [])
+  put-carries t number write place less named here above adds memory base mine c before =
+      let adds' = subst (λ p. AddsWrite s number p write.«data» t) named adds in
+      subst (λ (k : Checked). Carries (listed_place (places_by f k.geometry)) t base (mine ++ numbered number write ∷ [])) (sym (ap (λ (x : ChannelState). x.checked) adds'.same))
+      (carries-more (places_of f s) s t number write right.channel.contents right.places (own-line write.line place less named here) (above-there s.channel number s.writes above) adds'
+      (subst (λ p. WritesAt s p write.«data» t) named memory) base mine before c)
+
+  pub get-tells : (t : ChannelState) (line at : ℕ) (place : Place) (got : Got) → line < lines_of s.checked.geometry → place ≡ places_of f s line → place.channel ≡ s.channel → t ≡ after_get s t → AnswersGet s place line at (Ok got) t
+      → (base : List (List ℕ)) (mine : List Numbered) → Carries (places_of f s) s base mine → IsGot (line_of (after base (writes_of mine)) line) line at s.channel got (waits_of s) (waits_of t)
+  get-tells t line at place got less named here rest answers base mine c =
+      tells-got s t right.channel.contents rest place line at (line_of (after base (writes_of mine)) line) got (ap (line_at s) named ∙ c.whole line (own-line line place less named here)) answers

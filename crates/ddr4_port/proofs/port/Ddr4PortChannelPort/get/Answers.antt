@@ -1,0 +1,22 @@
+use Rattle.std.proofs.Common.{ap, sym, subst}
+use Rattle.chan_core.specs.State.{ChannelState}
+use Rattle.ddr4_port.specs.Carrying.{Carries}
+use Rattle.ddr4_port.proofs.Keeping.{unseen}
+use Rattle.ddr4_port.proofs.Seen.{carries-seen, get-tells, places_of}
+use Rattle.ddr4_port.proofs.port.Ddr4PortChannelPort.get.Goals as goal
+
+pub returns-clause-got : goal.returns-clause-got
+returns-clause-got g c =
+    rw (← c.self.view_is)
+    (get-tells (g.M.LineMap.place_of c.self.inside.map.now) c.self.inside.stage c.self.inside.channel c.self.invariant.1 c.get_at.new.self c.args.line c.args.at c.args.place c.in-Ok.got (rw (← c.self.view_is) at c.requires.line) (rw (← c.self.view_is) at c.requires.place)
+    (rw (← c.self.view_is) at c.requires.here) c.in-Ok.ensures.rest c.in-Ok.ensures.answers)
+
+pub returns-clause-keeps : goal.returns-clause-keeps
+returns-clause-keeps g c =
+    let f = g.M.LineMap.place_of c.self.inside.map.now in
+    let s = c.self.inside.channel in
+    let t = c.get_at.new.self in
+    let rest = c.get_at.ensures.rest in
+    rw (← c.self.view_is)
+    (carries-seen f s t (ap (λ (x : ChannelState). x.checked) rest) (λ base mine carries.
+    subst (λ x. Carries (places_of f s) x base mine) (sym rest) (unseen (places_of f s) s t.tickets t.serial t.requests s.hold s.phase base mine carries)))

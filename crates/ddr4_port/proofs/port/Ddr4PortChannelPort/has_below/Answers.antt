@@ -1,0 +1,6 @@
+use Rattle.std.proofs.Common.{nat_lt, ap, ◌∙◌}
+use Rattle.ddr4_port.proofs.Numbers.{some-below}
+use Rattle.ddr4_port.proofs.port.Ddr4PortChannelPort.has_below.Goals as goal
+
+pub returns : goal.returns
+returns g c = rw (← c.self.view_is) (ap (nat_lt 0) c.below.ensures ∙ some-below c.self.inside.channel.channel c.args.number c.self.inside.channel.writes)

@@ -1,0 +1,13 @@
+use Rattle.std.proofs.Common.{ap}
+use Rattle.chan_core.specs.State.{ChannelState}
+use Rattle.ddr4_port.proofs.Standing.{lost-keeps, right-lost}
+use Rattle.ddr4_port.proofs.port.Ddr4PortChannelPort.lose_mains.Goals as goal
+
+pub invariant_of-self : goal.invariant_of-self
+invariant_of-self g c =
+    let loses = c.begin_steps.ensures in
+    right-lost (g.M.LineMap.is_lawful c.self.inside.map.now) (g.M.LineMap.geometry_of c.self.inside.map.now) (g.M.LineMap.place_of c.self.inside.map.now) c.self.inside.channel c.begin_steps.new.self (ap (λ (x : ChannelState). x.checked) loses.same) c.always.ensures
+    c.self.inside.stage (rw (← c.self.view_is) at c.requires.mains) c.self.invariant loses
+
+pub returns-clause-keeps : goal.returns-clause-keeps
+returns-clause-keeps g c = rw (← c.self.view_is) (lost-keeps (g.M.LineMap.place_of c.self.inside.map.now) c.self.inside.channel c.begin_steps.new.self c.begin_steps.ensures)

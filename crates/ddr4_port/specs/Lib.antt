@@ -1,0 +1,3 @@
+pub mod Port
+pub mod Carrying
+pub mod Memory

@@ -1,0 +1,11 @@
+//! A DDR4 channel as the lines of the host see it: a channel with its map is a port, and a memory has one port for each channel
+//! of its geometry.
+//!
+//! What contracts see of a port is in `specs/Port.antt`, and which writes it carries in `specs/Carrying.antt`.
+#![tactic(auto)]
+
+mod making;
+mod port;
+
+pub use making::channels_with_memory;
+pub use port::Ddr4Port;

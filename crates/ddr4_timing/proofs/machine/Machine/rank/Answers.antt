@@ -1,4 +1,0 @@
-use Rattle.ddr4_timing.proofs.machine.Machine.rank.Goals as goal
-
-pub returns : goal.returns
-returns c list column s = s.ranks c.args.rank column _ c.requires

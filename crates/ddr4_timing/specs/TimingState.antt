@@ -1,0 +1,162 @@
+-- Which lists of commands a `TimingState` stands for.
+use Rattle.std.specs.Prelude.{◌≡◌, ◌↔◌, ℕ, ◌+◌, ◌*◌, ◌<◌, Bool, ◌||◌, max, List, length, slice_index_or, IsTrue}
+use Rattle.ddr4_timing.specs.declared.place.BankAddress.{BankAddress}
+use Rattle.ddr4_timing.specs.declared.command.Command.{Command}
+use Rattle.ddr4_timing.specs.declared.command.Command.TheVariants.{Act, Rd, Wr, Pre, PreAll, Ref, Sre}
+use Rattle.ddr4_timing.specs.declared.command.Stamped.{Stamped}
+use Rattle.ddr4_timing.specs.declared.timing.Timing.{Timing}
+use Rattle.ddr4_timing.specs.declared.timing.Checked.{Checked}
+use Rattle.ddr4_timing.specs.declared.cells.BankCells.{BankCells}
+use Rattle.ddr4_timing.specs.declared.rank.RankState.{RankState}
+use Rattle.ddr4_timing.specs.declared.rank.Window.{Window}
+use Rattle.ddr4_timing.specs.declared.rank.Refresh.{Refresh}
+use Rattle.ddr4_timing.specs.declared.timing_state.TimingState.{TimingState}
+use Rattle.ddr4_timing.specs.Command.{is_sre, rank_of}
+use Rattle.ddr4_timing.specs.Demands.{Demand, beyond_rank, demand_of, in_bank, in_groups}
+use Rattle.ddr4_timing.specs.Floors.{floor, least_clock, window}
+use Rattle.ddr4_timing.specs.Lawful.{row_after, open_row, last_ref, ref_count, is_asleep, with_command, AllClosed, FitsRows, IsLawful, KeepsRefresh, KeepsRows}
+use Rattle.ddr4_timing.specs.Places.{HasBank, HasSlot, slot_of}
+use Rattle.ddr4_timing.specs.Rows.{row_in}
+
+-- The least clock of each command to a bank is the greatest of these: of its bank's, its group's, its rank's and the
+-- channel's. `next` is one past the last command, `write` is behind each RD, `column` behind each RD and WR of another rank.
+pub record BankStands (t : Timing) (list : List Stamped) (next write column : ℕ) (at : BankAddress) (r : RankState) (b : BankCells) (group_act group_rd group_wr : ℕ) : Type 0 where
+  pub row : row_in r.rows at ≡ open_row at list
+  pub act : max next (max b.act (max group_act r.act)) ≡ floor t list (Act at 0)
+  pub rd : max next (max column (max b.column group_rd)) ≡ floor t list (Rd at 0)
+  pub wr : max next (max column (max write (max b.column group_wr))) ≡ floor t list (Wr at 0)
+  pub pre : max next b.pre ≡ floor t list (Pre at)
+
+-- tFAW after each of a rank's last four ACT
+pub record WindowStands (t : Timing) (rank : ℕ) (list : List Stamped) (w : Window) : Type 0 where
+  pub fourth : w.fourth ≡ window t rank 3 list
+  pub third : w.third ≡ window t rank 2 list
+  pub second : w.second ≡ window t rank 1 list
+  pub last : w.last ≡ window t rank 0 list
+
+-- a rank's refreshes
+pub record RefreshStands (t : Timing) (rank : ℕ) (list : List Stamped) (r : Refresh) : Type 0 where
+  pub next : r.next ≡ (ref_count rank list + 1) * t.t_refi
+  pub deadline : r.deadline ≡ last_ref rank list + 9 * t.t_refi
+
+-- a rank's banks, windows, refreshes and sleep, and the least clock of each command to it
+pub record RankStands (c : Checked) (list : List Stamped) (next write column rank : ℕ) (r : RankState) : Type 0 where
+  pub banks : (at : BankAddress) (bank : BankCells) (none : ℕ) → HasBank c.geometry at → at.rank ≡ rank →
+      BankStands c.timing list next write column at r (slice_index_or r.banks (slot_of at) bank)
+      (slice_index_or r.group_act at.group none) (slice_index_or r.group_rd at.group none) (slice_index_or r.group_wr at.group none)
+  pub pre_all : max next r.pre_all ≡ floor c.timing list (PreAll rank)
+  pub refresh : max next r.idle ≡ floor c.timing list (Ref rank)
+  pub sleep : max next r.idle ≡ floor c.timing list (Sre rank)
+  pub windows : WindowStands c.timing rank list r.window
+  pub refreshes : RefreshStands c.timing rank list r.refresh
+  pub asleep : r.is_asleep ≡ is_asleep rank list
+
+-- The list is lawful, and the clocks and rows are those that it leaves.
+pub record StandsFor (c : Checked) (m : TimingState) (list : List Stamped) : Type 0 where
+  pub lawful : IsLawful c list
+  pub ranks : (rank column : ℕ) (none : RankState) → rank < c.geometry.ranks →
+      RankStands c list m.next m.write (slice_index_or m.columns rank column) rank (slice_index_or m.ranks rank none)
+
+-- new is the state old after a command, for each list that the command leaves lawful
+abbrev pub IsStateAfter : Checked → ℕ → Command → TimingState → TimingState → Type 0
+IsStateAfter c clock x old new =
+    (list : List Stamped) → StandsFor c old list → IsLawful c (with_command list clock x) →
+    StandsFor c new (with_command list clock x)
+
+-- r is what the state keeps of a rank
+abbrev pub IsRankOf : Checked → TimingState → ℕ → RankState → Type 0
+IsRankOf c m rank r =
+    (list : List Stamped) (column : ℕ) → StandsFor c m list →
+    RankStands c list m.next m.write (slice_index_or m.columns rank column) rank r
+
+-- The answers of a state, of each list that it stands for: whether a rank's banks are all closed,
+abbrev pub TellsClosed : Checked → TimingState → ℕ → Bool → Type 0
+TellsClosed c m rank answer =
+    (list : List Stamped) → StandsFor c m list → (IsTrue answer ↔ AllClosed c.geometry rank list)
+
+-- whether the banks are as a command wants them,
+abbrev pub TellsFit : Checked → TimingState → Command → Bool → Type 0
+TellsFit c m x answer = (list : List Stamped) → StandsFor c m list → (IsTrue answer ↔ FitsRows c.geometry list x)
+
+-- whether it keeps the rule on rows,
+abbrev pub TellsRows : Checked → TimingState → Command → Bool → Type 0
+TellsRows c m x answer = (list : List Stamped) → StandsFor c m list → (IsTrue answer ↔ KeepsRows c.geometry list x)
+
+-- its least clock,
+abbrev pub TellsLeastClock : Checked → TimingState → Command → ℕ → Type 0
+TellsLeastClock c m x answer = (list : List Stamped) → StandsFor c m list → answer ≡ least_clock c.timing list x
+
+-- and whether the list with it is lawful
+abbrev pub TellsLawful : Checked → TimingState → Command → ℕ → Bool → Type 0
+TellsLawful c m x clock answer =
+    (list : List Stamped) → StandsFor c m list → (IsTrue answer ↔ IsLawful c (with_command list clock x))
+
+-- the least clock that a rank's own commands leave to an ACT,
+abbrev pub LeavesToAct : RankState → BankAddress → ℕ → Type 0
+LeavesToAct r at clock =
+    (bank : BankCells) (none : ℕ) → clock ≡
+    max (slice_index_or r.banks (slot_of at) bank).act (max (slice_index_or r.group_act at.group none) r.act)
+
+-- to a RD,
+abbrev pub LeavesToRd : RankState → BankAddress → ℕ → Type 0
+LeavesToRd r at clock =
+    (bank : BankCells) (none : ℕ) → clock ≡
+    max (slice_index_or r.banks (slot_of at) bank).column (slice_index_or r.group_rd at.group none)
+
+-- and to a WR, those of RD aside
+abbrev pub LeavesToWr : RankState → BankAddress → ℕ → Type 0
+LeavesToWr r at clock =
+    (bank : BankCells) (none : ℕ) → clock ≡
+    max (slice_index_or r.banks (slot_of at) bank).column (slice_index_or r.group_wr at.group none)
+
+-- A least clock rises to what a gap leaves behind a clock, as far as that lies past the clock.
+abbrev pub ClockRises : ℕ → ℕ → ℕ → ℕ → Type 0
+ClockRises clock gap old new = max (clock + 1) new ≡ max (clock + 1) (max old (clock + gap))
+
+pub record BankRises (clock : ℕ) (x : Command) (at : BankAddress) (to_act to_column to_pre : ℕ) (old new : BankCells) : Type 0 where
+  pub act : ClockRises clock (in_bank x at to_act) old.act new.act
+  pub column : ClockRises clock (in_bank x at to_column) old.column new.column
+  pub pre : ClockRises clock (in_bank x at to_pre) old.pre new.pre
+
+-- the cells of the banks of a command's rank, by the gaps to the commands of its bank
+abbrev pub BanksRise : ℕ → Command → ℕ → ℕ → ℕ → List BankCells → List BankCells → Type 0
+BanksRise clock x to_act to_column to_pre old new =
+    (at : BankAddress) (none : BankCells) → HasSlot at → at.rank ≡ rank_of x →
+    BankRises clock x at to_act to_column to_pre (slice_index_or old (slot_of at) none) (slice_index_or new (slot_of at) none)
+
+-- the cells of the groups of a command's rank, by the gaps to the commands of its group and of the others
+abbrev pub GroupsRise : ℕ → Command → ℕ → ℕ → List ℕ → List ℕ → Type 0
+GroupsRise clock x near far old new =
+    (at : BankAddress) (none : ℕ) → HasSlot at → at.rank ≡ rank_of x →
+    ClockRises clock (in_groups x at near far) (slice_index_or old at.group none) (slice_index_or new at.group none)
+
+-- the cells of a rank, behind a command of it
+pub record CellsRise (clock : ℕ) (x : Command) (d : Demand) (old new : RankState) : Type 0 where
+  pub banks : BanksRise clock x d.bank_act d.bank_column d.bank_pre old.banks new.banks
+  pub group_act : GroupsRise clock x d.near_act d.far_act old.group_act new.group_act
+  pub group_rd : GroupsRise clock x d.near_rd d.far_rd old.group_rd new.group_rd
+  pub group_wr : GroupsRise clock x d.near_wr d.far_wr old.group_wr new.group_wr
+  pub act : ClockRises clock d.rank_act old.act new.act
+  pub pre_all : ClockRises clock d.rank_pre_all old.pre_all new.pre_all
+  pub idle : ClockRises clock d.rank_idle old.idle new.idle
+
+-- a rank's windows, refreshes and sleep, behind a command of it
+pub record HistoryFollows (t : Timing) (clock : ℕ) (x : Command) (old new : RankState) : Type 0 where
+  pub windows : (list : List Stamped) → WindowStands t (rank_of x) list old.window → WindowStands t (rank_of x) (with_command list clock x) new.window
+  pub refreshes : (list : List Stamped) → RefreshStands t (rank_of x) list old.refresh → KeepsRefresh t list (record { clock = clock; cmd = x }) →
+      RefreshStands t (rank_of x) (with_command list clock x) new.refresh
+  pub asleep : new.is_asleep ≡ (old.is_asleep || is_sre x)
+
+-- new is the rank old after a command of it
+pub record RankTakes (t : Timing) (clock : ℕ) (x : Command) (old new : RankState) : Type 0 where
+  pub rows : (at : BankAddress) → HasSlot at → at.rank ≡ rank_of x → row_in new.rows at ≡ row_after at (row_in old.rows at) x
+  pub cells : CellsRise clock x (demand_of t x) old new
+  pub history : HistoryFollows t clock x old new
+
+-- what all ranks share, after a command
+pub record ChannelTakes (t : Timing) (clock : ℕ) (x : Command) (old new : TimingState) : Type 0 where
+  pub ranks : new.ranks ≡ old.ranks
+  pub next : new.next ≡ max old.next (clock + 1)
+  pub write : ClockRises clock (demand_of t x).write old.write new.write
+  pub columns : (rank none : ℕ) → rank < length old.columns →
+      ClockRises clock (beyond_rank x rank (demand_of t x).beyond) (slice_index_or old.columns rank none) (slice_index_or new.columns rank none)

@@ -1,5 +1,0 @@
-pub mod Waits
-pub mod View
-pub mod Answers
-pub mod Memory
-pub mod Draining

@@ -1,0 +1,61 @@
+-- In a run the history of a life only grows, no mark falls, and no reply tells of more than is so.
+use Rattle.line_memory.specs.History.{write_at}
+use Rattle.nv_machine.specs.Rising.{KeepsHistory, Rises, RisesAlong}
+use Rattle.nv_machine.proofs.Common.{All, List, [], ap, append_assoc, arith, length, refl, suc, sym, zero, ℕ, ◌++◌, ◌+◌, ◌-◌, ◌<◌, ◌∙◌, ◌∷◌, ◌≡◌, ◌≤◌, slice_get, append-nil, length-append, take-append-le, All-cons, All-nil, after, Write, IsGuarded, Run, MachineStep, added, Machine, Setup, World, base_of_life, start_of_life, told_mark, Event, Reply}
+use Rattle.nv_machine.proofs.EachEvent.{guarded_event, event_keeps}
+
+pub event_rises : (setup : Setup) (event : Event) (reply : Reply) (old new : World) → MachineStep setup event reply old new → IsGuarded old.machine → Rises old.machine new.machine
+event_rises setup event reply old new done guarded =
+    let keeps = event_keeps setup event reply old new done guarded in
+    let size : length new.machine.life.writes ≡ length old.machine.life.writes + length (added event reply) = ap length keeps.writes ∙ length-append old.machine.life.writes (added event reply) in
+    record { opened = keeps.opened; more = added event reply; history = keeps.writes; accepted = rw keeps.opened (omega (arith, size)); persisted = keeps.persisted }
+
+-- one rise after another
+rises_on : (m n p : Machine) → Rises m n → Rises n p → Rises m p
+rises_on m n p first second = record {
+  opened = second.opened ∙ first.opened;
+  more = first.more ++ second.more;
+  history = second.history ∙ ap (λ (ws : List Write). ws ++ second.more) first.history ∙ append_assoc m.life.writes first.more second.more;
+  accepted = omega (arith, first.accepted, second.accepted);
+  persisted = omega (arith, first.persisted, second.persisted);
+}
+
+module _ (setup : Setup) where
+  -- in each event of a run, and from its first moment to its last
+  pub along_rises : (events : List Event) (replies : List Reply) (old new : World) (run : Run setup events replies old new) → IsGuarded old.machine → RisesAlong setup events replies old new run
+  along_rises [] [] old new run guarded = tt
+  along_rises (event ∷ events) (reply ∷ replies) old new run guarded =
+      (event_rises setup event reply old run.0 run.1.step guarded, along_rises events replies run.0 new run.2 (guarded_event setup event reply old run.0 run.1.step guarded))
+  along_rises _ _ old new none guarded = absurd none
+
+  pub run_rises : (events : List Event) (replies : List Reply) (old new : World) → Run setup events replies old new → IsGuarded old.machine → Rises old.machine new.machine
+  run_rises [] [] old new run guarded = rw run (record { opened = refl; more = []; history = sym (append-nil old.machine.life.writes); accepted = omega arith; persisted = omega arith })
+  run_rises (event ∷ events) (reply ∷ replies) old new run guarded =
+      rises_on old.machine run.0.machine new.machine (event_rises setup event reply old run.0 run.1.step guarded)
+      (run_rises events replies run.0 new run.2 (guarded_event setup event reply old run.0 run.1.step guarded))
+  run_rises _ _ old new none guarded = absurd none
+
+  -- each reply of a run tells of no more than is acknowledged in the end
+  pub told_along : (events : List Event) (replies : List Reply) (old new : World) → Run setup events replies old new → IsGuarded old.machine → All (λ reply. told_mark reply ≤ new.machine.life.persisted) replies
+  told_along [] [] old new run guarded = All-nil _
+  told_along (event ∷ events) (reply ∷ replies) old new run guarded =
+      let later = guarded_event setup event reply old run.0 run.1.step guarded in
+      let told : told_mark reply ≤ new.machine.life.persisted = omega (arith, (event_keeps setup event reply old run.0 run.1.step guarded).told, (run_rises events replies run.0 new run.2 later).persisted) in
+      All-cons (λ (reply : Reply). told_mark reply ≤ new.machine.life.persisted) reply replies told (told_along events replies run.0 new run.2 later)
+  told_along _ _ old new none guarded = absurd none
+
+-- an element of the front of a list
+get_front : (xs ys : List Write) (i : ℕ) → i < length xs → slice_get (xs ++ ys) i ≡ slice_get xs i
+get_front [] ys i below = absurd (omega (arith, below))
+get_front (x ∷ xs) ys zero below = refl
+get_front (x ∷ xs) ys (suc i) below = get_front xs ys i (omega arith)
+
+-- the write of a number stays where it stands
+write_stands : (start number : ℕ) (xs ys : List Write) → number < start + length xs → write_at start (xs ++ ys) number ≡ write_at start xs number
+write_stands start number xs ys below = grind (arith, get_front)
+
+pub keeps_history : (old new : Machine) → Rises old new → KeepsHistory old new
+keeps_history old new rises = record {
+  writes = λ number below. rw (rises.opened, rises.history) (write_stands (start_of_life old.life) number old.life.writes rises.more below);
+  memory = λ at least most. rw (rises.opened, rises.history) (ap (after (base_of_life old.life)) (take-append-le (at - start_of_life old.life) old.life.writes rises.more (omega (arith, most))));
+}

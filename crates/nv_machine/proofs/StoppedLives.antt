@@ -1,0 +1,70 @@
+-- What a stop leaves of a life.
+use Rattle.std.proofs.Common.{drop, rules}
+use Rattle.std.proofs.Math.Seq.{drop-append_seam}
+use Rattle.std.proofs.lemmas.List.Elements.{All-contains}
+use Rattle.save_device.specs.Device.{LeavesOnly, Moment, StopsWithin, moments_of, present}
+use Rattle.slot_store.specs.Outcomes.{restored}
+use Rattle.nv_machine.specs.Headline.{Happens}
+use Rattle.nv_machine.specs.Lives.{IsLeftAt, Unanswered, moments_since, stop_moments}
+use Rattle.nv_machine.specs.Opening.{new_life}
+use Rattle.nv_machine.specs.Survival.{HasCauseAt, MayBeNewest}
+use Rattle.nv_machine.proofs.Common.{All, Bool, List, [], ap, append_assoc, inl, length, refl, subst, sym, ℕ, ◌++◌, ◌∙◌, ◌∷◌, ◌≡◌, None, Option, Some, All-cons, All-nil, ForSome, Image, DeviceState, Outcome, Slot, IsGuarded, Recovers, RecoversAfterwards, Run, IsLived, Lived, Machine, Setup, World, Event, Reply}
+use Rattle.nv_machine.proofs.Leaving.{left_after}
+
+-- at whichever moment it came: an image that may be the newest, and that recovers what was acknowledged
+pub record RecoversAt (unanswered : Option Unanswered) (m : Machine) (outcome : Outcome) : Type 0 where
+  pub newest : MayBeNewest unanswered m outcome
+  pub recovers : Recovers m (HasCauseAt unanswered m) outcome
+
+-- a machine keeps its promises from the beginning of a life on
+guarded_new : (slot : Slot) (closed : Bool) (image : Image) → IsGuarded (new_life slot closed image)
+guarded_new slot closed image = search rules
+
+pub guarded_first : (life : Lived) → IsLived life → IsGuarded life.first.machine
+guarded_first life lived = rw lived.begins (guarded_new life.slot life.closed life.image)
+
+-- the moments of a device since an earlier state, where these came after it
+pub since_is : (old new : DeviceState) (since : List Moment) → moments_of new ≡ moments_of old ++ since → moments_since old new ≡ present old ∷ since
+since_is old new since keeps =
+    ap (drop (length old.earlier)) (keeps ∙ append_assoc old.earlier (present old ∷ []) since) ∙ drop-append_seam old.earlier (present old ∷ since)
+
+-- what each stop of these moments leaves is so
+left_at : (P : List ℕ → Type 0) (moments : List Moment) (bytes : List ℕ) → All (StopsWithin P) moments → IsLeftAt moments bytes → P bytes
+left_at P moments bytes each stop = All-contains (StopsWithin P) moments stop.moment each stop.among bytes stop.left
+
+-- at a moment since the last event
+left_since : (P : List ℕ → Type 0) (old new : DeviceState) (bytes : List ℕ) → LeavesOnly old new P → IsLeftAt (moments_since old new) bytes → P bytes
+left_since P old new bytes leaves stop =
+    left_at P (moments_since old new) bytes (rw (since_is old new leaves.since leaves.keeps) (All-cons (StopsWithin P) (present old) leaves.since leaves.first leaves.each)) stop
+
+-- a stop at a moment between two events
+abbrev StopsRecover : Setup → World → Type 0
+StopsRecover setup point = StopsWithin (λ bytes. RecoversAfterwards point.machine (restored setup.shape.lines bytes)) (present point.device)
+
+-- what it leaves at the end of a run
+left_along : (setup : Setup) (events : List Event) (replies : List Reply) (old new : World) → Run setup events replies old new → StopsRecover setup old → StopsRecover setup new
+left_along setup [] [] old new run left = subst (StopsRecover setup) (sym run) left
+left_along setup (event ∷ events) (reply ∷ replies) old new run left = left_along setup events replies run.0 new run.2 run.1.at_end
+left_along setup _ _ old new none left = absurd none
+
+-- before the first event it leaves the image that the life was opened with
+left_first : (life : Lived) → IsLived life → StopsRecover life.setup life.first
+left_first life lived = rw lived.begins
+    (λ bytes left. left_after (new_life life.slot life.closed life.image) (guarded_new life.slot life.closed life.image) (restored life.setup.shape.lines bytes)
+    (inl (record { arm = life.image.arm; own = λ none. refl; found = lived.opened bytes left })))
+
+-- after the last event, or within the one that was left unanswered
+recovered_at : (setup : Setup) (unanswered : Option Unanswered) (last : World) (bytes : List ℕ) → ForSome unanswered (λ it. Happens setup it.event it.reply last it.next) → StopsRecover setup last
+    → IsLeftAt (stop_moments unanswered last.device) bytes → RecoversAt unanswered last.machine (restored setup.shape.lines bytes)
+recovered_at setup None last bytes happens left stop =
+    let P : List ℕ → Type 0 = λ b. RecoversAfterwards last.machine (restored setup.shape.lines b) in
+    let is = left_at P (present last.device ∷ []) bytes (All-cons (StopsWithin P) (present last.device) [] left (All-nil (StopsWithin P))) stop in
+    record { newest = is.among; recovers = is.recovers }
+recovered_at setup (Some unanswered) last bytes happens left stop =
+    let is = left_since _ last.device unanswered.next.device bytes (happens unanswered refl).meanwhile stop in
+    record { newest = is.among; recovers = is.recovers }
+
+-- what a restore finds after a life
+pub recovered : (life : Lived) → IsLived life → RecoversAt life.unanswered life.last.machine (restored life.setup.shape.lines life.bytes)
+recovered life lived =
+    recovered_at life.setup life.unanswered life.last life.bytes lived.unanswered (left_along life.setup life.events life.replies life.first life.last lived.run (left_first life lived)) lived.left

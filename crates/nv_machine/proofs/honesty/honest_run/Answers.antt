@@ -1,0 +1,13 @@
+-- What an honest gauge is enough for.
+use Rattle.nv_machine.proofs.Backing.{not_backed}
+use Rattle.nv_machine.proofs.HonestRuns.{backed_along, saved_along}
+use Rattle.nv_machine.proofs.honesty.honest_run.Goals as goal
+
+pub returns-clause-backed : goal.returns-clause-backed
+returns-clause-backed c = backed_along
+
+pub returns-clause-saved : goal.returns-clause-saved
+returns-clause-saved c = saved_along
+
+pub returns-clause-begins : goal.returns-clause-begins
+returns-clause-begins c = not_backed

@@ -1,0 +1,24 @@
+-- A run of events through which the gauge was honest and the device spared.
+use Rattle.std.specs.Prelude.{List, [], ◌∷◌}
+use Rattle.nv_machine.specs.declared.events.Event.{Event}
+use Rattle.nv_machine.specs.declared.events.Reply.{Reply}
+use Rattle.nv_machine.specs.State.{Setup, World}
+use Rattle.nv_machine.specs.Headline.{Run, IsBacked, IsHonest, SavesAllWritten}
+
+module _ (setup : Setup) where
+  -- in each event
+  abbrev pub IsHonestAlong : (events : List Event) (replies : List Reply) (old new : World) → Run setup events replies old new → Type 0
+  IsHonestAlong [] [] old new run = Unit {0}
+  IsHonestAlong (event ∷ events) (reply ∷ replies) old new run = IsHonest setup old reply run.0 × IsHonestAlong events replies run.0 new run.2
+  IsHonestAlong [] (reply ∷ replies) old new none = ⊥
+  IsHonestAlong (event ∷ events) [] old new none = ⊥
+
+  -- each loss of mains while acknowledged writes were to be saved has saved all that were accepted
+  abbrev pub SavesAllAlong : (events : List Event) (replies : List Reply) (old new : World) → Run setup events replies old new → Type 0
+  SavesAllAlong [] [] old new run = Unit {0}
+  SavesAllAlong (event ∷ events) (reply ∷ replies) old new run = SavesAllWritten old.machine reply × SavesAllAlong events replies run.0 new run.2
+  SavesAllAlong [] (reply ∷ replies) old new none = ⊥
+  SavesAllAlong (event ∷ events) [] old new none = ⊥
+
+  abbrev pub IsBackedAt : World → Type 0
+  IsBackedAt world = IsBacked setup world.machine world.gauge

@@ -1,0 +1,26 @@
+// What an honest gauge is enough for.
+ghost use Rattle.std.specs.Prelude.{◌≡◌, List, [], false};
+ghost use Rattle.arm_state.specs.Modes.{is_backed};
+ghost use Rattle.energy_budget.specs.Gauge.{Gauge};
+ghost use Rattle.nv_machine.specs.declared.events.Event.{Event};
+ghost use Rattle.nv_machine.specs.declared.events.Reply.{Reply};
+ghost use Rattle.nv_machine.specs.State.{Setup, Machine, World};
+ghost use Rattle.nv_machine.specs.Headline.{Run, IsBacked};
+ghost use Rattle.nv_machine.specs.Honesty.{IsHonestAlong, SavesAllAlong, IsBackedAt};
+
+/// Through a run with an honest gauge, and a device that is spared, the gauge backs what was acknowledged at each moment, and
+/// a loss of mains while acknowledged writes were to be saved has saved all that were accepted. A disarmed machine needs no
+/// backing to begin with.
+pub fn honest_run()
+    ensures backed { (setup : Setup) (events : List Event) (replies : List Reply)
+        (old new : World) (run : Run setup events replies old new)
+        → IsHonestAlong setup events replies old new run
+        → IsBackedAt setup old → IsBackedAt setup new }
+    ensures saved { (setup : Setup) (events : List Event) (replies : List Reply)
+        (old new : World) (run : Run setup events replies old new)
+        → IsHonestAlong setup events replies old new run
+        → IsBackedAt setup old
+        → SavesAllAlong setup events replies old new run }
+    ensures begins { (setup : Setup) (machine : Machine) (gauge : Gauge)
+        → is_backed machine.mode ≡ false → IsBacked setup machine gauge }
+{}

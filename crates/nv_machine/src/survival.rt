@@ -1,0 +1,16 @@
+// What a stop leaves of the writes.
+ghost use Rattle.std.specs.Prelude.{◌∷◌, ◌++◌, List};
+ghost use Rattle.nv_machine.specs.Lives.{Lived, AreChained};
+ghost use Rattle.nv_machine.specs.Survival.{IsSurvived};
+
+/// **Stopped at any moment, even within a device write, restore gives the memory after a prefix of the accepted writes; with
+/// an honest gauge and no device fault in a closing save, one that holds every write acknowledged persistent; otherwise the
+/// newest complete image's, named PossibleLoss whenever an acknowledged write could be missing.**
+///
+/// It is said of the last of the lives in a chain; each front of a chain is a chain, so it is true of each life.
+pub fn survives_any_stop()
+    ensures survived { (life : Lived) (lives : List Lived)
+        → AreChained (life ∷ lives) → IsSurvived life lives }
+    ensures fronts { (lives more : List Lived)
+        → AreChained (lives ++ more) → AreChained lives }
+{}

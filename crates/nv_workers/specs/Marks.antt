@@ -1,0 +1,29 @@
+-- The marks of a board, and the two numbers of its module.
+use Rattle.std.specs.Prelude.{◌≡◌, ℕ, ◌+◌, ◌≤◌}
+use Rattle.atomic_table.specs.Seated.{TableId}
+use Rattle.mark_board.specs.SeenMarks.{SeenMarks, seen_marks}
+use Rattle.channel_port.specs.declared.port.ChannelPort.{Ghosts}
+use Rattle.module_core.specs.declared.module.Module.{Module}
+use Rattle.nv_machine.specs.declared.events.Accepted.{Accepted}
+
+-- an accepted write of this number, with this mark
+abbrev pub told_at : ℕ → ℕ → Accepted
+told_at number mark = record { number = number; mark = mark }
+
+module _ {K : Type 0} (L : Ghosts K) where
+  -- An accepted write has the number of all that were accepted before it and tells how many are persistent then; it is one
+  -- more.
+  pub record IsCounted (accepted : Accepted) (old new : Module K L) : Type 0 where
+    pub number : accepted.number ≡ old.accepted
+    pub mark : accepted.mark ≡ new.persisted
+    pub one : new.accepted ≡ accepted.number + 1
+
+  -- what the board's seat sees where the marks are the module's two numbers
+  abbrev pub marks_of : TableId → Module K L → SeenMarks
+  marks_of board it = seen_marks board it.accepted it.persisted
+
+  -- the marks aren't above the module's two numbers, which are in order
+  pub record IsBehind (it : Module K L) (marks : SeenMarks) : Type 0 where
+    pub accepted : marks.accepted ≤ it.accepted
+    pub persisted : marks.persisted ≤ it.persisted
+    pub ordered : it.persisted ≤ it.accepted

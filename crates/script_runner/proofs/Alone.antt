@@ -1,0 +1,20 @@
+-- A call of a session that asks neither its device nor its gauge.
+use Rattle.std.proofs.Common.{◌≡◌, sym, subst}
+use Rattle.save_device.specs.declared.fuse.Fuse.{Fuse}
+use Rattle.save_device.specs.declared.memory.MemoryDevice.{MemoryDevice}
+use Rattle.energy_budget.specs.declared.meter.Meter.{Meter}
+use Rattle.energy_budget.specs.Meter.{meter_gauge}
+use Rattle.channel_port.specs.declared.port.ChannelPort.{Ghosts}
+use Rattle.nv_machine.specs.State.{Setup}
+use Rattle.nv_session.specs.declared.session.Session.{Session}
+use Rattle.nv_session.specs.declared.wires.Wires as wires
+use Rattle.nv_session.specs.Coming.{Tale}
+use Rattle.nv_session.specs.Living.{GoesOnBy, GoesOnAlone, fuse_state, session_at}
+use Rattle.nv_session.specs.Sessions.{moment_in}
+
+-- it goes on as a session at a moment
+pub goes_alone : {K A : Type 0} (L : Ghosts K) {W : wires.Ghosts A K} (Told : Setup → Tale) (old new : Session K A L W) → new.device ≡ old.device → new.gauge ≡ old.gauge
+    → GoesOnAlone L Told old.life new.life → GoesOnBy L Told (moment_in old) (moment_in new)
+goes_alone L {W = W} Told old new device gauge goes =
+    subst (λ (d : Fuse MemoryDevice). GoesOnBy L Told (moment_in old) (session_at new.life (fuse_state d) (meter_gauge new.gauge))) (sym device)
+    (subst (λ (m : Meter). GoesOnBy L Told (moment_in old) (session_at new.life (fuse_state old.device) (meter_gauge m))) (sym gauge) (goes (fuse_state old.device) (meter_gauge old.gauge)))

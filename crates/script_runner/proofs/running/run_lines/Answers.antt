@@ -1,0 +1,18 @@
+use Rattle.std.proofs.Common.{refl, sym, subst, All}
+use Rattle.ddr4_timing.specs.Limits.{lines_of}
+use Rattle.nv_profile.specs.declared.profile.Profile.{Profile}
+use Rattle.nv_script.specs.Line.{NamesChannelOf}
+use Rattle.script_runner.specs.Story.{AreCutShort}
+use Rattle.script_runner.proofs.Results.{if_err_so}
+use Rattle.script_runner.proofs.Stories.{cut_first}
+use Rattle.script_runner.proofs.running.run_lines.Goals as goal
+
+pub returns-in_err-session-clause-cut : goal.returns-in_err-session-clause-cut
+returns-in_err-session-clause-cut g c =
+    let lines = lines_of c.args.profile.now.checked.geometry in let said = g.R.Report.answers c.args.report.now in
+    if_err_so c.from_residual.result (AreCutShort lines c.args.lines.now said said) (cut_first lines c.args.lines.now said said refl)
+
+pub answer_lines-requires : goal.answer_lines-requires
+answer_lines-requires g c =
+    let Names : Profile → Type 0 = λ profile. All (NamesChannelOf profile.checked.geometry) c.args.lines.now in
+    record { names = subst Names (sym c.in_ok-session.ensures.profile) c.requires.lines }

@@ -1,0 +1,63 @@
+// Scripts over two maps of a profile.
+ghost use Rattle.std.specs.Prelude.{IfErr, OnOk, All};
+ghost use Rattle.ddr4_timing.specs.Limits.{lines_of};
+ghost use Rattle.nv_script.specs.Line.{NamesChannelOf};
+ghost use Rattle.script_runner.specs.Wiring.{IsMapOf};
+ghost use Rattle.script_runner.specs.Story.{AreAllAnswered, AreCutShort, GivesOut};
+
+use crate::report::{Printer, Report};
+use crate::script::answer_lines;
+use crate::wiring::Wiring;
+use interleave_map::line_map::LineMap;
+use nv_profile::Profile;
+use nv_script::{ScriptFault, ScriptLine, read_script};
+use nv_session::Session;
+use save_device::MemoryDevice;
+use std::alloc::Global;
+use std::io::Write;
+
+/// Runs lines, which name channels that exist, on a session over two lawful maps of the profile's geometry, and reports their
+/// answers. From a format on each answer is true by the ones before it: a write's number is its place among the accepted
+/// writes, a read has its line of the memory after them, within a life no mark falls, and a restore finds a prefix of them,
+/// told Complete one that holds all that were told to be persistent, also behind one that was refused. Each line has all its
+/// answers; where the report or memory gives out, so have the lines before that one. Answers the device as the lines left it.
+pub fn run_lines<M: LineMap, R: Report>(
+    alloc: Global,
+    profile: &Profile,
+    lines: &[ScriptLine],
+    lines_map: &M,
+    xor_map: &M,
+    report: &mut R,
+) -> Result<MemoryDevice, ScriptFault>
+    requires lines { All (NamesChannelOf profile.now.checked.geometry) lines.now }
+    requires lines_map { IsMapOf M.LineMap profile.now.checked.geometry lines_map.now }
+    requires xor_map { IsMapOf M.LineMap profile.now.checked.geometry xor_map.now }
+    ensures answered { OnOk result (AreAllAnswered (lines_of profile.now.checked.geometry)
+        lines.now (R.answers report.old) (R.answers report.new)) }
+    ensures cut { IfErr result (λ fault. AreCutShort (lines_of profile.now.checked.geometry)
+        lines.now (R.answers report.old) (R.answers report.new)) }
+    ensures fault { IfErr result GivesOut }
+{
+    let wiring = Wiring::new(lines_map, xor_map, profile);
+    let mut session = Session::new(alloc, profile, wiring)?;
+    answer_lines(alloc, &mut session, lines, report)?;
+    Ok(session.into_device())
+}
+
+/// Reads a script, runs it over two lawful maps of the profile's geometry as `run_lines` does, and writes each answer as a line.
+/// Answers the device as the script left it. A script with a bad line writes nothing.
+pub fn run_script<M: LineMap, W: Write>(
+    alloc: Global,
+    profile: &Profile,
+    script: &[u8],
+    lines_map: &M,
+    xor_map: &M,
+    writer: &mut W,
+) -> Result<MemoryDevice, ScriptFault>
+    requires lines_map { IsMapOf M.LineMap profile.now.checked.geometry lines_map.now }
+    requires xor_map { IsMapOf M.LineMap profile.now.checked.geometry xor_map.now }
+{
+    let lines = read_script(alloc, script, &profile.checked.geometry)?;
+    let mut printer = Printer::new(writer);
+    run_lines(alloc, profile, &lines, lines_map, xor_map, &mut printer)
+}
