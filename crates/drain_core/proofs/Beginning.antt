@@ -1,18 +1,8 @@
 -- Where a drain starts, and how one command of it goes.
 use Rattle.std.proofs.Common.{◌≡◌, ℕ, ◌+◌, ◌-◌, List, [], ◌∷◌, Some, None, length, slice_get, arith, refl, ap}
-use Rattle.std.specs.Prelude.{max, fold}
-use Rattle.std.proofs.lemmas.List.{length-drop}
-use Rattle.ddr4_timing.specs.declared.command.Command.{Command}
-use Rattle.ddr4_timing.specs.declared.command.Stamped.{Stamped}
-use Rattle.ddr4_timing.specs.declared.timing.Timing.{Timing}
-use Rattle.ddr4_timing.specs.declared.timing.Checked.{Checked}
-use Rattle.ddr4_timing.specs.Floors.{least_clock}
-use Rattle.ddr4_timing.specs.Lawful.{IsLawful, with_command}
-use Rattle.frfcfs.specs.Margin.{last_clock}
-use Rattle.chan_core.specs.Singles.{IsEarliest}
-use Rattle.chan_core.specs.State.{last_commands}
+use Rattle.drain_core.proofs.Common.{Checked, Command, IsEarliest, IsLawful, MayGo, Stamped, Timing, fold, last_clock}
+use Rattle.drain_core.proofs.Common.{last_commands, least_clock, length-drop, max, with_command}
 use Rattle.drain_core.specs.Drain.{drain_start, with_earliest}
-use Rattle.drain_core.specs.Steps.{MayGo}
 
 no_first : (xs : List Stamped) → slice_get xs 0 ≡ None → xs ≡ []
 no_first [] e = refl

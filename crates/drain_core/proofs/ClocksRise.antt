@@ -1,12 +1,6 @@
 -- No part of a drain ends before it starts.
 use Rattle.std.proofs.Common.{ℕ, zero, suc, ◌≤◌, Bool, true, false, cond, List, [], ◌∷◌, arith}
-use Rattle.ddr4_timing.specs.declared.command.Command.{Command}
-use Rattle.ddr4_timing.specs.declared.command.Command.TheVariants.{Act, Wr, Pre, PreAll, Ref, Sre}
-use Rattle.ddr4_timing.specs.declared.command.Stamped.{Stamped}
-use Rattle.ddr4_timing.specs.declared.place.Place.{Place}
-use Rattle.ddr4_timing.specs.declared.timing.Timing.{Timing}
-use Rattle.ddr4_timing.specs.declared.timing.Geometry.{Geometry}
-use Rattle.ddr4_timing.specs.Places.{bank_at}
+use Rattle.drain_core.proofs.Common.{Act, Command, Geometry, Place, Pre, PreAll, Ref, Sre, Stamped, Timing, Wr, bank_at}
 use Rattle.drain_core.specs.Drain.{Progress, drain_start, with_earliest, for_each_rank, after_rest, has_open_bank, owes_refresh, close_rank, close_step_of, refresh_rank, after_refreshes, entry_step_of, entry_steps_of, after_self_refresh, drain_of}
 
 abbrev Rises : Progress → Progress → Type 0

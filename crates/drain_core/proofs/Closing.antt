@@ -1,27 +1,14 @@
 -- The close step of a drain is lawful, and short.
 use Rattle.std.proofs.Common.{◌≡◌, ℕ, zero, suc, ◌+◌, ◌-◌, ◌*◌, ◌≤◌, ◌<◌, true, List, [], ◌∷◌, ◌++◌, arith, refl, sym, subst, ap, ◌∙◌, inl, inr, add-one, below_more}
-use Rattle.std.specs.Prelude.{max}
-use Rattle.std.proofs.lemmas.Bool.{cases_Bool}
-use Rattle.ddr4_timing.specs.declared.command.Command.{Command}
-use Rattle.ddr4_timing.specs.declared.command.Command.TheVariants.{Act, Rd, Wr, Pre, PreAll, Ref, Sre}
-use Rattle.ddr4_timing.specs.declared.command.Stamped.{Stamped}
-use Rattle.ddr4_timing.specs.declared.timing.Timing.{Timing}
-use Rattle.ddr4_timing.specs.declared.timing.Checked.{Checked}
-use Rattle.ddr4_timing.specs.Floors.{floor, least_clock}
-use Rattle.ddr4_timing.specs.Gaps.{most_gap}
-use Rattle.ddr4_timing.specs.Lawful.{AllClosed, IsLawful, last_ref}
-use Rattle.ddr4_timing.specs.Limits.{close_of}
-use Rattle.ddr4_timing.proofs.Bounds.{most_gap-PreAll, most_gap-close}
-use Rattle.ddr4_timing.proofs.FloorLemmas.{floor_push}
-use Rattle.frfcfs.specs.Margin.{row_time}
+use Rattle.drain_core.proofs.Common.{Act, AfterClose, AllClosed, AreAwake, CanDrain, Checked, Command, IsBetweenSteps}
+use Rattle.drain_core.proofs.Common.{IsLawful, MayGo, Pre, PreAll, Rd, Ref, Sre, Stamped, Timing, Wr, cases_Bool}
+use Rattle.drain_core.proofs.Common.{close_of, floor, floor_push, last_ref, least_clock, max, most_gap, most_gap-PreAll}
+use Rattle.drain_core.proofs.Common.{most_gap-close, row_time}
 use Rattle.frfcfs.proofs.refreshes.RowsClosed.{closed_push, closed_after}
 use Rattle.drain_core.specs.Drain.{Progress, drain_start, with_earliest, next_clock, for_each_rank, rest_gap, rest_clock, after_rest, has_open_bank, close_rank, close_step_of}
-use Rattle.chan_core.specs.Phases.{AreAwake}
 use Rattle.chan_core.proofs.Sleeping.{awake-more}
-use Rattle.drain_core.specs.Standing.{AfterClose, CanDrain, IsBetweenSteps}
 use Rattle.drain_core.proofs.LawfulLists.{greatest_above, drain_start_push, latest-le}
 use Rattle.drain_core.proofs.Settling.{rest_clock_push}
-use Rattle.drain_core.specs.Steps.{MayGo}
 use Rattle.drain_core.proofs.OneCommand.{with_earliest-lawful, last_ref-calm, has_open_bank-false, has_open_bank-true}
 
 -- So many ranks were seen to.

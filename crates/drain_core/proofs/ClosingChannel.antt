@@ -1,18 +1,10 @@
 -- The close step of a channel, rank by rank.
 use Rattle.std.proofs.Common.{◌≡◌, ℕ, ◌+◌, ◌-◌, ◌*◌, ◌^◌, ◌≤◌, ◌<◌, Bool, true, false, cond, List, arith, sym, ap, subst, ◌∙◌}
-use Rattle.std.specs.Prelude.{max}
-use Rattle.ddr4_timing.specs.declared.command.Command.TheVariants.{PreAll}
-use Rattle.ddr4_timing.specs.declared.command.Stamped.{Stamped}
-use Rattle.ddr4_timing.specs.declared.timing.Checked.{Checked}
-use Rattle.ddr4_timing.specs.Limits.{close_of}
-use Rattle.energy_budget.specs.declared.costs.CostNumbers.{CostNumbers}
+use Rattle.drain_core.proofs.Common.{AreAwake, AreClosed, CanDrain, ChannelState, Checked, CostNumbers, GoesNext}
+use Rattle.drain_core.proofs.Common.{GoesTo, IsBetweenSteps, MayEnter, MayGo, PreAll, Stamped, StepEnd, close_of}
+use Rattle.drain_core.proofs.Common.{drain_start_of, max, progress_of}
 use Rattle.frfcfs.proofs.refreshes.IntervalFits.{fits}
-use Rattle.chan_core.specs.Phases.{AreAwake}
-use Rattle.chan_core.specs.State.{ChannelState}
-use Rattle.drain_core.specs.declared.steps.StepEnd.{StepEnd}
 use Rattle.drain_core.specs.Drain.{Progress, drain_start, next_clock, for_each_rank, rest_clock, has_open_bank, close_rank, close_step_of, with_earliest}
-use Rattle.drain_core.specs.Standing.{AreClosed, CanDrain, IsBetweenSteps}
-use Rattle.drain_core.specs.Steps.{GoesNext, GoesTo, MayEnter, MayGo, drain_start_of, progress_of}
 use Rattle.drain_core.proofs.Closing.{IsClosing, close_step, closing_all, may_close, close_clock-le}
 use Rattle.drain_core.proofs.Parts.{at_mid, goes_then, goes_rested, next_rank, takes_checked}
 

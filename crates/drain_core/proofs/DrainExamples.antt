@@ -1,16 +1,8 @@
 -- The worked drains, by computation.
 use Rattle.std.proofs.Common.{◌≡◌, ℕ, List, [], ◌∷◌, refl}
-use Rattle.ddr4_timing.specs.declared.command.Command.{Command}
-use Rattle.ddr4_timing.specs.declared.command.Command.TheVariants.{Act, Wr, Pre, PreAll, Ref, Sre}
-use Rattle.ddr4_timing.specs.declared.command.Stamped.{Stamped}
-use Rattle.ddr4_timing.specs.declared.place.BankAddress.{BankAddress}
-use Rattle.ddr4_timing.specs.declared.place.Place.{Place}
-use Rattle.ddr4_timing.specs.declared.timing.Timing.{Timing}
-use Rattle.ddr4_timing.specs.declared.timing.Geometry.{Geometry}
-use Rattle.ddr4_timing.specs.Lawful.{open_row, ref_count}
-use Rattle.ddr4_timing.specs.Floors.{greatest, floor, window, least_clock}
-use Rattle.ddr4_timing.specs.Gaps.{most_gap, pair_gap}
-use Rattle.energy_budget.specs.declared.costs.CostNumbers.{CostNumbers}
+use Rattle.drain_core.proofs.Common.{Act, BankAddress, Command, CostNumbers, Geometry, Place, Pre, PreAll, Ref, Sre}
+use Rattle.drain_core.proofs.Common.{Stamped, Timing, Wr, floor, greatest, least_clock, most_gap, open_row, pair_gap}
+use Rattle.drain_core.proofs.Common.{ref_count, window}
 use Rattle.drain_core.specs.Drain.{drain_start, with_earliest, rest_clock, after_rest, has_open_bank, owes_refresh, close_step_of, after_refreshes, entry_step_of, after_self_refresh, drain_of, drain_commands, drain_clocks, drain_spent}
 
 abbrev tiny : Timing

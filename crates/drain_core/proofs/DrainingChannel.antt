@@ -1,15 +1,13 @@
 -- A channel's drain, entry by entry.
 use Rattle.std.proofs.Common.{◌≡◌, ℕ, zero, suc, ◌+◌, ◌-◌, ◌*◌, ◌≤◌, List, [], ◌∷◌, length, map, take, drop, arith, refl, sym, ap, subst, ◌∙◌}
-use Rattle.std.specs.Prelude.{All}
 use Rattle.std.specs.List.{filter_map, cons_option}
 use Rattle.std.proofs.Math.Nat.{mul-le-mul_left}
 use Rattle.std.proofs.Math.Seq.{drop-append_seam}
-use Rattle.std.proofs.lemmas.List.{nil_from_length}
-use Rattle.ddr4_timing.specs.declared.command.Stamped.{Stamped}
-use Rattle.ddr4_timing.specs.declared.place.Place.{Place}
-use Rattle.ddr4_timing.specs.declared.timing.Checked.{Checked}
-use Rattle.ddr4_timing.specs.Limits.{entry_of, close_of}
-use Rattle.energy_budget.specs.declared.costs.CostNumbers.{CostNumbers}
+use Rattle.drain_core.proofs.Common.{All, CanDrain, ChannelState, Checked, CostNumbers, GoesTo, IsStepped, IssuesFor}
+use Rattle.drain_core.proofs.Common.{MayEnter, Place, Stamped, StepEnd, TakesOldest, channel_memory, clocks_of}
+use Rattle.drain_core.proofs.Common.{close_of, commands_cost, drain_of_channel, drain_start_of, drained, entry_of}
+use Rattle.drain_core.proofs.Common.{most_clocks, nil_from_length, pending_places, placed, placed_write, placed_writes}
+use Rattle.drain_core.proofs.Common.{progress_of, spent_by}
 use Rattle.energy_budget.specs.declared.costs.Costs.{Costs}
 use Rattle.energy_budget.specs.Costs.{AreReckonedFor, close_cost, entry_cost}
 use Rattle.frfcfs.specs.declared.pending.Kind.{Kind}
@@ -19,12 +17,8 @@ use Rattle.frfcfs.proofs.Lists.{All-at}
 use Rattle.wpq_core.specs.declared.queue.PendingWrite.{PendingWrite}
 use Rattle.wpq_core.specs.PendingMemory.{after_pending}
 use Rattle.chan_core.specs.Always.{HasRightContents}
-use Rattle.chan_core.specs.State.{ChannelState, channel_memory, placed, placed_write, placed_writes}
 use Rattle.chan_core.specs.declared.phase.Phase.TheVariants.{Asleep}
-use Rattle.drain_core.specs.declared.steps.StepEnd.{StepEnd}
 use Rattle.drain_core.specs.Drain.{Progress, drain_start, close_step_of, entry_step_of, entry_steps_of, after_self_refresh, drain_of, drain_commands, drain_clocks, drain_spent}
-use Rattle.drain_core.specs.Standing.{CanDrain}
-use Rattle.drain_core.specs.Steps.{GoesTo, IsStepped, IssuesFor, MayEnter, TakesOldest, commands_cost, drain_of_channel, drain_start_of, drained, pending_places, progress_of, clocks_of, most_clocks, spent_by}
 use Rattle.drain_core.proofs.Parts.{issues_then, takes_then, takes_checked}
 use Rattle.drain_core.proofs.PendingPlaces.{all_lie, placed_length, places_length}
 use Rattle.drain_core.proofs.ClocksRise.{drain_rises}

@@ -1,26 +1,15 @@
 -- The ACT, WR and PRE of an entry are lawful, and the entry takes no longer than the profile's sum.
 use Rattle.std.proofs.Common.{◌≡◌, ℕ, ◌+◌, ◌*◌, ◌≤◌, Bool, true, false, cond, List, [], ◌∷◌, ◌++◌, Option, Some, None, arith, refl, sym, ap, ◌∙◌}
-use Rattle.std.specs.Prelude.{max}
-use Rattle.ddr4_timing.specs.declared.command.Command.TheVariants.{Act, Wr, Pre}
-use Rattle.ddr4_timing.specs.declared.command.Stamped.{Stamped}
-use Rattle.ddr4_timing.specs.declared.place.BankAddress.{BankAddress}
-use Rattle.ddr4_timing.specs.declared.place.Place.{Place}
-use Rattle.ddr4_timing.specs.declared.timing.Timing.{Timing}
-use Rattle.ddr4_timing.specs.declared.timing.Checked.{Checked}
-use Rattle.ddr4_timing.specs.Floors.{floor, least_clock}
-use Rattle.ddr4_timing.specs.Lawful.{IsLawful, row_after, open_row, last_ref}
-use Rattle.ddr4_timing.specs.Limits.{entry_of}
-use Rattle.ddr4_timing.specs.Places.{HasBank, LiesIn, bank_at}
-use Rattle.ddr4_timing.proofs.FloorLemmas.{floor_push, open_row_push}
+use Rattle.drain_core.proofs.Common.{Act, AfterEntries, AreAwake, AreClosed, BankAddress, Checked, HasBank}
+use Rattle.drain_core.proofs.Common.{IsBetweenSteps, IsLawful, LiesIn, MayGo, Place, Pre, Stamped, Timing, Wr, bank_at}
+use Rattle.drain_core.proofs.Common.{entry_of, floor, floor_push, last_ref, least_clock, max, open_row, open_row_push}
+use Rattle.drain_core.proofs.Common.{row_after}
 use Rattle.drain_core.specs.Drain.{Progress, drain_start, with_earliest, next_clock, rest_clock, after_rest, entry_step_of, after_refreshes}
-use Rattle.chan_core.specs.Phases.{AreAwake}
 use Rattle.chan_core.proofs.Sleeping.{awake-more}
-use Rattle.drain_core.specs.Standing.{AfterEntries, AreClosed, IsBetweenSteps}
 use Rattle.drain_core.proofs.Gaps.{eqb-same, gap-act_wr, gap-act_pre, gap-wr_pre}
 use Rattle.drain_core.proofs.LawfulLists.{drain_start_push}
 use Rattle.drain_core.proofs.Settling.{settle_clock, settle_clock-le, rest_clock_push}
 use Rattle.drain_core.proofs.Rested.{least-Act, floor-Wr, floor-Pre}
-use Rattle.drain_core.specs.Steps.{MayGo}
 use Rattle.drain_core.proofs.OneCommand.{with_earliest-lawful, last_ref-calm}
 use Rattle.drain_core.proofs.Refreshing.{IsRefreshed, refreshed}
 

@@ -1,20 +1,9 @@
 -- The entry step of a channel, command by command.
 use Rattle.std.proofs.Common.{◌≡◌, ℕ, ◌+◌, ◌-◌, ◌*◌, ◌^◌, ◌≤◌, ◌<◌, List, Some, slice_get, arith, refl, ap, subst, ◌∙◌}
-use Rattle.std.specs.Prelude.{max}
-use Rattle.ddr4_timing.specs.declared.command.Command.TheVariants.{Act, Wr, Pre}
-use Rattle.ddr4_timing.specs.declared.place.BankAddress.{BankAddress}
-use Rattle.ddr4_timing.specs.declared.place.Place.{Place}
-use Rattle.ddr4_timing.specs.Lawful.{open_row}
-use Rattle.ddr4_timing.specs.Limits.{entry_of}
-use Rattle.ddr4_timing.specs.Places.{LiesIn, bank_at}
-use Rattle.energy_budget.specs.declared.costs.CostNumbers.{CostNumbers}
-use Rattle.chan_core.specs.Phases.{AreAwake}
-use Rattle.chan_core.specs.Singles.{FitsOldest}
-use Rattle.chan_core.specs.State.{ChannelState, placed_writes}
-use Rattle.drain_core.specs.declared.steps.StepEnd.{StepEnd}
+use Rattle.drain_core.proofs.Common.{Act, AreAwake, AreClosed, BankAddress, ChannelState, CostNumbers, FitsOldest}
+use Rattle.drain_core.proofs.Common.{GoesNext, GoesTo, IsBetweenSteps, IsEarly, LiesIn, MayEnter, MayGo, Place, Pre}
+use Rattle.drain_core.proofs.Common.{StepEnd, Wr, bank_at, entry_of, max, open_row, placed_writes, progress_of}
 use Rattle.drain_core.specs.Drain.{Progress, drain_start, next_clock, rest_clock, after_refreshes, entry_step_of}
-use Rattle.drain_core.specs.Standing.{AreClosed, IsBetweenSteps}
-use Rattle.drain_core.specs.Steps.{GoesNext, GoesTo, IsEarly, MayEnter, MayGo, progress_of}
 use Rattle.drain_core.proofs.Entering.{after_act, after_wr, after_pre, row_open, act_clock, wr_clock, pre_clock, may_act, may_wr, may_pre, act_opens, pre_awake, pre_closed, pre_start, entry-sum, entry_step}
 use Rattle.drain_core.proofs.Parts.{at_mid, goes_then, goes_rested}
 use Rattle.drain_core.proofs.Refreshing.{IsRefreshed, refreshed, entry-le}

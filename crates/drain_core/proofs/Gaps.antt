@@ -1,19 +1,11 @@
 -- How long the commands of a drain wait for those before them.
 use Rattle.std.proofs.Common.{◌≡◌, ℕ, ◌+◌, ◌≤◌, Bool, true, false, cond, eqb, arith, refl, ap, ◌∙◌}
-use Rattle.std.specs.Prelude.{max, ◌==◌, ◌&&◌}
-use Rattle.std.proofs.lemmas.Bool.{and_parts, eq-eqb, eqb-true}
-use Rattle.ddr4_timing.specs.declared.command.Command.{Command}
-use Rattle.ddr4_timing.specs.declared.command.Command.TheVariants.{Act, Rd, Wr, Pre, PreAll, Ref, Sre}
-use Rattle.ddr4_timing.specs.declared.place.BankAddress.{BankAddress}
-use Rattle.ddr4_timing.specs.declared.timing.Timing.{Timing}
-use Rattle.ddr4_timing.specs.declared.timing.Checked.{Checked}
-use Rattle.ddr4_timing.specs.Command.{bank_of, rank_of}
+use Rattle.drain_core.proofs.Common.{Act, BankAddress, Checked, Command, Pre, PreAll, Rd, Ref, Sre, Timing, Wr}
+use Rattle.drain_core.proofs.Common.{and_parts, bank_of, cond-le, eq-eqb, eqb-true, is_bank, is_group, max, most_gap}
+use Rattle.drain_core.proofs.Common.{rank_of, ◌&&◌, ◌==◌}
 use Rattle.ddr4_timing.specs.Demands.{Demand, demand_of}
-use Rattle.ddr4_timing.specs.Gaps.{most_gap}
-use Rattle.ddr4_timing.specs.Places.{is_bank, is_group}
 use Rattle.ddr4_timing.proofs.Addresses.{same_address}
 use Rattle.ddr4_timing.proofs.GapParts.{tells_gaps}
-use Rattle.ddr4_timing.proofs.Bounds.{cond-le}
 
 -- a clock at least
 -- a gap under a test is at most each of two bounds

@@ -1,19 +1,10 @@
 -- Lawful lists of commands, one command after another.
 use Rattle.std.proofs.Common.{◌≡◌, ℕ, ◌+◌, ◌*◌, ◌≤◌, List, [], ◌∷◌, ◌++◌, append_assoc, length, arith, sym, subst}
-use Rattle.std.specs.Prelude.{max, fold}
-use Rattle.std.proofs.lemmas.List.{append-nil}
 use Rattle.std.proofs.lemmas.List.Sums.{fold_push}
 use Rattle.std.proofs.Math.Seq.{take-append_seam}
-use Rattle.ddr4_timing.specs.declared.command.Command.{Command}
-use Rattle.ddr4_timing.specs.declared.command.Stamped.{Stamped}
-use Rattle.ddr4_timing.specs.declared.timing.Timing.{Timing}
-use Rattle.ddr4_timing.specs.declared.timing.Checked.{Checked}
-use Rattle.ddr4_timing.specs.Command.{rank_of}
-use Rattle.ddr4_timing.specs.Floors.{greatest, floor, least_clock}
-use Rattle.ddr4_timing.specs.Gaps.{most_gap}
-use Rattle.ddr4_timing.specs.Lawful.{IsLawful, KeepsRows, last_ref}
+use Rattle.drain_core.proofs.Common.{Checked, Command, IsLawful, KeepsRows, Stamped, Timing, append-nil, floor, fold}
+use Rattle.drain_core.proofs.Common.{greatest, greatest_push, last_ref, least_clock, max, most_gap, rank_of}
 use Rattle.ddr4_timing.proofs.Ready.{lawful_ready, ready_lawful, IsLawful-take, most_gap_some}
-use Rattle.ddr4_timing.proofs.FloorLemmas.{greatest_push}
 use Rattle.bank_core.specs.Stands.{with_command}
 use Rattle.drain_core.specs.Drain.{drain_start}
 

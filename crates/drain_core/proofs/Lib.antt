@@ -1,3 +1,4 @@
+pub mod Common
 pub mod Gaps
 pub mod LawfulLists
 pub mod Settling

@@ -1,16 +1,8 @@
 -- One more command of a drain.
 use Rattle.std.proofs.Common.{◌≡◌, ℕ, zero, suc, ◌<◌, Bool, true, false, cond, List, [], ◌∷◌, ◌++◌, Option, Some, None, arith, refl, subst, ap, ◌∙◌, inl, inr}
-use Rattle.std.specs.Prelude.{is_some}
-use Rattle.std.proofs.lemmas.Bool.{cases_lt, or_parts, or_cases}
-use Rattle.ddr4_timing.specs.declared.command.Command.{Command}
-use Rattle.ddr4_timing.specs.declared.command.Command.TheVariants.{Act, Rd, Wr, Pre, PreAll, Ref, Sre}
-use Rattle.ddr4_timing.specs.declared.command.Stamped.{Stamped}
-use Rattle.ddr4_timing.specs.declared.timing.Geometry.{Geometry}
-use Rattle.ddr4_timing.specs.declared.timing.Checked.{Checked}
-use Rattle.ddr4_timing.specs.Command.{is_ref, is_ref_of}
-use Rattle.ddr4_timing.specs.Lawful.{AllClosed, IsLawful, open_row, last_ref}
-use Rattle.ddr4_timing.proofs.FloorLemmas.{last_ref_push}
-use Rattle.drain_core.specs.Steps.{MayGo}
+use Rattle.drain_core.proofs.Common.{Act, AllClosed, Checked, Command, Geometry, IsLawful, MayGo, Pre, PreAll, Rd, Ref}
+use Rattle.drain_core.proofs.Common.{Sre, Stamped, Wr, cases_lt, is_ref, is_ref_of, is_some, last_ref, last_ref_push}
+use Rattle.drain_core.proofs.Common.{open_row, or_cases, or_parts}
 use Rattle.drain_core.specs.Drain.{Progress, next_clock, with_earliest, any_below, has_open_bank}
 use Rattle.drain_core.proofs.LawfulLists.{lawful_next}
 

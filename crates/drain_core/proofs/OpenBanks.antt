@@ -1,13 +1,6 @@
 -- What the earliest clock of a command says of the banks of its rank.
 use Rattle.std.proofs.Common.{◌≡◌, ℕ, ◌<◌, List, Option, Some, None, inl, inr, sym}
-use Rattle.std.specs.Prelude.{is_some}
-use Rattle.std.proofs.lemmas.Bool.{cases_Bool}
-use Rattle.ddr4_timing.specs.declared.command.Command.TheVariants.{PreAll}
-use Rattle.ddr4_timing.specs.declared.command.Stamped.{Stamped}
-use Rattle.ddr4_timing.specs.declared.timing.Checked.{Checked}
-use Rattle.chan_core.specs.Phases.{AreAwake}
-use Rattle.chan_core.specs.Singles.{IsEarliest}
-use Rattle.drain_core.specs.Drain.{has_open_bank}
+use Rattle.drain_core.proofs.Common.{AreAwake, Checked, IsEarliest, PreAll, Stamped, cases_Bool, has_open_bank, is_some}
 use Rattle.drain_core.proofs.OneCommand.{has_open_bank-true, has_open_bank-false}
 
 -- a PREA may go exactly where a bank is open

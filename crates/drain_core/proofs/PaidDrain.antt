@@ -1,21 +1,17 @@
 -- A drain whose actions are asked for one by one.
 use Rattle.std.proofs.Common.{◌≡◌, ℕ, zero, suc, ◌+◌, ◌<◌, ◌≤◌, List, [], ◌∷◌, ◌++◌, length, take, drop, map, refl, sym, ap, subst, ◌∙◌, arith}
 use Rattle.std.proofs.Math.Numerals.{add-one}
-use Rattle.std.specs.Prelude.{Result, Ok, Err, IsErr, None}
-use Rattle.ddr4_timing.specs.declared.place.Place.{Place}
-use Rattle.ddr4_timing.specs.declared.timing.Checked.{Checked}
+use Rattle.drain_core.proofs.Common.{ChannelState, Checked, CostNumbers, EntersOldest, Err, GoesTo, IsErr, MayEnter}
+use Rattle.drain_core.proofs.Common.{None, Ok, Place, Result, StepEnd, TakesOldest, closed_by, drain_start_of, drained}
+use Rattle.drain_core.proofs.Common.{entered_by, pending_places, placed_writes, progress_of}
 use Rattle.energy_budget.specs.declared.action.Action.{Action}
 use Rattle.energy_budget.specs.declared.action.Action.TheVariants.{EntryStep}
-use Rattle.energy_budget.specs.declared.costs.CostNumbers.{CostNumbers}
 use Rattle.energy_budget.specs.declared.costs.Costs.{Costs}
 use Rattle.energy_budget.specs.declared.energy.Dark.{Dark}
 use Rattle.energy_budget.specs.Gauge.{Gauge}
 use Rattle.chan_core.specs.Always.{HasRightContents}
-use Rattle.chan_core.specs.State.{ChannelState, placed_writes}
 use Rattle.drain_core.specs.declared.report.DrainReport.{DrainReport}
-use Rattle.drain_core.specs.declared.steps.StepEnd.{StepEnd}
 use Rattle.drain_core.specs.Drain.{Progress, close_step_of, entry_step_of, entry_steps_of}
-use Rattle.drain_core.specs.Steps.{EntersOldest, GoesTo, MayEnter, TakesOldest, closed_by, drain_start_of, drained, entered_by, pending_places, progress_of}
 use Rattle.drain_core.specs.Paying.{AsksForActions, DrainsForPayment, GrantsActions, PaysAction, drain_action, entered}
 use Rattle.drain_core.proofs.DrainingChannel.{IsDraining, draining_first, draining_next, few_places}
 use Rattle.drain_core.proofs.Parts.{takes_checked, takes_then}

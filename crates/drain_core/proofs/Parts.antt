@@ -1,20 +1,12 @@
 -- One part of a drain behind another.
 use Rattle.std.proofs.Common.{◌≡◌, ℕ, zero, suc, ◌+◌, List, [], ◌∷◌, ◌++◌, append_assoc, take, drop, arith, refl, sym, ap, subst, ◌∙◌}
-use Rattle.std.specs.Prelude.{max}
 use Rattle.std.proofs.lemmas.List.Sums.{sum_by-append}
-use Rattle.ddr4_timing.specs.declared.command.Command.{Command}
-use Rattle.ddr4_timing.specs.declared.command.Stamped.{Stamped}
-use Rattle.ddr4_timing.specs.declared.timing.Timing.{Timing}
-use Rattle.ddr4_timing.specs.declared.timing.Checked.{Checked}
-use Rattle.energy_budget.specs.declared.costs.CostNumbers.{CostNumbers}
+use Rattle.drain_core.proofs.Common.{ChannelState, Checked, Command, CostNumbers, GoesNext, GoesTo, IssuesFor, Stamped}
+use Rattle.drain_core.proofs.Common.{StepEnd, TakesOldest, Timing, max, placed_writes, progress_of, writes_by}
 use Rattle.energy_budget.specs.CostNumbers.{command_cost}
 use Rattle.wpq_core.specs.declared.queue.PendingWrite.{PendingWrite}
 use Rattle.wpq_core.specs.PendingMemory.{after_pending}
-use Rattle.chan_core.specs.Singles.{writes_by}
-use Rattle.chan_core.specs.State.{ChannelState, placed_writes}
-use Rattle.drain_core.specs.declared.steps.StepEnd.{StepEnd}
 use Rattle.drain_core.specs.Drain.{Progress, for_each_rank, rest_clock, after_rest, with_earliest}
-use Rattle.drain_core.specs.Steps.{GoesNext, GoesTo, IssuesFor, TakesOldest, progress_of}
 
 -- commands
 

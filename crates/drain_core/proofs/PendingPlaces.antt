@@ -1,20 +1,16 @@
 -- The places of a channel's pending writes.
 use Rattle.std.proofs.Common.{◌≡◌, ℕ, zero, suc, List, [], ◌∷◌, length, slice_get, get_or, Some, None, refl, sym, ap, subst, ◌∙◌}
 use Rattle.std.specs.List.{All, filter_map, cons_option}
-use Rattle.std.proofs.lemmas.List.{length-map, nil_from_length}
 use Rattle.std.proofs.lemmas.Option.{slice_get-get_or}
-use Rattle.ddr4_timing.specs.declared.place.Place.{Place}
-use Rattle.ddr4_timing.specs.declared.timing.Geometry.{Geometry}
-use Rattle.ddr4_timing.specs.Places.{LiesIn}
+use Rattle.drain_core.proofs.Common.{ChannelState, Geometry, LiesIn, Place, length-map, nil_from_length, pending_places}
+use Rattle.drain_core.proofs.Common.{placed, placed_write, placed_writes}
 use Rattle.frfcfs.specs.declared.pending.Kind.{Kind}
 use Rattle.frfcfs.specs.declared.pending.Kind.TheVariants.{Read, Write}
 use Rattle.frfcfs.specs.declared.pending.Pending.{Pending}
 use Rattle.frfcfs.proofs.Lists.{All-at}
 use Rattle.chan_core.specs.Always.{HasRightContents}
 use Rattle.chan_core.specs.Contents.{IsRightRequest, queued_key, write_key, write_of}
-use Rattle.chan_core.specs.State.{ChannelState, placed, placed_write, placed_writes}
 use Rattle.chan_core.proofs.Kept.{map-from}
-use Rattle.drain_core.specs.Steps.{pending_places}
 
 -- each lies in the geometry
 

@@ -1,28 +1,17 @@
 -- The refreshes at an entry's start are lawful, and leave each rank time for the entry and the next one's refreshes.
 use Rattle.std.proofs.Common.{◌≡◌, ◌≢◌, ℕ, zero, suc, ◌+◌, ◌-◌, ◌*◌, ◌/◌, ◌≤◌, ◌<◌, true, false, [], ◌∷◌, ◌++◌, arith, refl, subst, ap, ◌∙◌, inl, inr, add-one, below_more}
-use Rattle.std.specs.Prelude.{max}
-use Rattle.std.proofs.lemmas.Bool.{cases_lt, cases_Bool, ltb-true, ltb-false}
 use Rattle.std.proofs.Math.Nat.{le-div_iff_mul-le, mul-le-mul_left}
-use Rattle.ddr4_timing.specs.declared.command.Command.TheVariants.{Ref}
-use Rattle.ddr4_timing.specs.declared.command.Stamped.{Stamped}
-use Rattle.ddr4_timing.specs.declared.timing.Timing.{Timing}
-use Rattle.ddr4_timing.specs.declared.timing.Checked.{Checked}
-use Rattle.ddr4_timing.specs.Floors.{floor, least_clock}
-use Rattle.ddr4_timing.specs.Lawful.{IsLawful, last_ref, ref_count}
-use Rattle.ddr4_timing.specs.Limits.{entry_of, close_of}
-use Rattle.ddr4_timing.proofs.Bounds.{most_gap-Ref_other}
-use Rattle.ddr4_timing.proofs.FloorLemmas.{floor_push}
+use Rattle.drain_core.proofs.Common.{AreAwake, AreClosed, Checked, HaveClocks, IsBetweenSteps, IsLawful, MayGo, Ref}
+use Rattle.drain_core.proofs.Common.{Stamped, Timing, cases_Bool, cases_lt, close_of, entry_of, floor, floor_push}
+use Rattle.drain_core.proofs.Common.{last_ref, least_clock, ltb-false, ltb-true, max, most_gap-Ref_other, ref_count}
 use Rattle.bank_core.proofs.Refreshes.{refreshes_keep_pace}
 use Rattle.frfcfs.proofs.refreshes.RefreshCounts.{ref_of_other, count_same, last_same, last_next}
 use Rattle.frfcfs.proofs.refreshes.RowsClosed.{closed_push}
 use Rattle.drain_core.specs.Drain.{Progress, drain_start, with_earliest, next_clock, for_each_rank, rest_clock, after_rest, owes_refresh, refresh_rank, after_refreshes}
-use Rattle.chan_core.specs.Phases.{AreAwake}
 use Rattle.chan_core.proofs.Sleeping.{awake-more}
-use Rattle.drain_core.specs.Standing.{AreClosed, HaveClocks, IsBetweenSteps}
 use Rattle.drain_core.proofs.LawfulLists.{drain_start_push}
 use Rattle.drain_core.proofs.Settling.{settle_clock, settle_clock-le, rest_clock_push}
 use Rattle.drain_core.proofs.Rested.{floor-Ref}
-use Rattle.drain_core.specs.Steps.{MayGo}
 use Rattle.drain_core.proofs.OneCommand.{with_earliest-lawful}
 
 -- So many ranks were seen to, from the start of an entry on.

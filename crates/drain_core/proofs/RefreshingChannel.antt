@@ -1,17 +1,9 @@
 -- The refreshes of an entry on a channel, rank by rank.
 use Rattle.std.proofs.Common.{◌≡◌, ℕ, ◌+◌, ◌-◌, ◌*◌, ◌/◌, ◌^◌, ◌≤◌, ◌<◌, Bool, true, false, cond, arith, sym, ap, subst, ◌∙◌}
-use Rattle.std.specs.Prelude.{max, nat_lt}
-use Rattle.ddr4_timing.specs.declared.command.Command.TheVariants.{Ref}
-use Rattle.ddr4_timing.specs.declared.timing.Checked.{Checked}
-use Rattle.ddr4_timing.specs.Lawful.{ref_count}
-use Rattle.energy_budget.specs.declared.costs.CostNumbers.{CostNumbers}
+use Rattle.drain_core.proofs.Common.{AreAwake, AreClosed, ChannelState, Checked, CostNumbers, GoesNext, GoesTo, IsEarly}
+use Rattle.drain_core.proofs.Common.{MayEnter, MayGo, Ref, StepEnd, max, nat_lt, progress_of, ref_count}
 use Rattle.frfcfs.proofs.refreshes.IntervalFits.{fits}
-use Rattle.chan_core.specs.Phases.{AreAwake}
-use Rattle.chan_core.specs.State.{ChannelState}
-use Rattle.drain_core.specs.declared.steps.StepEnd.{StepEnd}
 use Rattle.drain_core.specs.Drain.{Progress, drain_start, next_clock, for_each_rank, rest_clock, owes_refresh, refresh_rank, after_refreshes, with_earliest}
-use Rattle.drain_core.specs.Standing.{AreClosed}
-use Rattle.drain_core.specs.Steps.{GoesNext, GoesTo, IsEarly, MayEnter, MayGo, progress_of}
 use Rattle.drain_core.proofs.Parts.{at_mid, goes_then, goes_rested, next_rank, takes_checked}
 use Rattle.drain_core.proofs.Refreshing.{IsRefreshing, refreshing_all, may_refresh, ref_clock}
 

@@ -1,15 +1,7 @@
 -- From which clock each command of a drain may go, where everything is settled.
 use Rattle.std.proofs.Common.{◌≡◌, ℕ, ◌+◌, ◌≤◌, Bool, true, false, cond, List, arith, refl}
-use Rattle.std.specs.Prelude.{count_by, ◌&&◌, ◌==◌}
-use Rattle.std.proofs.lemmas.Bool.{and_parts}
-use Rattle.ddr4_timing.specs.declared.command.Command.{Command}
-use Rattle.ddr4_timing.specs.declared.command.Command.TheVariants.{Act, Rd, Wr, Pre, PreAll, Ref, Sre}
-use Rattle.ddr4_timing.specs.declared.command.Stamped.{Stamped}
-use Rattle.ddr4_timing.specs.declared.place.BankAddress.{BankAddress}
-use Rattle.ddr4_timing.specs.declared.timing.Checked.{Checked}
-use Rattle.ddr4_timing.specs.Command.{is_act_of}
-use Rattle.ddr4_timing.specs.Floors.{floor, window, least_clock}
-use Rattle.ddr4_timing.specs.Gaps.{most_gap}
+use Rattle.drain_core.proofs.Common.{Act, BankAddress, Checked, Command, Pre, PreAll, Rd, Ref, Sre, Stamped, Wr}
+use Rattle.drain_core.proofs.Common.{and_parts, count_by, floor, is_act_of, least_clock, most_gap, window, ◌&&◌, ◌==◌}
 use Rattle.drain_core.proofs.Gaps.{settle_gap, gap-Act, gap-Wr, gap-Pre, gap-Ref, gap-Sre}
 use Rattle.drain_core.proofs.LawfulLists.{greatest_above}
 use Rattle.drain_core.proofs.Settling.{settle_clock}

@@ -1,19 +1,9 @@
 -- By when every bank and rank has rested: as soon as each rank could have its SRE.
 use Rattle.std.proofs.Common.{◌≡◌, ℕ, ◌≤◌, ◌<◌, Bool, cond, eqb, List, [], arith, refl, ap}
-use Rattle.std.specs.Prelude.{max}
-use Rattle.ddr4_timing.specs.declared.command.Command.{Command}
-use Rattle.ddr4_timing.specs.declared.command.Command.TheVariants.{Act, Rd, Wr, Pre, PreAll, Ref, Sre}
-use Rattle.ddr4_timing.specs.declared.command.Stamped.{Stamped}
-use Rattle.ddr4_timing.specs.declared.timing.Timing.{Timing}
-use Rattle.ddr4_timing.specs.declared.timing.Checked.{Checked}
-use Rattle.ddr4_timing.specs.Command.{rank_of}
+use Rattle.drain_core.proofs.Common.{Act, Checked, Command, IsLawful, Pre, PreAll, Rd, Ref, Sre, Stamped, Timing, Wr}
+use Rattle.drain_core.proofs.Common.{cond-le, floor, floor_push, greatest, max, most_gap, rank_of}
 use Rattle.ddr4_timing.specs.Demands.{demand_of}
-use Rattle.ddr4_timing.specs.Floors.{greatest, floor}
-use Rattle.ddr4_timing.specs.Gaps.{most_gap}
-use Rattle.ddr4_timing.specs.Lawful.{IsLawful}
-use Rattle.ddr4_timing.proofs.FloorLemmas.{floor_push}
 use Rattle.ddr4_timing.proofs.GapParts.{tells_gaps}
-use Rattle.ddr4_timing.proofs.Bounds.{cond-le}
 use Rattle.ddr4_timing.proofs.Addresses.{rank_within}
 use Rattle.drain_core.specs.Drain.{drain_start, rest_gap, rest_clock}
 use Rattle.drain_core.proofs.Gaps.{eqb-same}

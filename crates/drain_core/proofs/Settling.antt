@@ -1,20 +1,9 @@
 -- Where every bank is closed and has rested, nothing else in the list holds the next row up.
 use Rattle.std.proofs.Common.{◌≡◌, ℕ, ◌+◌, ◌≤◌, Bool, true, false, cond, List, [], ◌∷◌, ◌++◌, Option, Some, None, inl, inr, arith, refl, sym, ap, ◌∙◌}
-use Rattle.std.specs.Prelude.{max, ◌==◌}
-use Rattle.std.proofs.lemmas.Bool.{cases_Bool, eqb-true}
-use Rattle.ddr4_timing.specs.declared.command.Command.{Command}
-use Rattle.ddr4_timing.specs.declared.command.Command.TheVariants.{Act, Rd, Wr, Pre, PreAll, Ref, Sre}
-use Rattle.ddr4_timing.specs.declared.command.Stamped.{Stamped}
-use Rattle.ddr4_timing.specs.declared.place.BankAddress.{BankAddress}
-use Rattle.ddr4_timing.specs.declared.timing.Timing.{Timing}
-use Rattle.ddr4_timing.specs.declared.timing.Checked.{Checked}
-use Rattle.ddr4_timing.specs.Floors.{greatest, floor}
-use Rattle.ddr4_timing.specs.Gaps.{most_gap}
-use Rattle.ddr4_timing.specs.Lawful.{IsLawful, KeepsRows, row_after, open_row}
-use Rattle.ddr4_timing.specs.Places.{HasBank}
-use Rattle.ddr4_timing.proofs.FloorLemmas.{open_row_push, greatest_push}
+use Rattle.drain_core.proofs.Common.{Act, AreClosed, BankAddress, Checked, Command, HasBank, IsLawful, KeepsRows, Pre}
+use Rattle.drain_core.proofs.Common.{PreAll, Rd, Ref, Sre, Stamped, Timing, Wr, cases_Bool, eqb-true, floor, greatest}
+use Rattle.drain_core.proofs.Common.{greatest_push, max, most_gap, open_row, open_row_push, row_after, ◌==◌}
 use Rattle.drain_core.specs.Drain.{rest_gap, rest_clock, drain_start}
-use Rattle.drain_core.specs.Standing.{AreClosed}
 use Rattle.drain_core.proofs.Gaps.{uses, is_at, is_at-same, eqb-same, settle_gap, settles-Pre, settles-PreAll}
 use Rattle.drain_core.proofs.LawfulLists.{IsLast, lawful_last, by_push, greatest_above, drain_start_push, drain_start-floor}
 

@@ -1,20 +1,12 @@
 -- The SREs at a drain's end are lawful, and go one a clock.
 use Rattle.std.proofs.Common.{◌≡◌, ◌≢◌, ℕ, zero, suc, ◌+◌, ◌*◌, ◌≤◌, ◌<◌, Bool, true, false, [], ◌∷◌, ◌++◌, IsTrue, arith, refl, subst, ◌∙◌, add-one, below_more}
-use Rattle.std.specs.Prelude.{max, ◌||◌}
-use Rattle.std.proofs.lemmas.Bool.{ne_eqb, or_left, or_right}
-use Rattle.ddr4_timing.specs.declared.command.Command.TheVariants.{Sre}
-use Rattle.ddr4_timing.specs.declared.command.Stamped.{Stamped}
-use Rattle.ddr4_timing.specs.declared.timing.Checked.{Checked}
-use Rattle.ddr4_timing.specs.Command.{is_sre_of}
-use Rattle.ddr4_timing.specs.Floors.{floor, least_clock}
-use Rattle.ddr4_timing.specs.Lawful.{IsLawful, is_asleep, last_ref}
-use Rattle.ddr4_timing.proofs.FloorLemmas.{floor_push, is_asleep_push}
+use Rattle.drain_core.proofs.Common.{AfterSleep, AreClosed, Checked, IsBetweenSteps, IsLawful, MayGo, Sre, Stamped}
+use Rattle.drain_core.proofs.Common.{floor, floor_push, is_asleep, is_asleep_push, is_sre_of, last_ref, least_clock}
+use Rattle.drain_core.proofs.Common.{max, ne_eqb, or_left, or_right, ◌||◌}
 use Rattle.frfcfs.proofs.refreshes.RowsClosed.{closed_push}
 use Rattle.drain_core.specs.Drain.{Progress, with_earliest, next_clock, for_each_rank, after_self_refresh}
-use Rattle.drain_core.specs.Standing.{AfterSleep, AreClosed, IsBetweenSteps}
 use Rattle.drain_core.proofs.Gaps.{eqb-same, gap-Sre}
 use Rattle.drain_core.proofs.Rested.{floor-Sre}
-use Rattle.drain_core.specs.Steps.{MayGo}
 use Rattle.drain_core.proofs.OneCommand.{with_earliest-lawful, last_ref-calm}
 use Rattle.drain_core.proofs.Refreshing.{settled_between}
 

@@ -1,17 +1,9 @@
 -- The SREs of a channel, rank by rank.
 use Rattle.std.proofs.Common.{◌≡◌, ℕ, ◌+◌, ◌-◌, ◌*◌, ◌^◌, ◌≤◌, ◌<◌, arith, sym, subst, inl, inr}
-use Rattle.std.proofs.lemmas.Bool.{cases_lt}
-use Rattle.ddr4_timing.specs.declared.command.Command.TheVariants.{Sre}
-use Rattle.ddr4_timing.specs.declared.timing.Checked.{Checked}
-use Rattle.ddr4_timing.specs.declared.timing.Geometry.{Geometry}
-use Rattle.ddr4_timing.specs.Limits.{lines_of}
-use Rattle.energy_budget.specs.declared.costs.CostNumbers.{CostNumbers}
-use Rattle.frfcfs.specs.Margin.{AreAsleep}
+use Rattle.drain_core.proofs.Common.{AreAsleep, ChannelState, Checked, CostNumbers, Geometry, GoesNext, GoesTo, IsEarly}
+use Rattle.drain_core.proofs.Common.{MayEnter, MayGo, Sre, StepEnd, cases_lt, lines_of, progress_of}
 use Rattle.frfcfs.proofs.refreshes.IntervalFits.{fits}
-use Rattle.chan_core.specs.State.{ChannelState}
-use Rattle.drain_core.specs.declared.steps.StepEnd.{StepEnd}
 use Rattle.drain_core.specs.Drain.{Progress, next_clock, for_each_rank, with_earliest, after_self_refresh}
-use Rattle.drain_core.specs.Steps.{GoesNext, GoesTo, IsEarly, MayEnter, MayGo, progress_of}
 use Rattle.drain_core.proofs.Parts.{at_mid, goes_then, next_rank}
 use Rattle.drain_core.proofs.Sleeping.{IsSleeping, sleeping_all, may_sleep, sre_clock}
 

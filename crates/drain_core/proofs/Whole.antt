@@ -1,22 +1,14 @@
 -- A whole drain.
 use Rattle.std.proofs.Common.{◌≡◌, ℕ, suc, ◌+◌, ◌-◌, ◌*◌, ◌^◌, ◌≤◌, ◌<◌, List, [], ◌∷◌, length, arith}
-use Rattle.std.specs.Prelude.{All, fold}
 use Rattle.std.proofs.lemmas.List.Elements.{All-head, All-tail}
 use Rattle.std.proofs.Math.Nat.{mul-le-mul_left}
-use Rattle.ddr4_timing.specs.declared.command.Stamped.{Stamped}
-use Rattle.ddr4_timing.specs.declared.place.Place.{Place}
-use Rattle.ddr4_timing.specs.declared.timing.Checked.{Checked}
-use Rattle.ddr4_timing.specs.Lawful.{IsLawful}
-use Rattle.ddr4_timing.specs.Limits.{entry_of, close_of}
-use Rattle.ddr4_timing.specs.Places.{LiesIn}
-use Rattle.energy_budget.specs.declared.costs.CostNumbers.{CostNumbers}
+use Rattle.drain_core.proofs.Common.{AfterDrain, AfterEntries, All, AreAwake, CanDrain, Checked, CostNumbers}
+use Rattle.drain_core.proofs.Common.{IsBetweenSteps, IsLawful, KeepsMargin, LiesIn, Place, Stamped, close_of, entry_of}
+use Rattle.drain_core.proofs.Common.{fold, last_clock}
 use Rattle.energy_budget.specs.declared.costs.Costs.{Costs}
 use Rattle.energy_budget.specs.Costs.{AreReckonedFor, close_cost, entry_cost}
-use Rattle.frfcfs.specs.Margin.{KeepsMargin, last_clock}
 use Rattle.frfcfs.proofs.refreshes.MarginEnds.{drain_has_time}
 use Rattle.drain_core.specs.Drain.{Progress, drain_start, close_step_of, entry_step_of, entry_steps_of, after_self_refresh, drain_of, drain_commands, drain_clocks, drain_spent}
-use Rattle.chan_core.specs.Phases.{AreAwake}
-use Rattle.drain_core.specs.Standing.{CanDrain, IsBetweenSteps, AfterEntries, AfterDrain}
 use Rattle.drain_core.proofs.Closing.{close_step}
 use Rattle.drain_core.proofs.Entering.{entry_step}
 use Rattle.drain_core.proofs.Sleeping.{self_refresh}

@@ -1,7 +1,6 @@
 use Rattle.std.proofs.Common.{◌≡◌, ◌∙◌, ap, length, refl, arith}
-use Rattle.std.specs.Prelude.{Result}
+use Rattle.drain_core.proofs.Common.{ChannelState, Result}
 use Rattle.energy_budget.specs.declared.energy.Dark.{Dark}
-use Rattle.chan_core.specs.State.{ChannelState}
 use Rattle.drain_core.specs.declared.report.DrainReport.{DrainReport}
 use Rattle.drain_core.specs.Paying.{DrainsForPayment}
 use Rattle.drain_core.proofs.DrainingChannel.{drained_channel, drained_from, drained_clocks, drained_most_clocks, drained_units, drained_spent}

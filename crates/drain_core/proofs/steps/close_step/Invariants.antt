@@ -1,6 +1,5 @@
 use Rattle.std.proofs.Common.{◌≤◌, ◌*◌}
-use Rattle.drain_core.specs.Drain.{close_rank, for_each_rank}
-use Rattle.drain_core.specs.Steps.{GoesTo, drain_start_of}
+use Rattle.drain_core.proofs.Common.{GoesTo, close_rank, drain_start_of, for_each_rank}
 use Rattle.drain_core.proofs.steps.close_step.Given as goal
 
 abbrev pub invariant-loop-rank : goal.invariant-loop-rank

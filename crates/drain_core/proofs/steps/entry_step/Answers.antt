@@ -1,7 +1,5 @@
 use Rattle.std.proofs.Common.{Option, refl, sym, subst, ◌∙◌}
-use Rattle.chan_core.specs.State.{placed_writes}
-use Rattle.drain_core.specs.declared.steps.StepEnd.{StepEnd}
-use Rattle.drain_core.specs.Steps.{EntersOldest}
+use Rattle.drain_core.proofs.Common.{EntersOldest, StepEnd, placed_writes}
 use Rattle.drain_core.proofs.EnteringChannel.{may_open, opening_early, may_write, writing_early, fits_write, may_shut, shutting_early, entered_awake, entered_closed, entered_start, entered_rests, entered_enter, entered_clock}
 use Rattle.drain_core.proofs.PendingPlaces.{pending_lies, none_pending, first_and_rest}
 use Rattle.drain_core.proofs.steps.entry_step.Goals as goal

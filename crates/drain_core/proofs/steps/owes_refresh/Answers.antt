@@ -1,6 +1,5 @@
 use Rattle.std.proofs.Common.{ℕ, ap}
-use Rattle.std.specs.Prelude.{nat_lt}
-use Rattle.drain_core.specs.Drain.{owes_refresh}
+use Rattle.drain_core.proofs.Common.{nat_lt, owes_refresh}
 use Rattle.drain_core.proofs.steps.owes_refresh.Goals as goal
 
 pub returns : goal.returns

@@ -1,7 +1,5 @@
 use Rattle.std.proofs.Common.{◌≤◌, arith, ap, below_more}
-use Rattle.ddr4_timing.specs.declared.command.Command.TheVariants.{Sre}
-use Rattle.ddr4_timing.specs.declared.timing.Checked.{Checked}
-use Rattle.ddr4_timing.specs.Floors.{floor, least_clock}
+use Rattle.drain_core.proofs.Common.{Checked, Sre, floor, least_clock}
 use Rattle.drain_core.proofs.Resting.{rests_by, sleeps_by}
 use Rattle.drain_core.proofs.steps.rested_clock.Goals as goal
 

@@ -1,8 +1,5 @@
 use Rattle.std.proofs.Common.{ℕ, ◌≤◌, ◌<◌}
-use Rattle.std.specs.Prelude.{max}
-use Rattle.ddr4_timing.specs.declared.command.Command.TheVariants.{Sre}
-use Rattle.ddr4_timing.specs.Floors.{floor}
-use Rattle.drain_core.specs.Drain.{rest_clock}
+use Rattle.drain_core.proofs.Common.{Sre, floor, max, rest_clock}
 use Rattle.drain_core.proofs.steps.rested_clock.Given as goal
 
 abbrev pub invariant-loop-rank : goal.invariant-loop-rank
