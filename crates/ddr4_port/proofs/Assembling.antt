@@ -1,21 +1,13 @@
 -- The ports of a memory, side by side.
 use Rattle.std.proofs.Common.{All, ◌≡◌, ◌<◌, ℕ, zero, suc, List, [], ◌∷◌, ◌++◌, length, slice_get, slice_index_or, Some, None, inl, inr, refl, sym, ap, subst, ◌∙◌, arith}
 use Rattle.std.specs.List.{flat_map}
-use Rattle.ddr4_timing.specs.Limits.{lines_of}
-use Rattle.ddr4_timing.specs.declared.place.Place.{Place}
-use Rattle.ddr4_timing.specs.declared.timing.Checked.{Checked}
-use Rattle.energy_budget.specs.declared.costs.Costs.{Costs}
-use Rattle.interleave_map.specs.Inverse.{IsInterleaving}
+use Rattle.ddr4_port.proofs.Common.{BeginsWith, Carries, ChannelState, Checked, Costs, IsInterleaving, OpenRead, Place}
+use Rattle.ddr4_port.proofs.Common.{PortState, SendsOnly, appended, lines_of, listed_place, nothing, places_by}
+use Rattle.ddr4_port.proofs.Common.{port_view, shape_over, waits_of}
 use Rattle.channel_port.specs.declared.port.ChannelPort.{Ghosts}
 use Rattle.channel_port.specs.declared.waiting.Waiting.{Waiting}
-use Rattle.channel_port.specs.Waits.{OpenRead, nothing}
 use Rattle.channel_set.specs.Ports.{ArePorts, places_of, shape_with, waits_in}
 use Rattle.channel_set.specs.declared.terms.PortTerms.{PortTerms}
-use Rattle.chan_core.proofs.Taken.{appended}
-use Rattle.chan_core.specs.State.{ChannelState}
-use Rattle.ddr4_port.specs.Carrying.{Carries}
-use Rattle.ddr4_port.specs.Memory.{BeginsWith, shape_over}
-use Rattle.ddr4_port.specs.Port.{PortState, SendsOnly, listed_place, places_by, port_view, waits_of}
 use Rattle.ddr4_port.proofs.Seen.{place-named}
 
 -- what contracts see of a port

@@ -1,26 +1,16 @@
 -- A channel whose array is filled with the lines of a memory, one line after the other.
 use Rattle.std.proofs.Common.{◌≡◌, ◌≢◌, ◌+◌, ◌<◌, ◌≤◌, ◌^◌, ℕ, List, [], filter, length, nat_lt, slice_get, slice_index_or, Some, refl, sym, ap, subst, ◌∙◌, arith, length-set, get_or-set_same, get_or-set_other, ⊎_elim}
 use Rattle.std.proofs.lemmas.Bool.Decides.{eqb_tells}
-use Rattle.line_memory.specs.Memory.{line_of}
-use Rattle.ddr4_timing.specs.Limits.{lines_of}
+use Rattle.ddr4_port.proofs.Common.{Carries, ChannelState, Checked, Geometry, HoldsFirst, IsChannel, IsFresh}
+use Rattle.ddr4_port.proofs.Common.{IsInterleaving, IsPlaceOn, LiesOn, PendingWrite, Place, cell_in, line_of, lines_of}
+use Rattle.ddr4_port.proofs.Common.{loaded_at, stored_at}
 use Rattle.ddr4_timing.specs.Places.{LiesIn}
 use Rattle.ddr4_timing.specs.declared.command.Stamped.{Stamped}
-use Rattle.ddr4_timing.specs.declared.place.Place.{Place}
-use Rattle.ddr4_timing.specs.declared.timing.Checked.{Checked}
-use Rattle.ddr4_timing.specs.declared.timing.Geometry.{Geometry}
 use Rattle.interleave_map.specs.Cells.{cells_of}
-use Rattle.interleave_map.specs.Inverse.{IsInterleaving}
 use Rattle.interleave_map.proofs.Numbering.{cell_within, same_cell_same_place}
-use Rattle.wpq_core.specs.declared.queue.PendingWrite.{PendingWrite}
 use Rattle.wpq_core.specs.PendingMemory.{after_pending}
 use Rattle.frfcfs.specs.Margin.{last_clock}
 use Rattle.channel_port.specs.declared.stage.Stage.TheVariants.{OnMains}
-use Rattle.chan_core.specs.Always.{IsChannel}
-use Rattle.chan_core.specs.Calls.{loaded_at}
-use Rattle.chan_core.specs.Mapped.{IsPlaceOn, LiesOn}
-use Rattle.chan_core.specs.State.{ChannelState, cell_in, stored_at}
-use Rattle.ddr4_port.specs.Carrying.{Carries}
-use Rattle.ddr4_port.specs.Memory.{HoldsFirst, IsFresh}
 use Rattle.ddr4_port.proofs.Keeping.{carried}
 use Rattle.ddr4_port.proofs.Seen.{place-named, places_of}
 use Rattle.ddr4_port.proofs.Standing.{IsPort}

@@ -1,24 +1,16 @@
 -- The drain of a channel, as its port.
 use Rattle.std.proofs.Common.{◌≡◌, ℕ, zero, suc, List, [], length, take, sym, ap, subst, ◌∙◌}
-use Rattle.std.specs.Prelude.{Result, Ok, Err}
 use Rattle.std.proofs.Math.Seq.{drop-length, take-length}
-use Rattle.std.proofs.lemmas.List.{drop-map, length-map}
-use Rattle.energy_budget.specs.declared.costs.Costs.{Costs}
+use Rattle.ddr4_port.proofs.Common.{Carries, ChannelState, Costs, Err, HasRightContents, KeepsCarried, Ok, PendingWrite}
+use Rattle.ddr4_port.proofs.Common.{Place, Result, drop-map, length-map, waiting_on, waits_of}
 use Rattle.energy_budget.specs.declared.energy.Dark.{Dark}
 use Rattle.energy_budget.specs.Actions.{drain_actions}
 use Rattle.energy_budget.specs.Gauge.{Gauge}
 use Rattle.wpq_core.specs.PendingMemory.{after_pending}
-use Rattle.wpq_core.specs.declared.queue.PendingWrite.{PendingWrite}
-use Rattle.ddr4_timing.specs.declared.place.Place.{Place}
-use Rattle.channel_port.specs.Carried.{KeepsCarried}
 use Rattle.channel_port.specs.Draining.{Paid, PaysInTurn, TakesWrites}
-use Rattle.chan_core.specs.Always.{HasRightContents}
-use Rattle.chan_core.specs.State.{ChannelState}
 use Rattle.drain_core.specs.declared.report.DrainReport.{DrainReport}
 use Rattle.drain_core.specs.Paying.{DrainsAsGranted, DrainsForPayment, PaysAction}
 use Rattle.drain_core.specs.Steps.{drained}
-use Rattle.ddr4_port.specs.Carrying.{Carries}
-use Rattle.ddr4_port.specs.Port.{waiting_on, waits_of}
 use Rattle.ddr4_port.proofs.Paying.{asked-paid, paid_by}
 use Rattle.ddr4_port.proofs.Seen.{carries-seen, places_of}
 use Rattle.ddr4_port.proofs.Working.{drains, took}

@@ -1,23 +1,17 @@
 -- How far the clock of a running channel goes, and that it may be drained there.
 use Rattle.std.proofs.Common.{◌≡◌, ◌≢◌, ◌↔◌, ℕ, ◌+◌, ◌-◌, ◌*◌, ◌^◌, ◌<◌, ◌≤◌, [], ◌∷◌, ◌++◌, refl, sym, ap, subst, ◌∙◌, inl, inr, arith}
-use Rattle.std.specs.Prelude.{IfNone, IfSome, Option, Some, None}
-use Rattle.std.proofs.lemmas.Bool.{cases_order}
+use Rattle.ddr4_port.proofs.Common.{ChannelState, Checked, Done, HasNothingToSend, IfNone, IfSome, IsChannel}
+use Rattle.ddr4_port.proofs.Common.{IssuesChoice, None, Option, RunsEarly, Some, cases_order, clock_of}
 use Rattle.ddr4_timing.specs.declared.rules.Rule.TheVariants.{Refi, Rows}
-use Rattle.ddr4_timing.specs.declared.timing.Checked.{Checked}
 use Rattle.ddr4_timing.specs.Command.{rank_of}
 use Rattle.ddr4_timing.specs.Lawful.{IsLawful, last_ref}
 use Rattle.ddr4_timing.proofs.Ready.{admits_from}
 use Rattle.ddr4_timing.proofs.Addresses.{rank_within}
 use Rattle.frfcfs.specs.Margin.{last_clock}
 use Rattle.frfcfs.proofs.refreshes.RefreshCounts.{last_clock_push}
-use Rattle.channel_port.specs.declared.answers.Done.{Done}
 use Rattle.chan_core.specs.declared.phase.Phase.TheVariants.{Running, Stepping}
-use Rattle.chan_core.specs.Always.{IsChannel}
-use Rattle.chan_core.specs.Calls.{HasNothingToSend, IssuesChoice}
-use Rattle.chan_core.specs.State.{ChannelState, clock_of}
 use Rattle.drain_core.specs.Standing.{CanDrain}
 use Rattle.drain_core.proofs.Whole.{early_lets_drain}
-use Rattle.ddr4_port.specs.Port.{RunsEarly}
 
 pub still-running : (s : ChannelState) → s.phase ≡ Running → s.phase ≡ Stepping → ⊥
 still-running s running stepping = let both : Running ≡ Stepping = sym running ∙ stepping in cc

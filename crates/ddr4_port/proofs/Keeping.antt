@@ -1,22 +1,14 @@
 -- What a channel carries is carried still where it has no further write, and the memory below each number stays.
 use Rattle.std.proofs.Common.{◌≡◌, ℕ, List, [], slice_get, slice_index_or, Some, length, Option, ap, sym, ◌∙◌}
-use Rattle.line_memory.specs.Memory.{after, line_of}
+use Rattle.ddr4_port.proofs.Common.{Carries, ChannelState, Has, LiesOn, Numbered, PendingWrite, Place, WaitFrom, after}
+use Rattle.ddr4_port.proofs.Common.{cell_in, channel_memory, line_at, line_below, line_of, lines_of, memory_below}
+use Rattle.ddr4_port.proofs.Common.{waits_of}
 use Rattle.line_memory.specs.Parts.{below, writes_of}
-use Rattle.line_memory.specs.declared.parts.Numbered.{Numbered}
-use Rattle.ddr4_timing.specs.Limits.{lines_of}
 use Rattle.ddr4_timing.specs.declared.command.Stamped.{Stamped}
-use Rattle.ddr4_timing.specs.declared.place.Place.{Place}
 use Rattle.frfcfs.specs.declared.pending.Pending.{Pending}
-use Rattle.wpq_core.specs.declared.queue.PendingWrite.{PendingWrite}
 use Rattle.chan_core.specs.declared.phase.Phase.{Phase}
 use Rattle.chan_core.specs.Reads.{OpenTicket}
-use Rattle.chan_core.specs.Mapped.{LiesOn}
-use Rattle.chan_core.specs.State.{ChannelState, cell_in, channel_memory, line_at, memory_below}
 use Rattle.chan_core.proofs.Below.{below-none}
-use Rattle.channel_port.specs.Carried.{WaitFrom}
-use Rattle.channel_port.specs.Waits.{Has}
-use Rattle.ddr4_port.specs.Carrying.{Carries, line_below}
-use Rattle.ddr4_port.specs.Port.{waits_of}
 use Rattle.ddr4_port.proofs.Numbers.{AmongWrites, none-counted, waited}
 
 -- what is said of the lines in the array follows

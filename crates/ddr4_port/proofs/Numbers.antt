@@ -1,18 +1,13 @@
 -- The numbers of the writes that wait in a channel.
 use Rattle.std.proofs.Common.{rules, arith, ◌≡◌, ◌==◌, ◌||◌, ◌≤◌, ℕ, zero, suc, Bool, true, false, List, [], ◌∷◌, cond, count_by, filter, get_or, length, map, nat_lt, remove, slice_get, Some, inl, inr, refl, sym, ap, ◌∙◌}
 use Rattle.std.specs.List.{list_any}
-use Rattle.std.proofs.lemmas.Bool.{eqb-true, lt-ltb}
 use Rattle.std.proofs.lemmas.List.Sums.{length-filter}
 use Rattle.std.proofs.lemmas.Option.{slice_get_within}
 use Rattle.std.proofs.Math.Bool.{or-true}
-use Rattle.line_memory.specs.declared.parts.Numbered.{Numbered}
-use Rattle.wpq_core.specs.declared.queue.PendingWrite.{PendingWrite}
+use Rattle.ddr4_port.proofs.Common.{IsPending, NoneBelow, Numbered, PendingWrite, WaitFrom, before_removal, eqb-true}
+use Rattle.ddr4_port.proofs.Common.{lt-ltb, waiting_on}
 use Rattle.wpq_core.specs.Writes.{NumbersRise}
-use Rattle.chan_core.proofs.Taken.{before_removal}
-use Rattle.channel_port.specs.Carried.{NoneBelow, WaitFrom}
-use Rattle.channel_port.specs.Waits.{IsPending}
 use Rattle.frfcfs.proofs.Lists.{All-at}
-use Rattle.ddr4_port.specs.Port.{waiting_on}
 
 -- a pending write has this number
 pub record HasNumber (writes : List PendingWrite) (number : ℕ) : Type 0 where

@@ -1,9 +1,8 @@
 -- The payments of a channel's drain: the close step's, and an entry's for each of its writes.
 use Rattle.std.proofs.Common.{◌≡◌, ℕ, zero, suc, ◌+◌, ◌<◌, subst, refl, inl, inr, ◌∙◌, arith}
 use Rattle.std.proofs.Math.Numerals.{add-one}
-use Rattle.std.specs.Prelude.{Result, Ok, Err, replicate}
+use Rattle.ddr4_port.proofs.Common.{Costs, Err, Ok, Result, replicate}
 use Rattle.energy_budget.specs.declared.action.Action.TheVariants.{CloseStep, EntryStep}
-use Rattle.energy_budget.specs.declared.costs.Costs.{Costs}
 use Rattle.energy_budget.specs.declared.energy.Dark.{Dark}
 use Rattle.energy_budget.specs.Actions.{cost_of, drain_actions}
 use Rattle.energy_budget.specs.Gauge.{Gauge, PaysCost}

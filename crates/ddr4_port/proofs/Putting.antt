@@ -1,34 +1,22 @@
 -- A write that is put into a channel.
 use Rattle.std.proofs.Common.{◌≡◌, ◌≢◌, ◌<◌, ◌≤◌, ℕ, zero, suc, List, [], ◌∷◌, ◌++◌, get_or, length, map, slice_get, slice_index_or, slice_set, Some, inl, inr, refl, sym, ap, subst, ◌∙◌, arith, length-set, get_or-set_same, get_or-set_other}
-use Rattle.std.proofs.lemmas.Bool.{cases_order, le-ltb, lt-ltb}
 use Rattle.std.proofs.lemmas.Bool.Decides.{eqb_tells}
-use Rattle.std.proofs.lemmas.List.{append-nil, map-append}
 use Rattle.std.proofs.lemmas.List.Elements.{All-head, All-tail, filter-append}
 use Rattle.std.proofs.lemmas.List.Sums.{fold-append}
 use Rattle.std.proofs.lemmas.Option.{slice_get-get_or}
-use Rattle.line_memory.specs.Memory.{after, after_write, line_of}
+use Rattle.ddr4_port.proofs.Common.{AddsWrite, AllBelow, Carries, ChannelState, Has, HasRightContents, IsInterleaving}
+use Rattle.ddr4_port.proofs.Common.{LiesOn, Numbered, PendingWrite, Place, WaitFrom, WritesAt, after, after_write}
+use Rattle.ddr4_port.proofs.Common.{append-nil, appended, cases_order, cell_in, channel_memory, le-ltb, line_at}
+use Rattle.ddr4_port.proofs.Common.{line_below, line_of, lines_of, lt-ltb, map-append, memory_below, waiting_on}
+use Rattle.ddr4_port.proofs.Common.{waits_of}
 use Rattle.line_memory.specs.Parts.{AreBefore, below, numbered, writes_of}
-use Rattle.line_memory.specs.declared.parts.Numbered.{Numbered}
 use Rattle.line_memory.specs.declared.Write.{Write}
-use Rattle.ddr4_timing.specs.Limits.{lines_of}
-use Rattle.ddr4_timing.specs.declared.place.Place.{Place}
 use Rattle.frfcfs.proofs.Lists.{All-at}
 use Rattle.interleave_map.specs.Cells.{cell_of, cells_of}
 use Rattle.interleave_map.proofs.Numbering.{cell_within, same_cell_same_place}
 use Rattle.wpq_core.specs.Writes.{ComeBefore, pending_write}
-use Rattle.wpq_core.specs.declared.queue.PendingWrite.{PendingWrite}
-use Rattle.channel_port.specs.Carried.{WaitFrom}
-use Rattle.channel_port.specs.Waits.{AllBelow, Has}
-use Rattle.interleave_map.specs.Inverse.{IsInterleaving}
-use Rattle.chan_core.specs.Always.{HasRightContents}
-use Rattle.chan_core.specs.Calls.{AddsWrite, WritesAt}
-use Rattle.chan_core.specs.Mapped.{LiesOn}
-use Rattle.chan_core.specs.State.{ChannelState, cell_in, channel_memory, line_at, memory_below}
 use Rattle.chan_core.proofs.Below.{below-all, below-later}
 use Rattle.chan_core.proofs.Kept.{map-at}
-use Rattle.chan_core.proofs.Taken.{appended}
-use Rattle.ddr4_port.specs.Carrying.{Carries, line_below}
-use Rattle.ddr4_port.specs.Port.{waiting_on, waits_of}
 use Rattle.ddr4_port.proofs.Keeping.{carried}
 use Rattle.ddr4_port.proofs.Numbers.{number-waits, wait-of}
 

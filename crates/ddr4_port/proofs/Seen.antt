@@ -1,25 +1,15 @@
 -- A port as the host's lines see it.
 use Rattle.std.proofs.Common.{◌≡◌, ◌<◌, ℕ, List, [], ◌∷◌, ◌++◌, Ok, sym, ap, subst, ◌∙◌, arith}
 use Rattle.std.proofs.lemmas.List.FromFn.{get_or-map-range_with_len}
-use Rattle.line_memory.specs.Memory.{after, line_of}
+use Rattle.ddr4_port.proofs.Common.{AddsWrite, AllBelow, AnswersGet, Carries, ChannelState, Checked, Geometry}
+use Rattle.ddr4_port.proofs.Common.{IsRightPort, KeepsCarried, LiesOn, Numbered, Place, WritesAt, after, after_get}
+use Rattle.ddr4_port.proofs.Common.{line_at, line_of, lines_of, listed_place, places_by, port_state, waits_of}
 use Rattle.line_memory.specs.Parts.{AreBefore, numbered, writes_of}
-use Rattle.line_memory.specs.declared.parts.Numbered.{Numbered}
 use Rattle.line_memory.specs.declared.Write.{Write}
-use Rattle.ddr4_timing.specs.Limits.{lines_of}
-use Rattle.ddr4_timing.specs.declared.place.Place.{Place}
-use Rattle.ddr4_timing.specs.declared.timing.Checked.{Checked}
-use Rattle.ddr4_timing.specs.declared.timing.Geometry.{Geometry}
 use Rattle.channel_port.specs.declared.answers.Got.{Got}
 use Rattle.channel_port.specs.declared.stage.Stage.{Stage}
 use Rattle.channel_port.specs.Answers.{IsGot}
-use Rattle.channel_port.specs.Carried.{KeepsCarried}
-use Rattle.channel_port.specs.Waits.{AllBelow}
 use Rattle.channel_set.specs.Ports.{nowhere}
-use Rattle.chan_core.specs.Calls.{AddsWrite, AnswersGet, WritesAt, after_get}
-use Rattle.chan_core.specs.Mapped.{LiesOn}
-use Rattle.chan_core.specs.State.{ChannelState, line_at}
-use Rattle.ddr4_port.specs.Carrying.{Carries}
-use Rattle.ddr4_port.specs.Port.{IsRightPort, listed_place, places_by, port_state, waits_of}
 use Rattle.ddr4_port.proofs.Putting.{above-there, carries-more}
 use Rattle.ddr4_port.proofs.Telling.{tells-got}
 

@@ -1,18 +1,14 @@
 -- A channel has one command to send next, or none.
 use Rattle.std.proofs.Common.{◌≡◌, ◌<◌, ℕ, inl, inr, refl, ap, subst, sym, ◌∙◌}
-use Rattle.std.specs.Prelude.{IfNone, IfSome, Option, Some, None}
 use Rattle.std.specs.Option.{option_map}
-use Rattle.std.proofs.lemmas.Bool.{cases_order}
+use Rattle.ddr4_port.proofs.Common.{ChannelState, Done, HasNothingToSend, IfNone, IfSome, IssuesChoice, None, Option}
+use Rattle.ddr4_port.proofs.Common.{Sends, SendsOnly, Some, cases_order, clock_of}
 use Rattle.ddr4_timing.specs.declared.command.Command.{Command}
 use Rattle.ddr4_timing.specs.declared.command.Stamped.{Stamped}
 use Rattle.frfcfs.specs.Candidates.{IsLeast}
 use Rattle.frfcfs.specs.Next.{IsNext}
 use Rattle.frfcfs.specs.Requests.{AreInOrder}
 use Rattle.frfcfs.proofs.ChoiceLaws.{one_choice}
-use Rattle.channel_port.specs.declared.answers.Done.{Done}
-use Rattle.chan_core.specs.Calls.{HasNothingToSend, IssuesChoice}
-use Rattle.chan_core.specs.State.{ChannelState, clock_of}
-use Rattle.ddr4_port.specs.Port.{Sends, SendsOnly}
 
 -- of two first clocks with a candidate neither is before the other
 module _ (s : ChannelState) (order : AreInOrder s.requests) where

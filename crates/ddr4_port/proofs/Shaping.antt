@@ -3,17 +3,12 @@ use Rattle.std.proofs.Common.{◌≡◌, ℕ, zero, suc, ◌+◌, ◌*◌, ◌%�
 use Rattle.std.specs.Int.{is_power_of_two, trailing_zeros, w64}
 use Rattle.std.proofs.Math.Nat.{mul-le-mul_left, pow-suc}
 use Rattle.std.proofs.lemmas.Nat.{div-add-mod', pow-add}
-use Rattle.ddr4_timing.specs.Limits.{IsGeometry, IsSmall, lines_of}
-use Rattle.ddr4_timing.specs.declared.place.Place.{Place}
-use Rattle.ddr4_timing.specs.declared.timing.Checked.{Checked}
-use Rattle.ddr4_timing.specs.declared.timing.Geometry.{Geometry}
-use Rattle.energy_budget.specs.declared.costs.Costs.{Costs}
+use Rattle.ddr4_port.proofs.Common.{Checked, Costs, Geometry, IsGeometry, IsSmall, Place, lines_of, shape_over}
 use Rattle.energy_budget.specs.Costs.{AreReckonedFor}
 use Rattle.interleave_map.proofs.Digits.{left_factor}
 use Rattle.interleave_map.proofs.Numbering.{few_rows_in_all, is_whole}
 use Rattle.interleave_map.proofs.PowersOfTwo.{power_at}
 use Rattle.channel_port.specs.Shape.{IsShape}
-use Rattle.ddr4_port.specs.Memory.{shape_over}
 
 record IsPower (n : ℕ) : Type 0 where
   exponent : ℕ

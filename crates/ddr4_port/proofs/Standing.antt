@@ -1,22 +1,14 @@
 -- What is always true of a port is true after each of its calls.
 use Rattle.std.proofs.Common.{◌≡◌, ℕ, map, [], ap, subst, sym, ◌∙◌}
-use Rattle.std.specs.Prelude.{IfNone, IfSome, Option}
-use Rattle.ddr4_timing.specs.declared.place.Place.{Place}
-use Rattle.ddr4_timing.specs.declared.timing.Checked.{Checked}
-use Rattle.ddr4_timing.specs.declared.timing.Geometry.{Geometry}
+use Rattle.ddr4_port.proofs.Common.{Carries, ChannelState, Checked, Done, Geometry, HasMap, HasNothingToSend, IfNone}
+use Rattle.ddr4_port.proofs.Common.{IfSome, IsAtStage, IsChannel, IsInterleaving, IsRightPort, IssuesChoice}
+use Rattle.ddr4_port.proofs.Common.{KeepsCarried, LosesReads, Option, Place, listed_place, places_by, port_state}
+use Rattle.ddr4_port.proofs.Common.{with_hold}
 use Rattle.frfcfs.specs.Queue.{held_by}
-use Rattle.channel_port.specs.declared.answers.Done.{Done}
 use Rattle.channel_port.specs.declared.stage.Stage.{Stage}
 use Rattle.channel_port.specs.declared.stage.Stage.TheVariants.{Drained, OnBackup, OnMains}
-use Rattle.channel_port.specs.Carried.{KeepsCarried}
 use Rattle.chan_core.specs.declared.phase.Phase.TheVariants.{Stepping}
-use Rattle.interleave_map.specs.Inverse.{IsInterleaving}
-use Rattle.chan_core.specs.Always.{IsChannel}
-use Rattle.chan_core.specs.Calls.{HasNothingToSend, IssuesChoice, LosesReads, with_hold}
-use Rattle.chan_core.specs.State.{ChannelState}
 use Rattle.drain_core.specs.Standing.{CanDrain}
-use Rattle.ddr4_port.specs.Carrying.{Carries}
-use Rattle.ddr4_port.specs.Port.{HasMap, IsAtStage, IsRightPort, listed_place, places_by, port_state}
 use Rattle.ddr4_port.proofs.EarlyClocks.{may-drain, work-early}
 use Rattle.ddr4_port.proofs.Keeping.{unseen}
 use Rattle.ddr4_port.proofs.Seen.{carries-seen, places_of}

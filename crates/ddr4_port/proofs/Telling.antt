@@ -1,30 +1,23 @@
 -- What a channel answers, as its port.
 use Rattle.std.proofs.Common.{All, ◌≡◌, ◌≢◌, ◌<◌, ℕ, zero, suc, false, true, List, [], ◌∷◌, ◌++◌, get_or, length, map, slice_get, slice_set, Ok, Option, Some, None, inl, inr, refl, sym, ap, ◌∙◌, arith}
-use Rattle.std.specs.Prelude.{IfSome}
-use Rattle.std.proofs.lemmas.List.{map-append}
 use Rattle.std.proofs.lemmas.List.Edits.{insert_end}
 use Rattle.std.proofs.lemmas.Option.{slice_get-get_or, slice_get_within}
-use Rattle.ddr4_timing.specs.declared.place.Place.{Place}
+use Rattle.ddr4_port.proofs.Common.{AnswersCollect, AnswersGet, ChannelState, Done, HasRightContents, IfSome}
+use Rattle.ddr4_port.proofs.Common.{IsNewTicket, IssuesChoice, OpenRead, PendingWrite, Place, ServesIndex}
+use Rattle.ddr4_port.proofs.Common.{ServesRequest, Waits, after_get, before_removal, line_at, map-append, map-remove}
+use Rattle.ddr4_port.proofs.Common.{open_on, waiting, waiting_on, waits_of}
 use Rattle.frfcfs.proofs.Lists.{All-at}
 use Rattle.frfcfs.specs.declared.pending.Pending.{Pending}
-use Rattle.wpq_core.specs.declared.queue.PendingWrite.{PendingWrite}
 use Rattle.channel_port.specs.declared.answers.Collected.{Collected}
 use Rattle.channel_port.specs.declared.answers.Collected.TheVariants as collected
-use Rattle.channel_port.specs.declared.answers.Done.{Done}
 use Rattle.channel_port.specs.declared.answers.Got.{Got}
 use Rattle.channel_port.specs.declared.answers.Got.TheVariants.{Later, Now}
 use Rattle.channel_port.specs.declared.answers.Served.{Served}
 use Rattle.channel_port.specs.declared.answers.Served.TheVariants as served
 use Rattle.channel_port.specs.declared.answers.Ticket.{Ticket}
 use Rattle.channel_port.specs.Answers.{IsBelowHold, IsCollected, IsGot, IsServed, open_read}
-use Rattle.channel_port.specs.Waits.{IsNewTicket, OpenRead, Waits, waiting}
 use Rattle.channel_port.specs.declared.waiting.Waiting.{Waiting}
-use Rattle.chan_core.specs.Always.{HasRightContents}
-use Rattle.chan_core.specs.Calls.{AnswersCollect, AnswersGet, IssuesChoice, ServesIndex, ServesRequest, after_get}
-use Rattle.chan_core.specs.State.{ChannelState, line_at}
 use Rattle.chan_core.proofs.Kept.{map-at, map-from}
-use Rattle.chan_core.proofs.Taken.{before_removal, map-remove}
-use Rattle.ddr4_port.specs.Port.{open_on, waiting_on, waits_of}
 use Rattle.ddr4_port.proofs.Numbers.{AmongWrites}
 
 map-set : {X Y : Type 0} (f : X → Y) (xs : List X) (i : ℕ) (x : X) → map f (slice_set xs i x) ≡ slice_set (map f xs) i (f x)

@@ -1,22 +1,13 @@
 -- What a channel carries through its own commands, and through its drain.
 use Rattle.std.proofs.Common.{rules, ◌≡◌, ◌+◌, ◌<◌, ◌≤◌, ℕ, zero, suc, Bool, true, List, [], ◌∷◌, cond, drop, filter, map, nat_lt, slice_get, take, Option, Some, None, inl, inr, refl, sym, ap, subst, ◌∙◌, arith}
-use Rattle.std.specs.Prelude.{IfNone, IfSome}
-use Rattle.std.proofs.lemmas.Bool.{cases_order}
-use Rattle.line_memory.specs.Memory.{after_write}
-use Rattle.line_memory.specs.declared.parts.Numbered.{Numbered}
-use Rattle.ddr4_timing.specs.declared.place.Place.{Place}
+use Rattle.ddr4_port.proofs.Common.{Carries, ChannelState, Done, HasRightContents, IfNone, IfSome, IssuesChoice}
+use Rattle.ddr4_port.proofs.Common.{MovesWrite, Numbered, PendingWrite, Place, ServesIndex, ServesRequest, WaitFrom}
+use Rattle.ddr4_port.proofs.Common.{after_command, after_write, cases_order, channel_memory, memory_below, waiting_on}
+use Rattle.ddr4_port.proofs.Common.{waits_of}
 use Rattle.frfcfs.specs.declared.pending.Pending.{Pending}
-use Rattle.wpq_core.specs.declared.queue.PendingWrite.{PendingWrite}
 use Rattle.wpq_core.specs.PendingMemory.{after_pending}
-use Rattle.channel_port.specs.declared.answers.Done.{Done}
 use Rattle.channel_port.specs.declared.answers.Served.{Served}
 use Rattle.channel_port.specs.declared.answers.Served.TheVariants as served
-use Rattle.channel_port.specs.Carried.{WaitFrom}
-use Rattle.chan_core.specs.Always.{HasRightContents}
-use Rattle.chan_core.specs.Calls.{IssuesChoice, MovesWrite, ServesIndex, ServesRequest, after_command}
-use Rattle.chan_core.specs.State.{ChannelState, channel_memory, memory_below}
-use Rattle.ddr4_port.specs.Carrying.{Carries}
-use Rattle.ddr4_port.specs.Port.{waiting_on, waits_of}
 use Rattle.ddr4_port.proofs.Keeping.{carry-on}
 use Rattle.ddr4_port.proofs.Numbers.{gone-number, wait-of}
 use Rattle.ddr4_port.proofs.Telling.{served-among}

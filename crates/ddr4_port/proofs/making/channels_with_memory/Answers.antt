@@ -1,6 +1,5 @@
 use Rattle.std.proofs.Common.{[], ◌∷◌, ◌+◌, ap, arith, length, refl, slice_get, subst, sym, ◌∙◌}
-use Rattle.std.proofs.lemmas.List.{length-append}
-use Rattle.interleave_map.specs.Inverse.{IsInterleaving}
+use Rattle.ddr4_port.proofs.Common.{IsInterleaving, length-append}
 use Rattle.channel_port.specs.Shape.{IsShape}
 use Rattle.ddr4_port.proofs.Assembling.{are-ports, begin-more, has-shape, nothing-waits, whole-lines}
 use Rattle.ddr4_port.proofs.Shaping.{is-shape}

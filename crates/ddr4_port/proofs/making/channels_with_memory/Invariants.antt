@@ -1,6 +1,4 @@
-use Rattle.std.specs.Prelude.{◌≡◌, ◌≤◌, ℕ, slice_get, Some, length}
-use Rattle.ddr4_port.specs.Memory.{BeginsWith}
-use Rattle.ddr4_port.specs.Port.{PortState}
+use Rattle.ddr4_port.proofs.Common.{BeginsWith, PortState, Some, length, slice_get, ℕ, ◌≡◌, ◌≤◌}
 use Rattle.ddr4_port.proofs.making.channels_with_memory.Given as goal
 
 abbrev pub invariant-loop-number : goal.invariant-loop-number

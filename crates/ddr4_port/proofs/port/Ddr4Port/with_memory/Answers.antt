@@ -1,10 +1,5 @@
 use Rattle.std.proofs.Common.{◌≢◌, ◌<◌, ap, arith, refl, subst, sym, ◌∙◌}
-use Rattle.line_memory.specs.Memory.{line_of}
-use Rattle.ddr4_timing.specs.Limits.{lines_of}
-use Rattle.ddr4_timing.specs.declared.place.Place.{Place}
-use Rattle.interleave_map.specs.Inverse.{IsInterleaving}
-use Rattle.chan_core.specs.State.{ChannelState}
-use Rattle.ddr4_port.specs.Port.{places_by}
+use Rattle.ddr4_port.proofs.Common.{ChannelState, IsInterleaving, Place, line_of, lines_of, places_by}
 use Rattle.ddr4_port.proofs.Beginning.{begins-carries, begins-right, loads, passes}
 use Rattle.ddr4_port.proofs.port.Ddr4Port.with_memory.Goals.{else-place-number, then-place-number}
 use Rattle.ddr4_port.proofs.port.Ddr4Port.with_memory.Goals as goal

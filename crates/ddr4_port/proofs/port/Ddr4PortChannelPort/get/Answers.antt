@@ -1,6 +1,5 @@
 use Rattle.std.proofs.Common.{ap, sym, subst}
-use Rattle.chan_core.specs.State.{ChannelState}
-use Rattle.ddr4_port.specs.Carrying.{Carries}
+use Rattle.ddr4_port.proofs.Common.{Carries, ChannelState}
 use Rattle.ddr4_port.proofs.Keeping.{unseen}
 use Rattle.ddr4_port.proofs.Seen.{carries-seen, get-tells, places_of}
 use Rattle.ddr4_port.proofs.port.Ddr4PortChannelPort.get.Goals as goal
