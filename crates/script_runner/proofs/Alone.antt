@@ -1,16 +1,12 @@
 -- A call of a session that asks neither its device nor its gauge.
 use Rattle.std.proofs.Common.{◌≡◌, sym, subst}
+use Rattle.script_runner.proofs.Common.{Ghosts, GoesOnAlone, GoesOnBy, Setup, Tale, fuse_state, moment_in, session_at}
 use Rattle.save_device.specs.declared.fuse.Fuse.{Fuse}
 use Rattle.save_device.specs.declared.memory.MemoryDevice.{MemoryDevice}
 use Rattle.energy_budget.specs.declared.meter.Meter.{Meter}
 use Rattle.energy_budget.specs.Meter.{meter_gauge}
-use Rattle.channel_port.specs.declared.port.ChannelPort.{Ghosts}
-use Rattle.nv_machine.specs.State.{Setup}
 use Rattle.nv_session.specs.declared.session.Session.{Session}
 use Rattle.nv_session.specs.declared.wires.Wires as wires
-use Rattle.nv_session.specs.Coming.{Tale}
-use Rattle.nv_session.specs.Living.{GoesOnBy, GoesOnAlone, fuse_state, session_at}
-use Rattle.nv_session.specs.Sessions.{moment_in}
 
 -- it goes on as a session at a moment
 pub goes_alone : {K A : Type 0} (L : Ghosts K) {W : wires.Ghosts A K} (Told : Setup → Tale) (old new : Session K A L W) → new.device ≡ old.device → new.gauge ≡ old.gauge

@@ -1,8 +1,10 @@
 -- The answers to calls of a session on the life that runs are true.
 use Rattle.std.proofs.Common.{◌≡◌, ◌∙◌, ℕ, ◌≤◌, List, [], ◌∷◌, ◌++◌, Result, Ok, Err, Option, Some, None, refl, sym, ap, subst, arith}
-use Rattle.std.proofs.lemmas.List.{append-nil}
-use Rattle.std.specs.Prelude.{MatchOption}
 use Rattle.std.specs.Option.{option_map}
+use Rattle.script_runner.proofs.Common.{Answer, AnswersTruly, Gauge, Ghosts, GoesOnBy, IsKeptBy, IsOfLine, IsOneEvent}
+use Rattle.script_runner.proofs.Common.{IsTrueBy, IsWork, Ledger, LivesOn, Machine, MatchOption, Module, ScriptLine}
+use Rattle.script_runner.proofs.Common.{SessionAt, Setup, Tale, accepted_by, append-nil, grown, known_behind}
+use Rattle.script_runner.proofs.Common.{session_at, told_by}
 use Rattle.ddr4_timing.specs.declared.command.Stamped.{Stamped}
 use Rattle.line_memory.specs.declared.Write.{Write}
 use Rattle.arm_state.specs.declared.mode.Mode.{Mode}
@@ -12,10 +14,7 @@ use Rattle.arm_state.specs.declared.refusal.ArmReply.{ArmReply}
 use Rattle.arm_state.specs.declared.refusal.ArmReply.TheVariants as arm
 use Rattle.arm_state.specs.declared.refusal.DisarmReply.{DisarmReply}
 use Rattle.arm_state.specs.declared.refusal.DisarmReply.TheVariants as disarm
-use Rattle.energy_budget.specs.Gauge.{Gauge}
-use Rattle.channel_port.specs.declared.port.ChannelPort.{Ghosts}
 use Rattle.line_memory.specs.Memory.{line_of}
-use Rattle.module_core.specs.declared.module.Module.{Module}
 use Rattle.nv_machine.specs.declared.events.Accepted.{Accepted}
 use Rattle.arm_state.specs.declared.refusal.WriteRefusal.{WriteRefusal}
 use Rattle.arm_state.specs.declared.refusal.ReadRefusal.{ReadRefusal}
@@ -27,23 +26,16 @@ use Rattle.nv_machine.specs.declared.events.Event.{Event}
 use Rattle.nv_machine.specs.declared.events.Event.TheVariants as events
 use Rattle.nv_machine.specs.declared.events.Reply.{Reply}
 use Rattle.nv_machine.specs.declared.events.Reply.TheVariants as replies
-use Rattle.nv_machine.specs.State.{Setup, Machine}
 use Rattle.nv_machine.specs.Rising.{added}
 use Rattle.nv_machine.specs.Survival.{told_mark}
 use Rattle.nv_machine.proofs.EachEvent.{event_adds}
 use Rattle.nv_session.specs.declared.turns.LineSeen.{LineSeen}
 use Rattle.nv_session.specs.declared.turns.LineSeen.TheVariants as seen
-use Rattle.nv_session.specs.Coming.{Tale, IsOneEvent}
-use Rattle.nv_session.specs.Living.{GoesOnBy, IsWork, LivesOn, SessionAt, session_at}
 use Rattle.nv_session.specs.Turns.{SeesLine, SameWrites, GoesOnSaving, MakesStep}
 use Rattle.nv_session.proofs.SaveSteps.{waits_keep}
-use Rattle.nv_script.specs.declared.line.ScriptLine.{ScriptLine}
 use Rattle.nv_script.specs.declared.line.ScriptLine.TheVariants as line
-use Rattle.nv_script.specs.declared.answer.Answer.{Answer}
 use Rattle.nv_script.specs.declared.answer.Answer.TheVariants as answer
 use Rattle.script_runner.specs.Replies.{write_told, read_told, work_told, step_told, save_told, arm_told, disarm_told}
-use Rattle.script_runner.specs.Ledger.{Ledger, told_by, accepted_by, grown, known_behind, IsTrueBy, IsOfLine}
-use Rattle.script_runner.specs.Keeping.{IsKeptBy, AnswersTruly}
 use Rattle.script_runner.proofs.Later.{IsStep, Later, later, of_one, of_last}
 use Rattle.script_runner.proofs.Bearing.{GoneOn, goes_truly, kept_all, kept_memory, stays_quiet}
 

@@ -1,30 +1,24 @@
 -- What a session holds of what is known, after an answer.
 use Rattle.std.proofs.Common.{◌≡◌, ◌∙◌, ℕ, ◌+◌, ◌-◌, ◌≤◌, List, [], ◌++◌, false, length, take, Option, Some, None, refl, sym, ap, subst, arith}
-use Rattle.std.specs.Prelude.{unwrap_or, is_some}
 use Rattle.std.specs.Option.{option_map}
 use Rattle.std.proofs.Math.Nat.{max-le}
 use Rattle.std.proofs.Math.Seq.{take-append-add}
-use Rattle.std.proofs.lemmas.List.{append-nil, append_assoc, length-append, length-take-le}
 use Rattle.std.proofs.lemmas.List.Sums.{fold-append}
 use Rattle.std.proofs.lemmas.Option.{none-some}
+use Rattle.script_runner.proofs.Common.{Answer, AnswersTruly, Bears, Gauge, Ghosts, IsKeptBy, IsOfLine, IsTrueBy}
+use Rattle.script_runner.proofs.Common.{Ledger, Machine, Module, ScriptLine, SessionAt, TellsTruly, accepted_by, all_of}
+use Rattle.script_runner.proofs.Common.{append-nil, append_assoc, first_of, grown, is_some, known_behind, length-append}
+use Rattle.script_runner.proofs.Common.{length-take-le, memory_by, memory_of, session_at, start_of_life, told_by}
+use Rattle.script_runner.proofs.Common.{unwrap_or}
 use Rattle.line_memory.specs.declared.Write.{Write}
 use Rattle.line_memory.specs.Memory.{after, after_write, zero_lines}
 use Rattle.save_image.specs.Image.{Image}
 use Rattle.save_device.specs.Device.{DeviceState}
-use Rattle.energy_budget.specs.Gauge.{Gauge}
-use Rattle.channel_port.specs.declared.port.ChannelPort.{Ghosts}
-use Rattle.nv_machine.specs.State.{Machine, all_of, memory_of, start_of_life}
 use Rattle.nv_machine.specs.Guard.{IsPrefix}
-use Rattle.module_core.specs.declared.module.Module.{Module}
 use Rattle.module_core.specs.declared.opening.Opened.{Opened}
 use Rattle.module_core.specs.Opening.{opened_with}
 use Rattle.module_core.specs.Stands.{ModuleStands}
-use Rattle.nv_session.specs.Living.{SessionAt, session_at}
 use Rattle.nv_session.specs.Restoring.{GoesBackTo, IsLeftBy}
-use Rattle.nv_script.specs.declared.line.ScriptLine.{ScriptLine}
-use Rattle.nv_script.specs.declared.answer.Answer.{Answer}
-use Rattle.script_runner.specs.Ledger.{Ledger, memory_by, told_by, accepted_by, grown, first_of, known_behind, IsTrueBy, IsOfLine}
-use Rattle.script_runner.specs.Keeping.{IsKeptBy, Bears, TellsTruly, AnswersTruly}
 
 -- a machine that has accepted the ledger's writes has accepted as many, and its memory is the one after them
 pub kept_all : (lines : ℕ) (ledger : Ledger) (m : Machine) → IsKeptBy lines ledger m → length ledger.writes ≡ all_of m

@@ -1,3 +1,4 @@
+pub mod Common
 pub mod Results
 pub mod Later
 pub mod Bearing

@@ -3,17 +3,12 @@ use Rattle.std.proofs.Common.{◌≡◌, ◌∙◌, ℕ, ◌+◌, ◌-◌, ◌<�
 use Rattle.std.specs.List.{flat_map}
 use Rattle.std.proofs.Math.Seq.{take-length, take-append_seam}
 use Rattle.std.proofs.lemmas.Grind.{flat_map-append}
-use Rattle.std.proofs.lemmas.List.{append-nil, length-append, length-map, append_assoc, map-append, take_more}
-use Rattle.std.proofs.lemmas.List.Elements.{All-append, All-cons, All-nil}
 use Rattle.std.proofs.lemmas.List.Sums.{fold-append}
 use Rattle.std.proofs.lemmas.Option.{none-some}
-use Rattle.channel_port.specs.declared.port.ChannelPort.{Ghosts}
-use Rattle.nv_session.specs.Living.{SessionAt}
-use Rattle.nv_script.specs.declared.line.ScriptLine.{ScriptLine}
-use Rattle.nv_script.specs.declared.answer.Answer.{Answer}
-use Rattle.script_runner.specs.Ledger.{Ledger}
+use Rattle.script_runner.proofs.Common.{All-append, All-cons, All-nil, Answer, AnswersPart, AnswersWhole, BearsOut}
+use Rattle.script_runner.proofs.Common.{Ghosts, GoesThrough, Ledger, ScriptLine, SessionAt, append-nil, append_assoc}
+use Rattle.script_runner.proofs.Common.{length-append, length-map, map-append, take_more}
 use Rattle.script_runner.specs.Story.{Exchange, AreTrueOf, IsTrueStory, IsWhole, AreAnswered, AreAllAnswered, AreNearlyAnswered, AreCutShort, known_after, known_behind_all}
-use Rattle.script_runner.specs.Keeping.{BearsOut, AnswersPart, AnswersWhole, GoesThrough}
 
 -- one true exchange more
 pub story_push : (lines : ℕ) (known : Option Ledger) (story : List Exchange) (next : Exchange) → IsTrueStory lines known story → AreTrueOf lines (known_after known story) next.asked next.answers

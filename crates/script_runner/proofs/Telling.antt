@@ -1,31 +1,24 @@
 -- The answers to a line that changes nothing, and to those that begin a life, are true.
 use Rattle.std.proofs.Common.{◌≡◌, ◌∙◌, ℕ, ◌≤◌, List, [], ◌++◌, Result, Ok, Err, Option, Some, None, refl, sym, ap, subst, arith}
-use Rattle.std.proofs.lemmas.List.{append-nil}
 use Rattle.std.proofs.lemmas.Option.{none-some}
-use Rattle.std.specs.Prelude.{unwrap_or, is_some, IfOk, IfErr}
 use Rattle.std.specs.Option.{option_map}
+use Rattle.script_runner.proofs.Common.{Answer, AnswersTruly, Bears, Ghosts, IfErr, IfOk, IsKeptBy, IsTrueBy, Ledger}
+use Rattle.script_runner.proofs.Common.{Machine, Module, RunsWith, ScriptLine, SessionAt, Setup, TellsTruly}
+use Rattle.script_runner.proofs.Common.{accepted_by, append-nil, at_rest, blank, first_of, is_some, told_by, unwrap_or}
 use Rattle.line_memory.specs.declared.Write.{Write}
 use Rattle.save_device.specs.Device.{DeviceState}
 use Rattle.save_device.specs.declared.memory.Pick.{Pick}
 use Rattle.slot_store.specs.Outcomes.{first_image}
 use Rattle.slot_store.specs.declared.restoring.RestoreError.{RestoreError}
-use Rattle.channel_port.specs.declared.port.ChannelPort.{Ghosts}
-use Rattle.nv_machine.specs.State.{Setup, Machine}
-use Rattle.module_core.specs.declared.module.Module.{Module}
 use Rattle.module_core.specs.Opening.{opened_with}
 use Rattle.module_core.specs.Stands.{ModuleStands}
 use Rattle.interleave_map.specs.declared.ready.Interleaving.{Interleaving}
 use Rattle.nv_session.specs.declared.lives.Found.{Found}
-use Rattle.nv_session.specs.Living.{RunsWith, SessionAt}
 use Rattle.nv_session.specs.Restoring.{FindsPrefix, FindsPrefixOf, KeepsPrefixOf}
 use Rattle.nv_session.specs.Wired.{formatted}
-use Rattle.nv_script.specs.declared.line.ScriptLine.{ScriptLine}
 use Rattle.nv_script.specs.declared.line.ScriptLine.TheVariants as line
-use Rattle.nv_script.specs.declared.answer.Answer.{Answer}
 use Rattle.nv_script.specs.declared.answer.Answer.TheVariants as answer
 use Rattle.script_runner.specs.Replies.{restore_told}
-use Rattle.script_runner.specs.Ledger.{Ledger, blank, told_by, accepted_by, at_rest, first_of, IsTrueBy}
-use Rattle.script_runner.specs.Keeping.{IsKeptBy, Bears, TellsTruly, AnswersTruly}
 use Rattle.script_runner.proofs.Bearing.{GoneOn, back_at_rest, back_to_life, goes_truly, nothing_known, first_kept, kept_all, stays_quiet, the_ledger}
 
 module _ {K : Type 0} (L : Ghosts K) where

@@ -1,15 +1,10 @@
 -- The answers to one line, one more at a time.
 use Rattle.std.proofs.Common.{◌≡◌, ◌∙◌, ℕ, ◌+◌, ◌<◌, true, false, List, [], ◌∷◌, ◌++◌, Option, refl, sym, ap, subst, inl, inr, arith}
-use Rattle.std.proofs.lemmas.List.{append-nil, append_assoc, length-append}
-use Rattle.std.proofs.lemmas.List.Elements.{All-append, All-cons, All-nil}
 use Rattle.std.proofs.lemmas.List.Sums.{fold-append}
-use Rattle.channel_port.specs.declared.port.ChannelPort.{Ghosts}
-use Rattle.nv_session.specs.Living.{SessionAt}
-use Rattle.nv_script.specs.declared.line.ScriptLine.{ScriptLine}
-use Rattle.nv_script.specs.declared.answer.Answer.{Answer}
-use Rattle.script_runner.specs.Ledger.{Ledger, known_behind, IsTrueOf}
+use Rattle.script_runner.proofs.Common.{All-append, All-cons, All-nil, Answer, AnswersLine, AnswersTruly, AnswersTurns}
+use Rattle.script_runner.proofs.Common.{AnswersWhole, BearsOut, Ghosts, IsTrueOf, Ledger, ScriptLine, SessionAt}
+use Rattle.script_runner.proofs.Common.{TellsTruly, append-nil, append_assoc, known_behind, length-append}
 use Rattle.script_runner.specs.Story.{TakesTurns, AreTrueOf, known_behind_all, turns_of, is_busy}
-use Rattle.script_runner.specs.Keeping.{BearsOut, TellsTruly, AnswersTruly, AnswersLine, AnswersTurns, AnswersWhole}
 
 -- one true answer more
 pub true_push : (lines : ℕ) (known : Option Ledger) (asked : ScriptLine) (given : List Answer) (answer : Answer) → AreTrueOf lines known asked given

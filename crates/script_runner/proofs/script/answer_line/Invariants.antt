@@ -1,6 +1,5 @@
 use Rattle.std.proofs.Common.{◌≡◌}
-use Rattle.nv_session.specs.Sessions.{line_count_in, moment_in}
-use Rattle.script_runner.specs.Keeping.{AnswersTurns}
+use Rattle.script_runner.proofs.Common.{AnswersTurns, line_count_in, moment_in}
 use Rattle.script_runner.proofs.script.answer_line.Given as goal
 
 abbrev pub invariant-loop-turn : goal.invariant-loop-turn

@@ -1,10 +1,9 @@
 use Rattle.std.proofs.Common.{◌≡◌, ◌∙◌, get_or, length, refl, sym, ap, subst, rules}
-use Rattle.std.proofs.lemmas.List.Elements.{All-get_or}
+use Rattle.script_runner.proofs.Common.{All-get_or, line_count_in, moment_in}
 use Rattle.ddr4_timing.specs.Limits.{lines_of}
 use Rattle.nv_profile.specs.declared.profile.Profile.{Profile}
 use Rattle.nv_script.specs.Line.{NamesChannelOf}
 use Rattle.nv_script.specs.declared.line.ScriptLine.TheVariants.{Format}
-use Rattle.nv_session.specs.Sessions.{line_count_in, moment_in}
 use Rattle.script_runner.specs.Story.{AreCutShort}
 use Rattle.script_runner.proofs.Results.{if_err_so}
 use Rattle.script_runner.proofs.Stories.{through_begins, through_grows, through_cut, through_ends}

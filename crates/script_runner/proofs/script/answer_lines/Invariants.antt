@@ -1,6 +1,5 @@
 use Rattle.std.proofs.Common.{◌≡◌, take}
-use Rattle.nv_session.specs.Sessions.{line_count_in, moment_in}
-use Rattle.script_runner.specs.Keeping.{GoesThrough}
+use Rattle.script_runner.proofs.Common.{GoesThrough, line_count_in, moment_in}
 use Rattle.script_runner.proofs.script.answer_lines.Given as goal
 
 abbrev pub invariant-loop-line : goal.invariant-loop-line

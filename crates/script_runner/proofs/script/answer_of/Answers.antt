@@ -1,16 +1,14 @@
 use Rattle.std.proofs.Common.{refl, ap, sym, subst}
+use Rattle.script_runner.proofs.Common.{Gauge, GoesOnBy, IsOneEvent, IsWork, fuse_state, line_count_in, moment_in}
+use Rattle.script_runner.proofs.Common.{session_at, set_to}
 use Rattle.save_device.specs.declared.fuse.Fuse.{Fuse}
 use Rattle.save_device.specs.declared.memory.MemoryDevice.{MemoryDevice}
-use Rattle.energy_budget.specs.Gauge.{Gauge}
 use Rattle.energy_budget.specs.Meter.{meter_gauge}
 use Rattle.nv_machine.specs.declared.events.Event.TheVariants as events
 use Rattle.nv_machine.specs.declared.events.Reply.TheVariants as replies
-use Rattle.nv_session.specs.Coming.{IsOneEvent}
 use Rattle.nv_session.specs.Turns.{SeesLine}
-use Rattle.nv_session.specs.Living.{GoesOnBy, IsWork, fuse_state, session_at, set_to}
 use Rattle.nv_script.specs.declared.line.ScriptLine.TheVariants as line
 use Rattle.nv_script.specs.declared.answer.Answer.TheVariants as answer
-use Rattle.nv_session.specs.Sessions.{line_count_in, moment_in}
 use Rattle.script_runner.specs.Replies.{read_told, work_told}
 use Rattle.script_runner.proofs.Answering.{write_truly, read_truly, work_truly, sense_truly, arm_truly, disarm_truly, save_truly, step_truly, lose_truly, regauged}
 use Rattle.script_runner.proofs.Telling.{truly_as, lie_truly, fuse_truly, mark_truly, format_truly, fault_truly, restored_truly}
