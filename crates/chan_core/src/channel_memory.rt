@@ -21,8 +21,8 @@ use ddr4_timing::place::Place;
 use ddr4_timing::timing::Checked;
 use frfcfs::pending::{Kind, Pending};
 use frfcfs::queue::Queue;
-use line_memory::Line;
 use ghost_trace::Trace;
+use line_memory::Line;
 use std::marker::Model;
 use wpq_core::Wpq;
 

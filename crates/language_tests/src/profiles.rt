@@ -185,7 +185,9 @@ fn maps(rt: HostRuntime) {
     let xor = with(&rt, "map", "\"xor\"");
     let profile = read_profile(rt.alloc(), xor.as_bytes()).expect(&rt, "a profile");
     same(&rt, profile.map, Interleaving::Xor);
-    let word = format!(in rt.alloc(); "{} {}", Interleaving::Lines, Interleaving::Xor).expect(&rt, "memory");
+    let word = format!(in rt.alloc(); "{} {}", Interleaving::Lines, Interleaving::Xor).expect(
+        &rt, "memory",
+    );
     same(&rt, word.as_str(), "lines xor");
     for value in ["\"row\"", "\"\"", "\"Lines\"", "\"lines \"", "lines", "1"] {
         refuses(&rt, "map", value);

@@ -1,8 +1,8 @@
 // Texts of lines and of bad lines.
 use crate::check::same;
 use ddr4_timing::timing::Geometry;
-use line_memory::Write;
 use interleave_map::Interleaving;
+use line_memory::Write;
 use nv_script::{SCRIPT_BYTES, ScriptFault, ScriptLine, read_script};
 use save_device::Pick;
 use std::alloc::Global;

@@ -5,10 +5,10 @@ use crate::opening::{DEPTH, open};
 use crate::picks::{Pick, Picks};
 use crate::rounds::formatted;
 use arm_state::Loss;
+use channel_port::ChannelPort;
 use energy_budget::Meter;
 use interleave_map::ReadyMap;
 use interleave_map::cells::line_count;
-use channel_port::ChannelPort;
 use line_memory::Write;
 use save_device::SaveDevice;
 use std::time::Instant;
@@ -39,8 +39,7 @@ impl<K: ChannelPort + Drop, D: SaveDevice + Drop> Load<K, D> {
     }
 
     // Writes a line until its channel's queue is full.
-    fn fill_queue_of(&mut self, line: u64)
-    {
+    fn fill_queue_of(&mut self, line: u64) {
         for turn in 0..=DEPTH {
             let write = Write {
                 line,
@@ -53,8 +52,7 @@ impl<K: ChannelPort + Drop, D: SaveDevice + Drop> Load<K, D> {
     }
 
     // Fills the queue of each channel; how many writes wait then. The lowest lines lie on the channels in turn.
-    fn fill(&mut self) -> u64
-    {
+    fn fill(&mut self) -> u64 {
         for line in 0..self.channels {
             self.fill_queue_of(line);
         }
@@ -62,8 +60,7 @@ impl<K: ChannelPort + Drop, D: SaveDevice + Drop> Load<K, D> {
     }
 
     // Loses the mains; the generation and the count that were saved.
-    fn lose(&mut self) -> Result<(u64, u64), Stall>
-    {
+    fn lose(&mut self) -> Result<(u64, u64), Stall> {
         match self.running.power_loss(&mut self.device, &mut self.gauge) {
             Loss::Saved { generation, count } => Ok((generation, count)),
             _ => Err(Stall::Loss),
@@ -76,8 +73,7 @@ fn write_each<K: ChannelPort + Drop, D: SaveDevice + Drop>(
     load: &mut Load<K, D>,
     picks: &mut Picks,
     each: u64,
-) -> Result<(), Stall>
-{
+) -> Result<(), Stall> {
     for _ in 0..each {
         let Pick { line, byte } = picks.next();
         load.write(line, [byte; 64])?;

@@ -4,9 +4,8 @@ ghost use Rattle.module_core.specs.Stands.{HasDevice, setup_of};
 
 use crate::measured::{Measured, Stall};
 use arm_state::WriteRefusal;
-use channel_port::{Collected, Got, Ticket};
+use channel_port::{ChannelPort, Collected, Got, Ticket};
 use energy_budget::Meter;
-use channel_port::ChannelPort;
 use line_memory::{Line, Write};
 use module_core::Module;
 use nv_machine::StepReply;
@@ -83,8 +82,7 @@ impl<K: ChannelPort + Drop, D: SaveDevice + Drop> Load<K, D> {
     }
 
     // Makes a step of the save that runs; its generation after the last one.
-    fn step(&mut self) -> Result<Option<u64>, Stall>
-    {
+    fn step(&mut self) -> Result<Option<u64>, Stall> {
         match self.running.save_step(&mut self.device, &mut self.gauge) {
             StepReply::Saved { generation, .. } => Ok(Some(generation)),
             StepReply::Did(_) => Ok(None),

@@ -4,8 +4,8 @@ use crate::opening::{capacity_of, open};
 use crate::picks::{Pick, Picks};
 use crate::plain::Plain;
 use ddr4_timing::timing::Checked;
-use interleave_map::cells::line_count;
 use interleave_map::ReadyMap;
+use interleave_map::cells::line_count;
 use save_device::MemoryDevice;
 use slot_store::{device_size, format};
 use std::alloc::Global;
@@ -54,8 +54,7 @@ impl Tally {
         }
     }
 
-    fn write<T: Measured>(&mut self, memory: &mut T, each: u64) -> anyhow::Result<()>
-    {
+    fn write<T: Measured>(&mut self, memory: &mut T, each: u64) -> anyhow::Result<()> {
         for _ in 0..each {
             let Pick { line, byte } = self.picks.next();
             memory.write(line, [byte; 64])?;
@@ -63,8 +62,7 @@ impl Tally {
         Ok(())
     }
 
-    fn read<T: Measured>(&mut self, memory: &mut T, each: u64) -> anyhow::Result<()>
-    {
+    fn read<T: Measured>(&mut self, memory: &mut T, each: u64) -> anyhow::Result<()> {
         for _ in 0..each {
             let bytes = memory.read(self.picks.next().line)?;
             self.sum = self.sum.wrapping_mul(31).wrapping_add(bytes[0] as u64);
@@ -78,8 +76,7 @@ impl Tally {
         rt: &HostRuntime,
         memory: &mut T,
         each: u64,
-    ) -> anyhow::Result<()>
-    {
+    ) -> anyhow::Result<()> {
         let start = Instant::now(rt)?;
         self.write(memory, each)?;
         let writes = start.elapsed(rt)?.as_nanos();

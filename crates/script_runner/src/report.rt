@@ -3,8 +3,8 @@ ghost use Rattle.std.specs.Prelude.{◌≡◌, List, [], ◌∷◌, ◌++◌, On
 ghost use Rattle.nv_script.specs.declared.answer.Answer.{Answer};
 ghost use Rattle.script_runner.specs.Story.{GivesOut};
 
-use nv_script::{Answer, ScriptFault};
 use ghost_trace::Trace;
+use nv_script::{Answer, ScriptFault};
 use std::io;
 
 /// What takes the answers to a script.

@@ -34,7 +34,10 @@ fn measure(rt: &HostRuntime, map: &ReadyMap, timed: bool) -> anyhow::Result<()> 
         found = walk(map, &map.checked);
     }
     let nanos = start.elapsed(rt)?.as_nanos();
-    println!(rt; "{}: {found} of {lines} lines on channel 0", map.interleaving)?;
+    println!(rt;
+        "{}: {found} of {lines} lines on channel 0",
+        map.interleaving
+    )?;
     if timed {
         let tenths = 10 * nanos / (rounds as u128 * lines as u128);
         println!(rt; "    {}.{} nanoseconds a line", tenths / 10, tenths % 10)?;
