@@ -1,0 +1,24 @@
+//! How long the parts of a channel take: its banks, the maps from lines to places, and a drain of 64 writes.
+//!
+//!     bench_timing                what each part answers
+//!     bench_timing time COUNT     and nanoseconds, a drain's the mean of so many
+#![tactic(auto)]
+
+mod banks;
+mod drains;
+mod load;
+mod maps;
+
+use std::env;
+
+fn main(rt: HostRuntime) -> anyhow::Result<()> {
+    let words: Vec<String> = env::args(&rt)?.collect(rt.alloc())?;
+    let count: Option<u64> = match words.as_slice() {
+        [_] => None,
+        [_, word, count] if word.as_str() == "time" => Some(count.as_str().parse()?),
+        _ => anyhow::bail!("no word, or time and a count"),
+    };
+    banks::show(&rt, count.is_some())?;
+    maps::show(&rt, count.is_some())?;
+    drains::show(&rt, count)
+}

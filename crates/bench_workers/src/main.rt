@@ -1,0 +1,116 @@
+//! How fast hosts write and read at a board, beside one host alone, and a board that loses its mains amid its writes.
+//!
+//!     bench_workers         a small board, with a saver, and with its mains lost at last: the same each time
+//!     bench_workers time    writes and reads a second of 1, 2, 4 and 8 hosts on the largest profile
+//!     bench_workers loss    10,000 writes of four hosts on the largest profile, the mains lost amid them
+//!
+//! Each host writes and reads in a pseudo-random order, with a worker for each channel beside the hosts. At the end each receipt
+//! and each answer is checked against the history; after a saver or a loss the device is restored, and its lines are compared with
+//! the history's.
+#![tactic(auto)]
+
+mod crowd;
+mod gate;
+mod life;
+
+use crate::crowd::Plan;
+use crate::life::{Back, Lived, life_over};
+use ddr4_timing::profiles::{SMALL, TINY, WIDEST};
+use ddr4_timing::timing::Checked;
+use interleave_map::{Interleaving, ReadyMap};
+use std::alloc::Global;
+use std::env;
+use std::sync::Wait;
+use std::thread::Threads;
+use std::time::Clock;
+
+// A life over the map `lines`.
+fn by_lines<R: Threads + Wait + Clock + Sync>(
+    rt: &R,
+    alloc: Global,
+    checked: Checked,
+    plan: &Plan,
+) -> anyhow::Result<Lived> {
+    let map = ReadyMap {
+        interleaving: Interleaving::Lines,
+        checked,
+    };
+    life_over(rt, alloc, &map, &checked, plan)
+}
+
+// A plan of so many hosts, without a saver.
+fn plan_of(hosts: usize, writes: u64, reads: u64, lost_at: Option<u64>) -> Plan {
+    Plan {
+        hosts,
+        writes,
+        reads,
+        lines: 128,
+        saves: false,
+        lost_at,
+    }
+}
+
+// What a life came to.
+fn show(rt: &HostRuntime, name: &str, plan: &Plan, lived: &Lived) -> anyhow::Result<()> {
+    let Plan { hosts, .. } = plan;
+    let Lived {
+        accepted,
+        checked,
+        ..
+    } = lived;
+    println!(rt;
+        "{name}: {hosts} hosts, {accepted} writes accepted, {checked} receipts and answers checked"
+    )?;
+    if let Some(Back { count, differ }) = lived.back {
+        if plan.lost_at.is_some() {
+            println!(rt; "{name}: restored {count} writes, {differ} lines differ")?;
+        } else {
+            println!(rt; "{name}: restored, {differ} lines differ")?;
+        }
+    }
+    Ok(())
+}
+
+// How many a second.
+fn rate(lived: &Lived) -> u128 {
+    (lived.checked as u128).saturating_mul(1_000_000_000) / lived.nanos.max(1)
+}
+
+// A small board, one that is saved meanwhile, and one whose mains are lost at last.
+fn small_plans() -> [(&'static str, Plan); 3] {
+    let mut saved = plan_of(4, 100, 50, None);
+    saved.saves = true;
+    [
+        ("small", plan_of(4, 100, 50, None)),
+        ("small, saved", saved),
+        ("small, lost", plan_of(1, 100, 0, Some(39))),
+    ]
+}
+
+fn main(rt: HostRuntime) -> anyhow::Result<()> {
+    let alloc = rt.alloc();
+    let words: Vec<String> = env::args(&rt)?.collect(alloc)?;
+    match words.get(1).map(|word| word.as_str()) {
+        None => {
+            for (name, plan) in small_plans() {
+                let lived = by_lines(&rt, alloc, TINY.check(&SMALL)?, &plan)?;
+                show(&rt, name, &plan, &lived)?;
+            }
+        }
+        Some("time") => {
+            for hosts in [1, 2, 4, 8] {
+                let checked = TINY.check(&WIDEST)?;
+                let written = by_lines(&rt, alloc, checked, &plan_of(hosts, 4_000, 0, None))?;
+                let read = by_lines(&rt, alloc, checked, &plan_of(hosts, 0, 4_000, None))?;
+                let (writes, reads) = (rate(&written), rate(&read));
+                println!(rt; "largest: {hosts} hosts, {writes} writes, {reads} reads a second")?;
+            }
+        }
+        Some(_) => {
+            let plan = plan_of(4, 2_500, 0, Some(4_999));
+            let lived = by_lines(&rt, alloc, TINY.check(&WIDEST)?, &plan)?;
+            show(&rt, "largest, lost", &plan, &lived)?;
+        }
+    }
+    Ok(())
+}
