@@ -1,3 +1,4 @@
 pub mod Totals
 pub mod Rising
 pub mod Counting
+pub mod Charging

@@ -1,4 +1,5 @@
 pub mod Gauge
+pub mod Charging
 pub mod CostNumbers
 pub mod Costs
 pub mod Actions

@@ -6,7 +6,8 @@ use Rattle.module_core.specs.ModuleLives.{LivesEndAfterEvents, LivesEndAnywhere,
 use Rattle.module_core.specs.Opening.{opened_with}
 use Rattle.module_core.specs.declared.opening.Opened.{Opened}
 use Rattle.nv_machine.proofs.StoppedLives.{since_is}
-use Rattle.nv_machine.specs.Headline.{Happens, Run}
+use Rattle.nv_machine.proofs.JoinedRuns.{rests_charged, rests_here}
+use Rattle.nv_machine.specs.Headline.{Happens, HappensNext, Run, given}
 use Rattle.nv_machine.specs.Lives.{IsLeftAt, Unanswered, moments_since, stop_moments}
 use Rattle.save_device.specs.Device.{MayLeave, Moment, moments_of}
 use Rattle.slot_store.proofs.Resting.{found_only}
@@ -34,24 +35,24 @@ record Moments (setup : Setup) (events : List Event) (old new : World) : Type 0 
   parts : (moment : Moment) → Contains (present old.device ∷ since) moment → (bytes : List ℕ) → MayLeave moment bytes → StopAmongEvents setup events old bytes
 
 -- a stop within the first event
-cut_first : (setup : Setup) (event : Event) (events : List Event) (reply : Reply) (old mid : World) (bytes : List ℕ) → Happens setup event reply old mid
+cut_first : (setup : Setup) (event : Event) (events : List Event) (reply : Reply) (old mid : World) (bytes : List ℕ) → HappensNext setup event reply old mid
     → IsLeftAt (moments_since old.device mid.device) bytes → StopAmongEvents setup (event ∷ events) old bytes
-cut_first setup event events reply old mid bytes happens left =
-    let unanswered : Unanswered = record { event = event; reply = reply; next = mid } in
+cut_first setup event events reply old mid bytes next left =
+    let unanswered : Unanswered = record { event = event; reply = reply; next = mid } in let last : World = given next.gauge old in
     record {
       front = [];
       told = [];
-      last = old;
+      last = last;
       unanswered = Some unanswered;
       rest = events;
       parts = refl;
-      run = refl;
-      happens = λ it is. let these : unanswered ≡ it = cc in subst (λ (x : Unanswered). Happens setup x.event x.reply old x.next) these happens;
+      run = rests_charged old next.gauge next.rises;
+      happens = λ it is. let these : unanswered ≡ it = cc in subst (λ (x : Unanswered). Happens setup x.event x.reply last x.next) these next.happens;
       left = left;
     }
 
 -- a stop in a later one
-cut_later : (setup : Setup) (event : Event) (events : List Event) (reply : Reply) (old mid : World) (bytes : List ℕ) → Happens setup event reply old mid
+cut_later : (setup : Setup) (event : Event) (events : List Event) (reply : Reply) (old mid : World) (bytes : List ℕ) → HappensNext setup event reply old mid
     → StopAmongEvents setup events mid bytes → StopAmongEvents setup (event ∷ events) old bytes
 cut_later setup event events reply old mid bytes happens p = record {
   front = event ∷ p.front;
@@ -68,7 +69,7 @@ cut_later setup event events reply old mid bytes happens p = record {
 run_moments : (setup : Setup) (events : List Event) (replies : List Reply) (old new : World) → Run setup events replies old new → Moments setup events old new
 run_moments setup [] [] old new run = record {
   since = [];
-  keeps = ap (λ (w : World). moments_of w.device) run ∙ sym (append-nil (moments_of old.device));
+  keeps = ap (λ (w : World). moments_of w.device) run.is ∙ sym (append-nil (moments_of old.device));
   parts = λ moment among bytes left. record {
     front = [];
     told = [];
@@ -76,13 +77,13 @@ run_moments setup [] [] old new run = record {
     unanswered = None;
     rest = [];
     parts = refl;
-    run = refl;
+    run = rests_here old;
     happens = λ unanswered is. absurd (let bad : ⊥ = cc in bad);
     left = record { moment = moment; among = among; left = left };
   };
 }
 run_moments setup (event ∷ events) (reply ∷ replies) old new run =
-    let mid : World = run.0 in let later = run_moments setup events replies mid new run.2 in let within = run.1.meanwhile in
+    let mid : World = run.0 in let later = run_moments setup events replies mid new run.2 in let within = run.1.happens.meanwhile in
     record {
       since = within.since ++ later.since;
       keeps = later.keeps ∙ ap (λ (ms : List Moment). ms ++ later.since) within.keeps ∙ append_assoc (moments_of old.device) within.since later.since;

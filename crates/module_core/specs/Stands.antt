@@ -11,6 +11,7 @@ use Rattle.slot_store.specs.Runs.{next_of}
 use Rattle.arm_state.specs.declared.mode.Mode.TheVariants as modes
 use Rattle.arm_state.specs.Modes.{has_ended}
 use Rattle.energy_budget.specs.Gauge.{Gauge}
+use Rattle.energy_budget.specs.Charging.{RisesTo}
 use Rattle.channel_port.specs.declared.port.ChannelPort.{Ghosts}
 use Rattle.channel_set.specs.declared.set.ChannelSet.{ChannelSet}
 use Rattle.channel_set.specs.Set.{NextCommand, shape_of, view_of}
@@ -23,7 +24,7 @@ use Rattle.nv_machine.specs.declared.events.Reply.TheVariants as replies
 use Rattle.nv_machine.specs.State.{Setup, Machine, World, start_of_life, base_of_life, all_of, memory_of, hold_of}
 use Rattle.nv_machine.specs.Machine.{TakesReading}
 use Rattle.nv_machine.specs.Guard.{IsGuarded}
-use Rattle.nv_machine.specs.Headline.{RecoversAfterwards, Happens, RunOf}
+use Rattle.nv_machine.specs.Headline.{RecoversAfterwards, Happens, RunOf, given}
 use Rattle.module_core.specs.Saving.{Knows, AreSameSave}
 use Rattle.module_core.specs.Saves.{StoreMoves}
 use Rattle.module_core.specs.Device.{Holds}
@@ -46,6 +47,14 @@ assembly it device gauge = record { it = it; device = device; gauge = gauge }
 pub record Point {K : Type 0} (L : Ghosts K) : Type 0 where
   pub channels : ChannelSet K L
   pub world : World
+
+abbrev pub given_at : {K : Type 0} {L : Ghosts K} → Gauge → Point L → Point L
+given_at gauge point = record point { world = given gauge point.world }
+
+-- Between two events nothing has changed but the gauge, which may have been charged.
+pub record RestsAt {K : Type 0} {L : Ghosts K} (old new : Point L) : Type 0 where
+  pub gauge : RisesTo old.world.gauge new.world.gauge
+  pub is : new ≡ given_at new.world.gauge old
 
 module _ {K : Type 0} (L : Ghosts K) where
   abbrev pub setup_of : Module K L → Setup
@@ -156,6 +165,16 @@ module _ {K : Type 0} (L : Ghosts K) where
     pub happens : Happens setup event reply old.world new.world
     pub works : WorksWhereDue event reply old
 
+  -- one event, before which the gauge may have been charged
+  pub record HappensNextAt (setup : Setup) (event : Event) (reply : Reply) (old new : Point L) : Type 0 where
+    pub gauge : Gauge
+    pub rises : RisesTo old.world.gauge gauge
+    pub happens : HappensAt setup event reply (given_at gauge old) new
+
+  -- Events of a module in turn. The gauge may be charged before each of them and after the last one.
+  abbrev pub RunAt : Setup → List Event → List Reply → Point L → Point L → Type 0
+  RunAt setup = RunOf RestsAt (HappensNextAt setup)
+
   -- The theorem of one event. Whichever machine the module and its device stood for, they stand for one after it that the
   -- event may lead to with this reply; and what a stop at each moment leaves, and what an honest gauge is enough for, is as
   -- `Happens` says.
@@ -181,7 +200,7 @@ module _ {K : Type 0} (L : Ghosts K) where
   pub record RunsTo (events : List Event) (replies : List Reply) (old : Assembly L) (m : Machine) (new : Assembly L) : Type 0 where
     pub last : Machine
     pub stands : ModuleStands new.it new.device last
-    pub run : RunOf (HappensAt (setup_of old.it)) events replies (point_of old m) (point_of new last)
+    pub run : RunAt (setup_of old.it) events replies (point_of old m) (point_of new last)
     pub left : StopsWithin (λ bytes. RecoversAfterwards last (restored (setup_of old.it).shape.lines bytes)) (present new.device)
 
   -- The theorem on a list of events.

@@ -18,6 +18,7 @@ pub mod HonestEvents
 -- what a stop leaves
 pub mod Leaving
 -- what a run of events comes to
+pub mod JoinedRuns
 pub mod RisingMarks
 pub mod HonestRuns
 -- lives in a chain, and what a restore finds after them

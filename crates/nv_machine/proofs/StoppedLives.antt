@@ -43,8 +43,8 @@ StopsRecover setup point = StopsWithin (λ bytes. RecoversAfterwards point.machi
 
 -- what it leaves at the end of a run
 left_along : (setup : Setup) (events : List Event) (replies : List Reply) (old new : World) → Run setup events replies old new → StopsRecover setup old → StopsRecover setup new
-left_along setup [] [] old new run left = subst (StopsRecover setup) (sym run) left
-left_along setup (event ∷ events) (reply ∷ replies) old new run left = left_along setup events replies run.0 new run.2 run.1.at_end
+left_along setup [] [] old new run left = subst (StopsRecover setup) (sym run.is) left
+left_along setup (event ∷ events) (reply ∷ replies) old new run left = left_along setup events replies run.0 new run.2 run.1.happens.at_end
 left_along setup _ _ old new none left = absurd none
 
 -- before the first event it leaves the image that the life was opened with

@@ -13,6 +13,7 @@ use Rattle.arm_state.specs.declared.refusal.ArmReply.TheVariants as arm
 use Rattle.arm_state.specs.Modes.{is_armed, is_backed}
 use Rattle.energy_budget.specs.Sums.{backing_level}
 use Rattle.energy_budget.specs.Gauge.{Gauge, IsHonestThrough}
+use Rattle.energy_budget.specs.Charging.{RisesTo}
 use Rattle.arm_state.specs.declared.loss.Loss.TheVariants as loss
 use Rattle.nv_machine.specs.declared.events.Event.{Event}
 use Rattle.nv_machine.specs.declared.events.Reply.{Reply}
@@ -103,12 +104,28 @@ pub record Happens (setup : Setup) (event : Event) (reply : Reply) (old new : Wo
   pub at_end : StopsWithin (λ bytes. RecoversAfterwards new.machine (restored setup.shape.lines bytes)) (present new.device)
   pub honest : IsHonest setup old reply new → IsBacked setup old.machine old.gauge → StaysBacked setup old reply new
 
--- events in turn, with what stands between them
-abbrev pub RunOf : {P : Type 0} → (Event → Reply → P → P → Type 0) → List Event → List Reply → P → P → Type 0
-RunOf Goes [] [] old new = new ≡ old
-RunOf {P} Goes (event ∷ events) (reply ∷ replies) old new = (mid : P) × Goes event reply old mid × RunOf Goes events replies mid new
-RunOf Goes [] (reply ∷ replies) old new = ⊥
-RunOf Goes (event ∷ events) [] old new = ⊥
+-- the same moment with another gauge
+abbrev pub given : Gauge → World → World
+given gauge world = record world { gauge = gauge }
 
+-- Between two events nothing has changed but the gauge, which may have been charged.
+pub record Rests (old new : World) : Type 0 where
+  pub gauge : RisesTo old.gauge new.gauge
+  pub is : new ≡ given new.gauge old
+
+-- one event, before which the gauge may have been charged
+pub record HappensNext (setup : Setup) (event : Event) (reply : Reply) (old new : World) : Type 0 where
+  pub gauge : Gauge
+  pub rises : RisesTo old.gauge gauge
+  pub happens : Happens setup event reply (given gauge old) new
+
+-- events in turn, with what stands between them, and what may be between two of them
+abbrev pub RunOf : {P : Type 0} → (P → P → Type 0) → (Event → Reply → P → P → Type 0) → List Event → List Reply → P → P → Type 0
+RunOf Between Goes [] [] old new = Between old new
+RunOf {P} Between Goes (event ∷ events) (reply ∷ replies) old new = (mid : P) × Goes event reply old mid × RunOf Between Goes events replies mid new
+RunOf Between Goes [] (reply ∷ replies) old new = ⊥
+RunOf Between Goes (event ∷ events) [] old new = ⊥
+
+-- The gauge may be charged before each event and after the last one.
 abbrev pub Run : Setup → List Event → List Reply → World → World → Type 0
-Run setup = RunOf (Happens setup)
+Run setup = RunOf Rests (HappensNext setup)

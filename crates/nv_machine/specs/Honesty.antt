@@ -1,15 +1,19 @@
 -- A run of events through which the gauge was honest and the device spared.
 use Rattle.std.specs.Prelude.{List, [], ◌∷◌}
+use Rattle.energy_budget.specs.Gauge.{IsHonestThrough}
 use Rattle.nv_machine.specs.declared.events.Event.{Event}
 use Rattle.nv_machine.specs.declared.events.Reply.{Reply}
 use Rattle.nv_machine.specs.State.{Setup, World}
-use Rattle.nv_machine.specs.Headline.{Run, IsBacked, IsHonest, SavesAllWritten}
+use Rattle.nv_machine.specs.Headline.{Run, IsBacked, IsHonest, SavesAllWritten, given}
 
 module _ (setup : Setup) where
-  -- in each event
+  -- in each event, and between two of them
   abbrev pub IsHonestAlong : (events : List Event) (replies : List Reply) (old new : World) → Run setup events replies old new → Type 0
-  IsHonestAlong [] [] old new run = Unit {0}
-  IsHonestAlong (event ∷ events) (reply ∷ replies) old new run = IsHonest setup old reply run.0 × IsHonestAlong events replies run.0 new run.2
+  IsHonestAlong [] [] old new run = IsHonestThrough setup.shape.costs.numbers.leak old.gauge new.gauge
+  IsHonestAlong (event ∷ events) (reply ∷ replies) old new run =
+      IsHonestThrough setup.shape.costs.numbers.leak old.gauge run.1.gauge
+      × IsHonest setup (given run.1.gauge old) reply run.0
+      × IsHonestAlong events replies run.0 new run.2
   IsHonestAlong [] (reply ∷ replies) old new none = ⊥
   IsHonestAlong (event ∷ events) [] old new none = ⊥
 

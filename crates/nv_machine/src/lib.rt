@@ -11,9 +11,11 @@ mod honesty;
 mod lives;
 mod rising;
 mod survival;
+mod turns;
 
 pub use events::{Accepted, Event, Reply, StepReply};
 pub use honesty::honest_run;
 pub use lives::one_history;
 pub use rising::history_grows;
 pub use survival::survives_any_stop;
+pub use turns::runs_join;

@@ -6,11 +6,11 @@ use Rattle.channel_port.specs.declared.port.ChannelPort.{Ghosts}
 use Rattle.nv_machine.specs.declared.events.Event.{Event}
 use Rattle.nv_machine.specs.declared.events.Reply.{Reply}
 use Rattle.nv_machine.specs.State.{Setup, Machine}
-use Rattle.nv_machine.specs.Headline.{Happens, RecoversAfterwards, RunOf}
+use Rattle.nv_machine.specs.Headline.{Happens, RecoversAfterwards}
 use Rattle.nv_machine.proofs.Leaving.{left_after}
 use Rattle.module_core.specs.declared.module.Module.{Module}
-use Rattle.module_core.specs.Stands.{Answers, AnswersAlone, Assembly, HappensAt, ModuleStands, Point, assembly, point_of, setup_of, world_of}
-use Rattle.module_core.proofs.RunsOn.{run_push}
+use Rattle.module_core.specs.Stands.{Answers, AnswersAlone, Assembly, HappensAt, ModuleStands, RunAt, assembly, point_of, setup_of, world_of}
+use Rattle.module_core.proofs.RunsOn.{join_runs, one_run, rests_at, run_push}
 use Rattle.module_core.proofs.StoreSteps.{stop_now}
 use Rattle.nv_session.specs.Coming.{Tale, ComesTo, Comes, ComesAlone, IsOneEvent}
 
@@ -27,7 +27,7 @@ module _ {K : Type 0} (L : Ghosts K) where
   comes_to_itself Told it told m stands = record {
     events = [];
     replies = [];
-    runs = record { last = m; stands = stands; run = refl; left = left_by_life it m stands };
+    runs = record { last = m; stands = stands; run = rests_at L (point_of L it m); left = left_by_life it m stands };
     told = told m;
   }
 
@@ -47,7 +47,7 @@ module _ {K : Type 0} (L : Ghosts K) where
         runs = record {
           last = l;
           stands = after.1;
-          run = run_push (HappensAt L setup) before.events before.replies (point_of L old m) (point_of L mid n) event reply (point_of L new l) before.runs.run happens;
+          run = run_push L setup before.events before.replies (point_of L old m) (point_of L mid n) event reply (point_of L new l) before.runs.run happens;
           left = happens.happens.at_end;
         };
         told = tells before.events before.replies m n l before.runs.stands before.told happens.happens;
@@ -60,27 +60,21 @@ module _ {K : Type 0} (L : Ghosts K) where
       let c : ComesTo L Told old m new = comes m stands in
       record { events = c.events; replies = c.replies; runs = c.runs; told = tells c.events c.replies m c.runs.last c.told }
 
-  join_runs : (setup : Setup) (events : List Event) (replies : List Reply) (more : List Event) (others : List Reply) (old mid new : Point L)
-      → RunOf (HappensAt L setup) events replies old mid → RunOf (HappensAt L setup) more others mid new → RunOf (HappensAt L setup) (events ++ more) (replies ++ others) old new
-  join_runs setup [] [] more others old mid new run next = subst (λ (p : Point L). RunOf (HappensAt L setup) more others p new) run next
-  join_runs setup (e ∷ events) (r ∷ replies) more others old mid new run next = (run.0, run.1, join_runs setup events replies more others run.0 mid new run.2 next)
-  join_runs setup events replies more others old mid new none next = absurd none
-
   -- events after which others come
   pub comes_on : (Told Next Both : Tale) (old mid new : Assembly L) → setup_of L mid.it ≡ setup_of L old.it → Comes L Told old mid → Comes L Next mid new
       → ((es fs : List Event) (rs ts : List Reply) (m n l : Machine) → Told es rs m n → Next fs ts n l → Both (es ++ fs) (rs ++ ts) m l) → Comes L Both old new
   comes_on Told Next Both old mid new same so_far next tells m stands =
       let a : ComesTo L Told old m mid = so_far m stands in let n : Machine = a.runs.last in
       let b : ComesTo L Next mid n new = next n a.runs.stands in let setup : Setup = setup_of L old.it in
-      let then' : RunOf (HappensAt L setup) b.events b.replies (point_of L mid n) (point_of L new b.runs.last) =
-      subst (λ (s : Setup). RunOf (HappensAt L s) b.events b.replies (point_of L mid n) (point_of L new b.runs.last)) same b.runs.run in
+      let then' : RunAt L setup b.events b.replies (point_of L mid n) (point_of L new b.runs.last) =
+      subst (λ (s : Setup). RunAt L s b.events b.replies (point_of L mid n) (point_of L new b.runs.last)) same b.runs.run in
       record {
         events = a.events ++ b.events;
         replies = a.replies ++ b.replies;
         runs = record {
           last = b.runs.last;
           stands = b.runs.stands;
-          run = join_runs setup a.events a.replies b.events b.replies (point_of L old m) (point_of L mid n) (point_of L new b.runs.last) a.runs.run then';
+          run = join_runs L setup a.events a.replies b.events b.replies (point_of L old m) (point_of L mid n) (point_of L new b.runs.last) a.runs.run then';
           left = subst (λ (s : Setup). StopsWithin (λ bytes. RecoversAfterwards b.runs.last (restored s.shape.lines bytes)) (present new.device)) same b.runs.left;
         };
         told = tells a.events b.events a.replies b.replies m n b.runs.last a.told b.told;
@@ -103,7 +97,7 @@ module _ {K : Type 0} (L : Ghosts K) where
       record {
         events = event ∷ [];
         replies = reply ∷ [];
-        runs = record { last = n; stands = after.1; run = (point_of L new n, after.2, refl); left = after.2.happens.at_end };
+        runs = record { last = n; stands = after.1; run = one_run L (setup_of L old.it) event reply (point_of L old m) (point_of L new n) after.2; left = after.2.happens.at_end };
         told = (refl, refl);
       }
 

@@ -1,11 +1,12 @@
 use Rattle.std.proofs.lemmas.List.{take_all}
 use Rattle.std.specs.Prelude.{take}
+use Rattle.energy_budget.proofs.Charging.{rises_none}
 use Rattle.module_core.proofs.Common.{[], ℕ, ◌+◌, ◌∙◌, ◌∷◌, AnswersAll, Event, List, Reply, ap, arith, assembly, length, length-append, rules, subst, sym}
 use Rattle.module_core.proofs.RunsOn.{none_answered, one_more}
 use Rattle.module_core.proofs.module.Module.run.Goals as goal
 
 pub loop-event-init : goal.loop-event-init
-loop-event-init g c = search (rules, none_answered)
+loop-event-init g c = search (rules, none_answered, rises_none)
 
 pub loop-event-preserved : goal.loop-event-preserved
 loop-event-preserved g c =
