@@ -21,6 +21,8 @@ pub mod Leaving
 pub mod JoinedRuns
 pub mod RisingMarks
 pub mod HonestRuns
+pub mod CountedFaults
+pub mod SparedDevices
 -- lives in a chain, and what a restore finds after them
 pub mod StoppedLives
 pub mod History

@@ -8,19 +8,21 @@ use Rattle.energy_budget.proofs.Totals.{total_cost-cons}
 use Rattle.channel_port.specs.Draining.{Paid, PaysInTurn}
 use Rattle.channel_port.specs.Waits.{writes_on}
 use Rattle.channel_port.specs.declared.waiting.Waiting.{Waiting}
-use Rattle.nv_machine.proofs.Common.{List, [], arith, inr, length, refl, subst, suc, take, zero, ℕ, ◌++◌, ◌+◌, ◌∷◌, ◌≡◌, ◌≤◌, Err, Ok, Some, slice_get, sum, length-append, slice_get_within, cost_of, total_cost, Gauge, Action, Costs, pending_each}
+use Rattle.nv_machine.proofs.Common.{List, [], arith, inr, length, refl, subst, suc, take, zero, ℕ, ◌++◌, ◌+◌, ◌∙◌, ◌∷◌, ◌≡◌, ◌≤◌, Err, Ok, Some, slice_get, sum, length-append, slice_get_within, cost_of, total_cost, Gauge, Action, Costs, pending_each}
 
--- faults are counted, and where none is, the level has fallen by what was paid
+-- The leak stays and faults are counted, and where none is, the level has fallen by what was paid.
 pub record IsPaid (costs : Costs) (actions : List Action) (old new : Gauge) : Type 0 where
   pub counted : old.faults ≤ new.faults
+  pub same_leak : new.leak ≡ old.leak
   pub fell : new.faults ≡ old.faults → old.level ≤ new.level + total_cost costs actions
 
 pub paid_of : (costs : Costs) (actions : List Action) (old new : Gauge) → PaysInTurn costs actions old (Ok tt) new → IsPaid costs actions old new
-paid_of costs [] old new pays = rw pays (record { counted = omega arith; fell = λ same. omega arith })
+paid_of costs [] old new pays = rw pays (record { counted = omega arith; same_leak = refl; fell = λ same. omega arith })
 paid_of costs (a ∷ rest) old new pays =
     let then_paid : IsPaid costs rest pays.0 new = paid_of costs rest pays.0 new pays.2 in
     record {
       counted = omega (arith, pays.1.counted, then_paid.counted);
+      same_leak = then_paid.same_leak ∙ pays.1.same_leak;
       fell = λ same.
           let kept = pays.1.breach.0 (omega (arith, pays.1.counted, then_paid.counted, same)) in
           omega (arith, kept.falls, then_paid.fell (omega (arith, pays.1.counted, then_paid.counted, same)), total_cost-cons costs a rest);

@@ -9,6 +9,7 @@ use Rattle.nv_machine.proofs.Backing.{not_backed}
 use Rattle.nv_machine.proofs.RisingMarks.{told_along}
 use Rattle.nv_machine.proofs.HonestRuns.{saved_along, unbroken_along}
 use Rattle.nv_machine.proofs.StoppedLives.{guarded_first, recovered}
+use Rattle.nv_machine.proofs.CountedFaults.{honest_ends}
 use Rattle.nv_machine.proofs.History.{last_is, prefix_memory, prefix_count, memory_on, count_on}
 
 -- the arm byte is 0 exactly where the verdict is Complete
@@ -30,7 +31,8 @@ last_lived life (next ∷ lives) chained = last_lived next lives chained.2
 honest_calm : (life : Lived) → IsLived life → IsHonestLife life → may_lack life.last.machine ≡ false
 honest_calm life lived honest =
     let first : IsBackedAt life.setup life.first = not_backed life.setup life.first.machine life.first.gauge (ap (λ (m : Machine). is_backed m.mode) lived.begins) in
-    let saves = saved_along life.setup life.events life.replies life.first life.last honest.run honest.honest first in
+    let along = honest_ends life.setup life.events life.replies life.first life.last honest.run honest.gauge honest.spared in
+    let saves = saved_along life.setup life.events life.replies life.first life.last honest.run along first in
     let calm = unbroken_along life.setup life.events life.replies life.first life.last honest.run (guarded_first life lived) saves (ap (λ (m : Machine). is_broken_off m.lost) lived.begins) in
     or_from (is_backed life.last.machine.mode) (is_broken_off life.last.machine.lost) honest.settled calm
 
@@ -63,4 +65,9 @@ restored_of life lived =
 pub survived : (life : Lived) (lives : List Lived) → AreChained (life ∷ lives) → IsSurvived life lives
 survived life lives chained =
     let last : Lived = last_life life lives in let lived : IsLived last = last_lived life lives chained in let r = (recovered last lived).recovers in
-    record { image = r.image; recovered = restored_of last lived; memory = whole_memory life lives chained r.image r.prefix; count = whole_count life lives chained r.image r.prefix }
+    record {
+      image = r.image;
+      recovered = restored_of last lived;
+      memory = whole_memory life lives chained r.image r.prefix;
+      count = whole_count life lives chained r.image r.prefix;
+    }

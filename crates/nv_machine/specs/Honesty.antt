@@ -4,7 +4,7 @@ use Rattle.energy_budget.specs.Gauge.{IsHonestThrough}
 use Rattle.nv_machine.specs.declared.events.Event.{Event}
 use Rattle.nv_machine.specs.declared.events.Reply.{Reply}
 use Rattle.nv_machine.specs.State.{Setup, World}
-use Rattle.nv_machine.specs.Headline.{Run, IsBacked, IsHonest, SavesAllWritten, given}
+use Rattle.nv_machine.specs.Headline.{Run, IsBacked, IsHonest, IsSpared, SavesAllWritten, given}
 
 module _ (setup : Setup) where
   -- in each event, and between two of them
@@ -16,6 +16,14 @@ module _ (setup : Setup) where
       × IsHonestAlong events replies run.0 new run.2
   IsHonestAlong [] (reply ∷ replies) old new none = ⊥
   IsHonestAlong (event ∷ events) [] old new none = ⊥
+
+  -- in each event the device was spared
+  abbrev pub IsSparedAlong : (events : List Event) (replies : List Reply) (old new : World) → Run setup events replies old new → Type 0
+  IsSparedAlong [] [] old new run = Unit {0}
+  IsSparedAlong (event ∷ events) (reply ∷ replies) old new run =
+      IsSpared old.machine.mode reply old.device run.0.device × IsSparedAlong events replies run.0 new run.2
+  IsSparedAlong [] (reply ∷ replies) old new none = ⊥
+  IsSparedAlong (event ∷ events) [] old new none = ⊥
 
   -- each loss of mains while acknowledged writes were to be saved has saved all that were accepted
   abbrev pub SavesAllAlong : (events : List Event) (replies : List Reply) (old new : World) → Run setup events replies old new → Type 0

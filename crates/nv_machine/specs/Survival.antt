@@ -8,6 +8,7 @@ use Rattle.slot_store.specs.declared.restoring.Verdict.TheVariants.{Complete}
 use Rattle.slot_store.specs.Outcomes.{Outcome, Found, restored, verdict_of}
 use Rattle.slot_store.specs.Rest.{IsAmong}
 use Rattle.arm_state.specs.Modes.{is_backed}
+use Rattle.energy_budget.specs.Gauge.{IsHonestThrough}
 use Rattle.nv_machine.specs.declared.events.StepReply.TheVariants as step
 use Rattle.arm_state.specs.declared.loss.Loss.TheVariants as loss
 use Rattle.nv_machine.specs.declared.events.Reply.{Reply}
@@ -15,7 +16,7 @@ use Rattle.nv_machine.specs.declared.events.Reply.TheVariants as replies
 use Rattle.nv_machine.specs.State.{Machine}
 use Rattle.nv_machine.specs.Guard.{HasCause}
 use Rattle.nv_machine.specs.Headline.{Run, MayFindMeanwhile, HasCauseMeanwhile}
-use Rattle.nv_machine.specs.Honesty.{IsHonestAlong}
+use Rattle.nv_machine.specs.Honesty.{IsSparedAlong}
 use Rattle.nv_machine.specs.Lives.{Unanswered, Lived, kept_writes, last_life}
 
 -- the accepted writes of all lives, each life's cut at what the next one was opened with, and the last one's at this count
@@ -45,11 +46,12 @@ abbrev pub MayBeNewest : Option Unanswered → Machine → Outcome → Type 0
 MayBeNewest None m outcome = IsAmong m.store.maybe outcome
 MayBeNewest (Some unanswered) m outcome = MayFindMeanwhile unanswered.reply m.store.maybe unanswered.next.machine.store.maybe outcome
 
--- In each event the gauge was honest and the device spared, and at the stop no closing save was due any more: the loss of
--- mains was answered, or the module was disarmed.
+-- The gauge has counted no fault in the life, and its leak isn't above that of the costs; in each event the device was spared;
+-- and at the stop no closing save was due any more: the loss of mains was answered, or the module was disarmed.
 pub record IsHonestLife (life : Lived) : Type 0 where
   pub run : Run life.setup life.events life.replies life.first life.last
-  pub honest : IsHonestAlong life.setup life.events life.replies life.first life.last run
+  pub gauge : IsHonestThrough life.setup.shape.costs.numbers.leak life.first.gauge life.last.gauge
+  pub spared : IsSparedAlong life.setup life.events life.replies life.first life.last run
   pub settled : is_backed life.last.machine.mode ≡ false
 
 -- A restore after a life finds this image, one that may be the newest, no older than what the life was opened with. Complete,
