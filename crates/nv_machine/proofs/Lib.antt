@@ -26,4 +26,5 @@ pub mod SparedDevices
 -- lives in a chain, and what a restore finds after them
 pub mod StoppedLives
 pub mod History
+pub mod Caused
 pub mod SurvivedLives

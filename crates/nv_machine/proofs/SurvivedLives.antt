@@ -9,6 +9,7 @@ use Rattle.nv_machine.proofs.Backing.{not_backed}
 use Rattle.nv_machine.proofs.RisingMarks.{told_along}
 use Rattle.nv_machine.proofs.HonestRuns.{saved_along, unbroken_along}
 use Rattle.nv_machine.proofs.StoppedLives.{guarded_first, recovered}
+use Rattle.nv_machine.proofs.Caused.{caused}
 use Rattle.nv_machine.proofs.CountedFaults.{honest_ends}
 use Rattle.nv_machine.proofs.History.{last_is, prefix_memory, prefix_count, memory_on, count_on}
 
@@ -70,4 +71,5 @@ survived life lives chained =
       recovered = restored_of last lived;
       memory = whole_memory life lives chained r.image r.prefix;
       count = whole_count life lives chained r.image r.prefix;
+      cause = λ told. caused life lives chained r.slot r.image r.found (λ clear. told (ap (λ (arm : ℕ). verdict_of arm r.image.count) clear));
     }

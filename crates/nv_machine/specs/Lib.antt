@@ -13,4 +13,5 @@ pub mod Rising
 -- lives in a chain, and what a restore finds after them
 pub mod Opening
 pub mod Lives
+pub mod Causes
 pub mod Survival

@@ -1,5 +1,5 @@
 -- What a restore finds after lives, the last of which a stop ended at any of its moments.
-use Rattle.std.specs.Prelude.{◌≡◌, ◌≢◌, ℕ, ◌+◌, ◌≤◌, false, List, [], ◌∷◌, ◌++◌, length, All, Ok, Option, Some, None}
+use Rattle.std.specs.Prelude.{◌≡◌, ◌≢◌, ◌⊎◌, ℕ, ◌+◌, ◌≤◌, false, List, [], ◌∷◌, ◌++◌, length, All, Ok, Option, Some, None}
 use Rattle.line_memory.specs.declared.Write.{Write}
 use Rattle.line_memory.specs.Memory.{after}
 use Rattle.save_image.specs.Image.{Image}
@@ -18,6 +18,7 @@ use Rattle.nv_machine.specs.Guard.{HasCause}
 use Rattle.nv_machine.specs.Headline.{Run, MayFindMeanwhile, HasCauseMeanwhile}
 use Rattle.nv_machine.specs.Honesty.{IsSparedAlong}
 use Rattle.nv_machine.specs.Lives.{Unanswered, Lived, kept_writes, last_life}
+use Rattle.nv_machine.specs.Causes.{HasCauseSince, OpenedWith}
 
 -- the accepted writes of all lives, each life's cut at what the next one was opened with, and the last one's at this count
 abbrev pub history_to : List Lived → ℕ → List Write
@@ -68,8 +69,11 @@ pub record IsRecovered (life : Lived) (image : Image) : Type 0 where
   pub told : All (λ reply. told_mark reply ≤ acknowledged life) life.replies
 
 -- A restore after the last of these lives finds an image, whose memory is the one after a prefix of the writes accepted in all.
+-- Where it isn't complete one of the lives has a cause of its own since the image was made, or all of them began with it.
 pub record IsSurvived (life : Lived) (lives : List Lived) : Type 0 where
   pub image : Image
   pub recovered : IsRecovered (last_life life lives) image
   pub memory : image.memory ≡ after life.image.memory (history_to (life ∷ lives) image.count)
   pub count : image.count ≡ life.image.count + length (history_to (life ∷ lives) image.count)
+  pub cause : verdict_of image.arm image.count ≢ Complete
+      → HasCauseSince (life ∷ lives) image ⊎ OpenedWith image (life ∷ lives)
