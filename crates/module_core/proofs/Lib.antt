@@ -15,4 +15,6 @@ pub mod Emptied
 pub mod LossSteps
 pub mod LostModules
 pub mod RunsOn
+pub mod CallsInTurn
 pub mod ModulesLive
+pub mod HonestCalls

@@ -6,7 +6,7 @@ use Rattle.module_core.specs.ModuleLives.{LivesEndAfterEvents, LivesEndAnywhere,
 use Rattle.module_core.specs.Opening.{opened_with}
 use Rattle.module_core.specs.declared.opening.Opened.{Opened}
 use Rattle.nv_machine.proofs.StoppedLives.{since_is}
-use Rattle.nv_machine.proofs.JoinedRuns.{rests_charged, rests_here}
+use Rattle.nv_machine.proofs.JoinedRuns.{happens_now, rests_charged, rests_here}
 use Rattle.nv_machine.specs.Headline.{Happens, HappensNext, Run, given}
 use Rattle.nv_machine.specs.Lives.{IsLeftAt, Unanswered, moments_since, stop_moments}
 use Rattle.save_device.specs.Device.{MayLeave, Moment, moments_of}
@@ -17,27 +17,30 @@ use Rattle.module_core.proofs.RunsOn.{run_worlds}
 use Rattle.module_core.proofs.StoreSteps.{stop_now}
 
 -- A stop in a run: the events before the one that it left unanswered, that event if there is one, and the rest.
-record StopAmongEvents (setup : Setup) (events : List Event) (old : World) (bytes : List ℕ) : Type 0 where
+record StopAmongEvents (setup : Setup) (events : List Event) (replies : List Reply) (old new : World) (bytes : List ℕ) : Type 0 where
   front : List Event
   told : List Reply
   last : World
   unanswered : Option Unanswered
   rest : List Event
+  untold : List Reply
   parts : events ≡ front ++ unanswered_event unanswered ++ rest
+  told_are : replies ≡ told ++ untold
   run : Run setup front told old last
+  goes_on : Run setup (unanswered_event unanswered ++ rest) untold last new
   happens : ForSome unanswered (λ c. Happens setup c.event c.reply last c.next)
   left : IsLeftAt (stop_moments unanswered last.device) bytes
 
 -- A stop at any moment of a run came within one of its events, or after them.
-record Moments (setup : Setup) (events : List Event) (old new : World) : Type 0 where
+record Moments (setup : Setup) (events : List Event) (replies : List Reply) (old new : World) : Type 0 where
   since : List Moment
   keeps : moments_of new.device ≡ moments_of old.device ++ since
-  parts : (moment : Moment) → Contains (present old.device ∷ since) moment → (bytes : List ℕ) → MayLeave moment bytes → StopAmongEvents setup events old bytes
+  parts : (moment : Moment) → Contains (present old.device ∷ since) moment → (bytes : List ℕ) → MayLeave moment bytes → StopAmongEvents setup events replies old new bytes
 
 -- a stop within the first event
-cut_first : (setup : Setup) (event : Event) (events : List Event) (reply : Reply) (old mid : World) (bytes : List ℕ) → HappensNext setup event reply old mid
-    → IsLeftAt (moments_since old.device mid.device) bytes → StopAmongEvents setup (event ∷ events) old bytes
-cut_first setup event events reply old mid bytes next left =
+cut_first : (setup : Setup) (event : Event) (events : List Event) (reply : Reply) (replies : List Reply) (old mid new : World) (bytes : List ℕ) → HappensNext setup event reply old mid
+    → Run setup events replies mid new → IsLeftAt (moments_since old.device mid.device) bytes → StopAmongEvents setup (event ∷ events) (reply ∷ replies) old new bytes
+cut_first setup event events reply replies old mid new bytes next later left =
     let unanswered : Unanswered = record { event = event; reply = reply; next = mid } in let last : World = given next.gauge old in
     record {
       front = [];
@@ -45,28 +48,34 @@ cut_first setup event events reply old mid bytes next left =
       last = last;
       unanswered = Some unanswered;
       rest = events;
+      untold = reply ∷ replies;
       parts = refl;
+      told_are = refl;
       run = rests_charged old next.gauge next.rises;
+      goes_on = (mid, happens_now setup event reply last mid next.happens, later);
       happens = λ it is. let these : unanswered ≡ it = cc in subst (λ (x : Unanswered). Happens setup x.event x.reply last x.next) these next.happens;
       left = left;
     }
 
 -- a stop in a later one
-cut_later : (setup : Setup) (event : Event) (events : List Event) (reply : Reply) (old mid : World) (bytes : List ℕ) → HappensNext setup event reply old mid
-    → StopAmongEvents setup events mid bytes → StopAmongEvents setup (event ∷ events) old bytes
-cut_later setup event events reply old mid bytes happens p = record {
+cut_later : (setup : Setup) (event : Event) (events : List Event) (reply : Reply) (replies : List Reply) (old mid new : World) (bytes : List ℕ) → HappensNext setup event reply old mid
+    → StopAmongEvents setup events replies mid new bytes → StopAmongEvents setup (event ∷ events) (reply ∷ replies) old new bytes
+cut_later setup event events reply replies old mid new bytes happens p = record {
   front = event ∷ p.front;
   told = reply ∷ p.told;
   last = p.last;
   unanswered = p.unanswered;
   rest = p.rest;
+  untold = p.untold;
   parts = ap (λ (es : List Event). event ∷ es) p.parts;
+  told_are = ap (λ (rs : List Reply). reply ∷ rs) p.told_are;
   run = (mid, happens, p.run);
+  goes_on = p.goes_on;
   happens = p.happens;
   left = p.left;
 }
 
-run_moments : (setup : Setup) (events : List Event) (replies : List Reply) (old new : World) → Run setup events replies old new → Moments setup events old new
+run_moments : (setup : Setup) (events : List Event) (replies : List Reply) (old new : World) → Run setup events replies old new → Moments setup events replies old new
 run_moments setup [] [] old new run = record {
   since = [];
   keeps = ap (λ (w : World). moments_of w.device) run.is ∙ sym (append-nil (moments_of old.device));
@@ -76,8 +85,11 @@ run_moments setup [] [] old new run = record {
     last = old;
     unanswered = None;
     rest = [];
+    untold = [];
     parts = refl;
+    told_are = refl;
     run = rests_here old;
+    goes_on = run;
     happens = λ unanswered is. absurd (let bad : ⊥ = cc in bad);
     left = record { moment = moment; among = among; left = left };
   };
@@ -91,9 +103,9 @@ run_moments setup (event ∷ events) (reply ∷ replies) old new run =
           ⊎_elim
           (λ (here : Contains (present old.device ∷ within.since) moment).
           let is : moments_since old.device mid.device ≡ present old.device ∷ within.since = since_is old.device mid.device within.since within.keeps in
-          cut_first setup event events reply old mid bytes run.1 (record { moment = moment; among = subst (λ (ms : List Moment). Contains ms moment) (sym is) here; left = left }))
+          cut_first setup event events reply replies old mid new bytes run.1 run.2 (record { moment = moment; among = subst (λ (ms : List Moment). Contains ms moment) (sym is) here; left = left }))
           (λ (there : Contains later.since moment).
-          cut_later setup event events reply old mid bytes run.1 (later.parts moment (Contains-append_right (present mid.device ∷ []) later.since moment there) bytes left))
+          cut_later setup event events reply replies old mid new bytes run.1 (later.parts moment (Contains-append_right (present mid.device ∷ []) later.since moment there) bytes left))
           (Contains-append_cases (present old.device ∷ within.since) later.since moment among);
     }
 run_moments setup events replies old new none = absurd none
@@ -107,7 +119,7 @@ module _ {K : Type 0} (L : Ghosts K) where
 
   pub lives_after : LivesEndAfterEvents L
   lives_after found image events replies old new answered bytes left =
-      let first = opened_with found image in let r = answered.answers first answered.begins in record {
+      let first = opened_with found image in let r = answered.calls.answers first answered.begins in record {
         last = r.last;
         stands = r.stands;
         lived = record {
@@ -121,9 +133,9 @@ module _ {K : Type 0} (L : Ghosts K) where
 
   pub lives_within : LivesEndWithinEvent L
   lives_within found image events replies old new answered event reply later answers bytes left =
-      let first = opened_with found image in let r = answered.answers first answered.begins in let next = answers r.last r.stands in
+      let first = opened_with found image in let r = answered.calls.answers first answered.begins in let next = answers r.last r.stands in
       let unanswered : Unanswered = record { event = event; reply = reply; next = world_of L later next.0 } in
-      let happens : Happens (setup_of L old.it) event reply (world_of L new r.last) unanswered.next = subst (λ (s : Setup). Happens s event reply (world_of L new r.last) unanswered.next) answered.setup next.2.happens in record {
+      let happens : Happens (setup_of L old.it) event reply (world_of L new r.last) unanswered.next = subst (λ (s : Setup). Happens s event reply (world_of L new r.last) unanswered.next) answered.calls.setup next.2.happens in record {
         last = r.last;
         next = next.0;
         stands = r.stands;
@@ -138,7 +150,7 @@ module _ {K : Type 0} (L : Ghosts K) where
 
   pub lives_anywhere : LivesEndAnywhere L
   lives_anywhere found image events replies old new answered bytes left =
-      let first = opened_with found image in let r = answered.answers first answered.begins in let begins : World = world_of L old first in
+      let first = opened_with found image in let r = answered.calls.answers first answered.begins in let begins : World = world_of L old first in
       let all = run_moments (setup_of L old.it) events replies begins (world_of L new r.last) (run_worlds L (setup_of L old.it) events replies (point_of L old first) (point_of L new r.last) r.run) in
       let p = all.parts left.moment (subst (λ (ms : List Moment). Contains ms left.moment) (since_is old.device new.device all.since all.keeps) left.among) bytes left.left in
       record {
@@ -147,6 +159,11 @@ module _ {K : Type 0} (L : Ghosts K) where
         last = p.last;
         unanswered = p.unanswered;
         rest = p.rest;
+        untold = p.untold;
         parts = p.parts;
+        told_are = p.told_are;
+        now = r.last;
+        stands = r.stands;
+        goes_on = p.goes_on;
         lived = record { begins = refl; opened = opened_on found image old.it old.device answered.begins; run = p.run; unanswered = p.happens; left = p.left };
       }

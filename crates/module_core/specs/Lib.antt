@@ -8,5 +8,7 @@ pub mod Opening
 pub mod Stepping
 pub mod Closing
 -- what the laws say of modules
+pub mod InTurn
 pub mod ModuleLives
+pub mod HonestCalls
 pub mod Rising

@@ -6,10 +6,12 @@ use Rattle.channel_port.specs.declared.port.ChannelPort.{Ghosts}
 use Rattle.nv_machine.specs.declared.events.Event.{Event}
 use Rattle.nv_machine.specs.declared.events.Reply.{Reply}
 use Rattle.nv_machine.specs.State.{Machine, World}
+use Rattle.nv_machine.specs.Headline.{Run}
 use Rattle.nv_machine.specs.Lives.{Unanswered, Lived, IsLived, IsLeftAt, moments_since}
 use Rattle.module_core.specs.declared.opening.Opened.{Opened}
 use Rattle.module_core.specs.Opening.{opened_with}
-use Rattle.module_core.specs.Stands.{Assembly, ModuleStands, Answers, AnswersAll, setup_of, world_of}
+use Rattle.module_core.specs.Stands.{Assembly, ModuleStands, Answers, setup_of, world_of}
+use Rattle.module_core.specs.InTurn.{AnswersCalls}
 
 -- the event that a stop left unanswered, where it left one
 abbrev pub unanswered_event : Option Unanswered → List Event
@@ -20,8 +22,7 @@ module _ {K : Type 0} (L : Ghosts K) where
   -- a module that began with this image has answered these events
   pub record HasAnswered (found : Opened) (image : Image) (events : List Event) (replies : List Reply) (old new : Assembly L) : Type 0 where
     pub begins : ModuleStands L old.it old.device (opened_with found image)
-    pub answers : AnswersAll L events replies old new
-    pub setup : setup_of L new.it ≡ setup_of L old.it
+    pub calls : AnswersCalls L events replies old new
 
   -- its life: the machine that it stood for in the end, the event that a stop left unanswered, and the bytes that this left
   abbrev pub module_life : Opened → Image → List Event → List Reply → Assembly L → World → Option Unanswered → List ℕ → Lived
@@ -53,15 +54,21 @@ module _ {K : Type 0} (L : Ghosts K) where
     pub lived : let unanswered : Unanswered = record { event = event; reply = reply; next = world_of L later next } in
         IsLived (module_life found image events replies old (world_of L new last) (Some unanswered) bytes)
 
-  -- A stop among the events ended it: after those before the one that it left unanswered, or after all of them.
-  pub record EndsAmongEvents (found : Opened) (image : Image) (events : List Event) (old : Assembly L) (bytes : List ℕ) : Type 0 where
+  -- A stop among the events ended it: after those before the one that it left unanswered, or after all of them. Its replies are
+  -- the first of all replies, and the events go on from its last moment to the module as it is now.
+  pub record EndsAmongEvents (found : Opened) (image : Image) (events : List Event) (replies : List Reply) (old new : Assembly L) (bytes : List ℕ) : Type 0 where
     pub front : List Event
     pub told : List Reply
     pub last : World
     pub unanswered : Option Unanswered
     pub rest : List Event
+    pub untold : List Reply
     pub parts : events ≡ front ++ unanswered_event unanswered ++ rest
+    pub told_are : replies ≡ told ++ untold
     pub lived : IsLived (module_life found image front told old last unanswered bytes)
+    pub now : Machine
+    pub stands : ModuleStands L new.it new.device now
+    pub goes_on : Run (setup_of L old.it) (unanswered_event unanswered ++ rest) untold last (world_of L new now)
 
   -- a stop after the events of a module ends a life
   abbrev pub LivesEndAfterEvents : Type 0
@@ -80,4 +87,4 @@ module _ {K : Type 0} (L : Ghosts K) where
   abbrev pub LivesEndAnywhere : Type 0
   LivesEndAnywhere =
       (found : Opened) (image : Image) (events : List Event) (replies : List Reply) (old new : Assembly L) → HasAnswered found image events replies old new
-      → (bytes : List ℕ) → IsLeftAt (moments_since old.device new.device) bytes → EndsAmongEvents found image events old bytes
+      → (bytes : List ℕ) → IsLeftAt (moments_since old.device new.device) bytes → EndsAmongEvents found image events replies old new bytes

@@ -15,8 +15,10 @@ mod running;
 mod saves;
 mod stepping;
 mod telling;
+mod turns;
 
 pub use laws::{marks_rise, modules_live};
 pub use module::Module;
 pub use opening::{LifeTerms, Opened};
 pub use saves::Saves;
+pub use turns::{calls_in_turn, honest_modules};

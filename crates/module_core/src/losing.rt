@@ -51,6 +51,7 @@ impl<K: ChannelPort> Module<K> {
 
 impl<K: ChannelPort> Module<K> {
     ghost use Rattle.module_core.specs.Closing.{ClosesModule};
+    ghost use Rattle.module_core.specs.HonestCalls.{SavesWhereHonest};
     ghost use Rattle.module_core.specs.Stands.{Answers, HasDevice, SameButSaves, setup_of, assembly};
 
     // Drains the channels, and makes the save that was begun.
@@ -80,9 +81,15 @@ impl<K: ChannelPort> Module<K> {
     /// Mains were lost. Where acknowledged writes are to be saved, the channels are drained and all accepted writes are
     /// saved, each action paid for first; a payment that is refused or a fault of the device breaks it off. Disarmed, nothing
     /// is written.
+    ///
+    /// **With an honest gauge and a device that has counted no fault since the life began, the answer is `Saved` with all
+    /// accepted writes, and a restore finds them all, complete.**
     pub fn power_loss<D: SaveDevice, E: Energy>(&mut self, device: &mut D, energy: &mut E) -> Loss
         requires size { HasDevice K.ChannelPort self.old (D.state device.old) }
         ensures answers { Answers K.ChannelPort Event.Lose (Reply.Lose result)
+            (assembly self.old (D.state device.old) (E.gauge energy.old))
+            (assembly self.new (D.state device.new) (E.gauge energy.new)) }
+        ensures honest { SavesWhereHonest K.ChannelPort result
             (assembly self.old (D.state device.old) (E.gauge energy.old))
             (assembly self.new (D.state device.new) (E.gauge energy.new)) }
         ensures setup { setup_of K.ChannelPort self.new ≡ setup_of K.ChannelPort self.old }

@@ -10,6 +10,7 @@ use save_device::SaveDevice;
 use std::alloc::{AllocError, Global};
 
 impl<K: ChannelPort> Module<K> {
+    ghost use Rattle.module_core.specs.HonestCalls.{StaysWhereHonest};
     ghost use Rattle.module_core.specs.Stands.{Answers, AnswersAll, HasDevice, IsForChannels, setup_of, assembly};
 
     // Answers one event.
@@ -45,6 +46,9 @@ impl<K: ChannelPort> Module<K> {
     ///
     /// **The replies and the last state are a run of the machine**, at each moment of which a stop leaves what the machine
     /// says, whatever the device does; and after the last event the device's bytes restore to one of the machine's images.
+    ///
+    /// **With an honest gauge and a device that has counted no fault since the life began, no closing save was broken off; and
+    /// where no acknowledged write is still to be saved, a stop now leaves them all.**
     pub fn run<D: SaveDevice, E: Energy>(
         &mut self,
         alloc: Global,
@@ -55,6 +59,9 @@ impl<K: ChannelPort> Module<K> {
         requires channels { All (IsForChannels K.ChannelPort self.old) events.now }
         requires size { HasDevice K.ChannelPort self.old (D.state device.old) }
         ensures answers { IfOk result (λ replies. AnswersAll K.ChannelPort events.now replies.items
+            (assembly self.old (D.state device.old) (E.gauge energy.old))
+            (assembly self.new (D.state device.new) (E.gauge energy.new))) }
+        ensures honest { IfOk result (λ replies. StaysWhereHonest K.ChannelPort replies.items
             (assembly self.old (D.state device.old) (E.gauge energy.old))
             (assembly self.new (D.state device.new) (E.gauge energy.new))) }
         ensures setup { setup_of K.ChannelPort self.new ≡ setup_of K.ChannelPort self.old }

@@ -2,6 +2,7 @@ use Rattle.std.proofs.lemmas.List.{take_all}
 use Rattle.std.specs.Prelude.{take}
 use Rattle.energy_budget.proofs.Charging.{rises_none}
 use Rattle.module_core.proofs.Common.{[], ℕ, ◌+◌, ◌∙◌, ◌∷◌, AnswersAll, Event, List, Reply, ap, arith, assembly, length, length-append, rules, subst, sym}
+use Rattle.module_core.proofs.HonestCalls.{honest_calls}
 use Rattle.module_core.proofs.RunsOn.{none_answered, one_more}
 use Rattle.module_core.proofs.module.Module.run.Goals as goal
 
@@ -28,3 +29,9 @@ returns-clause-answers g c =
     let S = g.D.SaveDevice in let E = g.E.Energy in
     let old = assembly c.args.self.now (S.state c.args.device.now) (E.gauge c.args.energy.now) in let new = assembly c.loop-event.self (S.state c.loop-event.device) (E.gauge c.loop-event.energy) in
     subst (λ (es : List Event). AnswersAll g.K.ChannelPort es c.loop-event.replies.items old new) (take_all c.loop-event.event-index c.args.events.now c.loop-event-test.false) c.loop-event.invariant.answers
+
+pub returns-clause-honest : goal.returns-clause-honest
+returns-clause-honest g c =
+    let S = g.D.SaveDevice in let E = g.E.Energy in
+    let old = assembly c.args.self.now (S.state c.args.device.now) (E.gauge c.args.energy.now) in let new = assembly c.loop-event.self (S.state c.loop-event.device) (E.gauge c.loop-event.energy) in
+    honest_calls g.K.ChannelPort c.args.events.now c.loop-event.replies.items old new (record { answers = returns-clause-answers g c; setup = c.loop-event.invariant.setup })

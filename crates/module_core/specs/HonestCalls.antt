@@ -1,0 +1,72 @@
+-- What an honest gauge is enough for, read off the calls of a module, its gauge and its device.
+use Rattle.std.specs.Prelude.{◌≡◌, ℕ, ◌+◌, ◌≤◌, true, false, List, ◌++◌, All}
+use Rattle.save_image.specs.Image.{Image}
+use Rattle.save_device.specs.Device.{faults_of, present, StopsWithin}
+use Rattle.slot_store.specs.declared.slots.Slot.{Slot}
+use Rattle.slot_store.specs.declared.restoring.Verdict.TheVariants.{Complete}
+use Rattle.slot_store.specs.Outcomes.{Outcome, Found, restored, verdict_of}
+use Rattle.arm_state.specs.declared.loss.Loss.{Loss}
+use Rattle.arm_state.specs.declared.loss.Loss.TheVariants as loss
+use Rattle.arm_state.specs.Modes.{is_backed}
+use Rattle.energy_budget.specs.Gauge.{IsHonestThrough}
+use Rattle.channel_port.specs.declared.port.ChannelPort.{Ghosts}
+use Rattle.nv_machine.specs.declared.events.Event.{Event}
+use Rattle.nv_machine.specs.declared.events.Reply.{Reply}
+use Rattle.nv_machine.specs.declared.events.Reply.TheVariants as replies
+use Rattle.module_core.specs.declared.opening.Opened.{Opened}
+use Rattle.module_core.specs.Stands.{Assembly, lines_of_module, setup_of}
+use Rattle.module_core.specs.ModuleLives.{HasAnswered}
+
+-- no closing save was broken off
+abbrev pub IsWholeLoss : Reply → Type 0
+IsWholeLoss (replies.Lose loss.Dark) = ⊥
+IsWholeLoss (replies.Lose loss.Fault) = ⊥
+IsWholeLoss reply = Unit {0}
+
+-- a restore finds an image with at least so many writes
+pub record HoldsUpTo (count : ℕ) (outcome : Outcome) : Type 0 where
+  pub slot : Slot
+  pub image : Image
+  pub found : outcome ≡ Found slot image
+  pub holds : count ≤ image.count
+
+-- it finds a complete one with exactly so many
+pub record HoldsAll (count : ℕ) (outcome : Outcome) : Type 0 where
+  pub slot : Slot
+  pub image : Image
+  pub found : outcome ≡ Found slot image
+  pub count_is : image.count ≡ count
+  pub complete : verdict_of image.arm image.count ≡ Complete
+
+module _ {K : Type 0} (L : Ghosts K) where
+  -- Since then neither the gauge nor the device has counted a fault, and the gauge's leak isn't above that of the costs.
+  pub record IsFaultless (old new : Assembly L) : Type 0 where
+    pub gauge : IsHonestThrough (setup_of L old.it).shape.costs.numbers.leak old.gauge new.gauge
+    pub device : faults_of new.device ≡ faults_of old.device
+
+  -- whatever a stop now leaves of the bytes restores to what is so
+  abbrev pub RestoresTo : (Outcome → Type 0) → Assembly L → Type 0
+  RestoresTo P now = StopsWithin (λ bytes. P (restored (lines_of_module L now.it) bytes)) (present now.device)
+
+  -- No closing save was broken off; and unless acknowledged writes are still to be saved, a stop now leaves them all.
+  pub record StaysHonest (replies : List Reply) (now : Assembly L) : Type 0 where
+    pub losses : All IsWholeLoss replies
+    pub kept : is_backed now.it.mode ≡ false → RestoresTo (HoldsUpTo now.it.persisted) now
+
+  -- The loss of mains was answered by a save of all accepted writes, which a restore finds.
+  pub record SavesAllNow (lost : Loss) (old new : Assembly L) : Type 0 where
+    pub answered : lost ≡ loss.Saved (old.it.saves.newest.generation + 1) old.it.accepted
+    pub restores : RestoresTo (HoldsAll old.it.accepted) new
+
+  -- Where neither has counted a fault since the beginning of the life, a loss of mains saves all while acknowledged writes are
+  -- to be saved.
+  abbrev pub SavesWhereHonest : Loss → Assembly L → Assembly L → Type 0
+  SavesWhereHonest lost old new =
+      (found : Opened) (image : Image) (before : List Event) (told : List Reply) (first : Assembly L) → HasAnswered L found image before told first old
+      → IsFaultless first new → is_backed old.it.mode ≡ true → SavesAllNow lost old new
+
+  -- the same of calls in turn: what was so far, and what they answer, stays honest
+  abbrev pub StaysWhereHonest : List Reply → Assembly L → Assembly L → Type 0
+  StaysWhereHonest replies old new =
+      (found : Opened) (image : Image) (before : List Event) (told : List Reply) (first : Assembly L) → HasAnswered L found image before told first old
+      → IsFaultless first new → StaysHonest (told ++ replies) new
