@@ -5,7 +5,7 @@ use Rattle.energy_budget.specs.Charging.{RisesTo}
 
 -- it wasn't touched
 pub rises_none : (gauge : Gauge) → RisesTo gauge gauge
-rises_none gauge = record { rises = λ same. omega arith; counted = omega arith; same_leak = refl; same_darks = refl; unasked = refl }
+rises_none gauge = record { rises = λ same. omega arith; counted = omega arith; same_leak = refl; unasked = refl }
 
 -- it was charged twice
 pub rises_twice : (a b c : Gauge) → RisesTo a b → RisesTo b c → RisesTo a c
@@ -15,6 +15,5 @@ rises_twice a b c first second = record {
       omega (arith, first.rises middle, second.rises (same ∙ sym middle));
   counted = omega (arith, first.counted, second.counted);
   same_leak = second.same_leak ∙ first.same_leak;
-  same_darks = second.same_darks ∙ first.same_darks;
   unasked = second.unasked ∙ first.unasked;
 }

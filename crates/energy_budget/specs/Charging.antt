@@ -7,5 +7,4 @@ pub record RisesTo (old new : Gauge) : Type 0 where
   pub rises : new.faults ≡ old.faults → old.level ≤ new.level
   pub counted : KeepsFaults old new
   pub same_leak : new.leak ≡ old.leak
-  pub same_darks : new.darks ≡ old.darks
   pub unasked : new.calls ≡ old.calls

@@ -1,6 +1,8 @@
 -- What contracts see of a gauge, and what its calls may do to it.
-use Rattle.std.specs.Prelude.{◌≡◌, ◌<◌, ◌≤◌, ◌+◌, ◌↔◌, ℕ, Result, IsErr, OnOk, OnErr}
+use Rattle.std.specs.Prelude.{◌≡◌, ◌<◌, ◌≤◌, ◌+◌, ◌↔◌, ℕ, List, [], ◌∷◌, ◌++◌, Result, IsErr}
 use Rattle.energy_budget.specs.declared.energy.Dark.{Dark}
+use Rattle.energy_budget.specs.declared.energy.GaugeCall.{GaugeCall}
+use Rattle.energy_budget.specs.declared.energy.GaugeCall.TheVariants.{Pay}
 
 pub record Gauge : Type 0 where
   -- the energy that it has
@@ -9,23 +11,20 @@ pub record Gauge : Type 0 where
   pub leak : ℕ
   -- how often it broke its rules
   pub faults : ℕ
-  -- how many payments it refused
-  pub darks : ℕ
-  -- how many calls it had
-  pub calls : ℕ
+  -- the calls that it had, the oldest first
+  pub calls : List GaugeCall
 
 -- the rules of a reading, on mains: the level falls by at most the leak, and the answer is the level after that
 pub record KeepsReading (old : Gauge) (answer : ℕ) (new : Gauge) : Type 0 where
   pub falls : old.level ≤ new.level + old.leak
   pub told : answer ≡ new.level
 
--- a reading: a fault is counted exactly where it breaks the rules
-pub record ReadsLevel (old : Gauge) (answer : ℕ) (new : Gauge) : Type 0 where
+-- A reading by a call of this kind: a fault is counted exactly where it breaks the rules.
+pub record ReadsLevel (kind : GaugeCall) (old : Gauge) (answer : ℕ) (new : Gauge) : Type 0 where
   pub breach : new.faults ≡ old.faults ↔ KeepsReading old answer new
   pub counted : old.faults ≤ new.faults
   pub same_leak : new.leak ≡ old.leak
-  pub same_darks : new.darks ≡ old.darks
-  pub called : new.calls ≡ old.calls + 1
+  pub called : new.calls ≡ old.calls ++ kind ∷ []
 
 -- the rules of a payment, on backup: the level falls by at most the cost, which is refused only where the level is under it
 pub record KeepsPayment (old : Gauge) (cost : ℕ) (result : Result (Unit {0}) Dark) (new : Gauge) : Type 0 where
@@ -37,9 +36,7 @@ pub record PaysCost (old : Gauge) (cost : ℕ) (result : Result (Unit {0}) Dark)
   pub breach : new.faults ≡ old.faults ↔ KeepsPayment old cost result new
   pub counted : old.faults ≤ new.faults
   pub same_leak : new.leak ≡ old.leak
-  pub paid : OnOk result (new.darks ≡ old.darks)
-  pub dark : OnErr result (new.darks ≡ old.darks + 1)
-  pub called : new.calls ≡ old.calls + 1
+  pub called : new.calls ≡ old.calls ++ Pay ∷ []
 
 -- no fault that was counted is forgotten
 abbrev pub KeepsFaults : Gauge → Gauge → Type 0

@@ -1,5 +1,5 @@
 -- A meter, as a gauge.
-use Rattle.std.specs.Prelude.{ℕ, Option, length, unwrap_or}
+use Rattle.std.specs.Prelude.{ℕ, Option, unwrap_or}
 use Rattle.energy_budget.specs.declared.meter.Meter.{Meter}
 use Rattle.energy_budget.specs.Gauge.{Gauge}
 use Rattle.energy_budget.specs.Tally.{count_of}
@@ -18,7 +18,7 @@ abbrev pub fault_count_of : Meter → ℕ
 fault_count_of m = count_of m.faults
 
 abbrev pub meter_gauge : Meter → Gauge
-meter_gauge m = record { level = m.level; leak = m.leak; faults = count_of m.faults; darks = length m.refused.items; calls = length m.calls.items }
+meter_gauge m = record { level = m.level; leak = m.leak; faults = count_of m.faults; calls = m.calls.items }
 
 -- how much can be paid
 abbrev pub payable_of : Meter → ℕ

@@ -1,5 +1,5 @@
 -- A gauge that answers from a list of words.
-use Rattle.std.specs.Prelude.{ℕ, List, Option, length, slice_get, unwrap_or}
+use Rattle.std.specs.Prelude.{ℕ, List, Option, slice_get, unwrap_or}
 use Rattle.std.specs.Vec.Iter.{into_iter_items}
 use Rattle.energy_budget.specs.declared.wild.Wild.{Wild}
 use Rattle.energy_budget.specs.Gauge.{Gauge}
@@ -17,4 +17,4 @@ abbrev pub level_found : Wild → ℕ
 level_found w = unwrap_or (next_word w) 0
 
 abbrev pub wild_gauge : Wild → Gauge
-wild_gauge w = record { level = w.level; leak = 0; faults = count_of w.faults; darks = length w.refused.items; calls = length w.calls.items }
+wild_gauge w = record { level = w.level; leak = 0; faults = count_of w.faults; calls = w.calls.items }

@@ -1,6 +1,7 @@
 // A gauge as its callers see it.
 ghost use Rattle.std.specs.Prelude.{◌≡◌, ◌-◌, ◌^◌, min};
 ghost use Rattle.energy_budget.specs.Gauge.{Gauge, ReadsLevel, PaysCost};
+ghost use Rattle.energy_budget.specs.declared.energy.GaugeCall.TheVariants.{Sense, Tick};
 
 use thiserror::Error;
 
@@ -8,6 +9,14 @@ use thiserror::Error;
 #[derive(Clone, Copy, Debug, PartialEq, Eq, Error)]
 #[error("the energy is spent")]
 pub struct Dark;
+
+/// What a call of a gauge is: a reading on mains, one at a step of a save or at the loss of mains, or a payment on backup.
+#[derive(Clone, Copy, Debug, PartialEq, Eq)]
+pub enum GaugeCall {
+    Sense,
+    Tick,
+    Pay,
+}
 
 /// A gauge of the energy for a closing save, in whole units.
 ///
@@ -22,11 +31,11 @@ pub trait Energy {
 
     /// The level.
     fn sense(&mut self) -> u64
-        ensures { ReadsLevel (gauge self.old) result (gauge self.new) };
+        ensures { ReadsLevel Sense (gauge self.old) result (gauge self.new) };
 
     /// The level, at a step of a save on mains or at the loss of mains.
     fn tick(&mut self) -> u64
-        ensures { ReadsLevel (gauge self.old) result (gauge self.new) };
+        ensures { ReadsLevel Tick (gauge self.old) result (gauge self.new) };
 
     /// Takes the cost from the level, or refuses to.
     fn pay(&mut self, cost: u64) -> Result<(), Dark>

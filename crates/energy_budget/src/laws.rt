@@ -1,5 +1,6 @@
 // What the sums say in other words.
 ghost use Rattle.std.specs.Prelude.{◌≡◌, ℕ, ◌≤◌, ◌+◌, ◌*◌, List, ◌∷◌, ◌++◌, length, sum, Result, IsOk};
+ghost use Rattle.energy_budget.specs.declared.energy.GaugeCall.{GaugeCall};
 ghost use Rattle.energy_budget.specs.Gauge.{Gauge, ReadsLevel, PaysCost, KeepsFaults, IsHonestThrough};
 ghost use Rattle.energy_budget.specs.declared.action.Action.{Action};
 ghost use Rattle.energy_budget.specs.declared.energy.Dark.{Dark};
@@ -73,15 +74,15 @@ pub fn cost_of_a_closing_save()
 /// the rest. A gauge that is honest through calls, none of which lowers its count of faults, is honest through the first and
 /// the last of them.
 pub fn honest_gauges()
-    ensures falls { (leak answer : ℕ) (old new : Gauge)
-        → ReadsLevel old answer new → IsHonestThrough leak old new → old.level ≤ new.level + leak }
-    ensures told { (leak answer : ℕ) (old new : Gauge)
-        → ReadsLevel old answer new → IsHonestThrough leak old new → answer ≡ new.level }
-    ensures backs { (costs : Costs) (k ticks answer : ℕ) (old new : Gauge)
-        → ReadsLevel old answer new → IsHonestThrough costs.numbers.leak old new
+    ensures falls { (kind : GaugeCall) (leak answer : ℕ) (old new : Gauge)
+        → ReadsLevel kind old answer new → IsHonestThrough leak old new → old.level ≤ new.level + leak }
+    ensures told { (kind : GaugeCall) (leak answer : ℕ) (old new : Gauge)
+        → ReadsLevel kind old answer new → IsHonestThrough leak old new → answer ≡ new.level }
+    ensures backs { (kind : GaugeCall) (costs : Costs) (k ticks answer : ℕ) (old new : Gauge)
+        → ReadsLevel kind old answer new → IsHonestThrough costs.numbers.leak old new
         → backing_level costs k (ticks + 1) ≤ old.level → backing_level costs k ticks ≤ new.level }
-    ensures reserves { (costs : Costs) (k ticks answer : ℕ) (old new : Gauge)
-        → ReadsLevel old answer new → IsHonestThrough costs.numbers.leak old new
+    ensures reserves { (kind : GaugeCall) (costs : Costs) (k ticks answer : ℕ) (old new : Gauge)
+        → ReadsLevel kind old answer new → IsHonestThrough costs.numbers.leak old new
         → backing_level costs k ticks ≤ old.level → reserve costs k ≤ new.level }
     ensures paid { (leak cost rest : ℕ) (result : Result (Unit {0}) Dark) (old new : Gauge)
         → PaysCost old cost result new → IsHonestThrough leak old new

@@ -14,6 +14,6 @@ mod wild;
 
 pub use action::Action;
 pub use costs::{CostNumbers, Costs, TINY_COSTS};
-pub use energy::{Dark, Energy};
+pub use energy::{Dark, Energy, GaugeCall};
 pub use meter::Meter;
 pub use wild::Wild;

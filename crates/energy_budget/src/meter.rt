@@ -2,9 +2,10 @@
 ghost use Rattle.std.specs.Prelude.{◌≡◌, ◌+◌, ◌-◌, ◌≤◌, ◌↔◌, Some, None, IsOk, OnOk, OnErr, if◌then◌else◌, nat_lt};
 ghost use Rattle.std.specs.Option.{option_map};
 ghost use Rattle.energy_budget.specs.Gauge.{ReadsLevel, PaysCost};
+ghost use Rattle.energy_budget.specs.declared.energy.GaugeCall.TheVariants.{Sense, Tick};
 
 use crate::tally::Tally;
-use crate::{Dark, Energy};
+use crate::{Dark, Energy, GaugeCall};
 use ghost_trace::Trace;
 
 /// A gauge whose level is set from outside. Each reading takes its leak from the level, and each payment the cost, never
@@ -18,8 +19,7 @@ pub struct Meter {
     leak: u64,
     lie: Option<u64>,
     faults: Tally,
-    refused: Trace<()>,
-    calls: Trace<()>,
+    calls: Trace<GaugeCall>,
 }
 
 impl Meter {
@@ -37,7 +37,6 @@ impl Meter {
             leak,
             lie: None,
             faults: Tally::new(),
-            refused: Trace::new(),
             calls: Trace::new(),
         }
     }
@@ -72,6 +71,19 @@ impl Meter {
         self.lie = None;
     }
 
+    // Reads the level in a call of this kind, which takes the leak from it.
+    fn read(&mut self, kind: GaugeCall) -> u64
+        ensures reads { ReadsLevel kind (meter_gauge self.old) result (meter_gauge self.new) }
+        ensures level { level_of self.new ≡ level_of self.old - leak_of self.old }
+        ensures faults { fault_count_of self.new ≡ fault_count_of self.old }
+        ensures lie { lie_of self.new ≡ lie_of self.old }
+    {
+        self.calls.note(&kind);
+        let shown = self.level.saturating_sub(self.leak);
+        self.level = shown;
+        shown
+    }
+
     // Takes a cost from the level and from what can be paid.
     fn take(&mut self, cost: u64)
         requires { cost ≤ payable_of self.old }
@@ -92,24 +104,21 @@ impl Energy for Meter {
     ghost gauge = { meter_gauge };
 
     fn sense(&mut self) -> u64
-        ensures reads { ReadsLevel (meter_gauge self.old) result (meter_gauge self.new) }
+        ensures reads { ReadsLevel Sense (meter_gauge self.old) result (meter_gauge self.new) }
         ensures level { level_of self.new ≡ level_of self.old - leak_of self.old }
         ensures faults { fault_count_of self.new ≡ fault_count_of self.old }
         ensures lie { lie_of self.new ≡ lie_of self.old }
     {
-        self.calls.note(&());
-        let shown = self.level.saturating_sub(self.leak);
-        self.level = shown;
-        shown
+        self.read(GaugeCall::Sense)
     }
 
     fn tick(&mut self) -> u64
-        ensures reads { ReadsLevel (meter_gauge self.old) result (meter_gauge self.new) }
+        ensures reads { ReadsLevel Tick (meter_gauge self.old) result (meter_gauge self.new) }
         ensures level { level_of self.new ≡ level_of self.old - leak_of self.old }
         ensures faults { fault_count_of self.new ≡ fault_count_of self.old }
         ensures lie { lie_of self.new ≡ lie_of self.old }
     {
-        self.sense()
+        self.read(GaugeCall::Tick)
     }
 
     fn pay(&mut self, cost: u64) -> Result<(), Dark>
@@ -121,9 +130,8 @@ impl Energy for Meter {
         ensures err { OnErr result (level_of self.new ≡ level_of self.old) }
         ensures lie { OnErr result (lie_of self.new ≡ lie_of self.old) }
     {
-        self.calls.note(&());
+        self.calls.note(&GaugeCall::Pay);
         if self.lie.unwrap_or(self.level) < cost {
-            self.refused.note(&());
             if cost <= self.level {
                 self.faults.add();
             }

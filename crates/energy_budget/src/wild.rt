@@ -1,9 +1,10 @@
 // A gauge that does as it is told, honest or not.
 ghost use Rattle.std.specs.Prelude.{◌≡◌, ◌+◌, ◌-◌, ◌≤◌, ◌↔◌, [], IsOk, OnOk, OnErr, IsSomeAnd, drop};
 ghost use Rattle.energy_budget.specs.Gauge.{ReadsLevel, PaysCost};
+ghost use Rattle.energy_budget.specs.declared.energy.GaugeCall.TheVariants.{Sense, Tick};
 
 use crate::tally::Tally;
-use crate::{Dark, Energy};
+use crate::{Dark, Energy, GaugeCall};
 use ghost_trace::Trace;
 use std::vec::IntoIter;
 
@@ -15,26 +16,39 @@ pub struct Wild {
     words: IntoIter<u64>,
     level: u64,
     faults: Tally,
-    refused: Trace<()>,
-    calls: Trace<()>,
+    calls: Trace<GaugeCall>,
 }
 
 impl Wild {
-    ghost use Rattle.energy_budget.specs.Wild.{words_of, wild_gauge};
+    ghost use Rattle.energy_budget.specs.Wild.{words_of, level_found, wild_gauge};
 
     /// A gauge with level 0 that answers from these words.
     pub fn new(words: Vec<u64>) -> Wild
         ensures words { words_of result ≡ words.items }
         ensures gauge { wild_gauge result
-            ≡ record { level = 0; leak = 0; faults = 0; darks = 0; calls = 0 } }
+            ≡ record { level = 0; leak = 0; faults = 0; calls = [] } }
     {
         Wild {
             words: words.into_iter(),
             level: 0,
             faults: Tally::new(),
-            refused: Trace::new(),
             calls: Trace::new(),
         }
+    }
+
+    // Answers the next word in a call of this kind.
+    fn read(&mut self, kind: GaugeCall) -> u64
+        ensures reads { ReadsLevel kind (wild_gauge self.old) result (wild_gauge self.new) }
+        ensures word { result ≡ level_found self.old }
+        ensures rest { words_of self.new ≡ drop 1 (words_of self.old) }
+    {
+        self.calls.note(&kind);
+        let word = self.words.next().unwrap_or(0);
+        if word < self.level {
+            self.faults.add();
+        }
+        self.level = word;
+        word
     }
 }
 
@@ -44,25 +58,19 @@ impl Energy for Wild {
     ghost gauge = { wild_gauge };
 
     fn sense(&mut self) -> u64
-        ensures reads { ReadsLevel (wild_gauge self.old) result (wild_gauge self.new) }
+        ensures reads { ReadsLevel Sense (wild_gauge self.old) result (wild_gauge self.new) }
         ensures word { result ≡ level_found self.old }
         ensures rest { words_of self.new ≡ drop 1 (words_of self.old) }
     {
-        self.calls.note(&());
-        let word = self.words.next().unwrap_or(0);
-        if word < self.level {
-            self.faults.add();
-        }
-        self.level = word;
-        word
+        self.read(GaugeCall::Sense)
     }
 
     fn tick(&mut self) -> u64
-        ensures reads { ReadsLevel (wild_gauge self.old) result (wild_gauge self.new) }
+        ensures reads { ReadsLevel Tick (wild_gauge self.old) result (wild_gauge self.new) }
         ensures word { result ≡ level_found self.old }
         ensures rest { words_of self.new ≡ drop 1 (words_of self.old) }
     {
-        self.sense()
+        self.read(GaugeCall::Tick)
     }
 
     fn pay(&mut self, cost: u64) -> Result<(), Dark>
@@ -72,7 +80,7 @@ impl Energy for Wild {
         ensures err { OnErr result (level_found self.old ≡ (wild_gauge self.new).level) }
         ensures rest { words_of self.new ≡ drop 1 (words_of self.old) }
     {
-        self.calls.note(&());
+        self.calls.note(&GaugeCall::Pay);
         let level = self.level;
         match self.words.next() {
             Some(word) if cost <= word => {
@@ -84,7 +92,6 @@ impl Energy for Wild {
             }
             word => {
                 self.level = word.unwrap_or(0);
-                self.refused.note(&());
                 if cost <= level {
                     self.faults.add();
                 }

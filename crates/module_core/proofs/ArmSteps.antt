@@ -16,7 +16,7 @@ use Rattle.arm_state.specs.declared.mode.Mode.TheVariants as modes
 use Rattle.arm_state.specs.declared.refusal.ArmRefusal.TheVariants as refusals
 use Rattle.nv_machine.specs.declared.events.Event.TheVariants as events
 use Rattle.nv_machine.specs.declared.events.Reply.TheVariants as replies
-use Rattle.module_core.proofs.Common.{ℕ, ◌<◌, ◌∙◌, ◌≡◌, ◌≤◌, Assembly, DeviceState, Err, Gauge, Ghosts, HappensAt, HoldsWhile, IsAmong, IsResting, LeavesOnly, Machine, Matches, Mode, Module, ModuleStands, None, Option, Outcome, ReadsLevel, Result, RunningSave, AreSameSave, SaveRun, Setup, Slot, Some, Store, Waits, World, ap, armed, assembly, false, has_ended, is_armed, is_backed, length, lines_of_module, marks, point_of, rearmed, restored, rules, saves_of, setup_of, subst, sym, true, view_of, weaker, world_of}
+use Rattle.module_core.proofs.Common.{ℕ, ◌<◌, ◌∙◌, ◌≡◌, ◌≤◌, Assembly, DeviceState, Err, Gauge, GaugeCall, Ghosts, HappensAt, HoldsWhile, IsAmong, IsResting, LeavesOnly, Machine, Matches, Mode, Module, ModuleStands, None, Option, Outcome, ReadsLevel, Result, RunningSave, AreSameSave, SaveRun, Setup, Slot, Some, Store, Waits, World, ap, armed, assembly, false, has_ended, is_armed, is_backed, length, lines_of_module, marks, point_of, rearmed, restored, rules, saves_of, setup_of, subst, sym, true, view_of, weaker, world_of}
 use Rattle.module_core.proofs.Applying.{asked}
 
 -- such a refusal comes before the arm byte is written
@@ -65,7 +65,7 @@ module _ {K : Type 0} (L : Ghosts K) (old : Module K L) (m : Machine) (h : Match
   pub needs : (need : ℕ) → need ≡ need_for (setup_of L old) (length (view_of L old.channels).waits.writes) → need ≡ need_for (setup_of L old) (pending_of m)
   needs need is = is ∙ ap (λ (w : Waits). need_for (setup_of L old) (length w.writes)) h.carried.waits
 
-  pub may_arm : (device : DeviceState) (before : Gauge) (new : World) (need : ℕ) → need ≡ need_for (setup_of L old) (length (view_of L old.channels).waits.writes) → need ≤ new.machine.reading → ReadsLevel before new.machine.reading new.gauge
+  pub may_arm : (device : DeviceState) (before : Gauge) (new : World) (need : ℕ) → need ≡ need_for (setup_of L old) (length (view_of L old.channels).waits.writes) → need ≤ new.machine.reading → ReadsLevel GaugeCall.Sense before new.machine.reading new.gauge
       → MayArm (setup_of L old) (record { machine = m; device = device; gauge = before }) new
   may_arm device before new need is enough reads = record { unarmed = unarmed; unrefused = unrefused; reads = reads; enough = subst (λ (k : ℕ). k ≤ new.machine.reading) (needs need is) enough }
 

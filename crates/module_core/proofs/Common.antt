@@ -14,6 +14,7 @@ pub use Rattle.channel_set.specs.Carrying.{WaitsFrom}
 pub use Rattle.channel_set.specs.Set.{ChannelsView, shape_of, view_of}
 pub use Rattle.energy_budget.specs.Actions.{cost_of, save_actions}
 pub use Rattle.energy_budget.specs.Gauge.{Gauge, ReadsLevel}
+pub use Rattle.energy_budget.specs.declared.energy.GaugeCall.{GaugeCall}
 pub use Rattle.energy_budget.specs.declared.action.Action.{Action}
 pub use Rattle.energy_budget.specs.declared.costs.Costs.{Costs}
 pub use Rattle.energy_budget.specs.declared.energy.Dark.{Dark}

@@ -19,7 +19,7 @@ use Rattle.save_device.specs.Calls.{all_good}
 use Rattle.arm_state.specs.declared.loss.Loss.TheVariants as loss
 use Rattle.arm_state.specs.declared.mode.Mode.TheVariants as modes
 use Rattle.slot_store.specs.declared.source.BrokenOff.TheVariants as broken
-use Rattle.module_core.proofs.Common.{[], ℕ, ◌++◌, ◌+◌, ◌-◌, ◌<◌, ◌∙◌, ◌∷◌, ◌≡◌, Action, Costs, Dark, DeviceState, Err, Gauge, Image, IsAmong, LeavesOnly, List, Machine, Mode, None, Ok, ReachesStore, ReadsLevel, Setup, Some, StopsWithin, Store, Waiting, World, after, after_steps, ap, append-nil, arith, false, inl, inr, is_backed, length, length-append, made_of, more, present, refl, restored, rules, save_actions, saved_in, started, step_failed, subst, suc, sym, take, true}
+use Rattle.module_core.proofs.Common.{[], ℕ, ◌++◌, ◌+◌, ◌-◌, ◌<◌, ◌∙◌, ◌∷◌, ◌≡◌, Action, Costs, Dark, DeviceState, Err, Gauge, GaugeCall, Image, IsAmong, LeavesOnly, List, Machine, Mode, None, Ok, ReachesStore, ReadsLevel, Setup, Some, StopsWithin, Store, Waiting, World, after, after_steps, ap, append-nil, arith, false, inl, inr, is_backed, length, length-append, made_of, more, present, refl, restored, rules, save_actions, saved_in, started, step_failed, subst, suc, sym, take, true}
 use Rattle.module_core.proofs.RunningSaves.{failed_none}
 
 -- where the payments stopped
@@ -42,7 +42,7 @@ get_behind xs ys k x is =
     slice_get_read (xs ++ ys) (length (xs ++ ys)) (length xs + k) x refl (omega (arith, inside, length-append xs ys)) (sym (get_or-append-add xs ys k x ∙ get_or_from_slice_get ys k x x is))
 
 -- The module closes: with this trail, from the channels, saves, device and gauge of `old` on.
-module _ (trail : ℕ) (m : Machine) (before : Gauge) (reading : ℕ) (old new : ClosingAt) (reads : ReadsLevel before reading old.at.gauge) (backed : is_backed m.mode ≡ true)
+module _ (trail : ℕ) (m : Machine) (before : Gauge) (reading : ℕ) (old new : ClosingAt) (reads : ReadsLevel GaugeCall.Tick before reading old.at.gauge) (backed : is_backed m.mode ≡ true)
     (writes : old.channels.waits.writes ≡ m.waits.writes) (no_reads : old.channels.waits.reads ≡ []) where
   abbrev pub setup : Setup
   setup = record { shape = old.channels.shape; trail = trail }

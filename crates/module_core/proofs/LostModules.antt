@@ -15,7 +15,7 @@ use Rattle.arm_state.specs.declared.mode.Mode.TheVariants as modes
 use Rattle.slot_store.specs.declared.source.BrokenOff.TheVariants as broken
 use Rattle.nv_machine.specs.declared.events.Event.TheVariants as events
 use Rattle.nv_machine.specs.declared.events.Reply.TheVariants as replies
-use Rattle.module_core.proofs.Common.{[], ℕ, ◌∙◌, ◌≡◌, Assembly, BeginsSave, ChannelsView, Err, Gauge, Ghosts, HappensAt, HoldsWhile, Image, IsAmong, IsMemory, IsReadyToClose, IsResting, List, Machine, Matches, Mode, Module, ModuleStands, Newest, None, Ok, Option, ReachesStore, ReadsLevel, SaveRun, Shape, Some, StopsWithin, Store, Waits, after, ap, assembly, base_of_life, begun, begun_save, false, has_ended, hold_of, inl, is_backed, lines_of_module, made_of, memory_of, point_of, present, refl, restored, rules, saved_in, saves_at, setup_of, shape_of, start_of_life, started, subst, sym, true, view_of, weaker, world_of}
+use Rattle.module_core.proofs.Common.{[], ℕ, ◌∙◌, ◌≡◌, Assembly, BeginsSave, ChannelsView, Err, Gauge, GaugeCall, Ghosts, HappensAt, HoldsWhile, Image, IsAmong, IsMemory, IsReadyToClose, IsResting, List, Machine, Matches, Mode, Module, ModuleStands, Newest, None, Ok, Option, ReachesStore, ReadsLevel, SaveRun, Shape, Some, StopsWithin, Store, Waits, after, ap, assembly, base_of_life, begun, begun_save, false, has_ended, hold_of, inl, is_backed, lines_of_module, made_of, memory_of, point_of, present, refl, restored, rules, saved_in, saves_at, setup_of, shape_of, start_of_life, started, subst, sym, true, view_of, weaker, world_of}
 use Rattle.module_core.proofs.Applying.{asked, same_setup}
 use Rattle.module_core.proofs.Knowing.{holds_begun}
 use Rattle.module_core.proofs.LossSteps.{all_saved, dark, fault, saved_on}
@@ -133,7 +133,7 @@ module _ {K : Type 0} (L : Ghosts K) where
         )
 
     -- After a tick a save of all was begun; then the channels were drained and the save was made, or both were broken off.
-    module _ (on : is_backed old.it.mode ≡ true) (reading : ℕ) (ticked : Gauge) (reads : ReadsLevel old.gauge reading ticked) (begun : Module K L) (ends : EndsMains L reading old.it begun)
+    module _ (on : is_backed old.it.mode ≡ true) (reading : ℕ) (ticked : Gauge) (reads : ReadsLevel GaugeCall.Tick old.gauge reading ticked) (begun : Module K L) (ends : EndsMains L reading old.it begun)
         (begins : BeginsSave old.it.saves old.it.accepted false (lines_of_module L old.it) begun.saves)
         (new : Assembly L) (numbers : SameNumbers L begun new.it) (shown : new.it.reading ≡ begun.reading) (keeps : KeepsAll L begun.channels new.it.channels) where
       abbrev emptied : ChannelsView

@@ -2,10 +2,10 @@
 use Rattle.nv_machine.specs.Machine.{Calls, MadeStep, MayStep, SaveStepStep, is_made, waits_at}
 use Rattle.nv_machine.specs.declared.events.StepReply.{StepReply}
 use Rattle.save_image.specs.Body.{page_of}
-use Rattle.module_core.proofs.Common.{[], ℕ, ◌∙◌, ◌∷◌, ◌≡◌, Bool, ForSome, GivesPage, List, Machine, NoneBelow, Page, Plan, ReadsLevel, RunningSave, Setup, Step, WaitsFrom, World, ap, closed_before, false, hold_at, is_low, read_as, refl, rules, step_call}
+use Rattle.module_core.proofs.Common.{[], ℕ, ◌∙◌, ◌∷◌, ◌≡◌, Bool, ForSome, GivesPage, List, Machine, NoneBelow, Page, Plan, ReadsLevel, RunningSave, Setup, Step, WaitsFrom, World, ap, closed_before, false, hold_at, is_low, read_as, refl, rules, step_call, GaugeCall}
 
 -- the machine's step, of what the module did after the reading
-pub whole_step : (setup : Setup) (old new : World) (save : RunningSave) (reading : ℕ) (reply : StepReply) → MayStep old.machine save → ReadsLevel old.gauge reading new.gauge → is_low setup (read_as reading old.machine) ≡ false
+pub whole_step : (setup : Setup) (old new : World) (save : RunningSave) (reading : ℕ) (reply : StepReply) → MayStep old.machine save → ReadsLevel GaugeCall.Tick old.gauge reading new.gauge → is_low setup (read_as reading old.machine) ≡ false
     → Calls (step_call old.machine.store.closed save.next ∷ []) (is_made reply) old new → MadeStep setup.shape.lines save reply (read_as reading old.machine) new.machine → SaveStepStep setup reply old new
 whole_step setup old new save reading reply ready reads enough calls did = search rules
 

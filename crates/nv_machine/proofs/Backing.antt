@@ -2,7 +2,7 @@
 use Rattle.slot_store.specs.Steps.{reach_of}
 use Rattle.energy_budget.proofs.Rising.{backing_level-le, needed_level-le}
 use Rattle.channel_port.specs.Shape.{IsShape}
-use Rattle.nv_machine.proofs.Common.{arith, false, length, ℕ, ◌+◌, ◌≡◌, ◌≢◌, ◌≤◌, ForSome, Step, is_armed, is_backed, Mode, backing_level-ticks, need_backs, Gauge, IsHonestThrough, ReadsLevel, backing_level, Costs, Waits, IsGuarded, IsBacked, ticks_left, armed, need_for, Machine, Setup, pending_of}
+use Rattle.nv_machine.proofs.Common.{arith, false, length, ℕ, ◌+◌, ◌≡◌, ◌≢◌, ◌≤◌, ForSome, Step, is_armed, is_backed, Mode, backing_level-ticks, need_backs, Gauge, GaugeCall, IsHonestThrough, ReadsLevel, backing_level, Costs, Waits, IsGuarded, IsBacked, ticks_left, armed, need_for, Machine, Setup, pending_of}
 
 -- what is known of a machine and its setup
 pub record IsKnown (setup : Setup) (m : Machine) : Type 0 where
@@ -17,7 +17,7 @@ unfolding backing_level
 one_tick costs k ticks more is = rw is (omega arith)
 
 -- an honest reading
-pub falls : (leak : ℕ) (old : Gauge) (answer : ℕ) (new : Gauge) → ReadsLevel old answer new → IsHonestThrough leak old new → (old.level ≤ new.level + leak) × (answer ≡ new.level)
+pub falls : {kind : GaugeCall} (leak : ℕ) (old : Gauge) (answer : ℕ) (new : Gauge) → ReadsLevel kind old answer new → IsHonestThrough leak old new → (old.level ≤ new.level + leak) × (answer ≡ new.level)
 falls leak old answer new reads honest = let kept = reads.breach.0 honest.faultless in omega (arith, kept, honest.bounded)
 
 module _ (setup : Setup) where

@@ -24,6 +24,7 @@ pub use Rattle.arm_state.specs.declared.moves.Move.{Move}
 pub use Rattle.energy_budget.proofs.Rising.{backing_level-ticks, need_backs}
 pub use Rattle.energy_budget.specs.Actions.{cost_of}
 unfoldable pub use Rattle.energy_budget.specs.Actions.{total_cost}
+pub use Rattle.energy_budget.specs.declared.energy.GaugeCall.{GaugeCall}
 pub use Rattle.energy_budget.specs.Gauge.{Gauge, IsHonestThrough, ReadsLevel}
 unfoldable pub use Rattle.energy_budget.specs.Sums.{backing_level}
 pub use Rattle.energy_budget.specs.declared.action.Action.{Action}

@@ -12,7 +12,7 @@ use Rattle.nv_machine.specs.Honesty.{IsHonestAlong, IsSparedAlong}
 use Rattle.nv_machine.specs.Losses.{PaysFirst, closing_of, drain_count, save_calls}
 use Rattle.nv_machine.specs.Machine.{ArmStep, SaveStepStep, arm_calls, step_call}
 use Rattle.nv_machine.specs.declared.events.StepReply.{StepReply}
-use Rattle.nv_machine.proofs.Common.{Bool, List, [], ap, arith, false, refl, take, true, ℕ, ◌++◌, ◌-◌, ◌∙◌, ◌∷◌, ◌≡◌, ◌≤◌, Err, Ok, faults_more, DeviceState, Loss, Gauge, IsHonestThrough, ReadsLevel, LoseStep, MachineStep, Run, Setup, World, Event, Reply}
+use Rattle.nv_machine.proofs.Common.{Bool, List, [], ap, arith, false, refl, take, true, ℕ, ◌++◌, ◌-◌, ◌∙◌, ◌∷◌, ◌≡◌, ◌≤◌, Err, Ok, faults_more, DeviceState, Loss, Gauge, GaugeCall, IsHonestThrough, ReadsLevel, LoseStep, MachineStep, Run, Setup, World, Event, Reply}
 use Rattle.nv_machine.proofs.Effects.{Effect, rests, shows, runs_low, disarms, accepts, begins, arms, fails_to_arm, steps, ends, fails, closes, effect}
 use Rattle.nv_machine.proofs.Payments.{IsPaid, paid_of}
 
@@ -29,7 +29,7 @@ pub record Counts (old new : World) : Type 0 where
 unasked : (old new : Gauge) → new ≡ old → GaugeCounts old new
 unasked old new same = rw same (record { counted = omega arith; same_leak = refl })
 
-asked : (answer : ℕ) (old new : Gauge) → ReadsLevel old answer new → GaugeCounts old new
+asked : {kind : GaugeCall} (answer : ℕ) (old new : Gauge) → ReadsLevel kind old answer new → GaugeCounts old new
 asked answer old new reads = record { counted = reads.counted; same_leak = reads.same_leak }
 
 -- it was read once, and then paid from

@@ -13,7 +13,7 @@ use Rattle.channel_port.specs.declared.answers.Ticket.{Ticket}
 use Rattle.nv_machine.specs.Machine.{ArmStep, DisarmStep, SaveBeginStep, SaveStepStep, SenseStep}
 use Rattle.nv_machine.specs.Moves.{sensed}
 use Rattle.nv_machine.specs.declared.events.StepReply.{StepReply}
-use Rattle.nv_machine.proofs.Common.{Bool, List, [], ap, arith, false, length, refl, true, ℕ, ◌≡◌, ◌≤◌, Err, None, Ok, Option, Some, if◌then◌else◌, slice_get_within, after, Write, Step, reads_gauge, Loss, Mode, ReadsLevel, Waits, SavesAllWritten, marks, LoseStep, MachineStep, WriteStep, begun, disarming, read_as, is_low, added, Machine, Setup, World, pending_of, told_mark, Accepted, Event, Reply}
+use Rattle.nv_machine.proofs.Common.{Bool, List, [], ap, arith, false, length, refl, true, ℕ, ◌≡◌, ◌≤◌, Err, None, Ok, Option, Some, if◌then◌else◌, slice_get_within, after, Write, Step, reads_gauge, Loss, Mode, ReadsLevel, Waits, SavesAllWritten, marks, LoseStep, MachineStep, WriteStep, begun, disarming, read_as, is_low, added, Machine, Setup, World, pending_of, told_mark, Accepted, Event, Reply, GaugeCall}
 use Rattle.nv_machine.proofs.Refusing.{arms_where}
 
 -- how many writes the newest image has after a reply: as many as the save of which it tells, or as before
@@ -36,10 +36,10 @@ pub data Effect (setup : Setup) (old new : World) : Event → Reply → Type 0 w
   rests : {event : Event} {reply : Reply} → IsSilent event reply → (waits : Waits) → new.machine ≡ record old.machine { waits = waits } → length waits.writes ≤ pending_of old.machine → new.gauge ≡ old.gauge
       → Effect setup old new event reply
   -- or but for a reading that isn't too low
-  shows : {event : Event} {reply : Reply} → IsSilent event reply → (reading : ℕ) → new.machine ≡ read_as reading old.machine → ReadsLevel old.gauge reading new.gauge → reads_gauge old.machine.mode ≡ true
+  shows : {event : Event} {reply : Reply} {kind : GaugeCall} → IsSilent event reply → (reading : ℕ) → new.machine ≡ read_as reading old.machine → ReadsLevel kind old.gauge reading new.gauge → reads_gauge old.machine.mode ≡ true
       → is_low setup (read_as reading old.machine) ≡ false → Effect setup old new event reply
   -- the disarming is begun by a reading that is too low
-  runs_low : {event : Event} {reply : Reply} → IsSilent event reply → (reading : ℕ) → new.machine ≡ disarming (read_as reading old.machine) → ReadsLevel old.gauge reading new.gauge
+  runs_low : {event : Event} {reply : Reply} {kind : GaugeCall} → IsSilent event reply → (reading : ℕ) → new.machine ≡ disarming (read_as reading old.machine) → ReadsLevel kind old.gauge reading new.gauge
       → is_low setup (read_as reading old.machine) ≡ true → Effect setup old new event reply
   disarms : DisarmStep (Ok DisarmReply.Disarming) old.machine new.machine → new.gauge ≡ old.gauge → Effect setup old new Event.Disarm (Reply.Disarm (Ok DisarmReply.Disarming))
   accepts : (write : Write) (accepted : Accepted) → WriteStep setup write (Ok accepted) old.machine new.machine → new.gauge ≡ old.gauge → Effect setup old new (Event.Write write) (Reply.Write (Ok accepted))
@@ -91,12 +91,12 @@ module _ (setup : Setup) (old new : World) where
   sensed_effect : (level : ℕ) → SenseStep setup level m old.gauge new.machine new.gauge → Effect setup old new Event.Sense (Reply.Sense level)
   sensed_effect level done = by_mode (reads_gauge m.mode) refl done
     where
-      read : (b : Bool) → is_low setup (read_as level m) ≡ b → new.machine ≡ (if b then disarming (read_as level m) else read_as level m) → ReadsLevel old.gauge level new.gauge → reads_gauge m.mode ≡ true
+      read : (b : Bool) → is_low setup (read_as level m) ≡ b → new.machine ≡ (if b then disarming (read_as level m) else read_as level m) → ReadsLevel GaugeCall.Sense old.gauge level new.gauge → reads_gauge m.mode ≡ true
           → Effect setup old new Event.Sense (Reply.Sense level)
       read true low is reads asks = runs_low (search) level is reads low
       read false high is reads asks = shows (search) level is reads asks high
 
-      by_mode : (b : Bool) → reads_gauge m.mode ≡ b → MatchBool b (ReadsLevel old.gauge level new.gauge × (new.machine ≡ sensed setup (read_as level m))) ((level ≡ m.reading) × (new.machine ≡ m) × (new.gauge ≡ old.gauge))
+      by_mode : (b : Bool) → reads_gauge m.mode ≡ b → MatchBool b (ReadsLevel GaugeCall.Sense old.gauge level new.gauge × (new.machine ≡ sensed setup (read_as level m))) ((level ≡ m.reading) × (new.machine ≡ m) × (new.gauge ≡ old.gauge))
           → Effect setup old new Event.Sense (Reply.Sense level)
       by_mode true asks done = read (is_low setup (read_as level m)) refl done.1 done.0 asks
       by_mode false asks done = still (search) done.1 done.2

@@ -6,7 +6,7 @@ use Rattle.save_device.specs.declared.calls.CallKind.{CallKind}
 use Rattle.slot_store.proofs.StepsLeft.{no_steps_left, steps_left-after}
 use Rattle.slot_store.specs.Steps.{steps_left}
 use Rattle.nv_machine.specs.Headline.{ticks_until_saved}
-use Rattle.nv_machine.proofs.Common.{Bool, [], ap, arith, false, length, refl, sym, true, ℕ, ◌+◌, ◌<◌, ◌∙◌, ◌∷◌, ◌≡◌, ◌≢◌, ◌≤◌, None, Ok, Some, is_some, length-append, Write, faults_more, DeviceState, step_after, Step, is_armed, is_backed, is_disarming, reads_gauge, mode_after, save_refusal, Mode, Move, backing_level-ticks, need_backs, Gauge, IsHonestThrough, ReadsLevel, backing_level, IsBacked, IsHonest, SavesAllWritten, StaysBacked, MachineStep, WriteStep, advanced, armed, begun, disarming, finished, read_as, step_failed, stepped, written, is_low, lacks_energy, need_for, saves_of, Machine, RunningSave, Setup, Store, World, pending_of, Accepted, Event, Reply}
+use Rattle.nv_machine.proofs.Common.{Bool, [], ap, arith, false, length, refl, sym, true, ℕ, ◌+◌, ◌<◌, ◌∙◌, ◌∷◌, ◌≡◌, ◌≢◌, ◌≤◌, None, Ok, Some, is_some, length-append, Write, faults_more, DeviceState, step_after, Step, is_armed, is_backed, is_disarming, reads_gauge, mode_after, save_refusal, Mode, Move, backing_level-ticks, need_backs, Gauge, GaugeCall, IsHonestThrough, ReadsLevel, backing_level, IsBacked, IsHonest, SavesAllWritten, StaysBacked, MachineStep, WriteStep, advanced, armed, begun, disarming, finished, read_as, step_failed, stepped, written, is_low, lacks_energy, need_for, saves_of, Machine, RunningSave, Setup, Store, World, pending_of, Accepted, Event, Reply}
 use Rattle.nv_machine.proofs.ModeLaws.{is_armed_mode}
 use Rattle.nv_machine.proofs.Refusing.{arms_where, accepted_where, begins_where}
 use Rattle.nv_machine.proofs.Effects.{Effect, rests, shows, runs_low, disarms, accepts, begins, arms, fails_to_arm, steps, ends, fails, closes, effect}
@@ -51,7 +51,7 @@ module _ (setup : Setup) (old new : World) (known : IsKnown setup old.machine) (
       by_mode mode is on = rw is at (backed.bound (ap is_backed is ∙ on))
 
   -- A reading was taken.
-  module _ (reading : ℕ) (reads : ReadsLevel old.gauge reading new.gauge) (honest : IsHonestThrough setup.shape.costs.numbers.leak old.gauge new.gauge) where
+  module _ {kind : GaugeCall} (reading : ℕ) (reads : ReadsLevel kind old.gauge reading new.gauge) (honest : IsHonestThrough setup.shape.costs.numbers.leak old.gauge new.gauge) where
     fell : (old.gauge.level ≤ new.gauge.level + setup.shape.costs.numbers.leak) × (reading ≡ new.gauge.level)
     fell = falls setup.shape.costs.numbers.leak old.gauge reading new.gauge reads honest
 

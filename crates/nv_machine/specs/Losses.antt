@@ -10,6 +10,7 @@ use Rattle.energy_budget.specs.declared.action.Action.{Action}
 use Rattle.energy_budget.specs.declared.energy.Dark.{Dark}
 use Rattle.std.specs.List.{flat_map}
 use Rattle.energy_budget.specs.Actions.{cost_of, drain_actions, closing_actions}
+use Rattle.energy_budget.specs.declared.energy.GaugeCall.TheVariants.{Tick}
 use Rattle.energy_budget.specs.Gauge.{Gauge, ReadsLevel, PaysCost}
 use Rattle.channel_port.specs.Waits.{Remain, nothing}
 use Rattle.channel_port.specs.Draining.{PaysInTurn, pending_each}
@@ -47,7 +48,7 @@ pub record LosesMains (loss : Loss) (old new : Machine) : Type 0 where
 -- The gauge was read once, and the first actions of the closing save were paid for, so many of them.
 pub record PaysFirst (setup : Setup) (old : World) (reading paid : ℕ) (gauge : Gauge) : Type 0 where
   pub ticked : Gauge
-  pub reads : ReadsLevel old.gauge reading ticked
+  pub reads : ReadsLevel Tick old.gauge reading ticked
   pub pays : PaysInTurn setup.shape.costs (take paid (closing_of setup old.machine)) ticked (Ok tt) gauge
 
 -- All was saved, each action paid for first.

@@ -18,6 +18,7 @@ use Rattle.arm_state.specs.Modes.{is_armed, has_ended, reads_gauge}
 use Rattle.arm_state.specs.declared.moves.Move.TheVariants.{FailSave}
 use Rattle.arm_state.specs.Moves.{mode_after}
 use Rattle.arm_state.specs.Refusals.{arm_refusal, disarm_refusal, save_refusal}
+use Rattle.energy_budget.specs.declared.energy.GaugeCall.TheVariants.{Sense, Tick}
 use Rattle.energy_budget.specs.Gauge.{Gauge, ReadsLevel}
 use Rattle.channel_port.specs.declared.answers.Ticket.{Ticket}
 use Rattle.channel_port.specs.declared.answers.Got.{Got}
@@ -77,7 +78,7 @@ TakesReading setup reading turns old new = (is_low setup (read_as reading old) �
 abbrev pub SenseStep : Setup → ℕ → Machine → Gauge → Machine → Gauge → Type 0
 SenseStep setup level old before new after =
     MatchBool (reads_gauge old.mode)
-    (ReadsLevel before level after × (new ≡ sensed setup (read_as level old)))
+    (ReadsLevel Sense before level after × (new ≡ sensed setup (read_as level old)))
     ((level ≡ old.reading) × (new ≡ old) × (after ≡ before))
 
 abbrev pub DisarmStep : Result DisarmReply ArmRefusal → Machine → Machine → Type 0
@@ -97,14 +98,14 @@ Calls kinds good old new = MakesCalls kinds good old.device.calls new.device.cal
 pub record MayArm (setup : Setup) (old new : World) : Type 0 where
   pub unarmed : is_armed old.machine.mode ≡ false
   pub unrefused : arm_refusal old.machine.mode (saves_of old.machine) ≡ None
-  pub reads : ReadsLevel old.gauge new.machine.reading new.gauge
+  pub reads : ReadsLevel Sense old.gauge new.machine.reading new.gauge
   pub enough : need_for setup (pending_of old.machine) ≤ new.machine.reading
 
 -- nothing refuses to arm but the gauge, which shows too little
 pub record LacksEnergyToArm (setup : Setup) (need has : ℕ) (old new : World) : Type 0 where
   pub unarmed : is_armed old.machine.mode ≡ false
   pub unrefused : arm_refusal old.machine.mode (saves_of old.machine) ≡ None
-  pub reads : ReadsLevel old.gauge has new.gauge
+  pub reads : ReadsLevel Sense old.gauge has new.gauge
   pub need_is : need ≡ need_for setup (pending_of old.machine)
   pub little : has < need
   pub is : new ≡ record old { machine = read_as has old.machine; gauge = new.gauge }
@@ -158,17 +159,17 @@ pub record MayStep (m : Machine) (save : RunningSave) : Type 0 where
   pub runs : m.store.saving ≡ Some save
   pub ready : must_wait m save ≡ false
 
--- The gauge is read once. Where it shows too little while armed no device call is made, and else one is.
+-- The gauge is ticked once. Where it shows too little while armed no device call is made, and else one is.
 abbrev pub SaveStepStep : Setup → StepReply → World → World → Type 0
 SaveStepStep setup step.NoSave old new = (old.machine.store.saving ≡ None) × (new ≡ old)
 SaveStepStep setup step.Waiting old new =
     (save : RunningSave) × (old.machine.store.saving ≡ Some save) × (must_wait old.machine save ≡ true) × (new ≡ old)
 SaveStepStep setup step.Turned old new =
-    (save : RunningSave) × MayStep old.machine save × (reading : ℕ) × ReadsLevel old.gauge reading new.gauge
+    (save : RunningSave) × MayStep old.machine save × (reading : ℕ) × ReadsLevel Tick old.gauge reading new.gauge
     × (is_low setup (read_as reading old.machine) ≡ true)
     × (new ≡ record old { machine = disarming (read_as reading old.machine); gauge = new.gauge })
 SaveStepStep setup reply old new =
-    (save : RunningSave) × MayStep old.machine save × (reading : ℕ) × ReadsLevel old.gauge reading new.gauge
+    (save : RunningSave) × MayStep old.machine save × (reading : ℕ) × ReadsLevel Tick old.gauge reading new.gauge
     × (is_low setup (read_as reading old.machine) ≡ false)
     × Calls (step_call old.machine.store.closed save.next ∷ []) (is_made reply) old new
     × MadeStep setup.shape.lines save reply (read_as reading old.machine) new.machine

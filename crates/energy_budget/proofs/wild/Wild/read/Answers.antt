@@ -2,7 +2,7 @@ use Rattle.std.proofs.Common.{◌≡◌, ℕ, ap, ◌∙◌, arith}
 use Rattle.std.proofs.lemmas.Grind.{common_steps}
 use Rattle.std.specs.Prelude.{Option, unwrap_or, slice_get}
 use Rattle.std.specs.Vec.Iter.{into_iter_items}
-use Rattle.energy_budget.proofs.wild.WildEnergy.sense.Goals as goal
+use Rattle.energy_budget.proofs.wild.Wild.read.Goals as goal
 
 pub returns-clause-word : goal.returns-clause-word
 returns-clause-word c =
