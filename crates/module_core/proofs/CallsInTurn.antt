@@ -1,8 +1,13 @@
 -- Calls of a module in turn answer the list of their events.
+use Rattle.energy_budget.proofs.Charging.{rises_none}
+use Rattle.energy_budget.specs.Charging.{RisesTo}
+use Rattle.module_core.specs.ModuleLives.{HasAnswered}
+use Rattle.module_core.specs.Opening.{opened_with}
+use Rattle.module_core.specs.declared.opening.Opened.{Opened}
 use Rattle.nv_machine.specs.Headline.{RecoversAfterwards}
 use Rattle.module_core.specs.InTurn.{AnswersCall, AnswersCalls, IsCharged}
 use Rattle.module_core.specs.Stands.{Point, RunAt, RunsTo}
-use Rattle.module_core.proofs.Common.{[], ◌++◌, ◌∙◌, ◌∷◌, Assembly, Event, Ghosts, List, Reply, Setup, StopsWithin, point_of, present, refl, restored, setup_of, subst, sym}
+use Rattle.module_core.proofs.Common.{[], ◌++◌, ◌∙◌, ◌∷◌, ◌≡◌, append-nil, Assembly, Event, Gauge, Ghosts, Image, List, Machine, ModuleStands, Reply, Setup, StopsWithin, point_of, present, refl, restored, setup_of, subst, sym}
 use Rattle.module_core.proofs.RunsOn.{join_runs, none_answered, one_run}
 
 module _ {K : Type 0} (L : Ghosts K) where
@@ -24,19 +29,48 @@ module _ {K : Type 0} (L : Ghosts K) where
     setup = call.setup;
   }
 
+  -- a run of a module, and one that goes on from where it ended
+  pub runs_on : (events more : List Event) (replies others : List Reply) (old : Assembly L) (m : Machine) (mid new : Assembly L) → setup_of L mid.it ≡ setup_of L old.it
+      → (a : RunsTo L events replies old m mid) → RunsTo L more others mid a.last new → RunsTo L (events ++ more) (replies ++ others) old m new
+  runs_on events more replies others old m mid new same a b =
+      let from : Point L = point_of L old m in let middle : Point L = point_of L mid a.last in let to : Point L = point_of L new b.last in
+      let rest : RunAt L (setup_of L old.it) more others middle to = subst (λ (s : Setup). RunAt L s more others middle to) same b.run in
+      record {
+        last = b.last;
+        stands = b.stands;
+        run = join_runs L (setup_of L old.it) events replies more others from middle to a.run rest;
+        left = subst (λ (s : Setup). StopsWithin (λ bytes. RecoversAfterwards b.last (restored s.shape.lines bytes)) (present new.device)) same b.left;
+      }
+
   pub goes_on_in_turn : (events more : List Event) (replies others : List Reply) (old mid new : Assembly L) → AnswersCalls L events replies old mid → AnswersCalls L more others mid new
       → AnswersCalls L (events ++ more) (replies ++ others) old new
   goes_on_in_turn events more replies others old mid new first then' = record {
-    answers = λ m stands.
-        let a : RunsTo L events replies old m mid = first.answers m stands in
-        let b : RunsTo L more others mid a.last new = then'.answers a.last a.stands in
-        let from : Point L = point_of L old m in let middle : Point L = point_of L mid a.last in let to : Point L = point_of L new b.last in
-        let rest : RunAt L (setup_of L old.it) more others middle to = subst (λ (s : Setup). RunAt L s more others middle to) first.setup b.run in
-        record {
-          last = b.last;
-          stands = b.stands;
-          run = join_runs L (setup_of L old.it) events replies more others from middle to a.run rest;
-          left = subst (λ (s : Setup). StopsWithin (λ bytes. RecoversAfterwards b.last (restored s.shape.lines bytes)) (present new.device)) first.setup b.left;
-        };
+    answers = λ m stands. let a : RunsTo L events replies old m mid = first.answers m stands in runs_on events more replies others old m mid new first.setup a (then'.answers a.last a.stands);
     setup = then'.setup ∙ first.setup;
   }
+
+  -- a life, and calls that go on from where it stands
+  pub answered_on : (found : Opened) (image : Image) (events more : List Event) (replies others : List Reply) (first old new : Assembly L) → HasAnswered L found image events replies first old
+      → AnswersCalls L more others old new → HasAnswered L found image (events ++ more) (replies ++ others) first new
+  answered_on found image events more replies others first old new answered calls = record {
+    begins = answered.begins;
+    runs = let a = answered.runs in runs_on events more replies others first (opened_with found image) old new answered.setup a (calls.answers a.last a.stands);
+    setup = calls.setup ∙ answered.setup;
+  }
+
+  -- a life begins
+  pub answered_none : (found : Opened) (image : Image) (first : Assembly L) → ModuleStands L first.it first.device (opened_with found image) → HasAnswered L found image [] [] first first
+  answered_none found image first stands = record {
+    begins = stands;
+    runs = none_answered L first.it first.device first.gauge first.gauge (rises_none first.gauge) (opened_with found image) stands;
+    setup = refl;
+  }
+
+  -- and its gauge is charged
+  pub none_answered_on : (found : Opened) (image : Image) (events : List Event) (replies : List Reply) (first old : Assembly L) (charged : Gauge) → RisesTo old.gauge charged
+      → HasAnswered L found image events replies first old → HasAnswered L found image events replies first (record old { gauge = charged })
+  none_answered_on found image events replies first old charged rises answered =
+      let new : Assembly L = record old { gauge = charged } in
+      let whole = answered_on found image events [] replies [] first old new answered (rests_in_turn old new (record { gauge = rises; is = refl })) in
+      subst (λ (es : List Event). HasAnswered L found image es replies first new) (append-nil events)
+      (subst (λ (rs : List Reply). HasAnswered L found image (events ++ []) rs first new) (append-nil replies) whole)

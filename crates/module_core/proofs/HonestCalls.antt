@@ -27,7 +27,7 @@ use Rattle.module_core.specs.Opening.{opened_with}
 use Rattle.module_core.specs.Stands.{EndsMains, RunsTo, world_of}
 use Rattle.module_core.proofs.Common.{[], ℕ, ◌++◌, ◌+◌, ◌∙◌, ◌∷◌, ◌≡◌, ◌≤◌, Assembly, ChannelsView, Event, Ghosts, Image, IsAmong, List, Machine, Module, Outcome, Reply, Setup, Store, World, ap, arith, false, is_backed, made_of, other, point_of, refl, restored, setup_of, subst, sym}
 use Rattle.module_core.proofs.Applying.{same_setup}
-use Rattle.module_core.proofs.CallsInTurn.{goes_on_in_turn}
+use Rattle.module_core.proofs.CallsInTurn.{answered_on}
 use Rattle.module_core.proofs.RunsOn.{run_worlds}
 
 lose_of : (setup : Setup) (event : Event) (lost : Loss) (old new : World) → MachineStep setup event (reply.Lose lost) old new → LoseStep setup lost old new
@@ -65,7 +65,7 @@ module _ {K : Type 0} (L : Ghosts K) where
       → StaysHonest L replies new
   stays_honest found image events replies old new answered faultless =
       let setup : Setup = setup_of L old.it in let m : Machine = opened_with found image in let first : World = world_of L old m in
-      let r : RunsTo L events replies old m new = answered.calls.answers m answered.begins in
+      let r : RunsTo L events replies old m new = answered.runs in
       let last : World = world_of L new r.last in
       let run : Run setup events replies first last = run_worlds L setup events replies (point_of L old m) (point_of L new r.last) r.run in
       let saves = saved_along setup events replies first last run (along found image events replies old last run faultless.gauge faultless.device) (not_backed setup m old.gauge refl) in
@@ -79,7 +79,7 @@ module _ {K : Type 0} (L : Ghosts K) where
             record {
               slot = here.slot;
               image = here.image;
-              found = ap (λ (s : Setup). restored s.shape.lines bytes) answered.calls.setup ∙ here.found;
+              found = ap (λ (s : Setup). restored s.shape.lines bytes) answered.setup ∙ here.found;
               holds = omega (arith, r.stands.matches.persisted, here.whole settled);
             };
       }
@@ -87,7 +87,7 @@ module _ {K : Type 0} (L : Ghosts K) where
   pub honest_calls : (events : List Event) (replies : List Reply) (old new : Assembly L) → AnswersCalls L events replies old new → StaysWhereHonest L replies old new
   honest_calls events replies old new calls found image before told first answered faultless =
       stays_honest found image (before ++ events) (told ++ replies) first new
-      (record { begins = answered.begins; calls = goes_on_in_turn L before events told replies first old new answered.calls calls }) faultless
+      (answered_on L found image before events told replies first old new answered calls) faultless
 
   -- what a save of all accepted writes leaves
   finds_all : (setup : Setup) (generation count accepted : ℕ) (old new : World) → SavesAll setup generation count old new → accepted ≡ (made_of false old.machine).count
@@ -100,7 +100,7 @@ module _ {K : Type 0} (L : Ghosts K) where
   pub honest_loss : (lost : Loss) (old new : Assembly L) → AnswersCall L event.Lose (reply.Lose lost) old new → SavesWhereHonest L lost old new
   honest_loss lost mid new call found image events replies old answered faultless on =
       let setup : Setup = setup_of L old.it in let m : Machine = opened_with found image in let first : World = world_of L old m in
-      let r : RunsTo L events replies old m mid = answered.calls.answers m answered.begins in
+      let r : RunsTo L events replies old m mid = answered.runs in
       let middle : World = world_of L mid r.last in let next = call.answers r.last r.stands in let last : World = world_of L new next.0 in
       let run : Run setup events replies first middle = run_worlds L setup events replies (point_of L old m) (point_of L mid r.last) r.run in
       let before : Counts first middle = run_counts setup events replies first middle run in
@@ -112,10 +112,10 @@ module _ {K : Type 0} (L : Ghosts K) where
       let backed : IsBacked setup r.last mid.gauge = backed_along setup events replies first middle run honest (not_backed setup m old.gauge refl) in
       let leak : mid.gauge.leak ≤ setup.shape.costs.numbers.leak = omega (arith, before.leak, faultless.gauge.bounded) in
       let now : IsHonest (setup_of L mid.it) middle (reply.Lose lost) last = record {
-        gauge = record { bounded = subst (λ (s : Setup). mid.gauge.leak ≤ s.shape.costs.numbers.leak) (sym answered.calls.setup) leak; faultless = omega (arith, before.gauge, behind.gauge, same) };
+        gauge = record { bounded = subst (λ (s : Setup). mid.gauge.leak ≤ s.shape.costs.numbers.leak) (sym answered.setup) leak; faultless = omega (arith, before.gauge, behind.gauge, same) };
         spared = spared;
       } in
-      let stays = next.2.happens.honest now (subst (λ (s : Setup). IsBacked s r.last mid.gauge) (sym answered.calls.setup) backed) in
+      let stays = next.2.happens.honest now (subst (λ (s : Setup). IsBacked s r.last mid.gauge) (sym answered.setup) backed) in
       let is : lost ≡ loss.Saved (made_of false r.last).generation (made_of false r.last).count = stays.saves (ap is_backed (sym r.stands.matches.mode) ∙ on) in
       let step : SavesAll (setup_of L mid.it) (made_of false r.last).generation (made_of false r.last).count middle last =
       subst (λ (l : Loss). LoseStep (setup_of L mid.it) l middle last) is next.2.happens.step in

@@ -119,7 +119,7 @@ module _ {K : Type 0} (L : Ghosts K) where
 
   pub lives_after : LivesEndAfterEvents L
   lives_after found image events replies old new answered bytes left =
-      let first = opened_with found image in let r = answered.calls.answers first answered.begins in record {
+      let first = opened_with found image in let r = answered.runs in record {
         last = r.last;
         stands = r.stands;
         lived = record {
@@ -133,9 +133,9 @@ module _ {K : Type 0} (L : Ghosts K) where
 
   pub lives_within : LivesEndWithinEvent L
   lives_within found image events replies old new answered event reply later answers bytes left =
-      let first = opened_with found image in let r = answered.calls.answers first answered.begins in let next = answers r.last r.stands in
+      let first = opened_with found image in let r = answered.runs in let next = answers r.last r.stands in
       let unanswered : Unanswered = record { event = event; reply = reply; next = world_of L later next.0 } in
-      let happens : Happens (setup_of L old.it) event reply (world_of L new r.last) unanswered.next = subst (λ (s : Setup). Happens s event reply (world_of L new r.last) unanswered.next) answered.calls.setup next.2.happens in record {
+      let happens : Happens (setup_of L old.it) event reply (world_of L new r.last) unanswered.next = subst (λ (s : Setup). Happens s event reply (world_of L new r.last) unanswered.next) answered.setup next.2.happens in record {
         last = r.last;
         next = next.0;
         stands = r.stands;
@@ -150,7 +150,7 @@ module _ {K : Type 0} (L : Ghosts K) where
 
   pub lives_anywhere : LivesEndAnywhere L
   lives_anywhere found image events replies old new answered bytes left =
-      let first = opened_with found image in let r = answered.calls.answers first answered.begins in let begins : World = world_of L old first in
+      let first = opened_with found image in let r = answered.runs in let begins : World = world_of L old first in
       let all = run_moments (setup_of L old.it) events replies begins (world_of L new r.last) (run_worlds L (setup_of L old.it) events replies (point_of L old first) (point_of L new r.last) r.run) in
       let p = all.parts left.moment (subst (λ (ms : List Moment). Contains ms left.moment) (since_is old.device new.device all.since all.keeps) left.among) bytes left.left in
       record {

@@ -10,8 +10,7 @@ use Rattle.nv_machine.specs.Headline.{Run}
 use Rattle.nv_machine.specs.Lives.{Unanswered, Lived, IsLived, IsLeftAt, moments_since}
 use Rattle.module_core.specs.declared.opening.Opened.{Opened}
 use Rattle.module_core.specs.Opening.{opened_with}
-use Rattle.module_core.specs.Stands.{Assembly, ModuleStands, Answers, setup_of, world_of}
-use Rattle.module_core.specs.InTurn.{AnswersCalls}
+use Rattle.module_core.specs.Stands.{Assembly, ModuleStands, Answers, RunsTo, setup_of, world_of}
 
 -- the event that a stop left unanswered, where it left one
 abbrev pub unanswered_event : Option Unanswered → List Event
@@ -19,10 +18,11 @@ unanswered_event None = []
 unanswered_event (Some unanswered) = unanswered.event ∷ []
 
 module _ {K : Type 0} (L : Ghosts K) where
-  -- a module that began with this image has answered these events
+  -- A module that began with this image has answered these events since. Between two of them its gauge may have been charged.
   pub record HasAnswered (found : Opened) (image : Image) (events : List Event) (replies : List Reply) (old new : Assembly L) : Type 0 where
     pub begins : ModuleStands L old.it old.device (opened_with found image)
-    pub calls : AnswersCalls L events replies old new
+    pub runs : RunsTo L events replies old (opened_with found image) new
+    pub setup : setup_of L new.it ≡ setup_of L old.it
 
   -- its life: the machine that it stood for in the end, the event that a stop left unanswered, and the bytes that this left
   abbrev pub module_life : Opened → Image → List Event → List Reply → Assembly L → World → Option Unanswered → List ℕ → Lived

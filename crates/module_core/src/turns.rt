@@ -1,5 +1,6 @@
 // Single calls, lists of them, and what an honest gauge is enough for in them.
 ghost use Rattle.std.specs.Prelude.{[], ◌∷◌, ◌++◌, List};
+ghost use Rattle.save_image.specs.Image.{Image};
 ghost use Rattle.arm_state.specs.declared.loss.Loss.{Loss};
 ghost use Rattle.nv_machine.specs.declared.events.Event.{Event};
 ghost use Rattle.nv_machine.specs.declared.events.Event.TheVariants as event;
@@ -7,13 +8,16 @@ ghost use Rattle.nv_machine.specs.declared.events.Reply.{Reply};
 ghost use Rattle.nv_machine.specs.declared.events.Reply.TheVariants as reply;
 ghost use Rattle.module_core.specs.HonestCalls.{SavesWhereHonest, StaysWhereHonest};
 ghost use Rattle.module_core.specs.InTurn.{IsCharged, AnswersCall, AnswersCalls};
-ghost use Rattle.module_core.specs.Stands.{Assembly};
+ghost use Rattle.module_core.specs.ModuleLives.{HasAnswered};
+ghost use Rattle.module_core.specs.Opening.{opened_with};
+ghost use Rattle.module_core.specs.Stands.{Assembly, ModuleStands};
+ghost use Rattle.module_core.specs.declared.opening.Opened.{Opened};
 
 use channel_port::ChannelPort;
 
 /// Calls of a module in turn, each with the same device and the same gauge, which may be charged between two of them, answer
 /// the list of their events, as `Module::run` does: no call, one call, and calls after others. So what the laws say of lists of
-/// events they say of single calls.
+/// events they say of single calls: a life begins where a module stands for a new one, and goes on by calls.
 pub fn calls_in_turn<K: ChannelPort>()
     ensures rests { (old new : Assembly K.ChannelPort) → IsCharged K.ChannelPort old new
         → AnswersCalls K.ChannelPort [] [] old new }
@@ -25,6 +29,14 @@ pub fn calls_in_turn<K: ChannelPort>()
         → AnswersCalls K.ChannelPort events replies old mid
         → AnswersCalls K.ChannelPort more others mid new
         → AnswersCalls K.ChannelPort (events ++ more) (replies ++ others) old new }
+    ensures begins { (found : Opened) (image : Image) (first : Assembly K.ChannelPort)
+        → ModuleStands K.ChannelPort first.it first.device (opened_with found image)
+        → HasAnswered K.ChannelPort found image [] [] first first }
+    ensures lives { (found : Opened) (image : Image) (events more : List Event)
+        (replies others : List Reply) (first old new : Assembly K.ChannelPort)
+        → HasAnswered K.ChannelPort found image events replies first old
+        → AnswersCalls K.ChannelPort more others old new
+        → HasAnswered K.ChannelPort found image (events ++ more) (replies ++ others) first new }
 {}
 
 /// What an honest gauge is enough for in the calls of a module, from the beginning of its life on. Where since then neither the
