@@ -8,3 +8,4 @@ pub mod Turning
 pub mod Going
 pub mod Beginning
 pub mod Restoring
+pub mod SessionLives

@@ -5,5 +5,6 @@ pub mod Turns
 pub mod Wired
 pub mod Living
 pub mod Restoring
+pub mod SessionLives
 -- sessions as values
 pub mod Sessions

@@ -1,12 +1,27 @@
 // What the definitions say of a restore: after a save, and after a stop at any time.
-ghost use Rattle.std.specs.Prelude.{◌≡◌, ℕ, List, false};
+ghost use Rattle.std.specs.Prelude.{◌≡◌, ℕ, List, [], false, Option, Some, Result};
+ghost use Rattle.ddr4_timing.specs.declared.command.Stamped.{Stamped};
+ghost use Rattle.arm_state.specs.declared.refusal.ArmRefusal.{ArmRefusal};
+ghost use Rattle.arm_state.specs.declared.refusal.ReadRefusal.{ReadRefusal};
 ghost use Rattle.arm_state.specs.Modes.{is_armed};
-ghost use Rattle.save_device.specs.Device.{MayLeave, present};
-ghost use Rattle.slot_store.specs.Outcomes.{restored};
+ghost use Rattle.energy_budget.specs.Charging.{RisesTo};
+ghost use Rattle.energy_budget.specs.Gauge.{Gauge};
+ghost use Rattle.save_device.specs.Device.{DeviceState, MayLeave, present};
+ghost use Rattle.save_image.specs.Image.{Image};
+ghost use Rattle.slot_store.specs.Outcomes.{Outcome, restored};
 ghost use Rattle.nv_machine.specs.State.{Machine, memory_after};
-ghost use Rattle.module_core.specs.Stands.{Assembly, ModuleStands, lines_of_module};
+ghost use Rattle.nv_machine.specs.declared.events.Event.{Event};
+ghost use Rattle.nv_machine.specs.declared.events.Reply.{Reply};
+ghost use Rattle.nv_machine.specs.declared.events.StepReply.{StepReply};
+ghost use Rattle.module_core.specs.declared.module.Module.{Module};
+ghost use Rattle.module_core.specs.declared.opening.Opened.{Opened};
+ghost use Rattle.module_core.specs.Stands.{Assembly, ModuleStands, assembly, lines_of_module, setup_of};
 ghost use Rattle.nv_session.specs.declared.lives.Found.{Found};
-ghost use Rattle.nv_session.specs.Turns.{HasSaved};
+ghost use Rattle.nv_session.specs.declared.turns.LineSeen.{LineSeen};
+ghost use Rattle.nv_session.specs.Coming.{IsOneEvent};
+ghost use Rattle.nv_session.specs.Living.{GoesOnBy, IsWork, SessionAt, session_at, set_to};
+ghost use Rattle.nv_session.specs.SessionLives.{HasLived, HasLivedOn};
+ghost use Rattle.nv_session.specs.Turns.{GoesOnSaving, HasSaved, MakesStep, SeesLine};
 ghost use Rattle.nv_session.specs.Restoring.{Revives, FindsSaved, FindsPrefix};
 
 use channel_port::ChannelPort;
@@ -36,4 +51,52 @@ pub fn restore_after_any_stop<K: ChannelPort>()
         → Revives K.ChannelPort (restored (lines_of_module K.ChannelPort old.it) bytes) found
         new.it new.device
         → FindsPrefix K.ChannelPort m found new.it new.device }
+{}
+
+/// The life of a session is one of those that `module_core` and `nv_machine` speak of. A restore begins it; each call of the
+/// session goes on with it, be it one event or several; and so does a level that is set between two calls, which charges the
+/// gauge or counts a fault. So what the laws say of lives they say of a session's, wherever a stop ends it.
+pub fn sessions_live<K: ChannelPort>()
+    ensures begins { (restores : Outcome) (found : Found) (it : Module K K.ChannelPort)
+        (device : DeviceState) (gauge : Gauge)
+        (revives : Revives K.ChannelPort restores found it device)
+        → HasLived K.ChannelPort found.opened revives.image [] []
+        (assembly it device gauge) (session_at (Some it) device gauge) }
+    ensures one { (event : Event) (reply : Reply) (found : Opened) (image : Image)
+        (events : List Event) (replies : List Reply) (first : Assembly K.ChannelPort)
+        (old new : SessionAt K.ChannelPort)
+        → GoesOnBy K.ChannelPort (λ setup. IsOneEvent event reply) old new
+        → HasLived K.ChannelPort found image events replies first old
+        → HasLivedOn K.ChannelPort (IsOneEvent event reply) found image events replies first new }
+    ensures work { (channel : ℕ) (command : Option Stamped) (found : Opened) (image : Image)
+        (events : List Event) (replies : List Reply) (first : Assembly K.ChannelPort)
+        (old new : SessionAt K.ChannelPort)
+        → GoesOnBy K.ChannelPort (λ setup. IsWork channel command) old new
+        → HasLived K.ChannelPort found image events replies first old
+        → HasLivedOn K.ChannelPort (IsWork channel command) found image events replies first new }
+    ensures read { (line : ℕ) (result : Result LineSeen ReadRefusal) (found : Opened) (image : Image)
+        (events : List Event) (replies : List Reply) (first : Assembly K.ChannelPort)
+        (old new : SessionAt K.ChannelPort)
+        → GoesOnBy K.ChannelPort (λ setup. SeesLine setup line result) old new
+        → (lived : HasLived K.ChannelPort found image events replies first old)
+        → HasLivedOn K.ChannelPort (SeesLine (setup_of K.ChannelPort lived.it) line result)
+        found image events replies first new }
+    ensures step { (result : Result StepReply ArmRefusal) (found : Opened) (image : Image)
+        (events : List Event) (replies : List Reply) (first : Assembly K.ChannelPort)
+        (old new : SessionAt K.ChannelPort)
+        → GoesOnBy K.ChannelPort (λ setup. MakesStep result) old new
+        → HasLived K.ChannelPort found image events replies first old
+        → HasLivedOn K.ChannelPort (MakesStep result) found image events replies first new }
+    ensures save { (result : Result StepReply ArmRefusal) (found : Opened) (image : Image)
+        (events : List Event) (replies : List Reply) (first : Assembly K.ChannelPort)
+        (old new : SessionAt K.ChannelPort)
+        → GoesOnBy K.ChannelPort (λ setup. GoesOnSaving result) old new
+        → HasLived K.ChannelPort found image events replies first old
+        → HasLivedOn K.ChannelPort (GoesOnSaving result) found image events replies first new }
+    ensures level { (found : Opened) (image : Image) (events : List Event) (replies : List Reply)
+        (first : Assembly K.ChannelPort) (level : ℕ) (at : SessionAt K.ChannelPort)
+        → HasLived K.ChannelPort found image events replies first at
+        → HasLived K.ChannelPort found image events replies first
+        (record at { gauge = set_to level at.gauge }) }
+    ensures charged { (level : ℕ) (gauge : Gauge) → RisesTo gauge (set_to level gauge) }
 {}
