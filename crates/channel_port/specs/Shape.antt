@@ -1,5 +1,5 @@
 -- What doesn't change of the channels of a memory.
-use Rattle.std.specs.Prelude.{◌≡◌, ◌==◌, ℕ, ◌*◌, ◌%◌, ◌≤◌, Bool}
+use Rattle.std.specs.Prelude.{◌≡◌, ◌==◌, ℕ, ◌*◌, ◌%◌, ◌<◌, ◌≤◌, Bool}
 use Rattle.energy_budget.specs.declared.costs.Costs.{Costs}
 use Rattle.channel_port.specs.Waits.{Waits, writes_on, reads_on}
 
@@ -13,13 +13,15 @@ pub record Shape : Type 0 where
   pub reads : ℕ
   pub costs : Costs
 
--- the numbers of a profile: whole pages, 1,024 of them at most, and costs that are reckoned for them
+-- the numbers of a profile: whole pages, 1,024 of them at most, costs that are reckoned for them, and each line lies on one of
+-- the channels
 pub record IsShape (s : Shape) : Type 0 where
   pub some : 64 ≤ s.lines
   pub most : s.lines ≤ 65536
   pub whole : s.lines % 64 ≡ 0
   pub pages : s.lines ≡ 64 * s.costs.pages
   pub channels : s.channels ≡ s.costs.channels
+  pub known : (line : ℕ) → line < s.lines → s.channel_of line < s.channels
 
 -- whether the line's channel has no room for a further write, and for a further read
 abbrev pub is_full_at : Shape → Waits → ℕ → Bool

@@ -8,8 +8,8 @@ module _ {K : Type 0} (L : Ghosts K) where
   pub stands-for : (channels : ChannelSet K L) (line : ℕ) (place : Place) (p : K) → line < channels.terms.lines → place ≡ places_of L channels.ports.items line → p ≡ get_or channels.ports.items place.channel p
       → slice_get channels.ports.items place.channel ≡ Some p
   stands-for channels line place p less is read =
-      let placed = channels.are.placed line less in
-      slice_get_read channels.ports.items (length channels.ports.items) place.channel p refl (omega (arith, placed, ap (λ (x : Place). x.channel) is)) read
+      let known = channels.shaped.known line less in
+      slice_get_read channels.ports.items (length channels.ports.items) place.channel p refl (omega (arith, known, ap (λ (x : Place). x.channel) is)) read
 
   -- a port with the number and the sizes of another one, and with this hold
   pub record Alike (hold : Option ℕ) (old new : K) : Type 0 where
@@ -52,7 +52,7 @@ module _ {K : Type 0} (L : Ghosts K) where
   -- the place of a line, as the first port told it
   pub named : (channels : ChannelSet K L) (line : ℕ) (place : Place) (first : K) → line < channels.terms.lines → place ≡ (L.view first).place_of line → first ≡ get_or channels.ports.items 0 first
       → place ≡ places_of L channels.ports.items line
-  named channels line place first less told read = told ∙ place-first channels.ports.items line first (omega (arith, channels.are.placed line less)) read
+  named channels line place first less told read = told ∙ place-first channels.ports.items line first (omega (arith, channels.shaped.known line less)) read
 
   pub ports-alike : (terms : PortTerms) (hold : Option ℕ) (old new : List K) → ArePorts L terms old → AllZip (Alike hold) old new → ArePorts L (record terms { hold = hold }) new
   ports-alike terms hold old new are zip =
@@ -69,7 +69,6 @@ module _ {K : Type 0} (L : Ghosts K) where
               most_reads = was.related.most_reads ∙ is.most_reads;
               hold = was.related.hold_is;
             };
-        placed = λ line less. omega (arith, are.placed line less, ap (λ f. (f line).channel) places, zip-size (Alike hold) old new zip);
         few = omega (arith, are.few, zip-size (Alike hold) old new zip);
       }
 
@@ -78,8 +77,15 @@ module _ {K : Type 0} (L : Ghosts K) where
       ports-alike terms terms.hold ports (slice_set ports i q) are
       (zip-set (Alike terms.hold) ports i p q (λ j z there. record { number = refl; lines = refl; places = refl; depth = refl; most_reads = refl; hold_is = (are.each j z there).hold }) at alike)
 
-  pub shaped-again : (terms : PortTerms) (costs : Costs) (old new : List K) → length new ≡ length old → IsShape (shape_with L terms costs old) → IsShape (shape_with L terms costs new)
-  shaped-again terms costs old new size shaped = record { some = shaped.some; most = shaped.most; whole = shaped.whole; pages = shaped.pages; channels = size ∙ shaped.channels }
+  pub shaped-again : (terms : PortTerms) (costs : Costs) (old new : List K) → length new ≡ length old → places_of L new ≡ places_of L old → IsShape (shape_with L terms costs old) → IsShape (shape_with L terms costs new)
+  shaped-again terms costs old new size places shaped = record {
+    some = shaped.some;
+    most = shaped.most;
+    whole = shaped.whole;
+    pages = shaped.pages;
+    channels = size ∙ shaped.channels;
+    known = λ line less. omega (arith, shaped.known line less, ap (λ f. (f line).channel) places, size);
+  }
 
   -- one port of the channels has changed
   pub are-set : (channels : ChannelSet K L) (i : ℕ) (p q : K) (waits : Waits) (stage : Stage) (stored : ℕ → List ℕ) → slice_get channels.ports.items i ≡ Some p
@@ -87,8 +93,11 @@ module _ {K : Type 0} (L : Ghosts K) where
   are-set channels i p q waits stage stored at is =
       ports-set channels.terms channels.ports.items i p q channels.are at (alike-from channels.terms.hold p q waits stage stored (channels.are.each i p at).hold is)
 
-  pub shaped-set : (channels : ChannelSet K L) (i : ℕ) (q : K) → IsShape (shape_with L channels.terms channels.costs (slice_set channels.ports.items i q))
-  shaped-set channels i q = shaped-again channels.terms channels.costs channels.ports.items (slice_set channels.ports.items i q) (length-set channels.ports.items i q) channels.shaped
+  pub shaped-set : (channels : ChannelSet K L) (i : ℕ) (p q : K) → slice_get channels.ports.items i ≡ Some p → (L.view q).place_of ≡ (L.view p).place_of
+      → IsShape (shape_with L channels.terms channels.costs (slice_set channels.ports.items i q))
+  shaped-set channels i p q at same =
+      let ports = channels.ports.items in
+      shaped-again channels.terms channels.costs ports (slice_set ports i q) (length-set ports i q) (places-set ports i p q at same) channels.shaped
 
   -- the ports as they are seen
   abbrev pub seen : PortTerms → Costs → List K → ChannelsView

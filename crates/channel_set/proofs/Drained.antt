@@ -68,11 +68,11 @@ module _ {K : Type 0} (L : Ghosts K) where
         ports-alike L terms terms.hold old new are (zip-weaker Drains (Alike L terms.hold) old new
         (λ j p q at d. alike-from L terms.hold p q (L.view q).waits (L.view q).stage (L.view q).stored (are.each j p at).hold d.rest) drained.each)
 
-    pub drained-shaped : (terms : PortTerms) (costs : Costs) → IsShape (shape_with L terms costs old) → IsShape (shape_with L terms costs new)
-    drained-shaped terms costs = shaped-again L terms costs old new drained-size
-
     pub drained-places : places_of L new ≡ places_of L old
     drained-places = places-again L old new (zip-weaker Drains (λ p q. (L.view q).place_of ≡ (L.view p).place_of) old new (λ j p q at d. ap (λ v. v.place_of) d.rest) drained.each)
+
+    pub drained-shaped : (terms : PortTerms) (costs : Costs) → IsShape (shape_with L terms costs old) → IsShape (shape_with L terms costs new)
+    drained-shaped terms costs = shaped-again L terms costs old new drained-size drained-places
 
     pub drained-kept : AllZip (Kept L) old new
     drained-kept = zip-weaker Drains (Kept L) old new (λ j p q at d. record { keeps = d.keeps; remain = remain-dropped d.takes.0 (writes_in L p) (writes_in L q) d.takes.1.writes }) drained.each

@@ -53,7 +53,7 @@ module _ {K : Type 0} (L : Ghosts K) where
         → (line : ℕ) → line < channels.terms.lines → stored_in L channels.ports.items line ≡ line_of (memory_at base start writes n) line
     line-settled settle none waits line less =
         let i = (places_of L channels.ports.items line).channel in
-        let found = at-within channels.ports.items i (channels.are.placed line less) in
+        let found = at-within channels.ports.items i (channels.shaped.known line less) in
         let port = found.it in
         let is = channels.are.each i port found.stands in
         ap (stored_by L line) found.stands

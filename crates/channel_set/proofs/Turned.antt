@@ -39,11 +39,11 @@ module _ {K : Type 0} (L : Ghosts K) where
       hold_is = ap (λ v. v.hold) t.is ∙ ap hold (are.each j p at).hold;
     }) turned.each)
 
-    pub turned-shaped : (terms : PortTerms) (costs : Costs) → IsShape (shape_with L terms costs old) → IsShape (shape_with L terms costs new)
-    turned-shaped terms costs = shaped-again L terms costs old new (zip-size (Turns after hold stage) old new turned.each)
-
     pub turned-places : places_of L new ≡ places_of L old
     turned-places = places-again L old new (zip-weaker (Turns after hold stage) (λ p q. (L.view q).place_of ≡ (L.view p).place_of) old new (λ j p q at t. ap (λ v. v.place_of) t.is) turned.each)
+
+    pub turned-shaped : (terms : PortTerms) (costs : Costs) → IsShape (shape_with L terms costs old) → IsShape (shape_with L terms costs new)
+    turned-shaped terms costs = shaped-again L terms costs old new (zip-size (Turns after hold stage) old new turned.each) turned-places
 
     turned-seen : (terms : PortTerms) (costs : Costs) → seen L terms costs new ≡ record (seen L terms costs old) { waits = waits_in L new }
     turned-seen terms costs = seen-stored L terms costs old new turned-places (zip-weaker (Turns after hold stage) (λ p q. (L.view q).stored ≡ (L.view p).stored) old new (λ j p q at t. ap (λ v. v.stored) t.is) turned.each)

@@ -1,5 +1,5 @@
 -- Ports side by side.
-use Rattle.std.specs.Prelude.{◌≡◌, ℕ, ◌<◌, ◌≤◌, List, [], ◌∷◌, length, map, slice_get, Option, Some, None}
+use Rattle.std.specs.Prelude.{◌≡◌, ℕ, ◌≤◌, List, [], ◌∷◌, length, map, slice_get, Option, Some, None}
 use Rattle.std.specs.List.{flat_map, range_with_len}
 use Rattle.ddr4_timing.specs.declared.place.Place.{Place}
 use Rattle.energy_budget.specs.declared.costs.Costs.{Costs}
@@ -27,10 +27,9 @@ module _ {K : Type 0} (L : Ghosts K) where
     pub most_reads : (L.view port).most_reads ≡ terms.most_reads
     pub hold : (L.view port).hold ≡ terms.hold
 
-  -- ports of the numbers from 0 on with the same places of the lines, and each line lies on one of them
+  -- ports of the numbers from 0 on with the same places of the lines
   pub record ArePorts (terms : PortTerms) (ports : List K) : Type 0 where
     pub each : (number : ℕ) (port : K) → slice_get ports number ≡ Some port → IsPort terms (places_of ports) number port
-    pub placed : (line : ℕ) → line < terms.lines → (places_of ports line).channel < length ports
     pub few : length ports ≤ 8
 
   -- what doesn't change of them

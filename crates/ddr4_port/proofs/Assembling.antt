@@ -62,10 +62,6 @@ module _ (f : ℕ → Place) (checked : Checked) (memory : List (List ℕ)) (dep
         most_reads = ap (λ (s : ChannelState). s.most_reads) is.fresh;
         hold = ap (λ (s : ChannelState). s.hold) is.fresh;
       };
-      placed = λ line less.
-          let below : line < lines_of checked.geometry = omega (arith, less, lines) in
-          let named = ap (λ (places : ℕ → Place). (places line).channel) places-are ∙ ap (λ (p : Place). p.channel) (place-named f checked.geometry line below) in
-          omega (arith, named, (map.lies_in line below).channel, count);
       few = omega (arith, count, checked.is_small.channels);
     }
 

@@ -1,14 +1,16 @@
--- The shape of the channels of a profile: its lines make whole pages.
+-- The shape of the channels of a profile: its lines make whole pages, and each lies on one of its channels.
 use Rattle.std.proofs.Common.{◌≡◌, ℕ, zero, suc, ◌+◌, ◌*◌, ◌%◌, ◌^◌, ◌≤◌, IsTrue, sym, ap, subst, ◌∙◌, arith}
 use Rattle.std.specs.Int.{is_power_of_two, trailing_zeros, w64}
 use Rattle.std.proofs.Math.Nat.{mul-le-mul_left, pow-suc}
 use Rattle.std.proofs.lemmas.Nat.{div-add-mod', pow-add}
-use Rattle.ddr4_port.proofs.Common.{Checked, Costs, Geometry, IsGeometry, IsSmall, Place, lines_of, shape_over}
+use Rattle.ddr4_port.proofs.Common.{Checked, Costs, Geometry, IsGeometry, IsInterleaving, IsSmall, Place, lines_of}
+use Rattle.ddr4_port.proofs.Common.{shape_over}
 use Rattle.energy_budget.specs.Costs.{AreReckonedFor}
 use Rattle.interleave_map.proofs.Digits.{left_factor}
 use Rattle.interleave_map.proofs.Numbering.{few_rows_in_all, is_whole}
 use Rattle.interleave_map.proofs.PowersOfTwo.{power_at}
 use Rattle.channel_port.specs.Shape.{IsShape}
+use Rattle.ddr4_port.proofs.Seen.{place-named}
 
 record IsPower (n : ℕ) : Type 0 where
   exponent : ℕ
@@ -58,8 +60,8 @@ whole-pages g small is =
     let some : 64 ≤ 2 ^ power.exponent = subst (λ (n : ℕ). 64 ≤ n) power.is small.lines.0 in
     ap (λ n. n % 64) power.is ∙ whole-power power.exponent some
 
-pub is-shape : (place_of : ℕ → Place) (checked : Checked) (depth reads : ℕ) (costs : Costs) → AreReckonedFor checked costs → IsShape (shape_over place_of checked depth reads costs)
-is-shape place_of checked depth reads costs reckoned =
+pub is-shape : (place_of : ℕ → Place) (checked : Checked) (depth reads : ℕ) (costs : Costs) → AreReckonedFor checked costs → IsInterleaving checked.geometry place_of → IsShape (shape_over place_of checked depth reads costs)
+is-shape place_of checked depth reads costs reckoned map =
     let g = checked.geometry in
     let whole = whole-pages g checked.is_small checked.is_geometry in
     record {
@@ -68,4 +70,5 @@ is-shape place_of checked depth reads costs reckoned =
       whole = whole;
       pages = omega (arith, whole, reckoned.pages, div-add-mod' (lines_of g) 64);
       channels = sym reckoned.channels;
+      known = λ line less. omega (arith, ap (λ (p : Place). p.channel) (place-named place_of g line less), (map.lies_in line less).channel);
     }

@@ -55,6 +55,8 @@ impl<'m, M: LineMap> Wiring<'m, M> {
         ensures lines_map { result.lines_map ≡ lines_map.now }
         ensures xor_map { result.xor_map ≡ xor_map.now }
     {
+        lines_map.interleaves();
+        xor_map.interleaves();
         Wiring {
             lines_map,
             xor_map,

@@ -25,7 +25,7 @@ new-requires-clause-shape g c =
     let now = c.loop-number.invariant in
     let map = subst (λ q. IsInterleaving q f) c.requires.geometry c.interleaves.ensures in
     let has = has-shape f c.args.checked.now c.args.memory.now c.args.depth c.args.reads c.loop-number.ports.items now.2 c.requires.lines (omega (arith, now.0, c.loop-number-test.false, c.loop-number.auto.number-end)) map c.args.costs in
-    subst IsShape (sym has) (is-shape f c.args.checked.now c.args.depth c.args.reads c.args.costs c.requires.costs)
+    subst IsShape (sym has) (is-shape f c.args.checked.now c.args.depth c.args.reads c.args.costs c.requires.costs map)
 
 pub returns-clause-shape : goal.returns-clause-shape
 returns-clause-shape g c =

@@ -6,7 +6,7 @@ pub index-requires-2 : goal.index-requires-2
 index-requires-2 g c =
     let channels = c.args.self.now in
     let place = named g.K.ChannelPort channels c.args.line c.place-place.result c.index.result.now c.requires c.place-place.ensures c.index.ensures in
-    omega (arith, channels.are.placed c.args.line c.requires, ap (λ (p : Place). p.channel) place)
+    omega (arith, channels.shaped.known c.args.line c.requires, ap (λ (p : Place). p.channel) place)
 
 pub stored-requires-clause-line : goal.stored-requires-clause-line
 stored-requires-clause-line g c =
