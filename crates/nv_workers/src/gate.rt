@@ -7,6 +7,7 @@ use crate::saver::Saving;
 use channel_port::ChannelPort;
 use energy_budget::Energy;
 use notice_book::Notices;
+use nv_machine::StepReply;
 use save_device::SaveDevice;
 use std::sync::Wait;
 use std::thread;
@@ -67,8 +68,8 @@ where
     Ended::Stopped
 }
 
-/// Takes one turn of a saver at each `Go`, until the gate says stop or mains were lost. A turn at rest gives the processor away.
-/// The gate is asked for it by the number of channels.
+/// Takes one turn of a saver at each `Go`, until the gate says stop or mains were lost. A turn at rest, and a step
+/// that has to wait, give the processor away. The gate is asked for it by the number of channels.
 pub fn saver_worker<K, D, E, B, N, G, R>(
     rt: &R,
     board: &Board<K, D, E, B, N>,
@@ -88,8 +89,8 @@ where
     for turn in 0..u64::MAX {
         match gate.pass(channels, turn) {
             Turn::Go => match board.save(rt) {
+                Saving::Rested | Saving::Stepped(StepReply::Waiting) => thread::yield_now(),
                 Saving::Began(_) | Saving::Stepped(_) => {}
-                Saving::Rested => thread::yield_now(),
                 Saving::Closed => return Ended::Closed,
             },
             Turn::Hold => {}
