@@ -1,0 +1,6 @@
+use Rattle.std.proofs.Common.{◌≡◌}
+use Rattle.command_trace.specs.Channels.{FollowsAll}
+use Rattle.command_trace.proofs.diagnosis.check_trace.Given as goal
+
+abbrev pub invariant-loop : goal.invariant-loop
+invariant-loop g l = (l.reader.channels ≡ l.fn.reader.channels) × FollowsAll l.checked l.check × (l.check.entries.items ≡ l.reader.given.items)

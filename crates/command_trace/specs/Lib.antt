@@ -1,0 +1,4 @@
+pub mod Following
+pub mod Channels
+pub mod Kinds
+pub mod Reading

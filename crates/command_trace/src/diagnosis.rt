@@ -1,0 +1,146 @@
+// The check of a trace, and the least fault of a channel.
+ghost use Rattle.std.specs.Prelude.{◌≡◌, [], ◌≤◌, ◌<◌, ◌↔◌, length, slice_get, Some, IfOk, IfSome, IsNone};
+ghost use Rattle.ddr4_timing.specs.Lawful.{IsLawful, IsLeastFault};
+ghost use Rattle.command_trace.specs.Channels.{FollowsAll};
+
+use crate::reading::{TraceFault, TraceReader};
+use crate::reason::Reason;
+use crate::trace_check::TraceCheck;
+use ddr4_timing::command::Stamped;
+use ddr4_timing::fault::{Fault, first_fault};
+use ddr4_timing::timing::Checked;
+use std::alloc::{AllocError, Global};
+use std::fmt;
+use std::io::Read;
+
+/// Reads a trace to its end, and checks the commands of each channel. Takes the same memory for each trace.
+pub fn check_trace<R: Read + Drop>(
+    checked: &Checked,
+    reader: &mut TraceReader<R>,
+) -> Result<TraceCheck, TraceFault>
+    requires channels { reader.old.channels ≤ 8 }
+    requires fresh { reader.old.given.items ≡ [] }
+    ensures follows { IfOk result (FollowsAll checked.now) }
+    ensures whole { IfOk result (λ check. check.entries.items ≡ reader.new.given.items) }
+{
+    let mut check = TraceCheck::new(checked);
+    for _ in 0..u64::MAX {
+        let Some(found) = reader.next()? else {
+            break;
+        };
+        let _lawful = check.take(checked, &found.entry, found.line);
+    }
+    Ok(check)
+}
+
+/// The commands of one channel, and the line of each.
+#[derive(Drop)]
+pub struct Listed {
+    pub commands: Vec<Stamped>,
+    pub lines: Vec<u64>,
+}
+
+/// Reads a trace as far as a line, and lists the commands of a channel.
+pub fn list_commands<R: Read + Drop>(
+    alloc: Global,
+    reader: &mut TraceReader<R>,
+    channel: u64,
+    last: u64,
+) -> Result<Listed, TraceFault> {
+    let mut listed = Listed {
+        commands: Vec::new(alloc),
+        lines: Vec::new(alloc),
+    };
+    for _ in 0..u64::MAX {
+        match reader.next()? {
+            Some(found) if found.line <= last => if found.entry.channel == channel {
+                listed.add(found.entry.command, found.line)?;
+            },
+            _ => break,
+        }
+    }
+    Ok(listed)
+}
+
+/// A command and its line.
+#[derive(Clone, Copy, Debug, PartialEq, Eq)]
+pub struct Numbered {
+    pub line: u64,
+    pub command: Stamped,
+}
+
+/// A fault, the two commands of which its rule doesn't hold, and why. Where the rule is on one command, both are that one.
+#[derive(Clone, Copy, Debug)]
+pub struct Diagnosis {
+    pub fault: Fault,
+    pub first: Numbered,
+    pub second: Numbered,
+    pub reason: Reason,
+}
+
+impl fmt::Display for Numbered {
+    fn fmt<W: fmt::Write>(&self, f: &mut fmt::Formatter<W>) -> fmt::Result {
+        write!(f, "line {}: {}", self.line, self.command)
+    }
+}
+
+impl fmt::Display for Diagnosis {
+    fn fmt<W: fmt::Write>(&self, f: &mut fmt::Formatter<W>) -> fmt::Result {
+        write!(f, "{}, {}", self.fault.rule, self.reason)?;
+        if self.fault.first != self.fault.second {
+            write!(f, "; {}", self.first)?;
+        }
+        write!(f, "; {}", self.second)
+    }
+}
+
+impl Listed {
+    fn add(&mut self, command: Stamped, line: u64) -> Result<(), AllocError> {
+        self.commands.push(command)?;
+        self.lines.push(line)?;
+        Ok(())
+    }
+}
+
+// The command at an index, and its line.
+fn command_at(commands: &[Stamped], lines: &[u64], index: usize) -> Numbered
+    requires { index < length commands.now }
+    ensures { Some result.command ≡ slice_get commands.now index }
+{
+    Numbered {
+        line: lines.get(index).copied().unwrap_or(0),
+        command: commands[index],
+    }
+}
+
+/// The least fault of a list of commands, which stand in the lines, and why it is one; none of a lawful list.
+///
+/// Linear in a lawful list; of another one, those up to the fault are then compared with its command.
+pub fn diagnose(checked: &Checked, commands: &[Stamped], lines: &[u64]) -> Option<Diagnosis>
+    ensures lawful { IsNone result ↔ IsLawful checked.now commands.now }
+    ensures least { IfSome result (λ d. IsLeastFault checked.now commands.now d.fault) }
+    ensures first { IfSome result (λ d.
+        slice_get commands.now d.fault.first ≡ Some d.first.command) }
+    ensures second { IfSome result (λ d.
+        slice_get commands.now d.fault.second ≡ Some d.second.command) }
+{
+    let Some(fault) = first_fault(checked, commands) else {
+        return None;
+    };
+    let first = command_at(commands, lines, fault.first);
+    let second = command_at(commands, lines, fault.second);
+    let before = &commands[..fault.second];
+    let reason = Reason::of(checked, fault.rule, before, &first.command, &second.command);
+    Some(Diagnosis {
+        fault,
+        first,
+        second,
+        reason,
+    })
+}
+
+impl From<AllocError> for TraceFault {
+    fn from(_: AllocError) -> TraceFault {
+        TraceFault::Memory
+    }
+}

@@ -1,0 +1,124 @@
+// The kinds of commands, by the names that traces give them.
+ghost use Rattle.std.specs.Prelude.{◌≡◌, ◌≢◌, IfSome, IsNone};
+ghost use Rattle.ddr4_timing.specs.declared.command.Command.{Command};
+ghost use Rattle.command_trace.specs.Kinds.{IsCommandOf, kind_of, numbers_of};
+
+use ddr4_timing::command::Command;
+use ddr4_timing::place::BankAddress;
+
+/// A kind of commands.
+#[derive(Clone, Copy, Debug, PartialEq, Eq)]
+pub enum Kind {
+    Act,
+    Rd,
+    Wr,
+    Pre,
+    PreAll,
+    Ref,
+    Sre,
+}
+
+impl Kind {
+    /// The kind of a name as this program prints it.
+    pub fn named(name: &str) -> Option<Kind> {
+        match name {
+            "ACT" => Some(Kind::Act),
+            "RD" => Some(Kind::Rd),
+            "WR" => Some(Kind::Wr),
+            "PRE" => Some(Kind::Pre),
+            "PREA" => Some(Kind::PreAll),
+            "REF" => Some(Kind::Ref),
+            "SRE" => Some(Kind::Sre),
+            _ => None,
+        }
+    }
+
+    /// The kind of a name in one of the spellings that simulators print, in any case.
+    pub fn spelled(name: &str) -> Option<Kind> {
+        for (spelling, kind) in SPELLINGS {
+            if spelling.eq_ignore_ascii_case(name) {
+                return Some(kind);
+            }
+        }
+        None
+    }
+
+    /// Does a command of this kind have the part that a table names in this column? They are the rank in column 3, the bank
+    /// group, the bank, the row and the column in 7.
+    pub(crate) fn has_part(self, place: usize) -> bool {
+        match self {
+            Kind::Act => 3 <= place && place <= 6,
+            Kind::Rd | Kind::Wr => 3 <= place && place <= 5 || place == 7,
+            Kind::Pre => 3 <= place && place <= 5,
+            Kind::PreAll | Kind::Ref | Kind::Sre => place == 3,
+        }
+    }
+
+    /// The command of this kind whose numbers are these, in the order in which a trace names them.
+    pub fn command(self, numbers: &[u64]) -> Option<Command>
+        ensures some { IfSome result (IsCommandOf self numbers.now) }
+        ensures none { IsNone result → (x : Command) → kind_of x ≡ self →
+            numbers_of x ≢ numbers.now }
+    {
+        match (self, numbers) {
+            (Kind::Act, [rank, group, bank, row]) => Some(Command::Act {
+                at: bank_of(rank, group, bank),
+                row: *row,
+            }),
+            (Kind::Rd, [rank, group, bank, column]) => Some(Command::Rd {
+                at: bank_of(rank, group, bank),
+                column: *column,
+            }),
+            (Kind::Wr, [rank, group, bank, column]) => Some(Command::Wr {
+                at: bank_of(rank, group, bank),
+                column: *column,
+            }),
+            (Kind::Pre, [rank, group, bank]) => Some(Command::Pre {
+                at: bank_of(rank, group, bank),
+            }),
+            (Kind::PreAll, [rank]) => Some(Command::PreAll { rank: *rank }),
+            (Kind::Ref, [rank]) => Some(Command::Ref { rank: *rank }),
+            (Kind::Sre, [rank]) => Some(Command::Sre { rank: *rank }),
+            _ => None,
+        }
+    }
+}
+
+const SPELLINGS: [(&str, Kind); 13] = [
+    ("ACT", Kind::Act),
+    ("ACTIVATE", Kind::Act),
+    ("RD", Kind::Rd),
+    ("READ", Kind::Rd),
+    ("WR", Kind::Wr),
+    ("WRITE", Kind::Wr),
+    ("PRE", Kind::Pre),
+    ("PRECHARGE", Kind::Pre),
+    ("PREA", Kind::PreAll),
+    ("REF", Kind::Ref),
+    ("REFRESH", Kind::Ref),
+    ("SRE", Kind::Sre),
+    ("SREF_ENTER", Kind::Sre),
+];
+
+fn bank_of(rank: &u64, group: &u64, bank: &u64) -> BankAddress
+    ensures { result ≡ record { rank = rank.now; group = group.now; bank = bank.now } }
+{
+    BankAddress {
+        rank: *rank,
+        group: *group,
+        bank: *bank,
+    }
+}
+
+/// The name of a command.
+pub fn name_of(x: &Command) -> &'static str {
+    match x {
+        Command::Act { .. } => "ACT",
+        Command::Rd { .. } => "RD",
+        Command::Wr { .. } => "WR",
+        Command::Pre { .. } => "PRE",
+        Command::PreAll { .. } => "PREA",
+        Command::Ref { .. } => "REF",
+        Command::Sre { .. } => "SRE",
+    }
+}

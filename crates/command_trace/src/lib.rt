@@ -1,0 +1,23 @@
+//! Traces of DDR4 commands: the lines of one, read as a stream, and whether the commands of each channel are lawful.
+//!
+//! A `TraceCheck` takes the commands one by one and keeps a constant size for each channel. Where a channel's commands aren't
+//! lawful, `ddr4_timing`'s `first_fault` names the least fault of the list of its commands up to there.
+#![tactic(auto)]
+
+mod asked;
+mod diagnosis;
+mod entry;
+mod front;
+mod kind;
+mod reading;
+mod reason;
+mod trace_check;
+
+pub use asked::Asked;
+pub use diagnosis::{Diagnosis, Listed, Numbered, check_trace, diagnose, list_commands};
+pub use entry::{Entry, Located};
+pub use front::Front;
+pub use kind::{Kind, name_of};
+pub use reading::{Form, HEADER, TraceFault, TraceReader, form_of};
+pub use reason::Reason;
+pub use trace_check::{MOST_CHANNELS, TraceCheck};

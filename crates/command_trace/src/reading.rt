@@ -1,0 +1,260 @@
+// The commands of a trace, read as a stream.
+ghost use Rattle.std.specs.Prelude.{◌≡◌, [], ◌++◌, IfOk, IfSome};
+ghost use Rattle.command_trace.specs.Reading.{FitsChannels, entries_of};
+
+use crate::entry::{Entry, Located};
+use crate::kind::Kind;
+use csv::{ByteRecord, ErrorKind, ReaderBuilder, Terminator};
+use ddr4_timing::command::Stamped;
+use ghost_trace::Trace;
+use std::alloc::Global;
+use std::io::{Chain, Read};
+use thiserror::Error;
+
+/// The two forms of a trace.
+#[derive(Clone, Copy, Debug, PartialEq, Eq)]
+pub enum Form {
+    /// `CHANNEL CLOCK NAME` and the command's numbers, as this program prints commands. Where `others` is true, lines that
+    /// are other answers of a run are passed over.
+    Lines { others: bool },
+    /// Comma separated values under the header `HEADER`.
+    Table,
+}
+
+/// The first row of a table.
+pub const HEADER: [&str; 8] = [
+    "clock",
+    "command",
+    "channel",
+    "rank",
+    "bankgroup",
+    "bank",
+    "row",
+    "column",
+];
+
+/// Why a trace can't be read.
+#[derive(Debug, Drop, Error)]
+pub enum TraceFault {
+    /// The line is no command.
+    #[error("trace line {0}")]
+    Line(u64),
+    /// The reader failed.
+    #[error("reader")]
+    Reader,
+    #[error("memory")]
+    Memory,
+}
+
+impl From<csv::Error> for TraceFault {
+    fn from(error: csv::Error) -> TraceFault {
+        match error.kind() {
+            ErrorKind::OutOfMemory => TraceFault::Memory,
+            _ => TraceFault::Reader,
+        }
+    }
+}
+
+// What a row of a trace is.
+#[derive(Clone, Copy)]
+enum Row {
+    Command(Entry),
+    Other,
+    Bad,
+}
+
+/// Reads the commands of a trace one by one. Empty lines, and those that begin with `#`, are passed over.
+#[derive(Drop)]
+pub struct TraceReader<R> {
+    rows: csv::Reader<Chain<R, &'static [u8]>>,
+    row: ByteRecord,
+    form: Form,
+    channels: u64,
+    is_begun: bool,
+    pub given: Trace<Entry>,
+}
+
+// Rows of so many fields as there are, each a line.
+fn rows_of<R: Read + Drop>(
+    alloc: Global,
+    source: R,
+    delimiter: u8,
+) -> csv::Reader<Chain<R, &'static [u8]>> {
+    // behind the last line too stands an end of line, so that each row is the line before the reader's
+    let ended = source.chain(b"\n".as_slice());
+    ReaderBuilder::new()
+        .has_headers(false)
+        .flexible(true)
+        .quoting(false)
+        .comment(Some(b'#'))
+        .terminator(Terminator::Any(b'\n'))
+        .delimiter(delimiter)
+        .from_reader(alloc, ended)
+}
+
+/// The form of a trace, by its first line that is neither empty nor a comment: a table where that has a comma.
+pub fn form_of<R: Read + Drop>(alloc: Global, source: R, others: bool) -> Result<Form, TraceFault> {
+    let mut rows = rows_of(alloc, source, b',');
+    let mut row = ByteRecord::new(alloc);
+    let _found = rows.read_byte_record(&mut row)?;
+    if row.len() > 1 {
+        Ok(Form::Table)
+    } else {
+        Ok(Form::Lines { others })
+    }
+}
+
+// A number: decimal digits alone, that fit 64 bits.
+fn number(field: &[u8]) -> Option<u64> {
+    if field.is_empty() {
+        return None;
+    }
+    let mut value: u64 = 0;
+    for byte in field {
+        if !byte.is_ascii_digit() {
+            return None;
+        }
+        value = value.checked_mul(10)?.checked_add((*byte - b'0') as u64)?;
+    }
+    Some(value)
+}
+
+// A field without a carriage return at its end.
+fn field(row: &ByteRecord, place: usize) -> Option<&[u8]> {
+    let bytes = row.get(place)?;
+    Some(bytes.strip_suffix(b"\r").unwrap_or(bytes))
+}
+
+fn number_at(row: &ByteRecord, place: usize) -> Option<u64> {
+    number(field(row, place)?)
+}
+
+fn word_at(row: &ByteRecord, place: usize) -> Option<&str> {
+    std::str::from_utf8(field(row, place)?).ok()
+}
+
+// The command of a line.
+fn entry_of_line(row: &ByteRecord) -> Option<Entry> {
+    let kind = Kind::named(word_at(row, 2)?)?;
+    let mut numbers = [0; 4];
+    let count = row.len().checked_sub(3)?;
+    for (place, value) in numbers.iter_mut().enumerate() {
+        if place < count {
+            *value = number_at(row, 3 + place)?;
+        }
+    }
+    Some(Entry {
+        channel: number_at(row, 0)?,
+        command: Stamped {
+            clock: number_at(row, 1)?,
+            cmd: kind.command(numbers.get(..count)?)?,
+        },
+    })
+}
+
+// The command of a row of a table.
+fn entry_of_row(row: &ByteRecord) -> Option<Entry> {
+    if row.len() != HEADER.len() {
+        return None;
+    }
+    let kind = Kind::spelled(word_at(row, 1)?)?;
+    let mut numbers = [0; 4];
+    let mut count = 0;
+    for place in 3..8 {
+        if kind.has_part(place) {
+            if count < 4 {
+                numbers[count] = number_at(row, place)?;
+                count += 1;
+            }
+        } else if !field(row, place)?.is_empty() {
+            return None;
+        }
+    }
+    Some(Entry {
+        channel: number_at(row, 2)?,
+        command: Stamped {
+            clock: number_at(row, 0)?,
+            cmd: kind.command(numbers.get(..count)?)?,
+        },
+    })
+}
+
+// Is this another answer of a run than a command? Those of a channel alone begin with a number.
+fn is_other(row: &ByteRecord) -> bool {
+    match number_at(row, 0) {
+        None => true,
+        Some(_channel) => row.len() == 2 && word_at(row, 1) == Some("idle"),
+    }
+}
+
+fn is_header(row: &ByteRecord) -> bool {
+    for (place, name) in HEADER.iter().enumerate() {
+        if word_at(row, place) != Some(*name) {
+            return false;
+        }
+    }
+    row.len() == HEADER.len()
+}
+
+impl<R: Read + Drop> TraceReader<R> {
+    /// The commands of a trace of this form, whose channels are numbered below `channels`.
+    pub fn new(alloc: Global, source: R, form: Form, channels: u64) -> TraceReader<R>
+        ensures channels { result.channels ≡ channels }
+        ensures given { result.given.items ≡ [] }
+    {
+        let delimiter = match form {
+            Form::Lines { .. } => b' ',
+            Form::Table => b',',
+        };
+        TraceReader {
+            rows: rows_of(alloc, source, delimiter),
+            row: ByteRecord::new(alloc),
+            form,
+            channels,
+            is_begun: false,
+            given: Trace::new(),
+        }
+    }
+
+    // What the row is that was read last.
+    fn parsed(&mut self) -> Row
+        ensures { (self.new.channels ≡ self.old.channels) × (self.new.given ≡ self.old.given) }
+    {
+        let begins = !self.is_begun;
+        self.is_begun = true;
+        let row = &self.row;
+        match self.form {
+            Form::Table if begins => if is_header(row) { Row::Other } else { Row::Bad },
+            Form::Table => entry_of_row(row).map_or(Row::Bad, Row::Command),
+            Form::Lines { others: true } if is_other(row) => Row::Other,
+            Form::Lines { .. } => entry_of_line(row).map_or(Row::Bad, Row::Command),
+        }
+    }
+
+    /// The next command, or none at the end of the trace. A line that is no command, whose channel isn't there or whose clock
+    /// is 2^63 or more is refused by its number.
+    pub fn next(&mut self) -> Result<Option<Located>, TraceFault>
+        ensures fits { IfOk result (λ found. IfSome found (λ l.
+            FitsChannels self.old.channels l.entry)) }
+        ensures channels { self.new.channels ≡ self.old.channels }
+        ensures given { IfOk result (λ found. self.new.given.items
+            ≡ self.old.given.items ++ entries_of found) }
+    {
+        for _ in 0..u64::MAX {
+            if !self.rows.read_byte_record(&mut self.row)? {
+                return Ok(None);
+            }
+            let line = self.rows.position().line().saturating_sub(1);
+            match self.parsed() {
+                Row::Other => {}
+                Row::Command(entry)
+                    if entry.channel < self.channels && entry.command.clock < 1 << 63 => {
+                    self.given.note(&entry);
+                    return Ok(Some(Located { line, entry }));
+                }
+                Row::Command(_) | Row::Bad => return Err(TraceFault::Line(line)),
+            }
+        }
+        Ok(None)
+    }
+}
