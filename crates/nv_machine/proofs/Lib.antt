@@ -25,6 +25,7 @@ pub mod CountedFaults
 pub mod SparedDevices
 -- lives in a chain, and what a restore finds after them
 pub mod StoppedLives
+pub mod SavedImages
 pub mod History
 pub mod Caused
 pub mod SurvivedLives

@@ -38,11 +38,11 @@ left_since P old new bytes leaves stop =
     left_at P (moments_since old new) bytes (rw (since_is old new leaves.since leaves.keeps) (All-cons (StopsWithin P) (present old) leaves.since leaves.first leaves.each)) stop
 
 -- a stop at a moment between two events
-abbrev StopsRecover : Setup → World → Type 0
+abbrev pub StopsRecover : Setup → World → Type 0
 StopsRecover setup point = StopsWithin (λ bytes. RecoversAfterwards point.machine (restored setup.shape.lines bytes)) (present point.device)
 
 -- what it leaves at the end of a run
-left_along : (setup : Setup) (events : List Event) (replies : List Reply) (old new : World) → Run setup events replies old new → StopsRecover setup old → StopsRecover setup new
+pub left_along : (setup : Setup) (events : List Event) (replies : List Reply) (old new : World) → Run setup events replies old new → StopsRecover setup old → StopsRecover setup new
 left_along setup [] [] old new run left = subst (StopsRecover setup) (sym run.is) left
 left_along setup (event ∷ events) (reply ∷ replies) old new run left = left_along setup events replies run.0 new run.2 run.1.happens.at_end
 left_along setup _ _ old new none left = absurd none

@@ -10,6 +10,7 @@ pub mod Guard
 pub mod Headline
 pub mod Honesty
 pub mod Rising
+pub mod SavedImages
 -- lives in a chain, and what a restore finds after them
 pub mod Opening
 pub mod Lives

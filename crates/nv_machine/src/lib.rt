@@ -10,6 +10,7 @@ mod events;
 mod honesty;
 mod lives;
 mod rising;
+mod saves;
 mod survival;
 mod turns;
 
@@ -17,5 +18,6 @@ pub use events::{Accepted, Event, Reply, StepReply};
 pub use honesty::honest_run;
 pub use lives::one_history;
 pub use rising::history_grows;
+pub use saves::saves_leave_old_or_new;
 pub use survival::survives_any_stop;
 pub use turns::runs_join;
