@@ -1,7 +1,7 @@
 -- Calls of a module in turn answer the list of their events.
 use Rattle.energy_budget.proofs.Charging.{rises_none}
 use Rattle.energy_budget.specs.Charging.{RisesTo}
-use Rattle.module_core.specs.ModuleLives.{HasAnswered}
+use Rattle.module_core.specs.ModuleLives.{HasAnswered, LifeSoFar}
 use Rattle.module_core.specs.Opening.{opened_with}
 use Rattle.module_core.specs.declared.opening.Opened.{Opened}
 use Rattle.nv_machine.specs.Headline.{RecoversAfterwards}
@@ -74,3 +74,32 @@ module _ {K : Type 0} (L : Ghosts K) where
       let whole = answered_on found image events [] replies [] first old new answered (rests_in_turn old new (record { gauge = rises; is = refl })) in
       subst (λ (es : List Event). HasAnswered L found image es replies first new) (append-nil events)
       (subst (λ (rs : List Reply). HasAnswered L found image (events ++ []) rs first new) (append-nil replies) whole)
+
+  -- a life so far: it begins, goes on, and its gauge is charged
+  pub life_begins : (found : Opened) (image : Image) (first : Assembly L) → ModuleStands L first.it first.device (opened_with found image) → LifeSoFar L first
+  life_begins found image first stands = record { found = found; image = image; events = []; replies = []; first = first; answered = answered_none found image first stands }
+
+  pub life_on : (old new : Assembly L) (so : LifeSoFar L old) (more : List Event) (others : List Reply) → setup_of L new.it ≡ setup_of L old.it
+      → RunsTo L more others old so.answered.runs.last new → LifeSoFar L new
+  life_on old new so more others same runs = record {
+    found = so.found;
+    image = so.image;
+    events = so.events ++ more;
+    replies = so.replies ++ others;
+    first = so.first;
+    answered = record {
+      begins = so.answered.begins;
+      runs = runs_on so.events more so.replies others so.first (opened_with so.found so.image) old new so.answered.setup so.answered.runs runs;
+      setup = same ∙ so.answered.setup;
+    };
+  }
+
+  pub life_charged : (old : Assembly L) (charged : Gauge) → RisesTo old.gauge charged → LifeSoFar L old → LifeSoFar L (record old { gauge = charged })
+  life_charged old charged rises so = record {
+    found = so.found;
+    image = so.image;
+    events = so.events;
+    replies = so.replies;
+    first = so.first;
+    answered = none_answered_on so.found so.image so.events so.replies so.first old charged rises so.answered;
+  }

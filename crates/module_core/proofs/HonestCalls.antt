@@ -22,7 +22,7 @@ use Rattle.nv_machine.proofs.SparedDevices.{spared_ends}
 use Rattle.module_core.specs.declared.opening.Opened.{Opened}
 use Rattle.module_core.specs.HonestCalls.{HoldsAll, IsFaultless, IsWholeLoss, SavesWhereHonest, StaysHonest, StaysWhereHonest}
 use Rattle.module_core.specs.InTurn.{AnswersCall, AnswersCalls}
-use Rattle.module_core.specs.ModuleLives.{HasAnswered}
+use Rattle.module_core.specs.ModuleLives.{HasAnswered, LifeSoFar}
 use Rattle.module_core.specs.Opening.{opened_with}
 use Rattle.module_core.specs.Stands.{EndsMains, RunsTo, world_of}
 use Rattle.module_core.proofs.Common.{[], ℕ, ◌++◌, ◌+◌, ◌∙◌, ◌∷◌, ◌≡◌, ◌≤◌, Assembly, ChannelsView, Event, Ghosts, Image, IsAmong, List, Machine, Module, Outcome, Reply, Setup, Store, World, ap, arith, false, is_backed, made_of, other, point_of, refl, restored, setup_of, subst, sym}
@@ -68,9 +68,12 @@ module _ {K : Type 0} (L : Ghosts K) where
       let r : RunsTo L events replies old m new = answered.runs in
       let last : World = world_of L new r.last in
       let run : Run setup events replies first last = run_worlds L setup events replies (point_of L old m) (point_of L new r.last) r.run in
-      let saves = saved_along setup events replies first last run (along found image events replies old last run faultless.gauge faultless.device) (not_backed setup m old.gauge refl) in
+      let honest = along found image events replies old last run faultless.gauge faultless.device in
+      let saves = saved_along setup events replies first last run honest (not_backed setup m old.gauge refl) in
+      let backed : IsBacked setup r.last new.gauge = backed_along setup events replies first last run honest (not_backed setup m old.gauge refl) in
       let calm : is_broken_off r.last.lost ≡ false = unbroken_along setup events replies first last run answered.begins.guarded saves refl in
       record {
+        backed = record { machine = r.last; stands = r.stands; backed = subst (λ (s : Setup). IsBacked s r.last new.gauge) (sym answered.setup) backed };
         losses = whole_along setup events replies first last run saves;
         kept = λ off bytes left.
             let here = (r.left bytes left).recovers in
@@ -83,6 +86,9 @@ module _ {K : Type 0} (L : Ghosts K) where
               holds = omega (arith, r.stands.matches.persisted, here.whole settled);
             };
       }
+
+  pub honest_life : (now : Assembly L) (so : LifeSoFar L now) → IsFaultless L so.first now → StaysHonest L so.replies now
+  honest_life now so = stays_honest so.found so.image so.events so.replies so.first now so.answered
 
   pub honest_calls : (events : List Event) (replies : List Reply) (old new : Assembly L) → AnswersCalls L events replies old new → StaysWhereHonest L replies old new
   honest_calls events replies old new calls found image before told first answered faultless =

@@ -13,8 +13,10 @@ use Rattle.channel_port.specs.declared.port.ChannelPort.{Ghosts}
 use Rattle.nv_machine.specs.declared.events.Event.{Event}
 use Rattle.nv_machine.specs.declared.events.Reply.{Reply}
 use Rattle.nv_machine.specs.declared.events.Reply.TheVariants as replies
+use Rattle.nv_machine.specs.State.{Machine}
+use Rattle.nv_machine.specs.Headline.{IsBacked}
 use Rattle.module_core.specs.declared.opening.Opened.{Opened}
-use Rattle.module_core.specs.Stands.{Assembly, lines_of_module, setup_of}
+use Rattle.module_core.specs.Stands.{Assembly, ModuleStands, lines_of_module, setup_of}
 use Rattle.module_core.specs.ModuleLives.{HasAnswered}
 
 -- no closing save was broken off
@@ -48,8 +50,16 @@ module _ {K : Type 0} (L : Ghosts K) where
   abbrev pub RestoresTo : (Outcome → Type 0) → Assembly L → Type 0
   RestoresTo P now = StopsWithin (λ bytes. P (restored (lines_of_module L now.it) bytes)) (present now.device)
 
-  -- No closing save was broken off; and unless acknowledged writes are still to be saved, a stop now leaves them all.
+  -- The module stands for this machine, and the gauge backs its acknowledged writes.
+  pub record IsBackedNow (now : Assembly L) : Type 0 where
+    pub machine : Machine
+    pub stands : ModuleStands L now.it now.device machine
+    pub backed : IsBacked (setup_of L now.it) machine now.gauge
+
+  -- The gauge backs the acknowledged writes. No closing save was broken off; and unless acknowledged writes are still to be saved, a
+  -- stop now leaves them all.
   pub record StaysHonest (replies : List Reply) (now : Assembly L) : Type 0 where
+    pub backed : IsBackedNow now
     pub losses : All IsWholeLoss replies
     pub kept : is_backed now.it.mode ≡ false → RestoresTo (HoldsUpTo now.it.persisted) now
 

@@ -24,6 +24,15 @@ module _ {K : Type 0} (L : Ghosts K) where
     pub runs : RunsTo L events replies old (opened_with found image) new
     pub setup : setup_of L new.it ≡ setup_of L old.it
 
+  -- The life so far of a module with its device and its gauge: what it began with, and what it has answered since.
+  pub record LifeSoFar (now : Assembly L) : Type 0 where
+    pub found : Opened
+    pub image : Image
+    pub events : List Event
+    pub replies : List Reply
+    pub first : Assembly L
+    pub answered : HasAnswered found image events replies first now
+
   -- its life: the machine that it stood for in the end, the event that a stop left unanswered, and the bytes that this left
   abbrev pub module_life : Opened → Image → List Event → List Reply → Assembly L → World → Option Unanswered → List ℕ → Lived
   module_life found image events replies old last unanswered bytes = record {

@@ -6,9 +6,9 @@ ghost use Rattle.nv_machine.specs.declared.events.Event.{Event};
 ghost use Rattle.nv_machine.specs.declared.events.Event.TheVariants as event;
 ghost use Rattle.nv_machine.specs.declared.events.Reply.{Reply};
 ghost use Rattle.nv_machine.specs.declared.events.Reply.TheVariants as reply;
-ghost use Rattle.module_core.specs.HonestCalls.{SavesWhereHonest, StaysWhereHonest};
+ghost use Rattle.module_core.specs.HonestCalls.{IsFaultless, SavesWhereHonest, StaysHonest, StaysWhereHonest};
 ghost use Rattle.module_core.specs.InTurn.{IsCharged, AnswersCall, AnswersCalls};
-ghost use Rattle.module_core.specs.ModuleLives.{HasAnswered};
+ghost use Rattle.module_core.specs.ModuleLives.{HasAnswered, LifeSoFar};
 ghost use Rattle.module_core.specs.Opening.{opened_with};
 ghost use Rattle.module_core.specs.Stands.{Assembly, ModuleStands};
 ghost use Rattle.module_core.specs.declared.opening.Opened.{Opened};
@@ -40,13 +40,16 @@ pub fn calls_in_turn<K: ChannelPort>()
 {}
 
 /// What an honest gauge is enough for in the calls of a module, from the beginning of its life on. Where since then neither the
-/// gauge nor the device has counted a fault, and the gauge's leak isn't above that of the costs, no loss of mains was broken off,
-/// and unless acknowledged writes are still to be saved a stop leaves each of them. A loss of mains while they are to be saved is
+/// gauge nor the device has counted a fault, and the gauge's leak isn't above that of the costs, the gauge backs what was
+/// acknowledged; no loss of mains was broken off; and unless acknowledged writes are still to be saved a stop leaves each of them.
+/// A loss of mains while they are to be saved is
 /// answered `Saved` with all accepted writes, and a restore finds them all, complete.
 pub fn honest_modules<K: ChannelPort>()
     ensures calls { (events : List Event) (replies : List Reply) (old new : Assembly K.ChannelPort)
         → AnswersCalls K.ChannelPort events replies old new
         → StaysWhereHonest K.ChannelPort replies old new }
+    ensures lives { (now : Assembly K.ChannelPort) (so : LifeSoFar K.ChannelPort now)
+        → IsFaultless K.ChannelPort so.first now → StaysHonest K.ChannelPort so.replies now }
     ensures loss { (lost : Loss) (old new : Assembly K.ChannelPort)
         → AnswersCall K.ChannelPort event.Lose (reply.Lose lost) old new
         → SavesWhereHonest K.ChannelPort lost old new }

@@ -1,9 +1,12 @@
 -- What an honest gauge is enough for in the calls of a module.
-use Rattle.module_core.proofs.HonestCalls.{honest_calls, honest_loss}
+use Rattle.module_core.proofs.HonestCalls.{honest_calls, honest_life, honest_loss}
 use Rattle.module_core.proofs.turns.honest_modules.Goals as goal
 
 pub returns-clause-calls : goal.returns-clause-calls
 returns-clause-calls g c = honest_calls g.K.ChannelPort
+
+pub returns-clause-lives : goal.returns-clause-lives
+returns-clause-lives g c = honest_life g.K.ChannelPort
 
 pub returns-clause-loss : goal.returns-clause-loss
 returns-clause-loss g c = honest_loss g.K.ChannelPort
