@@ -6,12 +6,16 @@ use Rattle.ddr4_timing.specs.Limits.{lines_of}
 use Rattle.save_device.specs.Device.{DeviceState}
 use Rattle.slot_store.specs.Slots.{HasSize}
 use Rattle.channel_port.specs.declared.port.ChannelPort.{Ghosts}
-use Rattle.nv_machine.specs.State.{Setup, Machine}
+use Rattle.nv_machine.specs.State.{Setup}
 use Rattle.nv_profile.specs.declared.profile.Profile.{Profile}
 use Rattle.module_core.specs.declared.module.Module.{Module}
-use Rattle.module_core.specs.Stands.{Assembly, HasDevice, ModuleStands, assembly, setup_of}
+use Rattle.energy_budget.specs.Charging.{RisesTo}
+use Rattle.energy_budget.specs.Gauge.{Gauge}
+use Rattle.module_core.specs.ModuleLives.{LifeSoFar}
+use Rattle.module_core.specs.Stands.{Assembly, HasDevice, assembly, setup_of}
+use Rattle.module_core.proofs.CallsInTurn.{life_charged, life_on}
 use Rattle.nv_session.specs.Coming.{Tale, ComesTo, Comes, ComesAlone}
-use Rattle.nv_session.specs.Living.{GoesOnBy, GoesOnAlone, IsLiving, IsShapeFor, LivesOn, SessionAt, StandsForSome, session_at}
+use Rattle.nv_session.specs.Living.{GoesOnBy, GoesOnAlone, IsLiving, IsShapeFor, LivesOn, SessionAt, HasLife, session_at}
 
 module _ {K : Type 0} (L : Ghosts K) where
   pub goes_on_by : (Told : Setup → Tale) (old new : SessionAt L) (it later : Module K L) → old.life ≡ Some it → new.life ≡ Some later
@@ -29,34 +33,43 @@ module _ {K : Type 0} (L : Ghosts K) where
   running_or other (Some it) = it
   running_or other None = other
 
-  pub begins_living : (profile : Profile) (it : Module K L) (device : DeviceState) → HasSize (lines_of profile.checked.geometry) device
-      → IsShapeFor profile (setup_of L it).shape → StandsForSome L it device → IsLiving L profile (Some it) device
-  begins_living profile it device size fits stands = record {
+  pub begins_living : (profile : Profile) (it : Module K L) (device : DeviceState) (gauge : Gauge) → HasSize (lines_of profile.checked.geometry) device
+      → IsShapeFor profile (setup_of L it).shape → HasLife L it device gauge → IsLiving L profile (Some it) device gauge
+  begins_living profile it device gauge size fits lives = record {
     size = size;
     fits = λ other same. subst (λ (l : Module K L). IsShapeFor profile (setup_of L l).shape) (ap (running_or it) same) fits;
-    stands = λ other same. subst (λ (l : Module K L). StandsForSome L l device) (ap (running_or it) same) stands;
+    lives = λ other same. subst (λ (l : Module K L). HasLife L l device gauge) (ap (running_or it) same) lives;
   }
 
-  still_fits : (profile : Profile) (life : Option (Module K L)) (old new : Assembly L) → life ≡ Some old.it → IsLiving L profile life old.device → setup_of L new.it ≡ setup_of L old.it
+  still_fits : (profile : Profile) (life : Option (Module K L)) (old new : Assembly L) → life ≡ Some old.it → IsLiving L profile life old.device old.gauge → setup_of L new.it ≡ setup_of L old.it
       → IsShapeFor profile (setup_of L new.it).shape
   still_fits profile life old new was living same = subst (λ (s : Setup). IsShapeFor profile s.shape) (sym same) (living.fits old.it was)
 
-  lives_with : (Told : Tale) (profile : Profile) (life : Option (Module K L)) (old new : Assembly L) → life ≡ Some old.it → IsLiving L profile life old.device
-      → Comes L Told old new → setup_of L new.it ≡ setup_of L old.it → HasSize (lines_of profile.checked.geometry) new.device → IsLiving L profile (Some new.it) new.device
+  lives_with : (Told : Tale) (profile : Profile) (life : Option (Module K L)) (old new : Assembly L) → life ≡ Some old.it → IsLiving L profile life old.device old.gauge
+      → Comes L Told old new → setup_of L new.it ≡ setup_of L old.it → HasSize (lines_of profile.checked.geometry) new.device → IsLiving L profile (Some new.it) new.device new.gauge
   lives_with Told profile life old new was living comes same size =
-      begins_living profile new.it new.device size (still_fits profile life old new was living same)
-      (∥∥₁_map (living.stands old.it was)
-      (λ (standing : (m : Machine) × ModuleStands L old.it old.device m). let c : ComesTo L Told old standing.0 new = comes standing.0 standing.1 in (c.runs.last, c.runs.stands)))
+      begins_living profile new.it new.device new.gauge size (still_fits profile life old new was living same)
+      (∥∥₁_map (living.lives old.it was)
+      (λ (so : LifeSoFar L old).
+      let a = so.answered.runs in let c : ComesTo L Told old a.last new = comes a.last a.stands in life_on L old new so c.events c.replies same c.runs))
+
+  -- so it does where its gauge is charged
+  pub charged_living : (profile : Profile) (life : Option (Module K L)) (device : DeviceState) (old new : Gauge) → RisesTo old new → IsLiving L profile life device old → IsLiving L profile life device new
+  charged_living profile life device old new rises living = record {
+    size = living.size;
+    fits = living.fits;
+    lives = λ it was. ∥∥₁_map (living.lives it was) (life_charged L (assembly it device old) new rises);
+  }
 
   -- after calls that may call the device
-  pub lives_on : (Told : Tale) (profile : Profile) (life : Option (Module K L)) (old new : Assembly L) → life ≡ Some old.it → IsLiving L profile life old.device
-      → Comes L Told old new → setup_of L new.it ≡ setup_of L old.it → HasDevice L new.it new.device → IsLiving L profile (Some new.it) new.device
+  pub lives_on : (Told : Tale) (profile : Profile) (life : Option (Module K L)) (old new : Assembly L) → life ≡ Some old.it → IsLiving L profile life old.device old.gauge
+      → Comes L Told old new → setup_of L new.it ≡ setup_of L old.it → HasDevice L new.it new.device → IsLiving L profile (Some new.it) new.device new.gauge
   lives_on Told profile life old new was living comes same size =
       lives_with Told profile life old new was living comes same
       (subst (λ (n : ℕ). HasSize n new.device) (let fits : IsShapeFor profile (setup_of L new.it).shape = still_fits profile life old new was living same in fits.lines) size)
 
   -- after calls that don't
   pub lives_on_alone : (Told : Tale) (profile : Profile) (life : Option (Module K L)) (old new : Assembly L) → life ≡ Some old.it → new.device ≡ old.device
-      → IsLiving L profile life old.device → Comes L Told old new → setup_of L new.it ≡ setup_of L old.it → IsLiving L profile (Some new.it) new.device
+      → IsLiving L profile life old.device old.gauge → Comes L Told old new → setup_of L new.it ≡ setup_of L old.it → IsLiving L profile (Some new.it) new.device new.gauge
   lives_on_alone Told profile life old new was idle living comes same =
       lives_with Told profile life old new was living comes same (subst (λ (d : DeviceState). HasSize (lines_of profile.checked.geometry) d) (sym idle) living.size)

@@ -22,6 +22,7 @@ use Rattle.nv_machine.specs.Headline.{RecoversAfterwards}
 use Rattle.nv_machine.proofs.SurvivedLives.{clear_where}
 use Rattle.nv_profile.specs.declared.profile.Profile.{Profile}
 use Rattle.module_core.specs.declared.module.Module.{Module}
+use Rattle.module_core.specs.ModuleLives.{LifeSoFar}
 use Rattle.module_core.specs.Stands.{Assembly, ModuleStands, assembly, lines_of_module, setup_of}
 use Rattle.module_core.proofs.StoreSteps.{stop_now}
 use Rattle.nv_session.specs.declared.lives.Found.{Found}
@@ -112,7 +113,7 @@ module _ {K : Type 0} (L : Ghosts K) where
   stop_restored old new m bytes found stands left revives = finds_prefix new.it m (lines_of_module L old.it) bytes found new.device (left_by_life L old m stands bytes left) revives
 
   -- a stop of a session leaves what one does after each machine that it goes back to
-  life_left : (profile : Profile) (life : Option (Module K L)) (old : SessionAt L) (m : Machine) → IsLiving L profile life old.device
+  life_left : (profile : Profile) (life : Option (Module K L)) (old : SessionAt L) (m : Machine) → IsLiving L profile life old.device old.gauge
       → GoesBackTo L (lines_of profile.checked.geometry) (session_at life old.device old.gauge) m → IsLeftBy (lines_of profile.checked.geometry) m old.device
   life_left profile (Some it) old m living stands =
       let fits : IsShapeFor profile (setup_of L it).shape = living.fits it refl in
@@ -121,7 +122,7 @@ module _ {K : Type 0} (L : Ghosts K) where
 
   -- a session's restore: its life before fitted the profile, and the life that it began is of this setup
   pub session_finds : (profile : Profile) (setup : Setup) (old new : SessionAt L) (bytes : List ℕ) (found : Found)
-      → IsLiving L profile old.life old.device → MayLeave (present old.device) bytes
+      → IsLiving L profile old.life old.device old.gauge → MayLeave (present old.device) bytes
       → RunsWith L setup (λ it. Revives L (restored (lines_of profile.checked.geometry) bytes) found it new.device) new.life
       → FindsPrefixOf L (lines_of profile.checked.geometry) setup old found new
   session_finds profile setup old new bytes found living left runs m is = record {
@@ -132,7 +133,7 @@ module _ {K : Type 0} (L : Ghosts K) where
   }
 
   -- refused, it settled no more than the stop had
-  pub session_keeps : (profile : Profile) (old new : SessionAt L) (stopped : DeviceState) (error : RestoreError) → IsLiving L profile old.life old.device
+  pub session_keeps : (profile : Profile) (old new : SessionAt L) (stopped : DeviceState) (error : RestoreError) → IsLiving L profile old.life old.device old.gauge
       → MayLeave (present old.device) stopped.bytes → IsSettled stopped → LeavesOnly stopped new.device (MayLeave (present stopped))
       → Refuses error (restored (lines_of profile.checked.geometry) stopped.bytes) → KeepsPrefixOf L (lines_of profile.checked.geometry) old error new
   session_keeps profile old new stopped error living left settled within refuses =
@@ -147,13 +148,14 @@ module _ {K : Type 0} (L : Ghosts K) where
       }
 
   -- where a life ran its stop left an image
-  pub session_fails : (profile : Profile) (life : Option (Module K L)) (old : SessionAt L) (bytes : List ℕ) (error : RestoreError) → IsLiving L profile life old.device
+  pub session_fails : (profile : Profile) (life : Option (Module K L)) (old : SessionAt L) (bytes : List ℕ) (error : RestoreError) → IsLiving L profile life old.device old.gauge
       → MayLeave (present old.device) bytes → Refuses error (restored (lines_of profile.checked.geometry) bytes) → life ≢ None → IsFailure error
   session_fails profile None old bytes error living left refuses runs = absurd (runs refl)
   session_fails profile (Some it) old bytes error living left refuses runs =
       only_fails error (restored (lines_of profile.checked.geometry) bytes)
-      (∥∥₁_map (living.stands it refl)
-      (λ (stood : (m : Machine) × ModuleStands L it old.device m).
-      let after : RecoversAfterwards stood.0 (restored (lines_of profile.checked.geometry) bytes) = life_left profile (Some it) old stood.0 living stood.1 bytes left in
+      (∥∥₁_map (living.lives it refl)
+      (λ (so : LifeSoFar L (assembly it old.device old.gauge)).
+      let runs = so.answered.runs in
+      let after : RecoversAfterwards runs.last (restored (lines_of profile.checked.geometry) bytes) = life_left profile (Some it) old runs.last living runs.stands bytes left in
       (after.recovers.slot, after.recovers.image, after.recovers.found)))
       refuses

@@ -23,7 +23,8 @@ use Rattle.nv_machine.specs.declared.events.Reply.{Reply}
 use Rattle.nv_machine.specs.declared.events.Reply.TheVariants as reply
 use Rattle.nv_machine.specs.State.{Setup, Machine}
 use Rattle.module_core.specs.declared.module.Module.{Module}
-use Rattle.module_core.specs.Stands.{ModuleStands, assembly, setup_of}
+use Rattle.module_core.specs.ModuleLives.{LifeSoFar}
+use Rattle.module_core.specs.Stands.{assembly, setup_of}
 use Rattle.nv_session.specs.Coming.{Tale, IsOneEvent, Comes}
 
 -- why a line isn't written or read where no life runs, in a memory of so many lines
@@ -63,16 +64,16 @@ abbrev pub session_at : {K : Type 0} {L : Ghosts K} → Option (Module K L) → 
 session_at life device gauge = record { life = life; device = device; gauge = gauge }
 
 module _ {K : Type 0} (L : Ghosts K) where
-  -- the module and the device stand for some machine
-  abbrev pub StandsForSome : Module K L → DeviceState → Type 0
-  StandsForSome it device = ∥ ((m : Machine) × ModuleStands L it device m) ∥₁
+  -- the module has a life so far, with this device and this gauge
+  abbrev pub HasLife : Module K L → DeviceState → Gauge → Type 0
+  HasLife it device gauge = ∥ LifeSoFar L (assembly it device gauge) ∥₁
 
   -- The device is one for images of the profile's lines. The life that runs, if one does, has the profile's lines and channels,
-  -- and stands with the device for some machine.
-  pub record IsLiving (profile : Profile) (life : Option (Module K L)) (device : DeviceState) : Type 0 where
+  -- and has lived with the device and the gauge since it was opened.
+  pub record IsLiving (profile : Profile) (life : Option (Module K L)) (device : DeviceState) (gauge : Gauge) : Type 0 where
     pub size : HasSize (lines_of profile.checked.geometry) device
     pub fits : (it : Module K L) → life ≡ Some it → IsShapeFor profile (setup_of L it).shape
-    pub stands : (it : Module K L) → life ≡ Some it → StandsForSome it device
+    pub lives : (it : Module K L) → life ≡ Some it → HasLife it device gauge
 
   -- a life of this setup runs
   pub record RunsWith (setup : Setup) (Of : Module K L → Type 0) (life : Option (Module K L)) : Type 0 where

@@ -6,6 +6,7 @@ ghost use Rattle.arm_state.specs.declared.refusal.ReadRefusal.{ReadRefusal};
 ghost use Rattle.arm_state.specs.Modes.{is_armed};
 ghost use Rattle.energy_budget.specs.Charging.{RisesTo};
 ghost use Rattle.energy_budget.specs.Gauge.{Gauge};
+ghost use Rattle.energy_budget.specs.Meter.{meter_gauge};
 ghost use Rattle.save_device.specs.Device.{DeviceState, MayLeave, present};
 ghost use Rattle.save_image.specs.Image.{Image};
 ghost use Rattle.slot_store.specs.Outcomes.{Outcome, restored};
@@ -19,11 +20,13 @@ ghost use Rattle.module_core.specs.Stands.{Assembly, ModuleStands, assembly, lin
 ghost use Rattle.nv_session.specs.declared.lives.Found.{Found};
 ghost use Rattle.nv_session.specs.declared.turns.LineSeen.{LineSeen};
 ghost use Rattle.nv_session.specs.Coming.{IsOneEvent};
-ghost use Rattle.nv_session.specs.Living.{GoesOnBy, IsWork, SessionAt, session_at, set_to};
+ghost use Rattle.nv_session.specs.declared.session.Session.{Session};
+ghost use Rattle.nv_session.specs.Living.{GoesOnBy, HasLife, IsWork, SessionAt, fuse_state, session_at, set_to};
 ghost use Rattle.nv_session.specs.SessionLives.{HasLived, HasLivedOn};
 ghost use Rattle.nv_session.specs.Turns.{GoesOnSaving, HasSaved, MakesStep, SeesLine};
 ghost use Rattle.nv_session.specs.Restoring.{Revives, FindsSaved, FindsPrefix};
 
+use crate::wires::Wires;
 use channel_port::ChannelPort;
 
 /// A save that is done, of a life that isn't armed, survives: whatever a stop leaves of the device then, a restore of it is
@@ -99,4 +102,12 @@ pub fn sessions_live<K: ChannelPort>()
         → HasLived K.ChannelPort found image events replies first
         (record at { gauge = set_to level at.gauge }) }
     ensures charged { (level : ℕ) (gauge : Gauge) → RisesTo gauge (set_to level gauge) }
+{}
+
+/// What a session keeps: the life that runs has answered some events since it was opened, with the session's device and its gauge.
+/// So at each moment between two calls the laws of lives hold of it, and what `honest_modules` says of a gauge that is honest.
+pub fn sessions_keep_lives<K: ChannelPort, A: Wires<K>>()
+    ensures { (session : Session K A K.ChannelPort A.Wires) (it : Module K K.ChannelPort)
+        → session.life ≡ Some it
+        → HasLife K.ChannelPort it (fuse_state session.device) (meter_gauge session.gauge) }
 {}

@@ -11,7 +11,7 @@ mod turns;
 mod wires;
 
 pub use calls::Level;
-pub use laws::{restore_after_any_stop, restore_after_save, sessions_live};
+pub use laws::{restore_after_any_stop, restore_after_save, sessions_keep_lives, sessions_live};
 pub use lives::{FormatError, Found};
 pub use session::Session;
 pub use turns::LineSeen;

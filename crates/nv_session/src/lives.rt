@@ -10,7 +10,7 @@ ghost use Rattle.energy_budget.specs.Meter.{meter_gauge, lie_of};
 ghost use Rattle.module_core.specs.Opening.{opened_with};
 ghost use Rattle.module_core.specs.Stands.{ModuleStands, setup_of};
 ghost use Rattle.nv_session.specs.Wired.{BeginsLife, formatted};
-ghost use Rattle.nv_session.specs.Living.{StandsForSome, RunsWith, fuse_state};
+ghost use Rattle.nv_session.specs.Living.{HasLife, RunsWith, fuse_state};
 
 use crate::session::Session;
 use crate::wires::Wires;
@@ -62,7 +62,8 @@ impl<K: ChannelPort + Drop, A: Wires<K> + Drop> Session<K, A> {
     // From now on this life runs, over a map.
     fn begin(&mut self, life: Module<K>, map: Interleaving)
         requires over { setup_of K.ChannelPort life ≡ setup_over self.old map }
-        requires stands { StandsForSome K.ChannelPort life (fuse_state self.old.device) }
+        requires lives { HasLife K.ChannelPort life (fuse_state self.old.device)
+            (meter_gauge self.old.gauge) }
         ensures life { self.new.life ≡ Some life }
         ensures device { fuse_state self.new.device ≡ fuse_state self.old.device }
         ensures gauge { self.new.gauge ≡ self.old.gauge }

@@ -28,7 +28,7 @@ pub struct Session<K: ChannelPort, A: Wires<K>> {
     pub(crate) wires: A,
     pub(crate) life: Option<Module<K>>,
     ghost fits: { (map : Interleaving) → IsShapeFor profile (A.shape wires map) },
-    ghost living: { IsLiving K.ChannelPort profile life (fuse_state device) },
+    ghost living: { IsLiving K.ChannelPort profile life (fuse_state device) (meter_gauge gauge) },
 }
 
 /// The calls that a device passes where it passes all.

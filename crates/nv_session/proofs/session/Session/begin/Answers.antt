@@ -1,4 +1,5 @@
 use Rattle.std.proofs.Common.{sym, subst}
+use Rattle.energy_budget.specs.Meter.{meter_gauge}
 use Rattle.nv_machine.specs.State.{Setup}
 use Rattle.nv_session.specs.Living.{IsShapeFor, fuse_state}
 use Rattle.nv_session.proofs.Going.{begins_living}
@@ -7,5 +8,5 @@ use Rattle.nv_session.proofs.session.Session.begin.Goals as goal
 pub invariant_of-self-clause-living : goal.invariant_of-self-clause-living
 invariant_of-self-clause-living g c =
     let it = c.args.self.now in
-    begins_living g.K.ChannelPort it.profile c.args.life (fuse_state it.device) it.living.size
-    (subst (λ (s : Setup). IsShapeFor it.profile s.shape) (sym c.requires.over) (it.fits c.args.map)) c.requires.stands
+    begins_living g.K.ChannelPort it.profile c.args.life (fuse_state it.device) (meter_gauge it.gauge) it.living.size
+    (subst (λ (s : Setup). IsShapeFor it.profile s.shape) (sym c.requires.over) (it.fits c.args.map)) c.requires.lives

@@ -7,7 +7,9 @@ use Rattle.save_device.specs.Device.{DeviceState}
 use Rattle.slot_store.specs.Outcomes.{first_image}
 use Rattle.nv_profile.specs.declared.profile.Profile.{Profile}
 use Rattle.module_core.specs.Opening.{opened_with}
-use Rattle.module_core.specs.Stands.{ModuleStands}
+use Rattle.module_core.specs.Stands.{assembly, ModuleStands}
+use Rattle.energy_budget.specs.Meter.{meter_gauge}
+use Rattle.module_core.proofs.CallsInTurn.{life_begins}
 use Rattle.nv_session.specs.Living.{fuse_state}
 use Rattle.nv_session.specs.Wired.{formatted}
 use Rattle.nv_session.proofs.Beginning.{begins_formatted, is_capacity, same_setup}
@@ -29,9 +31,10 @@ formatted_life g c =
     begins_formatted g.K.ChannelPort c.in-Ok-open.life (lines_of c.stop.new.self.profile.checked.geometry) c.lines-lines.result c.deref.result.now (fuse_state c.format.new.device) c.in-Ok-open.ensures.begins
     c.lines-lines.ensures.is (c.deref.ensures.value ∙ c.in-Ok.ensures) c.in-Ok-format.ensures.at_rest
 
-pub begin-requires-clause-stands : goal.begin-requires-clause-stands
-begin-requires-clause-stands g c =
-    merely (opened_with formatted (first_image (lines_of c.stop.new.self.profile.checked.geometry)), formatted_life g (goal.at.begin-requires-clause-stands g c).In-Ok-open)
+pub begin-requires-clause-lives : goal.begin-requires-clause-lives
+begin-requires-clause-lives g c =
+    merely (life_begins g.K.ChannelPort formatted (first_image (lines_of c.stop.new.self.profile.checked.geometry))
+    (assembly c.in-Ok-open.life (fuse_state c.format.new.device) (meter_gauge c.stop.new.self.gauge)) (formatted_life g (goal.at.begin-requires-clause-lives g c).In-Ok-open))
 
 pub returns-clause-begins : goal.returns-clause-begins
 returns-clause-begins g c =

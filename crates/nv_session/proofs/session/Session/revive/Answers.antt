@@ -3,6 +3,9 @@ use Rattle.std.proofs.lemmas.Grind.{merely}
 use Rattle.ddr4_timing.specs.Limits.{lines_of}
 use Rattle.save_device.specs.Device.{DeviceState}
 use Rattle.module_core.specs.Opening.{opened_with}
+use Rattle.energy_budget.specs.Meter.{meter_gauge}
+use Rattle.module_core.proofs.CallsInTurn.{life_begins}
+use Rattle.module_core.specs.Stands.{assembly}
 use Rattle.nv_session.specs.declared.lives.Found.{Found}
 use Rattle.nv_session.specs.Living.{fuse_state}
 use Rattle.nv_session.specs.Restoring.{Revives}
@@ -33,8 +36,10 @@ revived g c =
     revives_opened g.K.ChannelPort lines it opened bytes c.in-Ok.life device (subst (λ (n : ℕ). FindsOpened n it opened bytes device) c.lines-lines.ensures.is finds)
     (subst (λ (memory : List (List ℕ)). BeginsLife g.K.ChannelPort opened memory lines c.in-Ok.life) c.deref.ensures.value c.in-Ok.ensures.begins)
 
-pub begin-requires-clause-stands : goal.begin-requires-clause-stands
-begin-requires-clause-stands g c = let r = revived g (goal.at.begin-requires-clause-stands g c).In-Ok in merely (opened_with c.of-opened.result r.image, r.stands)
+pub begin-requires-clause-lives : goal.begin-requires-clause-lives
+begin-requires-clause-lives g c =
+    let r = revived g (goal.at.begin-requires-clause-lives g c).In-Ok in
+    merely (life_begins g.K.ChannelPort c.of-opened.result r.image (assembly c.in-Ok.life (fuse_state c.restore.new.device) (meter_gauge c.args.self.now.gauge)) r.stands)
 
 pub returns-clause-revives : goal.returns-clause-revives
 returns-clause-revives g c =

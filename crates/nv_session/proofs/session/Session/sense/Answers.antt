@@ -1,4 +1,4 @@
-use Rattle.std.proofs.Common.{refl, Some, subst}
+use Rattle.std.proofs.Common.{refl, Some, subst, sym}
 use Rattle.energy_budget.specs.Gauge.{Gauge}
 use Rattle.energy_budget.specs.Meter.{meter_gauge}
 use Rattle.nv_machine.specs.declared.events.Event.TheVariants as events
@@ -8,7 +8,9 @@ use Rattle.module_core.specs.Stands.{assembly}
 use Rattle.nv_session.specs.Coming.{IsOneEvent}
 use Rattle.nv_session.specs.Living.{GoesOnBy, fuse_state, session_at, set_to}
 use Rattle.nv_session.proofs.Coming.{one_event}
-use Rattle.nv_session.proofs.Going.{goes_on_by, lives_on_alone}
+use Rattle.energy_budget.specs.Charging.{RisesTo}
+use Rattle.nv_session.proofs.Going.{charged_living, goes_on_by, lives_on_alone}
+use Rattle.nv_session.proofs.SessionLives.{set_rises}
 use Rattle.nv_session.proofs.session.Session.sense.Goals as goal
 
 pub returns-in-Some-clause-comes : goal.returns-in-Some-clause-comes
@@ -23,4 +25,5 @@ pub invariant_of-self-clause-living : goal.invariant_of-self-clause-living
 invariant_of-self-clause-living g c =
     let L = g.K.ChannelPort in let it = c.args.self.now in let read = c.sense-reading in let reply : Reply = replies.Sense read.result in let device = fuse_state it.device in
     let old = assembly c.in-Some.life device (meter_gauge c.set.new.self) in let new = assembly read.new.self device (meter_gauge read.new.energy) in
-    lives_on_alone L (IsOneEvent events.Sense reply) it.profile it.life old new c.in-Some.is refl it.living (one_event L events.Sense reply old new (read.ensures.answers device)) read.ensures.setup
+    lives_on_alone L (IsOneEvent events.Sense reply) it.profile it.life old new c.in-Some.is refl
+    (charged_living L it.profile it.life device (meter_gauge it.gauge) old.gauge (subst (RisesTo (meter_gauge it.gauge)) (sym c.set.ensures.gauge) (set_rises c.args.level (meter_gauge it.gauge))) it.living) (one_event L events.Sense reply old new (read.ensures.answers device)) read.ensures.setup
