@@ -10,7 +10,7 @@ use ddr4_timing::timing::Checked;
 use energy_budget::{Costs, TINY_COSTS};
 use interleave_map::ReadyMap;
 use interleave_map::cells::line_count;
-use module_core::{Module, Opened};
+use module_core::Module;
 use save_device::SaveDevice;
 use slot_store::{device_size, restore};
 use std::alloc::Global;
@@ -52,6 +52,6 @@ pub(crate) fn open<'m, D: SaveDevice + Drop>(
     let restored = restore(alloc, &mut device, lines)?;
     let memory = &restored.lines;
     let channels = channels_with_memory(alloc, map, checked, memory, DEPTH, DEPTH, costs)?;
-    let module = Module::open(channels, Opened::of(&restored), TRAIL);
+    let module = Module::open(channels, restored.head, TRAIL);
     Ok(Load::new(module, device, checked.geometry.channels))
 }

@@ -32,19 +32,13 @@ impl<D: SaveDevice + Drop> Plain<D> {
             return Err(Stall::Device.into());
         }
         let restored = restore(alloc, &mut device, lines)?;
-        let newest = restored.newest();
-        let Restored {
-            lines,
-            closed,
-            count,
-            ..
-        } = restored;
+        let Restored { head, lines } = restored;
         Ok(Plain {
             lines,
             device,
-            newest,
-            closed,
-            count,
+            newest: head.newest,
+            closed: head.closed,
+            count: head.count,
         })
     }
 

@@ -50,9 +50,9 @@ pub fn show_store<W: io::Write>(
         }
     };
     let answer = Answer::Restored {
-        generation: restored.generation,
-        count: restored.count,
-        verdict: restored.verdict,
+        generation: restored.head.newest.generation,
+        count: restored.head.count,
+        verdict: restored.head.verdict,
     };
     say(writer, &answer)?;
     for (line, bytes) in restored.lines.iter().enumerate() {

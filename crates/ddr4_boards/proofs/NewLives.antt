@@ -1,11 +1,11 @@
 -- A module that has just begun on what a device restored to.
-use Rattle.std.proofs.Common.{◌≡◌, ◌∙◌, ℕ, Bool, [], sym, ap, subst, arith}
+use Rattle.std.proofs.Common.{◌≡◌, ◌∙◌, ℕ, [], refl, sym, ap, subst, arith}
 use Rattle.std.proofs.lemmas.Grind.{merely}
 use Rattle.line_memory.specs.History.{Recorded, recorded}
 use Rattle.save_device.specs.Device.{DeviceState}
 use Rattle.save_device.specs.declared.device.SaveDevice.{Ghosts as DeviceGhosts}
 use Rattle.save_image.specs.Image.{Image}
-use Rattle.slot_store.specs.declared.slots.Slot.{Slot}
+use Rattle.slot_store.specs.declared.head.Head.{Head}
 use Rattle.slot_store.specs.declared.restoring.Restored.{Restored}
 use Rattle.slot_store.specs.Rest.{IsAtRestOn}
 use Rattle.slot_store.specs.Told.{image_of_restored}
@@ -13,36 +13,26 @@ use Rattle.channel_port.specs.declared.port.ChannelPort.{Ghosts}
 use Rattle.channel_set.specs.declared.set.ChannelSet.{ChannelSet}
 use Rattle.channel_set.specs.Set.{shape_of}
 use Rattle.channel_set.specs.Carrying.{CarriesAll}
-use Rattle.module_core.specs.declared.opening.Opened.{Opened}
 use Rattle.module_core.specs.Opening.{BeginsOn, opened_with}
 use Rattle.module_core.specs.Stands.{ModuleStands}
 use Rattle.nv_workers.specs.declared.recorded_module.RecordedModule.{RecordedModule}
 use Rattle.nv_workers.specs.Kept.{IsRecordKept}
 
--- the numbers of what was restored
-pub record IsOpenedOf (it : Restored) (found : Opened) : Type 0 where
-  pub slot : found.newest.slot ≡ it.slot
-  pub generation : found.newest.generation ≡ it.generation
-  pub count : found.count ≡ it.count
-  pub closed : found.closed ≡ it.closed
-
 module _ {K : Type 0} (L : Ghosts K) where
   -- channels that carry what a device restored to begin on it
-  pub begins_on : (channels : ChannelSet K L) (it : Restored) (found : Opened) (arm lines : ℕ) (device : DeviceState) → IsOpenedOf it found → (shape_of L channels).lines ≡ lines
-      → CarriesAll L channels it.lines.items it.count [] → IsAtRestOn it.slot (image_of_restored it arm) lines it.closed device
-      → BeginsOn L channels found (image_of_restored it arm) device
-  begins_on channels it found arm lines device is size carries rest = record {
-    generation = sym is.generation;
-    count = sym is.count;
+  pub begins_on : (channels : ChannelSet K L) (it : Restored) (arm lines : ℕ) (device : DeviceState) → (shape_of L channels).lines ≡ lines
+      → CarriesAll L channels it.lines.items it.head.count [] → IsAtRestOn it.head.newest.slot (image_of_restored it arm) lines it.head.closed device
+      → BeginsOn L channels it.head (image_of_restored it arm) device
+  begins_on channels it arm lines device size carries rest = record {
+    generation = refl;
+    count = refl;
     carries = carries;
-    rest = subst (λ (n : ℕ). IsAtRestOn found.newest.slot (image_of_restored it arm) n found.closed device) (sym size)
-        (subst (λ (b : Bool). IsAtRestOn found.newest.slot (image_of_restored it arm) lines b device) (sym is.closed)
-        (subst (λ (s : Slot). IsAtRestOn s (image_of_restored it arm) lines it.closed device) (sym is.slot) rest));
+    rest = subst (λ (n : ℕ). IsAtRestOn it.head.newest.slot (image_of_restored it arm) n it.head.closed device) (sym size) rest;
   }
 
 module _ {K D E : Type 0} (L : Ghosts K) (M : DeviceGhosts D) where
   -- a module that stands for a new life, with a record of its memory and no write, and with room for all that it may accept
-  pub new_is_kept : (it : RecordedModule K D E L) (found : Opened) (image : Image) (room : ℕ) → ModuleStands L it.running (M.state it.device) (opened_with found image)
+  pub new_is_kept : (it : RecordedModule K D E L) (found : Head) (image : Image) (room : ℕ) → ModuleStands L it.running (M.state it.device) (opened_with found image)
       → it.saved ≡ it.running.persisted → it.history ≡ recorded image.memory image.count [] room → it.running.terms.trail ≡ room → IsRecordKept L M it
   new_is_kept it found image room stands saved history trail = record {
     stands = merely (

@@ -18,10 +18,10 @@ use energy_budget::{Costs, Energy, TINY_COSTS};
 use interleave_map::cells::line_count;
 use interleave_map::line_map::LineMap;
 use line_memory::{History, Line};
-use module_core::{Module, Opened};
+use module_core::Module;
 use nv_workers::{Opening, RecordedModule};
 use save_device::{MemoryDevice, SaveDevice};
-use slot_store::{device_size, format, restore};
+use slot_store::{Head, device_size, format, restore};
 use std::alloc::{AllocError, Global};
 use thiserror::Error;
 
@@ -82,26 +82,26 @@ struct Begun<K: ChannelPort> {
 fn begin<K: ChannelPort + Drop>(
     alloc: Global,
     channels: ChannelSet<K>,
-    found: Opened,
+    head: Head,
     memory: Vec<Line>,
     trail: u64,
     hosts: usize,
 ) -> Result<Begun<K>, AllocError>
     requires unasked { AreUnasked K.ChannelPort channels }
-    requires numbers { Fits found.newest.generation found.count }
+    requires numbers { Fits head.newest.generation head.count }
     ensures parts { IfOk result (λ begun. begun.opening.parts ≡ hosts) }
     ensures mark { IfOk result (λ begun. begun.opening.mark ≡ begun.running.persisted) }
     ensures begins { IfOk result (λ begun. (image : Image) (device : DeviceState)
-        → BeginsOn K.ChannelPort channels found image device
-        → ModuleStands K.ChannelPort begun.running device (opened_with found image)) }
+        → BeginsOn K.ChannelPort channels head image device
+        → ModuleStands K.ChannelPort begun.running device (opened_with head image)) }
     ensures setup { IfOk result (λ begun.
         setup_of K.ChannelPort begun.running ≡ setup_with K.ChannelPort channels trail) }
     ensures history { IfOk result (λ begun.
-        begun.history ≡ recorded memory.items found.count [] trail) }
+        begun.history ≡ recorded memory.items head.count [] trail) }
 {
-    let running = Module::open(channels, found, trail);
+    let running = Module::open(channels, head, trail);
     let opening = Opening::new(alloc, running.mark(), hosts)?;
-    let history = record_of(alloc, memory, found.count, trail)?;
+    let history = record_of(alloc, memory, head.count, trail)?;
     Ok(Begun {
         opening,
         running,
@@ -136,12 +136,11 @@ pub fn open<'m, M: LineMap, D: SaveDevice + Drop, E: Energy + Drop>(
     let restored = restore(alloc, &mut device, lines)?;
     let memory = &restored.lines;
     let channels = channels_with_memory(alloc, map, checked, memory, DEPTH, DEPTH, costs)?;
-    let found = Opened::of(&restored);
     let Begun {
         opening,
         running,
         history,
-    } = begin(alloc, channels, found, restored.lines, trail, hosts)?;
+    } = begin(alloc, channels, restored.head, restored.lines, trail, hosts)?;
     Ok(Ready {
         opening,
         recorded: RecordedModule {

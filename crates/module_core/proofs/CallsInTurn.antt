@@ -3,7 +3,7 @@ use Rattle.energy_budget.proofs.Charging.{rises_none}
 use Rattle.energy_budget.specs.Charging.{RisesTo}
 use Rattle.module_core.specs.ModuleLives.{HasAnswered, LifeSoFar}
 use Rattle.module_core.specs.Opening.{opened_with}
-use Rattle.module_core.specs.declared.opening.Opened.{Opened}
+use Rattle.slot_store.specs.declared.head.Head.{Head}
 use Rattle.nv_machine.specs.Headline.{RecoversAfterwards}
 use Rattle.module_core.specs.InTurn.{AnswersCall, AnswersCalls, IsCharged}
 use Rattle.module_core.specs.Stands.{Point, RunAt, RunsTo}
@@ -50,7 +50,7 @@ module _ {K : Type 0} (L : Ghosts K) where
   }
 
   -- a life, and calls that go on from where it stands
-  pub answered_on : (found : Opened) (image : Image) (events more : List Event) (replies others : List Reply) (first old new : Assembly L) → HasAnswered L found image events replies first old
+  pub answered_on : (found : Head) (image : Image) (events more : List Event) (replies others : List Reply) (first old new : Assembly L) → HasAnswered L found image events replies first old
       → AnswersCalls L more others old new → HasAnswered L found image (events ++ more) (replies ++ others) first new
   answered_on found image events more replies others first old new answered calls = record {
     begins = answered.begins;
@@ -59,7 +59,7 @@ module _ {K : Type 0} (L : Ghosts K) where
   }
 
   -- a life begins
-  pub answered_none : (found : Opened) (image : Image) (first : Assembly L) → ModuleStands L first.it first.device (opened_with found image) → HasAnswered L found image [] [] first first
+  pub answered_none : (found : Head) (image : Image) (first : Assembly L) → ModuleStands L first.it first.device (opened_with found image) → HasAnswered L found image [] [] first first
   answered_none found image first stands = record {
     begins = stands;
     runs = none_answered L first.it first.device first.gauge first.gauge (rises_none first.gauge) (opened_with found image) stands;
@@ -67,7 +67,7 @@ module _ {K : Type 0} (L : Ghosts K) where
   }
 
   -- and its gauge is charged
-  pub none_answered_on : (found : Opened) (image : Image) (events : List Event) (replies : List Reply) (first old : Assembly L) (charged : Gauge) → RisesTo old.gauge charged
+  pub none_answered_on : (found : Head) (image : Image) (events : List Event) (replies : List Reply) (first old : Assembly L) (charged : Gauge) → RisesTo old.gauge charged
       → HasAnswered L found image events replies first old → HasAnswered L found image events replies first (record old { gauge = charged })
   none_answered_on found image events replies first old charged rises answered =
       let new : Assembly L = record old { gauge = charged } in
@@ -76,7 +76,7 @@ module _ {K : Type 0} (L : Ghosts K) where
       (subst (λ (rs : List Reply). HasAnswered L found image (events ++ []) rs first new) (append-nil replies) whole)
 
   -- a life so far: it begins, goes on, and its gauge is charged
-  pub life_begins : (found : Opened) (image : Image) (first : Assembly L) → ModuleStands L first.it first.device (opened_with found image) → LifeSoFar L first
+  pub life_begins : (found : Head) (image : Image) (first : Assembly L) → ModuleStands L first.it first.device (opened_with found image) → LifeSoFar L first
   life_begins found image first stands = record { found = found; image = image; events = []; replies = []; first = first; answered = answered_none found image first stands }
 
   pub life_on : (old new : Assembly L) (so : LifeSoFar L old) (more : List Event) (others : List Reply) → setup_of L new.it ≡ setup_of L old.it

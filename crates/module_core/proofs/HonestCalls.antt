@@ -19,7 +19,7 @@ use Rattle.nv_machine.proofs.Backing.{not_backed}
 use Rattle.nv_machine.proofs.CountedFaults.{Counts, event_counts, honest_ends, run_counts}
 use Rattle.nv_machine.proofs.HonestRuns.{backed_along, saved_along, unbroken_along}
 use Rattle.nv_machine.proofs.SparedDevices.{spared_ends}
-use Rattle.module_core.specs.declared.opening.Opened.{Opened}
+use Rattle.slot_store.specs.declared.head.Head.{Head}
 use Rattle.module_core.specs.HonestCalls.{HoldsAll, IsFaultless, IsWholeLoss, SavesWhereHonest, StaysHonest, StaysWhereHonest}
 use Rattle.module_core.specs.InTurn.{AnswersCall, AnswersCalls}
 use Rattle.module_core.specs.ModuleLives.{HasAnswered, LifeSoFar}
@@ -54,14 +54,14 @@ module _ {K : Type 0} (L : Ghosts K) where
   ended_setup reading old new ends = same_setup L old.channels new.channels old.terms new.terms (ap (λ (v : ChannelsView). v.shape) ends.channels.is) ends.numbers.terms
 
   -- a life through which neither the gauge nor the device counted a fault
-  along : (found : Opened) (image : Image) (events : List Event) (replies : List Reply) (old : Assembly L) (last : World) (run : Run (setup_of L old.it) events replies (world_of L old (opened_with found image)) last)
+  along : (found : Head) (image : Image) (events : List Event) (replies : List Reply) (old : Assembly L) (last : World) (run : Run (setup_of L old.it) events replies (world_of L old (opened_with found image)) last)
       → IsHonestThrough (setup_of L old.it).shape.costs.numbers.leak old.gauge last.gauge → faults_of last.device ≡ faults_of old.device
       → IsHonestAlong (setup_of L old.it) events replies (world_of L old (opened_with found image)) last run
   along found image events replies old last run gauge device =
       let first : World = world_of L old (opened_with found image) in
       honest_ends (setup_of L old.it) events replies first last run gauge (spared_ends (setup_of L old.it) events replies first last run refl device)
 
-  stays_honest : (found : Opened) (image : Image) (events : List Event) (replies : List Reply) (old new : Assembly L) → HasAnswered L found image events replies old new → IsFaultless L old new
+  stays_honest : (found : Head) (image : Image) (events : List Event) (replies : List Reply) (old new : Assembly L) → HasAnswered L found image events replies old new → IsFaultless L old new
       → StaysHonest L replies new
   stays_honest found image events replies old new answered faultless =
       let setup : Setup = setup_of L old.it in let m : Machine = opened_with found image in let first : World = world_of L old m in

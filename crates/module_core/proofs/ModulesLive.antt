@@ -4,7 +4,7 @@ use Rattle.std.proofs.lemmas.List.Elements.{Contains-append_cases, Contains-appe
 use Rattle.std.specs.Prelude.{Contains}
 use Rattle.module_core.specs.ModuleLives.{LivesEndAfterEvents, LivesEndAnywhere, LivesEndWithinEvent, unanswered_event}
 use Rattle.module_core.specs.Opening.{opened_with}
-use Rattle.module_core.specs.declared.opening.Opened.{Opened}
+use Rattle.slot_store.specs.declared.head.Head.{Head}
 use Rattle.nv_machine.proofs.StoppedLives.{since_is}
 use Rattle.nv_machine.proofs.JoinedRuns.{happens_now, rests_charged, rests_here}
 use Rattle.nv_machine.specs.Headline.{Happens, HappensNext, Run, given}
@@ -112,7 +112,7 @@ run_moments setup events replies old new none = absurd none
 
 module _ {K : Type 0} (L : Ghosts K) where
   -- a module that stands for a new life has its image on the device
-  opened_on : (found : Opened) (image : Image) (it : Module K L) (device : DeviceState) → ModuleStands L it device (opened_with found image)
+  opened_on : (found : Head) (image : Image) (it : Module K L) (device : DeviceState) → ModuleStands L it device (opened_with found image)
       → StopsWithin (λ bytes. restored (lines_of_module L it) bytes ≡ Found found.newest.slot image) (present device)
   opened_on found image it device stands bytes left =
       found_only found.newest.slot image (restored (lines_of_module L it) bytes) (stop_now (lines_of_module L it) (opened_with found image).store it.saves.saving device stands.holds bytes left)

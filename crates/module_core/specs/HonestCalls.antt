@@ -15,7 +15,7 @@ use Rattle.nv_machine.specs.declared.events.Reply.{Reply}
 use Rattle.nv_machine.specs.declared.events.Reply.TheVariants as replies
 use Rattle.nv_machine.specs.State.{Machine}
 use Rattle.nv_machine.specs.Headline.{IsBacked}
-use Rattle.module_core.specs.declared.opening.Opened.{Opened}
+use Rattle.slot_store.specs.declared.head.Head.{Head}
 use Rattle.module_core.specs.Stands.{Assembly, ModuleStands, lines_of_module, setup_of}
 use Rattle.module_core.specs.ModuleLives.{HasAnswered}
 
@@ -72,11 +72,11 @@ module _ {K : Type 0} (L : Ghosts K) where
   -- to be saved.
   abbrev pub SavesWhereHonest : Loss → Assembly L → Assembly L → Type 0
   SavesWhereHonest lost old new =
-      (found : Opened) (image : Image) (before : List Event) (told : List Reply) (first : Assembly L) → HasAnswered L found image before told first old
+      (found : Head) (image : Image) (before : List Event) (told : List Reply) (first : Assembly L) → HasAnswered L found image before told first old
       → IsFaultless first new → is_backed old.it.mode ≡ true → SavesAllNow lost old new
 
   -- the same of calls in turn: what was so far, and what they answer, stays honest
   abbrev pub StaysWhereHonest : List Reply → Assembly L → Assembly L → Type 0
   StaysWhereHonest replies old new =
-      (found : Opened) (image : Image) (before : List Event) (told : List Reply) (first : Assembly L) → HasAnswered L found image before told first old
+      (found : Head) (image : Image) (before : List Event) (told : List Reply) (first : Assembly L) → HasAnswered L found image before told first old
       → IsFaultless first new → StaysHonest (told ++ replies) new

@@ -8,7 +8,7 @@ use Rattle.nv_machine.specs.declared.events.Reply.{Reply}
 use Rattle.nv_machine.specs.State.{Machine, World}
 use Rattle.nv_machine.specs.Headline.{Run}
 use Rattle.nv_machine.specs.Lives.{Unanswered, Lived, IsLived, IsLeftAt, moments_since}
-use Rattle.module_core.specs.declared.opening.Opened.{Opened}
+use Rattle.slot_store.specs.declared.head.Head.{Head}
 use Rattle.module_core.specs.Opening.{opened_with}
 use Rattle.module_core.specs.Stands.{Assembly, ModuleStands, Answers, RunsTo, setup_of, world_of}
 
@@ -19,14 +19,14 @@ unanswered_event (Some unanswered) = unanswered.event ∷ []
 
 module _ {K : Type 0} (L : Ghosts K) where
   -- A module that began with this image has answered these events since. Between two of them its gauge may have been charged.
-  pub record HasAnswered (found : Opened) (image : Image) (events : List Event) (replies : List Reply) (old new : Assembly L) : Type 0 where
+  pub record HasAnswered (found : Head) (image : Image) (events : List Event) (replies : List Reply) (old new : Assembly L) : Type 0 where
     pub begins : ModuleStands L old.it old.device (opened_with found image)
     pub runs : RunsTo L events replies old (opened_with found image) new
     pub setup : setup_of L new.it ≡ setup_of L old.it
 
   -- The life so far of a module with its device and its gauge: what it began with, and what it has answered since.
   pub record LifeSoFar (now : Assembly L) : Type 0 where
-    pub found : Opened
+    pub found : Head
     pub image : Image
     pub events : List Event
     pub replies : List Reply
@@ -34,7 +34,7 @@ module _ {K : Type 0} (L : Ghosts K) where
     pub answered : HasAnswered found image events replies first now
 
   -- its life: the machine that it stood for in the end, the event that a stop left unanswered, and the bytes that this left
-  abbrev pub module_life : Opened → Image → List Event → List Reply → Assembly L → World → Option Unanswered → List ℕ → Lived
+  abbrev pub module_life : Head → Image → List Event → List Reply → Assembly L → World → Option Unanswered → List ℕ → Lived
   module_life found image events replies old last unanswered bytes = record {
     setup = setup_of L old.it;
     slot = found.newest.slot;
@@ -49,13 +49,13 @@ module _ {K : Type 0} (L : Ghosts K) where
   }
 
   -- A stop after the events ended a life, that of the machine which the module stood for.
-  pub record EndsAfterEvents (found : Opened) (image : Image) (events : List Event) (replies : List Reply) (old new : Assembly L) (bytes : List ℕ) : Type 0 where
+  pub record EndsAfterEvents (found : Head) (image : Image) (events : List Event) (replies : List Reply) (old new : Assembly L) (bytes : List ℕ) : Type 0 where
     pub last : Machine
     pub stands : ModuleStands L new.it new.device last
     pub lived : IsLived (module_life found image events replies old (world_of L new last) None bytes)
 
   -- A stop within one event more ended it, and left the event unanswered.
-  pub record EndsWithinEvent (found : Opened) (image : Image) (events : List Event) (replies : List Reply) (old new : Assembly L) (event : Event) (reply : Reply) (later : Assembly L)
+  pub record EndsWithinEvent (found : Head) (image : Image) (events : List Event) (replies : List Reply) (old new : Assembly L) (event : Event) (reply : Reply) (later : Assembly L)
       (bytes : List ℕ) : Type 0 where
     pub last : Machine
     pub next : Machine
@@ -65,7 +65,7 @@ module _ {K : Type 0} (L : Ghosts K) where
 
   -- A stop among the events ended it: after those before the one that it left unanswered, or after all of them. Its replies are
   -- the first of all replies, and the events go on from its last moment to the module as it is now.
-  pub record EndsAmongEvents (found : Opened) (image : Image) (events : List Event) (replies : List Reply) (old new : Assembly L) (bytes : List ℕ) : Type 0 where
+  pub record EndsAmongEvents (found : Head) (image : Image) (events : List Event) (replies : List Reply) (old new : Assembly L) (bytes : List ℕ) : Type 0 where
     pub front : List Event
     pub told : List Reply
     pub last : World
@@ -82,18 +82,18 @@ module _ {K : Type 0} (L : Ghosts K) where
   -- a stop after the events of a module ends a life
   abbrev pub LivesEndAfterEvents : Type 0
   LivesEndAfterEvents =
-      (found : Opened) (image : Image) (events : List Event) (replies : List Reply) (old new : Assembly L) → HasAnswered found image events replies old new
+      (found : Head) (image : Image) (events : List Event) (replies : List Reply) (old new : Assembly L) → HasAnswered found image events replies old new
       → (bytes : List ℕ) → MayLeave (present new.device) bytes → EndsAfterEvents found image events replies old new bytes
 
   -- a stop at any moment of one event more does
   abbrev pub LivesEndWithinEvent : Type 0
   LivesEndWithinEvent =
-      (found : Opened) (image : Image) (events : List Event) (replies : List Reply) (old new : Assembly L) → HasAnswered found image events replies old new
+      (found : Head) (image : Image) (events : List Event) (replies : List Reply) (old new : Assembly L) → HasAnswered found image events replies old new
       → (event : Event) (reply : Reply) (later : Assembly L) → Answers L event reply new later
       → (bytes : List ℕ) → IsLeftAt (moments_since new.device later.device) bytes → EndsWithinEvent found image events replies old new event reply later bytes
 
   -- and so does one at any moment of the events
   abbrev pub LivesEndAnywhere : Type 0
   LivesEndAnywhere =
-      (found : Opened) (image : Image) (events : List Event) (replies : List Reply) (old new : Assembly L) → HasAnswered found image events replies old new
+      (found : Head) (image : Image) (events : List Event) (replies : List Reply) (old new : Assembly L) → HasAnswered found image events replies old new
       → (bytes : List ℕ) → IsLeftAt (moments_since old.device new.device) bytes → EndsAmongEvents found image events replies old new bytes

@@ -9,12 +9,12 @@ use Rattle.channel_set.specs.declared.set.ChannelSet.{ChannelSet}
 use Rattle.channel_port.specs.declared.stage.Stage.TheVariants.{OnMains}
 use Rattle.channel_set.specs.Set.{AreAt, shape_of, view_of}
 use Rattle.channel_set.specs.Carrying.{CarriesAll}
-use Rattle.module_core.specs.declared.opening.Opened.{Opened}
+use Rattle.slot_store.specs.declared.head.Head.{Head}
 use Rattle.nv_machine.specs.Opening.{new_life}
 use Rattle.nv_machine.specs.State.{Setup, Machine}
 
 -- the machine at the beginning of a life with what was found
-abbrev pub opened_with : Opened → Image → Machine
+abbrev pub opened_with : Head → Image → Machine
 opened_with found image = new_life found.newest.slot found.closed image
 
 module _ {K : Type 0} (L : Ghosts K) where
@@ -29,7 +29,7 @@ module _ {K : Type 0} (L : Ghosts K) where
 
   -- The channels began with this image's memory, and the device is at rest on the image, as a restore that found it leaves
   -- the device.
-  pub record BeginsOn (channels : ChannelSet K L) (found : Opened) (image : Image) (device : DeviceState) : Type 0 where
+  pub record BeginsOn (channels : ChannelSet K L) (found : Head) (image : Image) (device : DeviceState) : Type 0 where
     pub generation : image.generation ≡ found.newest.generation
     pub count : image.count ≡ found.count
     pub carries : CarriesAll L channels image.memory image.count []

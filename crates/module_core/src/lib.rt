@@ -19,6 +19,6 @@ mod turns;
 
 pub use laws::{marks_rise, modules_live};
 pub use module::Module;
-pub use opening::{LifeTerms, Opened};
+pub use opening::LifeTerms;
 pub use saves::Saves;
 pub use turns::{calls_in_turn, honest_modules};

@@ -8,37 +8,7 @@ use crate::{Module, Saves};
 use arm_state::Mode;
 use channel_port::ChannelPort;
 use channel_set::ChannelSet;
-use slot_store::{Newest, Restored};
-
-/// What a life begins with, besides its memory.
-#[derive(Clone, Copy, Debug, PartialEq, Eq)]
-pub struct Opened {
-    /// The newest image.
-    pub newest: Newest,
-    /// How many writes it is after, counted from the first life on.
-    pub count: u64,
-    /// The other slot's gate is known closed and settled.
-    pub closed: bool,
-}
-
-impl Opened {
-    /// What a restore found.
-    pub fn of(restored: &Restored) -> Opened
-        ensures slot { result.newest.slot ≡ restored.now.slot }
-        ensures generation { result.newest.generation ≡ restored.now.generation }
-        ensures count { result.count ≡ restored.now.count }
-        ensures closed { result.closed ≡ restored.now.closed }
-    {
-        Opened {
-            newest: Newest {
-                slot: restored.slot,
-                generation: restored.generation,
-            },
-            count: restored.count,
-            closed: restored.closed,
-        }
-    }
-}
+use slot_store::Head;
 
 /// What doesn't change in a life.
 #[derive(Clone, Copy, Debug, PartialEq, Eq)]
@@ -54,7 +24,7 @@ impl<K: ChannelPort> Module<K> {
     ghost use Rattle.module_core.specs.Stands.{ModuleStands, setup_of};
 
     /// Begins a life, disarmed, over channels that hold the memory which a restore found. It may accept `trail` writes.
-    pub fn open(channels: ChannelSet<K>, found: Opened, trail: u64) -> Module<K>
+    pub fn open(channels: ChannelSet<K>, found: Head, trail: u64) -> Module<K>
         requires unasked { AreUnasked K.ChannelPort channels }
         requires numbers { Fits found.newest.generation found.count }
         ensures begins { (image : Image) (device : DeviceState)

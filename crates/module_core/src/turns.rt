@@ -11,7 +11,7 @@ ghost use Rattle.module_core.specs.InTurn.{IsCharged, AnswersCall, AnswersCalls}
 ghost use Rattle.module_core.specs.ModuleLives.{HasAnswered, LifeSoFar};
 ghost use Rattle.module_core.specs.Opening.{opened_with};
 ghost use Rattle.module_core.specs.Stands.{Assembly, ModuleStands};
-ghost use Rattle.module_core.specs.declared.opening.Opened.{Opened};
+ghost use Rattle.slot_store.specs.declared.head.Head.{Head};
 
 use channel_port::ChannelPort;
 
@@ -29,10 +29,10 @@ pub fn calls_in_turn<K: ChannelPort>()
         → AnswersCalls K.ChannelPort events replies old mid
         → AnswersCalls K.ChannelPort more others mid new
         → AnswersCalls K.ChannelPort (events ++ more) (replies ++ others) old new }
-    ensures begins { (found : Opened) (image : Image) (first : Assembly K.ChannelPort)
+    ensures begins { (found : Head) (image : Image) (first : Assembly K.ChannelPort)
         → ModuleStands K.ChannelPort first.it first.device (opened_with found image)
         → HasAnswered K.ChannelPort found image [] [] first first }
-    ensures lives { (found : Opened) (image : Image) (events more : List Event)
+    ensures lives { (found : Head) (image : Image) (events more : List Event)
         (replies others : List Reply) (first old new : Assembly K.ChannelPort)
         → HasAnswered K.ChannelPort found image events replies first old
         → AnswersCalls K.ChannelPort more others old new

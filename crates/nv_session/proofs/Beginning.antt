@@ -5,9 +5,11 @@ use Rattle.interleave_map.specs.declared.ready.Interleaving.{Interleaving}
 use Rattle.line_memory.specs.Memory.{zero_lines}
 use Rattle.save_device.specs.Device.{DeviceState}
 use Rattle.save_image.specs.Image.{Image}
+use Rattle.slot_store.specs.declared.head.Head.{Head}
 use Rattle.slot_store.specs.declared.restoring.Restored.{Restored}
 use Rattle.slot_store.specs.declared.slots.Slot.{Slot}
 use Rattle.slot_store.specs.declared.slots.Slot.TheVariants.{First}
+use Rattle.slot_store.specs.Formatted.{first_head}
 use Rattle.slot_store.specs.Outcomes.{Outcome, first_image, restored, verdict_of}
 use Rattle.slot_store.specs.Outcomes as outcome
 use Rattle.slot_store.specs.Rest.{IsAtRestOn}
@@ -20,13 +22,11 @@ use Rattle.channel_set.specs.Carrying.{CarriesAll}
 use Rattle.nv_machine.specs.State.{Setup}
 use Rattle.nv_profile.specs.declared.profile.Profile.{Profile}
 use Rattle.module_core.specs.declared.module.Module.{Module}
-use Rattle.module_core.specs.declared.opening.Opened.{Opened}
 use Rattle.module_core.specs.Opening.{BeginsOn, opened_with}
 use Rattle.module_core.specs.Stands.{ModuleStands}
-use Rattle.nv_session.specs.declared.lives.Found.{Found}
 use Rattle.nv_session.specs.declared.session.Session.{Session}
 use Rattle.nv_session.specs.declared.wires.Wires as wires
-use Rattle.nv_session.specs.Wired.{BeginsLife, IsWired, RestsOnFound, formatted}
+use Rattle.nv_session.specs.Wired.{BeginsLife, IsWired, RestsOnFound}
 use Rattle.nv_session.specs.Living.{IsShapeFor, RunsWith, fuse_state}
 use Rattle.nv_session.specs.Restoring.{Revives}
 use Rattle.nv_session.specs.Sessions.{restored_in, setup_over}
@@ -37,17 +37,13 @@ is_capacity profile shape lines fits is =
     subst (λ (n : ℕ). IsCapacity n) (fits.lines ∙ sym is) (record { some = fits.shaped.some; most = fits.shaped.most; whole = fits.shaped.whole })
 
 -- what a restore found is what the device is at rest on
-pub record FindsOpened (lines : ℕ) (it : Restored) (opened : Opened) (bytes : List ℕ) (device : DeviceState) : Type 0 where
+pub record RestsOnRestored (lines : ℕ) (it : Restored) (bytes : List ℕ) (device : DeviceState) : Type 0 where
   pub restored_is : IsRestored it lines bytes
-  pub rests : (image : Image) → restored lines bytes ≡ outcome.Found it.slot image → IsAtRestOn it.slot image lines it.closed device
-  pub slot : opened.newest.slot ≡ it.slot
-  pub generation : opened.newest.generation ≡ it.generation
-  pub count : opened.count ≡ it.count
-  pub closed : opened.closed ≡ it.closed
+  pub rests : (image : Image) → restored lines bytes ≡ outcome.Found it.head.newest.slot image → IsAtRestOn it.head.newest.slot image lines it.head.closed device
 
 module _ {K : Type 0} (L : Ghosts K) where
   -- channels with what was found begin on it
-  pub begins_on : (shape : Shape) (lines : ℕ) (memory : List (List ℕ)) (channels : ChannelSet K L) (found : Opened) (image : Image) (device : DeviceState)
+  pub begins_on : (shape : Shape) (lines : ℕ) (memory : List (List ℕ)) (channels : ChannelSet K L) (found : Head) (image : Image) (device : DeviceState)
       → IsWired L shape memory channels → shape.lines ≡ lines → RestsOnFound found memory lines image device → BeginsOn L channels found image device
   begins_on shape lines memory channels found image device wired same rests = record {
     generation = rests.generation_is;
@@ -56,10 +52,11 @@ module _ {K : Type 0} (L : Ghosts K) where
     rest = subst (λ (n : ℕ). IsAtRestOn found.newest.slot image n found.closed device) (sym (ap (λ (s : Shape). s.lines) wired.shape_is ∙ same)) rests.rest;
   }
 
-  pub begins_formatted : (it : Module K L) (lines held : ℕ) (memory : List (List ℕ)) (device : DeviceState) → BeginsLife L formatted memory lines it → held ≡ lines
-      → memory ≡ zero_lines held → IsAtRestOn First (first_image held) held true device → ModuleStands L it device (opened_with formatted (first_image lines))
-  begins_formatted it lines held memory device begins same zero rest =
-      begins (first_image lines) device
+  pub begins_formatted : (it : Module K L) (lines held : ℕ) (head : Head) (memory : List (List ℕ)) (device : DeviceState) → BeginsLife L head memory lines it → head ≡ first_head → held ≡ lines
+      → memory ≡ zero_lines held → IsAtRestOn First (first_image held) held true device → ModuleStands L it device (opened_with first_head (first_image lines))
+  begins_formatted it lines held head memory device begins is same zero rest =
+      let first : BeginsLife L first_head memory lines it = subst (λ (h : Head). BeginsLife L h memory lines it) is begins in
+      first (first_image lines) device
       (record {
         generation_is = refl;
         count_is = refl;
@@ -67,26 +64,19 @@ module _ {K : Type 0} (L : Ghosts K) where
         rest = subst (λ (n : ℕ). IsAtRestOn First (first_image n) n true device) same rest;
       })
 
-  pub revives_opened : (lines : ℕ) (it : Restored) (opened : Opened) (bytes : List ℕ) (life : Module K L) (device : DeviceState)
-      → FindsOpened lines it opened bytes device → BeginsLife L opened it.lines.items lines life → Revives L (restored lines bytes) (record { opened = opened; verdict = it.verdict }) life device
-  revives_opened lines it opened bytes life device finds begins =
+  pub revives_restored : (lines : ℕ) (it : Restored) (bytes : List ℕ) (life : Module K L) (device : DeviceState)
+      → RestsOnRestored lines it bytes device → BeginsLife L it.head it.lines.items lines life → Revives L (restored lines bytes) it.head life device
+  revives_restored lines it bytes life device finds begins =
       let restored_is : IsRestored it lines bytes = finds.restored_is in let image : Image = image_of_restored it restored_is.arm in
       record {
         image = image;
-        finds = restored_is.newest ∙ ap (λ (s : Slot). outcome.Found s image) (sym finds.slot);
-        tells = record { generation_is = finds.generation; count_is = finds.count; verdict_is = restored_is.judged };
-        stands = begins image device
-            (record {
-              generation_is = sym finds.generation;
-              count_is = sym finds.count;
-              memory_is = refl;
-              rest = subst (λ (b : Bool). IsAtRestOn opened.newest.slot image lines b device) (sym finds.closed)
-                  (subst (λ (s : Slot). IsAtRestOn s image lines it.closed device) (sym finds.slot) (finds.rests image restored_is.newest));
-            });
+        finds = restored_is.newest;
+        tells = record { generation_is = refl; count_is = refl; verdict_is = restored_is.judged };
+        stands = begins image device (record { generation_is = refl; count_is = refl; memory_is = refl; rest = finds.rests image restored_is.newest });
       }
 
   -- the same, with what it is told of by other names
-  pub revives_again : (setup setup' : Setup) (restores restores' : Outcome) (found : Found) (device : DeviceState) (life : Option (Module K L))
+  pub revives_again : (setup setup' : Setup) (restores restores' : Outcome) (found : Head) (device : DeviceState) (life : Option (Module K L))
       → setup ≡ setup' → restores ≡ restores' → RunsWith L setup (λ it. Revives L restores found it device) life → RunsWith L setup' (λ it. Revives L restores' found it device) life
   revives_again setup setup' restores restores' found device life same same_image runs = record {
     it = runs.it;

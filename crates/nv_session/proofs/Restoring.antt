@@ -11,6 +11,7 @@ use Rattle.slot_store.specs.declared.slots.Slot.{Slot}
 use Rattle.slot_store.specs.Outcomes.{Outcome, restored, verdict_of}
 use Rattle.slot_store.specs.Outcomes as outcome
 use Rattle.slot_store.specs.Told.{Refuses, IsFailure}
+use Rattle.slot_store.specs.declared.head.Head.{Head}
 use Rattle.slot_store.specs.declared.restoring.RestoreError.{RestoreError}
 use Rattle.slot_store.specs.declared.restoring.RestoreError.TheVariants as errors
 use Rattle.slot_store.specs.Rest.{Candidates, IsAmong, only, rearmed}
@@ -25,7 +26,6 @@ use Rattle.module_core.specs.declared.module.Module.{Module}
 use Rattle.module_core.specs.ModuleLives.{LifeSoFar}
 use Rattle.module_core.specs.Stands.{Assembly, ModuleStands, assembly, lines_of_module, setup_of}
 use Rattle.module_core.proofs.StoreSteps.{stop_now}
-use Rattle.nv_session.specs.declared.lives.Found.{Found}
 use Rattle.nv_session.specs.Turns.{HasSaved}
 use Rattle.nv_session.specs.Living.{IsLiving, IsShapeFor, RunsWith, SessionAt, session_at}
 use Rattle.nv_session.specs.Restoring.{FindsSaved, FindsPrefix, FindsPrefixOf, GoesBackTo, IsLeftBy, KeepsPrefixOf, Revives, TellsImage, TellsPrefix}
@@ -43,7 +43,7 @@ image_in image outcome.NoImage = image
 image_in image (outcome.Damaged slot) = image
 
 -- what is told of the image that a stop leaves
-tells_prefix : (m : Machine) (found : Found) (image : Image) (what : Outcome) (slot : Slot)
+tells_prefix : (m : Machine) (found : Head) (image : Image) (what : Outcome) (slot : Slot)
     → TellsImage found image → what ≡ outcome.Found slot image → RecoversAfterwards m what → TellsPrefix m found image
 tells_prefix m found image what slot tells is left =
     let r = left.recovers in let count = tells.count_is in
@@ -86,7 +86,7 @@ module _ {K : Type 0} (L : Ghosts K) where
       among_only m.store.maybe.slot (newest_of m) (restored lines bytes)
       (subst (λ (c : Candidates). IsAmong c (restored lines bytes)) saved.alone (stop_now lines m.store it.it.saves.saving it.device stands.holds bytes left))
 
-  pub save_restored : (old new : Assembly L) (m : Machine) (generation count : ℕ) (bytes : List ℕ) (found : Found)
+  pub save_restored : (old new : Assembly L) (m : Machine) (generation count : ℕ) (bytes : List ℕ) (found : Head)
       → ModuleStands L old.it old.device m → HasSaved generation count m → is_armed m.mode ≡ false → MayLeave (present old.device) bytes
       → Revives L (restored (lines_of_module L old.it) bytes) found new.it new.device → FindsSaved L generation count (memory_after m count) found new.it new.device
   save_restored old new m generation count bytes found stands saved unarmed left revives =
@@ -100,15 +100,15 @@ module _ {K : Type 0} (L : Ghosts K) where
         memory_is = ap (λ (i : Image). i.memory) same ∙ saved.memory;
       }
 
-  finds_prefix : (it : Module K L) (m : Machine) (lines : ℕ) (bytes : List ℕ) (found : Found) (device : DeviceState) → RecoversAfterwards m (restored lines bytes)
+  finds_prefix : (it : Module K L) (m : Machine) (lines : ℕ) (bytes : List ℕ) (found : Head) (device : DeviceState) → RecoversAfterwards m (restored lines bytes)
       → Revives L (restored lines bytes) found it device → FindsPrefix L m found it device
   finds_prefix it m lines bytes found device left revives = record {
     image = revives.image;
     stands = revives.stands;
-    tells = tells_prefix m found revives.image (restored lines bytes) found.opened.newest.slot revives.tells revives.finds left;
+    tells = tells_prefix m found revives.image (restored lines bytes) found.newest.slot revives.tells revives.finds left;
   }
 
-  pub stop_restored : (old new : Assembly L) (m : Machine) (bytes : List ℕ) (found : Found) → ModuleStands L old.it old.device m → MayLeave (present old.device) bytes
+  pub stop_restored : (old new : Assembly L) (m : Machine) (bytes : List ℕ) (found : Head) → ModuleStands L old.it old.device m → MayLeave (present old.device) bytes
       → Revives L (restored (lines_of_module L old.it) bytes) found new.it new.device → FindsPrefix L m found new.it new.device
   stop_restored old new m bytes found stands left revives = finds_prefix new.it m (lines_of_module L old.it) bytes found new.device (left_by_life L old m stands bytes left) revives
 
@@ -121,7 +121,7 @@ module _ {K : Type 0} (L : Ghosts K) where
   life_left profile None old m living left_by = left_by
 
   -- a session's restore: its life before fitted the profile, and the life that it began is of this setup
-  pub session_finds : (profile : Profile) (setup : Setup) (old new : SessionAt L) (bytes : List ℕ) (found : Found)
+  pub session_finds : (profile : Profile) (setup : Setup) (old new : SessionAt L) (bytes : List ℕ) (found : Head)
       → IsLiving L profile old.life old.device old.gauge → MayLeave (present old.device) bytes
       → RunsWith L setup (λ it. Revives L (restored (lines_of profile.checked.geometry) bytes) found it new.device) new.life
       → FindsPrefixOf L (lines_of profile.checked.geometry) setup old found new

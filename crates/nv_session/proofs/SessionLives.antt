@@ -13,11 +13,10 @@ use Rattle.nv_machine.specs.declared.events.Event.{Event}
 use Rattle.nv_machine.specs.declared.events.Reply.{Reply}
 use Rattle.nv_machine.specs.State.{Setup}
 use Rattle.module_core.specs.declared.module.Module.{Module}
-use Rattle.module_core.specs.declared.opening.Opened.{Opened}
+use Rattle.slot_store.specs.declared.head.Head.{Head}
 use Rattle.module_core.specs.ModuleLives.{HasAnswered}
 use Rattle.module_core.specs.Stands.{Assembly, assembly, setup_of}
 use Rattle.module_core.proofs.CallsInTurn.{answered_none, none_answered_on, runs_on}
-use Rattle.nv_session.specs.declared.lives.Found.{Found}
 use Rattle.nv_session.specs.Coming.{Tale, ComesTo}
 use Rattle.nv_session.specs.Living.{GoesOnBy, LivesOn, SessionAt, session_at, set_to}
 use Rattle.nv_session.specs.Restoring.{Revives}
@@ -32,11 +31,11 @@ set_rises level gauge = record { rises = by_test (nat_lt level gauge.level) refl
 
 module _ {K : Type 0} (L : Ghosts K) where
   -- a restore begins a life
-  pub begins_life : (restores : Outcome) (found : Found) (it : Module K L) (device : DeviceState) (gauge : Gauge) (revives : Revives L restores found it device)
-      → HasLived L found.opened revives.image [] [] (assembly it device gauge) (session_at (Some it) device gauge)
-  begins_life restores found it device gauge revives = record { it = it; runs = refl; answered = answered_none L found.opened revives.image (assembly it device gauge) revives.stands }
+  pub begins_life : (restores : Outcome) (found : Head) (it : Module K L) (device : DeviceState) (gauge : Gauge) (revives : Revives L restores found it device)
+      → HasLived L found revives.image [] [] (assembly it device gauge) (session_at (Some it) device gauge)
+  begins_life restores found it device gauge revives = record { it = it; runs = refl; answered = answered_none L found revives.image (assembly it device gauge) revives.stands }
 
-  module _ (found : Opened) (image : Image) (events : List Event) (replies : List Reply) (first : Assembly L) where
+  module _ (found : Head) (image : Image) (events : List Event) (replies : List Reply) (first : Assembly L) where
     -- a call goes on with it
     pub lives_on : (Told : Setup → Tale) (old new : SessionAt L) → GoesOnBy L Told old new → (lived : HasLived L found image events replies first old)
         → HasLivedOn L (Told (setup_of L lived.it)) found image events replies first new

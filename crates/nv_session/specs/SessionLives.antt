@@ -6,7 +6,7 @@ use Rattle.nv_machine.specs.declared.events.Event.{Event}
 use Rattle.nv_machine.specs.declared.events.Reply.{Reply}
 use Rattle.nv_machine.specs.State.{Machine}
 use Rattle.module_core.specs.declared.module.Module.{Module}
-use Rattle.module_core.specs.declared.opening.Opened.{Opened}
+use Rattle.slot_store.specs.declared.head.Head.{Head}
 use Rattle.module_core.specs.Stands.{Assembly, assembly}
 use Rattle.module_core.specs.ModuleLives.{HasAnswered}
 use Rattle.nv_session.specs.Coming.{Tale}
@@ -14,13 +14,13 @@ use Rattle.nv_session.specs.Living.{SessionAt}
 
 module _ {K : Type 0} (L : Ghosts K) where
   -- The life that runs began as `first`, with this image, and has answered these events since.
-  pub record HasLived (found : Opened) (image : Image) (events : List Event) (replies : List Reply) (first : Assembly L) (at : SessionAt L) : Type 0 where
+  pub record HasLived (found : Head) (image : Image) (events : List Event) (replies : List Reply) (first : Assembly L) (at : SessionAt L) : Type 0 where
     pub it : Module K L
     pub runs : at.life ≡ Some it
     pub answered : HasAnswered L found image events replies first (assembly it at.device at.gauge)
 
   -- It has answered further events, of which this is told.
-  pub record HasLivedOn (Told : Tale) (found : Opened) (image : Image) (events : List Event) (replies : List Reply) (first : Assembly L) (at : SessionAt L) : Type 0 where
+  pub record HasLivedOn (Told : Tale) (found : Head) (image : Image) (events : List Event) (replies : List Reply) (first : Assembly L) (at : SessionAt L) : Type 0 where
     pub more : List Event
     pub others : List Reply
     pub before : Machine

@@ -15,9 +15,8 @@ ghost use Rattle.nv_machine.specs.declared.events.Event.{Event};
 ghost use Rattle.nv_machine.specs.declared.events.Reply.{Reply};
 ghost use Rattle.nv_machine.specs.declared.events.StepReply.{StepReply};
 ghost use Rattle.module_core.specs.declared.module.Module.{Module};
-ghost use Rattle.module_core.specs.declared.opening.Opened.{Opened};
+ghost use Rattle.slot_store.specs.declared.head.Head.{Head};
 ghost use Rattle.module_core.specs.Stands.{Assembly, ModuleStands, assembly, lines_of_module, setup_of};
-ghost use Rattle.nv_session.specs.declared.lives.Found.{Found};
 ghost use Rattle.nv_session.specs.declared.turns.LineSeen.{LineSeen};
 ghost use Rattle.nv_session.specs.Coming.{IsOneEvent};
 ghost use Rattle.nv_session.specs.declared.session.Session.{Session};
@@ -34,7 +33,7 @@ use channel_port::ChannelPort;
 /// all writes.
 pub fn restore_after_save<K: ChannelPort>()
     ensures { (old new : Assembly K.ChannelPort) (m : Machine) (generation count : ℕ)
-        (bytes : List ℕ) (found : Found)
+        (bytes : List ℕ) (found : Head)
         → ModuleStands K.ChannelPort old.it old.device m
         → HasSaved generation count m → is_armed m.mode ≡ false
         → MayLeave (present old.device) bytes
@@ -49,7 +48,7 @@ pub fn restore_after_save<K: ChannelPort>()
 /// count that it tells. Told Complete, these hold every write that was persistent. They hold them whatever is told where
 /// the module was disarmed or all was saved; and where Complete isn't told there was a cause for it.
 pub fn restore_after_any_stop<K: ChannelPort>()
-    ensures { (old new : Assembly K.ChannelPort) (m : Machine) (bytes : List ℕ) (found : Found)
+    ensures { (old new : Assembly K.ChannelPort) (m : Machine) (bytes : List ℕ) (found : Head)
         → ModuleStands K.ChannelPort old.it old.device m → MayLeave (present old.device) bytes
         → Revives K.ChannelPort (restored (lines_of_module K.ChannelPort old.it) bytes) found
         new.it new.device
@@ -60,43 +59,43 @@ pub fn restore_after_any_stop<K: ChannelPort>()
 /// session goes on with it, be it one event or several; and so does a level that is set between two calls, which charges the
 /// gauge or counts a fault. So what the laws say of lives they say of a session's, wherever a stop ends it.
 pub fn sessions_live<K: ChannelPort>()
-    ensures begins { (restores : Outcome) (found : Found) (it : Module K K.ChannelPort)
+    ensures begins { (restores : Outcome) (found : Head) (it : Module K K.ChannelPort)
         (device : DeviceState) (gauge : Gauge)
         (revives : Revives K.ChannelPort restores found it device)
-        → HasLived K.ChannelPort found.opened revives.image [] []
+        → HasLived K.ChannelPort found revives.image [] []
         (assembly it device gauge) (session_at (Some it) device gauge) }
-    ensures one { (event : Event) (reply : Reply) (found : Opened) (image : Image)
+    ensures one { (event : Event) (reply : Reply) (found : Head) (image : Image)
         (events : List Event) (replies : List Reply) (first : Assembly K.ChannelPort)
         (old new : SessionAt K.ChannelPort)
         → GoesOnBy K.ChannelPort (λ setup. IsOneEvent event reply) old new
         → HasLived K.ChannelPort found image events replies first old
         → HasLivedOn K.ChannelPort (IsOneEvent event reply) found image events replies first new }
-    ensures work { (channel : ℕ) (command : Option Stamped) (found : Opened) (image : Image)
+    ensures work { (channel : ℕ) (command : Option Stamped) (found : Head) (image : Image)
         (events : List Event) (replies : List Reply) (first : Assembly K.ChannelPort)
         (old new : SessionAt K.ChannelPort)
         → GoesOnBy K.ChannelPort (λ setup. IsWork channel command) old new
         → HasLived K.ChannelPort found image events replies first old
         → HasLivedOn K.ChannelPort (IsWork channel command) found image events replies first new }
-    ensures read { (line : ℕ) (result : Result LineSeen ReadRefusal) (found : Opened) (image : Image)
+    ensures read { (line : ℕ) (result : Result LineSeen ReadRefusal) (found : Head) (image : Image)
         (events : List Event) (replies : List Reply) (first : Assembly K.ChannelPort)
         (old new : SessionAt K.ChannelPort)
         → GoesOnBy K.ChannelPort (λ setup. SeesLine setup line result) old new
         → (lived : HasLived K.ChannelPort found image events replies first old)
         → HasLivedOn K.ChannelPort (SeesLine (setup_of K.ChannelPort lived.it) line result)
         found image events replies first new }
-    ensures step { (result : Result StepReply ArmRefusal) (found : Opened) (image : Image)
+    ensures step { (result : Result StepReply ArmRefusal) (found : Head) (image : Image)
         (events : List Event) (replies : List Reply) (first : Assembly K.ChannelPort)
         (old new : SessionAt K.ChannelPort)
         → GoesOnBy K.ChannelPort (λ setup. MakesStep result) old new
         → HasLived K.ChannelPort found image events replies first old
         → HasLivedOn K.ChannelPort (MakesStep result) found image events replies first new }
-    ensures save { (result : Result StepReply ArmRefusal) (found : Opened) (image : Image)
+    ensures save { (result : Result StepReply ArmRefusal) (found : Head) (image : Image)
         (events : List Event) (replies : List Reply) (first : Assembly K.ChannelPort)
         (old new : SessionAt K.ChannelPort)
         → GoesOnBy K.ChannelPort (λ setup. GoesOnSaving result) old new
         → HasLived K.ChannelPort found image events replies first old
         → HasLivedOn K.ChannelPort (GoesOnSaving result) found image events replies first new }
-    ensures level { (found : Opened) (image : Image) (events : List Event) (replies : List Reply)
+    ensures level { (found : Head) (image : Image) (events : List Event) (replies : List Reply)
         (first : Assembly K.ChannelPort) (level : ℕ) (at : SessionAt K.ChannelPort)
         → HasLived K.ChannelPort found image events replies first at
         → HasLived K.ChannelPort found image events replies first

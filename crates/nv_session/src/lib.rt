@@ -12,7 +12,7 @@ mod wires;
 
 pub use calls::Level;
 pub use laws::{restore_after_any_stop, restore_after_save, sessions_keep_lives, sessions_live};
-pub use lives::{FormatError, Found};
+pub use lives::FormatError;
 pub use session::Session;
 pub use turns::LineSeen;
 pub use wires::Wires;

@@ -4,12 +4,13 @@ ghost use Rattle.line_memory.specs.Memory.{IsMemory};
 ghost use Rattle.save_image.specs.Header.{Fits};
 ghost use Rattle.save_device.specs.Device.{LeavesOnly, MayLeave, present};
 ghost use Rattle.save_device.specs.Memory.{state_of, IsPicked};
+ghost use Rattle.slot_store.specs.Formatted.{first_head};
 ghost use Rattle.slot_store.specs.Outcomes.{first_image};
 ghost use Rattle.slot_store.specs.Told.{Refuses, IsFailure};
 ghost use Rattle.energy_budget.specs.Meter.{meter_gauge, lie_of};
 ghost use Rattle.module_core.specs.Opening.{opened_with};
 ghost use Rattle.module_core.specs.Stands.{ModuleStands, setup_of};
-ghost use Rattle.nv_session.specs.Wired.{BeginsLife, formatted};
+ghost use Rattle.nv_session.specs.Wired.{BeginsLife};
 ghost use Rattle.nv_session.specs.Living.{HasLife, RunsWith, fuse_state};
 
 use crate::session::Session;
@@ -17,9 +18,9 @@ use crate::wires::Wires;
 use channel_port::ChannelPort;
 use interleave_map::Interleaving;
 use line_memory::{Line, zero_memory};
-use module_core::{Module, Opened};
+use module_core::Module;
 use save_device::Pick;
-use slot_store::{Newest, RestoreError, Slot, Verdict, format, restore};
+use slot_store::{Head, RestoreError, format, restore};
 use std::alloc::{AllocError, Global};
 
 /// Why a format began no life.
@@ -27,13 +28,6 @@ use std::alloc::{AllocError, Global};
 pub enum FormatError {
     Device,
     Memory,
-}
-
-/// What a restore found: what the life begins with, and whether a write that was persistent may be missing.
-#[derive(Clone, Copy, Debug, PartialEq, Eq)]
-pub struct Found {
-    pub opened: Opened,
-    pub verdict: Verdict,
 }
 
 impl<K: ChannelPort + Drop, A: Wires<K> + Drop> Session<K, A> {
@@ -45,7 +39,7 @@ impl<K: ChannelPort + Drop, A: Wires<K> + Drop> Session<K, A> {
         &self,
         alloc: Global,
         map: Interleaving,
-        found: Opened,
+        found: Head,
         memory: &[Line],
     ) -> Result<Module<K>, AllocError>
         requires memory { IsMemory (line_count_in self.now) memory.now }
@@ -78,7 +72,7 @@ impl<K: ChannelPort + Drop, A: Wires<K> + Drop> Session<K, A> {
         ensures begins { OnOk result (RunsWith K.ChannelPort
             (setup_over self.old self.old.profile.map)
             (λ life. ModuleStands K.ChannelPort life (fuse_state self.new.device)
-            (opened_with formatted (first_image (line_count_in self.old)))) self.new.life) }
+            (opened_with first_head (first_image (line_count_in self.old)))) self.new.life) }
         ensures none { IfErr result (λ error. self.new.life ≡ None) }
         ensures lie { lie_of self.new.gauge ≡ None }
         ensures gauge { meter_gauge self.new.gauge ≡ meter_gauge self.old.gauge }
@@ -90,27 +84,19 @@ impl<K: ChannelPort + Drop, A: Wires<K> + Drop> Session<K, A> {
         let Ok(memory) = zero_memory(alloc, lines) else {
             return Err(FormatError::Memory);
         };
-        let Ok(()) = format(&mut self.device, lines) else {
+        let Ok(head) = format(&mut self.device, lines) else {
             return Err(FormatError::Device);
         };
-        let opened = Opened {
-            newest: Newest {
-                slot: Slot::First,
-                generation: 1,
-            },
-            count: 0,
-            closed: true,
-        };
         let map = self.profile.map;
-        let Ok(life) = self.open(alloc, map, opened, &memory) else {
+        let Ok(life) = self.open(alloc, map, head, &memory) else {
             return Err(FormatError::Memory);
         };
         self.begin(life, map);
         Ok(())
     }
 
-    // Begins a life with the newest image of the device, over a map. `Memory` comes also where there is none for the channels.
-    fn revive(&mut self, alloc: Global, map: Interleaving) -> Result<Found, RestoreError>
+    // Begins a life with the newest image of the device, over a map, and answers its head. `Memory` comes also where there is none for the channels.
+    fn revive(&mut self, alloc: Global, map: Interleaving) -> Result<Head, RestoreError>
         requires { self.old.life ≡ None }
         ensures revives { IfOk result (λ found. RunsWith K.ChannelPort (setup_over self.old map)
             (λ life. Revives K.ChannelPort (restored_in self.old) found
@@ -127,27 +113,24 @@ impl<K: ChannelPort + Drop, A: Wires<K> + Drop> Session<K, A> {
     {
         let lines = self.lines() as usize;
         let restored = restore(alloc, &mut self.device, lines)?;
-        let opened = Opened::of(&restored);
-        let Ok(life) = self.open(alloc, map, opened, &restored.lines) else {
+        let Ok(life) = self.open(alloc, map, restored.head, &restored.lines) else {
             return Err(RestoreError::Memory);
         };
         self.begin(life, map);
-        Ok(Found {
-            opened,
-            verdict: restored.verdict,
-        })
+        Ok(restored.head)
     }
 
     /// A stop, which leaves of the unsettled bytes what the pick says, and a life on the newest image, over a map or the
     /// profile's: the memory after a prefix of the writes that the life before had accepted, and told Complete one that holds
     /// every write that was persistent. Where a life ran, nothing but a fault of the device or want of memory refuses it. A refused
-    /// restore leaves no life, and the next one finds such a prefix too. The device keeps the bytes that the stop left.
+    /// restore leaves no life, and the next one finds such a prefix too. The device keeps the bytes that the stop left. It answers
+    /// the head of the newest image.
     pub fn restore(
         &mut self,
         alloc: Global,
         pick: Pick,
         map: Option<Interleaving>,
-    ) -> Result<Found, RestoreError>
+    ) -> Result<Head, RestoreError>
         ensures left { MayLeave (present (state_of self.old.device.device))
             (state_of self.new.device.device).bytes }
         ensures picked { IsPicked pick self.old.device.device

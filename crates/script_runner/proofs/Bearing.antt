@@ -15,7 +15,7 @@ use Rattle.line_memory.specs.Memory.{after, after_write, zero_lines}
 use Rattle.save_image.specs.Image.{Image}
 use Rattle.save_device.specs.Device.{DeviceState}
 use Rattle.nv_machine.specs.Guard.{IsPrefix}
-use Rattle.module_core.specs.declared.opening.Opened.{Opened}
+use Rattle.slot_store.specs.declared.head.Head.{Head}
 use Rattle.module_core.specs.Opening.{opened_with}
 use Rattle.module_core.specs.Stands.{ModuleStands}
 use Rattle.nv_session.specs.Restoring.{GoesBackTo, IsLeftBy}
@@ -43,7 +43,7 @@ kept_on lines ledger m n asked given kept opened writes rises told = record {
 }
 
 -- a new life began with a prefix of its writes
-pub first_kept : (lines : ℕ) (ledger : Ledger) (m : Machine) (found : Opened) (image : Image) (count : ℕ) → IsKeptBy lines ledger m → count ≡ image.count → IsPrefix m image
+pub first_kept : (lines : ℕ) (ledger : Ledger) (m : Machine) (found : Head) (image : Image) (count : ℕ) → IsKeptBy lines ledger m → count ≡ image.count → IsPrefix m image
     → IsKeptBy lines (first_of count ledger) (opened_with found image)
 first_kept lines ledger m found image count kept is prefix =
     let all = kept_all lines ledger m kept in

@@ -9,13 +9,13 @@ use Rattle.line_memory.specs.declared.Write.{Write}
 use Rattle.save_device.specs.Device.{DeviceState}
 use Rattle.save_device.specs.declared.memory.Pick.{Pick}
 use Rattle.slot_store.specs.Outcomes.{first_image}
+use Rattle.slot_store.specs.declared.head.Head.{Head}
 use Rattle.slot_store.specs.declared.restoring.RestoreError.{RestoreError}
 use Rattle.module_core.specs.Opening.{opened_with}
 use Rattle.module_core.specs.Stands.{ModuleStands}
 use Rattle.interleave_map.specs.declared.ready.Interleaving.{Interleaving}
-use Rattle.nv_session.specs.declared.lives.Found.{Found}
 use Rattle.nv_session.specs.Restoring.{FindsPrefix, FindsPrefixOf, KeepsPrefixOf}
-use Rattle.nv_session.specs.Wired.{formatted}
+use Rattle.slot_store.specs.Formatted.{first_head}
 use Rattle.nv_script.specs.declared.line.ScriptLine.TheVariants as line
 use Rattle.nv_script.specs.declared.answer.Answer.TheVariants as answer
 use Rattle.script_runner.specs.Replies.{restore_told}
@@ -76,9 +76,9 @@ module _ {K : Type 0} (L : Ghosts K) where
       })
 
   pub format_truly : (lines : ℕ) (setup : Setup) (old new : SessionAt L)
-      → RunsWith L setup (λ it. ModuleStands L it new.device (opened_with formatted (first_image lines))) new.life → AnswersTruly L lines line.Format answer.Formatted old new
+      → RunsWith L setup (λ it. ModuleStands L it new.device (opened_with first_head (first_image lines))) new.life → AnswersTruly L lines line.Format answer.Formatted old new
   format_truly lines setup old new runs known bears =
-      let m : Machine = opened_with formatted (first_image lines) in
+      let m : Machine = opened_with first_head (first_image lines) in
       let borne : Bears L lines blank new = record {
         runs = sym (ap is_some runs.runs);
         m = m;
@@ -97,19 +97,19 @@ module _ {K : Type 0} (L : Ghosts K) where
   }
 
   -- a restore of what was known finds a prefix of it
-  found_truly : (lines : ℕ) (pick : Option Pick) (map : Option Interleaving) (setup : Setup) (found : Found) (old new : SessionAt L) (ledger : Ledger)
+  found_truly : (lines : ℕ) (pick : Option Pick) (map : Option Interleaving) (setup : Setup) (found : Head) (old new : SessionAt L) (ledger : Ledger)
       → FindsPrefixOf L lines setup old found new → Bears L lines ledger old → TellsTruly L lines (line.Restore pick map) (restore_told (Ok found)) (Some ledger) new
   found_truly lines pick map setup found old new ledger finds bears =
       let runs = finds bears.m bears.back in
       let holds : FindsPrefix L bears.m found runs.it new.device = runs.holds in
       let tells = holds.tells in let count = tells.tells.count_is in
       let all = kept_all lines ledger bears.m bears.kept in
-      let m : Machine = opened_with found.opened holds.image in
-      let borne : Bears L lines (first_of found.opened.count ledger) new = record {
+      let m : Machine = opened_with found holds.image in
+      let borne : Bears L lines (first_of found.count ledger) new = record {
         runs = sym (ap is_some runs.runs);
         m = m;
         back = back_to_life L lines new runs.it m runs.runs holds.stands;
-        kept = first_kept lines ledger bears.m found.opened holds.image found.opened.count bears.kept count tells.prefix;
+        kept = first_kept lines ledger bears.m found holds.image found.count bears.kept count tells.prefix;
       } in
       let is_true : IsTrueBy lines (restore_told (Ok found)) ledger = (omega (arith, all, count, tells.prefix.to), λ complete. omega (arith, bears.kept.told, tells.complete complete)) in
       record {
@@ -118,10 +118,10 @@ module _ {K : Type 0} (L : Ghosts K) where
           holds = λ other is. subst (λ (l : Ledger). IsTrueBy lines (restore_told (Ok found)) l) (the_ledger ledger other is) is_true;
           within = λ other is. omega arith;
         };
-        bears = λ other is. subst (λ (l : Ledger). Bears L lines l new) (the_ledger (first_of found.opened.count ledger) other is) borne;
+        bears = λ other is. subst (λ (l : Ledger). Bears L lines l new) (the_ledger (first_of found.count ledger) other is) borne;
       }
 
-  restore_truly : (lines : ℕ) (pick : Option Pick) (map : Option Interleaving) (setup : Setup) (found : Found) (old new : SessionAt L)
+  restore_truly : (lines : ℕ) (pick : Option Pick) (map : Option Interleaving) (setup : Setup) (found : Head) (old new : SessionAt L)
       → FindsPrefixOf L lines setup old found new → AnswersTruly L lines (line.Restore pick map) (restore_told (Ok found)) old new
   restore_truly lines pick map setup found old new finds None bears = nothing_known L lines (line.Restore pick map) (restore_told (Ok found)) new tt refl
   restore_truly lines pick map setup found old new finds (Some ledger) bears = found_truly lines pick map setup found old new ledger finds (bears ledger refl)
@@ -148,7 +148,7 @@ module _ {K : Type 0} (L : Ghosts K) where
         bears = λ other is. subst (λ (l : Ledger). Bears L lines l new) (the_ledger (at_rest ledger) other is) borne;
       }
 
-  pub restored_truly : (lines : ℕ) (pick : Option Pick) (map : Option Interleaving) (setup : Setup) (reply : Result Found RestoreError) (old new : SessionAt L)
+  pub restored_truly : (lines : ℕ) (pick : Option Pick) (map : Option Interleaving) (setup : Setup) (reply : Result Head RestoreError) (old new : SessionAt L)
       → IfOk reply (λ found. FindsPrefixOf L lines setup old found new) → IfErr reply (λ error. KeepsPrefixOf L lines old error new) → IfErr reply (λ error. new.life ≡ None)
       → AnswersTruly L lines (line.Restore pick map) (restore_told reply) old new
   restored_truly lines pick map setup (Ok found) old new finds keeps none = restore_truly lines pick map setup found old new finds

@@ -1,6 +1,7 @@
 -- Which answer tells of a reply of the session.
 use Rattle.std.specs.Prelude.{ℕ, Result, Ok, Err, Option, Some, None}
 use Rattle.ddr4_timing.specs.declared.command.Stamped.{Stamped}
+use Rattle.slot_store.specs.declared.head.Head.{Head}
 use Rattle.slot_store.specs.declared.restoring.RestoreError.{RestoreError}
 use Rattle.arm_state.specs.declared.refusal.ArmRefusal.{ArmRefusal}
 use Rattle.arm_state.specs.declared.refusal.ArmRefusal.TheVariants as refusals
@@ -13,7 +14,6 @@ use Rattle.arm_state.specs.declared.refusal.WriteRefusal.{WriteRefusal}
 use Rattle.arm_state.specs.declared.refusal.ReadRefusal.{ReadRefusal}
 use Rattle.nv_machine.specs.declared.events.StepReply.{StepReply}
 use Rattle.nv_machine.specs.declared.events.StepReply.TheVariants as step
-use Rattle.nv_session.specs.declared.lives.Found.{Found}
 use Rattle.nv_session.specs.declared.turns.LineSeen.{LineSeen}
 use Rattle.nv_session.specs.declared.turns.LineSeen.TheVariants as seen
 use Rattle.nv_script.specs.declared.answer.Answer.{Answer}
@@ -61,6 +61,6 @@ disarm_told (Ok disarm.AlreadyDisarmed) = answer.DisarmedAlready
 disarm_told (Err refusal) = answer.DisarmRefused refusal
 
 -- the answer to a restore
-abbrev pub restore_told : Result Found RestoreError → Answer
-restore_told (Ok found) = answer.Restored found.opened.newest.generation found.opened.count found.verdict
+abbrev pub restore_told : Result Head RestoreError → Answer
+restore_told (Ok head) = answer.Restored head.newest.generation head.count head.verdict
 restore_told (Err error) = answer.RestoreRefused error

@@ -6,8 +6,8 @@ use arm_state::{ArmRefusal, ArmReply, DisarmReply, ReadRefusal, WriteRefusal};
 use ddr4_timing::command::Stamped;
 use nv_machine::{Accepted, StepReply};
 use nv_script::Answer;
-use nv_session::{Found, LineSeen};
-use slot_store::RestoreError;
+use nv_session::LineSeen;
+use slot_store::{Head, RestoreError};
 
 /// The answer to a write.
 pub(crate) fn write_answer(reply: Result<Accepted, WriteRefusal>) -> Answer
@@ -88,14 +88,14 @@ pub(crate) fn disarm_answer(reply: Result<DisarmReply, ArmRefusal>) -> Answer
 }
 
 /// The answer to a restore.
-pub(crate) fn restore_answer(reply: Result<Found, RestoreError>) -> Answer
+pub(crate) fn restore_answer(reply: Result<Head, RestoreError>) -> Answer
     ensures { result ≡ restore_told reply }
 {
     match reply {
-        Ok(Found { opened, verdict }) => Answer::Restored {
-            generation: opened.newest.generation,
-            count: opened.count,
-            verdict,
+        Ok(head) => Answer::Restored {
+            generation: head.newest.generation,
+            count: head.count,
+            verdict: head.verdict,
         },
         Err(error) => Answer::RestoreRefused(error),
     }

@@ -1,10 +1,10 @@
 -- Which slot's image two readings pick.
 use Rattle.std.proofs.Common.{if◌then◌else◌}
 use Rattle.slot_store.specs.Outcomes.{restored}
-use Rattle.slot_store.specs.Told.{IsChosen, IsFailure, IsNewestIn, NamesOutcome, Refuses, memory_in, state_other}
-use Rattle.slot_store.specs.declared.restoring.Choice.{Choice}
+use Rattle.slot_store.specs.Told.{IsChosen, IsFailure, IsNewestIn, image_of_head, NamesOutcome, Refuses, memory_in, state_other}
+use Rattle.slot_store.specs.declared.head.Head.{Head}
 use Rattle.slot_store.specs.declared.restoring.RestoreError.TheVariants as errors
-use Rattle.slot_store.proofs.Common.{ℕ, ◌∙◌, ◌≡◌, ◌≢◌, Bool, Err, First, Found, List, Ok, Outcome, RestoreError, Result, Second, Slot, SlotState, WrongSize, ap, body_in, chosen, device_size, false, image_with, is_closed, is_fault, length, other, refl, slot_state, sym}
+use Rattle.slot_store.proofs.Common.{ℕ, ◌∙◌, ◌≡◌, ◌≢◌, Bool, Err, First, Found, List, Ok, Outcome, RestoreError, Result, Second, Slot, SlotState, WrongSize, ap, body_in, chosen, device_size, false, is_closed, is_fault, length, other, refl, slot_state, sym}
 use Rattle.slot_store.proofs.Gates.{by_states, not_equal}
 
 memory_of : (lines : ℕ) (slot : Slot) (bytes : List ℕ) → memory_in slot (body_in lines First bytes) (body_in lines Second bytes) ≡ body_in lines slot bytes
@@ -22,16 +22,18 @@ refuses errors.WrongSize o u same n = same ∙ n
 refuses errors.Device o u same n = tt
 refuses errors.Memory o u same n = tt
 
-pub picked : (r : Result Choice RestoreError) (lines : ℕ) (bytes : List ℕ) (s t : SlotState) → length bytes ≡ device_size lines
+pub picked : (r : Result Head RestoreError) (lines : ℕ) (bytes : List ℕ) (s t : SlotState) → length bytes ≡ device_size lines
     → slot_state lines First bytes ≡ s → slot_state lines Second bytes ≡ t → IsChosen r (body_in lines First bytes) (body_in lines Second bytes) s t → IsNewestIn r lines bytes
-picked (Ok p) lines bytes s t size one two c = (
-  by_states lines bytes s t size one two ∙ c.0 ∙ ap (λ (m : List (List ℕ)). Found p.slot (image_with p.header m)) (memory_of lines p.slot bytes),
-  c.1 ∙ ap is_closed (other_of lines p.slot bytes s t one two),
-)
+picked (Ok head) lines bytes s t size one two c = record {
+  arm = c.arm;
+  newest = by_states lines bytes s t size one two ∙ c.newest ∙ ap (λ (m : List (List ℕ)). Found head.newest.slot (image_of_head head c.arm m)) (memory_of lines head.newest.slot bytes);
+  judged = c.judged;
+  shut = c.shut ∙ ap is_closed (other_of lines head.newest.slot bytes s t one two);
+}
 picked (Err e) lines bytes s t size one two c = refuses e (chosen s t) (restored lines bytes) (by_states lines bytes s t size one two) c
 
 -- a choice is no fault
-pub not_fault : (r : Result Choice RestoreError) (one two : List (List ℕ)) (s t : SlotState) → IsChosen r one two s t → is_fault r ≡ false
+pub not_fault : (r : Result Head RestoreError) (one two : List (List ℕ)) (s t : SlotState) → IsChosen r one two s t → is_fault r ≡ false
 not_fault (Ok p) one two s t c = refl
 not_fault (Err errors.NoImage) one two s t c = refl
 not_fault (Err (errors.Damaged slot)) one two s t c = refl

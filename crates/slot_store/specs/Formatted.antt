@@ -1,8 +1,15 @@
 -- What formatting leaves.
-use Rattle.std.specs.Prelude.{◌≡◌, ◌≢◌, ℕ, ◌<◌, List, length, slice_index, slice_range}
+use Rattle.std.specs.Prelude.{◌≡◌, ◌≢◌, ℕ, ◌<◌, true, List, length, slice_index, slice_range}
 use Rattle.save_image.specs.Image.{image_bytes}
 use Rattle.slot_store.specs.Slots.{slot_size}
+use Rattle.slot_store.specs.declared.head.Head.{Head}
+use Rattle.slot_store.specs.declared.restoring.Verdict.TheVariants.{Complete}
+use Rattle.slot_store.specs.declared.slots.Slot.TheVariants.{First}
 use Rattle.slot_store.specs.Outcomes.{first_image}
+
+-- the head of the image that formatting makes
+abbrev pub first_head : Head
+first_head = record { newest = record { slot = First; generation = 1 }; count = 0; closed = true; verdict = Complete }
 
 -- the gates of both slots are closed, and the rest is as it was
 pub record HasShutGates (lines : ℕ) (old new : List ℕ) : Type 0 where

@@ -9,7 +9,7 @@ use Rattle.slot_store.specs.declared.slots.Slot.{Slot}
 use Rattle.slot_store.specs.declared.slots.Slot.TheVariants.{First, Second}
 use Rattle.slot_store.specs.declared.restoring.Reading.{Reading}
 use Rattle.slot_store.specs.declared.restoring.Reading.TheVariants as readings
-use Rattle.slot_store.specs.declared.restoring.Choice.{Choice}
+use Rattle.slot_store.specs.declared.head.Head.{Head}
 use Rattle.slot_store.specs.declared.restoring.RestoreError.{RestoreError}
 use Rattle.slot_store.specs.declared.restoring.RestoreError.TheVariants as errors
 use Rattle.slot_store.specs.declared.restoring.Restored.{Restored}
@@ -66,30 +66,36 @@ abbrev pub state_other : Slot → SlotState → SlotState → SlotState
 state_other First first second = second
 state_other Second first second = first
 
--- of two slots that were read so, with their lines, the newest image's header or the error
-abbrev pub IsChosen : Result Choice RestoreError → List (List ℕ) → List (List ℕ) → SlotState → SlotState → Type 0
-IsChosen (Ok choice) one two first second =
-    (chosen first second ≡ Found choice.slot (image_with choice.header (memory_in choice.slot one two)))
-    × (choice.closed ≡ is_closed (state_other choice.slot first second))
+-- the image with this head, arm byte and memory
+abbrev pub image_of_head : Head → ℕ → List (List ℕ) → Image
+image_of_head head arm memory = record { generation = head.newest.generation; count = head.count; arm = arm; memory = memory }
+
+-- The head of the image that was found, with this memory: the verdict is that of its arm byte, and the other slot holds this.
+pub record IsHeadOf (head : Head) (memory : List (List ℕ)) (found : Outcome) (behind : SlotState) : Type 0 where
+  pub arm : ℕ
+  pub newest : found ≡ Found head.newest.slot (image_of_head head arm memory)
+  pub judged : head.verdict ≡ verdict_of arm head.count
+  pub shut : head.closed ≡ is_closed behind
+
+-- of two slots that were read so, with their lines, the newest image's head or the error
+abbrev pub IsChosen : Result Head RestoreError → List (List ℕ) → List (List ℕ) → SlotState → SlotState → Type 0
+IsChosen (Ok head) one two first second =
+    IsHeadOf head (memory_in head.newest.slot one two) (chosen first second) (state_other head.newest.slot first second)
 IsChosen (Err error) one two first second = NamesOutcome error (chosen first second)
 
--- of the bytes of a device, the newest image's header or the error
-abbrev pub IsNewestIn : Result Choice RestoreError → ℕ → List ℕ → Type 0
-IsNewestIn (Ok choice) lines bytes =
-    (restored lines bytes ≡ Found choice.slot (image_with choice.header (body_in lines choice.slot bytes)))
-    × (choice.closed ≡ is_closed (slot_state lines (other choice.slot) bytes))
+-- of the bytes of a device, the newest image's head or the error
+abbrev pub IsNewestIn : Result Head RestoreError → ℕ → List ℕ → Type 0
+IsNewestIn (Ok head) lines bytes =
+    IsHeadOf head (body_in lines head.newest.slot bytes) (restored lines bytes) (slot_state lines (other head.newest.slot) bytes)
 IsNewestIn (Err error) lines bytes = Refuses error (restored lines bytes)
 
 -- the image that was restored, with this arm byte
 abbrev pub image_of_restored : Restored → ℕ → Image
-image_of_restored it arm = record { generation = it.generation; count = it.count; arm = arm; memory = it.lines.items }
+image_of_restored it arm = image_of_head it.head arm it.lines.items
 
--- what was restored is the newest image, with the verdict of its arm byte
-pub record IsRestored (it : Restored) (lines : ℕ) (bytes : List ℕ) : Type 0 where
-  pub arm : ℕ
-  pub newest : restored lines bytes ≡ Found it.slot (image_of_restored it arm)
-  pub judged : it.verdict ≡ verdict_of arm it.count
-  pub shut : it.closed ≡ is_closed (slot_state lines (other it.slot) bytes)
+-- what was restored is the newest image
+abbrev pub IsRestored : Restored → ℕ → List ℕ → Type 0
+IsRestored it lines bytes = IsHeadOf it.head it.lines.items (restored lines bytes) (slot_state lines (other it.head.newest.slot) bytes)
 
 -- the calls of a restore: a sync, and then the reads of both headers, and of each page
 abbrev pub header_calls : List CallKind

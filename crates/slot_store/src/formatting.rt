@@ -1,5 +1,5 @@
 // A store from nothing.
-ghost use Rattle.std.specs.Prelude.{◌≡◌, ℕ, ◌+◌, ◌*◌, ◌<◌, ◌≤◌, [], ◌∷◌, true, length, is_ok, slice_index, OnOk};
+ghost use Rattle.std.specs.Prelude.{◌≡◌, ℕ, ◌+◌, ◌*◌, ◌<◌, ◌≤◌, [], ◌∷◌, true, length, is_ok, slice_index, IfOk, OnOk};
 ghost use Rattle.save_device.specs.declared.calls.CallKind.TheVariants.{Write, Sync};
 ghost use Rattle.save_device.specs.Calls.{MakesCalls};
 ghost use Rattle.save_device.specs.Device.{IsSettled, LeavesOnly};
@@ -10,10 +10,10 @@ ghost use Rattle.slot_store.specs.Steps.{format_calls};
 ghost use Rattle.slot_store.specs.Outcomes.{first_image};
 ghost use Rattle.slot_store.specs.Rest.{IsAtRestOn};
 ghost use Rattle.slot_store.specs.Finishing.{GrantsEach};
-ghost use Rattle.slot_store.specs.Formatted.{IsFormatted, HasShutGates};
+ghost use Rattle.slot_store.specs.Formatted.{IsFormatted, HasShutGates, first_head};
 
 use crate::slots::slot_size;
-use crate::{Refused, SaveRun, SaveSource, Step};
+use crate::{Head, Newest, Refused, SaveRun, SaveSource, Slot, Step, Verdict};
 use save_device::{DeviceFault, SaveDevice};
 
 // A memory of so many zero lines.
@@ -57,9 +57,10 @@ fn shut_gates<D: SaveDevice>(device: &mut D, lines: usize) -> Result<(), DeviceF
 /// Makes the device a store of a memory of so many zero lines: generation 1, no write, clear, in the first slot; the gate
 /// of the second one is closed and the rest of that slot stays. It costs one pass over a slot. A stop during the call
 /// leaves a device of this size, and no more is said of it. After a fault format again.
-pub fn format<D: SaveDevice>(device: &mut D, lines: usize) -> Result<(), DeviceFault>
+pub fn format<D: SaveDevice>(device: &mut D, lines: usize) -> Result<Head, DeviceFault>
     requires capacity { IsCapacity lines }
     requires size { HasSize lines (D.state device.old) }
+    ensures head { IfOk result (λ head. head ≡ first_head) }
     ensures formatted { OnOk result
         (IsFormatted lines (D.state device.old).bytes (D.state device.new).bytes) }
     ensures settled { OnOk result (IsSettled (D.state device.new)) }
@@ -78,5 +79,13 @@ pub fn format<D: SaveDevice>(device: &mut D, lines: usize) -> Result<(), DeviceF
     let Ok(()) = run.finish(&mut ZeroLines { lines }, device) else {
         return Err(DeviceFault);
     };
-    Ok(())
+    Ok(Head {
+        newest: Newest {
+            slot: Slot::First,
+            generation: 1,
+        },
+        count: 0,
+        closed: true,
+        verdict: Verdict::Complete,
+    })
 }

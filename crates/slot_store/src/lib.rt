@@ -12,6 +12,7 @@
 mod arming;
 mod finishing;
 mod formatting;
+mod head;
 mod laws;
 mod plan;
 mod restoring;
@@ -22,6 +23,7 @@ mod whole;
 
 pub use arming::mark_armed;
 pub use formatting::format;
+pub use head::Head;
 pub use laws::{
     full_slots, given_up, newest_at_rest, no_step_left, one_step_less, save_done, stop_at_rest,
     stop_between_steps,

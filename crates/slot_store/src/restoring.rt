@@ -12,7 +12,7 @@ ghost use Rattle.slot_store.specs.Rest.{IsAtRestOn};
 ghost use Rattle.slot_store.specs.Told.{told, IsChosen, IsFailure, IsOfHeaders, IsNewestIn, Refuses, IsRestored, is_fault, pages_read, CallsOfRestore};
 
 use crate::slots::device_size;
-use crate::{Newest, Slot};
+use crate::{Head, Newest, Slot};
 use line_memory::Line;
 use save_device::{DeviceFault, SaveDevice};
 use save_image::{Header, page_lines, read_header};
@@ -40,14 +40,8 @@ impl fmt::Display for Verdict {
 /// The newest image, as it was restored.
 #[derive(Drop)]
 pub struct Restored {
+    pub head: Head,
     pub lines: Vec<Line>,
-    /// The number of writes that the lines are after.
-    pub count: u64,
-    pub generation: u64,
-    pub slot: Slot,
-    /// The other slot's gate isn't open.
-    pub closed: bool,
-    pub verdict: Verdict,
 }
 
 /// Why nothing was restored. It is shown as its number, its name and the slot.
@@ -76,14 +70,6 @@ enum Reading {
     Shut,
     Broken,
     Image(Header),
-}
-
-// The slot of the newest image.
-#[derive(Clone, Copy)]
-struct Choice {
-    slot: Slot,
-    header: Header,
-    closed: bool,
 }
 
 fn read_page<D: SaveDevice>(device: &mut D, at: usize) -> Result<[u8; 4096], DeviceFault>
@@ -124,7 +110,36 @@ fn read_slot<D: SaveDevice>(
     Ok(reading_of(&page, lines))
 }
 
-fn choose(first: Reading, second: Reading) -> Result<Choice, RestoreError>
+fn judged(arm: u8, count: u64) -> Verdict
+    ensures { result ≡ verdict_of arm count }
+{
+    if arm == 0 {
+        Verdict::Complete
+    } else {
+        Verdict::PossibleLoss { after: count }
+    }
+}
+
+// The head of the image in a slot, by its header.
+fn head_of(slot: Slot, header: Header, closed: bool) -> Head
+    ensures slot { result.newest.slot ≡ slot }
+    ensures generation { result.newest.generation ≡ header.generation }
+    ensures count { result.count ≡ header.count }
+    ensures closed { result.closed ≡ closed }
+    ensures verdict { result.verdict ≡ verdict_of header.arm header.count }
+{
+    Head {
+        newest: Newest {
+            slot,
+            generation: header.generation,
+        },
+        count: header.count,
+        closed,
+        verdict: judged(header.arm, header.count),
+    }
+}
+
+fn choose(first: Reading, second: Reading) -> Result<Head, RestoreError>
     ensures chosen { (one two : List (List ℕ))
         → IsChosen result one two (told first one) (told second two) }
     ensures headers { IfErr result IsOfHeaders }
@@ -133,21 +148,13 @@ fn choose(first: Reading, second: Reading) -> Result<Choice, RestoreError>
         (Reading::Broken, _) => Err(RestoreError::Damaged { slot: Slot::First }),
         (_, Reading::Broken) => Err(RestoreError::Damaged { slot: Slot::Second }),
         (Reading::Shut, Reading::Shut) => Err(RestoreError::NoImage),
-        (Reading::Shut, Reading::Image(header)) => Ok(Choice {
-            slot: Slot::Second,
-            header,
-            closed: true,
-        }),
-        (Reading::Image(header), Reading::Shut) => Ok(Choice {
-            slot: Slot::First,
-            header,
-            closed: true,
-        }),
+        (Reading::Shut, Reading::Image(header)) => Ok(head_of(Slot::Second, header, true)),
+        (Reading::Image(header), Reading::Shut) => Ok(head_of(Slot::First, header, true)),
         (Reading::Image(one), Reading::Image(two)) => newer(one, two),
     }
 }
 
-fn newer(first: Header, second: Header) -> Result<Choice, RestoreError>
+fn newer(first: Header, second: Header) -> Result<Head, RestoreError>
     ensures chosen { (one two : List (List ℕ))
         → IsChosen result one two
         (told (Reading.Image first) one) (told (Reading.Image second) two) }
@@ -156,20 +163,15 @@ fn newer(first: Header, second: Header) -> Result<Choice, RestoreError>
     if first.generation == second.generation {
         return Err(RestoreError::Damaged { slot: Slot::Second });
     }
-    let (slot, header) = if first.generation < second.generation {
-        (Slot::Second, second)
+    if first.generation < second.generation {
+        Ok(head_of(Slot::Second, second, false))
     } else {
-        (Slot::First, first)
-    };
-    Ok(Choice {
-        slot,
-        header,
-        closed: false,
-    })
+        Ok(head_of(Slot::First, first, false))
+    }
 }
 
 // Both headers, and which image is the newest.
-fn read_both<D: SaveDevice>(device: &mut D, lines: usize) -> Result<Choice, RestoreError>
+fn read_both<D: SaveDevice>(device: &mut D, lines: usize) -> Result<Head, RestoreError>
     requires lines { lines ≤ 65536 }
     requires size { HasSize lines (D.state device.old) }
     ensures newest { IsNewestIn result lines (D.state device.old).bytes }
@@ -222,29 +224,6 @@ fn read_pages<D: SaveDevice>(
     Ok(memory)
 }
 
-fn judged(arm: u8, count: u64) -> Verdict
-    ensures { result ≡ verdict_of arm count }
-{
-    if arm == 0 {
-        Verdict::Complete
-    } else {
-        Verdict::PossibleLoss { after: count }
-    }
-}
-
-impl Restored {
-    /// The newest image, for the next save.
-    pub fn newest(&self) -> Newest
-        ensures slot { result.slot ≡ self.now.slot }
-        ensures generation { result.generation ≡ self.now.generation }
-    {
-        Newest {
-            slot: self.slot,
-            generation: self.generation,
-        }
-    }
-}
-
 /// Reads the newest image of a device that holds memories of so many lines. After the length it syncs once and then only
 /// reads, one page at a time; it costs one pass over an image. `Memory` comes only where the lines' memory was refused,
 /// `Device` only where a read or the sync failed.
@@ -256,7 +235,7 @@ pub fn restore<D: SaveDevice>(
     requires { IsCapacity lines }
     ensures found { IfOk result (λ it. IsRestored it lines (D.state device.old).bytes) }
     ensures sound { IfOk result
-        (λ it. IsMemory lines it.lines.items × Fits it.generation it.count) }
+        (λ it. IsMemory lines it.lines.items × Fits it.head.newest.generation it.head.count) }
     ensures refused { IfErr result
         (λ error. Refuses error (restored lines (D.state device.old).bytes)) }
 
@@ -270,8 +249,8 @@ pub fn restore<D: SaveDevice>(
 
     // From then on a save may begin over it.
     ensures at_rest { IfOk result (λ it. (image : Image)
-        → restored lines (D.state device.old).bytes ≡ Found it.slot image
-        → IsAtRestOn it.slot image lines it.closed (D.state device.new)) }
+        → restored lines (D.state device.old).bytes ≡ Found it.head.newest.slot image
+        → IsAtRestOn it.head.newest.slot image lines it.head.closed (D.state device.new)) }
 {
     if device.len() != device_size(lines) {
         return Err(RestoreError::WrongSize);
@@ -279,14 +258,11 @@ pub fn restore<D: SaveDevice>(
     let Ok(()) = device.sync() else {
         return Err(RestoreError::Device);
     };
-    let choice = read_both(device, lines)?;
-    let memory = read_pages(alloc, device, choice.slot.start(lines) + 4096, lines / 64)?;
+    let head = read_both(device, lines)?;
+    let body = head.newest.slot.start(lines) + 4096;
+    let memory = read_pages(alloc, device, body, lines / 64)?;
     Ok(Restored {
+        head,
         lines: memory,
-        count: choice.header.count,
-        generation: choice.header.generation,
-        slot: choice.slot,
-        closed: choice.closed,
-        verdict: judged(choice.header.arm, choice.header.count),
     })
 }

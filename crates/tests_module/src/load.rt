@@ -84,9 +84,9 @@ fn byte_of(line: Option<&Line>) -> u8 {
 
 fn image_of(restored: &Restored) -> Image {
     Image {
-        generation: restored.generation,
-        count: restored.count,
-        verdict: restored.verdict,
+        generation: restored.head.newest.generation,
+        count: restored.head.count,
+        verdict: restored.head.verdict,
         first: byte_of(restored.lines.first()),
         last: byte_of(restored.lines.last()),
     }

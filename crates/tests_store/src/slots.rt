@@ -65,7 +65,7 @@ fn after_a_stop(alloc: Global, fuse: Fuse<MemoryDevice>, pick: Pick) -> (u64, u8
     match restore(alloc, &mut device, LINES) {
         Ok(restored) => {
             let byte = restored.lines.first().map_or(0, |line| line[0]);
-            (restored.generation, byte)
+            (restored.head.newest.generation, byte)
         }
         Err(_) => (0, 0),
     }
@@ -310,7 +310,7 @@ fn the_second_slot_is_armed(rt: HostRuntime) {
 
 // What a device restores to.
 fn told(alloc: Global, device: &mut MemoryDevice) -> Result<(u64, Verdict), RestoreError> {
-    restore(alloc, device, LINES).map(|restored| (restored.generation, restored.verdict))
+    restore(alloc, device, LINES).map(|restored| (restored.head.newest.generation, restored.head.verdict))
 }
 
 // Fails where a formatted store with these bytes set restores to something else.
@@ -352,7 +352,7 @@ fn a_device_of_another_size(rt: HostRuntime) {
 fn a_restore_on_a_device_that_fails(rt: HostRuntime) {
     for calls in 0..6 {
         let mut fuse = Fuse::new(formatted(&rt), calls);
-        let answer = restore(rt.alloc(), &mut fuse, LINES).map(|restored| restored.count);
+        let answer = restore(rt.alloc(), &mut fuse, LINES).map(|restored| restored.head.count);
         let expected = if calls < 5 {
             Err(RestoreError::Device)
         } else {
@@ -402,7 +402,7 @@ fn the_largest_memory(rt: HostRuntime) {
     let newest = save(&mut device, CLOSED_FIRST, true, 9, false, &lines).expect(&rt, "a save");
     device.stop(Pick::Old);
     let restored = restore(alloc, &mut device, 65_536).expect(&rt, "an image");
-    same(&rt, restored.newest(), newest);
-    same(&rt, restored.count, 9);
+    same(&rt, restored.head.newest, newest);
+    same(&rt, restored.head.count, 9);
     same(&rt, restored.lines.last(), Some(&[0x33; 64]));
 }

@@ -2,7 +2,7 @@ use Rattle.line_memory.specs.Memory.{zero_lines}
 use Rattle.save_device.proofs.CallLists.{more_planned}
 use Rattle.slot_store.specs.Steps.{format_calls, page_calls}
 use Rattle.slot_store.specs.declared.source.BrokenOff.TheVariants as broken
-use Rattle.slot_store.proofs.Common.{[], ℕ, ◌∙◌, ◌∷◌, ◌≡◌, Bool, BrokenOff, CallsFor, DeviceState, Done, Err, IsMemory, LeavesOnly, MakesCalls, Plan, SlotHas, Step, Sync, Write, and_then, calls_left, calls_on, device_size, false, length, on_err, step_on, subst, sym, true, zero_lines-IsMemory}
+use Rattle.slot_store.proofs.Common.{[], ℕ, ◌∙◌, ◌∷◌, ◌≡◌, Bool, BrokenOff, CallsFor, DeviceState, Done, Err, IsMemory, LeavesOnly, MakesCalls, Plan, SlotHas, Step, Sync, Write, and_then, calls_left, calls_on, device_size, false, length, on_err, refl, step_on, subst, sym, true, zero_lines-IsMemory}
 use Rattle.slot_store.proofs.FirstSave.{IsFirstPlan, KeepsSecond, formatted_bytes, formatted_rest, gates_keep, keeps_second, shut_first}
 use Rattle.slot_store.proofs.StepsMade.{calls_failed, only_faults}
 use Rattle.slot_store.proofs.formatting.format.Goals as goal
@@ -42,6 +42,7 @@ returns g c =
     let done : SlotHas at.plan (zero_lines lines) Done at.tried new = subst (λ (next : Step). SlotHas at.plan (zero_lines lines) next at.tried new) told.ends (told.tries.has memory shut) in
     let keeps : KeepsSecond lines old.bytes new.bytes = keeps_second lines run.plan plan old.bytes mid.bytes new.bytes told.tries.outside (gates_keep lines old.bytes mid.bytes gates.shut) in
     record {
+      head = refl;
       formatted = formatted_bytes lines at.plan same at.tried old new c.requires.size done keeps;
       settled = done.2;
       at_rest = formatted_rest lines at.plan same at.tried old new c.requires.size done keeps;

@@ -4,6 +4,7 @@ use Rattle.ddr4_timing.specs.Limits.{lines_of}
 use Rattle.line_memory.specs.Memory.{IsMemory, zero_lines}
 use Rattle.line_memory.proofs.MemoryLaws.{zero_lines-IsMemory}
 use Rattle.save_device.specs.Device.{DeviceState}
+use Rattle.slot_store.specs.Formatted.{first_head}
 use Rattle.slot_store.specs.Outcomes.{first_image}
 use Rattle.nv_profile.specs.declared.profile.Profile.{Profile}
 use Rattle.module_core.specs.Opening.{opened_with}
@@ -11,7 +12,6 @@ use Rattle.module_core.specs.Stands.{assembly, ModuleStands}
 use Rattle.energy_budget.specs.Meter.{meter_gauge}
 use Rattle.module_core.proofs.CallsInTurn.{life_begins}
 use Rattle.nv_session.specs.Living.{fuse_state}
-use Rattle.nv_session.specs.Wired.{formatted}
 use Rattle.nv_session.proofs.Beginning.{begins_formatted, is_capacity, same_setup}
 use Rattle.nv_session.proofs.session.Session.format.Goals as goal
 use Rattle.nv_session.proofs.session.Session.format.Goals.{In-Ok-open}
@@ -26,20 +26,21 @@ open-requires-clause-memory g c =
 
 -- the life that was opened is a new one
 formatted_life : (g : _) (c : In-Ok-open g)
-    → ModuleStands g.K.ChannelPort c.in-Ok-open.life (fuse_state c.format.new.device) (opened_with formatted (first_image (lines_of c.stop.new.self.profile.checked.geometry)))
+    → ModuleStands g.K.ChannelPort c.in-Ok-open.life (fuse_state c.format.new.device) (opened_with first_head (first_image (lines_of c.stop.new.self.profile.checked.geometry)))
 formatted_life g c =
-    begins_formatted g.K.ChannelPort c.in-Ok-open.life (lines_of c.stop.new.self.profile.checked.geometry) c.lines-lines.result c.deref.result.now (fuse_state c.format.new.device) c.in-Ok-open.ensures.begins
+    begins_formatted g.K.ChannelPort c.in-Ok-open.life (lines_of c.stop.new.self.profile.checked.geometry) c.lines-lines.result c.in-Ok-format.head c.deref.result.now (fuse_state c.format.new.device) c.in-Ok-open.ensures.begins
+    c.in-Ok-format.ensures.head
     c.lines-lines.ensures.is (c.deref.ensures.value ∙ c.in-Ok.ensures) c.in-Ok-format.ensures.at_rest
 
 pub begin-requires-clause-lives : goal.begin-requires-clause-lives
 begin-requires-clause-lives g c =
-    merely (life_begins g.K.ChannelPort formatted (first_image (lines_of c.stop.new.self.profile.checked.geometry))
+    merely (life_begins g.K.ChannelPort first_head (first_image (lines_of c.stop.new.self.profile.checked.geometry))
     (assembly c.in-Ok-open.life (fuse_state c.format.new.device) (meter_gauge c.stop.new.self.gauge)) (formatted_life g (goal.at.begin-requires-clause-lives g c).In-Ok-open))
 
 pub returns-clause-begins : goal.returns-clause-begins
 returns-clause-begins g c =
     let L = g.K.ChannelPort in let old = c.args.self.now in let stopped = c.stop.new.self in let life = c.in-Ok-open.life in
-    let Stands : ℕ → DeviceState → Type 0 = λ n d. ModuleStands L life d (opened_with formatted (first_image n)) in
+    let Stands : ℕ → DeviceState → Type 0 = λ n d. ModuleStands L life d (opened_with first_head (first_image n)) in
     let lines : ℕ = lines_of old.profile.checked.geometry in
     record {
       it = life;
