@@ -2,3 +2,4 @@ pub mod Holding
 pub mod IfOkGives
 pub mod Keeping
 pub mod Quiet
+pub mod Ticketed

@@ -6,5 +6,6 @@ pub mod Marks
 pub mod Newest
 pub mod Opening
 pub mod Savers
+pub mod Serving
 pub mod Steps
 pub mod Turns

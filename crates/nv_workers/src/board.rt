@@ -4,6 +4,7 @@ ghost use Rattle.std.specs.Prelude.{◌<◌};
 use crate::board_name::BoardName;
 use crate::held::Held;
 use crate::saver::Saving;
+use crate::worker::Working;
 use arm_state::{ArmRefusal, ArmReply, DisarmReply, Loss, ReadRefusal};
 use channel_port::{ChannelPort, Collected, Ticket};
 use energy_budget::Energy;
@@ -13,17 +14,6 @@ use nv_machine::StepReply;
 use save_device::SaveDevice;
 use std::sync::{Mutex, Wait};
 use std::thread;
-
-/// What a channel's worker did.
-#[derive(Clone, Copy)]
-pub(crate) enum Working {
-    /// It issued a command.
-    Issued,
-    /// Nothing: the channel had no command to issue.
-    Rested,
-    /// Nothing any more: mains were lost.
-    Closed,
-}
 
 /// A module that threads share, and a book of notices behind a lock of its own. No call takes both locks.
 #[derive(Drop)]
@@ -75,19 +65,11 @@ impl<K: ChannelPort, D: SaveDevice, E: Energy, B: BoardName, N: Notices> Board<K
     pub(crate) fn work(&self, rt: &impl Wait, channel: u64) -> Working
         requires { channel < B.channels }
     {
-        let mut held = self.held.lock(rt);
-        let done = held.work(channel);
-        if held.has_ended() {
-            Working::Closed
-        } else if done.is_some() {
-            Working::Issued
-        } else {
-            Working::Rested
-        }
+        self.held.lock(rt).take_turn(channel)
     }
 
-    // Asks for the answer to a read until it is there. A loss of mains ends it.
-    pub(crate) fn await_line<R: Wait>(&self, rt: &R, ticket: Ticket) -> Result<Line, ReadRefusal> {
+    /// Waits for the bytes of a read that was answered by a ticket. A loss of mains ends it.
+    pub fn await_line<R: Wait>(&self, rt: &R, ticket: Ticket) -> Result<Line, ReadRefusal> {
         for _ in rt.forever() {
             match self.held.lock(rt).collect(ticket) {
                 Collected::Data { bytes, .. } => return Ok(bytes),

@@ -1,9 +1,10 @@
 // The workers, and the gate that they pass.
 ghost use Rattle.std.specs.Prelude.{◌≡◌, ◌<◌};
 
-use crate::board::{Board, Working};
+use crate::board::Board;
 use crate::board_name::BoardName;
 use crate::saver::Saving;
+use crate::worker::Working;
 use channel_port::ChannelPort;
 use energy_budget::Energy;
 use notice_book::Notices;

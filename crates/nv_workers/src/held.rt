@@ -66,6 +66,7 @@ fn saved_after(reply: Reply, saved: u64) -> u64
 }
 
 impl<K: ChannelPort, D: SaveDevice, E: Energy, B: BoardName> Held<K, D, E, B> {
+    ghost use Rattle.nv_workers.specs.Serving.{IsOfChannels};
     ghost use Rattle.nv_workers.specs.Steps.{Steps};
     ghost use Rattle.module_core.specs.Stands.{HasChannel};
 
@@ -134,6 +135,7 @@ impl<K: ChannelPort, D: SaveDevice, E: Energy, B: BoardName> Held<K, D, E, B> {
         ensures energy { self.new.recorded.energy ≡ self.old.recorded.energy }
         ensures setup { setup_of K.ChannelPort self.new.recorded.running
             ≡ setup_of K.ChannelPort self.old.recorded.running }
+        ensures channel { IfOk result.reply (IsOfChannels B.channels) }
         ensures at { result.at ≡ self.old.recorded.running.accepted }
         ensures seen { host.new ≡ marks_of K.ChannelPort B.board self.old.recorded.running }
         ensures rises { IsNotAbove host.old host.new }

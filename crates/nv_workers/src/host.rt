@@ -4,11 +4,13 @@ ghost use Rattle.std.specs.Arc.{arc_value};
 ghost use Rattle.module_core.specs.Stands.{setup_of};
 ghost use Rattle.nv_workers.specs.Client.{SeesNoLess, client};
 ghost use Rattle.nv_workers.specs.Marks.{told_at};
+ghost use Rattle.nv_workers.specs.Serving.{IsOfChannels, ReadsServed};
 ghost use Rattle.nv_workers.specs.Steps.{Steps};
 
 use crate::board::Board;
 use crate::board_name::BoardName;
 use crate::held::{Held, ReadAt};
+use crate::serving::{serve, told_for};
 use arm_state::{ReadRefusal, WriteRefusal};
 use channel_port::{ChannelPort, Got};
 use energy_budget::Energy;
@@ -146,6 +148,7 @@ impl<B: BoardName> Host<B> {
         ensures err { IfErr result (λ refusal.
             Steps K.ChannelPort D.SaveDevice E.Energy B.BoardName.own
             (Event.Read line) (Reply.Read (Err refusal)) held.old held.new) }
+        ensures channel { IfOk result (λ r. IsOfChannels B.channels r.0) }
         ensures at { IfOk result (λ r. r.1 ≡ held.old.recorded.running.accepted) }
         ensures seen { IfOk result (λ r. self.old.accepted ≤ r.1) }
         ensures rises { SeesNoLess self.old self.new }
@@ -162,7 +165,36 @@ impl<B: BoardName> Host<B> {
         }
     }
 
-    /// Reads a line, and waits for the answer.
+    /// Reads a line at the module that is lent, as `read_in` does. Where the read has to wait, its line's channel issues
+    /// commands, 64 at most, until the bytes are there.
+    pub fn read_served_in<K: ChannelPort, D: SaveDevice, E: Energy>(
+        &mut self,
+        held: &mut Held<K, D, E, B>,
+        line: u64,
+    ) -> Result<(Got, u64), ReadRefusal>
+        ensures ok { IfOk result (λ r. ReadsServed K.ChannelPort D.SaveDevice E.Energy
+            B.BoardName.own line r.0 held.old held.new) }
+        ensures err { IfErr result (λ refusal.
+            Steps K.ChannelPort D.SaveDevice E.Energy B.BoardName.own
+            (Event.Read line) (Reply.Read (Err refusal)) held.old held.new) }
+        ensures at { IfOk result (λ r. r.1 ≡ held.old.recorded.running.accepted) }
+        ensures seen { IfOk result (λ r. self.old.accepted ≤ r.1) }
+        ensures rises { SeesNoLess self.old self.new }
+        ensures writes { self.new.writes ≡ self.old.writes }
+        ensures device { held.new.recorded.device ≡ held.old.recorded.device }
+        ensures energy { held.new.recorded.energy ≡ held.old.recorded.energy }
+        ensures setup { setup_of K.ChannelPort held.new.recorded.running
+            ≡ setup_of K.ChannelPort held.old.recorded.running }
+    {
+        let (got, at) = self.read_in(held, line)?;
+        match got {
+            Got::Now(_) => Ok((got, at)),
+            Got::Later(ticket) => Ok((told_for(ticket, serve(held, ticket)), at)),
+        }
+    }
+
+    /// Reads a line, and waits for the answer. Where the read has to wait, it works its line's channel under the lock in which it
+    /// asked; behind 64 commands it lets go of the lock, and looks again and again.
     pub fn read<K: ChannelPort, D: SaveDevice, E: Energy, N: Notices>(
         &mut self,
         rt: &impl Wait,
@@ -174,7 +206,7 @@ impl<B: BoardName> Host<B> {
         ensures rises { SeesNoLess self.old self.new }
         ensures writes { self.new.writes ≡ self.old.writes }
     {
-        let (got, at) = self.ask(rt, board, line)?;
+        let (got, at) = self.ask_served(rt, board, line)?;
         match got {
             Got::Now(data) => Ok(Seen { line, data, at }),
             Got::Later(ticket) => {
@@ -184,8 +216,23 @@ impl<B: BoardName> Host<B> {
         }
     }
 
-    // Asks under the lock, and lets go of it.
-    fn ask<K: ChannelPort, D: SaveDevice, E: Energy, N: Notices>(
+    // Asks under the lock, where the read is served, and lets go of it.
+    fn ask_served<K: ChannelPort, D: SaveDevice, E: Energy, N: Notices>(
+        &mut self,
+        rt: &impl Wait,
+        board: &Board<K, D, E, B, N>,
+        line: u64,
+    ) -> Result<(Got, u64), ReadRefusal>
+        ensures at { IfOk result (λ r. self.old.accepted ≤ r.1) }
+        ensures rises { SeesNoLess self.old self.new }
+        ensures writes { self.new.writes ≡ self.old.writes }
+    {
+        let mut held = board.held.lock(rt);
+        self.read_served_in(&mut *held, line)
+    }
+
+    /// Asks for a line and goes on: the bytes, or a ticket for `Board::await_line`, and how many writes were accepted before it.
+    pub fn ask<K: ChannelPort, D: SaveDevice, E: Energy, N: Notices>(
         &mut self,
         rt: &impl Wait,
         board: &Board<K, D, E, B, N>,

@@ -14,9 +14,11 @@ mod host;
 mod opening;
 mod recorded_module;
 mod saver;
+mod serving;
 mod starting;
 mod tally;
 mod telling;
+mod worker;
 
 pub use board::Board;
 pub use board_name::BoardName;
@@ -28,3 +30,4 @@ pub use opening::Opening;
 pub use recorded_module::RecordedModule;
 pub use saver::{SaverTurn, Saving};
 pub use starting::start;
+pub use worker::Working;

@@ -193,6 +193,32 @@ where
     same(rt, board.save_step(rt), StepReply::NoSave);
 }
 
+/// A write reaches its array by an ACT and a WR, one a turn: the save's first page waits until both went.
+pub(crate) fn work_by_turns<K, D, E, B, N, R>(
+    rt: &R,
+    board: &Board<K, D, E, B, N>,
+    host: &mut Host<B>,
+)
+where
+    K: ChannelPort,
+    D: SaveDevice,
+    E: Energy,
+    B: BoardName,
+    N: Notices,
+    R: Wait + Abort,
+    requires { CHANNELS ≡ B.channels }
+{
+    let receipt = first_receipt(0);
+    same(rt, host.write(rt, board, write_of(0, 11)), Ok(receipt));
+    same(rt, saved(rt, board, 4), Ended::Stopped);
+    for _ in 0..2 {
+        same(rt, board.save_step(rt), StepReply::Waiting);
+        same(rt, worked(rt, board, 1), Ended::Stopped);
+    }
+    let page = StepReply::Did(Step::Page(0));
+    same(rt, board.save_step(rt), page);
+}
+
 /// A line that isn't there; then gates that hold or stop at once, and a loss of mains, end each worker.
 pub(crate) fn end_workers<K, D, E, B, N, R>(
     rt: &R,

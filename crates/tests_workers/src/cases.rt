@@ -1,9 +1,11 @@
 // The cases, each on a board over the channels of the small profile, from a formatted device on.
 ghost use Rattle.std.specs.Prelude.{◌≡◌, length};
 
-use crate::alone::{end_with_strangers, end_workers, lose_armed, save_by_hand, write_disarmed};
+use crate::alone::{
+    end_with_strangers, end_workers, lose_armed, save_by_hand, work_by_turns, write_disarmed,
+};
 use crate::silent::Silent;
-use crate::together::{lose_threads, work_apart};
+use crate::together::{lose_threads, read_beside_held, work_apart};
 use channel_port::ChannelPort;
 use ddr4_boards::{Ready, formatted, open};
 use ddr4_timing::profiles::{SMALL, TINY};
@@ -36,6 +38,8 @@ enum Case {
     Ends,
     Apart,
     Parted,
+    Held,
+    Goes,
 }
 
 /// A write of a line whose bytes are all this one.
@@ -74,6 +78,7 @@ where
         }
         Case::Armed => lose_armed(rt, &board, &mut first[0]),
         Case::Modes => save_by_hand(rt, &board, &mut first[0]),
+        Case::Goes => work_by_turns(rt, &board, &mut first[0]),
         _ => end_workers(rt, &board, &mut first[0]),
     }
     end_with_strangers(rt, board, hosts);
@@ -99,10 +104,10 @@ where
         panic!(*rt; "memory");
     };
     let host = hosts.pop().expect(rt, "a host");
-    if case == Case::Apart {
-        work_apart(rt, &board, host);
-    } else {
-        lose_threads(rt, &board, host);
+    match case {
+        Case::Apart => work_apart(rt, &board, host),
+        Case::Held => read_beside_held(rt, &board, host),
+        _ => lose_threads(rt, &board, host),
     }
 }
 
@@ -126,7 +131,7 @@ where
     }
     if matches!(
         case,
-        Case::Disarmed | Case::Armed | Case::Modes | Case::Ends
+        Case::Disarmed | Case::Armed | Case::Modes | Case::Ends | Case::Goes
     ) {
         try_alone::<K, D, E, B, R>(rt, alloc, ready, case);
     } else {
@@ -197,4 +202,14 @@ fn channels_are_worked_apart(rt: HostRuntime) {
 #[test]
 fn a_loss_ends_what_waits(rt: HostRuntime) {
     try_case(&rt, rt.alloc(), Case::Parted);
+}
+
+#[test]
+fn a_read_is_served_while_workers_are_held(rt: HostRuntime) {
+    try_case(&rt, rt.alloc(), Case::Held);
+}
+
+#[test]
+fn a_go_is_one_command(rt: HostRuntime) {
+    try_case(&rt, rt.alloc(), Case::Goes);
 }

@@ -46,6 +46,49 @@ impl Gate for Always {
 /// How often a worker asks before it is told to stop: it waits for what doesn't come.
 const LIMIT: u64 = 10_000;
 
+/// Holds each worker until a read was answered.
+#[derive(Drop)]
+pub struct HeldUntil<C: Clock> {
+    clock: C,
+    answered: AtomicBool,
+    late: AtomicBool,
+}
+
+impl<C: Clock> HeldUntil<C> {
+    /// Before any read.
+    pub(crate) fn new(clock: C) -> HeldUntil<C> {
+        HeldUntil {
+            clock,
+            answered: AtomicBool::new(false),
+            late: AtomicBool::new(false),
+        }
+    }
+
+    /// The read was answered.
+    pub(crate) fn finish(&self) {
+        self.answered.store(true, Ordering::SeqCst);
+    }
+
+    /// Was a worker stopped while it waited?
+    pub(crate) fn is_late(&self) -> bool {
+        self.late.load(Ordering::SeqCst)
+    }
+}
+
+impl<C: Clock> Gate for HeldUntil<C> {
+    fn pass(&self, _worker: u64, turn: u64) -> Turn {
+        if self.answered.load(Ordering::SeqCst) {
+            return Turn::Stop;
+        }
+        if turn >= LIMIT {
+            self.late.store(true, Ordering::SeqCst);
+            return Turn::Stop;
+        }
+        thread::sleep(&self.clock, Duration::from_millis(1));
+        Turn::Hold
+    }
+}
+
 /// Holds channel 0 until a write on channel 1 was answered and worker 1 has made one work.
 #[derive(Drop)]
 pub struct OtherFirst<C: Clock> {

@@ -3,10 +3,11 @@ ghost use Rattle.std.specs.Prelude.{◌≡◌};
 
 use crate::cases::{CHANNELS, write_of};
 use crate::check::same;
-use crate::gates::{Always, OtherFirst};
+use crate::gates::{Always, HeldUntil, OtherFirst};
 use arm_state::{Loss, ReadRefusal};
-use channel_port::ChannelPort;
+use channel_port::{ChannelPort, Got, Ticket};
 use energy_budget::Energy;
+use line_memory::Line;
 use notice_book::Notices;
 use nv_workers::{Board, BoardName, Ended, Host, Seen, channel_worker, saver_worker};
 use save_device::SaveDevice;
@@ -92,7 +93,29 @@ where
     )
 }
 
-/// A read that waits, and a saver that goes on, end by a loss of mains.
+// The ticket of a line that no channel has read yet.
+fn ticket_of<K, D, E, B, N, R>(
+    rt: &R,
+    board: &Board<K, D, E, B, N>,
+    host: &mut Host<B>,
+    line: u64,
+) -> Ticket
+where
+    K: ChannelPort,
+    D: SaveDevice,
+    E: Energy,
+    B: BoardName,
+    N: Notices,
+    R: Wait + Abort,
+{
+    match host.ask(rt, board, line) {
+        Ok((Got::Later(ticket), 0)) => ticket,
+        _ => panic!(*rt; "a ticket"),
+    }
+}
+
+/// A read that waits while no worker goes, and a saver that goes on, end by a loss of mains. A ticket that was lost with them is
+/// answered at once.
 pub(crate) fn lose_threads<K, D, E, B, N, R>(
     rt: &R,
     board: &Board<K, D, E, B, N>,
@@ -107,13 +130,53 @@ where
     R: Threads + Wait + Clock + Abort + Copy + Send + Sync,
     requires { CHANNELS ≡ B.channels }
 {
-    let (seen, lost) = thread::join(
+    let waited = ticket_of(rt, board, &mut host, 5);
+    let left = ticket_of(rt, board, &mut host, 6);
+    let (line, lost) = thread::join(
         rt,
-        || -> Result<Seen, ReadRefusal> { host.read(rt, board, 5) },
+        || -> Result<Line, ReadRefusal> { board.await_line(rt, waited) },
         || -> (Ended, Loss)
             requires { CHANNELS ≡ B.channels }
         { save_and_lose(rt, board) },
     );
-    same(rt, seen, Err(ReadRefusal::Closed));
+    same(rt, line, Err(ReadRefusal::Closed));
     same(rt, lost, (Ended::Closed, Loss::Unsaved));
+    same(rt, board.await_line(rt, left), Err(ReadRefusal::Closed));
+    same(rt, host.read(rt, board, 5), Err(ReadRefusal::Closed));
+}
+
+/// A read is served while the gate holds each worker.
+pub(crate) fn read_beside_held<K, D, E, B, N, R>(
+    rt: &R,
+    board: &Board<K, D, E, B, N>,
+    mut host: Host<B>,
+)
+where
+    K: ChannelPort + Send,
+    D: SaveDevice + Send,
+    E: Energy + Send,
+    B: BoardName + Send + Sync,
+    N: Notices + Send,
+    R: Threads + Wait + Clock + Abort + Copy + Send + Sync,
+    requires { CHANNELS ≡ B.channels }
+{
+    let gate = HeldUntil::new(*rt);
+    let (ended, seen) = thread::join(
+        rt,
+        || -> Ended
+            requires { CHANNELS ≡ B.channels }
+        { channel_worker(rt, board, 1, &gate) },
+        || -> Result<Seen, ReadRefusal> {
+            let seen = host.read(rt, board, 5);
+            gate.finish();
+            seen
+        },
+    );
+    let zeros = Seen {
+        line: 5,
+        data: [0; 64],
+        at: 0,
+    };
+    same(rt, (ended, seen), (Ended::Stopped, Ok(zeros)));
+    same(rt, gate.is_late(), false);
 }

@@ -3,6 +3,7 @@ use Rattle.nv_machine.specs.declared.events.Event.TheVariants as events
 use Rattle.nv_machine.specs.declared.events.Reply.TheVariants as replies
 use Rattle.nv_workers.proofs.Keeping.{keeps_same}
 use Rattle.nv_workers.proofs.Quiet.{read_is_quiet, same_marks}
+use Rattle.nv_workers.proofs.Ticketed.{known_where_ok}
 use Rattle.nv_workers.proofs.held.Held.read.Goals as goal
 
 pub invariant_of-self-clause-kept : goal.invariant_of-self-clause-kept
@@ -14,3 +15,8 @@ pub invariant_of-self-clause-shown : goal.invariant_of-self-clause-shown
 invariant_of-self-clause-shown g c =
     let it = c.args.self.now in let call = c.read-reply in let after = record it.recorded { running = call.new.self } in
     c.inform.ensures.same ∙ it.shown ∙ same_marks g.K.ChannelPort g.D.SaveDevice g.E.Energy (events.Read c.args.line) (replies.Read call.result) it.recorded after it.kept (call.ensures.answers _ _) (read_is_quiet c.args.line call.result) g.B.BoardName.board
+
+pub returns-clause-channel : goal.returns-clause-channel
+returns-clause-channel g c =
+    let it = c.args.self.now in let call = c.read-reply in let after = record it.recorded { running = call.new.self } in
+    known_where_ok g.K.ChannelPort g.D.SaveDevice g.E.Energy c.args.line call.result it.recorded after it.kept (call.ensures.answers _ _) g.B.BoardName.channels it.channels

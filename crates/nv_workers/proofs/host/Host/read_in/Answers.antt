@@ -1,11 +1,12 @@
 use Rattle.std.proofs.Common.{ap, arith, subst}
-use Rattle.std.specs.Prelude.{Result}
+use Rattle.std.specs.Prelude.{Result, IfOk}
 use Rattle.channel_port.specs.declared.answers.Got.{Got}
 use Rattle.mark_board.specs.SeenMarks.{SeenMarks}
 use Rattle.arm_state.specs.declared.refusal.ReadRefusal.{ReadRefusal}
 use Rattle.nv_machine.specs.declared.events.Event.TheVariants as events
 use Rattle.nv_machine.specs.declared.events.Reply.TheVariants as replies
 use Rattle.nv_workers.specs.Client.{Client}
+use Rattle.nv_workers.specs.Serving.{IsOfChannels}
 use Rattle.nv_workers.specs.Steps.{Steps}
 use Rattle.nv_workers.proofs.host.Host.read_in.Goals.{in-Ok, in-Err}
 use Rattle.nv_workers.proofs.host.Host.read_in.Goals as goal
@@ -28,3 +29,8 @@ returns-clause-seen g c =
     let now = ap (λ (host : Client). host.accepted) c.self.view_is in
     let new = ap (λ (marks : SeenMarks). marks.accepted) c.read-reply.ensures.seen in
     elim c.match-reply.branch [ in-Ok w ↦ rw w.result-is (omega (arith, c.read-reply.ensures.at, c.read-reply.ensures.rises.accepted, now, new)) | in-Err w ↦ rw w.result-is tt ]
+
+pub returns-clause-channel : goal.returns-clause-channel
+returns-clause-channel g c =
+    let Known : Result Got ReadRefusal → Type 0 = λ r. IfOk r (IsOfChannels g.B.BoardName.channels) in
+    elim c.match-reply.branch [ in-Ok w ↦ rw w.result-is (subst Known w.in-Ok.is c.read-reply.ensures.channel) | in-Err w ↦ rw w.result-is tt ]

@@ -1,0 +1,14 @@
+use Rattle.std.proofs.Common.{◌≡◌}
+use Rattle.module_core.specs.Stands.{setup_of}
+use Rattle.nv_workers.specs.Serving.{WorksTimes}
+use Rattle.nv_workers.proofs.serving.serve.Given as goal
+
+abbrev pub invariant-loop-times : goal.invariant-loop-times
+invariant-loop-times g l =
+    let L = g.K.ChannelPort in
+    record {
+      works : WorksTimes L g.D.SaveDevice g.E.Energy g.B.BoardName l._times l.fn.ticket l.fn.held l.held;
+      device : l.held.recorded.device ≡ l.fn.held.recorded.device;
+      energy : l.held.recorded.energy ≡ l.fn.held.recorded.energy;
+      setup : setup_of L l.held.recorded.running ≡ setup_of L l.fn.held.recorded.running;
+    }
