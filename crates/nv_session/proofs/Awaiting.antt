@@ -1,20 +1,13 @@
 -- A read that is awaited, by the calls that are made meanwhile.
 use Rattle.std.proofs.Common.{◌≡◌, ℕ, List, [], ◌∷◌, ◌++◌, ◌∙◌, refl, sym, ap, subst, Option, Some, None}
+use Rattle.nv_session.proofs.Common.{AnswersAlone, AwaitsRead, CollectStep, ComesAlone, Event, Ghosts, Machine, Module}
+use Rattle.nv_session.proofs.Common.{Reply, SameButWaits, SeesPromised, Setup, WorkStep, assembly, hold_of, setup_of}
 use Rattle.channel_port.specs.declared.answers.Ticket.{Ticket}
 use Rattle.channel_port.specs.declared.answers.Collected.{Collected}
 use Rattle.channel_port.specs.declared.answers.Collected.TheVariants.{Data}
 use Rattle.channel_port.specs.declared.answers.Done.{Done}
-use Rattle.channel_port.specs.declared.port.ChannelPort.{Ghosts}
-use Rattle.module_core.specs.declared.module.Module.{Module}
-use Rattle.nv_machine.specs.declared.events.Event.{Event}
 use Rattle.nv_machine.specs.declared.events.Event.TheVariants as events
-use Rattle.nv_machine.specs.declared.events.Reply.{Reply}
 use Rattle.nv_machine.specs.declared.events.Reply.TheVariants as replies
-use Rattle.nv_machine.specs.State.{Setup, Machine, hold_of}
-use Rattle.nv_machine.specs.Machine.{CollectStep, WorkStep}
-use Rattle.module_core.specs.Stands.{AnswersAlone, assembly, setup_of}
-use Rattle.nv_session.specs.Coming.{ComesAlone}
-use Rattle.nv_session.specs.Turns.{SameButWaits, AwaitsRead, SeesPromised}
 use Rattle.nv_session.specs.declared.turns.LineSeen.TheVariants.{Content, Waiting}
 use Rattle.nv_session.proofs.Coming.{comes_to_itself, comes_further, comes_retold}
 use Rattle.nv_session.proofs.Promised.{promised_collected, promised_given, promised_served}

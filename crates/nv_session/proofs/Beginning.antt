@@ -1,34 +1,25 @@
 -- How a life begins after a format, and after a restore.
 use Rattle.std.proofs.Common.{◌≡◌, ◌∙◌, ℕ, List, Bool, [], refl, sym, ap, subst, true, Option}
-use Rattle.ddr4_timing.specs.Limits.{lines_of}
+use Rattle.nv_session.proofs.Common.{DeviceState, Ghosts, Head, IsShapeFor, Module, ModuleStands, Outcome, Profile}
+use Rattle.nv_session.proofs.Common.{Revives, RunsWith, Setup, first_image, fuse_state, lines_of, restored, verdict_of}
 use Rattle.interleave_map.specs.declared.ready.Interleaving.{Interleaving}
 use Rattle.line_memory.specs.Memory.{zero_lines}
-use Rattle.save_device.specs.Device.{DeviceState}
 use Rattle.save_image.specs.Image.{Image}
-use Rattle.slot_store.specs.declared.head.Head.{Head}
 use Rattle.slot_store.specs.declared.restoring.Restored.{Restored}
 use Rattle.slot_store.specs.declared.slots.Slot.{Slot}
 use Rattle.slot_store.specs.declared.slots.Slot.TheVariants.{First}
 use Rattle.slot_store.specs.Formatted.{first_head}
-use Rattle.slot_store.specs.Outcomes.{Outcome, first_image, restored, verdict_of}
 use Rattle.slot_store.specs.Outcomes as outcome
 use Rattle.slot_store.specs.Rest.{IsAtRestOn}
 use Rattle.slot_store.specs.Slots.{IsCapacity}
 use Rattle.slot_store.specs.Told.{IsRestored, image_of_restored}
-use Rattle.channel_port.specs.declared.port.ChannelPort.{Ghosts}
 use Rattle.channel_port.specs.Shape.{Shape}
 use Rattle.channel_set.specs.declared.set.ChannelSet.{ChannelSet}
 use Rattle.channel_set.specs.Carrying.{CarriesAll}
-use Rattle.nv_machine.specs.State.{Setup}
-use Rattle.nv_profile.specs.declared.profile.Profile.{Profile}
-use Rattle.module_core.specs.declared.module.Module.{Module}
 use Rattle.module_core.specs.Opening.{BeginsOn, opened_with}
-use Rattle.module_core.specs.Stands.{ModuleStands}
 use Rattle.nv_session.specs.declared.session.Session.{Session}
 use Rattle.nv_session.specs.declared.wires.Wires as wires
 use Rattle.nv_session.specs.Wired.{BeginsLife, IsWired, RestsOnFound}
-use Rattle.nv_session.specs.Living.{IsShapeFor, RunsWith, fuse_state}
-use Rattle.nv_session.specs.Restoring.{Revives}
 use Rattle.nv_session.specs.Sessions.{restored_in, setup_over}
 
 -- a memory of the profile's lines fills whole pages

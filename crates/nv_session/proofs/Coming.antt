@@ -1,18 +1,12 @@
 -- Events that follow one another.
 use Rattle.std.proofs.Common.{◌≡◌, List, [], ◌∷◌, ◌++◌, refl, subst}
-use Rattle.save_device.specs.Device.{present, StopsWithin}
-use Rattle.slot_store.specs.Outcomes.{restored}
-use Rattle.channel_port.specs.declared.port.ChannelPort.{Ghosts}
-use Rattle.nv_machine.specs.declared.events.Event.{Event}
-use Rattle.nv_machine.specs.declared.events.Reply.{Reply}
-use Rattle.nv_machine.specs.State.{Setup, Machine}
+use Rattle.nv_session.proofs.Common.{Answers, AnswersAlone, Assembly, Comes, ComesAlone, ComesTo, Event, Ghosts}
+use Rattle.nv_session.proofs.Common.{HappensAt, IsOneEvent, Machine, Module, ModuleStands, Reply, RunAt, Setup}
+use Rattle.nv_session.proofs.Common.{StopsWithin, Tale, assembly, point_of, present, restored, setup_of, world_of}
 use Rattle.nv_machine.specs.Headline.{Happens, RecoversAfterwards}
 use Rattle.nv_machine.proofs.Leaving.{left_after}
-use Rattle.module_core.specs.declared.module.Module.{Module}
-use Rattle.module_core.specs.Stands.{Answers, AnswersAlone, Assembly, HappensAt, ModuleStands, RunAt, assembly, point_of, setup_of, world_of}
 use Rattle.module_core.proofs.RunsOn.{join_runs, one_run, rests_at, run_push}
 use Rattle.module_core.proofs.StoreSteps.{stop_now}
-use Rattle.nv_session.specs.Coming.{Tale, ComesTo, Comes, ComesAlone, IsOneEvent}
 
 module _ {K : Type 0} (L : Ghosts K) where
   -- whatever a stop leaves of a life's device is what the machine says

@@ -2,20 +2,13 @@
 use Rattle.std.proofs.Common.{◌≡◌, ℕ, ap, refl, sym, subst, Option, Some, None}
 use Rattle.std.proofs.Math.Logic.{∥∥₁_map}
 use Rattle.std.specs.Prelude.{MatchOption}
-use Rattle.ddr4_timing.specs.Limits.{lines_of}
-use Rattle.save_device.specs.Device.{DeviceState}
+use Rattle.nv_session.proofs.Common.{Assembly, Comes, ComesAlone, ComesTo, DeviceState, Ghosts, GoesOnAlone, GoesOnBy}
+use Rattle.nv_session.proofs.Common.{HasDevice, HasLife, IsLiving, IsShapeFor, LivesOn, Module, Profile, SessionAt}
+use Rattle.nv_session.proofs.Common.{Setup, Tale, assembly, life_charged, life_on, lines_of, session_at, setup_of}
 use Rattle.slot_store.specs.Slots.{HasSize}
-use Rattle.channel_port.specs.declared.port.ChannelPort.{Ghosts}
-use Rattle.nv_machine.specs.State.{Setup}
-use Rattle.nv_profile.specs.declared.profile.Profile.{Profile}
-use Rattle.module_core.specs.declared.module.Module.{Module}
 use Rattle.energy_budget.specs.Charging.{RisesTo}
 use Rattle.energy_budget.specs.Gauge.{Gauge}
 use Rattle.module_core.specs.ModuleLives.{LifeSoFar}
-use Rattle.module_core.specs.Stands.{Assembly, HasDevice, assembly, setup_of}
-use Rattle.module_core.proofs.CallsInTurn.{life_charged, life_on}
-use Rattle.nv_session.specs.Coming.{Tale, ComesTo, Comes, ComesAlone}
-use Rattle.nv_session.specs.Living.{GoesOnBy, GoesOnAlone, IsLiving, IsShapeFor, LivesOn, SessionAt, HasLife, session_at}
 
 module _ {K : Type 0} (L : Ghosts K) where
   pub goes_on_by : (Told : Setup → Tale) (old new : SessionAt L) (it later : Module K L) → old.life ≡ Some it → new.life ≡ Some later

@@ -1,3 +1,4 @@
+pub mod Common
 pub mod Coming
 pub mod Promised
 pub mod Awaiting

@@ -1,22 +1,16 @@
 -- A read, at once or awaited.
 use Rattle.std.proofs.Common.{◌≡◌, ℕ, List, [], ◌∷◌, ◌++◌, refl, sym, subst, None, Ok, Err, All}
+use Rattle.nv_session.proofs.Common.{AnswersAlone, ComesAlone, Event, Ghosts, IsPromised, Machine, Module, ReadStep}
+use Rattle.nv_session.proofs.Common.{Reply, SameButWaits, SeesLine, SeesPromised, Setup, all_of, assembly, memory_of}
+use Rattle.nv_session.proofs.Common.{setup_of}
 use Rattle.channel_port.specs.declared.answers.Ticket.{Ticket}
 use Rattle.channel_port.specs.declared.answers.Got.TheVariants.{Now, Later}
-use Rattle.channel_port.specs.declared.port.ChannelPort.{Ghosts}
 use Rattle.channel_port.specs.Waits.{OpenRead}
 use Rattle.line_memory.specs.Memory.{line_of}
-use Rattle.module_core.specs.declared.module.Module.{Module}
-use Rattle.nv_machine.specs.declared.events.Event.{Event}
 use Rattle.nv_machine.specs.declared.events.Event.TheVariants as events
-use Rattle.nv_machine.specs.declared.events.Reply.{Reply}
 use Rattle.nv_machine.specs.declared.events.Reply.TheVariants as replies
 use Rattle.arm_state.specs.declared.refusal.ReadRefusal.{ReadRefusal}
-use Rattle.nv_machine.specs.State.{Setup, Machine, memory_of, all_of}
 use Rattle.nv_machine.specs.Refusals.{read_refusal}
-use Rattle.nv_machine.specs.Machine.{ReadStep}
-use Rattle.module_core.specs.Stands.{AnswersAlone, assembly, setup_of}
-use Rattle.nv_session.specs.Coming.{ComesAlone}
-use Rattle.nv_session.specs.Turns.{SameButWaits, IsPromised, SeesPromised, SeesLine}
 use Rattle.nv_session.specs.declared.turns.LineSeen.{LineSeen}
 use Rattle.nv_session.specs.declared.turns.LineSeen.TheVariants.{Content}
 use Rattle.nv_session.proofs.Coming.{Starts, starts_at, comes_further, comes_on}

@@ -2,33 +2,27 @@
 use Rattle.std.proofs.Common.{◌≡◌, ◌≢◌, ◌∙◌, ℕ, ◌≤◌, List, false, inl, inr, refl, sym, ap, subst, arith, Option, Some, None}
 use Rattle.std.proofs.Math.Logic.{∥∥₁_map, ∥∥₁_elim}
 use Rattle.std.proofs.lemmas.Grind.{merely}
-use Rattle.ddr4_timing.specs.Limits.{lines_of}
-use Rattle.save_device.specs.Device.{DeviceState, present, MayLeave, LeavesOnly, IsSettled}
+use Rattle.nv_session.proofs.Common.{Assembly, DeviceState, FindsPrefix, FindsPrefixOf, FindsSaved, Ghosts, GoesBackTo}
+use Rattle.nv_session.proofs.Common.{HasSaved, Head, IsLeftBy, IsLiving, IsSettled, IsShapeFor, KeepsPrefixOf}
+use Rattle.nv_session.proofs.Common.{LeavesOnly, Machine, MayLeave, Module, ModuleStands, Outcome, Profile, Revives}
+use Rattle.nv_session.proofs.Common.{RunsWith, SessionAt, Setup, TellsImage, TellsPrefix, assembly, lines_of}
+use Rattle.nv_session.proofs.Common.{lines_of_module, memory_after, newest_of, present, restored, session_at, setup_of}
+use Rattle.nv_session.proofs.Common.{verdict_of}
 use Rattle.save_device.proofs.Moments.{last_within}
 use Rattle.save_device.proofs.Rows.{same_rows}
 use Rattle.save_image.specs.Image.{Image}
 use Rattle.slot_store.specs.declared.slots.Slot.{Slot}
-use Rattle.slot_store.specs.Outcomes.{Outcome, restored, verdict_of}
 use Rattle.slot_store.specs.Outcomes as outcome
 use Rattle.slot_store.specs.Told.{Refuses, IsFailure}
-use Rattle.slot_store.specs.declared.head.Head.{Head}
 use Rattle.slot_store.specs.declared.restoring.RestoreError.{RestoreError}
 use Rattle.slot_store.specs.declared.restoring.RestoreError.TheVariants as errors
 use Rattle.slot_store.specs.Rest.{Candidates, IsAmong, only, rearmed}
 use Rattle.arm_state.specs.Modes.{is_armed}
-use Rattle.channel_port.specs.declared.port.ChannelPort.{Ghosts}
-use Rattle.nv_machine.specs.State.{Machine, Setup, newest_of, memory_after}
 use Rattle.nv_machine.specs.Guard.{IsPrefix, HasCause}
 use Rattle.nv_machine.specs.Headline.{RecoversAfterwards}
 use Rattle.nv_machine.proofs.SurvivedLives.{clear_where}
-use Rattle.nv_profile.specs.declared.profile.Profile.{Profile}
-use Rattle.module_core.specs.declared.module.Module.{Module}
 use Rattle.module_core.specs.ModuleLives.{LifeSoFar}
-use Rattle.module_core.specs.Stands.{Assembly, ModuleStands, assembly, lines_of_module, setup_of}
 use Rattle.module_core.proofs.StoreSteps.{stop_now}
-use Rattle.nv_session.specs.Turns.{HasSaved}
-use Rattle.nv_session.specs.Living.{IsLiving, IsShapeFor, RunsWith, SessionAt, session_at}
-use Rattle.nv_session.specs.Restoring.{FindsSaved, FindsPrefix, FindsPrefixOf, GoesBackTo, IsLeftBy, KeepsPrefixOf, Revives, TellsImage, TellsPrefix}
 use Rattle.nv_session.proofs.Coming.{left_by_life}
 
 among_only : (slot : Slot) (image : Image) (found : Outcome) → IsAmong (only slot image) found → found ≡ outcome.Found slot image

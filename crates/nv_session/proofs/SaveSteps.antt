@@ -1,19 +1,16 @@
 -- The steps of a save, and what they leave.
 use Rattle.std.proofs.Common.{◌≡◌, ℕ, ◌∙◌, refl, sym, ap, subst, Option, Some, None, Ok, Err, false, Result}
 use Rattle.std.specs.Option.{ForSome}
+use Rattle.nv_session.proofs.Common.{ArmRefusal, HasSaved, IsSavedBy, Machine, RunningSave, SameButWaits, SameWrites}
+use Rattle.nv_session.proofs.Common.{SaveBeginStep, SaveStepStep, Setup, StepReply, World, memory_after, newest_of}
 use Rattle.slot_store.specs.Rest.{only}
 use Rattle.arm_state.specs.declared.mode.Mode.{Mode}
 use Rattle.arm_state.specs.declared.mode.Mode.TheVariants.{Disarmed, Armed, Disarming, Stranded, Closing, Saved}
 use Rattle.arm_state.specs.declared.moves.Move.TheVariants.{EndSave}
-use Rattle.arm_state.specs.declared.refusal.ArmRefusal.{ArmRefusal}
 use Rattle.arm_state.specs.Moves.{mode_after}
 use Rattle.arm_state.specs.Modes.{is_armed}
-use Rattle.nv_machine.specs.declared.events.StepReply.{StepReply}
 use Rattle.nv_machine.specs.declared.events.StepReply.TheVariants as step
-use Rattle.nv_machine.specs.State.{Setup, Machine, World, RunningSave, newest_of, memory_after}
 use Rattle.nv_machine.specs.Guard.{IsGuarded, IsGood}
-use Rattle.nv_machine.specs.Machine.{SaveStepStep, SaveBeginStep}
-use Rattle.nv_session.specs.Turns.{SameButWaits, SameWrites, HasSaved, IsSavedBy}
 
 still_unarmed : (mode : Mode) → is_armed (mode_after EndSave mode) ≡ false → is_armed mode ≡ false
 still_unarmed Disarmed unarmed = refl

@@ -3,23 +3,13 @@ use Rattle.std.proofs.Common.{◌≡◌, ◌∙◌, ℕ, ◌+◌, ◌≤◌, Boo
 use Rattle.std.specs.Prelude.{MatchOption, nat_lt, if◌then◌else◌}
 use Rattle.std.proofs.lemmas.Bool.{ltb-false}
 use Rattle.std.proofs.lemmas.List.{append-nil}
+use Rattle.nv_session.proofs.Common.{Assembly, ComesTo, DeviceState, Event, Ghosts, GoesOnBy, Head, LivesOn, Module}
+use Rattle.nv_session.proofs.Common.{Outcome, Reply, Revives, SessionAt, Setup, Tale, answered_none, assembly}
+use Rattle.nv_session.proofs.Common.{none_answered_on, runs_on, session_at, set_to, setup_of}
 use Rattle.save_image.specs.Image.{Image}
-use Rattle.slot_store.specs.Outcomes.{Outcome}
 use Rattle.energy_budget.specs.Gauge.{Gauge}
 use Rattle.energy_budget.specs.Charging.{RisesTo}
-use Rattle.channel_port.specs.declared.port.ChannelPort.{Ghosts}
-use Rattle.save_device.specs.Device.{DeviceState}
-use Rattle.nv_machine.specs.declared.events.Event.{Event}
-use Rattle.nv_machine.specs.declared.events.Reply.{Reply}
-use Rattle.nv_machine.specs.State.{Setup}
-use Rattle.module_core.specs.declared.module.Module.{Module}
-use Rattle.slot_store.specs.declared.head.Head.{Head}
 use Rattle.module_core.specs.ModuleLives.{HasAnswered}
-use Rattle.module_core.specs.Stands.{Assembly, assembly, setup_of}
-use Rattle.module_core.proofs.CallsInTurn.{answered_none, none_answered_on, runs_on}
-use Rattle.nv_session.specs.Coming.{Tale, ComesTo}
-use Rattle.nv_session.specs.Living.{GoesOnBy, LivesOn, SessionAt, session_at, set_to}
-use Rattle.nv_session.specs.Restoring.{Revives}
 use Rattle.nv_session.specs.SessionLives.{HasLived, HasLivedOn}
 
 pub set_rises : (level : ℕ) (gauge : Gauge) → RisesTo gauge (set_to level gauge)

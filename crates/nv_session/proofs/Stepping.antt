@@ -1,17 +1,10 @@
 -- One step of a save, which is begun where none runs.
 use Rattle.std.proofs.Common.{◌≡◌, inl, inr, List, [], ◌∷◌, ◌++◌, refl, ap, Ok, Err}
-use Rattle.channel_port.specs.declared.port.ChannelPort.{Ghosts}
-use Rattle.arm_state.specs.declared.refusal.ArmRefusal.{ArmRefusal}
-use Rattle.nv_machine.specs.declared.events.Event.{Event}
+use Rattle.nv_session.proofs.Common.{Answers, ArmRefusal, Assembly, Comes, Event, Ghosts, Machine, MakesStep, Reply}
+use Rattle.nv_session.proofs.Common.{SameWrites, StepReply, World, setup_of, world_of}
 use Rattle.nv_machine.specs.declared.events.Event.TheVariants as events
-use Rattle.nv_machine.specs.declared.events.Reply.{Reply}
 use Rattle.nv_machine.specs.declared.events.Reply.TheVariants as replies
-use Rattle.nv_machine.specs.declared.events.StepReply.{StepReply}
 use Rattle.nv_machine.specs.declared.events.StepReply.TheVariants as step
-use Rattle.nv_machine.specs.State.{Machine, World}
-use Rattle.module_core.specs.Stands.{Answers, Assembly, setup_of, world_of}
-use Rattle.nv_session.specs.Coming.{Comes}
-use Rattle.nv_session.specs.Turns.{SameWrites, MakesStep}
 use Rattle.nv_session.proofs.Coming.{Starts, starts_at, comes_further, comes_retold}
 use Rattle.nv_session.proofs.SaveSteps.{step_keeps, step_ends, begin_keeps, same_writes_on}
 

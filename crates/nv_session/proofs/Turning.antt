@@ -1,19 +1,11 @@
 -- The turns of a save: steps, and works between them.
 use Rattle.std.proofs.Common.{◌≡◌, ℕ, List, [], ◌∷◌, ◌++◌, refl, sym, subst, Option, Some, None, Result, Ok}
+use Rattle.nv_session.proofs.Common.{Answers, AnswersAlone, ArmRefusal, Assembly, Comes, ComesAlone, Event, Ghosts}
+use Rattle.nv_session.proofs.Common.{GoesOnSaving, Machine, MakesStep, Module, OnlyWorks, Reply, SameWrites, Setup}
+use Rattle.nv_session.proofs.Common.{StepReply, Tale, WorkStep, World, assembly, setup_of, world_of}
 use Rattle.channel_port.specs.declared.answers.Done.{Done}
-use Rattle.channel_port.specs.declared.port.ChannelPort.{Ghosts}
-use Rattle.arm_state.specs.declared.refusal.ArmRefusal.{ArmRefusal}
-use Rattle.module_core.specs.declared.module.Module.{Module}
-use Rattle.nv_machine.specs.declared.events.Event.{Event}
 use Rattle.nv_machine.specs.declared.events.Event.TheVariants as events
-use Rattle.nv_machine.specs.declared.events.Reply.{Reply}
 use Rattle.nv_machine.specs.declared.events.Reply.TheVariants as replies
-use Rattle.nv_machine.specs.declared.events.StepReply.{StepReply}
-use Rattle.nv_machine.specs.State.{Setup, Machine, World}
-use Rattle.nv_machine.specs.Machine.{WorkStep}
-use Rattle.module_core.specs.Stands.{Answers, AnswersAlone, Assembly, assembly, setup_of, world_of}
-use Rattle.nv_session.specs.Coming.{Tale, Comes, ComesAlone}
-use Rattle.nv_session.specs.Turns.{SameWrites, GoesOnSaving, MakesStep, OnlyWorks}
 use Rattle.nv_session.proofs.Coming.{comes_to_itself, comes_further, comes_on, comes_retold}
 use Rattle.nv_session.proofs.Awaiting.{same_after}
 use Rattle.nv_session.proofs.SaveSteps.{step_keeps, step_ends, same_writes_on, waits_keep}

@@ -1,29 +1,22 @@
 -- What is known of a module between two events, and where the marks are after one.
 use Rattle.std.proofs.Common.{◌≡◌, ◌≤◌, ℕ, ap, arith, subst, sym, ◌∙◌}
-use Rattle.std.specs.Prelude.{Option, Some, None}
-use Rattle.std.proofs.Math.Logic.{∥∥₁_elim}
 use Rattle.std.proofs.Math.Nat.{ℕ_set}
 use Rattle.std.proofs.Math.Bridge.{le_prop}
+use Rattle.nv_workers.proofs.Common.{Ghosts as GaugeGhosts, HasDevice, IsBehind, IsRecordKept, Machine, ModuleStands}
+use Rattle.nv_workers.proofs.Common.{None, Option, RecordedModule, RunningSave, SeenMarks, Setup, Some, StandsWith}
+use Rattle.nv_workers.proofs.Common.{StepsTo, Store, assembly_of, marks_of, seen_marks, setup_of, world_of, ∥∥₁_elim}
 use Rattle.atomic_table.specs.Seated.{TableId}
-use Rattle.mark_board.specs.SeenMarks.{SeenMarks, seen_marks}
 use Rattle.save_device.specs.Device.{DeviceState}
 use Rattle.save_device.specs.declared.device.SaveDevice.{Ghosts as DeviceGhosts}
 use Rattle.slot_store.specs.Slots.{HasSize}
 use Rattle.slot_store.specs.declared.saving.SaveRun.{SaveRun}
-use Rattle.energy_budget.specs.declared.energy.Energy.{Ghosts as GaugeGhosts}
 use Rattle.channel_port.specs.declared.port.ChannelPort.{Ghosts}
 use Rattle.nv_machine.specs.declared.events.Event.{Event}
 use Rattle.nv_machine.specs.declared.events.Reply.{Reply}
-use Rattle.nv_machine.specs.State.{Machine, RunningSave, Setup, Store}
 use Rattle.nv_machine.specs.Rising.{Rises}
 use Rattle.nv_machine.proofs.RisingMarks.{event_rises}
 use Rattle.module_core.specs.declared.module.Module.{Module}
 use Rattle.module_core.specs.Device.{HoldsWhile}
-use Rattle.module_core.specs.Stands.{ModuleStands, HasDevice, setup_of, world_of}
-use Rattle.nv_workers.specs.declared.recorded_module.RecordedModule.{RecordedModule}
-use Rattle.nv_workers.specs.Kept.{IsRecordKept, StandsWith}
-use Rattle.nv_workers.specs.Marks.{IsBehind, marks_of}
-use Rattle.nv_workers.specs.Steps.{StepsTo, assembly_of}
 
 -- a device that holds a store is of the size that its images need
 right_size : (lines : ℕ) (s : Store) (save : Option RunningSave) (run : Option SaveRun) (device : DeviceState) → HoldsWhile save run lines s device → HasSize lines device

@@ -1,13 +1,12 @@
 -- Each event keeps the record of the life, with the write that it accepted, and the count of the newest image.
 use Rattle.std.proofs.Common.{◌≡◌, ℕ, ◌+◌, ◌<◌, ◌≤◌, List, [], ◌∷◌, ◌++◌, length, refl, ap, sym, ◌∙◌, arith}
-use Rattle.std.specs.Prelude.{Result, Ok, Err}
 use Rattle.std.specs.Result.{IsOk}
-use Rattle.std.proofs.Math.Logic.{∥∥₁_map, ∥∥₁_elim}
 use Rattle.std.proofs.Math.Nat.{ℕ_set}
 use Rattle.std.proofs.lemmas.List.{append-nil, length-append}
+use Rattle.nv_workers.proofs.Common.{Err, Ghosts as GaugeGhosts, IsRecordKept, Machine, Ok, RecordedModule, Result}
+use Rattle.nv_workers.proofs.Common.{Setup, StandsWith, StepsTo, assembly_of, setup_of, world_of, ∥∥₁_elim, ∥∥₁_map}
 use Rattle.save_image.specs.Image.{Image}
 use Rattle.save_device.specs.declared.device.SaveDevice.{Ghosts as DeviceGhosts}
-use Rattle.energy_budget.specs.declared.energy.Energy.{Ghosts as GaugeGhosts}
 use Rattle.line_memory.specs.declared.Write as line_write
 use Rattle.line_memory.specs.History.{Recorded}
 use Rattle.channel_port.specs.declared.port.ChannelPort.{Ghosts}
@@ -19,15 +18,10 @@ use Rattle.nv_machine.specs.declared.events.Event.{Event}
 use Rattle.nv_machine.specs.declared.events.Event.TheVariants as events
 use Rattle.nv_machine.specs.declared.events.Reply.{Reply}
 use Rattle.nv_machine.specs.declared.events.Reply.TheVariants as replies
-use Rattle.nv_machine.specs.State.{Setup, Machine}
 use Rattle.nv_machine.specs.Rising.{added}
 use Rattle.nv_machine.proofs.Effects.{KeepsNewest}
 use Rattle.nv_machine.proofs.EachEvent.{KeepsLife, event_keeps}
-use Rattle.module_core.specs.Stands.{setup_of, world_of}
-use Rattle.nv_workers.specs.declared.recorded_module.RecordedModule.{RecordedModule}
-use Rattle.nv_workers.specs.Kept.{StandsWith, IsRecordKept}
 use Rattle.nv_workers.specs.Newest.{saved_after}
-use Rattle.nv_workers.specs.Steps.{StepsTo, assembly_of}
 
 -- the record with the write that an event accepted
 abbrev pub recorded_after : Event → Reply → Recorded → Recorded

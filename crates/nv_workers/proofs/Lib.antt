@@ -1,3 +1,4 @@
+pub mod Common
 pub mod Holding
 pub mod IfOkGives
 pub mod Keeping

@@ -1,15 +1,14 @@
 -- Reads, their collection and the commands move neither number of a module; a write makes one more.
 use Rattle.std.proofs.Common.{◌≡◌, ℕ, ◌+◌, [], ◌∷◌, length, refl, ap, sym, ◌∙◌, arith}
-use Rattle.std.specs.Prelude.{Result, Ok, Err, Option, Some, None, IfOk}
-use Rattle.std.proofs.Math.Logic.{∥∥₁_elim}
 use Rattle.std.proofs.Math.Nat.{ℕ_set}
 use Rattle.std.proofs.lemmas.List.{length-append}
+use Rattle.nv_workers.proofs.Common.{Err, Ghosts as GaugeGhosts, Got, IfOk, IsCounted, IsRecordKept, Life, Machine}
+use Rattle.nv_workers.proofs.Common.{None, Ok, Option, RecordedModule, Result, Setup, Some, StandsWith, StepsTo, World}
+use Rattle.nv_workers.proofs.Common.{assembly_of, marks_of, setup_of, world_of, ∥∥₁_elim}
 use Rattle.atomic_table.specs.Seated.{TableId}
 use Rattle.line_memory.specs.declared.Write as line_write
 use Rattle.save_device.specs.declared.device.SaveDevice.{Ghosts as DeviceGhosts}
-use Rattle.energy_budget.specs.declared.energy.Energy.{Ghosts as GaugeGhosts}
 use Rattle.channel_port.specs.declared.answers.Ticket.{Ticket}
-use Rattle.channel_port.specs.declared.answers.Got.{Got}
 use Rattle.channel_port.specs.declared.answers.Collected.{Collected}
 use Rattle.channel_port.specs.declared.answers.Done.{Done}
 use Rattle.channel_port.specs.declared.port.ChannelPort.{Ghosts}
@@ -20,13 +19,7 @@ use Rattle.nv_machine.specs.declared.events.Event.{Event}
 use Rattle.nv_machine.specs.declared.events.Event.TheVariants as events
 use Rattle.nv_machine.specs.declared.events.Reply.{Reply}
 use Rattle.nv_machine.specs.declared.events.Reply.TheVariants as replies
-use Rattle.nv_machine.specs.State.{Setup, Life, Machine, World}
 use Rattle.nv_machine.specs.Machine.{MachineStep}
-use Rattle.module_core.specs.Stands.{setup_of, world_of}
-use Rattle.nv_workers.specs.declared.recorded_module.RecordedModule.{RecordedModule}
-use Rattle.nv_workers.specs.Kept.{IsRecordKept, StandsWith}
-use Rattle.nv_workers.specs.Marks.{IsCounted, marks_of}
-use Rattle.nv_workers.specs.Steps.{StepsTo, assembly_of}
 
 -- the event leaves the life as it is
 abbrev pub IsQuiet : Event → Reply → Type 0

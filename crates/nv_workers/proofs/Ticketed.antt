@@ -1,23 +1,15 @@
 -- The ticket of a read is of one of the module's channels.
 use Rattle.std.proofs.Common.{◌≡◌, ℕ, ◌<◌, subst, arith}
-use Rattle.std.specs.Prelude.{Result, Ok, Err, None, IfOk}
 use Rattle.std.proofs.Math.Bridge.{le_prop}
-use Rattle.std.proofs.Math.Logic.{∥∥₁_elim}
+use Rattle.nv_workers.proofs.Common.{Err, Ghosts as GaugeGhosts, Got, IfOk, IsOfChannels, IsRecordKept, Machine, None}
+use Rattle.nv_workers.proofs.Common.{Ok, RecordedModule, Result, Setup, StepsTo, setup_of, ∥∥₁_elim}
 use Rattle.save_device.specs.declared.device.SaveDevice.{Ghosts as DeviceGhosts}
-use Rattle.energy_budget.specs.declared.energy.Energy.{Ghosts as GaugeGhosts}
-use Rattle.channel_port.specs.declared.answers.Got.{Got}
 use Rattle.channel_port.specs.declared.answers.Got.TheVariants.{Now, Later}
 use Rattle.channel_port.specs.declared.port.ChannelPort.{Ghosts}
 use Rattle.arm_state.specs.declared.refusal.ReadRefusal.{ReadRefusal}
 use Rattle.nv_machine.specs.declared.events.Event.TheVariants as events
 use Rattle.nv_machine.specs.declared.events.Reply.TheVariants as replies
-use Rattle.nv_machine.specs.State.{Setup, Machine}
 use Rattle.nv_machine.specs.Refusals.{read_refusal}
-use Rattle.module_core.specs.Stands.{setup_of}
-use Rattle.nv_workers.specs.declared.recorded_module.RecordedModule.{RecordedModule}
-use Rattle.nv_workers.specs.Kept.{IsRecordKept}
-use Rattle.nv_workers.specs.Serving.{IsOfChannels}
-use Rattle.nv_workers.specs.Steps.{StepsTo}
 
 -- a read that isn't refused is of a line of the module
 line_below : (setup : Setup) (m : Machine) (line : ℕ) → read_refusal setup m line ≡ None → line < setup.shape.lines

@@ -1,14 +1,10 @@
 -- Where a life stood for a machine, what its calls came to.
 use Rattle.std.proofs.Common.{◌≡◌, ◌≤◌, ◌++◌, List, [], ◌∷◌, All, Option, Some, ap, sym, subst}
-use Rattle.std.specs.Prelude.{MatchOption}
-use Rattle.std.proofs.lemmas.List.Elements.{All-contains, All-head, Contains-push}
+use Rattle.script_runner.proofs.Common.{All-contains, All-head, ComesTo, Contains-push, Gauge, Ghosts, GoesOnBy}
+use Rattle.script_runner.proofs.Common.{LivesOn, Machine, MatchOption, Module, SessionAt, Setup, Tale, World, all_of}
 use Rattle.save_device.specs.Device.{DeviceState}
-use Rattle.energy_budget.specs.Gauge.{Gauge}
-use Rattle.channel_port.specs.declared.port.ChannelPort.{Ghosts}
-use Rattle.module_core.specs.declared.module.Module.{Module}
 use Rattle.nv_machine.specs.declared.events.Event.{Event}
 use Rattle.nv_machine.specs.declared.events.Reply.{Reply}
-use Rattle.nv_machine.specs.State.{Setup, Machine, World, all_of}
 use Rattle.nv_machine.specs.Machine.{MachineStep}
 use Rattle.nv_machine.specs.Guard.{IsGuarded}
 use Rattle.nv_machine.specs.Headline.{Happens, Run, given}
@@ -17,8 +13,6 @@ use Rattle.nv_machine.specs.Survival.{told_mark}
 use Rattle.nv_machine.proofs.RisingMarks.{run_rises, told_along}
 use Rattle.module_core.specs.Stands.{Assembly, ModuleStands, assembly, point_of, setup_of, world_of}
 use Rattle.module_core.proofs.RunsOn.{run_worlds}
-use Rattle.nv_session.specs.Coming.{Tale, ComesTo}
-use Rattle.nv_session.specs.Living.{GoesOnBy, LivesOn, SessionAt}
 
 -- a step between two machines, whatever device and gauge it found
 pub record IsStep (setup : Setup) (event : Event) (reply : Reply) (m n : Machine) : Type 0 where

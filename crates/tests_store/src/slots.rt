@@ -310,7 +310,10 @@ fn the_second_slot_is_armed(rt: HostRuntime) {
 
 // What a device restores to.
 fn told(alloc: Global, device: &mut MemoryDevice) -> Result<(u64, Verdict), RestoreError> {
-    restore(alloc, device, LINES).map(|restored| (restored.head.newest.generation, restored.head.verdict))
+    restore(alloc, device, LINES).map(|restored| (
+        restored.head.newest.generation,
+        restored.head.verdict,
+    ))
 }
 
 // Fails where a formatted store with these bytes set restores to something else.

@@ -1,8 +1,6 @@
 -- The life of a session as one of the headline.
+use Rattle.nv_session.proofs.Common.{GoesOnSaving, IsOneEvent, IsWork, MakesStep, SeesLine}
 use Rattle.nv_session.proofs.SessionLives.{begins_life, lives_charged, lives_on, set_rises}
-use Rattle.nv_session.specs.Coming.{IsOneEvent}
-use Rattle.nv_session.specs.Living.{IsWork}
-use Rattle.nv_session.specs.Turns.{GoesOnSaving, MakesStep, SeesLine}
 use Rattle.nv_session.proofs.laws.sessions_live.Goals as goal
 
 pub returns-clause-begins : goal.returns-clause-begins

@@ -1,9 +1,8 @@
 use Rattle.std.proofs.Common.{◌<◌, ◌∙◌, refl, sym, subst}
+use Rattle.nv_session.proofs.Common.{AnswersAlone, Setup}
 use Rattle.channel_port.specs.declared.answers.Collected.{Collected}
 use Rattle.nv_machine.specs.declared.events.Event.TheVariants as events
 use Rattle.nv_machine.specs.declared.events.Reply.TheVariants as replies
-use Rattle.nv_machine.specs.State.{Setup}
-use Rattle.module_core.specs.Stands.{AnswersAlone}
 use Rattle.nv_session.proofs.Awaiting.{awaits_itself, awaits_collect, awaits_work, sees_content, sees_waiting}
 use Rattle.nv_session.proofs.turns.await_read.Goals as goal
 

@@ -1,7 +1,5 @@
 use Rattle.std.proofs.Common.{◌≡◌}
-use Rattle.module_core.specs.Stands.{setup_of}
-use Rattle.nv_session.specs.Coming.{ComesAlone}
-use Rattle.nv_session.specs.Turns.{AwaitsRead}
+use Rattle.nv_session.proofs.Common.{AwaitsRead, ComesAlone, setup_of}
 use Rattle.nv_session.proofs.turns.await_read.Given as goal
 
 abbrev pub invariant-loop-turn : goal.invariant-loop-turn

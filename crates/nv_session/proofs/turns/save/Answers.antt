@@ -1,12 +1,7 @@
 use Rattle.std.proofs.Common.{◌∙◌, ℕ, sym, ap, subst, Result, Ok, Err}
+use Rattle.nv_session.proofs.Common.{ArmRefusal, Assembly, Comes, MakesStep, Setup, StepReply, assembly}
 use Rattle.slot_store.specs.Slots.{HasSize}
-use Rattle.arm_state.specs.declared.refusal.ArmRefusal.{ArmRefusal}
-use Rattle.nv_machine.specs.declared.events.StepReply.{StepReply}
-use Rattle.nv_machine.specs.State.{Setup}
-use Rattle.module_core.specs.Stands.{Assembly, assembly}
 use Rattle.module_core.proofs.Applying.{same_lines}
-use Rattle.nv_session.specs.Coming.{Comes}
-use Rattle.nv_session.specs.Turns.{MakesStep}
 use Rattle.nv_session.proofs.Turning.{made_goes_on, still_written, then_works, then_steps}
 use Rattle.nv_session.proofs.turns.save.Goals as goal
 

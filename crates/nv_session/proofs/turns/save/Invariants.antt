@@ -1,7 +1,5 @@
 use Rattle.std.proofs.Common.{◌≡◌, Ok}
-use Rattle.module_core.specs.Stands.{HasDevice, assembly, setup_of}
-use Rattle.nv_session.specs.Coming.{Comes}
-use Rattle.nv_session.specs.Turns.{GoesOnSaving}
+use Rattle.nv_session.proofs.Common.{Comes, GoesOnSaving, HasDevice, assembly, setup_of}
 use Rattle.nv_session.proofs.turns.save.Given as goal
 
 abbrev pub invariant-loop-turn : goal.invariant-loop-turn

@@ -1,9 +1,7 @@
 use Rattle.std.proofs.Common.{◌∙◌, subst, Result}
-use Rattle.arm_state.specs.declared.refusal.ArmRefusal.{ArmRefusal}
+use Rattle.nv_session.proofs.Common.{Answers, ArmRefusal, Assembly, StepReply, assembly}
 use Rattle.nv_machine.specs.declared.events.Event.TheVariants as events
 use Rattle.nv_machine.specs.declared.events.Reply.TheVariants as replies
-use Rattle.nv_machine.specs.declared.events.StepReply.{StepReply}
-use Rattle.module_core.specs.Stands.{Answers, Assembly, assembly}
 use Rattle.nv_session.proofs.Stepping.{none_ran, then_begun, then_refused, then_stepped, one_step}
 use Rattle.nv_session.proofs.turns.step.Goals as goal
 

@@ -1,7 +1,5 @@
 use Rattle.std.proofs.Common.{◌≡◌}
-use Rattle.module_core.specs.Stands.{setup_of}
-use Rattle.nv_session.specs.Coming.{ComesAlone}
-use Rattle.nv_session.specs.Turns.{OnlyWorks}
+use Rattle.nv_session.proofs.Common.{ComesAlone, OnlyWorks, setup_of}
 use Rattle.nv_session.proofs.turns.work_each.Given as goal
 
 abbrev pub invariant-loop-channel : goal.invariant-loop-channel

@@ -1,9 +1,8 @@
 use Rattle.std.proofs.Common.{◌≡◌, ℕ, suc, ◌+◌, ◌∙◌, arith, refl, subst}
+use Rattle.nv_workers.proofs.Common.{Steps, WorksTimes}
 use Rattle.channel_port.specs.declared.answers.Collected.{Collected}
 use Rattle.nv_machine.specs.declared.events.Event.TheVariants as events
 use Rattle.nv_machine.specs.declared.events.Reply.TheVariants as replies
-use Rattle.nv_workers.specs.Serving.{WorksTimes}
-use Rattle.nv_workers.specs.Steps.{Steps}
 use Rattle.nv_workers.proofs.serving.serve.Goals as goal
 
 pub loop-times-init : goal.loop-times-init

@@ -1,6 +1,5 @@
 use Rattle.std.proofs.Common.{◌≡◌}
-use Rattle.module_core.specs.Stands.{setup_of}
-use Rattle.nv_workers.specs.Serving.{WorksTimes}
+use Rattle.nv_workers.proofs.Common.{WorksTimes, setup_of}
 use Rattle.nv_workers.proofs.serving.serve.Given as goal
 
 abbrev pub invariant-loop-times : goal.invariant-loop-times

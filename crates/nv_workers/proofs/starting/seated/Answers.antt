@@ -2,8 +2,7 @@ use Rattle.std.proofs.Common.{◌≡◌, ◌∙◌, [], ◌∷◌, ap, arith, le
 use Rattle.std.proofs.lemmas.Iterator.Adapters.{YieldsList-from_vec}
 use Rattle.std.proofs.lemmas.Iterator.Consumers.{YieldsList-turn}
 use Rattle.std.proofs.lemmas.List.Elements.{All-push}
-use Rattle.mark_board.specs.SeenMarks.{SeenMarks, seen_marks}
-use Rattle.nv_workers.specs.Client.{Client, client}
+use Rattle.nv_workers.proofs.Common.{Client, SeenMarks, client, seen_marks}
 use Rattle.nv_workers.proofs.starting.seated.Goals as goal
 
 pub loop-seat-preserved : goal.loop-seat-preserved

@@ -1,5 +1,4 @@
-use Rattle.std.specs.Prelude.{◌≡◌, ◌+◌, ◌≤◌, All, length, vec_len, vec_capacity}
-use Rattle.nv_workers.specs.Client.{client}
+use Rattle.nv_workers.proofs.Common.{All, client, length, vec_capacity, vec_len, ◌+◌, ◌≡◌, ◌≤◌}
 use Rattle.nv_workers.proofs.starting.seated.Given as goal
 
 abbrev pub invariant-loop-seat : goal.invariant-loop-seat

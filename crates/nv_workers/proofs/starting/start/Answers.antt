@@ -1,7 +1,5 @@
 use Rattle.std.proofs.Common.{◌≡◌, ◌≤◌, All, subst, sym}
-use Rattle.mark_board.specs.SeenMarks.{SeenMarks}
-use Rattle.nv_workers.specs.Client.{Client, client}
-use Rattle.nv_workers.specs.Marks.{IsBehind}
+use Rattle.nv_workers.proofs.Common.{Client, IsBehind, SeenMarks, client}
 use Rattle.nv_workers.specs.Opening.{OpeningView}
 use Rattle.nv_workers.proofs.Holding.{opened_behind}
 use Rattle.nv_workers.proofs.starting.start.Goals as goal

@@ -1,7 +1,5 @@
 use Rattle.std.proofs.Common.{sym, subst}
-use Rattle.energy_budget.specs.Meter.{meter_gauge}
-use Rattle.nv_machine.specs.State.{Setup}
-use Rattle.nv_session.specs.Living.{IsShapeFor, fuse_state}
+use Rattle.nv_session.proofs.Common.{IsShapeFor, Setup, fuse_state, meter_gauge}
 use Rattle.nv_session.proofs.Going.{begins_living}
 use Rattle.nv_session.proofs.session.Session.begin.Goals as goal
 

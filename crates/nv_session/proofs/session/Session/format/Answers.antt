@@ -1,17 +1,11 @@
 use Rattle.std.proofs.Common.{◌∙◌, ℕ, List, ap, sym, subst}
 use Rattle.std.proofs.lemmas.Grind.{merely}
-use Rattle.ddr4_timing.specs.Limits.{lines_of}
+use Rattle.nv_session.proofs.Common.{DeviceState, ModuleStands, Profile, assembly, first_image, fuse_state, life_begins}
+use Rattle.nv_session.proofs.Common.{lines_of, meter_gauge}
 use Rattle.line_memory.specs.Memory.{IsMemory, zero_lines}
 use Rattle.line_memory.proofs.MemoryLaws.{zero_lines-IsMemory}
-use Rattle.save_device.specs.Device.{DeviceState}
 use Rattle.slot_store.specs.Formatted.{first_head}
-use Rattle.slot_store.specs.Outcomes.{first_image}
-use Rattle.nv_profile.specs.declared.profile.Profile.{Profile}
 use Rattle.module_core.specs.Opening.{opened_with}
-use Rattle.module_core.specs.Stands.{assembly, ModuleStands}
-use Rattle.energy_budget.specs.Meter.{meter_gauge}
-use Rattle.module_core.proofs.CallsInTurn.{life_begins}
-use Rattle.nv_session.specs.Living.{fuse_state}
 use Rattle.nv_session.proofs.Beginning.{begins_formatted, is_capacity, same_setup}
 use Rattle.nv_session.proofs.session.Session.format.Goals as goal
 use Rattle.nv_session.proofs.session.Session.format.Goals.{In-Ok-open}

@@ -1,10 +1,7 @@
 use Rattle.std.proofs.Common.{refl}
-use Rattle.energy_budget.specs.Meter.{meter_gauge}
+use Rattle.nv_session.proofs.Common.{Assembly, IsOneEvent, assembly, fuse_state, meter_gauge, session_at}
 use Rattle.nv_machine.specs.declared.events.Event.TheVariants as events
 use Rattle.nv_machine.specs.declared.events.Reply.TheVariants as replies
-use Rattle.module_core.specs.Stands.{Assembly, assembly}
-use Rattle.nv_session.specs.Coming.{IsOneEvent}
-use Rattle.nv_session.specs.Living.{fuse_state, session_at}
 use Rattle.nv_session.proofs.Coming.{one_event}
 use Rattle.nv_session.proofs.Going.{goes_on_by, lives_on}
 use Rattle.nv_session.proofs.session.Session.lose.Goals as goal

@@ -1,6 +1,5 @@
-use Rattle.ddr4_timing.specs.Limits.{lines_of}
+use Rattle.nv_session.proofs.Common.{IsShapeFor, lines_of}
 use Rattle.channel_port.specs.Shape.{Shape}
-use Rattle.nv_session.specs.Living.{IsShapeFor}
 use Rattle.nv_session.proofs.Beginning.{begins_on}
 use Rattle.nv_session.proofs.session.Session.open.Goals as goal
 

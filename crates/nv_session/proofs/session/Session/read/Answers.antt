@@ -1,8 +1,5 @@
 use Rattle.std.proofs.Common.{refl}
-use Rattle.energy_budget.specs.Meter.{meter_gauge}
-use Rattle.module_core.specs.Stands.{assembly, setup_of}
-use Rattle.nv_session.specs.Turns.{SeesLine}
-use Rattle.nv_session.specs.Living.{fuse_state}
+use Rattle.nv_session.proofs.Common.{SeesLine, assembly, fuse_state, meter_gauge, setup_of}
 use Rattle.nv_session.proofs.Going.{goes_on_alone, lives_on_alone}
 use Rattle.nv_session.proofs.session.Session.read.Goals as goal
 

@@ -1,14 +1,9 @@
 use Rattle.std.proofs.Common.{◌∙◌, ◌≢◌, ℕ, List, ap, sym, subst, unwrap_or, None}
 use Rattle.std.proofs.lemmas.Result.{IfOk-weaker, IfErr-weaker}
-use Rattle.ddr4_timing.specs.Limits.{lines_of}
+use Rattle.nv_session.proofs.Common.{DeviceState, FindsPrefixOf, KeepsPrefixOf, MayLeave, Profile, Revives, RunsWith}
+use Rattle.nv_session.proofs.Common.{Setup, fuse_state, lines_of, present, restored}
 use Rattle.interleave_map.specs.declared.ready.Interleaving.{Interleaving}
-use Rattle.save_device.specs.Device.{DeviceState, MayLeave, present}
-use Rattle.slot_store.specs.Outcomes.{restored}
 use Rattle.slot_store.specs.Told.{Refuses, IsFailure}
-use Rattle.nv_machine.specs.State.{Setup}
-use Rattle.nv_profile.specs.declared.profile.Profile.{Profile}
-use Rattle.nv_session.specs.Living.{RunsWith, fuse_state}
-use Rattle.nv_session.specs.Restoring.{FindsPrefixOf, KeepsPrefixOf, Revives}
 use Rattle.nv_session.specs.Sessions.{moment_in, restored_in, setup_over}
 use Rattle.nv_session.proofs.Beginning.{revives_again, same_restored, same_setup}
 use Rattle.nv_session.proofs.Restoring.{session_finds, session_fails, session_keeps}

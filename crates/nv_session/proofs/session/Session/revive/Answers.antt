@@ -1,14 +1,8 @@
 use Rattle.std.proofs.Common.{ℕ, List, sym, subst}
 use Rattle.std.proofs.lemmas.Grind.{merely}
-use Rattle.ddr4_timing.specs.Limits.{lines_of}
-use Rattle.save_device.specs.Device.{DeviceState}
+use Rattle.nv_session.proofs.Common.{DeviceState, Head, Revives, assembly, fuse_state, life_begins, lines_of}
+use Rattle.nv_session.proofs.Common.{meter_gauge}
 use Rattle.module_core.specs.Opening.{opened_with}
-use Rattle.energy_budget.specs.Meter.{meter_gauge}
-use Rattle.module_core.proofs.CallsInTurn.{life_begins}
-use Rattle.module_core.specs.Stands.{assembly}
-use Rattle.slot_store.specs.declared.head.Head.{Head}
-use Rattle.nv_session.specs.Living.{fuse_state}
-use Rattle.nv_session.specs.Restoring.{Revives}
 use Rattle.nv_session.specs.Sessions.{restored_in}
 use Rattle.nv_session.specs.Wired.{BeginsLife}
 use Rattle.nv_session.proofs.Beginning.{RestsOnRestored, is_capacity, revives_restored}

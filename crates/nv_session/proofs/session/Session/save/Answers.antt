@@ -1,8 +1,5 @@
 use Rattle.std.proofs.Common.{refl}
-use Rattle.energy_budget.specs.Meter.{meter_gauge}
-use Rattle.module_core.specs.Stands.{Assembly, assembly}
-use Rattle.nv_session.specs.Turns.{GoesOnSaving}
-use Rattle.nv_session.specs.Living.{fuse_state, session_at}
+use Rattle.nv_session.proofs.Common.{Assembly, GoesOnSaving, assembly, fuse_state, meter_gauge, session_at}
 use Rattle.nv_session.proofs.Going.{goes_on_by, lives_on}
 use Rattle.nv_session.proofs.session.Session.save.Goals as goal
 

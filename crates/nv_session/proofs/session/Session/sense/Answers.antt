@@ -1,12 +1,8 @@
 use Rattle.std.proofs.Common.{refl, Some, subst, sym}
+use Rattle.nv_session.proofs.Common.{GoesOnBy, IsOneEvent, Reply, assembly, fuse_state, meter_gauge, session_at, set_to}
 use Rattle.energy_budget.specs.Gauge.{Gauge}
-use Rattle.energy_budget.specs.Meter.{meter_gauge}
 use Rattle.nv_machine.specs.declared.events.Event.TheVariants as events
-use Rattle.nv_machine.specs.declared.events.Reply.{Reply}
 use Rattle.nv_machine.specs.declared.events.Reply.TheVariants as replies
-use Rattle.module_core.specs.Stands.{assembly}
-use Rattle.nv_session.specs.Coming.{IsOneEvent}
-use Rattle.nv_session.specs.Living.{GoesOnBy, fuse_state, session_at, set_to}
 use Rattle.nv_session.proofs.Coming.{one_event}
 use Rattle.energy_budget.specs.Charging.{RisesTo}
 use Rattle.nv_session.proofs.Going.{charged_living, goes_on_by, lives_on_alone}

@@ -1,12 +1,7 @@
 use Rattle.std.proofs.Common.{refl}
-use Rattle.energy_budget.specs.Meter.{meter_gauge}
-use Rattle.nv_machine.specs.declared.events.Event.{Event}
+use Rattle.nv_session.proofs.Common.{Event, IsOneEvent, Reply, assembly, fuse_state, meter_gauge}
 use Rattle.nv_machine.specs.declared.events.Event.TheVariants as events
-use Rattle.nv_machine.specs.declared.events.Reply.{Reply}
 use Rattle.nv_machine.specs.declared.events.Reply.TheVariants as replies
-use Rattle.module_core.specs.Stands.{assembly}
-use Rattle.nv_session.specs.Coming.{IsOneEvent}
-use Rattle.nv_session.specs.Living.{fuse_state}
 use Rattle.nv_session.proofs.Coming.{one_event_alone}
 use Rattle.nv_session.proofs.Going.{goes_on_alone, lives_on_alone}
 use Rattle.nv_session.proofs.session.Session.write.Goals as goal

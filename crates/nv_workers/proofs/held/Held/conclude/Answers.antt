@@ -2,8 +2,7 @@ use Rattle.std.proofs.Common.{◌≡◌, ◌≤◌, [], ◌∷◌, ap, ◌∙◌
 use Rattle.std.proofs.lemmas.List.{length-append}
 use Rattle.std.proofs.lemmas.List.Elements.{All-push}
 use Rattle.std.proofs.lemmas.List.Sums.{sum_by-append}
-use Rattle.mark_board.specs.SeenMarks.{SeenMarks}
-use Rattle.nv_workers.specs.Client.{Client}
+use Rattle.nv_workers.proofs.Common.{Client, SeenMarks}
 use Rattle.nv_workers.proofs.held.Held.conclude.Goals as goal
 
 pub loop-host-preserved : goal.loop-host-preserved

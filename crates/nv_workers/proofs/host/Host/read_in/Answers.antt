@@ -1,13 +1,8 @@
 use Rattle.std.proofs.Common.{ap, arith, subst}
-use Rattle.std.specs.Prelude.{Result, IfOk}
-use Rattle.channel_port.specs.declared.answers.Got.{Got}
-use Rattle.mark_board.specs.SeenMarks.{SeenMarks}
+use Rattle.nv_workers.proofs.Common.{Client, Got, IfOk, IsOfChannels, Result, SeenMarks, Steps}
 use Rattle.arm_state.specs.declared.refusal.ReadRefusal.{ReadRefusal}
 use Rattle.nv_machine.specs.declared.events.Event.TheVariants as events
 use Rattle.nv_machine.specs.declared.events.Reply.TheVariants as replies
-use Rattle.nv_workers.specs.Client.{Client}
-use Rattle.nv_workers.specs.Serving.{IsOfChannels}
-use Rattle.nv_workers.specs.Steps.{Steps}
 use Rattle.nv_workers.proofs.host.Host.read_in.Goals.{in-Ok, in-Err}
 use Rattle.nv_workers.proofs.host.Host.read_in.Goals as goal
 

@@ -1,6 +1,5 @@
 use Rattle.std.proofs.Common.{refl, subst, sym}
-use Rattle.channel_port.specs.declared.answers.Got.{Got}
-use Rattle.nv_workers.specs.Serving.{ServesRead}
+use Rattle.nv_workers.proofs.Common.{Got, ServesRead}
 use Rattle.nv_workers.proofs.host.Host.read_served_in.Goals as goal
 
 pub returns-in-Now-clause-ok : goal.returns-in-Now-clause-ok

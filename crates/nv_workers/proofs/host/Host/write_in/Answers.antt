@@ -1,12 +1,9 @@
 use Rattle.std.proofs.Common.{ℕ, ap, arith, subst}
-use Rattle.std.specs.Prelude.{Result, Ok}
-use Rattle.mark_board.specs.SeenMarks.{SeenMarks}
+use Rattle.nv_workers.proofs.Common.{Ok, Result, SeenMarks, Steps, told_at}
 use Rattle.nv_machine.specs.declared.events.Accepted.{Accepted}
 use Rattle.arm_state.specs.declared.refusal.WriteRefusal.{WriteRefusal}
 use Rattle.nv_machine.specs.declared.events.Event.TheVariants as events
 use Rattle.nv_machine.specs.declared.events.Reply.TheVariants as replies
-use Rattle.nv_workers.specs.Marks.{told_at}
-use Rattle.nv_workers.specs.Steps.{Steps}
 use Rattle.nv_workers.proofs.host.Host.write_in.Goals.{in-Ok, in-Err}
 use Rattle.nv_workers.proofs.host.Host.write_in.Goals as goal
 

@@ -1,0 +1,14 @@
+-- The words that most proofs of this crate cite, passed on from one place.
+pub use Rattle.std.specs.Prelude.{All, Err, IfOk, None, Ok, Option, Result, Some, length, vec_capacity, vec_len, ◌+◌, ◌≡◌, ◌≤◌}
+pub use Rattle.std.proofs.Math.Logic.{∥∥₁_elim, ∥∥₁_map}
+pub use Rattle.energy_budget.specs.declared.energy.Energy.{Ghosts}
+pub use Rattle.channel_port.specs.declared.answers.Got.{Got}
+pub use Rattle.nv_machine.specs.State.{Life, Machine, RunningSave, Setup, Store, World}
+pub use Rattle.module_core.specs.Stands.{HasDevice, ModuleStands, setup_of, world_of}
+pub use Rattle.mark_board.specs.SeenMarks.{SeenMarks, seen_marks}
+pub use Rattle.nv_workers.specs.declared.recorded_module.RecordedModule.{RecordedModule}
+pub use Rattle.nv_workers.specs.Client.{Client, client}
+pub use Rattle.nv_workers.specs.Kept.{IsRecordKept, StandsWith}
+pub use Rattle.nv_workers.specs.Marks.{IsBehind, IsCounted, marks_of, told_at}
+pub use Rattle.nv_workers.specs.Serving.{IsOfChannels, ServesRead, WorksTimes}
+pub use Rattle.nv_workers.specs.Steps.{Steps, StepsTo, assembly_of}
