@@ -11,6 +11,7 @@ mod front;
 mod kind;
 mod reading;
 mod reason;
+mod source;
 mod trace_check;
 
 pub use asked::Asked;
@@ -20,4 +21,5 @@ pub use front::Front;
 pub use kind::{Kind, name_of};
 pub use reading::{Form, HEADER, TraceFault, TraceReader, form_of};
 pub use reason::Reason;
+pub use source::Source;
 pub use trace_check::{MOST_CHANNELS, TraceCheck};

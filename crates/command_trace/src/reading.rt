@@ -42,6 +42,9 @@ pub enum TraceFault {
     /// The reader failed.
     #[error("reader")]
     Reader,
+    /// What was to be told couldn't be written.
+    #[error("writer")]
+    Writer,
     #[error("memory")]
     Memory,
 }
@@ -96,7 +99,11 @@ fn rows_of<R: Read + Drop>(
 pub fn form_of<R: Read + Drop>(alloc: Global, source: R, others: bool) -> Result<Form, TraceFault> {
     let mut rows = rows_of(alloc, source, b',');
     let mut row = ByteRecord::new(alloc);
-    let _found = rows.read_byte_record(&mut row)?;
+    for _ in 0..u64::MAX {
+        if !rows.read_byte_record(&mut row)? || !is_blank(&row) {
+            break;
+        }
+    }
     if row.len() > 1 {
         Ok(Form::Table)
     } else {
@@ -123,6 +130,11 @@ fn number(field: &[u8]) -> Option<u64> {
 fn field(row: &ByteRecord, place: usize) -> Option<&[u8]> {
     let bytes = row.get(place)?;
     Some(bytes.strip_suffix(b"\r").unwrap_or(bytes))
+}
+
+// Is it a line with nothing but a carriage return?
+fn is_blank(row: &ByteRecord) -> bool {
+    row.len() == 1 && field(row, 0).is_none_or(|bytes| bytes.is_empty())
 }
 
 fn number_at(row: &ByteRecord, place: usize) -> Option<u64> {
@@ -220,6 +232,9 @@ impl<R: Read + Drop> TraceReader<R> {
     fn parsed(&mut self) -> Row
         ensures { (self.new.channels ≡ self.old.channels) × (self.new.given ≡ self.old.given) }
     {
+        if is_blank(&self.row) {
+            return Row::Other;
+        }
         let begins = !self.is_begun;
         self.is_begun = true;
         let row = &self.row;

@@ -1,0 +1,84 @@
+// The two forms of a trace, and lines that are no command.
+use crate::verdicts::verdicts;
+use std::process::Abort;
+use std::test::Fail;
+
+fn tells<R: Abort + AllocGlobal>(rt: &R, text: &str, wanted: &str) -> Result<(), Fail> {
+    let said = verdicts(rt.alloc(), text, false)?;
+    assert_eq!(*rt; said.as_str(), wanted);
+    Ok(())
+}
+
+const TABLE: &str = "# written by a simulator
+clock,command,channel,rank,bankgroup,bank,row,column
+0,ACTIVATE,0,0,0,0,1,
+16,read,0,0,0,0,,3
+30,WRITE,0,0,0,0,,3
+
+64,PRECHARGE,0,0,0,0,,
+9360,Refresh,0,0,,,,
+9780,sref_enter,0,0,,,,
+";
+
+#[test]
+fn a_table(rt: HostRuntime) -> Result<(), Fail> {
+    tells(&rt, TABLE, "lawful 6")?;
+    let dos = TABLE.replace(rt.alloc(), "\n", "\r\n")?;
+    tells(&rt, &dos, "lawful 6")?;
+    let early = TABLE.replace(rt.alloc(), "64,", "63,")?;
+    tells(
+        &rt,
+        &early,
+        "fault 8, WR to PRE, same bank: at least CWL + 4 + tWR = 34, here 33; line 5: 30 WR 0 0 0 3; line 7: 63 PRE 0 0 0",
+    )
+}
+
+// The trace has a line that is no command.
+fn refuses<R: Abort + AllocGlobal>(rt: &R, text: &str) -> Result<(), Fail> {
+    let said = verdicts(rt.alloc(), text, false);
+    assert!(*rt; said.is_err(), "{text}");
+    Ok(())
+}
+
+#[test]
+fn bad_lines(rt: HostRuntime) -> Result<(), Fail> {
+    for line in [
+        "0 5 ACT 0 0 0",
+        "0 5 ACT 0 0 0 0 0",
+        "0 5 act 0 0 0 0",
+        "1 5 REF 0",
+        "0 -5 REF 0",
+        "0 +5 REF 0",
+        "0 9223372036854775808 REF 0",
+        "0 18446744073709551616 REF 0",
+        "0  5 REF 0",
+        "x",
+        "0",
+        "formatted",
+    ] {
+        refuses(&rt, line)?;
+    }
+    refuses(
+        &rt,
+        "command,clock,channel,rank,bankgroup,bank,row,column\n",
+    )?;
+    refuses(
+        &rt,
+        "clock,command,channel,rank,bankgroup,bank,row,column\n0,PRE,0,0,0,0,1,\n",
+    )?;
+    refuses(
+        &rt,
+        "clock,command,channel,rank,bankgroup,bank,row,column\n0,NOP,0,,,,,\n",
+    )
+}
+
+#[test]
+fn a_run(rt: HostRuntime) -> Result<(), Fail> {
+    let text =
+        "formatted\naccepted 0 mark 0\n0 0 ACT 0 0 0 0\n0 16 WR 0 0 0 0\n0 idle\nlevel 9000 armed\n";
+    let said = verdicts(rt.alloc(), text, true)?;
+    assert_eq!(rt; said.as_str(), "lawful 2");
+    refuses(&rt, text)?;
+    tells(&rt, "", "lawful 0")?;
+    tells(&rt, "0 1 SRE 0", "lawful 1")
+}

@@ -1,0 +1,9 @@
+//! Tests of the tools: what is told of traces, in both forms, and what calls succeed.
+#![tactic(auto)]
+
+#[cfg(test)]
+mod forms;
+#[cfg(test)]
+mod rules;
+#[cfg(test)]
+mod verdicts;
