@@ -1,6 +1,7 @@
 // What a module asks of its channels.
-ghost use Rattle.std.specs.Prelude.{◌≡◌, ◌==◌, ◌+◌, ◌*◌, ◌<◌, ◌≤◌, length, nat_lt};
+ghost use Rattle.std.specs.Prelude.{◌≡◌, ◌==◌, ◌+◌, ◌*◌, ◌<◌, ◌≤◌, length, nat_lt, slice_get};
 ghost use Rattle.std.specs.List.{list_any};
+ghost use Rattle.std.specs.Option.{option_map};
 ghost use Rattle.save_image.specs.Body.{page_of};
 ghost use Rattle.channel_port.specs.Waits.{reads_on, writes_on};
 
@@ -12,6 +13,13 @@ use save_image::page_bytes;
 impl<K: ChannelPort> ChannelSet<K> {
     ghost use Rattle.channel_set.specs.Ports.{stored_in};
     ghost use Rattle.channel_set.specs.Set.{shape_of, view_of};
+
+    /// The port of a channel, to be looked at.
+    pub fn port(&self, channel: u64) -> Option<&K>
+        ensures { option_map (λ port. port.now) result ≡ slice_get self.now.ports.items channel }
+    {
+        self.ports.get(channel as usize)
+    }
 
     /// How many writes wait, at most 512. It costs the number of channels.
     pub fn pending(&self) -> u64

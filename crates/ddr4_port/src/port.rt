@@ -30,6 +30,15 @@ impl<'m, M: LineMap> Model for Ddr4Port<'m, M> {
         × IsRightPort (port_state (M.place_of p.map.now) p.stage p.channel) };
 }
 
+impl<'m, M: LineMap> Ddr4Port<'m, M> {
+    /// The channel, to be looked at.
+    pub fn channel(&self) -> &Channel
+        ensures { result.now ≡ self.now.channel }
+    {
+        &self.channel
+    }
+}
+
 impl<'m, M: LineMap> ChannelPort for Ddr4Port<'m, M> {
     ghost use Rattle.std.proofs.lemmas.List.Elements.{All-map};
     ghost use Rattle.ddr4_port.specs.Carrying.{Carries};

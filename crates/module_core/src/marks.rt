@@ -4,6 +4,7 @@ ghost use Rattle.std.specs.Prelude.{◌≡◌, ◌≤◌, ◌^◌};
 use crate::Module;
 use arm_state::Mode;
 use channel_port::ChannelPort;
+use channel_set::ChannelSet;
 
 impl<K: ChannelPort> Module<K> {
     /// The number of writes accepted, counted from the first life on.
@@ -19,6 +20,13 @@ impl<K: ChannelPort> Module<K> {
         ensures { result ≡ self.now.persisted }
     {
         self.persisted
+    }
+
+    /// The channels, to be looked at.
+    pub fn channels(&self) -> &ChannelSet<K>
+        ensures { result.now ≡ self.now.channels }
+    {
+        &self.channels
     }
 
     /// What the module does with writes.

@@ -23,13 +23,11 @@ enum Case {
     SecondWriter,
 }
 
-// Tries a case on a module of two channels.
-fn try_module<K: ChannelPort + Drop, R: Abort>(
+/// The module of two channels that is ready, with its device and its gauge.
+pub(crate) fn load_of<K: ChannelPort + Drop, R: Abort>(
     rt: &R,
-    alloc: Global,
     ready: Ready<K, MemoryDevice, Meter>,
-    case: Case,
-) {
+) -> Load<K, MemoryDevice> {
     let Ready {
         recorded,
         channels,
@@ -44,11 +42,21 @@ fn try_module<K: ChannelPort + Drop, R: Abort>(
         energy: gauge,
         ..
     } = recorded;
-    let mut load = Load {
+    Load {
         running,
         device,
         gauge,
-    };
+    }
+}
+
+// Tries a case on a module of two channels.
+fn try_module<K: ChannelPort + Drop, R: Abort>(
+    rt: &R,
+    alloc: Global,
+    ready: Ready<K, MemoryDevice, Meter>,
+    case: Case,
+) {
+    let mut load = load_of(rt, ready);
     match case {
         Case::Save => save_at_once(rt, alloc, &mut load),
         Case::Loss => lose_at_once(rt, alloc, &mut load),
@@ -58,8 +66,8 @@ fn try_module<K: ChannelPort + Drop, R: Abort>(
     }
 }
 
-// The small profile.
-fn small<R: Abort>(rt: &R) -> Checked {
+/// The small profile.
+pub(crate) fn small<R: Abort>(rt: &R) -> Checked {
     match TINY.check(&SMALL) {
         Ok(checked) => checked,
         Err(_) => panic!(*rt; "a profile"),

@@ -7,6 +7,8 @@ mod cases;
 #[cfg(test)]
 mod check;
 #[cfg(test)]
+mod dark;
+#[cfg(test)]
 mod load;
 #[cfg(test)]
 mod notices;

@@ -3,6 +3,7 @@ ghost use Rattle.std.specs.Prelude.{◌≡◌, length};
 ghost use Rattle.module_core.specs.Stands.{HasDevice, setup_of};
 
 use crate::check::same;
+use arm_state::{ArmReply, Loss};
 use channel_port::ChannelPort;
 use energy_budget::Meter;
 use line_memory::{Line, Write};
@@ -53,6 +54,19 @@ impl<K: ChannelPort, D: SaveDevice> Load<K, D> {
     fn write<R: Abort>(&mut self, rt: &R, line: u64) {
         let data = [0x44; 64];
         same(rt, self.running.write(Write { line, data }).is_ok(), true);
+    }
+
+    /// Arms, writes the first line, and issues one command of its channel: a row is open there, and the write waits.
+    pub(crate) fn arm_with_a_write<R: Abort>(&mut self, rt: &R) {
+        let armed = self.running.arm(&mut self.device, &mut self.gauge);
+        same(rt, armed, Ok(ArmReply::Armed));
+        self.write(rt, 0);
+        same(rt, self.running.work(0).is_some(), true);
+    }
+
+    /// Loses mains.
+    pub(crate) fn lose(&mut self) -> Loss {
+        self.running.power_loss(&mut self.device, &mut self.gauge)
     }
 
     /// Writes three lines, and saves them as the second image.

@@ -1,0 +1,152 @@
+// A loss of mains whose energy ends at each of its first actions. The costs are those of the small profile: a close step takes
+// 439 units and an entry 513, so that channel 0 with its one write takes 952, and both channels take 1,391.
+use crate::cases::{load_of, small};
+use crate::check::same;
+use crate::load::{Image, Load, restores_to};
+use arm_state::Loss;
+use chan_core::Channel;
+use ddr4_boards::{formatted, open};
+use ddr4_port::Ddr4Port;
+use ddr4_timing::command::Command;
+use ddr4_timing::place::BankAddress;
+use energy_budget::Meter;
+use interleave_map::{Interleaving, ReadyMap};
+use module_core::Module;
+use save_device::MemoryDevice;
+use slot_store::Verdict;
+use std::alloc::Global;
+use std::process::Abort;
+
+/// What is enough to arm, and to accept a write.
+const ENOUGH: u64 = 9_000;
+
+/// What a loss of mains has left of a channel.
+#[derive(Clone, Copy, Debug, PartialEq, Eq)]
+struct Left {
+    /// How many commands it has issued, and the last one.
+    commands: u64,
+    last: Option<Command>,
+    /// How many writes wait in it.
+    pending: u64,
+}
+
+fn left_in(channel: &Channel) -> Left {
+    let mut commands = 0;
+    let mut last = None;
+    for i in 0..64 {
+        if let Some(stamped) = channel.recent(i) {
+            commands = i as u64 + 1;
+            last = Some(stamped.cmd);
+        }
+    }
+    Left {
+        commands,
+        last,
+        pending: channel.pending() as u64,
+    }
+}
+
+fn left_on<R: Abort>(rt: &R, running: &Module<Ddr4Port<'_, ReadyMap>>, number: u64) -> Left {
+    match running.channels().port(number) {
+        Some(port) => left_in(port.channel()),
+        None => panic!(*rt; "a channel"),
+    }
+}
+
+// An armed module with a write that waits in channel 0, whose row is open, loses mains with so many units, and goes dark. The
+// two channels are left so.
+fn goes_dark<R: Abort>(rt: &R, alloc: Global, units: u64, first: Left, second: Left) {
+    let checked = small(rt);
+    let map = ReadyMap {
+        interleaving: Interleaving::Lines,
+        checked,
+    };
+    let Ok(device) = formatted(alloc, &checked) else {
+        panic!(*rt; "a device");
+    };
+    let Ok(ready) = open(
+        alloc,
+        &map,
+        &checked,
+        device,
+        Meter::with(ENOUGH, 0),
+        1_024,
+        1,
+    ) else {
+        panic!(*rt; "a module");
+    };
+    let mut load: Load<Ddr4Port<'_, ReadyMap>, MemoryDevice> = load_of(rt, ready);
+    load.arm_with_a_write(rt);
+    load.gauge.set(units);
+    same(rt, load.lose(), Loss::Dark);
+    same(rt, left_on(rt, &load.running, 0), first);
+    same(rt, left_on(rt, &load.running, 1), second);
+    let image = Image {
+        generation: 1,
+        count: 0,
+        verdict: Verdict::PossibleLoss { after: 0 },
+        first: 0,
+        last: 0,
+    };
+    restores_to(rt, alloc, &mut load.device, image);
+}
+
+const OPEN: Left = Left {
+    commands: 1,
+    last: Some(Command::Act {
+        at: BankAddress {
+            rank: 0,
+            group: 0,
+            bank: 0,
+        },
+        row: 0,
+    }),
+    pending: 1,
+};
+
+const CLOSED: Left = Left {
+    commands: 2,
+    last: Some(Command::PreAll { rank: 0 }),
+    pending: 1,
+};
+
+// Behind the precharge the entry's ACT, WR and PRE, and the SRE.
+const DRAINED: Left = Left {
+    commands: 6,
+    last: Some(Command::Sre { rank: 0 }),
+    pending: 0,
+};
+
+const UNTOUCHED: Left = Left {
+    commands: 0,
+    last: None,
+    pending: 0,
+};
+
+const ASLEEP: Left = Left {
+    commands: 1,
+    last: Some(Command::Sre { rank: 0 }),
+    pending: 0,
+};
+
+#[test]
+fn dark_before_the_first_action(rt: HostRuntime) {
+    goes_dark(&rt, rt.alloc(), 438, OPEN, UNTOUCHED);
+}
+
+#[test]
+fn dark_behind_the_close_step(rt: HostRuntime) {
+    goes_dark(&rt, rt.alloc(), 439, CLOSED, UNTOUCHED);
+    goes_dark(&rt, rt.alloc(), 951, CLOSED, UNTOUCHED);
+}
+
+#[test]
+fn dark_behind_the_first_channel(rt: HostRuntime) {
+    goes_dark(&rt, rt.alloc(), 952, DRAINED, UNTOUCHED);
+    goes_dark(&rt, rt.alloc(), 1_390, DRAINED, UNTOUCHED);
+}
+
+#[test]
+fn dark_behind_both_channels(rt: HostRuntime) {
+    goes_dark(&rt, rt.alloc(), 1_391, DRAINED, ASLEEP);
+}
