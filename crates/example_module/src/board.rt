@@ -1,0 +1,158 @@
+// A board that two hosts share, each in a thread of its own.
+ghost use Rattle.std.specs.Prelude.{◌≡◌, length};
+
+use crate::module::{AMPLE, TRAIL};
+use arm_state::{ArmRefusal, ArmReply, Loss};
+use channel_port::ChannelPort;
+use ddr4_boards::{Ready, formatted, open};
+use energy_budget::Meter;
+use interleave_map::ReadyMap;
+use line_memory::Write;
+use notice_book::{NoticeBook, Notices};
+use nv_workers::{Board, BoardName, Host, Receipt, close};
+use save_device::{MemoryDevice, SaveDevice};
+use std::alloc::{AllocError, Global};
+use std::marker::Brand;
+use std::sync::Wait;
+use std::thread;
+use std::thread::Threads;
+use thiserror::Error;
+
+/// How many hosts share the board.
+const HOSTS: usize = 2;
+
+/// What a board came to.
+#[derive(Clone, Copy, Debug)]
+pub(crate) struct Shared {
+    pub armed: Result<ArmReply, ArmRefusal>,
+    pub lost: Loss,
+    /// The receipts of both hosts, each of which the history of the life bears out.
+    pub receipts: u64,
+}
+
+/// What a board never comes to.
+#[derive(Clone, Copy, Debug, PartialEq, Eq, Error)]
+pub(crate) enum Wrong {
+    #[error("a host is missing")]
+    Hosts,
+    #[error("the history lacks the write of a receipt")]
+    Receipt,
+}
+
+/// A host, and the receipts of its writes.
+#[derive(Drop)]
+struct Told<B: BoardName> {
+    host: Host<B>,
+    receipts: Vec<Receipt>,
+}
+
+// Writes the first four lines.
+fn write_four<K, D, B, N, R>(
+    rt: &R,
+    alloc: Global,
+    board: &Board<K, D, Meter, B, N>,
+    mut host: Host<B>,
+) -> Result<Told<B>, AllocError>
+where
+    K: ChannelPort,
+    D: SaveDevice,
+    B: BoardName,
+    N: Notices,
+    R: Wait,
+{
+    let mut receipts = Vec::new(alloc);
+    for line in 0..4 {
+        let data = [line as u8; 64];
+        if let Ok(receipt) = host.write(rt, board, Write { line, data }) {
+            receipts.push(receipt)?;
+        }
+    }
+    Ok(Told { host, receipts })
+}
+
+// All hosts at once, each in a thread of its own.
+fn write_at_once<K, D, B, N, R>(
+    rt: &R,
+    alloc: Global,
+    board: &Board<K, D, Meter, B, N>,
+    hosts: Vec<Host<B>>,
+) -> Result<Vec<Result<Told<B>, AllocError>>, AllocError>
+where
+    K: ChannelPort + Send,
+    D: SaveDevice + Send,
+    B: BoardName + Send + Sync,
+    N: Notices + Send,
+    R: Threads + Wait + Sync,
+{
+    thread::map_vec(
+        rt,
+        hosts,
+        &|host: Host<B>| -> Result<Told<B>, AllocError> { write_four(rt, alloc, board, host) },
+    )
+}
+
+// The hosts, and the receipts of all.
+fn gather<B: BoardName>(
+    alloc: Global,
+    told: Vec<Result<Told<B>, AllocError>>,
+) -> Result<(Vec<Host<B>>, Vec<Receipt>), AllocError> {
+    let mut hosts = Vec::new(alloc);
+    let mut receipts = Vec::new(alloc);
+    for one in told {
+        let one = one?;
+        hosts.push(one.host)?;
+        receipts.extend_from_slice(one.receipts.as_slice())?;
+    }
+    Ok((hosts, receipts))
+}
+
+// The hosts write at once to an armed board, which then loses its mains. At its end each receipt is looked for in the history
+// of the life.
+fn share<K, B, R>(
+    rt: &R,
+    alloc: Global,
+    ready: Ready<K, MemoryDevice, Meter>,
+) -> anyhow::Result<Shared>
+where
+    K: ChannelPort + Drop + Send,
+    B: BoardName + Send + Sync,
+    R: Threads + Wait + Sync,
+    requires name { ready.opening.name ≡ B.name }
+    requires parts { ready.opening.parts ≡ B.parts }
+    requires hosts { B.parts ≡ HOSTS }
+    requires board { ready.opening.board ≡ B.board }
+    requires before { length ready.recorded.history.writes ≡ B.before }
+    requires channels { ready.channels ≡ B.channels }
+{
+    let book = NoticeBook::with_room(alloc, 1)?;
+    let Ok((board, hosts)) = ready.board::<B, NoticeBook>(alloc, book) else {
+        return Err(AllocError.into());
+    };
+    let armed = board.arm(rt);
+    let told = write_at_once(rt, alloc, &board, hosts)?;
+    let lost = board.power_loss(rt);
+    let (hosts, receipts) = gather(alloc, told)?;
+    if hosts.len() != HOSTS {
+        return Err(Wrong::Hosts.into());
+    }
+    match close(board, hosts, receipts.as_slice(), &[]) {
+        Ok(closed) => Ok(Shared {
+            armed,
+            lost,
+            receipts: closed.checked,
+        }),
+        Err(_) => Err(Wrong::Receipt.into()),
+    }
+}
+
+/// A board on a formatted device, with two hosts that write four lines each.
+pub(crate) fn share_a_board<R: Threads + Wait + Sync>(
+    rt: &R,
+    alloc: Global,
+    map: &ReadyMap,
+) -> anyhow::Result<Shared> {
+    let device = formatted(alloc, &map.checked)?;
+    let meter = Meter::with(AMPLE, 1);
+    let ready = open(alloc, map, &map.checked, device, meter, TRAIL, HOSTS)?;
+    share::<_, Brand, R>(rt, alloc, ready)
+}
