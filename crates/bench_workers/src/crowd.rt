@@ -17,17 +17,18 @@ use std::alloc::{AllocError, Global};
 use std::sync::Wait;
 use std::thread;
 use std::thread::Threads;
-use std::time::{Clock, Instant};
+use std::time::{Clock, Duration, Instant};
 use thiserror::Error;
 
 /// How often a host tries its calls, all in all: where no thread is to be had, what it waits for doesn't come.
 const TRIES: u64 = 1 << 28;
 
-/// What each of so many hosts does: its writes, and then its reads, over the first lines. A saver goes on beside them, where
-/// one is wanted. Mains are lost at the write of a number, where one is given; the module is armed then.
+/// What each of so many hosts does: it rests, and then come its writes and its reads, over the first lines. A saver goes on beside
+/// them, where one is wanted. Mains are lost at the write of a number, where one is given; the module is armed then.
 #[derive(Clone, Copy)]
 pub(crate) struct Plan {
     pub hosts: usize,
+    pub rest: Duration,
     pub writes: u64,
     pub reads: u64,
     pub lines: u64,
@@ -157,8 +158,9 @@ where
     D: SaveDevice,
     B: BoardName,
     N: Notices,
-    R: Wait,
+    R: Wait + Clock,
 {
+    thread::sleep(rt, plan.rest);
     let receipts = write_all(rt, alloc, board, &mut host, plan)?;
     let answers = read_all(rt, alloc, board, &mut host, plan)?;
     Ok(Told {
@@ -182,7 +184,7 @@ where
     D: SaveDevice + Send,
     B: BoardName + Send + Sync,
     N: Notices + Send,
-    R: Threads + Wait + Sync,
+    R: Threads + Wait + Clock + Sync,
     requires { channels ≡ B.channels }
 {
     let gate = UntilDone::new();
@@ -213,7 +215,7 @@ where
     D: SaveDevice + Send,
     B: BoardName + Send + Sync,
     N: Notices + Send,
-    R: Threads + Wait + Sync,
+    R: Threads + Wait + Clock + Sync,
 {
     let told = thread::map_vec(
         rt,
@@ -237,7 +239,7 @@ where
     D: SaveDevice,
     B: BoardName,
     N: Notices,
-    R: Wait,
+    R: Wait + Clock,
     requires { channels ≡ B.channels }
 {
     if worker < channels {
@@ -261,7 +263,7 @@ where
     D: SaveDevice + Send,
     B: BoardName + Send + Sync,
     N: Notices + Send,
-    R: Threads + Wait + Sync,
+    R: Threads + Wait + Clock + Sync,
     requires { channels ≡ B.channels }
 {
     let workers = channels.saturating_add(u64::from(plan.saves));

@@ -2,19 +2,27 @@
 //!
 //!     bench_workers         a small board, with a saver, and with its mains lost at last: the same each time
 //!     bench_workers time    writes and reads a second of 1, 2, 4 and 8 hosts on the largest profile
+//!     bench_workers idle    how long an idle board of that profile and its saver hold processors in ten seconds
 //!     bench_workers loss    10,000 writes of four hosts on the largest profile, the mains lost amid them
 //!
 //! Each host writes and reads in a pseudo-random order, with a worker for each channel beside the hosts. At the end each receipt
 //! and each answer is checked against the history; after a saver or a loss the device is restored, and its lines are compared with
 //! the history's.
+//!
+//! `rt run -- time` and `rt run -- idle` in this crate's folder run it proved. How fast threads are hangs on what else runs: look at
+//! `uptime` before, and take each figure again beside four busy loops, as those of
+//!
+//!     for i in 1 2 3 4; do timeout 600 sh -c 'while :; do :; done' & done
 #![tactic(auto)]
 
 mod crowd;
 mod gate;
 mod life;
+mod processor;
 
 use crate::crowd::Plan;
 use crate::life::{Back, Lived, life_over};
+use crate::processor::held_millis;
 use ddr4_timing::profiles::{SMALL, TINY, WIDEST};
 use ddr4_timing::timing::Checked;
 use interleave_map::{Interleaving, ReadyMap};
@@ -22,7 +30,13 @@ use std::alloc::Global;
 use std::env;
 use std::sync::Wait;
 use std::thread::Threads;
-use std::time::Clock;
+use std::time::{Clock, Duration};
+
+/// How many writes the hosts make together, where they are timed.
+const ALL_WRITES: u64 = 32_000;
+
+/// How many reads each of them makes then: so many that the start of the threads doesn't count.
+const READS_EACH: u64 = 20_000;
 
 // A life over the map `lines`.
 fn by_lines<R: Threads + Wait + Clock + Sync>(
@@ -42,6 +56,7 @@ fn by_lines<R: Threads + Wait + Clock + Sync>(
 fn plan_of(hosts: usize, writes: u64, reads: u64, lost_at: Option<u64>) -> Plan {
     Plan {
         hosts,
+        rest: Duration::ZERO,
         writes,
         reads,
         lines: 128,
@@ -87,6 +102,16 @@ fn small_plans() -> [(&'static str, Plan); 3] {
     ]
 }
 
+// How many milliseconds of a processor a life takes in which the one host rests so long and does no more, beside a saver.
+fn held_through(rt: &HostRuntime, alloc: Global, rest: Duration) -> anyhow::Result<u64> {
+    let mut plan = plan_of(1, 0, 0, None);
+    plan.saves = true;
+    plan.rest = rest;
+    let before = held_millis(rt).unwrap_or(0);
+    by_lines(rt, alloc, TINY.check(&WIDEST)?, &plan)?;
+    Ok(held_millis(rt).unwrap_or(0).saturating_sub(before))
+}
+
 fn main(rt: HostRuntime) -> anyhow::Result<()> {
     let alloc = rt.alloc();
     let words: Vec<String> = env::args(&rt)?.collect(alloc)?;
@@ -100,11 +125,18 @@ fn main(rt: HostRuntime) -> anyhow::Result<()> {
         Some("time") => {
             for hosts in [1, 2, 4, 8] {
                 let checked = TINY.check(&WIDEST)?;
-                let written = by_lines(&rt, alloc, checked, &plan_of(hosts, 4_000, 0, None))?;
-                let read = by_lines(&rt, alloc, checked, &plan_of(hosts, 0, 4_000, None))?;
+                let each = ALL_WRITES / hosts as u64;
+                let written = by_lines(&rt, alloc, checked, &plan_of(hosts, each, 0, None))?;
+                let read = by_lines(&rt, alloc, checked, &plan_of(hosts, 0, READS_EACH, None))?;
                 let (writes, reads) = (rate(&written), rate(&read));
                 println!(rt; "largest: {hosts} hosts, {writes} writes, {reads} reads a second")?;
             }
+        }
+        Some("idle") => {
+            let begun = held_through(&rt, alloc, Duration::ZERO)?;
+            let idle = held_through(&rt, alloc, Duration::from_secs(10))?;
+            let millis = idle.saturating_sub(begun);
+            println!(rt; "largest: {millis} milliseconds of a processor in ten idle seconds")?;
         }
         Some(_) => {
             let plan = plan_of(4, 2_500, 0, Some(4_999));

@@ -3,6 +3,7 @@ ghost use Rattle.std.specs.Prelude.{◌≡◌, ◌<◌};
 
 use crate::board::Board;
 use crate::board_name::BoardName;
+use crate::idle::give_way;
 use crate::saver::Saving;
 use crate::worker::Working;
 use channel_port::ChannelPort;
@@ -11,7 +12,7 @@ use notice_book::Notices;
 use nv_machine::StepReply;
 use save_device::SaveDevice;
 use std::sync::Wait;
-use std::thread;
+use std::time::Clock;
 
 /// What a worker is told to do at its turn: one event, nothing, or to return.
 #[derive(Clone, Copy, Debug, PartialEq, Eq)]
@@ -37,8 +38,8 @@ pub trait Gate {
     fn pass(&self, worker: u64, turn: u64) -> Turn;
 }
 
-/// Issues one command of a channel at each `Go`, until the gate says stop or mains were lost. A turn that finds no command gives
-/// the processor away.
+/// Issues one command of a channel at each `Go`, until the gate says stop or mains were lost. Behind a turn that was held
+/// or found no command it gives its processor away, and behind 16 of them in a row it sleeps, 1 to 50 microseconds.
 pub fn channel_worker<K, D, E, B, N, G, R>(
     rt: &R,
     board: &Board<K, D, E, B, N>,
@@ -52,25 +53,27 @@ where
     B: BoardName,
     N: Notices,
     G: Gate,
-    R: Wait,
+    R: Wait + Clock,
     requires { channel < B.channels }
 {
+    let mut idle = 0;
     for turn in 0..u64::MAX {
         match gate.pass(channel, turn) {
             Turn::Go => match board.work(rt, channel) {
-                Working::Issued => {}
-                Working::Rested => thread::yield_now(),
+                Working::Issued => idle = 0,
+                Working::Rested => idle = give_way(rt, idle),
                 Working::Closed => return Ended::Closed,
             },
-            Turn::Hold => {}
+            Turn::Hold => idle = give_way(rt, idle),
             Turn::Stop => return Ended::Stopped,
         }
     }
     Ended::Stopped
 }
 
-/// Takes one turn of a saver at each `Go`, until the gate says stop or mains were lost. A turn at rest, and a step
-/// that has to wait, give the processor away. The gate is asked for it by the number of channels.
+/// Takes one turn of a saver at each `Go`, until the gate says stop or mains were lost. Behind a turn that was held
+/// or at rest, and behind a step that has to wait, it gives way as a channel's worker does. The gate is asked for it by the
+/// number of channels.
 pub fn saver_worker<K, D, E, B, N, G, R>(
     rt: &R,
     board: &Board<K, D, E, B, N>,
@@ -84,17 +87,18 @@ where
     B: BoardName,
     N: Notices,
     G: Gate,
-    R: Wait,
+    R: Wait + Clock,
     requires number { channels ≡ B.channels }
 {
+    let mut idle = 0;
     for turn in 0..u64::MAX {
         match gate.pass(channels, turn) {
             Turn::Go => match board.save(rt) {
-                Saving::Rested | Saving::Stepped(StepReply::Waiting) => thread::yield_now(),
-                Saving::Began(_) | Saving::Stepped(_) => {}
+                Saving::Rested | Saving::Stepped(StepReply::Waiting) => idle = give_way(rt, idle),
+                Saving::Began(_) | Saving::Stepped(_) => idle = 0,
                 Saving::Closed => return Ended::Closed,
             },
-            Turn::Hold => {}
+            Turn::Hold => idle = give_way(rt, idle),
             Turn::Stop => return Ended::Stopped,
         }
     }

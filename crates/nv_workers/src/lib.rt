@@ -11,6 +11,7 @@ mod ending;
 mod gate;
 mod held;
 mod host;
+mod idle;
 mod opening;
 mod recorded_module;
 mod saver;

@@ -18,6 +18,7 @@ use slot_store::Step;
 use std::alloc::Global;
 use std::process::Abort;
 use std::sync::Wait;
+use std::time::Clock;
 
 // The write of a line with byte 11 that was the first one.
 fn first_receipt(line: u64) -> Receipt {
@@ -36,7 +37,7 @@ where
     E: Energy,
     B: BoardName,
     N: Notices,
-    R: Wait,
+    R: Wait + Clock,
     requires { CHANNELS ≡ B.channels }
 {
     let worker = CHANNELS;
@@ -51,7 +52,7 @@ where
     E: Energy,
     B: BoardName,
     N: Notices,
-    R: Wait,
+    R: Wait + Clock,
     requires { CHANNELS ≡ B.channels }
 {
     channel_worker(rt, board, 0, &Turns { worker: 0, most })
@@ -92,7 +93,7 @@ where
     B: BoardName,
     N: Notices,
     N::Notice: Drop,
-    R: Wait + Abort,
+    R: Wait + Clock + Abort,
     requires channels { CHANNELS ≡ B.channels }
     requires notice { (number : ℕ) → N.is_callable number notice }
 {
@@ -164,7 +165,7 @@ where
     E: Energy,
     B: BoardName,
     N: Notices,
-    R: Wait + Abort,
+    R: Wait + Clock + Abort,
     requires { CHANNELS ≡ B.channels }
 {
     same(rt, board.sense(rt), AMPLE - 1);
@@ -205,7 +206,7 @@ where
     E: Energy,
     B: BoardName,
     N: Notices,
-    R: Wait + Abort,
+    R: Wait + Clock + Abort,
     requires { CHANNELS ≡ B.channels }
 {
     let receipt = first_receipt(0);
@@ -231,7 +232,7 @@ where
     E: Energy,
     B: BoardName,
     N: Notices,
-    R: Wait + Abort,
+    R: Wait + Clock + Abort,
     requires { CHANNELS ≡ B.channels }
 {
     let nowhere = WriteRefusal::NoSuchLine;

@@ -57,7 +57,7 @@ where
     D: SaveDevice + Drop,
     E: Energy + Drop,
     B: BoardName,
-    R: Wait + Abort,
+    R: Wait + Clock + Abort,
     requires name { ready.opening.name ≡ B.name }
     requires parts { ready.opening.parts ≡ B.parts }
     requires board { ready.opening.board ≡ B.board }
