@@ -1,6 +1,6 @@
 // Gates of the tests.
 use nv_workers::{Gate, Turn};
-use std::sync::atomic::{AtomicBool, Ordering};
+use std::sync::atomic::{AtomicBool, AtomicU64, Ordering};
 use std::thread;
 use std::time::{Clock, Duration};
 
@@ -40,6 +40,45 @@ pub struct Always;
 impl Gate for Always {
     fn pass(&self, _worker: u64, _turn: u64) -> Turn {
         Turn::Go
+    }
+}
+
+/// Lets one worker go at every other turn, holds it at the ones between, and stops it after so many.
+#[derive(Drop)]
+pub struct EachTurn {
+    most: u64,
+    asked: AtomicU64,
+    astray: AtomicBool,
+}
+
+impl EachTurn {
+    /// Before any question.
+    pub(crate) fn new(most: u64) -> EachTurn {
+        EachTurn {
+            most,
+            asked: AtomicU64::new(0),
+            astray: AtomicBool::new(false),
+        }
+    }
+
+    /// How often it was asked, if the turns were 0, 1, 2 and so on.
+    pub(crate) fn asked_in_order(&self) -> Option<u64> {
+        if self.astray.load(Ordering::SeqCst) {
+            return None;
+        }
+        Some(self.asked.load(Ordering::SeqCst))
+    }
+}
+
+impl Gate for EachTurn {
+    fn pass(&self, _worker: u64, turn: u64) -> Turn {
+        if self.asked.fetch_add(1, Ordering::SeqCst) != turn {
+            self.astray.store(true, Ordering::SeqCst);
+        }
+        if turn >= self.most {
+            return Turn::Stop;
+        }
+        if turn % 2 == 0 { Turn::Go } else { Turn::Hold }
     }
 }
 
