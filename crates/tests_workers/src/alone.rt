@@ -4,14 +4,15 @@ ghost use Rattle.std.specs.Prelude.{◌≡◌, ℕ, length};
 use crate::cases::{AMPLE, CHANNELS, write_of};
 use crate::check::same;
 use crate::ends::{ends, is_strange};
-use crate::gates::{Always, EachTurn, Holds, Turns};
+use crate::gates::{Always, EachTurn, Turns};
 use arm_state::{ArmRefusal, ArmReply, DisarmReply, Loss, ReadRefusal, WriteRefusal};
 use channel_port::ChannelPort;
 use energy_budget::Energy;
 use notice_book::{Notices, Persisted};
 use nv_machine::StepReply;
 use nv_workers::{
-    Behind, Board, BoardName, Ended, Host, Receipt, Seen, Stranger, channel_worker, saver_worker,
+    Behind, Board, BoardName, Ended, Host, Receipt, Seen, Stranger, Turn, channel_worker,
+    saver_worker,
 };
 use save_device::SaveDevice;
 use slot_store::Step;
@@ -242,14 +243,11 @@ where
     same(rt, host.write(rt, board, write_of(0, 11)), Ok(receipt));
     let stopped = (Ended::Stopped, Ended::Stopped);
     same(rt, (worked(rt, board, 0), saved(rt, board, 0)), stopped);
-    let channel = channel_worker(rt, board, 1, &Holds(100));
-    let saver = saver_worker(rt, board, CHANNELS, &Holds(100));
+    let (goes, holds) = (EachTurn::new(Turn::Go, 100), EachTurn::new(Turn::Hold, 100));
+    let channel = channel_worker(rt, board, 1, &goes);
+    let saver = saver_worker(rt, board, CHANNELS, &holds);
     same(rt, (channel, saver), stopped);
-    let (turns, others) = (EachTurn::new(100), EachTurn::new(100));
-    let channel = channel_worker(rt, board, 1, &turns);
-    let saver = saver_worker(rt, board, CHANNELS, &others);
-    same(rt, (channel, saver), stopped);
-    let asked = (turns.asked_in_order(), others.asked_in_order());
+    let asked = (goes.asked_in_order(), holds.asked_in_order());
     same(rt, asked, (Some(101), Some(101)));
     same(rt, board.save_step(rt), StepReply::NoSave);
     same(rt, board.power_loss(rt), Loss::Unsaved);

@@ -21,19 +21,6 @@ impl Gate for Turns {
     }
 }
 
-/// Holds each worker so many turns, and then stops it.
-pub struct Holds(pub u64);
-
-impl Gate for Holds {
-    fn pass(&self, _worker: u64, turn: u64) -> Turn {
-        if turn < self.0 {
-            Turn::Hold
-        } else {
-            Turn::Stop
-        }
-    }
-}
-
 /// Lets each worker go, at every turn.
 pub struct Always;
 
@@ -43,9 +30,10 @@ impl Gate for Always {
     }
 }
 
-/// Lets one worker go at every other turn, holds it at the ones between, and stops it after so many.
+/// Tells a worker the same so many turns, and then stops it.
 #[derive(Drop)]
 pub struct EachTurn {
+    told: Turn,
     most: u64,
     asked: AtomicU64,
     astray: AtomicBool,
@@ -53,8 +41,9 @@ pub struct EachTurn {
 
 impl EachTurn {
     /// Before any question.
-    pub(crate) fn new(most: u64) -> EachTurn {
+    pub(crate) fn new(told: Turn, most: u64) -> EachTurn {
         EachTurn {
+            told,
             most,
             asked: AtomicU64::new(0),
             astray: AtomicBool::new(false),
@@ -75,10 +64,11 @@ impl Gate for EachTurn {
         if self.asked.fetch_add(1, Ordering::SeqCst) != turn {
             self.astray.store(true, Ordering::SeqCst);
         }
-        if turn >= self.most {
-            return Turn::Stop;
+        if turn < self.most {
+            self.told
+        } else {
+            Turn::Stop
         }
-        if turn % 2 == 0 { Turn::Go } else { Turn::Hold }
     }
 }
 
