@@ -6,7 +6,7 @@ use Rattle.ddr4_timing.specs.declared.timing.Checked.{Checked}
 use Rattle.command_trace.specs.declared.entry.Entry.{Entry}
 use Rattle.command_trace.specs.declared.front.Front.{Front}
 use Rattle.command_trace.specs.declared.trace_check.TraceCheck.{TraceCheck}
-use Rattle.command_trace.specs.Following.{Follows}
+use Rattle.command_trace.specs.Following.{FollowsCommands}
 
 -- the commands of a channel, in their order
 abbrev pub commands_of : ℕ → List Entry → List Stamped
@@ -16,7 +16,7 @@ commands_of channel entries = map (λ entry. entry.command) (filter (λ entry. e
 abbrev pub FollowsAll : Checked → TraceCheck → Type 0
 FollowsAll c check =
     (channel : ℕ) (none : Front) → channel < 8 →
-    Follows c (slice_index_or check.fronts channel none) (commands_of channel check.entries.items)
+    FollowsCommands c (slice_index_or check.fronts channel none) (commands_of channel check.entries.items)
 
 -- the commands of each channel of the geometry are lawful
 abbrev pub AreLawful : Checked → TraceCheck → Type 0

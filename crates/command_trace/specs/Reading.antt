@@ -8,6 +8,6 @@ abbrev pub FitsChannels : ℕ → Entry → Type 0
 FitsChannels channels entry = (entry.channel < channels) × (entry.command.clock < 2 ^ 63)
 
 -- what was found, as a list
-abbrev pub entries_of : Option Located → List Entry
-entries_of (Some found) = found.entry ∷ []
-entries_of None = []
+abbrev pub entries_found : Option Located → List Entry
+entries_found (Some found) = found.entry ∷ []
+entries_found None = []

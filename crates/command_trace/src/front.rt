@@ -2,7 +2,7 @@
 ghost use Rattle.std.specs.Prelude.{◌<◌, ◌^◌, ◌↔◌, IsTrue, List, [], ◌∷◌, ◌++◌};
 ghost use Rattle.ddr4_timing.specs.Lawful.{IsLawful};
 ghost use Rattle.ddr4_timing.specs.declared.command.Stamped.{Stamped};
-ghost use Rattle.command_trace.specs.Following.{Follows};
+ghost use Rattle.command_trace.specs.Following.{FollowsCommands};
 
 use ddr4_timing::command::Stamped;
 use ddr4_timing::timing::Checked;
@@ -20,7 +20,7 @@ pub struct Front {
 impl Front {
     /// Before any command.
     pub fn new(checked: &Checked) -> Front
-        ensures { Follows checked.now result [] }
+        ensures { FollowsCommands checked.now result [] }
     {
         Front {
             state: TimingState::new(checked),
@@ -31,9 +31,9 @@ impl Front {
     /// Takes the next command. Answers whether all commands until now are lawful.
     pub fn take(&mut self, checked: &Checked, next: &Stamped) -> bool
         requires { next.now.clock < 2 ^ 63 }
-        ensures follows { (list : List Stamped) → Follows checked.now self.old list →
-            Follows checked.now self.new (list ++ next.now ∷ []) }
-        ensures lawful { (list : List Stamped) → Follows checked.now self.old list →
+        ensures follows { (list : List Stamped) → FollowsCommands checked.now self.old list →
+            FollowsCommands checked.now self.new (list ++ next.now ∷ []) }
+        ensures lawful { (list : List Stamped) → FollowsCommands checked.now self.old list →
             (IsTrue result ↔ IsLawful checked.now (list ++ next.now ∷ [])) }
     {
         if !self.is_lawful {
@@ -49,7 +49,7 @@ impl Front {
 
     /// Are the commands that came lawful?
     pub fn is_lawful(&self) -> bool
-        ensures { (checked : Checked) (list : List Stamped) → Follows checked self.now list →
+        ensures { (checked : Checked) (list : List Stamped) → FollowsCommands checked self.now list →
             (IsTrue result ↔ IsLawful checked list) }
     {
         self.is_lawful

@@ -1,6 +1,6 @@
 // The commands of a trace, read as a stream.
 ghost use Rattle.std.specs.Prelude.{◌≡◌, [], ◌++◌, IfOk, IfSome};
-ghost use Rattle.command_trace.specs.Reading.{FitsChannels, entries_of};
+ghost use Rattle.command_trace.specs.Reading.{FitsChannels, entries_found};
 
 use crate::entry::{Entry, Located};
 use crate::kind::Kind;
@@ -253,7 +253,7 @@ impl<R: Read + Drop> TraceReader<R> {
             FitsChannels self.old.channels l.entry)) }
         ensures channels { self.new.channels ≡ self.old.channels }
         ensures given { IfOk result (λ found. self.new.given.items
-            ≡ self.old.given.items ++ entries_of found) }
+            ≡ self.old.given.items ++ entries_found found) }
     {
         for _ in 0..u64::MAX {
             if !self.rows.read_byte_record(&mut self.row)? {

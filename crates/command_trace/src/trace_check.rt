@@ -75,7 +75,8 @@ impl TraceCheck {
 
     /// Are the commands of every channel lawful?
     pub fn are_lawful(&self, checked: &Checked) -> bool
-        ensures { FollowsAll checked.now self.now → (IsTrue result ↔ AreLawful checked.now self.now) }
+        ensures { FollowsAll checked.now self.now
+            → (IsTrue result ↔ AreLawful checked.now self.now) }
     {
         for channel in 0..checked.geometry.channels {
             if !self.is_lawful(checked, channel) {
