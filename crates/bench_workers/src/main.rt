@@ -103,12 +103,17 @@ fn small_plans() -> [(&'static str, Plan); 3] {
 }
 
 // How many milliseconds of a processor a life takes in which the one host rests so long and does no more, beside a saver.
-fn held_through(rt: &HostRuntime, alloc: Global, rest: Duration) -> anyhow::Result<u64> {
+fn held_through<R: Threads + Wait + Clock + Sync>(
+    rt: &HostRuntime,
+    threads: &R,
+    alloc: Global,
+    rest: Duration,
+) -> anyhow::Result<u64> {
     let mut plan = plan_of(1, 0, 0, None);
     plan.saves = true;
     plan.rest = rest;
     let before = held_millis(rt).unwrap_or(0);
-    by_lines(rt, alloc, TINY.check(&WIDEST)?, &plan)?;
+    by_lines(threads, alloc, TINY.check(&WIDEST)?, &plan)?;
     Ok(held_millis(rt).unwrap_or(0).saturating_sub(before))
 }
 
@@ -133,8 +138,8 @@ fn main(rt: HostRuntime) -> anyhow::Result<()> {
             }
         }
         Some("idle") => {
-            let begun = held_through(&rt, alloc, Duration::ZERO)?;
-            let idle = held_through(&rt, alloc, Duration::from_secs(10))?;
+            let begun = held_through(&rt, &rt, alloc, Duration::ZERO)?;
+            let idle = held_through(&rt, &rt, alloc, Duration::from_secs(10))?;
             let millis = idle.saturating_sub(begun);
             println!(rt; "largest: {millis} milliseconds of a processor in ten idle seconds")?;
         }
