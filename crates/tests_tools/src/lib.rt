@@ -4,6 +4,8 @@
 #[cfg(test)]
 mod forms;
 #[cfg(test)]
+mod profiles;
+#[cfg(test)]
 mod rules;
 #[cfg(test)]
 mod verdicts;

@@ -1,0 +1,242 @@
+// Why a text is no profile.
+ghost use Rattle.std.specs.Prelude.{◌<◌, length, IfOk, IsSome};
+ghost use Rattle.ddr4_timing.specs.Checks.{FailsEntry};
+
+use crate::limits::{KnownTable, Limits, TABLES};
+use ddr4_timing::timing::{Geometry, ProfileError, Timing};
+use interleave_map::Interleaving;
+use nv_profile::MOST_BYTES;
+use std::alloc::{AllocError, Global};
+use toml::{Table, Value, table_from_slice};
+
+/// Why the bytes are no profile, in words: the first that holds of a text that is too long, isn't TOML, lacks a table or a key,
+/// has a further one, has a value that isn't of its kind or past its limits, or doesn't pass a check of the timing and the
+/// geometry. None of a profile.
+pub fn why_refused(alloc: Global, bytes: &[u8]) -> Result<Option<String>, AllocError>
+    ensures { MOST_BYTES < length bytes.now → IfOk result (λ why. IsSome why) }
+{
+    if bytes.len() > MOST_BYTES {
+        return Ok(Some(format!(in alloc; "more than {MOST_BYTES} bytes")?));
+    }
+    match table_from_slice(alloc, bytes) {
+        Ok(table) => why_of_table(alloc, &table),
+        Err(error) if error.is_memory() => Err(AllocError),
+        Err(_) => Ok(Some(format!(in alloc; "no TOML")?)),
+    }
+}
+
+fn why_of_table(alloc: Global, table: &Table) -> Result<Option<String>, AllocError> {
+    for known in &TABLES {
+        if let Some(why) = why_of_inner(alloc, table, known)? {
+            return Ok(Some(why));
+        }
+    }
+    for (key, _value) in table {
+        if !TABLES.iter().any(|known| known.name == key.as_str()) {
+            return Ok(Some(format!(in alloc; "{key} isn't known")?));
+        }
+    }
+    why_of_checks(alloc, table)
+}
+
+// Why the table under a name isn't the one that is known.
+fn why_of_inner(
+    alloc: Global,
+    table: &Table,
+    known: &KnownTable,
+) -> Result<Option<String>, AllocError> {
+    let name = known.name;
+    let Some(value) = table.get(name) else {
+        return Ok(Some(format!(in alloc; "no table {name}")?));
+    };
+    let Some(inner) = value.as_table() else {
+        return Ok(Some(format!(in alloc; "{name} is no table")?));
+    };
+    for limits in known.limits {
+        if let Some(why) = why_of_numbers(alloc, name, inner, limits)? {
+            return Ok(Some(why));
+        }
+    }
+    if name == "module" && map_of(inner).is_none() {
+        return Ok(Some(format!(in alloc; "{name}.map is neither lines nor xor")?));
+    }
+    why_of_keys(alloc, inner, known)
+}
+
+fn map_of(module: &Table) -> Option<Interleaving> {
+    Interleaving::named(module.get("map")?.as_str()?)
+}
+
+// Which key of a table isn't known.
+fn why_of_keys(
+    alloc: Global,
+    inner: &Table,
+    known: &KnownTable,
+) -> Result<Option<String>, AllocError> {
+    let name = known.name;
+    for (key, _value) in inner {
+        if !is_known(known, key.as_str()) {
+            return Ok(Some(format!(in alloc; "{name}.{key} isn't known")?));
+        }
+    }
+    Ok(None)
+}
+
+fn is_known(known: &KnownTable, key: &str) -> bool {
+    for limits in known.limits {
+        if limits.keys.iter().any(|known| *known == key) {
+            return true;
+        }
+    }
+    known.name == "module" && key == "map"
+}
+
+fn why_of_numbers(
+    alloc: Global,
+    name: &str,
+    inner: &Table,
+    limits: &Limits,
+) -> Result<Option<String>, AllocError> {
+    let Limits { keys, least, most } = *limits;
+    for key in keys.iter().copied() {
+        let Some(value) = inner.get(key) else {
+            return Ok(Some(format!(in alloc; "no key {name}.{key}")?));
+        };
+        let Some(number) = value.as_integer() else {
+            return Ok(Some(format!(in alloc; "{name}.{key} is no whole number")?));
+        };
+        if !is_within(number, least, most) {
+            return Ok(Some(format!(in alloc;
+                "{name}.{key} = {number}, and {least} to {most} are allowed"
+            )?));
+        }
+    }
+    Ok(None)
+}
+
+fn is_within(number: i64, least: u64, most: u64) -> bool {
+    match u64::try_from(number) {
+        Ok(number) => least <= number && number <= most,
+        Err(_) => false,
+    }
+}
+
+// The number under a key, 0 where there is none.
+fn number(table: &Table, name: &str, key: &str) -> u64 {
+    let value = table
+        .get(name)
+        .and_then(Value::as_table)
+        .and_then(|inner| inner.get(key));
+    let number = value.and_then(Value::as_integer).unwrap_or(0);
+    u64::try_from(number).unwrap_or(0)
+}
+
+fn timing_of(table: &Table) -> Timing {
+    let time = |key: &str| number(table, "timing", key);
+    Timing {
+        t_rcd: time("tRCD"),
+        t_rp: time("tRP"),
+        t_ras: time("tRAS"),
+        cl: time("CL"),
+        cwl: time("CWL"),
+        t_ccd_s: time("tCCD_S"),
+        t_ccd_l: time("tCCD_L"),
+        t_rrd_s: time("tRRD_S"),
+        t_rrd_l: time("tRRD_L"),
+        t_faw: time("tFAW"),
+        t_wr: time("tWR"),
+        t_wtr_s: time("tWTR_S"),
+        t_wtr_l: time("tWTR_L"),
+        t_rtp: time("tRTP"),
+        t_rtw: time("tRTW"),
+        t_cs: time("tCS"),
+        t_rfc: time("tRFC"),
+        t_refi: time("tREFI"),
+    }
+}
+
+fn geometry_of(table: &Table) -> Geometry {
+    let size = |key: &str| number(table, "geometry", key);
+    Geometry {
+        channels: size("channels"),
+        ranks: size("ranks"),
+        groups: size("groups"),
+        banks: size("banks"),
+        rows: size("rows"),
+        columns: size("columns"),
+    }
+}
+
+// Which check of the timing and the geometry fails.
+fn why_of_checks(alloc: Global, table: &Table) -> Result<Option<String>, AllocError> {
+    let timing = timing_of(table);
+    let geometry = geometry_of(table);
+    let why = match timing.check(&geometry) {
+        Ok(_) => return Ok(None),
+        Err(ProfileError::Overflow) => format!(in alloc; "a time past its limits")?,
+        Err(ProfileError::Geometry) => why_of_geometry(alloc, &geometry)?,
+        Err(ProfileError::EntryTooLong) => why_of_entry(alloc, &timing, &geometry)?,
+        Err(ProfileError::FawTooLong) => why_of_gaps(alloc, &timing)?,
+    };
+    Ok(Some(why))
+}
+
+fn why_of_geometry(alloc: Global, g: &Geometry) -> Result<String, AllocError> {
+    for (key, number) in [
+        ("channels", g.channels),
+        ("ranks", g.ranks),
+        ("groups", g.groups),
+        ("rows", g.rows),
+        ("columns", g.columns),
+    ] {
+        if !number.is_power_of_two() {
+            return format!(in alloc; "geometry.{key} = {number} is no power of two");
+        }
+    }
+    let banks = g
+        .channels
+        .saturating_mul(g.ranks)
+        .saturating_mul(g.groups)
+        .saturating_mul(g.banks);
+    let lines = banks.saturating_mul(g.rows).saturating_mul(g.columns);
+    format!(in alloc; "{lines} lines, and 64 to 65536 are allowed")
+}
+
+fn why_of_entry(alloc: Global, t: &Timing, g: &Geometry) -> Result<String, AllocError>
+    requires { FailsEntry t.now g.now }
+{
+    let entry = t.entry(g);
+    let close = t.close(g);
+    let needed = 2 * (entry + close) + 4 * g.ranks;
+    format!(in alloc;
+        "2 * (entry {entry} + close {close}) + 4 * ranks {} = {needed} is above tREFI = {}",
+        g.ranks, t.t_refi
+    )
+}
+
+// Which window or gap is too long.
+fn why_of_gaps(alloc: Global, t: &Timing) -> Result<String, AllocError> {
+    let cycle = t.t_ras.saturating_add(t.t_rp);
+    for (key, time) in [
+        ("tFAW", t.t_faw),
+        ("tRRD_S", t.t_rrd_s),
+        ("tRRD_L", t.t_rrd_l),
+    ] {
+        if time > cycle {
+            return format!(in alloc; "{key} = {time} is above tRAS + tRP = {cycle}");
+        }
+    }
+    let column = t.t_rp.saturating_add(t.t_rcd);
+    let other_rank = t.t_cs.saturating_add(4);
+    for (key, time) in [
+        ("tRTW", t.t_rtw),
+        ("tCCD_S", t.t_ccd_s),
+        ("tCCD_L", t.t_ccd_l),
+        ("4 + tCS", other_rank),
+    ] {
+        if time > column {
+            return format!(in alloc; "{key} = {time} is above tRP + tRCD = {column}");
+        }
+    }
+    format!(in alloc; "a gap is too long")
+}

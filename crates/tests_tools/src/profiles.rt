@@ -1,0 +1,131 @@
+// What is told of profiles, and why a text is none.
+use nv_profile::{TINY, read_profile};
+use profile_report::{Meaning, why_refused};
+use std::process::Abort;
+
+#[test]
+fn the_small_profile(rt: HostRuntime) -> anyhow::Result<()> {
+    let profile = read_profile(rt.alloc(), TINY.as_bytes())?;
+    let said = Meaning::of(&profile).to_string(rt.alloc())?;
+    assert_eq!(rt;
+        said.as_str(),
+        "lines 128 on 2 channels, map lines
+device 24576 bytes
+entry 486 clocks
+close step 437 clocks
+pending 0: steps 10, reserve 3328, floor 3339, least reading 3340
+pending 1: steps 11, reserve 3841, floor 3853, least reading 3854
+pending 8: steps 18, reserve 7432, floor 7451, least reading 7452
+pending 16: steps 26, reserve 11536, floor 11563, least reading 11564"
+    );
+    Ok(())
+}
+
+// A text is refused for this reason, or is a profile where it's "none".
+fn tells<R: Abort + AllocGlobal>(rt: &R, text: &str, wanted: &str) -> anyhow::Result<()> {
+    let why = why_refused(rt.alloc(), text.as_bytes())?;
+    let said = why.as_ref().map_or("none", |why| why.as_str());
+    assert_eq!(*rt; said, wanted);
+    let is_read = read_profile(rt.alloc(), text.as_bytes()).is_ok();
+    assert_eq!(*rt; is_read, wanted == "none");
+    Ok(())
+}
+
+// The same of the small profile with `old` replaced by `new`.
+fn refused<R: Abort + AllocGlobal>(
+    rt: &R,
+    old: &str,
+    new: &str,
+    wanted: &str,
+) -> anyhow::Result<()> {
+    let text = TINY.replace(rt.alloc(), old, new)?;
+    tells(rt, &text, wanted)
+}
+
+#[test]
+fn keys_and_values(rt: HostRuntime) -> anyhow::Result<()> {
+    refused(&rt, "tRCD = 16", "tRCD = 17", "none")?;
+    refused(&rt, "tRCD = 16\n", "", "no key timing.tRCD")?;
+    refused(
+        &rt,
+        "tRCD = 16",
+        "tRCD = 16\ntFOO = 1",
+        "timing.tFOO isn't known",
+    )?;
+    refused(
+        &rt,
+        "tRCD = 16",
+        "tRCD = 0",
+        "timing.tRCD = 0, and 1 to 100000 are allowed",
+    )?;
+    refused(
+        &rt,
+        "tRCD = 16",
+        "tRCD = \"x\"",
+        "timing.tRCD is no whole number",
+    )?;
+    refused(
+        &rt,
+        "e_act = 4",
+        "e_act = -1",
+        "costs.e_act = -1, and 0 to 1000000 are allowed",
+    )?;
+    refused(
+        &rt,
+        "map = \"lines\"",
+        "map = \"line\"",
+        "module.map is neither lines nor xor",
+    )?;
+    refused(&rt, "[costs]", "[cost]", "no table costs")?;
+    refused(
+        &rt,
+        "[timing]",
+        "further = 1\n[timing]",
+        "further isn't known",
+    )?;
+    refused(&rt, "[timing]", "[timing", "no TOML")?;
+    tells(&rt, "", "no table timing")?;
+    tells(&rt, "timing = 1", "timing is no table")?;
+    let long = " ".repeat(rt.alloc(), 65_537)?;
+    tells(&rt, &long, "more than 65536 bytes")
+}
+
+#[test]
+fn failed_checks(rt: HostRuntime) -> anyhow::Result<()> {
+    refused(
+        &rt,
+        "rows = 2",
+        "rows = 3",
+        "geometry.rows = 3 is no power of two",
+    )?;
+    refused(
+        &rt,
+        "columns = 4",
+        "columns = 1",
+        "32 lines, and 64 to 65536 are allowed",
+    )?;
+    refused(
+        &rt,
+        "rows = 2",
+        "rows = 2048",
+        "131072 lines, and 64 to 65536 are allowed",
+    )?;
+    refused(
+        &rt,
+        "tFAW = 26",
+        "tFAW = 56",
+        "tFAW = 56 is above tRAS + tRP = 55",
+    )?;
+    refused(
+        &rt,
+        "tCS = 2",
+        "tCS = 29",
+        "4 + tCS = 33 is above tRP + tRCD = 32",
+    )?;
+    refused(
+        &rt,
+        "tREFI = 9360",
+        "tREFI = 1849",
+        "2 * (entry 486 + close 437) + 4 * ranks 1 = 1850 is above tREFI = 1849",
+    )
+}
