@@ -2,6 +2,7 @@ pub mod Boards
 pub mod Client
 pub mod Ending
 pub mod Kept
+pub mod Lived
 pub mod Marks
 pub mod Newest
 pub mod Opening

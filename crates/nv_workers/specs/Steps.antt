@@ -4,19 +4,16 @@ use Rattle.energy_budget.specs.declared.energy.Energy.{Ghosts as GaugeGhosts}
 use Rattle.channel_port.specs.declared.port.ChannelPort.{Ghosts}
 use Rattle.nv_machine.specs.declared.events.Event.{Event}
 use Rattle.nv_machine.specs.declared.events.Reply.{Reply}
-use Rattle.module_core.specs.Stands.{Assembly, assembly, Answers}
+use Rattle.module_core.specs.Stands.{Answers}
 use Rattle.nv_workers.specs.declared.board_name.BoardName.{Ghosts as NameGhosts}
 use Rattle.nv_workers.specs.declared.held.Held.{Held}
 use Rattle.nv_workers.specs.declared.recorded_module.RecordedModule.{RecordedModule}
+use Rattle.nv_workers.specs.Lived.{assembly_of}
 
 module _ {K D E : Type 0} (L : Ghosts K) (M : DeviceGhosts D) (N : GaugeGhosts E) where
-  -- the module, and what is known of its device and of its gauge
-  abbrev pub assembly_of : RecordedModule K D E L → Assembly L
-  assembly_of it = assembly it.running (M.state it.device) (N.gauge it.energy)
-
   -- the event was answered by this reply
   abbrev pub StepsTo : Event → Reply → RecordedModule K D E L → RecordedModule K D E L → Type 0
-  StepsTo event reply old new = Answers L event reply (assembly_of old) (assembly_of new)
+  StepsTo event reply old new = Answers L event reply (assembly_of L M N old) (assembly_of L M N new)
 
 module _ {K D E B : Type 0} (L : Ghosts K) (M : DeviceGhosts D) (N : GaugeGhosts E) (O : NameGhosts B) where
   -- the same of what lies behind the lock

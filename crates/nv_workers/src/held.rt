@@ -5,6 +5,7 @@ ghost use Rattle.std.specs.Arc.{arc_value};
 ghost use Rattle.nv_machine.specs.Rising.{added};
 ghost use Rattle.module_core.specs.Stands.{setup_of};
 ghost use Rattle.nv_workers.specs.Kept.{IsRecordKept};
+ghost use Rattle.nv_workers.specs.Lived.{HasLived};
 ghost use Rattle.nv_workers.specs.Marks.{IsBehind, IsCounted, marks_of};
 ghost use Rattle.nv_workers.specs.Newest.{saved_after};
 
@@ -24,7 +25,7 @@ use std::sync::Arc;
 use std::sync::ledger::Share;
 
 /// A module with its record, the words and the seat that moves them, which show the module's two numbers, and how many of the
-/// recorded writes are the hosts'.
+/// recorded writes are the hosts'. It keeps that some life so far leads to where module, device and gauge stand.
 #[derive(Drop)]
 pub struct Held<K: ChannelPort, D: SaveDevice, E: Energy, B: BoardName> {
     pub(crate) recorded: RecordedModule<K, D, E>,
@@ -34,6 +35,7 @@ pub struct Held<K: ChannelPort, D: SaveDevice, E: Energy, B: BoardName> {
     ghost board: { arc_value marks ≡ B.board },
     ghost channels: { (setup_of K.ChannelPort recorded.running).shape.channels ≡ B.channels },
     ghost kept: { IsRecordKept K.ChannelPort D.SaveDevice recorded },
+    ghost lived: { HasLived K.ChannelPort D.SaveDevice E.Energy recorded },
     ghost shown: { seat ≡ marks_of K.ChannelPort B.board recorded.running },
     ghost counted: { length recorded.history.writes ≡ B.before + tally.book.total },
 }
@@ -81,6 +83,7 @@ impl<K: ChannelPort, D: SaveDevice, E: Energy, B: BoardName> Held<K, D, E, B> {
         requires channels { (setup_of K.ChannelPort recorded.running).shape.channels
             ≡ B.channels }
         requires kept { IsRecordKept K.ChannelPort D.SaveDevice recorded }
+        requires lived { HasLived K.ChannelPort D.SaveDevice E.Energy recorded }
         requires seat { seat ≡ marks_of K.ChannelPort B.board recorded.running }
         requires counted { length recorded.history.writes ≡ B.before + tally.book.total }
         ensures { result.recorded ≡ recorded }

@@ -3,6 +3,7 @@ use Rattle.nv_machine.specs.declared.events.Event.TheVariants as events
 use Rattle.nv_machine.specs.declared.events.Reply.TheVariants as replies
 use Rattle.nv_workers.proofs.Holding.{falls_behind, has_device}
 use Rattle.nv_workers.proofs.Keeping.{keeps_same}
+use Rattle.nv_workers.proofs.Living.{lives_on}
 use Rattle.nv_workers.proofs.held.Held.arm.Goals as goal
 
 pub arm-reply-requires : goal.arm-reply-requires
@@ -19,6 +20,12 @@ invariant_of-self-clause-kept g c =
     let it = c.args.self.now in let call = c.arm-reply in
     let after = record it.recorded { running = call.new.self; device = call.new.device; energy = call.new.energy } in
     keeps_same g.K.ChannelPort g.D.SaveDevice g.E.Energy events.Arm (replies.Arm call.result) it.recorded after it.kept call.ensures.answers call.ensures.setup refl refl refl
+
+pub invariant_of-self-clause-lived : goal.invariant_of-self-clause-lived
+invariant_of-self-clause-lived g c =
+    let it = c.args.self.now in let call = c.arm-reply in
+    let after = record it.recorded { running = call.new.self; device = call.new.device; energy = call.new.energy } in
+    lives_on g.K.ChannelPort g.D.SaveDevice g.E.Energy events.Arm (replies.Arm call.result) it.recorded after it.lived call.ensures.answers call.ensures.setup
 
 pub returns-clause-steps : goal.returns-clause-steps
 returns-clause-steps g c = c.arm-reply.ensures.answers

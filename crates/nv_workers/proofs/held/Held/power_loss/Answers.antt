@@ -3,6 +3,7 @@ use Rattle.nv_machine.specs.declared.events.Event.TheVariants as events
 use Rattle.nv_machine.specs.declared.events.Reply.TheVariants as replies
 use Rattle.nv_workers.proofs.Holding.{falls_behind, has_device}
 use Rattle.nv_workers.proofs.Keeping.{keeps_same}
+use Rattle.nv_workers.proofs.Living.{lives_on}
 use Rattle.nv_workers.proofs.held.Held.power_loss.Goals as goal
 
 pub power_loss-reply-requires : goal.power_loss-reply-requires
@@ -19,6 +20,12 @@ invariant_of-self-clause-kept g c =
     let it = c.args.self.now in let call = c.power_loss-reply in
     let after = record it.recorded { running = call.new.self; device = call.new.device; energy = call.new.energy; saved = c.saved_after-self.result } in
     keeps_same g.K.ChannelPort g.D.SaveDevice g.E.Energy events.Lose (replies.Lose call.result) it.recorded after it.kept call.ensures.answers call.ensures.setup refl c.saved_after-self.ensures refl
+
+pub invariant_of-self-clause-lived : goal.invariant_of-self-clause-lived
+invariant_of-self-clause-lived g c =
+    let it = c.args.self.now in let call = c.power_loss-reply in
+    let after = record it.recorded { running = call.new.self; device = call.new.device; energy = call.new.energy; saved = c.saved_after-self.result } in
+    lives_on g.K.ChannelPort g.D.SaveDevice g.E.Energy events.Lose (replies.Lose call.result) it.recorded after it.lived call.ensures.answers call.ensures.setup
 
 pub returns-clause-steps : goal.returns-clause-steps
 returns-clause-steps g c = c.power_loss-reply.ensures.answers

@@ -2,6 +2,7 @@ use Rattle.std.proofs.Common.{◌∙◌, refl}
 use Rattle.nv_machine.specs.declared.events.Event.TheVariants as events
 use Rattle.nv_machine.specs.declared.events.Reply.TheVariants as replies
 use Rattle.nv_workers.proofs.Keeping.{keeps_same}
+use Rattle.nv_workers.proofs.Living.{lives_on}
 use Rattle.nv_workers.proofs.Quiet.{work_is_quiet, same_marks}
 use Rattle.nv_workers.proofs.held.Held.work.Goals as goal
 
@@ -9,6 +10,11 @@ pub invariant_of-self-clause-kept : goal.invariant_of-self-clause-kept
 invariant_of-self-clause-kept g c =
     let it = c.args.self.now in let call = c.work in let after = record it.recorded { running = call.new.self } in
     keeps_same g.K.ChannelPort g.D.SaveDevice g.E.Energy (events.Work c.args.channel) (replies.Work call.result) it.recorded after it.kept (call.ensures.answers _ _) call.ensures.setup refl refl refl
+
+pub invariant_of-self-clause-lived : goal.invariant_of-self-clause-lived
+invariant_of-self-clause-lived g c =
+    let it = c.args.self.now in let call = c.work in let after = record it.recorded { running = call.new.self } in
+    lives_on g.K.ChannelPort g.D.SaveDevice g.E.Energy (events.Work c.args.channel) (replies.Work call.result) it.recorded after it.lived (call.ensures.answers _ _) call.ensures.setup
 
 pub invariant_of-self-clause-shown : goal.invariant_of-self-clause-shown
 invariant_of-self-clause-shown g c =

@@ -3,6 +3,7 @@ use Rattle.nv_machine.specs.declared.events.Event.TheVariants as events
 use Rattle.nv_machine.specs.declared.events.Reply.TheVariants as replies
 use Rattle.nv_workers.proofs.Holding.{falls_behind}
 use Rattle.nv_workers.proofs.Keeping.{has_room, keeps_on}
+use Rattle.nv_workers.proofs.Living.{lives_on}
 use Rattle.nv_workers.proofs.Quiet.{told_counted}
 use Rattle.nv_workers.proofs.held.Held.write.Goals as goal
 
@@ -21,6 +22,12 @@ invariant_of-self-clause-kept g c =
     let it = c.args.self.now in let call = c.write-reply in
     let after = record it.recorded { running = call.new.self; history = c.note.new.history } in
     keeps_on g.K.ChannelPort g.D.SaveDevice g.E.Energy (events.Write c.args.write) (replies.Write call.result) it.recorded after it.kept (call.ensures.answers _ _) call.ensures.setup refl c.note.ensures.history
+
+pub invariant_of-self-clause-lived : goal.invariant_of-self-clause-lived
+invariant_of-self-clause-lived g c =
+    let it = c.args.self.now in let call = c.write-reply in
+    let after = record it.recorded { running = call.new.self; history = c.note.new.history } in
+    lives_on g.K.ChannelPort g.D.SaveDevice g.E.Energy (events.Write c.args.write) (replies.Write call.result) it.recorded after it.lived (call.ensures.answers _ _) call.ensures.setup
 
 pub returns-clause-steps : goal.returns-clause-steps
 returns-clause-steps g c = c.write-reply.ensures.answers _ _
