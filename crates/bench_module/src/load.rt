@@ -54,6 +54,7 @@ impl<K: ChannelPort + Drop, D: SaveDevice + Drop> Load<K, D> {
 
     fn work_each(&mut self) {
         for channel in 0..self.channels {
+            // a channel may have no command at this turn
             let _issued = self.work(channel);
         }
     }

@@ -323,6 +323,7 @@ where
         return Err(AllocError.into());
     };
     if plan.lost_at.is_some() {
+        // refused, the loss ends the hosts all the same
         let _armed = board.arm(rt);
     }
     let start = Instant::now(rt)?;

@@ -96,6 +96,7 @@ impl Channel {
     pub fn always(&self)
         ensures { IsChannel self.now }
     {
+        // called for its contract: the writes that wait are in the order of their numbers
         let _order = self.memory.waiting.requests();
     }
 

@@ -49,8 +49,8 @@ impl Front {
 
     /// Are the commands that came lawful?
     pub fn is_lawful(&self) -> bool
-        ensures { (checked : Checked) (list : List Stamped) → FollowsCommands checked self.now list →
-            (IsTrue result ↔ IsLawful checked list) }
+        ensures { (checked : Checked) (list : List Stamped) →
+            FollowsCommands checked self.now list → (IsTrue result ↔ IsLawful checked list) }
     {
         self.is_lawful
     }

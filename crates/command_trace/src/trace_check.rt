@@ -69,6 +69,7 @@ impl TraceCheck {
         ensures { FollowsAll checked.now self.now → (IsTrue result
             ↔ IsLawful checked.now (commands_of channel self.now.entries.items)) }
     {
+        // the contract is of this profile, and the fronts know it already
         let _of = checked;
         self.fronts[channel as usize].is_lawful()
     }

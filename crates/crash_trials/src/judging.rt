@@ -31,6 +31,7 @@ fn restored_in(answers: &str) -> Option<Restored> {
         if words.next() != Some("restored") {
             continue;
         }
+        // the generation is passed over
         let _generation = words.next();
         let count = number_of(words.next());
         found = Some(Restored {
@@ -49,6 +50,7 @@ fn lines_agree(ledger: &Ledger<'_>, answers: &str, count: u64) -> bool {
             continue;
         }
         let line = words.next().unwrap_or("");
+        // the word before the value is passed over
         let _is = words.next();
         if words.next() != Some(ledger.value(line, count)) {
             return false;

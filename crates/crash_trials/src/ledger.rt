@@ -75,6 +75,7 @@ impl<'a> Ledger<'a> {
             }
             self.tell(fourth);
         } else if first == Some("refused") && second == Some("write") {
+            // the write that was refused is passed over
             let _refused = next.next();
         } else if first == Some("saved") {
             self.tell(third);

@@ -86,6 +86,7 @@ impl<'p> Trials<'p> {
         let lines_map = self.map(Interleaving::Lines);
         let xor_map = self.map(Interleaving::Xor);
         let mut bytes = Vec::new(self.alloc);
+        // what the device holds in the end is told by the answers
         let _device = run_script(
             self.alloc,
             self.profile,
@@ -138,6 +139,7 @@ impl<'p> Trials<'p> {
         for line in text.split_inclusive('\n') {
             begun.push_str(line)?;
             let script = format!(in self.alloc; "{begun}lose\n")?;
+            // a device call that failed ends nothing here: each line is tried
             let _failed = self.restore(&script, PICKS, true, &mut tally)?;
         }
         Ok(tally)
@@ -149,6 +151,7 @@ impl<'p> Trials<'p> {
             if units.checked_rem(apart) == Some(0) {
                 let lie = units.wrapping_mul(unit);
                 let script = format!(in self.alloc; "{begun}lie {lie}\nlose\n")?;
+                // nor here: each number of units is tried
                 let _failed = self.restore(&script, FEW, false, tally)?;
             }
         }

@@ -3,7 +3,7 @@ ghost use Rattle.std.specs.Prelude.{◌≡◌, ◌≤◌, length, vec_len, All, 
 ghost use Rattle.module_core.specs.Stands.{HasDevice, setup_of};
 ghost use Rattle.nv_workers.specs.Client.{client};
 ghost use Rattle.nv_workers.specs.Kept.{IsRecordKept};
-ghost use Rattle.nv_workers.specs.Lived.{HasLived};
+ghost use Rattle.nv_workers.specs.Lived.{HasSomeLife};
 
 use channel_port::ChannelPort;
 use energy_budget::Energy;
@@ -22,7 +22,7 @@ pub struct Ready<K: ChannelPort, D: SaveDevice, E: Energy> {
     ghost counted: { channels ≡ (setup_of K.ChannelPort recorded.running).shape.channels },
     ghost sized: { HasDevice K.ChannelPort recorded.running (D.state recorded.device) },
     ghost kept: { IsRecordKept K.ChannelPort D.SaveDevice recorded },
-    ghost lived: { HasLived K.ChannelPort D.SaveDevice E.Energy recorded },
+    ghost lived: { HasSomeLife K.ChannelPort D.SaveDevice E.Energy recorded },
     ghost mark: { opening.mark ≤ recorded.running.persisted },
 }
 

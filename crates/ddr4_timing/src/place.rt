@@ -81,6 +81,7 @@ impl BankAddress {
         ensures value { result ≡ bank_index self.now }
         ensures small { result < 64 }
     {
+        // the `requires` are of this geometry, and no step of the code is
         let _geometry = *g;
         (self.rank * 16 + self.group * 4 + self.bank) as usize
     }

@@ -9,7 +9,7 @@ ghost use Rattle.module_core.specs.Stands.{Assembly, ModuleStands, Answers, Answ
 
 use channel_port::ChannelPort;
 
-/// What a module promises is a life. Head as `Module::open` says, it answers events as `Module::run` says; then a stop after
+/// What a module promises is a life. Opened as `Module::open` says, it answers events as `Module::run` says; then a stop after
 /// them ends a life, and so does one at any moment of them, and at any moment of one event more.
 pub fn modules_live<K: ChannelPort>()
     ensures after { LivesEndAfterEvents K.ChannelPort }

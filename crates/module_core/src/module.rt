@@ -251,6 +251,7 @@ impl<K: ChannelPort> Module<K> {
             return self.reading;
         }
         let level = energy.sense();
+        // `sense` answers the level alone; the mode tells whether it turned
         let _turned = self.take_reading(level);
         level
     }

@@ -20,8 +20,8 @@ pub fn saves_leave_old_or_new()
         → DisturbNoSave events replies
         → StopsWithin (λ bytes. IsOldOrNew old.machine (restored setup.shape.lines bytes))
         (present new.device) }
-    ensures within { (setup : Setup) (events : List Event) (replies : List Reply) (old mid new : World)
-        (next : Event) (told : Reply)
+    ensures within { (setup : Setup) (events : List Event) (replies : List Reply)
+        (old mid new : World) (next : Event) (told : Reply)
         → IsGuarded old.machine → IsUnsaving old.machine
         → Run setup (event.SaveBegin ∷ events) (reply.SaveBegin (Ok tt) ∷ replies) old mid
         → DisturbNoSave events replies

@@ -94,6 +94,7 @@ fn work_each<K: ChannelPort>(running: &mut Module<K>, channels: u64)
     ensures setup { setup_of K.ChannelPort running.new ≡ setup_of K.ChannelPort running.old }
 {
     for channel in 0..channels {
+        // a channel may have no command at this turn
         let _ = running.work(channel);
     }
 }

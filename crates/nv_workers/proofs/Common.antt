@@ -11,5 +11,5 @@ pub use Rattle.nv_workers.specs.Client.{Client, client}
 pub use Rattle.nv_workers.specs.Kept.{IsRecordKept, StandsWith}
 pub use Rattle.nv_workers.specs.Marks.{IsBehind, IsCounted, marks_of, told_at}
 pub use Rattle.nv_workers.specs.Serving.{IsOfChannels, ServesRead, WorksTimes}
-pub use Rattle.nv_workers.specs.Lived.{HasLived, assembly_of}
+pub use Rattle.nv_workers.specs.Lived.{HasSomeLife, assembly_of}
 pub use Rattle.nv_workers.specs.Steps.{Steps, StepsTo}

@@ -12,5 +12,5 @@ module _ {K D E : Type 0} (L : Ghosts K) (M : DeviceGhosts D) (N : GaugeGhosts E
   assembly_of it = assembly it.running (M.state it.device) (N.gauge it.energy)
 
   -- some life so far leads to where they stand
-  abbrev pub HasLived : RecordedModule K D E L → Type 0
-  HasLived it = ∥ LifeSoFar L (assembly_of it) ∥₁
+  abbrev pub HasSomeLife : RecordedModule K D E L → Type 0
+  HasSomeLife it = ∥ LifeSoFar L (assembly_of it) ∥₁

@@ -3,7 +3,7 @@ ghost use Rattle.std.specs.Prelude.{◌≡◌, ◌+◌, ◌≤◌, ◌↔◌, Al
 ghost use Rattle.line_memory.specs.History.{Recorded};
 ghost use Rattle.line_memory.specs.declared.Write.{Write};
 ghost use Rattle.nv_workers.specs.Kept.{IsRecordKept};
-ghost use Rattle.nv_workers.specs.Lived.{HasLived};
+ghost use Rattle.nv_workers.specs.Lived.{HasSomeLife};
 ghost use Rattle.nv_workers.specs.Ending.{IsBorneOut, IsFirstNot, IsFirstStranger, StandsIn, receipted};
 
 use crate::board::Board;
@@ -136,7 +136,7 @@ impl<K: ChannelPort, D: SaveDevice, E: Energy, B: BoardName> Held<K, D, E, B> {
         requires { length hosts.items ≡ B.parts }
         ensures same { result ≡ self.recorded }
         ensures kept { IsRecordKept K.ChannelPort D.SaveDevice result }
-        ensures lived { HasLived K.ChannelPort D.SaveDevice E.Energy result }
+        ensures lived { HasSomeLife K.ChannelPort D.SaveDevice E.Energy result }
         ensures shares { length result.history.writes
             ≡ B.before + sum_by (λ h. h.writes) hosts.items }
         ensures marks { All (λ h. h.persisted ≤ result.running.persisted) hosts.items }
@@ -179,7 +179,7 @@ where
     ensures marks { IfOk result (λ c.
         All (λ h. h.persisted ≤ c.recorded.running.persisted) hosts.items) }
     ensures kept { IfOk result (λ c. IsRecordKept K.ChannelPort D.SaveDevice c.recorded) }
-    ensures lived { IfOk result (λ c. HasLived K.ChannelPort D.SaveDevice E.Energy c.recorded) }
+    ensures lived { IfOk result (λ c. HasSomeLife K.ChannelPort D.SaveDevice E.Energy c.recorded) }
     ensures checked { IfOk result (λ c. c.checked ≡ length receipts.now + length answers.now) }
     ensures err { IfErr result (λ e. e.1 ≡ hosts) }
 {

@@ -5,7 +5,7 @@ ghost use Rattle.std.specs.Arc.{arc_value};
 ghost use Rattle.nv_machine.specs.Rising.{added};
 ghost use Rattle.module_core.specs.Stands.{setup_of};
 ghost use Rattle.nv_workers.specs.Kept.{IsRecordKept};
-ghost use Rattle.nv_workers.specs.Lived.{HasLived};
+ghost use Rattle.nv_workers.specs.Lived.{HasSomeLife};
 ghost use Rattle.nv_workers.specs.Marks.{IsBehind, IsCounted, marks_of};
 ghost use Rattle.nv_workers.specs.Newest.{saved_after};
 
@@ -35,7 +35,7 @@ pub struct Held<K: ChannelPort, D: SaveDevice, E: Energy, B: BoardName> {
     ghost board: { arc_value marks ≡ B.board },
     ghost channels: { (setup_of K.ChannelPort recorded.running).shape.channels ≡ B.channels },
     ghost kept: { IsRecordKept K.ChannelPort D.SaveDevice recorded },
-    ghost lived: { HasLived K.ChannelPort D.SaveDevice E.Energy recorded },
+    ghost lived: { HasSomeLife K.ChannelPort D.SaveDevice E.Energy recorded },
     ghost shown: { seat ≡ marks_of K.ChannelPort B.board recorded.running },
     ghost counted: { length recorded.history.writes ≡ B.before + tally.book.total },
 }
@@ -83,7 +83,7 @@ impl<K: ChannelPort, D: SaveDevice, E: Energy, B: BoardName> Held<K, D, E, B> {
         requires channels { (setup_of K.ChannelPort recorded.running).shape.channels
             ≡ B.channels }
         requires kept { IsRecordKept K.ChannelPort D.SaveDevice recorded }
-        requires lived { HasLived K.ChannelPort D.SaveDevice E.Energy recorded }
+        requires lived { HasSomeLife K.ChannelPort D.SaveDevice E.Energy recorded }
         requires seat { seat ≡ marks_of K.ChannelPort B.board recorded.running }
         requires counted { length recorded.history.writes ≡ B.before + tally.book.total }
         ensures { result.recorded ≡ recorded }

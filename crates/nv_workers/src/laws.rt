@@ -1,6 +1,6 @@
 // What a board keeps of its life.
 ghost use Rattle.nv_workers.specs.declared.held.Held.{Held};
-ghost use Rattle.nv_workers.specs.Lived.{HasLived};
+ghost use Rattle.nv_workers.specs.Lived.{HasSomeLife};
 
 use crate::board_name::BoardName;
 use channel_port::ChannelPort;
@@ -11,5 +11,5 @@ use save_device::SaveDevice;
 /// lock has what the laws of lives say of them, and what `honest_modules` says of a gauge that is honest.
 pub fn boards_keep_lives<K: ChannelPort, D: SaveDevice, E: Energy, B: BoardName>()
     ensures { (held : Held K D E B K.ChannelPort D.SaveDevice E.Energy B.BoardName.own)
-        → HasLived K.ChannelPort D.SaveDevice E.Energy held.recorded }
+        → HasSomeLife K.ChannelPort D.SaveDevice E.Energy held.recorded }
 {}

@@ -28,6 +28,7 @@ pub(crate) fn serve<K: ChannelPort, D: SaveDevice, E: Energy, B: BoardName>(
     for _times in 0..MOST_COMMANDS {
         match held.collect(ticket) {
             Collected::Pending => {
+                // what was issued is told by what `collect` answers next
                 let _done = held.work(ticket.channel);
             }
             answer => return answer,

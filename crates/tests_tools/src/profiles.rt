@@ -75,7 +75,11 @@ fn keys_and_values(rt: HostRuntime) -> anyhow::Result<()> {
         "map = \"lines\"",
         "map = \"line\"",
         "module.map is neither lines nor xor",
-    )?;
+    )
+}
+
+#[test]
+fn tables(rt: HostRuntime) -> anyhow::Result<()> {
     refused(&rt, "[costs]", "[cost]", "no table costs")?;
     refused(
         &rt,
