@@ -7,7 +7,7 @@ use Rattle.channel_port.specs.declared.answers.Collected.{Collected}
 use Rattle.channel_port.specs.declared.answers.Collected.TheVariants.{Data, Pending, Unknown}
 use Rattle.channel_port.specs.declared.answers.Served.{Served}
 use Rattle.channel_port.specs.declared.answers.Served.TheVariants as served
-use Rattle.channel_port.specs.Waits.{OpenRead, Waits, Has, Joins, Goes, IsNewTicket, waiting}
+use Rattle.channel_port.specs.Waits.{OpenRead, Waits, Has, Joins, Goes, IsNewTicket, IsNeverGiven, waiting}
 
 -- the read that a ticket stands for
 abbrev pub open_read : Ticket → ℕ → List ℕ → ℕ → Bool → OpenRead
@@ -17,18 +17,20 @@ open_read ticket line bytes at answered = record { ticket = ticket; line = line;
 pub record Puts (number channel : ℕ) (old new : Waits) : Type 0 where
   pub joins : Joins (waiting number channel) old.writes new.writes
   pub reads : new.reads ≡ old.reads
+  pub given : new.given ≡ old.given
 
--- a read of a line with these bytes, at once or by a new ticket of its channel
+-- a read of a line with these bytes, at once or by a ticket of its channel that was never given before
 abbrev pub IsGot : List ℕ → ℕ → ℕ → ℕ → Got → Waits → Waits → Type 0
 IsGot bytes line at channel (Now given) old new = (given ≡ bytes) × (new ≡ old)
 IsGot bytes line at channel (Later ticket) old new =
     (ticket.channel ≡ channel) × IsNewTicket ticket old.reads
     × Joins (open_read ticket line bytes at false) old.reads new.reads × (new.writes ≡ old.writes)
+    × IsNeverGiven ticket old.given × Joins ticket old.given new.given
 
 -- a ticket gives what its read was to have once it was answered, and goes
 abbrev pub IsCollected : Ticket → Collected → Waits → Waits → Type 0
 IsCollected ticket (Data line bytes at) old new =
-    Goes (open_read ticket line bytes at true) old.reads new.reads × (new.writes ≡ old.writes)
+    Goes (open_read ticket line bytes at true) old.reads new.reads × (new.writes ≡ old.writes) × (new.given ≡ old.given)
 IsCollected ticket Pending old new =
     (read : OpenRead) × Has read old.reads × (read.ticket ≡ ticket) × (read.answered ≡ false) × (new ≡ old)
 IsCollected ticket Unknown old new = IsNewTicket ticket old.reads × (new ≡ old)
@@ -43,6 +45,7 @@ pub record Lands (hold : Option ℕ) (channel number : ℕ) (old new : Waits) : 
   pub goes : Goes (waiting number channel) old.writes new.writes
   pub unheld : IsBelowHold hold number
   pub reads : new.reads ≡ old.reads
+  pub given : new.given ≡ old.given
 
 -- a read of this channel has its bytes now
 pub record IsAnswered (channel : ℕ) (ticket : Ticket) (old new : Waits) : Type 0 where
@@ -54,6 +57,7 @@ pub record IsAnswered (channel : ℕ) (ticket : Ticket) (old new : Waits) : Type
   pub here : ticket.channel ≡ channel
   pub reads : new.reads ≡ slice_set old.reads place (record read { answered = true })
   pub writes : new.writes ≡ old.writes
+  pub given : new.given ≡ old.given
 
 -- what a command of a channel changes of what waits
 abbrev pub IsServed : Option ℕ → ℕ → Option Served → Waits → Waits → Type 0

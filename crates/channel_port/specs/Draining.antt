@@ -28,6 +28,7 @@ PaysInTurn costs (action ∷ actions) old (Err dark) new =
 pub record TakesWrites (gone : ℕ) (old new : Waits) : Type 0 where
   pub writes : new.writes ≡ drop gone old.writes
   pub reads : new.reads ≡ old.reads
+  pub given : new.given ≡ old.given
 
 -- how many writes wait in each of the first channels, so many of them
 abbrev pub pending_each : ℕ → List Waiting → List ℕ

@@ -1,4 +1,4 @@
--- What waits in channels: writes that aren't in an array yet, and reads that were not collected.
+-- What waits in channels: writes that aren't in an array yet, and reads that were not collected; and which tickets they gave.
 use Rattle.std.specs.Prelude.{◌≡◌, ◌≢◌, ◌==◌, ℕ, ◌<◌, ◌≤◌, Bool, true, List, [], length, insert, remove, count_by, slice_get, All, Some}
 use Rattle.std.specs.List.{list_any}
 use Rattle.channel_port.specs.declared.answers.Ticket.{Ticket}
@@ -13,12 +13,19 @@ pub record OpenRead : Type 0 where
   pub at : ℕ
   pub answered : Bool
 
+-- what waits, and all tickets that were ever given: a ticket stays among them when its read is collected or lost
 pub record Waits : Type 0 where
   pub writes : List Waiting
   pub reads : List OpenRead
+  pub given : List Ticket
 
+-- nothing waits, and no ticket was given
 abbrev pub nothing : Waits
-nothing = record { writes = []; reads = [] }
+nothing = record { writes = []; reads = []; given = [] }
+
+-- nothing waits any more
+abbrev pub emptied : Waits → Waits
+emptied waits = record waits { writes = []; reads = [] }
 
 abbrev pub waiting : ℕ → ℕ → Waiting
 waiting number channel = record { number = number; channel = channel }
@@ -50,6 +57,10 @@ IsPending number writes = list_any (λ w. w.number == number) writes ≡ true
 -- no read has this ticket
 abbrev pub IsNewTicket : Ticket → List OpenRead → Type 0
 IsNewTicket ticket reads = All (λ r. r.ticket ≢ ticket) reads
+
+-- this ticket isn't one of those that were given
+abbrev pub IsNeverGiven : Ticket → List Ticket → Type 0
+IsNeverGiven ticket given = All (λ t. t ≢ ticket) given
 
 -- whether a write, or a read, is one of this channel
 abbrev pub is_write_on : ℕ → Waiting → Bool

@@ -9,7 +9,7 @@ ghost use Rattle.line_memory.specs.Parts.{AreBefore, below, numbered, writes_of}
 ghost use Rattle.energy_budget.specs.Actions.{drain_actions};
 ghost use Rattle.channel_port.specs.View.{PortView, is_full, is_full_of_reads, on_backup, with_write};
 ghost use Rattle.channel_port.specs.declared.stage.Stage.TheVariants.{OnBackup, OnMains};
-ghost use Rattle.channel_port.specs.Waits.{AllBelow, nothing};
+ghost use Rattle.channel_port.specs.Waits.{AllBelow, emptied};
 ghost use Rattle.channel_port.specs.Answers.{IsCollected, IsGot, IsServed};
 ghost use Rattle.channel_port.specs.Carried.{KeepsCarried, NoneBelow, WaitFrom};
 ghost use Rattle.channel_port.specs.Draining.{PaysInTurn, TakesWrites};
@@ -69,7 +69,8 @@ pub trait ChannelPort {
             → carries self.old base mine → AreBefore number mine
             → carries self.new base (mine ++ numbered number write ∷ []) };
 
-    /// Answers a read of one of its lines, at once or with a ticket; `at` is the number of writes put before it.
+    /// Answers a read of one of its lines, at once or with a ticket that it never gave before; `at` is the number of writes put
+    /// before it.
     fn get(&mut self, line: u64, place: Place, at: u64) -> Got
         requires line { line < (view self.old).lines }
         requires place { place ≡ (view self.old).place_of line }
@@ -129,7 +130,7 @@ pub trait ChannelPort {
         ensures pays { PaysInTurn costs.now (drain_actions (length (view self.old).waits.writes))
             (E.gauge energy.old) result (E.gauge energy.new) }
         ensures takes { (gone : ℕ) × TakesWrites gone (view self.old).waits (view self.new).waits }
-        ensures dry { OnOk result ((view self.new).waits ≡ nothing) }
+        ensures dry { OnOk result ((view self.new).waits ≡ emptied (view self.old).waits) }
         ensures rest { view self.new ≡ record (view self.old) {
           waits = (view self.new).waits;
           stage = (view self.new).stage;
@@ -143,6 +144,10 @@ pub trait ChannelPort {
 
     ghost own_reads: { (port : Self) → All (λ r. r.ticket.channel ≡ (view port).number)
         (view port).waits.reads };
+
+    /// Its tickets name it.
+    ghost own_tickets: { (port : Self) → All (λ t. t.channel ≡ (view port).number)
+        (view port).waits.given };
 
     /// It has one command to issue next, or none.
     ghost one_next: { (port : Self) (a b : Option Stamped)

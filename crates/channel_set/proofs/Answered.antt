@@ -10,9 +10,9 @@ use Rattle.channel_port.specs.declared.answers.Got.{Got}
 use Rattle.channel_port.specs.declared.answers.Got.TheVariants.{Later, Now}
 use Rattle.channel_port.specs.declared.answers.Served.{Served}
 use Rattle.channel_port.specs.declared.answers.Served.TheVariants as served
-use Rattle.channel_set.proofs.Common.{◌≡◌, ◌≢◌, ◌+◌, ℕ, true, false, sym, ap, subst, ◌∙◌, List, length, slice_get, slice_set, Option, Some, None, IfSome, IfNone, same_Some, after, line_of, written_on, writes_of, Ghosts, Goes, IsNewTicket, Remain, Ticket, Waits, Write, waiting, PortTerms, ArePorts, ChannelSet, NextCommand, view_of, waits_in}
+use Rattle.channel_set.proofs.Common.{◌≡◌, ◌≢◌, ◌+◌, ℕ, true, false, sym, ap, subst, ◌∙◌, List, length, slice_get, slice_set, Option, Some, None, IfSome, IfNone, same_Some, after, line_of, written_on, writes_of, Ghosts, Goes, IsNeverGiven, IsNewTicket, Remain, Ticket, Waits, Write, waiting, PortTerms, ArePorts, ChannelSet, NextCommand, view_of, waits_in}
 use Rattle.channel_set.proofs.Alike.{seen, seen-set}
-use Rattle.channel_set.proofs.Counted.{OwnReads, read-here, reads_in, writes_in}
+use Rattle.channel_set.proofs.Counted.{OwnReads, OwnTickets, given_in, read-here, reads_in, same-waits, ticket-here, writes_in}
 use Rattle.channel_set.proofs.Lists.{all-at, all-of}
 use Rattle.channel_set.proofs.Piles.{from-pile, has-pile, one-becomes, one-goes, one-joins, one-stays, remain-goes, remain-same}
 use Rattle.channel_set.proofs.Written.{below-whole, written-before}
@@ -37,6 +37,14 @@ module _ {K : Type 0} (L : Ghosts K) where
       let place : pile.place ≡ ticket.channel = sym (read-here L terms ports are own pile.place pile.pile r pile.at pile.has) ∙ ap (λ (t : Ticket). t.channel) named in
       all-at (λ r. r.ticket ≢ ticket) (reads_in L pile.pile) r (new pile.pile (ap (slice_get ports) (sym place) ∙ pile.at)) pile.has named)
 
+  -- a ticket that its channel never gave was never given
+  pub never-anywhere : (terms : PortTerms) (ports : List K) → ArePorts L terms ports → OwnTickets L → (ticket : Ticket) → ((z : K) → slice_get ports ticket.channel ≡ Some z → IsNeverGiven ticket (given_in L z))
+      → IsNeverGiven ticket (waits_in L ports).given
+  never-anywhere terms ports are own ticket never = all-of (λ t. t ≢ ticket) (waits_in L ports).given (λ k t there named.
+      let pile = from-pile (given_in L) ports t (k, there) in
+      let place : pile.place ≡ ticket.channel = sym (ticket-here L terms ports are own pile.place pile.pile t pile.at pile.has) ∙ ap (λ (x : Ticket). x.channel) named in
+      all-at (λ t. t ≢ ticket) (given_in L pile.pile) t (never pile.pile (ap (slice_get ports) (sym place) ∙ pile.at)) pile.has named)
+
   module _ (terms : PortTerms) (ports : List K) (i : ℕ) (p q : K) (are : ArePorts L terms ports) (at : slice_get ports i ≡ Some p) where
     abbrev pub new_ports : List K
     new_ports = slice_set ports i q
@@ -47,23 +55,34 @@ module _ {K : Type 0} (L : Ghosts K) where
     reads-stay : reads_in L q ≡ reads_in L p → (waits_in L new_ports).reads ≡ (waits_in L ports).reads
     reads-stay same = one-stays (reads_in L) ports i p q at same
 
+    given-stays : given_in L q ≡ given_in L p → (waits_in L new_ports).given ≡ (waits_in L ports).given
+    given-stays same = one-stays (given_in L) ports i p q at same
+
     pub waits-stay : (L.view q).waits ≡ (L.view p).waits → waits_in L new_ports ≡ waits_in L ports
     waits-stay same =
-        ap (λ ws. record { writes = ws; reads = (waits_in L new_ports).reads }) (writes-stay (ap (λ (w : Waits). w.writes) same))
-        ∙ ap (λ rs. record { writes = (waits_in L ports).writes; reads = rs }) (reads-stay (ap (λ (w : Waits). w.reads) same))
+        same-waits (writes-stay (ap (λ (w : Waits). w.writes) same)) (reads-stay (ap (λ (w : Waits). w.reads) same)) (given-stays (ap (λ (w : Waits). w.given) same))
 
     new-there : OwnReads L → (ticket : Ticket) → ticket.channel ≡ i → IsNewTicket ticket (reads_in L p) → IsNewTicket ticket (waits_in L ports).reads
     new-there own ticket here new = new-everywhere terms ports are own ticket (λ z there. subst (λ x. IsNewTicket ticket (reads_in L x)) (same_Some p z (sym at ∙ ap (slice_get ports) (sym here) ∙ there)) new)
 
-    pub got-there : OwnReads L → (bytes : List ℕ) (line at' : ℕ) (got : Got) → IsGot bytes line at' (L.view p).number got (L.view p).waits (L.view q).waits
+    never-there : OwnTickets L → (ticket : Ticket) → ticket.channel ≡ i → IsNeverGiven ticket (given_in L p) → IsNeverGiven ticket (waits_in L ports).given
+    never-there own ticket here never = never-anywhere terms ports are own ticket (λ z there. subst (λ x. IsNeverGiven ticket (given_in L x)) (same_Some p z (sym at ∙ ap (slice_get ports) (sym here) ∙ there)) never)
+
+    pub got-there : OwnReads L → OwnTickets L → (bytes : List ℕ) (line at' : ℕ) (got : Got) → IsGot bytes line at' (L.view p).number got (L.view p).waits (L.view q).waits
         → IsGot bytes line at' i got (waits_in L ports) (waits_in L new_ports)
-    got-there own bytes line at' (Now given) (same, stays) = (same, waits-stay stays)
-    got-there own bytes line at' (Later ticket) (here, new, joins, writes) =
-        let on = here ∙ (are.each i p at).number_is in
-        (on, new-there own ticket on new, one-joins (open_read ticket line bytes at' false) (reads_in L) ports i p q at joins, writes-stay writes)
+    got-there own tickets bytes line at' (Now given) (same, stays) = (same, waits-stay stays)
+    got-there own tickets bytes line at' (Later ticket) (here, new, joins, writes, never, gives) =
+        let on = here ∙ (are.each i p at).number_is in (
+          on,
+          new-there own ticket on new,
+          one-joins (open_read ticket line bytes at' false) (reads_in L) ports i p q at joins,
+          writes-stay writes,
+          never-there tickets ticket on never,
+          one-joins ticket (given_in L) ports i p q at gives,
+        )
 
     pub collected-there : OwnReads L → (ticket : Ticket) → ticket.channel ≡ i → (r : Collected) → IsCollected ticket r (L.view p).waits (L.view q).waits → IsCollected ticket r (waits_in L ports) (waits_in L new_ports)
-    collected-there own ticket here (Data line bytes at') (goes, writes) = (one-goes (open_read ticket line bytes at' true) (reads_in L) ports i p q at goes, writes-stay writes)
+    collected-there own ticket here (Data line bytes at') (goes, writes, given) = (one-goes (open_read ticket line bytes at' true) (reads_in L) ports i p q at goes, writes-stay writes, given-stays given)
     collected-there own ticket here Pending (read, has, named, waited, stays) = (read, has-pile (reads_in L) ports i p read at has, named, waited, waits-stay stays)
     collected-there own ticket here Unknown (new, stays) = (new-there own ticket here new, waits-stay stays)
 
@@ -75,6 +94,7 @@ module _ {K : Type 0} (L : Ghosts K) where
           goes = one-goes (waiting number i) (writes_in L) ports i p q at (subst (λ c. Goes (waiting number c) (writes_in L p) (writes_in L q)) is.number_is lands.goes);
           unheld = subst (λ hold. IsBelowHold hold number) is.hold lands.unheld;
           reads = reads-stay lands.reads;
+          given = given-stays lands.given;
         }
     served-there (Some (served.Read ticket)) answered =
         let (place, stands, is) = one-becomes answered.read (record answered.read { answered = true }) (reads_in L) ports i p q at (answered.place, answered.stands, answered.reads) in
@@ -87,6 +107,7 @@ module _ {K : Type 0} (L : Ghosts K) where
           here = answered.here ∙ (are.each i p at).number_is;
           reads = is;
           writes = writes-stay answered.writes;
+          given = given-stays answered.given;
         }
 
   -- where a port answers, no write of it is new
@@ -96,7 +117,7 @@ module _ {K : Type 0} (L : Ghosts K) where
   served-remain hold channel p q (Some (served.Read ticket)) answered = remain-same (writes_in L p) (writes_in L q) answered.writes
 
   pub collected-remain : (p q : K) (ticket : Ticket) (r : Collected) → IsCollected ticket r (L.view p).waits (L.view q).waits → Remain (writes_in L p) (writes_in L q)
-  collected-remain p q ticket (Data line bytes at') (goes, writes) = remain-same (writes_in L p) (writes_in L q) writes
+  collected-remain p q ticket (Data line bytes at') (goes, writes, given) = remain-same (writes_in L p) (writes_in L q) writes
   collected-remain p q ticket Pending (read, has, named, waited, same) = remain-same (writes_in L p) (writes_in L q) (ap (λ (w : Waits). w.writes) same)
   collected-remain p q ticket Unknown (new, same) = remain-same (writes_in L p) (writes_in L q) (ap (λ (w : Waits). w.writes) same)
 

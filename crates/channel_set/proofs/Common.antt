@@ -19,7 +19,7 @@ pub use Rattle.channel_port.specs.Carried.{KeepsCarried, NoneBelow, WaitFrom}
 pub use Rattle.channel_port.specs.Shape.{IsShape}
 pub use Rattle.channel_port.specs.declared.stage.Stage.{Stage}
 pub use Rattle.channel_port.specs.declared.stage.Stage.TheVariants.{OnBackup, OnMains}
-pub use Rattle.channel_port.specs.Waits.{AllBelow, Goes, Has, IsNewTicket, IsPending, Joins, OpenRead, Remain, Waits, is_read_on, is_write_on, nothing, reads_on, waiting, writes_on}
+pub use Rattle.channel_port.specs.Waits.{AllBelow, Goes, Has, IsNeverGiven, IsNewTicket, IsPending, Joins, OpenRead, Remain, Waits, emptied, is_read_on, is_write_on, nothing, reads_on, waiting, writes_on}
 pub use Rattle.channel_set.specs.declared.set.ChannelSet.{ChannelSet}
 pub use Rattle.channel_set.specs.declared.terms.PortTerms.{PortTerms}
 pub use Rattle.channel_set.specs.Carrying.{CarriesAll, CarriesOwn, KeepsAll, WaitAmong, WaitsFrom}

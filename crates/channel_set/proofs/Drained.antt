@@ -8,10 +8,10 @@ use Rattle.energy_budget.specs.Actions.{drain_actions}
 use Rattle.energy_budget.specs.Gauge.{Gauge}
 use Rattle.channel_port.specs.Draining.{Paid, PaysInTurn, TakesWrites, pending_each}
 use Rattle.channel_set.specs.Draining.{DrainsAll}
-use Rattle.channel_set.proofs.Common.{◌+◌, length-set, arith, ◌≡◌, ◌<◌, ◌≤◌, inl, inr, ℕ, suc, refl, sym, ap, subst, ◌∙◌, List, [], drop, flat_map, length, slice_get, slice_set, same_Some, slice_get_within, Some, AllZip, Err, Ok, OnOk, Costs, Ghosts, KeepsCarried, Waits, nothing, PortTerms, ArePorts, ChannelSet, IsShape, places_of, shape_with, view_of, waits_in}
+use Rattle.channel_set.proofs.Common.{◌+◌, length-set, arith, ◌≡◌, ◌<◌, ◌≤◌, inl, inr, ℕ, suc, refl, sym, ap, subst, ◌∙◌, List, [], drop, flat_map, length, slice_get, slice_set, same_Some, slice_get_within, Some, AllZip, Err, Ok, OnOk, Costs, Ghosts, KeepsCarried, Waits, emptied, PortTerms, ArePorts, ChannelSet, IsShape, places_of, shape_with, view_of, waits_in}
 use Rattle.channel_set.proofs.Alike.{Alike, alike-from, places-again, ports-alike, seen, seen-again, shaped-again}
 use Rattle.channel_set.proofs.Carried.{Kept}
-use Rattle.channel_set.proofs.Counted.{OwnWrites, reads_in, writes-there, writes_in}
+use Rattle.channel_set.proofs.Counted.{OwnWrites, given_in, reads_in, same-waits, writes-there, writes_in}
 use Rattle.channel_set.proofs.Lists.{AreTaken, Moved, moved-more, moved-none, at-within, get-set_other, moved-all, moved-last, piles-none, piles-same, piles-taken, set-cases, zip-size, zip-was, zip-weaker}
 use Rattle.channel_set.proofs.Paying.{pays-more, pays-refused}
 use Rattle.channel_set.proofs.Piles.{remain-dropped}
@@ -26,21 +26,27 @@ module _ {K : Type 0} (L : Ghosts K) where
   -- and nothing waits in it any more
   pub record DrainsDry (old new : K) : Type 0 where
     pub drains : Drains old new
-    pub dry : (L.view new).waits ≡ nothing
+    pub dry : (L.view new).waits ≡ emptied (L.view old).waits
 
   pub drains-none : (port : K) → Drains port port
-  drains-none port = record { takes = (0, record { writes = refl; reads = refl }); rest = refl; keeps = λ base mine carried. carried }
+  drains-none port = record { takes = (0, record { writes = refl; reads = refl; given = refl }); rest = refl; keeps = λ base mine carried. carried }
+
+  -- nothing waits in it
+  pub record IsDry (port : K) : Type 0 where
+    pub writes : writes_in L port ≡ []
+    pub reads : reads_in L port ≡ []
 
   -- The first ports are dry, of one some writes have gone, and the others are as they were.
   pub record DrainedTo (k : ℕ) (old new : List K) : Type 0 where
     pub each : AllZip Drains old new
-    pub dry : (j : ℕ) (q : K) → j < k → slice_get new j ≡ Some q → (L.view q).waits ≡ nothing
+    pub dry : (j : ℕ) (q : K) → j < k → slice_get new j ≡ Some q → IsDry q
     pub left : (j : ℕ) → k < j → slice_get new j ≡ slice_get old j
 
-  moved-dry : (k : ℕ) (old now : List K) (j : ℕ) (q : K) → Moved DrainsDry k old now → j < k → slice_get now j ≡ Some q → (L.view q).waits ≡ nothing
+  moved-dry : (k : ℕ) (old now : List K) (j : ℕ) (q : K) → Moved DrainsDry k old now → j < k → slice_get now j ≡ Some q → IsDry q
   moved-dry k old now j q moved less at =
       let was = at-within old j (omega (arith, moved.size, slice_get_within now j q at)) in
-      (moved.done j was.it q less was.stands at).dry
+      let dry = (moved.done j was.it q less was.stands at).dry in
+      record { writes = ap (λ (w : Waits). w.writes) dry; reads = ap (λ (w : Waits). w.reads) dry }
 
   pub drained-dry : (k : ℕ) (old now : List K) → length old ≤ k → Moved DrainsDry k old now → DrainedTo k old now
   drained-dry k old now all moved = record {
@@ -80,7 +86,7 @@ module _ {K : Type 0} (L : Ghosts K) where
     are-taken : (gone : ℕ) → ((p q : K) → slice_get old k ≡ Some p → slice_get new k ≡ Some q → writes_in L q ≡ drop gone (writes_in L p)) → AreTaken (writes_in L) k gone old new
     are-taken gone cut = record {
       size = drained-size;
-      none = λ j q less at. ap (λ (w : Waits). w.writes) (drained.dry j q less at);
+      none = λ j q less at. (drained.dry j q less at).writes;
       cut = cut;
       left = λ j p q less stood stands. ap (writes_in L) (same_Some q p (sym stands ∙ drained.left j less ∙ stood));
     }
@@ -95,19 +101,27 @@ module _ {K : Type 0} (L : Ghosts K) where
       | inr beyond ↦ piles-taken (writes_in L) k 0 old new (are-taken 0 (λ p q stood stands. absurd (omega (arith, beyond, slice_get_within new k q stands))))
     ]
 
+    drained-given : (waits_in L new).given ≡ (waits_in L old).given
+    drained-given = piles-same (given_in L) old new (zip-weaker Drains (λ p q. given_in L q ≡ given_in L p) old new (λ j p q at d. d.takes.1.given) drained.each)
+
     drained-takes : (gone : ℕ) × TakesWrites gone (waits_in L old) (waits_in L new)
     drained-takes =
-        let (gone, writes) = drained-writes in
-        (gone, record { writes = writes; reads = piles-same (reads_in L) old new (zip-weaker Drains (λ p q. reads_in L q ≡ reads_in L p) old new (λ j p q at d. d.takes.1.reads) drained.each) })
+        let (gone, writes) = drained-writes in (
+          gone,
+          record {
+            writes = writes;
+            reads = piles-same (reads_in L) old new (zip-weaker Drains (λ p q. reads_in L q ≡ reads_in L p) old new (λ j p q at d. d.takes.1.reads) drained.each);
+            given = drained-given;
+          },
+        )
 
-    drained-nothing : length old ≤ k → waits_in L new ≡ nothing
-    drained-nothing all =
+    drained-empty : length old ≤ k → waits_in L new ≡ emptied (waits_in L old)
+    drained-empty all =
         let dry = λ (j : ℕ) (q : K) (at : slice_get new j ≡ Some q). drained.dry j q (omega (arith, all, drained-size, slice_get_within new j q at)) at in
-        ap (λ ws. record { writes = ws; reads = (waits_in L new).reads }) (piles-none (writes_in L) new (λ j q at. ap (λ (w : Waits). w.writes) (dry j q at)))
-        ∙ ap (λ rs. record { writes = []; reads = rs }) (piles-none (reads_in L) new (λ j q at. ap (λ (w : Waits). w.reads) (dry j q at)))
+        same-waits (piles-none (writes_in L) new (λ j q at. (dry j q at).writes)) (piles-none (reads_in L) new (λ j q at. (dry j q at).reads)) drained-given
 
-    dry-where-ok : (result : Paid) → OnOk result (length old ≤ k) → OnOk result (waits_in L new ≡ nothing)
-    dry-where-ok (Ok done) all = drained-nothing all
+    dry-where-ok : (result : Paid) → OnOk result (length old ≤ k) → OnOk result (waits_in L new ≡ emptied (waits_in L old))
+    dry-where-ok (Ok done) all = drained-empty all
     dry-where-ok (Err dark) all = tt
 
   -- The loop: the first ports are drained, and their drains were paid for.

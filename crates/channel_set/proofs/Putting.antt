@@ -5,7 +5,7 @@ use Rattle.channel_port.specs.Answers.{Puts}
 use Rattle.channel_port.specs.View.{with_write}
 use Rattle.channel_set.proofs.Common.{arith, ◌≡◌, ◌+◌, inl, inr, ℕ, zero, suc, refl, sym, ap, subst, ◌∙◌, List, [], ◌∷◌, ◌++◌, length, slice_get, slice_set, Some, same_Some, AreBefore, numbered, written_on, Ghosts, Has, Numbered, Waiting, Write, waiting, CarriesAll, CarriesOwn, ChannelSet, WaitAmong, places_of, Place, shape_of, waits_in}
 use Rattle.channel_set.proofs.Alike.{places-set}
-use Rattle.channel_set.proofs.Counted.{reads_in, writes_in}
+use Rattle.channel_set.proofs.Counted.{given_in, reads_in, writes_in}
 use Rattle.channel_set.proofs.Lists.{set-cases}
 use Rattle.channel_set.proofs.Piles.{has-before, has-behind, has-either, one-joins, one-stays}
 use Rattle.channel_set.proofs.Written.{numbers-before, written-else, written-here}
@@ -27,6 +27,7 @@ module _ {K : Type 0} (L : Ghosts K) where
           ∙ sym (insert_end (writes_in L p) (waiting number channel)),
     );
     reads = one-stays (reads_in L) ports i p q at (ap (λ v. v.waits.reads) takes.puts);
+    given = one-stays (given_in L) ports i p q at (ap (λ v. v.waits.given) takes.puts);
   }
 
   among-more : (number channel : ℕ) (write : Write) (mine : List Numbered) (old new : List Waiting) → new ≡ old ++ waiting number channel ∷ [] → WaitAmong mine old → WaitAmong (mine ++ numbered number write ∷ []) new

@@ -4,7 +4,7 @@ use Rattle.std.specs.Vec.{with_items}
 use Rattle.channel_set.proofs.Common.{◌≡◌, ◌≤◌, ℕ, refl, ap, ◌∙◌, List, [], length, slice_get, Some, Option, AllZip, Costs, Ghosts, IsShape, KeepsCarried, OnBackup, Stage, Waits, PortTerms, ArePorts, ChannelSet, places_of, shape_with, view_of, waits_in}
 use Rattle.channel_set.proofs.Alike.{Alike, stage-again, places-again, ports-alike, seen, seen-stored, shaped-again}
 use Rattle.channel_set.proofs.Carried.{Kept}
-use Rattle.channel_set.proofs.Counted.{reads_in, writes_in}
+use Rattle.channel_set.proofs.Counted.{given_in, reads_in, same-waits, writes_in}
 use Rattle.channel_set.proofs.Lists.{Moved, moved-vec, piles-none, piles-same, zip-size, zip-was, zip-weaker}
 use Rattle.channel_set.proofs.Piles.{remain-same}
 
@@ -52,6 +52,10 @@ module _ {K : Type 0} (L : Ghosts K) where
     turned-writes same =
         piles-same (writes_in L) old new (zip-weaker (Turns after hold stage) (λ p q. writes_in L q ≡ writes_in L p) old new (λ j p q at t. ap (λ v. v.waits.writes) t.is ∙ same (L.view p).waits) turned.each)
 
+    turned-given : ((w : Waits) → (after w).given ≡ w.given) → (waits_in L new).given ≡ (waits_in L old).given
+    turned-given same =
+        piles-same (given_in L) old new (zip-weaker (Turns after hold stage) (λ p q. given_in L q ≡ given_in L p) old new (λ j p q at t. ap (λ v. v.waits.given) t.is ∙ same (L.view p).waits) turned.each)
+
     -- ports that were all at a stage
     pub turned-stage : (was : Stage) → ((number : ℕ) (port : K) → slice_get old number ≡ Some port → (L.view port).stage ≡ was) → (number : ℕ) (port : K) → slice_get new number ≡ Some port → (L.view port).stage ≡ stage was
     turned-stage was =
@@ -67,15 +71,13 @@ module _ {K : Type 0} (L : Ghosts K) where
       let old = channels.ports.items in
       let reads = piles-same (reads_in L) old new (zip-weaker (HoldsFrom from) (λ p q. reads_in L q ≡ reads_in L p) old new (λ j p q at t. ap (λ v. v.waits.reads) t.is) turned.each) in
       turned-seen turned (record channels.terms { hold = from }) channels.costs
-      ∙ ap (λ ws. record (view_of L channels) { waits = record { writes = ws; reads = (waits_in L new).reads }; hold = from }) (turned-writes turned (λ w. refl))
-      ∙ ap (λ rs. record (view_of L channels) { waits = record { writes = (waits_in L old).writes; reads = rs }; hold = from }) reads
+      ∙ ap (λ (waits : Waits). record (view_of L channels) { waits = waits; hold = from }) (same-waits (turned-writes turned (λ w. refl)) reads (turned-given turned (λ w. refl)))
 
   -- no read is open any more
   pub lost-waits : (old new : List K) → Turned (λ waits. record waits { reads = [] }) (λ hold. hold) (λ stage. OnBackup) old new → waits_in L new ≡ record (waits_in L old) { reads = [] }
   lost-waits old new turned =
       let reads = piles-none (reads_in L) new (λ j q at. let was = zip-was LosesMains old new j q turned.each at in ap (λ v. v.waits.reads) was.related.is) in
-      ap (λ ws. record { writes = ws; reads = (waits_in L new).reads }) (turned-writes turned (λ w. refl))
-      ∙ ap (λ rs. record { writes = (waits_in L old).writes; reads = rs }) reads
+      same-waits (turned-writes turned (λ w. refl)) reads (turned-given turned (λ w. refl))
 
   pub lost-seen : (channels : ChannelSet K L) (new : List K) → Turned (λ waits. record waits { reads = [] }) (λ hold. hold) (λ stage. OnBackup) channels.ports.items new
       → seen L channels.terms channels.costs new ≡ record (view_of L channels) { waits = waits_in L new }

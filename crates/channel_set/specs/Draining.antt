@@ -4,7 +4,7 @@ use Rattle.std.specs.List.{flat_map}
 use Rattle.energy_budget.specs.Actions.{drain_actions}
 use Rattle.energy_budget.specs.Gauge.{Gauge}
 use Rattle.channel_port.specs.Draining.{Paid, PaysInTurn, TakesWrites, pending_each}
-use Rattle.channel_port.specs.Waits.{Remain, nothing}
+use Rattle.channel_port.specs.Waits.{Remain, emptied}
 use Rattle.channel_set.specs.Set.{ChannelsView}
 
 -- The drains of the channels, one after another, were paid for, or a payment was refused. The writes of the first channels have
@@ -14,4 +14,4 @@ pub record DrainsAll (old : ChannelsView) (before : Gauge) (result : Paid) (new 
   pub rest : new ≡ record old { waits = new.waits; array = new.array }
   pub takes : (gone : ℕ) × TakesWrites gone old.waits new.waits
   pub remain : Remain old.waits.writes new.waits.writes
-  pub dry : OnOk result (new.waits ≡ nothing)
+  pub dry : OnOk result (new.waits ≡ emptied old.waits)

@@ -43,11 +43,12 @@ module _ {K : Type 0} (L : Ghosts K) where
     costs = costs;
   }
 
-  -- what waits in all of them
+  -- what waits in all of them, and all their tickets
   abbrev pub waits_in : List K → Waits
   waits_in ports = record {
     writes = flat_map (λ port. (L.view port).waits.writes) ports;
     reads = flat_map (λ port. (L.view port).waits.reads) ports;
+    given = flat_map (λ port. (L.view port).waits.given) ports;
   }
 
   -- a line in the array of its port

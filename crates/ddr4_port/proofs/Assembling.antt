@@ -1,13 +1,13 @@
 -- The ports of a memory, side by side.
 use Rattle.std.proofs.Common.{All, ◌≡◌, ◌<◌, ℕ, zero, suc, List, [], ◌∷◌, ◌++◌, length, slice_get, slice_index_or, Some, None, inl, inr, refl, sym, ap, subst, ◌∙◌, arith}
 use Rattle.std.specs.List.{flat_map}
-use Rattle.ddr4_port.proofs.Common.{BeginsWith, Carries, ChannelState, Checked, Costs, IsInterleaving, OpenRead, Place}
+use Rattle.ddr4_port.proofs.Common.{BeginsWith, Carries, ChannelState, Checked, Costs, IsInterleaving, Place}
 use Rattle.ddr4_port.proofs.Common.{PortState, SendsOnly, appended, lines_of, listed_place, nothing, places_by}
 use Rattle.ddr4_port.proofs.Common.{port_view, shape_over, waits_of}
 use Rattle.channel_port.specs.declared.port.ChannelPort.{Ghosts}
-use Rattle.channel_port.specs.declared.waiting.Waiting.{Waiting}
 use Rattle.channel_set.specs.Ports.{ArePorts, places_of, shape_with, waits_in}
 use Rattle.channel_set.specs.declared.terms.PortTerms.{PortTerms}
+use Rattle.channel_set.proofs.Counted.{same-waits}
 use Rattle.ddr4_port.proofs.Seen.{place-named}
 
 -- what contracts see of a port
@@ -41,8 +41,10 @@ module _ (f : ℕ → Place) (checked : Checked) (memory : List (List ℕ)) (dep
 
   pub nothing-waits : waits_in over ports ≡ nothing
   nothing-waits =
-      ap (λ (ws : List Waiting). record { writes = ws; reads = flat_map (λ port. (waits_of port.channel).reads) ports }) (none-in (λ port. (waits_of port.channel).writes) ports (λ number port there. ap (λ (s : ChannelState). (waits_of s).writes) (begin number port there).fresh))
-      ∙ ap (λ (rs : List OpenRead). record { writes = []; reads = rs }) (none-in (λ port. (waits_of port.channel).reads) ports (λ number port there. ap (λ (s : ChannelState). (waits_of s).reads) (begin number port there).fresh))
+      same-waits
+      (none-in (λ port. (waits_of port.channel).writes) ports (λ number port there. ap (λ (s : ChannelState). (waits_of s).writes) (begin number port there).fresh))
+      (none-in (λ port. (waits_of port.channel).reads) ports (λ number port there. ap (λ (s : ChannelState). (waits_of s).reads) (begin number port there).fresh))
+      (none-in (λ port. (waits_of port.channel).given) ports (λ number port there. ap (λ (s : ChannelState). (waits_of s).given) (begin number port there).fresh))
 
   module _ (lines : length memory ≡ lines_of checked.geometry) (count : length ports ≡ checked.geometry.channels) (map : IsInterleaving checked.geometry f) where
     places-are : places_of over ports ≡ listed_place (places_by f checked.geometry)

@@ -14,7 +14,7 @@ pub use Rattle.wpq_core.specs.declared.queue.PendingWrite.{PendingWrite}
 pub use Rattle.energy_budget.specs.declared.costs.Costs.{Costs}
 pub use Rattle.channel_port.specs.declared.answers.Done.{Done}
 pub use Rattle.channel_port.specs.Carried.{KeepsCarried, NoneBelow, WaitFrom}
-pub use Rattle.channel_port.specs.Waits.{AllBelow, Has, IsNewTicket, IsPending, OpenRead, Waits, nothing, waiting}
+pub use Rattle.channel_port.specs.Waits.{AllBelow, Has, IsNeverGiven, IsNewTicket, IsPending, OpenRead, Waits, nothing, waiting}
 pub use Rattle.chan_core.specs.Always.{HasRightContents, IsChannel}
 pub use Rattle.chan_core.specs.Calls.{AddsWrite, AnswersCollect, AnswersGet, HasNothingToSend, IssuesChoice, LosesReads, MovesWrite, ServesIndex, ServesRequest, WritesAt, after_command, after_get, loaded_at, with_hold}
 pub use Rattle.chan_core.specs.Mapped.{IsPlaceOn, LiesOn}
@@ -22,4 +22,4 @@ pub use Rattle.chan_core.specs.State.{ChannelState, cell_in, channel_memory, clo
 pub use Rattle.chan_core.proofs.Taken.{appended, before_removal, map-remove}
 pub use Rattle.ddr4_port.specs.Carrying.{Carries, line_below}
 pub use Rattle.ddr4_port.specs.Memory.{BeginsWith, HoldsFirst, IsFresh, shape_over}
-pub use Rattle.ddr4_port.specs.Port.{HasMap, IsAtStage, IsRightPort, PortState, RunsEarly, Sends, SendsOnly, listed_place, open_on, places_by, port_state, port_view, waiting_on, waits_of}
+pub use Rattle.ddr4_port.specs.Port.{HasMap, IsAtStage, IsRightPort, PortState, RunsEarly, Sends, SendsOnly, listed_place, open_on, places_by, port_state, port_view, ticket_on, waiting_on, waits_of}

@@ -56,6 +56,7 @@ module _ (costs : Costs) (result : Result DrainReport Dark) (s t : ChannelState)
     record {
       writes = ap (λ (x : ChannelState). (waits_of x).writes) some.same ∙ sym (drop-map (waiting_on s.channel) some.gone s.writes);
       reads = reads-none t (some.lost none) ∙ sym (reads-none s none);
+      given = ap (λ (x : ChannelState). (waits_of x).given) some.same;
     },
   )
     where

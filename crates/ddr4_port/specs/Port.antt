@@ -16,6 +16,7 @@ use Rattle.chan_core.specs.State.{ChannelState, clock_of, stored_at}
 use Rattle.drain_core.specs.Standing.{CanDrain}
 use Rattle.channel_port.specs.declared.stage.Stage.{Stage}
 use Rattle.channel_port.specs.declared.stage.Stage.TheVariants.{OnBackup, OnMains}
+use Rattle.channel_port.specs.declared.answers.Ticket.{Ticket}
 use Rattle.channel_port.specs.declared.waiting.Waiting.{Waiting}
 use Rattle.channel_port.specs.View.{PortView}
 use Rattle.channel_set.specs.Ports.{nowhere}
@@ -28,9 +29,17 @@ waiting_on channel w = waiting w.number channel
 abbrev pub open_on : ℕ → OpenTicket → OpenRead
 open_on channel t = record { ticket = record { channel = channel; serial = t.serial }; line = t.line; bytes = t.bytes; at = t.at; answered = t.answered }
 
--- what waits in a channel
+-- the ticket of a serial
+abbrev pub ticket_on : ℕ → ℕ → Ticket
+ticket_on channel serial = record { channel = channel; serial = serial }
+
+-- what waits in a channel; it has given a ticket of each serial below its next one
 abbrev pub waits_of : ChannelState → Waits
-waits_of s = record { writes = map (waiting_on s.channel) s.writes; reads = map (open_on s.channel) s.tickets }
+waits_of s = record {
+  writes = map (waiting_on s.channel) s.writes;
+  reads = map (open_on s.channel) s.tickets;
+  given = map (ticket_on s.channel) (range_with_len 0 s.serial);
+}
 
 -- the places of a geometry's lines, by a map, and the place of a line among them
 abbrev pub places_by : (ℕ → Place) → Geometry → List Place

@@ -41,8 +41,9 @@ impl<'m, M: LineMap> Ddr4Port<'m, M> {
 
 impl<'m, M: LineMap> ChannelPort for Ddr4Port<'m, M> {
     ghost use Rattle.std.proofs.lemmas.List.Elements.{All-map};
+    ghost use Rattle.std.specs.List.{range_with_len};
     ghost use Rattle.ddr4_port.specs.Carrying.{Carries};
-    ghost use Rattle.ddr4_port.specs.Port.{SendsOnly, open_on, listed_place, port_view, waiting_on};
+    ghost use Rattle.ddr4_port.specs.Port.{SendsOnly, open_on, listed_place, port_view, ticket_on, waiting_on};
 
     ghost view = { port_view };
 
@@ -130,6 +131,10 @@ impl<'m, M: LineMap> ChannelPort for Ddr4Port<'m, M> {
 
     ghost own_reads = { λ port. All-map (λ r. r.ticket.channel ≡ port.channel.channel)
         (open_on port.channel.channel) port.channel.tickets (λ k d less. refl) };
+
+    ghost own_tickets = { λ port. All-map (λ t. t.channel ≡ port.channel.channel)
+        (ticket_on port.channel.channel) (range_with_len 0 port.channel.serial)
+        (λ k d less. refl) };
 
     ghost one_next = { λ port a b sends other. other.only a sends.sends };
 

@@ -7,7 +7,8 @@ use Rattle.std.specs.List.{flat_map}
 use Rattle.std.specs.Prelude.{slice_get}
 use Rattle.arm_state.specs.declared.loss.Loss.{Loss}
 use Rattle.channel_port.specs.Draining.{Paid, PaysInTurn, pending_each}
-use Rattle.channel_port.specs.Waits.{Remain}
+use Rattle.channel_port.specs.Waits.{Remain, emptied}
+use Rattle.channel_port.specs.declared.answers.Ticket.{Ticket}
 use Rattle.channel_set.specs.Draining.{DrainsAll}
 use Rattle.energy_budget.specs.Actions.{closing_actions, drain_actions}
 use Rattle.module_core.specs.Closing.{ClosesChannels, ClosingAt, DarkInDrains, RefusedAfter, SavesClosing}
@@ -43,7 +44,7 @@ get_behind xs ys k x is =
 
 -- The module closes: with this trail, from the channels, saves, device and gauge of `old` on.
 module _ (trail : ℕ) (m : Machine) (before : Gauge) (reading : ℕ) (old new : ClosingAt) (reads : ReadsLevel GaugeCall.Tick before reading old.at.gauge) (backed : is_backed m.mode ≡ true)
-    (writes : old.channels.waits.writes ≡ m.waits.writes) (no_reads : old.channels.waits.reads ≡ []) where
+    (writes : old.channels.waits.writes ≡ m.waits.writes) (no_reads : old.channels.waits.reads ≡ []) (tickets : old.channels.waits.given ≡ m.waits.given) where
   abbrev pub setup : Setup
   setup = record { shape = old.channels.shape; trail = trail }
 
@@ -71,6 +72,7 @@ module _ (trail : ℕ) (m : Machine) (before : Gauge) (reading : ℕ) (old new :
     answered = refl;
     rest = refl;
     reads = d.takes.1.reads ∙ no_reads;
+    given = d.takes.1.given ∙ tickets;
     writes = subst (λ (ws : List Waiting). Remain ws new.channels.waits.writes) writes d.remain;
     ended = none;
   }
@@ -98,13 +100,17 @@ module _ (trail : ℕ) (m : Machine) (before : Gauge) (reading : ℕ) (old new :
   abbrev pub SavesAfter : Gauge → Finish → Type 0
   SavesAfter mid result = SavesClosing old.channels.shape m.store made result (record old.at { gauge = mid }) new.at
 
+  -- nothing waits behind the drains
+  emptied_on : (mid : Gauge) → DrainsAll old.channels old.at.gauge (Ok tt) new.channels mid → new.channels.waits ≡ emptied m.waits
+  emptied_on mid d = d.dry ∙ ap (λ (ts : List Ticket). record { writes = []; reads = []; given = ts }) tickets
+
   -- all was saved
   pub saved_on : ClosesChannels m.store made (Ok tt) old new → (mid : Gauge) × DrainsAll old.channels old.at.gauge (Ok tt) new.channels mid × SavesAfter mid (Ok tt)
   saved_on closes = search rules
 
   pub all_saved : (generation count : ℕ) → generation ≡ made.generation → count ≡ made.count → (mid : Gauge) → DrainsAll old.channels old.at.gauge (Ok tt) new.channels mid → SavesAfter mid (Ok tt)
       → LoseStep setup (loss.Saved generation count) begins (ends (lost modes.Saved (loss.Saved generation count) (saved_in m.store made)))
-  all_saved generation count generation_is count_is mid d on = search (rules, loses, drained, pays_first, whole, take-length, pays_append)
+  all_saved generation count generation_is count_is mid d on = search (rules, loses, emptied_on, drained, pays_first, whole, take-length, pays_append)
 
   -- it was broken off, and the device holds this store
   pub record IsBrokenOff (reply : Loss) : Type 0 where
@@ -184,6 +190,7 @@ module _ (trail : ℕ) (m : Machine) (before : Gauge) (reading : ℕ) (old new :
         step = record {
           closes = loses modes.Closing loss.Fault store (Ok tt) mid d (failed_none at.store made at.next);
           mode = refl;
+          drained = emptied_on mid d;
           steps = a.steps;
           pays = subst (λ (k : ℕ). PaysFirst setup begins reading k new.at.gauge) one (pays_both (a.steps + 1) mid new.at.gauge d a.pays);
           saved = refl;

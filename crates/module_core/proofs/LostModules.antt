@@ -163,6 +163,9 @@ module _ {K : Type 0} (L : Ghosts K) where
       writes : emptied.waits.writes ≡ m.waits.writes
       writes = ap (λ (w : Waits). w.writes) stands.matches.carried.waits
 
+      tickets : emptied.waits.given ≡ m.waits.given
+      tickets = ap (λ (w : Waits). w.given) stands.matches.carried.waits
+
       lost : (mode : Mode) → new.it.mode ≡ mode → view_of L new.it.channels ≡ record emptied { waits = (view_of L new.it.channels).waits; array = (view_of L new.it.channels).array } → IsLost old.it new.it reading mode
       lost mode is rest = record {
         numbers = record { terms = numbers.terms ∙ ends.numbers.terms; accepted = numbers.accepted ∙ ends.numbers.accepted; persisted = numbers.persisted ∙ ends.numbers.persisted };
@@ -175,17 +178,17 @@ module _ {K : Type 0} (L : Ghosts K) where
 
       pub answers_saved : new.it.mode ≡ modes.Saved → Closes (Ok tt) → IsAnswered (loss.Saved new.it.saves.newest.generation new.it.accepted)
       answers_saved is closes =
-          let on = saved_on old.it.terms.trail m old.gauge reading first (closing_at new) reads backed writes refl (closed (Ok tt) closes) in let reply : Loss = loss.Saved new.it.saves.newest.generation new.it.accepted in
+          let on = saved_on old.it.terms.trail m old.gauge reading first (closing_at new) reads backed writes refl tickets (closed (Ok tt) closes) in let reply : Loss = loss.Saved new.it.saves.newest.generation new.it.accepted in
           answers_loss new reading modes.Saved refl (lost modes.Saved is on.1.rest) reply (saved_in m.store (made_of false m)) refl on.2.makes
-          (all_saved old.it.terms.trail m old.gauge reading first (closing_at new) reads backed writes refl new.it.saves.newest.generation new.it.accepted on.2.makes.knows.generation
+          (all_saved old.it.terms.trail m old.gauge reading first (closing_at new) reads backed writes refl tickets new.it.saves.newest.generation new.it.accepted on.2.makes.knows.generation
           (numbers.accepted ∙ ends.numbers.accepted ∙ stands.matches.accepted) on.0 on.1 on.2)
 
       pub answers_dark : new.it.mode ≡ begun.mode → (cause : BrokenOff) → cause ≡ broken.Refused → Closes (Err cause) → IsAnswered loss.Dark
       answers_dark is cause why closes =
-          let short = dark old.it.terms.trail m old.gauge reading first (closing_at new) reads backed writes refl here (closed (Err broken.Refused) (subst (λ (x : BrokenOff). Closes (Err x)) why closes)) in
+          let short = dark old.it.terms.trail m old.gauge reading first (closing_at new) reads backed writes refl tickets here (closed (Err broken.Refused) (subst (λ (x : BrokenOff). Closes (Err x)) why closes)) in
           answers_loss new reading modes.Closing refl (lost modes.Closing (is ∙ ends.mode) short.rest) loss.Dark short.store short.none short.makes short.step
 
       pub answers_fault : new.it.mode ≡ begun.mode → (cause : BrokenOff) → cause ≡ broken.Fault → Closes (Err cause) → IsAnswered loss.Fault
       answers_fault is cause why closes =
-          let short = fault old.it.terms.trail m old.gauge reading first (closing_at new) reads backed writes refl (closed (Err broken.Fault) (subst (λ (x : BrokenOff). Closes (Err x)) why closes)) in
+          let short = fault old.it.terms.trail m old.gauge reading first (closing_at new) reads backed writes refl tickets (closed (Err broken.Fault) (subst (λ (x : BrokenOff). Closes (Err x)) why closes)) in
           answers_loss new reading modes.Closing refl (lost modes.Closing (is ∙ ends.mode) short.rest) loss.Fault short.store short.none short.makes short.step

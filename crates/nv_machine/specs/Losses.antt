@@ -12,7 +12,7 @@ use Rattle.std.specs.List.{flat_map}
 use Rattle.energy_budget.specs.Actions.{cost_of, drain_actions, closing_actions}
 use Rattle.energy_budget.specs.declared.energy.GaugeCall.TheVariants.{Tick}
 use Rattle.energy_budget.specs.Gauge.{Gauge, ReadsLevel, PaysCost}
-use Rattle.channel_port.specs.Waits.{Remain, nothing}
+use Rattle.channel_port.specs.Waits.{Remain, emptied}
 use Rattle.channel_port.specs.Draining.{PaysInTurn, pending_each}
 use Rattle.arm_state.specs.declared.loss.Loss.{Loss}
 use Rattle.arm_state.specs.declared.loss.Loss.TheVariants as loss
@@ -42,6 +42,7 @@ pub record LosesMains (loss : Loss) (old new : Machine) : Type 0 where
   pub answered : new.lost ≡ Some loss
   pub rest : new ≡ record old { mode = new.mode; reading = new.reading; lost = new.lost; waits = new.waits; store = new.store }
   pub reads : new.waits.reads ≡ []
+  pub given : new.waits.given ≡ old.waits.given
   pub writes : Remain old.waits.writes new.waits.writes
   pub ended : new.store.saving ≡ None
 
@@ -57,7 +58,7 @@ pub record SavesAll (setup : Setup) (generation count : ℕ) (old new : World) :
   pub mode : new.machine.mode ≡ modes.Saved
   pub generation_is : generation ≡ (made_of false old.machine).generation
   pub count_is : count ≡ (made_of false old.machine).count
-  pub drained : new.machine.waits ≡ nothing
+  pub drained : new.machine.waits ≡ emptied old.machine.waits
   pub saved : new.machine.store ≡ saved_in old.machine.store (made_of false old.machine)
   pub pays : PaysFirst setup old new.machine.reading (length (closing_of setup old.machine)) new.gauge
   pub calls : new.device.calls ≡ old.device.calls ++ all_good (save_calls setup old.machine)
@@ -78,10 +79,11 @@ pub record EndsDark (setup : Setup) (old new : World) : Type 0 where
   pub calls : new.device.calls ≡ old.device.calls ++ all_good (take (paid - drain_count setup old.machine) (save_calls setup old.machine))
 
 -- The device failed in a step of the save, and nothing ran after it: each action so far was paid for, and but for the last
--- one it was made.
+-- one it was made. The channels were drained before, so no write waits.
 pub record EndsInFault (setup : Setup) (old new : World) : Type 0 where
   pub closes : LosesMains loss.Fault old.machine new.machine
   pub mode : new.machine.mode ≡ modes.Closing
+  pub drained : new.machine.waits ≡ emptied old.machine.waits
   pub steps : ℕ
   pub pays : PaysFirst setup old new.machine.reading (drain_count setup old.machine + steps + 1) new.gauge
   pub saved : let before = after_steps setup.shape.lines old.machine.store (made_of false old.machine) steps in

@@ -52,6 +52,19 @@ fn a_read_and_a_write_of_one_row(rt: HostRuntime) {
     answers_zeros(&rt, &mut channel, ticket, 2);
 }
 
+// A later read of the same line has another ticket.
+#[test]
+fn a_collected_ticket_is_not_given_again(rt: HostRuntime) {
+    let mut channel = channel(&rt);
+    let ticket = waits(&rt, &mut channel, 2);
+    let commands = channel.work_many(&rt, 2);
+    reads_as(&rt, &commands, "0 ACT 0 0 0 0\n16 RD 0 0 0 1\n");
+    answers_zeros(&rt, &mut channel, ticket, 2);
+    let next = waits(&rt, &mut channel, 2);
+    same(&rt, next == ticket, false);
+    same(&rt, channel.collect(ticket), Collected::Unknown);
+}
+
 // The second write is of another row than the two others.
 #[test]
 fn the_youngest_write_goes_before_the_second(rt: HostRuntime) {

@@ -47,7 +47,7 @@ returns g c =
       got = λ base start writes carries.
           let mine = written_on (shape_of L channels).channel_of i start writes in
           let bytes = whole-line L base start writes line i (shape_of L channels).channel_of (ap (λ (x : Place). x.channel) (sym c.requires.place)) in
-          got-there L channels.terms ports i p q channels.are at g.met.K.ChannelPort.own_reads (line_of (after base writes) line) line c.args.at c.get.result
+          got-there L channels.terms ports i p q channels.are at g.met.K.ChannelPort.own_reads g.met.K.ChannelPort.own_tickets (line_of (after base writes) line) line c.args.at c.get.result
           (subst (λ b. IsGot b line c.args.at (L.view p).number c.get.result (L.view p).waits (L.view q).waits) bytes (got.got base mine (carries.each i p at).carries));
       rest = seen-set L channels i p q _ at got.rest;
       writes = writes-stay L channels.terms ports i p q channels.are at got.writes;

@@ -26,7 +26,7 @@ returns-clause-closes g c = λ s made base start writes ready carries same.
     let L = g.K.ChannelPort in let D = g.D.SaveDevice in let E = g.E.Energy in let old = c.args.self.now in let new = c.drain.new.self in let drains = c.in-Ok.ensures.drains in let end : ℕ = start + length writes in
     let shape : shape_of L new ≡ shape_of L old.channels = ap (λ (v : ChannelsView). v.shape) drains.rest in
     let array : (view_of L new).array ≡ made.memory =
-    settled L new base start writes (c.in-Ok.ensures.keeps base start writes carries) end g.met.K.ChannelPort.settled (none_waits end (view_of L new).waits drains.dry) (all_wait end (view_of L new).waits.writes)
+    settled L new base start writes (c.in-Ok.ensures.keeps base start writes carries) end g.met.K.ChannelPort.settled (none_waits end (view_of L old.channels).waits (view_of L new).waits drains.dry) (all_wait end (view_of L new).waits.writes)
     ∙ memory_at-all base start writes ∙ same in
     let ready' : IsReadyToClose (shape_of L new).lines s made old.saves (D.state c.args.device.now) = subst (λ (h : Shape). IsReadyToClose h.lines s made old.saves (D.state c.args.device.now)) (sym shape) ready in
     let mid = E.gauge c.drain.new.energy in
