@@ -56,7 +56,7 @@ impl<K: ChannelPort + Drop, D: SaveDevice + Drop> Load<K, D> {
         for line in 0..self.channels {
             self.fill_queue_of(line);
         }
-        self.channels.saturating_mul(DEPTH as u64)
+        self.channels.saturating_mul(DEPTH)
     }
 
     // Loses the mains; the generation and the count that were saved.

@@ -5,21 +5,25 @@ ghost use Rattle.ddr4_timing.specs.Limits.{lines_of};
 
 use crate::load::Load;
 use crate::measured::Stall;
-use ddr4_port::{Ddr4Port, channels_with_memory};
+use ddr4_module::Sizes;
+use ddr4_port::Ddr4Port;
 use ddr4_timing::timing::Checked;
 use energy_budget::{Costs, TINY_COSTS};
 use interleave_map::ReadyMap;
 use interleave_map::cells::line_count;
-use module_core::Module;
 use save_device::SaveDevice;
 use slot_store::{device_size, restore};
 use std::alloc::Global;
 
 /// How many writes may wait in a channel, and how many of its reads may be open.
-pub const DEPTH: usize = 64;
+pub const DEPTH: u64 = 64;
 
-/// How many writes a module may accept.
-const TRAIL: u64 = 1 << 40;
+/// The room of a module: for more writes than are ever made.
+const SIZES: Sizes = Sizes {
+    depth: DEPTH,
+    reads: DEPTH,
+    trail: 1 << 40,
+};
 
 /// How many lines a profile has, where they make whole pages.
 pub(crate) fn capacity_of(checked: &Checked) -> Result<usize, Stall>
@@ -50,8 +54,8 @@ pub(crate) fn open<'m, D: SaveDevice + Drop>(
         return Err(Stall::Device.into());
     }
     let restored = restore(alloc, &mut device, lines)?;
-    let memory = &restored.lines;
-    let channels = channels_with_memory(alloc, map, checked, memory, DEPTH, DEPTH, costs)?;
-    let module = Module::open(channels, restored.head, TRAIL);
-    Ok(Load::new(module, device, checked.geometry.channels))
+    match ddr4_module::open(alloc, restored, map, checked, costs, SIZES) {
+        Ok(module) => Ok(Load::new(module, device, checked.geometry.channels)),
+        Err((_, error)) => Err(error.into()),
+    }
 }
