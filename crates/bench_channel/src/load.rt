@@ -2,6 +2,7 @@
 ghost use Rattle.std.specs.Prelude.{◌≡◌};
 
 use crate::trial::{Stream, Trial};
+use bench_load::Random;
 use chan_core::Channel;
 use channel_port::{Got, Served};
 use ddr4_timing::place::Place;
@@ -21,7 +22,7 @@ pub struct Load<'m, M: LineMap> {
     number: u64,
     stream: Stream,
     turn: u64,
-    salt: u64,
+    random: Random,
 }
 
 impl<'m, M: LineMap> Model for Load<'m, M> {
@@ -58,7 +59,7 @@ impl<'m, M: LineMap> Load<'m, M> {
             number: 0,
             stream,
             turn: 0,
-            salt: 7,
+            random: Random::with_seed(7),
         };
         for _ in 0..depth {
             if load.send(false).is_none() || load.send(true).is_none() {
@@ -69,9 +70,9 @@ impl<'m, M: LineMap> Load<'m, M> {
     }
 
     // Where the stream's request of this turn goes.
-    fn place(&self) -> Place {
+    fn place(&self, random: u64) -> Place {
         let checked = &self.checked;
-        let cell = (self.salt >> 33).wrapping_mul(checked.geometry.channels);
+        let cell = random.wrapping_mul(checked.geometry.channels);
         let place = lines::split(checked, cell & (line_count(checked) - 1));
         match self.stream {
             Stream::Hits => Place { row: 0, ..place },
@@ -90,11 +91,8 @@ impl<'m, M: LineMap> Load<'m, M> {
     // it. None where the channel has no such line, or no room.
     fn send(&mut self, reads: bool) -> Option<()> {
         self.turn = self.turn.wrapping_add(1);
-        self.salt = self
-            .salt
-            .wrapping_mul(6_364_136_223_846_793_005)
-            .wrapping_add(1_442_695_040_888_963_407);
-        let place = self.place();
+        let random = self.random.next();
+        let place = self.place(random);
         let column = (place.column / 2 * 2) | reads as u64;
         let place = Place { column, ..place };
         if !place.lies_in(&self.checked.geometry) {

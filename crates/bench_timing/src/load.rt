@@ -2,6 +2,7 @@
 ghost use Rattle.std.specs.Prelude.{◌≡◌};
 
 use anyhow::Context;
+use bench_load::Random;
 use chan_core::{Channel, Phase};
 use channel_port::Served;
 use ddr4_timing::timing::Checked;
@@ -24,7 +25,7 @@ pub struct Load<'m, M: LineMap> {
     channel: Channel,
     costs: Costs,
     number: u64,
-    salt: u64,
+    random: Random,
 }
 
 impl<'m, M: LineMap> Model for Load<'m, M> {
@@ -55,7 +56,7 @@ impl<'m, M: LineMap> Load<'m, M> {
             channel: Channel::new(alloc, checked, 0, DEPTH, 1)?,
             costs: Costs::of(checked, &TINY_COSTS),
             number: 0,
-            salt: 7,
+            random: Random::with_seed(7),
         };
         for _ in 0..DEPTH {
             load.put()?;
@@ -65,11 +66,8 @@ impl<'m, M: LineMap> Load<'m, M> {
 
     // Writes the stream's next line.
     fn put(&mut self) -> anyhow::Result<()> {
-        self.salt = self
-            .salt
-            .wrapping_mul(6_364_136_223_846_793_005)
-            .wrapping_add(1_442_695_040_888_963_407);
-        let cell = (self.salt >> 33).wrapping_mul(self.checked.geometry.channels);
+        let random = self.random.next();
+        let cell = random.wrapping_mul(self.checked.geometry.channels);
         let line = cell % line_count(&self.checked);
         if !self.channel.has_line(self.map, line) || !self.channel.may_take(self.number) {
             anyhow::bail!("no such write");

@@ -4,6 +4,7 @@ use crate::tests::fixture::Fixture;
 use crate::tests::picks::Picks;
 use crate::tests::profiles::FOUR_RANKS;
 use crate::tests::run::refreshes;
+use bench_load::Random;
 use channel_port::{Collected, Got, Served, Ticket};
 use ddr4_timing::command::Stamped;
 use ddr4_timing::profiles::{SHORT_ROWS, SMALL, TIGHT, TINY};
@@ -65,7 +66,10 @@ struct Load {
 impl Load {
     fn new<R: AllocGlobal>(rt: &R, salt: u64, apart: u64) -> Load {
         Load {
-            picks: Picks { salt, apart },
+            picks: Picks {
+                random: Random::with_seed(salt),
+                apart,
+            },
             tickets: Vec::new(rt.alloc()),
         }
     }

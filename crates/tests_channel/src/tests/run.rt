@@ -3,6 +3,7 @@ use crate::tests::check::same;
 use crate::tests::fixture::Fixture;
 use crate::tests::picks::Picks;
 use crate::tests::plain::{Plain, spent};
+use bench_load::Random;
 use channel_port::Served;
 use ddr4_timing::command::{Command, Stamped};
 use ddr4_timing::place::Place;
@@ -46,7 +47,10 @@ impl Run {
             commands: Vec::new(rt.alloc()),
             pending: Vec::new(rt.alloc()),
             bytes: bytes.expect(rt, "memory"),
-            picks: Picks { salt, apart },
+            picks: Picks {
+                random: Random::with_seed(salt),
+                apart,
+            },
         }
     }
 
