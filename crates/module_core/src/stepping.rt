@@ -1,11 +1,9 @@
 // The steps of a save on mains.
-ghost use Rattle.std.specs.Prelude.{◌≡◌, ◌≤◌, ℕ, [], ◌∷◌, true, false, Some, IsSome};
+ghost use Rattle.std.specs.Prelude.{◌≡◌, ℕ, [], ◌∷◌, true, false, Some, IsSome};
 ghost use Rattle.save_device.specs.Calls.{MakesCalls};
 ghost use Rattle.slot_store.specs.declared.saving.SaveRun.{SaveRun};
-ghost use Rattle.slot_store.specs.Steps.{reach_of};
-ghost use Rattle.slot_store.specs.Changes.{GivesPage};
 ghost use Rattle.slot_store.specs.Runs.{plan_of, next_of};
-ghost use Rattle.channel_set.specs.Set.{shape_of, view_of};
+ghost use Rattle.channel_set.specs.Set.{view_of};
 ghost use Rattle.nv_machine.specs.State.{Machine, RunningSave};
 ghost use Rattle.nv_machine.specs.Moves.{persisted_at_end};
 ghost use Rattle.nv_machine.specs.Machine.{must_wait, step_call, is_made};
@@ -17,7 +15,7 @@ use channel_set::ChannelSet;
 use energy_budget::Energy;
 use nv_machine::{Event, Reply, StepReply};
 use save_device::SaveDevice;
-use slot_store::Step;
+use slot_store::{Refused, SaveSource, Step, page_for};
 
 // How many writes are persistent after the end of a save of so many.
 fn persisted_after_save(mode: Mode, persisted: u64, count: u64) -> u64
@@ -26,14 +24,26 @@ fn persisted_after_save(mode: Mode, persisted: u64, count: u64) -> u64
     if mode.is_armed() { persisted } else { count }
 }
 
-// The page that a step writes.
-fn page_for<K: ChannelPort>(channels: &ChannelSet<K>, step: Step) -> [u8; 4096]
-    requires { reach_of step ≤ (shape_of K.ChannelPort channels.now).lines }
-    ensures { GivesPage (view_of K.ChannelPort channels.now).array step result }
-{
-    match step {
-        Step::Page(page) => channels.page(page),
-        _ => [0; 4096],
+// The arrays of the channels, as a memory whose steps are asked for elsewhere.
+#[derive(Drop)]
+struct Arrays<'a, K: ChannelPort> {
+    channels: &'a ChannelSet<K>,
+}
+
+impl<K: ChannelPort> SaveSource for Arrays<'_, K> {
+    ghost use Rattle.slot_store.specs.Finishing.{GrantsEach};
+
+    ghost memory = { λ arrays. (view_of K.ChannelPort arrays.channels.now).array };
+
+    ghost asks = { GrantsEach };
+
+    fn ask(&mut self, _step: Step) -> Result<(), Refused> {
+        Ok(())
+    }
+
+    fn page<'p>(&'p self, page: usize, room: &'p mut [u8; 4096]) -> &'p [u8; 4096] {
+        *room = self.channels.page(page);
+        room
     }
 }
 
@@ -127,7 +137,10 @@ impl<K: ChannelPort> Module<K> {
         if self.take_reading(reading) {
             return StepReply::Turned;
         }
-        let page = page_for(&self.channels, step);
+        let arrays = Arrays {
+            channels: &self.channels,
+        };
+        let page = *page_for(&arrays, step, &mut [0; 4096]);
         self.make_step(device, &page)
     }
 }

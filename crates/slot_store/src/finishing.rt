@@ -7,8 +7,9 @@ ghost use Rattle.slot_store.specs.Changes.{GivesPage};
 use crate::{BrokenOff, SaveRun, SaveSource, Step};
 use save_device::SaveDevice;
 
-// The page that a step writes. A step that writes none is given zeros, and doesn't read them.
-fn page_for<'p, S: SaveSource>(
+/// The page of a memory that a step writes, lent, or put together in `room`. A step that writes none is given zeros, and doesn't
+/// read them.
+pub fn page_for<'p, S: SaveSource>(
     source: &'p S,
     step: Step,
     room: &'p mut [u8; 4096],

@@ -22,6 +22,7 @@ mod source;
 mod whole;
 
 pub use arming::mark_armed;
+pub use finishing::page_for;
 pub use formatting::format;
 pub use head::Head;
 pub use laws::{
