@@ -12,14 +12,11 @@ use Rattle.slot_store.specs.Formatted.{first_head}
 use Rattle.slot_store.specs.Outcomes as outcome
 use Rattle.slot_store.specs.Rest.{IsAtRestOn}
 use Rattle.slot_store.specs.Slots.{IsCapacity}
-use Rattle.slot_store.specs.Told.{IsRestored, image_of_restored}
+use Rattle.slot_store.specs.Told.{IsRestored, image_of_head, image_of_restored}
 use Rattle.channel_port.specs.Shape.{Shape}
-use Rattle.channel_set.specs.declared.set.ChannelSet.{ChannelSet}
-use Rattle.channel_set.specs.Carrying.{CarriesAll}
-use Rattle.module_core.specs.Opening.{BeginsOn, opened_with}
+use Rattle.module_core.specs.Opening.{opened_with}
 use Rattle.nv_session.specs.declared.session.Session.{Session}
 use Rattle.nv_session.specs.declared.wires.Wires as wires
-use Rattle.nv_session.specs.Wired.{BeginsLife, IsWired, RestsOnFound}
 use Rattle.nv_session.specs.Sessions.{restored_in, setup_over}
 
 -- a memory of the profile's lines fills whole pages
@@ -28,42 +25,32 @@ is_capacity profile shape lines fits is =
     subst (λ (n : ℕ). IsCapacity n) (fits.lines ∙ sym is) (record { some = fits.shaped.some; most = fits.shaped.most; whole = fits.shaped.whole })
 
 -- what a restore found is what the device is at rest on
-pub record RestsOnRestored (lines : ℕ) (it : Restored) (bytes : List ℕ) (device : DeviceState) : Type 0 where
+pub record FindsRestored (lines : ℕ) (it : Restored) (bytes : List ℕ) (device : DeviceState) : Type 0 where
   pub restored_is : IsRestored it lines bytes
   pub rests : (image : Image) → restored lines bytes ≡ outcome.Found it.head.newest.slot image → IsAtRestOn it.head.newest.slot image lines it.head.closed device
 
 module _ {K : Type 0} (L : Ghosts K) where
-  -- channels with what was found begin on it
-  pub begins_on : (shape : Shape) (lines : ℕ) (memory : List (List ℕ)) (channels : ChannelSet K L) (found : Head) (image : Image) (device : DeviceState)
-      → IsWired L shape memory channels → shape.lines ≡ lines → RestsOnFound found memory lines image device → BeginsOn L channels found image device
-  begins_on shape lines memory channels found image device wired same rests = record {
-    generation = rests.generation_is;
-    count = rests.count_is;
-    carries = subst (λ (m : List (List ℕ)). CarriesAll L channels m image.count []) (sym rests.memory_is) (wired.carries image.count);
-    rest = subst (λ (n : ℕ). IsAtRestOn found.newest.slot image n found.closed device) (sym (ap (λ (s : Shape). s.lines) wired.shape_is ∙ same)) rests.rest;
-  }
+  -- a life with this head and memory: over a device at rest on the image the module stands for a new one
+  abbrev pub BeginsLife : Head → List (List ℕ) → ℕ → Module K L → Type 0
+  BeginsLife head memory lines it = (arm : ℕ) (device : DeviceState) → IsAtRestOn head.newest.slot (image_of_head head arm memory) lines head.closed device
+      → ModuleStands L it device (opened_with head (image_of_head head arm memory))
 
-  pub begins_formatted : (it : Module K L) (lines held : ℕ) (head : Head) (memory : List (List ℕ)) (device : DeviceState) → BeginsLife L head memory lines it → head ≡ first_head → held ≡ lines
+  pub begins_formatted : (it : Module K L) (lines held : ℕ) (head : Head) (memory : List (List ℕ)) (device : DeviceState) → BeginsLife head memory lines it → head ≡ first_head → held ≡ lines
       → memory ≡ zero_lines held → IsAtRestOn First (first_image held) held true device → ModuleStands L it device (opened_with first_head (first_image lines))
   begins_formatted it lines held head memory device begins is same zero rest =
-      let first : BeginsLife L first_head memory lines it = subst (λ (h : Head). BeginsLife L h memory lines it) is begins in
-      first (first_image lines) device
-      (record {
-        generation_is = refl;
-        count_is = refl;
-        memory_is = ap zero_lines (sym same) ∙ sym zero;
-        rest = subst (λ (n : ℕ). IsAtRestOn First (first_image n) n true device) same rest;
-      })
+      let first : BeginsLife first_head memory lines it = subst (λ (h : Head). BeginsLife h memory lines it) is begins in
+      let zeros : BeginsLife first_head (zero_lines lines) lines it = subst (λ (m : List (List ℕ)). BeginsLife first_head m lines it) (zero ∙ ap zero_lines same) first in
+      zeros 0 device (subst (λ (n : ℕ). IsAtRestOn First (first_image n) n true device) same rest)
 
   pub revives_restored : (lines : ℕ) (it : Restored) (bytes : List ℕ) (life : Module K L) (device : DeviceState)
-      → RestsOnRestored lines it bytes device → BeginsLife L it.head it.lines.items lines life → Revives L (restored lines bytes) it.head life device
+      → FindsRestored lines it bytes device → BeginsLife it.head it.lines.items lines life → Revives L (restored lines bytes) it.head life device
   revives_restored lines it bytes life device finds begins =
       let restored_is : IsRestored it lines bytes = finds.restored_is in let image : Image = image_of_restored it restored_is.arm in
       record {
         image = image;
         finds = restored_is.newest;
         tells = record { generation_is = refl; count_is = refl; verdict_is = restored_is.judged };
-        stands = begins image device (record { generation_is = refl; count_is = refl; memory_is = refl; rest = finds.rests image restored_is.newest });
+        stands = begins restored_is.arm device (finds.rests image restored_is.newest);
       }
 
   -- the same, with what it is told of by other names

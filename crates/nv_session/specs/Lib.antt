@@ -2,7 +2,6 @@
 pub mod Coming
 pub mod Turns
 -- how a life begins, and the life of a session
-pub mod Wired
 pub mod Living
 pub mod Restoring
 pub mod SessionLives

@@ -1,26 +1,26 @@
 // How a session's lives begin: a format, and a restore.
-ghost use Rattle.std.specs.Prelude.{◌≡◌, ◌≢◌, unwrap_or, None, Some, IfErr, IfOk, OnOk};
+ghost use Rattle.std.specs.Prelude.{◌≡◌, ◌≢◌, ℕ, unwrap_or, None, Some, IfErr, IfOk, OnOk};
 ghost use Rattle.line_memory.specs.Memory.{IsMemory};
 ghost use Rattle.save_image.specs.Header.{Fits};
-ghost use Rattle.save_device.specs.Device.{LeavesOnly, MayLeave, present};
+ghost use Rattle.save_device.specs.Device.{DeviceState, LeavesOnly, MayLeave, present};
 ghost use Rattle.save_device.specs.Memory.{state_of, IsPicked};
 ghost use Rattle.slot_store.specs.Formatted.{first_head};
 ghost use Rattle.slot_store.specs.Outcomes.{first_image};
-ghost use Rattle.slot_store.specs.Told.{Refuses, IsFailure};
+ghost use Rattle.slot_store.specs.Rest.{IsAtRestOn};
+ghost use Rattle.slot_store.specs.Told.{Refuses, IsFailure, image_of_restored};
 ghost use Rattle.energy_budget.specs.Meter.{meter_gauge, lie_of};
 ghost use Rattle.module_core.specs.Opening.{opened_with};
 ghost use Rattle.module_core.specs.Stands.{ModuleStands, setup_of};
-ghost use Rattle.nv_session.specs.Wired.{BeginsLife};
 ghost use Rattle.nv_session.specs.Living.{HasLife, RunsWith, fuse_state};
 
 use crate::session::Session;
 use crate::wires::Wires;
 use channel_port::ChannelPort;
 use interleave_map::Interleaving;
-use line_memory::{Line, zero_memory};
+use line_memory::zero_memory;
 use module_core::Module;
 use save_device::Pick;
-use slot_store::{Head, RestoreError, format, restore};
+use slot_store::{Head, RestoreError, Restored, format, restore};
 use std::alloc::{AllocError, Global};
 
 /// Why a format began no life.
@@ -34,23 +34,25 @@ impl<K: ChannelPort + Drop, A: Wires<K> + Drop> Session<K, A> {
     ghost use Rattle.nv_session.specs.Restoring.{Revives, FindsPrefixOf, KeepsPrefixOf};
     ghost use Rattle.nv_session.specs.Sessions.{line_count_in, moment_in, restored_in, setup_over};
 
-    // A life with this memory, over a map. It refuses only where there is no memory for the channels.
+    // A life with what was restored, over a map. It refuses only where there is no memory for the channels.
     fn open(
         &self,
         alloc: Global,
         map: Interleaving,
-        found: Head,
-        memory: &[Line],
-    ) -> Result<Module<K>, AllocError>
-        requires memory { IsMemory (line_count_in self.now) memory.now }
-        requires numbers { Fits found.newest.generation found.count }
-        ensures begins { IfOk result
-            (BeginsLife K.ChannelPort found memory.now (line_count_in self.now)) }
+        restored: Restored,
+    ) -> Result<Module<K>, (Restored, AllocError)>
+        requires memory { IsMemory (line_count_in self.now) restored.lines.items }
+        requires numbers { Fits restored.head.newest.generation restored.head.count }
+        ensures begins { IfOk result (λ it. (arm : ℕ) (device : DeviceState)
+            → IsAtRestOn restored.head.newest.slot (image_of_restored restored arm)
+            (line_count_in self.now) restored.head.closed device
+            → ModuleStands K.ChannelPort it device
+            (opened_with restored.head (image_of_restored restored arm))) }
         ensures setup { IfOk result
             (λ life. setup_of K.ChannelPort life ≡ setup_over self.now map) }
     {
-        let channels = self.wires.wire(alloc, map, memory)?;
-        Ok(Module::open(channels, found, self.profile.sizes.trail))
+        let trail = self.profile.sizes.trail;
+        self.wires.open(alloc, map, restored, trail)
     }
 
     // From now on this life runs, over a map.
@@ -87,8 +89,12 @@ impl<K: ChannelPort + Drop, A: Wires<K> + Drop> Session<K, A> {
         let Ok(head) = format(&mut self.device, lines) else {
             return Err(FormatError::Device);
         };
+        let restored = Restored {
+            head,
+            lines: memory,
+        };
         let map = self.profile.map;
-        let Ok(life) = self.open(alloc, map, head, &memory) else {
+        let Ok(life) = self.open(alloc, map, restored) else {
             return Err(FormatError::Memory);
         };
         self.begin(life, map);
@@ -113,11 +119,12 @@ impl<K: ChannelPort + Drop, A: Wires<K> + Drop> Session<K, A> {
     {
         let lines = self.lines() as usize;
         let restored = restore(alloc, &mut self.device, lines)?;
-        let Ok(life) = self.open(alloc, map, restored.head, &restored.lines) else {
+        let head = restored.head;
+        let Ok(life) = self.open(alloc, map, restored) else {
             return Err(RestoreError::Memory);
         };
         self.begin(life, map);
-        Ok(restored.head)
+        Ok(head)
     }
 
     /// A stop, which leaves of the unsettled bytes what the pick says, and a life on the newest image, over a map or the

@@ -19,7 +19,7 @@ use save_device::{Fuse, MemoryDevice, Pick, SaveDevice};
 use slot_store::device_size;
 use std::alloc::{AllocError, Global};
 
-/// A device in memory, a gauge, and the life that runs, if one does, over the channels that `wires` makes.
+/// A device in memory, a gauge, and the life that runs, if one does: `wires` opened its module.
 #[derive(Drop)]
 pub struct Session<K: ChannelPort, A: Wires<K>> {
     pub(crate) device: Fuse<MemoryDevice>,

@@ -1,4 +1,4 @@
--- What makes the channels of a life.
+-- What opens the modules of a profile.
 use Rattle.ddr4_timing.specs.declared.timing.Geometry.{Geometry}
 use Rattle.energy_budget.specs.declared.costs.Costs.{Costs}
 use Rattle.interleave_map.specs.declared.ready.Interleaving.{Interleaving}

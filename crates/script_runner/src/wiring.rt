@@ -1,20 +1,21 @@
-// The channels of a life: those of a profile's geometry, over either map.
+// The modules of a profile, over either map.
 ghost use Rattle.std.specs.Prelude.{◌≡◌};
 ghost use Rattle.interleave_map.specs.declared.ready.Interleaving.{Interleaving};
 ghost use Rattle.nv_session.specs.Living.{IsShapeFor};
 
-use channel_set::ChannelSet;
-use ddr4_port::{Ddr4Port, channels_with_memory};
+use ddr4_module::{Sizes, open};
+use ddr4_port::Ddr4Port;
 use energy_budget::Costs;
 use interleave_map::Interleaving;
 use interleave_map::line_map::LineMap;
-use line_memory::Line;
+use module_core::Module;
 use nv_profile::Profile;
 use nv_session::Wires;
+use slot_store::Restored;
 use std::alloc::{AllocError, Global};
 use std::marker::Model;
 
-/// Makes the channels of a profile over either of two lawful maps of its geometry.
+/// Makes the modules of a profile over either of two lawful maps of its geometry.
 #[derive(Drop)]
 pub struct Wiring<'m, M: LineMap> {
     lines_map: &'m M,
@@ -82,23 +83,26 @@ impl<'m, M: LineMap> Wires<Ddr4Port<'m, M>> for Wiring<'m, M> {
 
     ghost shape = { wired_shape M.LineMap };
 
-    fn wire(
+    fn open(
         &self,
         alloc: Global,
         map: Interleaving,
-        memory: &[Line],
-    ) -> Result<ChannelSet<Ddr4Port<'m, M>>, AllocError> {
-        let checked = &self.profile.checked;
-        let depth = self.profile.sizes.depth as usize;
-        let reads = self.profile.sizes.reads as usize;
-        channels_with_memory(
+        restored: Restored,
+        trail: u64,
+    ) -> Result<Module<Ddr4Port<'m, M>>, (Restored, AllocError)> {
+        let sizes = Sizes {
+            depth: self.profile.sizes.depth,
+            reads: self.profile.sizes.reads,
+            trail,
+        };
+        let map = self.map_of(map);
+        open(
             alloc,
-            self.map_of(map),
-            checked,
-            memory,
-            depth,
-            reads,
+            restored,
+            map,
+            &self.profile.checked,
             self.costs,
+            sizes,
         )
     }
 }

@@ -16,15 +16,15 @@ format-requires-clause-capacity g c = let it = c.stop.new.self in is_capacity it
 pub open-requires-clause-memory : goal.open-requires-clause-memory
 open-requires-clause-memory g c =
     let lines : ℕ = lines_of c.stop.new.self.profile.checked.geometry in
-    subst (λ (memory : List (List ℕ)). IsMemory lines memory) (sym (c.deref.ensures.value ∙ c.in-Ok.ensures ∙ ap zero_lines c.lines-lines.ensures.is)) (zero_lines-IsMemory lines)
+    subst (λ (memory : List (List ℕ)). IsMemory lines memory) (sym (c.in-Ok.ensures ∙ ap zero_lines c.lines-lines.ensures.is)) (zero_lines-IsMemory lines)
 
 -- the life that was opened is a new one
 formatted_life : (g : _) (c : In-Ok-open g)
     → ModuleStands g.K.ChannelPort c.in-Ok-open.life (fuse_state c.format.new.device) (opened_with first_head (first_image (lines_of c.stop.new.self.profile.checked.geometry)))
 formatted_life g c =
-    begins_formatted g.K.ChannelPort c.in-Ok-open.life (lines_of c.stop.new.self.profile.checked.geometry) c.lines-lines.result c.in-Ok-format.head c.deref.result.now (fuse_state c.format.new.device) c.in-Ok-open.ensures.begins
+    begins_formatted g.K.ChannelPort c.in-Ok-open.life (lines_of c.stop.new.self.profile.checked.geometry) c.lines-lines.result c.in-Ok-format.head c.in-Ok.memory.items (fuse_state c.format.new.device) c.in-Ok-open.ensures.begins
     c.in-Ok-format.ensures.head
-    c.lines-lines.ensures.is (c.deref.ensures.value ∙ c.in-Ok.ensures) c.in-Ok-format.ensures.at_rest
+    c.lines-lines.ensures.is c.in-Ok.ensures c.in-Ok-format.ensures.at_rest
 
 pub begin-requires-clause-lives : goal.begin-requires-clause-lives
 begin-requires-clause-lives g c =

@@ -1,10 +1,13 @@
-use Rattle.nv_session.proofs.Common.{IsShapeFor, lines_of}
+use Rattle.std.specs.Prelude.{IfOk}
+use Rattle.std.proofs.Common.{ℕ, subst}
+use Rattle.nv_session.proofs.Common.{IsShapeFor}
 use Rattle.channel_port.specs.Shape.{Shape}
-use Rattle.nv_session.proofs.Beginning.{begins_on}
+use Rattle.slot_store.specs.declared.restoring.Restored.{Restored}
+use Rattle.nv_session.proofs.Beginning.{BeginsLife}
 use Rattle.nv_session.proofs.session.Session.open.Goals as goal
 
 pub returns-clause-begins : goal.returns-clause-begins
-returns-clause-begins g c = λ image device rests.
-    let it = c.args.self.now in let shape : Shape = g.A.Wires.shape it.wires c.args.map in let fits : IsShapeFor it.profile shape = it.fits c.args.map in
-    c.open.ensures.begins image device
-    (begins_on g.K.ChannelPort shape (lines_of it.profile.checked.geometry) c.args.memory.now c.in_ok-channels.channels c.args.found image device c.in_ok-channels.ensures fits.lines rests)
+returns-clause-begins g c =
+    let self = c.args.self.now in let shape : Shape = g.A.Wires.shape self.wires c.args.map in let fits : IsShapeFor self.profile shape = self.fits c.args.map in
+    let it : Restored = c.args.restored in
+    subst (λ (lines : ℕ). IfOk c.open.result (BeginsLife g.K.ChannelPort it.head it.lines.items lines)) fits.lines c.open.ensures.begins

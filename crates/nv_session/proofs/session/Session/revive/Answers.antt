@@ -5,8 +5,7 @@ use Rattle.nv_session.proofs.Common.{meter_gauge}
 use Rattle.slot_store.specs.declared.restoring.Restored.{Restored}
 use Rattle.module_core.specs.Opening.{opened_with}
 use Rattle.nv_session.specs.Sessions.{restored_in}
-use Rattle.nv_session.specs.Wired.{BeginsLife}
-use Rattle.nv_session.proofs.Beginning.{RestsOnRestored, is_capacity, revives_restored}
+use Rattle.nv_session.proofs.Beginning.{FindsRestored, is_capacity, revives_restored}
 use Rattle.nv_session.proofs.session.Session.revive.Goals as goal
 use Rattle.nv_session.proofs.session.Session.revive.Goals.{In-Ok}
 
@@ -20,9 +19,8 @@ revived : (g : _) (c : In-Ok g)
 revived g c =
     let it : Restored = c.in_ok-restored.restored in
     let lines : ℕ = lines_of c.args.self.now.profile.checked.geometry in let bytes : List ℕ = (fuse_state c.args.self.now.device).bytes in let device : DeviceState = fuse_state c.restore.new.device in
-    let finds : RestsOnRestored c.lines-lines.result it bytes device = record { restored_is = c.in_ok-restored.ensures.found; rests = c.in_ok-restored.ensures.at_rest } in
-    revives_restored g.K.ChannelPort lines it bytes c.in-Ok.life device (subst (λ (n : ℕ). RestsOnRestored n it bytes device) c.lines-lines.ensures.is finds)
-    (subst (λ (memory : List (List ℕ)). BeginsLife g.K.ChannelPort it.head memory lines c.in-Ok.life) c.deref.ensures.value c.in-Ok.ensures.begins)
+    let finds : FindsRestored c.lines-lines.result it bytes device = record { restored_is = c.in_ok-restored.ensures.found; rests = c.in_ok-restored.ensures.at_rest } in
+    revives_restored g.K.ChannelPort lines it bytes c.in-Ok.life device (subst (λ (n : ℕ). FindsRestored n it bytes device) c.lines-lines.ensures.is finds) c.in-Ok.ensures.begins
 
 pub begin-requires-clause-lives : goal.begin-requires-clause-lives
 begin-requires-clause-lives g c =
