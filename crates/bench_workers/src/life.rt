@@ -3,18 +3,15 @@ ghost use Rattle.std.specs.Prelude.{◌≡◌};
 
 use crate::crowd::{Plan, crowd};
 use ddr4_boards::{formatted, open};
-use ddr4_timing::timing::Checked;
 use energy_budget::Meter;
 use interleave_map::line_map::LineMap;
 use line_memory::History;
+use nv_profile::Profile;
 use std::alloc::Global;
 use std::marker::Brand;
 use std::sync::Wait;
 use std::thread::Threads;
 use std::time::Clock;
-
-/// How many writes a life may accept.
-const TRAIL: u64 = 40_000;
 
 /// More energy than any save takes, in units.
 const AMPLE: u64 = 1 << 62;
@@ -59,18 +56,20 @@ pub(crate) fn life_over<M, R>(
     rt: &R,
     alloc: Global,
     map: &M,
-    checked: &Checked,
+    profile: &Profile,
     plan: &Plan,
 ) -> anyhow::Result<Lived>
 where
     M: LineMap + Sync,
     R: Threads + Wait + Clock + Sync,
     requires lawful { M.is_lawful map.now }
-    requires geometry { M.geometry_of map.now ≡ checked.now.geometry }
+    requires geometry { M.geometry_of map.now ≡ profile.now.checked.geometry }
 {
-    let device = formatted(alloc, checked)?;
+    let device = formatted(alloc, profile)?;
     let meter = Meter::with(AMPLE, 1);
-    let ready = open(alloc, map, checked, device, meter, TRAIL, plan.hosts)?;
+    let ready = open(alloc, map, profile, device, meter, plan.hosts).map_err(
+        |refused| refused.why,
+    )?;
     let outcome = crowd::<_, _, Brand, R>(rt, alloc, ready, plan)?;
     let earlier = outcome.recorded;
     let mut lived = Lived {
@@ -81,7 +80,9 @@ where
     };
     if plan.saves || plan.lost_at.is_some() {
         let meter = Meter::with(AMPLE, 1);
-        let later = open(alloc, map, checked, earlier.device, meter, TRAIL, 1)?.recorded;
+        let later = open(alloc, map, profile, earlier.device, meter, 1)
+            .map_err(|refused| refused.why)?
+            .recorded;
         let count = later.running.accepted();
         lived.back = Some(Back {
             count,

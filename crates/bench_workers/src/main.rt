@@ -25,7 +25,9 @@ use crate::life::{Back, Lived, life_over};
 use crate::processor::held_millis;
 use ddr4_timing::profiles::{SMALL, TINY, WIDEST};
 use ddr4_timing::timing::Checked;
+use energy_budget::TINY_COSTS;
 use interleave_map::{Interleaving, ReadyMap};
+use nv_profile::{ModuleSizes, Profile};
 use std::alloc::Global;
 use std::env;
 use std::sync::Wait;
@@ -38,6 +40,14 @@ const ALL_WRITES: u64 = 32_000;
 /// How many reads each of them makes then: so many that the start of the threads doesn't count.
 const READS_EACH: u64 = 20_000;
 
+/// The room of a board's module: a life accepts up to 40,000 writes.
+const SIZES: ModuleSizes = ModuleSizes {
+    depth: 8,
+    reads: 8,
+    trail: 40_000,
+    notices: 64,
+};
+
 // A life over the map `lines`.
 fn by_lines<R: Threads + Wait + Clock + Sync>(
     rt: &R,
@@ -49,7 +59,13 @@ fn by_lines<R: Threads + Wait + Clock + Sync>(
         interleaving: Interleaving::Lines,
         checked,
     };
-    life_over(rt, alloc, &map, &checked, plan)
+    let profile = Profile {
+        checked,
+        costs: TINY_COSTS,
+        sizes: SIZES,
+        map: Interleaving::Lines,
+    };
+    life_over(rt, alloc, &map, &profile, plan)
 }
 
 // A plan of so many hosts, without a saver.

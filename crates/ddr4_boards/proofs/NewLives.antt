@@ -6,29 +6,11 @@ use Rattle.save_device.specs.Device.{DeviceState}
 use Rattle.save_device.specs.declared.device.SaveDevice.{Ghosts as DeviceGhosts}
 use Rattle.save_image.specs.Image.{Image}
 use Rattle.slot_store.specs.declared.head.Head.{Head}
-use Rattle.slot_store.specs.declared.restoring.Restored.{Restored}
-use Rattle.slot_store.specs.Rest.{IsAtRestOn}
-use Rattle.slot_store.specs.Told.{image_of_restored}
 use Rattle.channel_port.specs.declared.port.ChannelPort.{Ghosts}
-use Rattle.channel_set.specs.declared.set.ChannelSet.{ChannelSet}
-use Rattle.channel_set.specs.Set.{shape_of}
-use Rattle.channel_set.specs.Carrying.{CarriesAll}
-use Rattle.module_core.specs.Opening.{BeginsOn, opened_with}
+use Rattle.module_core.specs.Opening.{opened_with}
 use Rattle.module_core.specs.Stands.{ModuleStands}
 use Rattle.nv_workers.specs.declared.recorded_module.RecordedModule.{RecordedModule}
 use Rattle.nv_workers.specs.Kept.{IsRecordKept}
-
-module _ {K : Type 0} (L : Ghosts K) where
-  -- channels that carry what a device restored to begin on it
-  pub begins_on : (channels : ChannelSet K L) (it : Restored) (arm lines : ℕ) (device : DeviceState) → (shape_of L channels).lines ≡ lines
-      → CarriesAll L channels it.lines.items it.head.count [] → IsAtRestOn it.head.newest.slot (image_of_restored it arm) lines it.head.closed device
-      → BeginsOn L channels it.head (image_of_restored it arm) device
-  begins_on channels it arm lines device size carries rest = record {
-    generation = refl;
-    count = refl;
-    carries = carries;
-    rest = subst (λ (n : ℕ). IsAtRestOn it.head.newest.slot (image_of_restored it arm) n it.head.closed device) (sym size) rest;
-  }
 
 module _ {K D E : Type 0} (L : Ghosts K) (M : DeviceGhosts D) where
   -- a module that stands for a new life, with a record of its memory and no write, and with room for all that it may accept

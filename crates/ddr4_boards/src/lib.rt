@@ -5,5 +5,5 @@
 mod opening;
 mod ready;
 
-pub use opening::{Unfit, formatted, open};
+pub use opening::{NotOpened, formatted, open};
 pub use ready::Ready;

@@ -1,60 +1,54 @@
 // A module on the image of a device.
-ghost use Rattle.std.specs.Prelude.{◌≡◌, [], IfOk};
+ghost use Rattle.std.specs.Prelude.{◌≡◌, ℕ, [], IfErr, IfOk};
 ghost use Rattle.ddr4_timing.specs.Limits.{lines_of};
 ghost use Rattle.line_memory.specs.History.{recorded};
-ghost use Rattle.module_core.specs.Opening.{AreUnasked, BeginsOn, opened_with, setup_with};
+ghost use Rattle.line_memory.specs.Memory.{IsMemory};
+ghost use Rattle.module_core.specs.Opening.{opened_with};
 ghost use Rattle.module_core.specs.Stands.{ModuleStands, setup_of};
 ghost use Rattle.save_device.specs.Device.{DeviceState};
 ghost use Rattle.save_image.specs.Header.{Fits};
-ghost use Rattle.save_image.specs.Image.{Image};
+ghost use Rattle.slot_store.specs.Outcomes.{restored};
+ghost use Rattle.slot_store.specs.Rest.{IsAtRestOn};
 ghost use Rattle.slot_store.specs.Slots.{IsCapacity};
+ghost use Rattle.slot_store.specs.Told.{Refuses, image_of_restored};
+ghost use Rattle.ddr4_boards.specs.Restored.{RecordsRestored};
 
 use crate::ready::Ready;
 use channel_port::ChannelPort;
-use channel_set::ChannelSet;
-use ddr4_port::{Ddr4Port, channels_with_memory};
+use ddr4_module::Sizes;
+use ddr4_port::Ddr4Port;
 use ddr4_timing::timing::Checked;
-use energy_budget::{Costs, Energy, TINY_COSTS};
+use energy_budget::{Costs, Energy};
 use interleave_map::cells::line_count;
 use interleave_map::line_map::LineMap;
 use line_memory::{History, Line};
 use module_core::Module;
+use nv_profile::Profile;
 use nv_workers::{Opening, RecordedModule};
 use save_device::{MemoryDevice, SaveDevice};
-use slot_store::{Head, device_size, format, restore};
+use slot_store::{RestoreError, Restored, device_size, format, restore};
 use std::alloc::{AllocError, Global};
-use thiserror::Error;
 
-/// How many writes may wait in a channel, and how many of its reads may be open.
-const DEPTH: usize = 8;
-
-/// Why there is no module for a profile and a device.
-#[derive(Clone, Copy, Debug, PartialEq, Eq, Error)]
-pub enum Unfit {
-    #[error("the costs are outside their limits")]
-    Costs,
-    #[error("the profile's lines make no whole pages")]
-    Lines,
-    #[error("the device isn't of the profile's size")]
-    Device,
+/// Why no module was opened, as a restore says it, `Memory` also where there was none for the module; and the device and the gauge
+/// that it was to have.
+#[derive(Drop)]
+pub struct NotOpened<D: SaveDevice, E: Energy> {
+    pub why: RestoreError,
+    pub device: D,
+    pub energy: E,
 }
 
-// How many lines a profile has, where they make whole pages.
-fn capacity_of(checked: &Checked) -> Result<usize, Unfit>
-    ensures is { IfOk result (λ lines. lines ≡ lines_of checked.now.geometry) }
-    ensures capacity { IfOk result IsCapacity }
+// How many lines a profile has; they make whole pages.
+fn capacity_of(checked: &Checked) -> usize
+    ensures is { result ≡ lines_of checked.now.geometry }
+    ensures capacity { IsCapacity result }
 {
-    let lines = line_count(checked) as usize;
-    if lines % 64 == 0 {
-        Ok(lines)
-    } else {
-        Err(Unfit::Lines)
-    }
+    line_count(checked) as usize
 }
 
 /// A device in memory with zero lines, as many as the profile has.
-pub fn formatted(alloc: Global, checked: &Checked) -> anyhow::Result<MemoryDevice> {
-    let lines = capacity_of(checked)?;
+pub fn formatted(alloc: Global, profile: &Profile) -> anyhow::Result<MemoryDevice> {
+    let lines = capacity_of(&profile.checked);
     let bytes = Vec::from_elem(alloc, 0, device_size(lines))?;
     let mut device = MemoryDevice::new(alloc, bytes)?;
     format(&mut device, lines)?;
@@ -62,10 +56,12 @@ pub fn formatted(alloc: Global, checked: &Checked) -> anyhow::Result<MemoryDevic
 }
 
 // The record of a life that begins with these lines, with room for so many writes.
-fn record_of(alloc: Global, lines: Vec<Line>, start: u64, trail: u64) -> Result<History, AllocError>
-    ensures { IfOk result (λ history. history ≡ recorded lines.items start [] trail) }
+fn record_of(alloc: Global, lines: &[Line], start: u64, trail: u64) -> Result<History, AllocError>
+    ensures { IfOk result (λ history. history ≡ recorded lines.now start [] trail) }
 {
-    match History::new(alloc, lines, start, trail as usize) {
+    let mut base = Vec::with_capacity(alloc, lines.len())?;
+    base.extend_from_slice(lines)?;
+    match History::new(alloc, base, start, trail as usize) {
         Ok(history) => Ok(history),
         Err((_, error)) => Err(error),
     }
@@ -78,30 +74,49 @@ struct Begun<K: ChannelPort> {
     history: History,
 }
 
-// A module over channels that begin with what a restore found.
-fn begin<K: ChannelPort + Drop>(
+// A module that begins with what a device restored to, with the words of its board and its record.
+fn begin<'m, M: LineMap>(
     alloc: Global,
-    channels: ChannelSet<K>,
-    head: Head,
-    memory: Vec<Line>,
-    trail: u64,
+    map: &'m M,
+    profile: &Profile,
+    restored: Restored,
     hosts: usize,
-) -> Result<Begun<K>, AllocError>
-    requires unasked { AreUnasked K.ChannelPort channels }
-    requires numbers { Fits head.newest.generation head.count }
+) -> Result<Begun<Ddr4Port<'m, M>>, AllocError>
+    requires lawful { M.is_lawful map.now }
+    requires geometry { M.geometry_of map.now ≡ profile.now.checked.geometry }
+    requires memory { IsMemory (lines_of profile.now.checked.geometry) restored.lines.items }
+    requires numbers { Fits restored.head.newest.generation restored.head.count }
     ensures parts { IfOk result (λ begun. begun.opening.parts ≡ hosts) }
     ensures mark { IfOk result (λ begun. begun.opening.mark ≡ begun.running.persisted) }
-    ensures begins { IfOk result (λ begun. (image : Image) (device : DeviceState)
-        → BeginsOn K.ChannelPort channels head image device
-        → ModuleStands K.ChannelPort begun.running device (opened_with head image)) }
-    ensures setup { IfOk result (λ begun.
-        setup_of K.ChannelPort begun.running ≡ setup_with K.ChannelPort channels trail) }
-    ensures history { IfOk result (λ begun.
-        begun.history ≡ recorded memory.items head.count [] trail) }
+    ensures begins { IfOk result (λ begun. (arm : ℕ) (at : DeviceState)
+        → IsAtRestOn restored.head.newest.slot (image_of_restored restored arm)
+        (lines_of profile.now.checked.geometry) restored.head.closed at
+        → ModuleStands ⟦<Ddr4Port<'m, M> as ChannelPort>⟧ begun.running at
+        (opened_with restored.head (image_of_restored restored arm))) }
+    ensures channels { IfOk result (λ begun.
+        (setup_of ⟦<Ddr4Port<'m, M> as ChannelPort>⟧ begun.running).shape.channels
+        ≡ profile.now.checked.geometry.channels) }
+    ensures lines { IfOk result (λ begun.
+        (setup_of ⟦<Ddr4Port<'m, M> as ChannelPort>⟧ begun.running).shape.lines
+        ≡ lines_of profile.now.checked.geometry) }
+    ensures trail { IfOk result (λ begun.
+        (setup_of ⟦<Ddr4Port<'m, M> as ChannelPort>⟧ begun.running).trail
+        ≡ profile.now.sizes.trail) }
+    ensures history { IfOk result (λ begun. begun.history
+        ≡ recorded restored.lines.items restored.head.count [] profile.now.sizes.trail) }
 {
-    let running = Module::open(channels, head, trail);
+    let costs = Costs::of(&profile.checked, &profile.costs);
+    let sizes = Sizes {
+        depth: profile.sizes.depth,
+        reads: profile.sizes.reads,
+        trail: profile.sizes.trail,
+    };
+    let history = record_of(alloc, &restored.lines, restored.head.count, sizes.trail)?;
+    let running = match ddr4_module::open(alloc, restored, map, &profile.checked, costs, sizes) {
+        Ok(running) => running,
+        Err((_, error)) => return Err(error),
+    };
     let opening = Opening::new(alloc, running.mark(), hosts)?;
-    let history = record_of(alloc, memory, head.count, trail)?;
     Ok(Begun {
         opening,
         running,
@@ -109,38 +124,54 @@ fn begin<K: ChannelPort + Drop>(
     })
 }
 
-/// A module over channels with the memory that a device restores to, which may accept `trail` writes; and the words of its
-/// board, for so many hosts.
+/// A module of a profile over a lawful map of its geometry, with the memory that a device restores to, its record, and the words
+/// of its board for so many hosts. No byte of the device changes. Where none is opened the device and the gauge are given back.
 pub fn open<'m, M: LineMap, D: SaveDevice + Drop, E: Energy + Drop>(
     alloc: Global,
     map: &'m M,
-    checked: &Checked,
+    profile: &Profile,
     mut device: D,
     energy: E,
-    trail: u64,
     hosts: usize,
-) -> anyhow::Result<Ready<Ddr4Port<'m, M>, D, E>>
+) -> Result<Ready<Ddr4Port<'m, M>, D, E>, NotOpened<D, E>>
     requires lawful { M.is_lawful map.now }
-    requires geometry { M.geometry_of map.now ≡ checked.now.geometry }
+    requires geometry { M.geometry_of map.now ≡ profile.now.checked.geometry }
     ensures parts { IfOk result (λ ready. ready.opening.parts ≡ hosts) }
     ensures new { IfOk result (λ ready. ready.recorded.history.writes ≡ []) }
+    ensures restored { IfOk result (λ ready. RecordsRestored
+        (restored (lines_of profile.now.checked.geometry) (D.state device).bytes)
+        profile.now.sizes.trail ready.recorded.history) }
+    ensures same { IfOk result (λ ready.
+        (D.state ready.recorded.device).bytes ≡ (D.state device).bytes) }
+    ensures gauge { IfOk result (λ ready. ready.recorded.energy ≡ energy) }
+    ensures refused { IfErr result (λ none. Refuses none.why
+        (restored (lines_of profile.now.checked.geometry) (D.state device).bytes)) }
+    ensures device { IfErr result (λ none. (D.state none.device).bytes ≡ (D.state device).bytes) }
+    ensures energy { IfErr result (λ none. none.energy ≡ energy) }
 {
-    if !TINY_COSTS.is_in_limits() {
-        return Err(Unfit::Costs.into());
-    }
-    let costs = Costs::of(checked, &TINY_COSTS);
-    let lines = capacity_of(checked)?;
-    if device.len() != device_size(lines) {
-        return Err(Unfit::Device.into());
-    }
-    let restored = restore(alloc, &mut device, lines)?;
-    let memory = &restored.lines;
-    let channels = channels_with_memory(alloc, map, checked, memory, DEPTH, DEPTH, costs)?;
+    let lines = capacity_of(&profile.checked);
+    let restored = match restore(alloc, &mut device, lines) {
+        Ok(restored) => restored,
+        Err(error) => {
+            return Err(NotOpened {
+                why: error,
+                device,
+                energy,
+            });
+        }
+    };
+    let Ok(begun) = begin(alloc, map, profile, restored, hosts) else {
+        return Err(NotOpened {
+            why: RestoreError::Memory,
+            device,
+            energy,
+        });
+    };
     let Begun {
         opening,
         running,
         history,
-    } = begin(alloc, channels, restored.head, restored.lines, trail, hosts)?;
+    } = begun;
     Ok(Ready {
         opening,
         recorded: RecordedModule {
@@ -150,6 +181,6 @@ pub fn open<'m, M: LineMap, D: SaveDevice + Drop, E: Energy + Drop>(
             energy,
             history,
         },
-        channels: checked.geometry.channels,
+        channels: profile.checked.geometry.channels,
     })
 }

@@ -1,7 +1,7 @@
 // A board that two hosts share, each in a thread of its own.
 ghost use Rattle.std.specs.Prelude.{◌≡◌, length};
 
-use crate::module::{AMPLE, TRAIL};
+use crate::module::AMPLE;
 use arm_state::{ArmRefusal, ArmReply, Loss};
 use channel_port::ChannelPort;
 use ddr4_boards::{Ready, formatted, open};
@@ -9,6 +9,7 @@ use energy_budget::Meter;
 use interleave_map::ReadyMap;
 use line_memory::Write;
 use notice_book::{NoticeBook, Notices};
+use nv_profile::Profile;
 use nv_workers::{Board, BoardName, Host, Receipt, close};
 use save_device::{MemoryDevice, SaveDevice};
 use std::alloc::{AllocError, Global};
@@ -150,9 +151,12 @@ pub(crate) fn share_a_board<R: Threads + Wait + Sync>(
     rt: &R,
     alloc: Global,
     map: &ReadyMap,
-) -> anyhow::Result<Shared> {
-    let device = formatted(alloc, &map.checked)?;
+    profile: &Profile,
+) -> anyhow::Result<Shared>
+    requires profile { map.now.checked.geometry ≡ profile.now.checked.geometry }
+{
+    let device = formatted(alloc, profile)?;
     let meter = Meter::with(AMPLE, 1);
-    let ready = open(alloc, map, &map.checked, device, meter, TRAIL, HOSTS)?;
+    let ready = open(alloc, map, profile, device, meter, HOSTS).map_err(|refused| refused.why)?;
     share::<_, Brand, R>(rt, alloc, ready)
 }

@@ -9,21 +9,21 @@ mod module;
 use crate::board::{Shared, share_a_board};
 use crate::commands::judge_two_lists;
 use crate::module::lose_and_restore;
-use ddr4_timing::profiles::{SMALL, TINY};
 use interleave_map::{Interleaving, ReadyMap};
+use nv_profile::{TINY, read_profile};
 
 fn main(rt: HostRuntime) -> anyhow::Result<()> {
-    let checked = TINY.check(&SMALL)?;
+    let profile = read_profile(rt.alloc(), TINY.as_bytes())?;
     let map = ReadyMap {
         interleaving: Interleaving::Lines,
-        checked,
+        checked: profile.checked,
     };
-    lose_and_restore(&rt, &map)?;
+    lose_and_restore(&rt, &map, &profile)?;
     let Shared {
         armed,
         lost,
         receipts,
-    } = share_a_board(&rt, rt.alloc(), &map)?;
+    } = share_a_board(&rt, rt.alloc(), &map, &profile)?;
     println!(rt; "a board: {armed:?}, {receipts} receipts, {lost:?}")?;
-    judge_two_lists(&rt, &checked)
+    judge_two_lists(&rt, &profile.checked)
 }

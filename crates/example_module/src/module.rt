@@ -1,18 +1,18 @@
 // A module that is armed, loses its mains and is restored.
+ghost use Rattle.std.specs.Prelude.{◌≡◌};
+
 use channel_port::ChannelPort;
 use ddr4_boards::{Ready, formatted, open};
 use energy_budget::Meter;
 use interleave_map::ReadyMap;
 use line_memory::Write;
+use nv_profile::Profile;
 use nv_workers::RecordedModule;
 use save_device::MemoryDevice;
 use slot_store::restore;
 
 /// More energy than any save takes, in units.
 pub(crate) const AMPLE: u64 = 1 << 62;
-
-/// How many writes a life may accept.
-pub(crate) const TRAIL: u64 = 1_024;
 
 // The lines of the small profile.
 const LINES: usize = 128;
@@ -46,11 +46,17 @@ fn lose<K: ChannelPort + Drop>(
 }
 
 /// A life from a formatted device to a loss of mains, and what the device restores to.
-pub(crate) fn lose_and_restore(rt: &HostRuntime, map: &ReadyMap) -> anyhow::Result<()> {
+pub(crate) fn lose_and_restore(
+    rt: &HostRuntime,
+    map: &ReadyMap,
+    profile: &Profile,
+) -> anyhow::Result<()>
+    requires profile { map.now.checked.geometry ≡ profile.now.checked.geometry }
+{
     let alloc = rt.alloc();
-    let device = formatted(alloc, &map.checked)?;
+    let device = formatted(alloc, profile)?;
     let meter = Meter::with(AMPLE, 1);
-    let ready = open(alloc, map, &map.checked, device, meter, TRAIL, 1)?;
+    let ready = open(alloc, map, profile, device, meter, 1).map_err(|refused| refused.why)?;
     let mut device = lose(rt, ready)?;
     let restored = restore(alloc, &mut device, LINES)?;
     println!(*rt;

@@ -1,16 +1,18 @@
 // The cases, each on a module over the channels of the small profile.
+use crate::check::same;
 use crate::load::Load;
 use crate::notices::{notify_of_a_save, write_behind_its_back};
 use crate::runs::{lose_at_once, save_at_once, turn_at_once};
 use channel_port::ChannelPort;
-use ddr4_boards::{Ready, formatted, open};
-use ddr4_timing::profiles::{SMALL, TINY};
-use ddr4_timing::timing::Checked;
-use energy_budget::Meter;
+use ddr4_boards::{NotOpened, Ready, formatted, open};
+use energy_budget::{Energy, Meter};
+use interleave_map::cells::line_count;
 use interleave_map::{Interleaving, ReadyMap};
+use nv_profile::{Profile, TINY, read_profile};
 use nv_workers::RecordedModule;
-use save_device::MemoryDevice;
-use std::alloc::Global;
+use save_device::{MemoryDevice, SaveDevice};
+use slot_store::{RestoreError, device_size};
+use std::alloc::{AllocError, Global};
 use std::process::Abort;
 
 /// What is tried of a module.
@@ -66,28 +68,59 @@ fn try_module<K: ChannelPort + Drop, R: Abort>(
     }
 }
 
-/// The small profile.
-pub(crate) fn small<R: Abort>(rt: &R) -> Checked {
-    match TINY.check(&SMALL) {
-        Ok(checked) => checked,
+/// The profile `tiny`.
+pub(crate) fn tiny<R: Abort>(rt: &R, alloc: Global) -> Profile {
+    match read_profile(alloc, TINY.as_bytes()) {
+        Ok(profile) => profile,
         Err(_) => panic!(*rt; "a profile"),
     }
 }
 
+// A device in memory of zero bytes, as many as a store of the profile's lines has.
+fn unformatted(alloc: Global, profile: &Profile) -> Result<MemoryDevice, AllocError> {
+    let lines = line_count(&profile.checked) as usize;
+    MemoryDevice::new(alloc, Vec::from_elem(alloc, 0, device_size(lines))?)
+}
+
 // Tries a case on a module over the map `lines` of the small profile.
 fn try_case<R: Abort>(rt: &R, alloc: Global, case: Case) {
-    let checked = small(rt);
+    let profile = tiny(rt, alloc);
     let map = ReadyMap {
         interleaving: Interleaving::Lines,
-        checked,
+        checked: profile.checked,
     };
-    let Ok(device) = formatted(alloc, &checked) else {
+    let Ok(device) = formatted(alloc, &profile) else {
         panic!(*rt; "a device");
     };
-    let Ok(ready) = open(alloc, &map, &checked, device, Meter::with(0, 0), 1_024, 1) else {
+    let Ok(ready) = open(alloc, &map, &profile, device, Meter::with(0, 0), 1) else {
         panic!(*rt; "a module");
     };
     try_module(rt, alloc, ready, case);
+}
+
+// A device with no image is given back with the gauge, and the reason is a restore's.
+#[test]
+fn a_device_with_no_image_is_given_back(rt: HostRuntime) {
+    let alloc = rt.alloc();
+    let profile = tiny(&rt, alloc);
+    let map = ReadyMap {
+        interleaving: Interleaving::Lines,
+        checked: profile.checked,
+    };
+    let Ok(device) = unformatted(alloc, &profile) else {
+        panic!(rt; "a device");
+    };
+    let Err(none) = open(alloc, &map, &profile, device, Meter::with(7, 0), 1) else {
+        panic!(rt; "no module");
+    };
+    let NotOpened {
+        why,
+        device,
+        mut energy,
+    } = none;
+    same(&rt, why, RestoreError::NoImage);
+    same(&rt, device.len(), 24_576);
+    same(&rt, energy.sense(), 7);
 }
 
 #[test]

@@ -1,6 +1,6 @@
 // A loss of mains whose energy ends at each of its first actions. The costs are those of the small profile: a close step takes
 // 439 units and an entry 513, so that channel 0 with its one write takes 952, and both channels take 1,391.
-use crate::cases::{load_of, small};
+use crate::cases::{load_of, tiny};
 use crate::check::same;
 use crate::load::{Image, Load, restores_to};
 use arm_state::Loss;
@@ -56,23 +56,15 @@ fn left_on<R: Abort>(rt: &R, running: &Module<Ddr4Port<'_, ReadyMap>>, number: u
 // An armed module with a write that waits in channel 0, whose row is open, loses mains with so many units, and goes dark. The
 // two channels are left so.
 fn goes_dark<R: Abort>(rt: &R, alloc: Global, units: u64, first: Left, second: Left) {
-    let checked = small(rt);
+    let profile = tiny(rt, alloc);
     let map = ReadyMap {
         interleaving: Interleaving::Lines,
-        checked,
+        checked: profile.checked,
     };
-    let Ok(device) = formatted(alloc, &checked) else {
+    let Ok(device) = formatted(alloc, &profile) else {
         panic!(*rt; "a device");
     };
-    let Ok(ready) = open(
-        alloc,
-        &map,
-        &checked,
-        device,
-        Meter::with(ENOUGH, 0),
-        1_024,
-        1,
-    ) else {
+    let Ok(ready) = open(alloc, &map, &profile, device, Meter::with(ENOUGH, 0), 1) else {
         panic!(*rt; "a module");
     };
     let mut load: Load<Ddr4Port<'_, ReadyMap>, MemoryDevice> = load_of(rt, ready);

@@ -8,12 +8,11 @@ use crate::silent::Silent;
 use crate::together::{lose_threads, read_beside_held, work_apart};
 use channel_port::ChannelPort;
 use ddr4_boards::{Ready, formatted, open};
-use ddr4_timing::profiles::{SMALL, TINY};
-use ddr4_timing::timing::Checked;
 use energy_budget::{Energy, Meter};
 use interleave_map::{Interleaving, ReadyMap};
 use line_memory::Write;
 use notice_book::{Notice, NoticeBook, Persisted};
+use nv_profile::{Profile, TINY, read_profile};
 use nv_workers::BoardName;
 use save_device::SaveDevice;
 use std::alloc::Global;
@@ -139,10 +138,10 @@ where
     }
 }
 
-// The small profile.
-fn small<R: Abort>(rt: &R) -> Checked {
-    match TINY.check(&SMALL) {
-        Ok(checked) => checked,
+// The profile `tiny`.
+fn tiny<R: Abort>(rt: &R, alloc: Global) -> Profile {
+    match read_profile(alloc, TINY.as_bytes()) {
+        Ok(profile) => profile,
         Err(_) => panic!(*rt; "a profile"),
     }
 }
@@ -152,23 +151,15 @@ fn try_case<R>(rt: &R, alloc: Global, case: Case)
 where
     R: Threads + Wait + Clock + Abort + Copy + Send + Sync,
 {
-    let checked = small(rt);
+    let profile = tiny(rt, alloc);
     let map = ReadyMap {
         interleaving: Interleaving::Lines,
-        checked,
+        checked: profile.checked,
     };
-    let Ok(device) = formatted(alloc, &checked) else {
+    let Ok(device) = formatted(alloc, &profile) else {
         panic!(*rt; "a device");
     };
-    let Ok(ready) = open(
-        alloc,
-        &map,
-        &checked,
-        device,
-        Meter::with(AMPLE, 1),
-        1_024,
-        4,
-    ) else {
+    let Ok(ready) = open(alloc, &map, &profile, device, Meter::with(AMPLE, 1), 4) else {
         panic!(*rt; "a module");
     };
     try_board::<_, _, _, Brand, R>(rt, alloc, ready, case);
