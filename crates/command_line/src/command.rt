@@ -1,5 +1,5 @@
 // The command line: its words, the files that they name, and the exit status.
-ghost use Rattle.std.specs.Prelude.{◌≡◌, IfErr, codes};
+ghost use Rattle.std.specs.Prelude.{◌≡◌, IfErr, codes, if◌then◌else◌};
 ghost use Rattle.std.specs.Process.{exit_status};
 ghost use Rattle.command_line.specs.declared.command.Fault.TheVariants.{Memory};
 ghost use Rattle.command_line.specs.Exit.{IsOfWords, IsOfNoFile};
@@ -7,9 +7,11 @@ ghost use Rattle.command_line.specs.Exit.{IsOfWords, IsOfNoFile};
 use crate::maps::run_on_maps;
 use crate::store::{STORE_BYTES, show_store};
 use clap::error::ErrorKind;
-use clap::{Arg, ArgMatches, Command, Error as UsageError};
+use clap::{Arg, ArgAction, ArgMatches, Command, Error as UsageError};
+use command_trace::{Source, TraceFault};
 use nv_profile::{MOST_BYTES, Profile, ProfileFault, TINY, read_profile};
 use nv_script::{SCRIPT_BYTES, ScriptFault};
+use profile_report::{Meaning, why_refused};
 use save_device::{MemoryDevice, SaveDevice};
 use std::alloc::{AllocError, Global};
 use std::env::{self, Env};
@@ -19,6 +21,9 @@ use std::process::ExitCode;
 use std::rt::Files;
 use thiserror::Error;
 
+/// The program's version.
+const VERSION: &str = "0.1.0";
+
 /// Why the program fails. Shown as the rest of its one line on standard error.
 #[derive(Debug, Drop, Error)]
 pub enum Fault<'a> {
@@ -26,11 +31,17 @@ pub enum Fault<'a> {
     Words,
     #[error("profile")]
     Profile,
+    /// The text is no profile for this reason.
+    #[error("profile: {0}")]
+    NoProfile(String),
     /// The file can't be read or written. `-` is standard input or standard output.
     #[error("file {0}")]
     File(&'a str),
     #[error("{0}")]
     Script(ScriptFault),
+    /// The line of a trace is no command.
+    #[error("trace line {0}")]
+    Trace(u64),
     #[error("memory")]
     Memory,
 }
@@ -77,8 +88,8 @@ pub fn words_of<R: Env + AllocGlobal>(rt: &R) -> Result<Vec<String>, Fault<'stat
 /// Does what the words say, with the answers to `writer`. Where they aren't the program's usage, clap's text tells it on
 /// standard error, and the exit status is 2; help goes to standard output, and the status is 0.
 ///
-/// Faults are found in this order: of the words, of the profile, of the script, of its run. Nothing is written before the
-/// last of these.
+/// Faults are found in this order: of the words, of the profile, of the script or the trace, of the run. Nothing is written
+/// before the last of these.
 pub fn run<'a, R, W>(rt: &R, words: &'a [String], writer: &mut W) -> Result<ExitCode, Fault<'a>>
 where
     R: Files + Input + Print + Eprint + AllocGlobal,
@@ -90,6 +101,12 @@ where
     };
     if let Some(matches) = matches.subcommand_matches("show") {
         return show(rt, matches.get_str("STORE").unwrap_or("-"), writer);
+    }
+    if let Some(matches) = matches.subcommand_matches("check") {
+        return check(rt, matches, writer);
+    }
+    if let Some(matches) = matches.subcommand_matches("profile") {
+        explain(rt, matches.get_str("PROFILE").unwrap_or("tiny"), writer)?;
     }
     if let Some(matches) = matches.subcommand_matches("run") {
         answer(rt, matches, writer)?;
@@ -104,7 +121,8 @@ where
     W: Write,
 {
     let profile = profile_of(rt, matches.get_str("PROFILE").unwrap_or("tiny"))?;
-    let script = script_of(rt, matches.get_str("SCRIPT").unwrap_or("-"))?;
+    // as far as a good script can need them
+    let script = bytes_of(rt, matches.get_str("SCRIPT").unwrap_or("-"), SCRIPT_BYTES)?;
     let device = run_on_maps(rt.alloc(), &profile, &script, writer)?;
     flush(writer)?;
     match matches.get_str("STORE") {
@@ -146,10 +164,74 @@ where
     let store = file_bytes(rt, name, STORE_BYTES + 1)?;
     let found = show_store(rt.alloc(), store, writer)?;
     flush(writer)?;
-    if found {
-        Ok(ExitCode::SUCCESS)
+    Ok(status_by(found))
+}
+
+// Checks a trace; the exit status is 1 where the commands of a channel aren't lawful.
+fn check<'a, R, W>(rt: &R, matches: &ArgMatches<'a>, writer: &mut W) -> Result<ExitCode, Fault<'a>>
+where
+    R: Files + Input + AllocGlobal,
+    W: Write,
+{
+    let profile = profile_of(rt, matches.get_str("PROFILE").unwrap_or("tiny"))?;
+    let name = matches.get_str("TRACE").unwrap_or("-");
+    let source = if name != "-" && is_file(rt, name)? {
+        Source::File(name)
     } else {
-        Ok(ExitCode::FAILURE)
+        Source::Bytes(bytes_of(rt, name, u64::MAX)?)
+    };
+    let form = source.form(rt, matches.get_flag("answers"));
+    let written = form.and_then(|form| source.write_check(rt, form, &profile.checked, writer));
+    match written {
+        Ok(are_lawful) => {
+            flush(writer)?;
+            Ok(status_by(are_lawful))
+        }
+        Err(TraceFault::Line(line)) => Err(Fault::Trace(line)),
+        Err(TraceFault::Reader) => Err(Fault::File(name)),
+        Err(TraceFault::Writer) => Err(Fault::File("-")),
+        Err(TraceFault::Memory) => Err(Fault::Memory),
+    }
+}
+
+// Tells what the numbers of a profile come to, or why there is none.
+fn explain<'a, R, W>(rt: &R, word: &'a str, writer: &mut W) -> Result<(), Fault<'a>>
+where
+    R: Files + AllocGlobal,
+    W: Write,
+{
+    let text = if word == "tiny" {
+        TINY.as_bytes().to_vec(rt.alloc())?
+    } else {
+        file_bytes(rt, word, MOST_BYTES as u64 + 1)?
+    };
+    let profile = match read_profile(rt.alloc(), &text) {
+        Ok(profile) => profile,
+        Err(ProfileFault::Refused) => return Err(why_no_profile(rt.alloc(), &text)),
+        Err(ProfileFault::Memory) => return Err(Fault::Memory),
+    };
+    match writeln!(writer, "{}", Meaning::of(&profile)) {
+        Ok(()) => flush(writer),
+        Err(_) => Err(Fault::File("-")),
+    }
+}
+
+fn why_no_profile<'a>(alloc: Global, text: &[u8]) -> Fault<'a> {
+    match why_refused(alloc, text) {
+        Ok(Some(why)) => Fault::NoProfile(why),
+        Ok(None) => Fault::Profile,
+        Err(AllocError) => Fault::Memory,
+    }
+}
+
+// The exit status of a yes or a no.
+fn status_by(test: bool) -> ExitCode
+    ensures { exit_status result ≡ (if test then 0 else 1) }
+{
+    if test {
+        ExitCode::SUCCESS
+    } else {
+        ExitCode::FAILURE
     }
 }
 
@@ -157,11 +239,16 @@ where
 fn program<'a>(alloc: Global) -> Result<Command<'a>, AllocError> {
     let run = run_command(alloc)?;
     let show = show_command(alloc)?;
+    let check = check_command(alloc)?;
+    let profile = profile_command(alloc)?;
     Command::new(alloc, "nvctl")
         .about("Runs scripts on an NVDIMM-N controller")
+        .version(VERSION)
         .subcommand_required(true)
         .subcommand(run)?
-        .subcommand(show)
+        .subcommand(show)?
+        .subcommand(check)?
+        .subcommand(profile)
 }
 
 fn run_command<'a>(alloc: Global) -> Result<Command<'a>, AllocError> {
@@ -194,6 +281,33 @@ fn show_command<'a>(alloc: Global) -> Result<Command<'a>, AllocError> {
     Command::new(alloc, "show")
         .about("Shows what a store restores to")
         .arg(store_word(alloc))
+}
+
+fn check_command<'a>(alloc: Global) -> Result<Command<'a>, AllocError> {
+    Command::new(alloc, "check")
+        .about("Tells whether the commands of a trace are lawful")
+        .arg(profile_word(alloc))?
+        .arg(trace_word(alloc))?
+        .arg(answers_word(alloc))
+}
+
+fn profile_command<'a>(alloc: Global) -> Result<Command<'a>, AllocError> {
+    Command::new(alloc, "profile")
+        .about("Tells what a profile means, or why a text is none")
+        .arg(profile_word(alloc))
+}
+
+fn trace_word<'a>(alloc: Global) -> Arg<'a> {
+    Arg::new(alloc, "TRACE").required(true).help(
+        "The trace's file, or - for standard input: lines as run prints commands, or comma separated values",
+    )
+}
+
+fn answers_word<'a>(alloc: Global) -> Arg<'a> {
+    Arg::new(alloc, "answers")
+        .long("answers")
+        .action(ArgAction::SetTrue)
+        .help("The trace is the output of run: passes over answers that are no commands")
 }
 
 fn store_word<'a>(alloc: Global) -> Arg<'a> {
@@ -230,15 +344,24 @@ pub fn profile_of<'a, R: Files + AllocGlobal>(rt: &R, word: &'a str) -> Result<P
     }
 }
 
-// The bytes of a script, as far as a good one can need them: of a file, or for - of standard input.
-fn script_of<'a, R: Files + Input + AllocGlobal>(
+// The first bytes of a file, or for - of standard input.
+fn bytes_of<'a, R: Files + Input + AllocGlobal>(
     rt: &R,
     name: &'a str,
+    most: u64,
 ) -> Result<Vec<u8>, Fault<'a>> {
     if name == "-" {
-        all_of(rt.alloc(), rt.reader(), SCRIPT_BYTES, name)
+        all_of(rt.alloc(), rt.reader(), most, name)
     } else {
-        file_bytes(rt, name, SCRIPT_BYTES)
+        file_bytes(rt, name, most)
+    }
+}
+
+// Is it a file that can be read again? A pipe can't.
+fn is_file<'a, R: Files>(rt: &R, name: &'a str) -> Result<bool, Fault<'a>> {
+    match fs::metadata(rt, name) {
+        Ok(found) => Ok(found.is_file()),
+        Err(error) => Err(unreadable(&error, name)),
     }
 }
 

@@ -1,5 +1,5 @@
 //! The command line: its words, the files that they name, the faults with their exit status, scripts over closures of both maps,
-//! and stores shown as lines.
+//! stores shown as lines, traces that are checked, and profiles that are explained.
 #![tactic(auto)]
 
 mod command;

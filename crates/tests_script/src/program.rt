@@ -62,7 +62,7 @@ fn remove<R: Abort + Files + AllocGlobal>(rt: &R, place: &str, name: &str) {
     fs::remove_file(rt, named(rt, place, name).as_str()).expect(rt, "a file");
 }
 
-const NO_USAGE: [&[&str]; 9] = [
+const NO_USAGE: [&[&str]; 14] = [
     &[],
     &["run"],
     &["run", "tiny"],
@@ -70,6 +70,11 @@ const NO_USAGE: [&[&str]; 9] = [
     &["run", "tiny", "-", "--out"],
     &["show"],
     &["show", "store", "store"],
+    &["check", "tiny"],
+    &["check", "tiny", "-", "-"],
+    &["check", "tiny", "-", "--others"],
+    &["profile"],
+    &["profile", "tiny", "tiny"],
     &["walk"],
     &["--walk"],
 ];
@@ -80,6 +85,7 @@ fn words_that_are_no_usage(rt: HostRuntime) {
         ends(&rt, "", words, ExitCode::from(2), "", "");
     }
     ends(&rt, "", &["--help"], ExitCode::SUCCESS, "", "");
+    ends(&rt, "", &["--version"], ExitCode::SUCCESS, "", "");
 }
 
 #[test]
@@ -99,11 +105,13 @@ fn a_script_that_runs(rt: HostRuntime) {
     remove(&rt, place, "%good");
 }
 
-const FAULTS: [(&[&str], &str); 4] = [
+const FAULTS: [(&[&str], &str); 6] = [
     (&["run", "/no/profile", "/no/such/file"], "file /no/profile"),
     (&["run", "%bad", "/no/such/file"], "profile"),
     (&["run", "tiny", "/no/such/file"], "file /no/such/file"),
     (&["run", "tiny", "%bad"], "script line 2"),
+    (&["profile", "%bad"], "profile: no TOML"),
+    (&["profile", "/no/profile"], "file /no/profile"),
 ];
 
 #[test]
@@ -115,6 +123,28 @@ fn faults_in_their_order(rt: HostRuntime) {
         ends(&rt, place, words, ExitCode::FAILURE, fault, "");
     }
     remove(&rt, place, "%bad");
+}
+
+const TINY_MEANING: &str = "lines 128 on 2 channels, map lines
+device 24576 bytes
+entry 486 clocks
+close step 437 clocks
+pending 0: steps 10, reserve 3328, floor 3339, least reading 3340
+pending 1: steps 11, reserve 3841, floor 3853, least reading 3854
+pending 8: steps 18, reserve 7432, floor 7451, least reading 7452
+pending 16: steps 26, reserve 11536, floor 11563, least reading 11564
+";
+
+#[test]
+fn what_a_profile_means(rt: HostRuntime) {
+    ends(
+        &rt,
+        "",
+        &["profile", "tiny"],
+        ExitCode::SUCCESS,
+        "",
+        TINY_MEANING,
+    );
 }
 
 const SAVING: &str = "formatted\naccepted 0 mark 0\nsaved 2 1\naccepted 1 mark 1\n";
@@ -165,6 +195,69 @@ fn a_store_that_is_shown(rt: HostRuntime) {
     remove(&rt, place, "%store");
 }
 
+const EARLY: &str =
+    "0 fault 3, ACT to RD, same bank: at least tRCD = 16, here 15; line 1: 0 ACT 0 0 0 1; line 2: 15 RD 0 0 0 3\n1 lawful 0\n";
+
+// Words one after another, with the status, the line and the text.
+const CHECKS: [(&[&str], ExitCode, &str, &str); 6] = [
+    (
+        &["check", "tiny", "%lawful"],
+        ExitCode::SUCCESS,
+        "",
+        "0 lawful 2\n1 lawful 1\n",
+    ),
+    (&["check", "tiny", "%early"], ExitCode::FAILURE, "", EARLY),
+    (
+        &["check", "tiny", "%answers"],
+        ExitCode::FAILURE,
+        "trace line 1",
+        "",
+    ),
+    (
+        &["check", "tiny", "%answers", "--answers"],
+        ExitCode::SUCCESS,
+        "",
+        "0 lawful 2\n1 lawful 0\n",
+    ),
+    (
+        &["check", "tiny", "/no/trace"],
+        ExitCode::FAILURE,
+        "file /no/trace",
+        "",
+    ),
+    (
+        &["check", "/no/profile", "/no/trace"],
+        ExitCode::FAILURE,
+        "file /no/profile",
+        "",
+    ),
+];
+
+#[test]
+fn traces_that_are_checked(rt: HostRuntime) {
+    let place = place(&rt, process::id(rt.process()));
+    let place = place.as_str();
+    make(
+        &rt,
+        place,
+        "%lawful",
+        b"# a read, and an open row\r\n0 0 ACT 0 0 0 1\r\n1 5 ACT 0 1 2 0\r\n0 16 RD 0 0 0 3",
+    );
+    make(&rt, place, "%early", b"0 0 ACT 0 0 0 1\n0 15 RD 0 0 0 3\n");
+    make(
+        &rt,
+        place,
+        "%answers",
+        b"formatted\naccepted 0 mark 0\n0 0 ACT 0 0 0 0\n0 16 WR 0 0 0 0\n0 idle\n",
+    );
+    for (words, code, line, text) in CHECKS {
+        ends(&rt, place, words, code, line, text);
+    }
+    remove(&rt, place, "%lawful");
+    remove(&rt, place, "%early");
+    remove(&rt, place, "%answers");
+}
+
 #[test]
 fn a_writer_that_takes_no_more(rt: HostRuntime) {
     let place = place(&rt, process::id(rt.process()));
@@ -198,6 +291,7 @@ fn texts_of_faults(rt: HostRuntime) {
             "memory",
             ExitCode::FAILURE,
         ),
+        (Fault::Trace(7), "trace line 7", ExitCode::FAILURE),
         (Fault::Memory, "memory", ExitCode::FAILURE),
     ] {
         let told = shown(&rt, &fault);
