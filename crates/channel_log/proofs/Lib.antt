@@ -1,0 +1,2 @@
+mod RuleSteps
+mod Telling

@@ -1,0 +1,199 @@
+// The seats, and what they note.
+ghost use Rattle.std.specs.Prelude.{◌≡◌, ◌+◌, ◌<◌, ◌≤◌, ◌++◌, [], ◌∷◌, AllPairs, length, slice_set, true, false, Some, None};
+ghost use Rattle.line_memory.specs.Parts.{AreBefore};
+ghost use Rattle.channel_log.specs.declared.entry.LogEntry.TheVariants.{Wrote, TookBack, HeldFrom, Released, Ended};
+ghost use Rattle.channel_log.specs.Log.{IsLogOf, MayFollow, credits_of, credits_out, told_by};
+ghost use Rattle.channel_log.specs.LogRule.{both_halves, channel_half, front_half, noted_view};
+ghost use Rattle.channel_log.specs.Seats.{AreOf, IsNoted, all_logs, one_log};
+
+use crate::entry::LogEntry;
+use crate::rule::{CompareLogs, DealChannel, EnterSeat, LeaveSeat, LogView, NoteEntry};
+use crate::table::ChannelLogs;
+use atomic_table::Seat;
+use line_memory::Numbered;
+use std::marker::Model;
+
+/// The seat that knows the log of each channel, of which a table has one.
+#[derive(Drop)]
+pub struct FrontSeat {
+    pub(crate) seat: Seat<LogEntry, LogView>,
+}
+
+impl Model for FrontSeat {
+    ghost use Rattle.std.specs.Prelude.{◌≡◌, true, false, []};
+    ghost use Rattle.channel_log.specs.Seats.{AllLogs, all_logs};
+
+    ghost Value = { AllLogs };
+
+    ghost view = { λ s. all_logs s.seat.table_id s.seat.me.0.logs };
+
+    ghost invariant = { λ s. (s.seat.me.0.has_all ≡ true) × (s.seat.me.0.has_one ≡ false)
+        × (s.seat.me.1 ≡ []) };
+}
+
+/// A seat that knows the log of its channel, of which each channel has one.
+#[derive(Drop)]
+pub struct ChannelSeat {
+    pub(crate) seat: Seat<LogEntry, LogView>,
+}
+
+impl Model for ChannelSeat {
+    ghost use Rattle.std.specs.Prelude.{◌≡◌, true, false, []};
+    ghost use Rattle.channel_log.specs.Log.{IsLog};
+    ghost use Rattle.channel_log.specs.Seats.{OneLog, one_log};
+
+    ghost Value = { OneLog };
+
+    ghost view = { λ s. one_log s.seat.table_id s.seat.me.0.channel s.seat.me.0.log };
+
+    ghost invariant = { λ s. (s.seat.me.0.has_all ≡ false) × (s.seat.me.0.has_one ≡ true)
+        × (s.seat.me.1 ≡ []) × IsLog s.seat.me.0.log };
+}
+
+// What the front knows goes from one seat to another.
+fn hand_over(
+    logs: &ChannelLogs,
+    from: &mut Seat<LogEntry, LogView>,
+    to: &mut Seat<LogEntry, LogView>,
+)
+    requires tables { (from.old.table_id ≡ logs.now) × (to.old.table_id ≡ logs.now) }
+    requires knows { (from.old.me.0.has_all ≡ true) × (to.old.me.0.has_all ≡ false) }
+    requires slots { (from.old.me.1 ≡ []) × (to.old.me.1 ≡ []) }
+    ensures tables { (from.new.table_id ≡ logs.now) × (to.new.table_id ≡ logs.now) }
+    ensures from { from.new.me ≡ (channel_half from.old.me.0, []) }
+    ensures to { to.new.me ≡ (both_halves to.old.me.0 (front_half from.old.me.0), []) }
+{
+    let known = logs.table.shared.split_seat::<LeaveSeat>(from);
+    logs.table.shared.join_seat::<EnterSeat>(to, known);
+}
+
+// An entry goes behind the log of the seat's channel.
+fn note_at(logs: &ChannelLogs, seat: &mut Seat<LogEntry, LogView>, entry: &LogEntry)
+    requires table { seat.old.table_id ≡ logs.now }
+    requires knows { (seat.old.me.0.has_all ≡ true) × (seat.old.me.0.has_one ≡ true) }
+    requires slots { seat.old.me.1 ≡ [] }
+    ensures table { seat.new.table_id ≡ seat.old.table_id }
+    ensures seat { seat.new.me ≡ (noted_view entry.now seat.old.me.0, []) }
+    ensures agreed { IsLogOf seat.old.me.0.logs seat.old.me.0.channel seat.old.me.0.log }
+{
+    let table = &logs.table.shared;
+    table.compare_exchange_with::<NoteEntry>(seat, 0, 0, 0, entry);
+}
+
+// The seat learns that what it knows of its channel and what it knows of all is the same.
+fn compare_at(logs: &ChannelLogs, seat: &mut Seat<LogEntry, LogView>)
+    requires table { seat.old.table_id ≡ logs.now }
+    requires knows { (seat.old.me.0.has_all ≡ true) × (seat.old.me.0.has_one ≡ true) }
+    requires slots { seat.old.me.1 ≡ [] }
+    ensures table { seat.new.table_id ≡ seat.old.table_id }
+    ensures same { seat.new.me ≡ seat.old.me }
+    ensures agreed { IsLogOf seat.old.me.0.logs seat.old.me.0.channel seat.old.me.0.log }
+{
+    logs.table.shared.load::<CompareLogs>(seat, 0);
+}
+
+impl FrontSeat {
+    /// A seat for a further channel, whose log is empty. Channels are numbered from 0, as they are dealt.
+    pub fn deal(&mut self, logs: &ChannelLogs) -> ChannelSeat
+        requires { self.old.table ≡ logs.now }
+        ensures seat { result ≡ one_log logs.now (length self.old.logs) [] }
+        ensures front { self.new ≡ all_logs logs.now (self.old.logs ++ [] ∷ []) }
+    {
+        let seat = logs.table.shared.split_seat::<DealChannel>(&mut self.seat);
+        ChannelSeat { seat }
+    }
+
+    /// What both seats know of the channel is the same, and so no more credits are out on it than in all.
+    pub fn compare(&mut self, logs: &ChannelLogs, seat: &mut ChannelSeat)
+        requires { AreOf logs.now self.old seat.old }
+        ensures seat { seat.new ≡ seat.old }
+        ensures front { self.new ≡ self.old }
+        ensures agreed { IsLogOf self.old.logs seat.old.channel seat.old.log }
+        ensures few { credits_of seat.old.log ≤ credits_out self.old.logs }
+    {
+        hand_over(logs, &mut self.seat, &mut seat.seat);
+        compare_at(logs, &mut seat.seat);
+        hand_over(logs, &mut seat.seat, &mut self.seat);
+    }
+
+    // Both seats note an entry of the channel.
+    #[tactic(auto, using(crate::proofs::Telling::following_log))]
+    fn note(&mut self, logs: &ChannelLogs, seat: &mut ChannelSeat, entry: LogEntry)
+        requires tables { AreOf logs.now self.old seat.old }
+        requires follows { MayFollow seat.old.log entry }
+        ensures { IsNoted entry self.old seat.old self.new seat.new }
+    {
+        hand_over(logs, &mut self.seat, &mut seat.seat);
+        note_at(logs, &mut seat.seat, &entry);
+        hand_over(logs, &mut seat.seat, &mut self.seat);
+    }
+
+    /// Notes that the channel was given a write, whose number is above those of its writes so far. One more credit is out.
+    pub fn write(&mut self, logs: &ChannelLogs, seat: &mut ChannelSeat, write: Numbered)
+        requires tables { AreOf logs.now self.old seat.old }
+        requires number { AreBefore write.number (told_by seat.old.log).written }
+        ensures noted { IsNoted (Wrote write) self.old seat.old self.new seat.new }
+        ensures told { told_by seat.new.log ≡ record (told_by seat.old.log) {
+          written = (told_by seat.old.log).written ++ write ∷ [];
+        } }
+        ensures credits { credits_of seat.new.log ≡ credits_of seat.old.log + 1 }
+        ensures out { credits_out self.new.logs ≡ credits_out self.old.logs + 1 }
+    {
+        seat.always();
+        self.note(logs, seat, LogEntry::Wrote(write));
+    }
+
+    /// Notes that so many of the credits that are out on the channel were taken back.
+    pub fn take_back(&mut self, logs: &ChannelLogs, seat: &mut ChannelSeat, count: u64)
+        requires tables { AreOf logs.now self.old seat.old }
+        requires credits { count ≤ credits_of seat.old.log }
+        ensures noted { IsNoted (TookBack count) self.old seat.old self.new seat.new }
+        ensures told { told_by seat.new.log ≡ record (told_by seat.old.log) {
+          taken = (told_by seat.old.log).taken + count;
+        } }
+        ensures credits { credits_of seat.new.log + count ≡ credits_of seat.old.log }
+        ensures out { credits_out self.new.logs + count ≡ credits_out self.old.logs }
+    {
+        self.note(logs, seat, LogEntry::TookBack(count));
+    }
+
+    /// Notes that the channel's writes from a number on are held back from its array.
+    pub fn hold_from(&mut self, logs: &ChannelLogs, seat: &mut ChannelSeat, number: u64)
+        requires { AreOf logs.now self.old seat.old }
+        ensures noted { IsNoted (HeldFrom number) self.old seat.old self.new seat.new }
+        ensures told { told_by seat.new.log ≡ record (told_by seat.old.log) {
+          hold = Some number;
+        } }
+    {
+        self.note(logs, seat, LogEntry::HeldFrom(number));
+    }
+
+    /// Notes that no write of the channel is held back any more.
+    pub fn release(&mut self, logs: &ChannelLogs, seat: &mut ChannelSeat)
+        requires { AreOf logs.now self.old seat.old }
+        ensures noted { IsNoted Released self.old seat.old self.new seat.new }
+        ensures told { told_by seat.new.log ≡ record (told_by seat.old.log) { hold = None } }
+    {
+        self.note(logs, seat, LogEntry::Released);
+    }
+
+    /// Notes at the channel that the life has ended.
+    pub fn end(&mut self, logs: &ChannelLogs, seat: &mut ChannelSeat)
+        requires { AreOf logs.now self.old seat.old }
+        ensures noted { IsNoted Ended self.old seat.old self.new seat.new }
+        ensures told { told_by seat.new.log ≡ record (told_by seat.old.log) { ended = true } }
+    {
+        self.note(logs, seat, LogEntry::Ended);
+    }
+}
+
+impl ChannelSeat {
+    /// What is true of each log: its numbers rise, so that none is given twice, and no more credits were taken back than given.
+    pub fn always(&self)
+        ensures rise { AllPairs (λ v w. v.number < w.number) (told_by self.now.log).written }
+        ensures taken { (told_by self.now.log).taken
+            ≤ length (told_by self.now.log).written }
+    {
+        let _ = &self.seat;
+    }
+}
