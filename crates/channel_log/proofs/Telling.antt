@@ -9,9 +9,9 @@ use Rattle.line_memory.specs.Parts.{AreBefore}
 use Rattle.channel_log.specs.declared.entry.LogEntry.{LogEntry}
 use Rattle.channel_log.specs.declared.entry.LogEntry.TheVariants.{Wrote, TookBack, HeldFrom, Released, Ended}
 use Rattle.channel_log.specs.Seats.{AllLogs, OneLog, IsNoted}
-use Rattle.channel_log.specs.Log.{Told, IsLog, MayFollow, credits_of, credits_out, told_after, told_by, untold}
+use Rattle.channel_log.specs.Log.{Told, IsLog, MayFollow, credits_of, credits_out, told_after, log_tells, untold}
 
-pub told_push : (log : List LogEntry) (x : LogEntry) → told_by (log ++ x ∷ []) ≡ told_after (told_by log) x
+pub told_push : (log : List LogEntry) (x : LogEntry) → log_tells (log ++ x ∷ []) ≡ told_after (log_tells log) x
 told_push log x = fold_push told_after untold log x
 
 -- what is asked of a log, of what it tells
@@ -19,36 +19,36 @@ record IsTold (t : Told) : Type 0 where
   pub rise : AllPairs (λ v w. v.number < w.number) t.written
   pub taken : t.taken ≤ length t.written
 
-told_log : (log : List LogEntry) (t : Told) → told_by log ≡ t → IsTold t → IsLog log
+told_log : (log : List LogEntry) (t : Told) → log_tells log ≡ t → IsTold t → IsLog log
 told_log log t is it =
     let back = subst IsTold (sym is) it in record { rise = back.rise; taken = back.taken }
 
 pub empty_log : IsLog []
 empty_log = record { rise = λ i j d less within. absurd (omega (arith, within)); taken = omega arith }
 
-wrote_log : (log : List LogEntry) (w : Numbered) → IsLog log → AreBefore w.number (told_by log).written → IsLog (log ++ Wrote w ∷ [])
+wrote_log : (log : List LogEntry) (w : Numbered) → IsLog log → AreBefore w.number (log_tells log).written → IsLog (log ++ Wrote w ∷ [])
 wrote_log log w it before =
-    let size = length-append (told_by log).written (w ∷ []) in
-    told_log (log ++ Wrote w ∷ []) (told_after (told_by log) (Wrote w)) (told_push log (Wrote w)) record {
-      rise = all_pairs_push (λ v w. v.number < w.number) (told_by log).written w it.rise before;
+    let size = length-append (log_tells log).written (w ∷ []) in
+    told_log (log ++ Wrote w ∷ []) (told_after (log_tells log) (Wrote w)) (told_push log (Wrote w)) record {
+      rise = all_pairs_push (λ v w. v.number < w.number) (log_tells log).written w it.rise before;
       taken = (let t = it.taken in omega (arith, t, size));
     }
 
 taken_log : (log : List LogEntry) (n : ℕ) → IsLog log → n ≤ credits_of log → IsLog (log ++ TookBack n ∷ [])
 taken_log log n it few =
-    told_log (log ++ TookBack n ∷ []) (told_after (told_by log) (TookBack n)) (told_push log (TookBack n)) record {
+    told_log (log ++ TookBack n ∷ []) (told_after (log_tells log) (TookBack n)) (told_push log (TookBack n)) record {
       rise = it.rise;
       taken = (let t = it.taken in omega (arith, t, few));
     }
 
 held_log : (log : List LogEntry) (n : ℕ) → IsLog log → IsLog (log ++ HeldFrom n ∷ [])
-held_log log n it = told_log (log ++ HeldFrom n ∷ []) (told_after (told_by log) (HeldFrom n)) (told_push log (HeldFrom n)) record { rise = it.rise; taken = it.taken }
+held_log log n it = told_log (log ++ HeldFrom n ∷ []) (told_after (log_tells log) (HeldFrom n)) (told_push log (HeldFrom n)) record { rise = it.rise; taken = it.taken }
 
 released_log : (log : List LogEntry) → IsLog log → IsLog (log ++ Released ∷ [])
-released_log log it = told_log (log ++ Released ∷ []) (told_after (told_by log) Released) (told_push log Released) record { rise = it.rise; taken = it.taken }
+released_log log it = told_log (log ++ Released ∷ []) (told_after (log_tells log) Released) (told_push log Released) record { rise = it.rise; taken = it.taken }
 
 ended_log : (log : List LogEntry) → IsLog log → IsLog (log ++ Ended ∷ [])
-ended_log log it = told_log (log ++ Ended ∷ []) (told_after (told_by log) Ended) (told_push log Ended) record { rise = it.rise; taken = it.taken }
+ended_log log it = told_log (log ++ Ended ∷ []) (told_after (log_tells log) Ended) (told_push log Ended) record { rise = it.rise; taken = it.taken }
 
 pub following_log : (log : List LogEntry) (x : LogEntry) → IsLog log → MayFollow log x → IsLog (log ++ x ∷ [])
 following_log log (Wrote w) it asks = wrote_log log w it asks
@@ -60,14 +60,14 @@ following_log log Ended it asks = ended_log log it
 -- the credits of a channel after a write, and after some were taken back
 wrote_credits : (log : List LogEntry) (w : Numbered) → IsLog log → credits_of (log ++ Wrote w ∷ []) ≡ credits_of log + 1
 wrote_credits log w it =
-    let size = length-append (told_by log).written (w ∷ []) in
+    let size = length-append (log_tells log).written (w ∷ []) in
     let t = it.taken in
-    let sum : length ((told_by log).written ++ w ∷ []) - (told_by log).taken ≡ credits_of log + 1 = omega (arith, t, size) in
+    let sum : length ((log_tells log).written ++ w ∷ []) - (log_tells log).taken ≡ credits_of log + 1 = omega (arith, t, size) in
     ap (λ (t : Told). length t.written - t.taken) (told_push log (Wrote w)) ∙ sum
 
 taken_credits : (log : List LogEntry) (n : ℕ) → n ≤ credits_of log → credits_of (log ++ TookBack n ∷ []) + n ≡ credits_of log
 taken_credits log n few =
-    let sum : length (told_by log).written - ((told_by log).taken + n) + n ≡ credits_of log = omega (arith, few) in
+    let sum : length (log_tells log).written - ((log_tells log).taken + n) + n ≡ credits_of log = omega (arith, few) in
     ap (λ (t : Told). length t.written - t.taken + n) (told_push log (TookBack n)) ∙ sum
 
 -- the credits that are out on all channels change by those of the one

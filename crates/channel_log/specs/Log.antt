@@ -26,12 +26,12 @@ told_after t Released = record t { hold = None }
 told_after t Ended = record t { ended = true }
 
 -- what a log tells
-abbrev pub told_by : List LogEntry → Told
-told_by log = fold told_after untold log
+abbrev pub log_tells : List LogEntry → Told
+log_tells log = fold told_after untold log
 
 -- the credits that are out on a channel: one was given with each of its writes, and some were taken back
 abbrev pub credits_of : List LogEntry → ℕ
-credits_of log = length (told_by log).written - (told_by log).taken
+credits_of log = length (log_tells log).written - (log_tells log).taken
 
 -- the credits that are out on all channels
 abbrev pub credits_out : List (List LogEntry) → ℕ
@@ -39,12 +39,12 @@ credits_out logs = sum_by credits_of logs
 
 -- the numbers of a log rise, and no more credits were taken back than given
 pub record IsLog (log : List LogEntry) : Type 0 where
-  pub rise : AllPairs (λ v w. v.number < w.number) (told_by log).written
-  pub taken : (told_by log).taken ≤ length (told_by log).written
+  pub rise : AllPairs (λ v w. v.number < w.number) (log_tells log).written
+  pub taken : (log_tells log).taken ≤ length (log_tells log).written
 
 -- what an entry asks of the log that it comes behind
 abbrev pub MayFollow : List LogEntry → LogEntry → Type 0
-MayFollow log (Wrote write) = AreBefore write.number (told_by log).written
+MayFollow log (Wrote write) = AreBefore write.number (log_tells log).written
 MayFollow log (TookBack count) = count ≤ credits_of log
 MayFollow log (HeldFrom number) = Unit {0}
 MayFollow log Released = Unit {0}

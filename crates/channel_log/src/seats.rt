@@ -1,8 +1,8 @@
 // The seats, and what they note.
-ghost use Rattle.std.specs.Prelude.{◌≡◌, ◌+◌, ◌<◌, ◌≤◌, ◌++◌, [], ◌∷◌, AllPairs, length, slice_set, true, false, Some, None};
+ghost use Rattle.std.specs.Prelude.{◌≡◌, ◌+◌, ◌<◌, ◌≤◌, ◌++◌, [], ◌∷◌, AllPairs, length, true, false, Some, None};
 ghost use Rattle.line_memory.specs.Parts.{AreBefore};
 ghost use Rattle.channel_log.specs.declared.entry.LogEntry.TheVariants.{Wrote, TookBack, HeldFrom, Released, Ended};
-ghost use Rattle.channel_log.specs.Log.{IsLogOf, MayFollow, credits_of, credits_out, told_by};
+ghost use Rattle.channel_log.specs.Log.{IsLogOf, MayFollow, credits_of, credits_out, log_tells};
 ghost use Rattle.channel_log.specs.LogRule.{both_halves, channel_half, front_half, noted_view};
 ghost use Rattle.channel_log.specs.Seats.{AreOf, IsNoted, all_logs, one_log};
 
@@ -131,10 +131,10 @@ impl FrontSeat {
     /// Notes that the channel was given a write, whose number is above those of its writes so far. One more credit is out.
     pub fn write(&mut self, logs: &ChannelLogs, seat: &mut ChannelSeat, write: Numbered)
         requires tables { AreOf logs.now self.old seat.old }
-        requires number { AreBefore write.number (told_by seat.old.log).written }
+        requires number { AreBefore write.number (log_tells seat.old.log).written }
         ensures noted { IsNoted (Wrote write) self.old seat.old self.new seat.new }
-        ensures told { told_by seat.new.log ≡ record (told_by seat.old.log) {
-          written = (told_by seat.old.log).written ++ write ∷ [];
+        ensures told { log_tells seat.new.log ≡ record (log_tells seat.old.log) {
+          written = (log_tells seat.old.log).written ++ write ∷ [];
         } }
         ensures credits { credits_of seat.new.log ≡ credits_of seat.old.log + 1 }
         ensures out { credits_out self.new.logs ≡ credits_out self.old.logs + 1 }
@@ -148,8 +148,8 @@ impl FrontSeat {
         requires tables { AreOf logs.now self.old seat.old }
         requires credits { count ≤ credits_of seat.old.log }
         ensures noted { IsNoted (TookBack count) self.old seat.old self.new seat.new }
-        ensures told { told_by seat.new.log ≡ record (told_by seat.old.log) {
-          taken = (told_by seat.old.log).taken + count;
+        ensures told { log_tells seat.new.log ≡ record (log_tells seat.old.log) {
+          taken = (log_tells seat.old.log).taken + count;
         } }
         ensures credits { credits_of seat.new.log + count ≡ credits_of seat.old.log }
         ensures out { credits_out self.new.logs + count ≡ credits_out self.old.logs }
@@ -161,7 +161,7 @@ impl FrontSeat {
     pub fn hold_from(&mut self, logs: &ChannelLogs, seat: &mut ChannelSeat, number: u64)
         requires { AreOf logs.now self.old seat.old }
         ensures noted { IsNoted (HeldFrom number) self.old seat.old self.new seat.new }
-        ensures told { told_by seat.new.log ≡ record (told_by seat.old.log) {
+        ensures told { log_tells seat.new.log ≡ record (log_tells seat.old.log) {
           hold = Some number;
         } }
     {
@@ -172,7 +172,7 @@ impl FrontSeat {
     pub fn release(&mut self, logs: &ChannelLogs, seat: &mut ChannelSeat)
         requires { AreOf logs.now self.old seat.old }
         ensures noted { IsNoted Released self.old seat.old self.new seat.new }
-        ensures told { told_by seat.new.log ≡ record (told_by seat.old.log) { hold = None } }
+        ensures told { log_tells seat.new.log ≡ record (log_tells seat.old.log) { hold = None } }
     {
         self.note(logs, seat, LogEntry::Released);
     }
@@ -181,7 +181,7 @@ impl FrontSeat {
     pub fn end(&mut self, logs: &ChannelLogs, seat: &mut ChannelSeat)
         requires { AreOf logs.now self.old seat.old }
         ensures noted { IsNoted Ended self.old seat.old self.new seat.new }
-        ensures told { told_by seat.new.log ≡ record (told_by seat.old.log) { ended = true } }
+        ensures told { log_tells seat.new.log ≡ record (log_tells seat.old.log) { ended = true } }
     {
         self.note(logs, seat, LogEntry::Ended);
     }
@@ -190,9 +190,9 @@ impl FrontSeat {
 impl ChannelSeat {
     /// What is true of each log: its numbers rise, so that none is given twice, and no more credits were taken back than given.
     pub fn always(&self)
-        ensures rise { AllPairs (λ v w. v.number < w.number) (told_by self.now.log).written }
-        ensures taken { (told_by self.now.log).taken
-            ≤ length (told_by self.now.log).written }
+        ensures rise { AllPairs (λ v w. v.number < w.number) (log_tells self.now.log).written }
+        ensures taken { (log_tells self.now.log).taken
+            ≤ length (log_tells self.now.log).written }
     {
         let _ = &self.seat;
     }
