@@ -33,6 +33,7 @@ pub struct Load<K: ChannelPort, D: SaveDevice> {
 impl<K: ChannelPort, D: SaveDevice> Load<K, D> {
     // Issues a command of each channel, where it has one, and makes a step of the save that runs.
     fn turn(&mut self) -> StepReply {
+        // a channel may have no command at this turn
         let _issued = self.running.work(0);
         let _issued = self.running.work(1);
         self.running.save_step(&mut self.device, &mut self.gauge)
