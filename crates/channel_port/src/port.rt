@@ -12,7 +12,7 @@ ghost use Rattle.channel_port.specs.declared.stage.Stage.TheVariants.{OnBackup, 
 ghost use Rattle.channel_port.specs.Waits.{AllBelow, emptied};
 ghost use Rattle.channel_port.specs.Answers.{IsCollected, IsGot, IsServed};
 ghost use Rattle.channel_port.specs.Carried.{KeepsCarried, NoneBelow, WaitFrom};
-ghost use Rattle.channel_port.specs.Draining.{PaysInTurn, TakesWrites};
+ghost use Rattle.channel_port.specs.Draining.{PaysInTurn, TakesPaid};
 
 use crate::{Collected, Done, Got, Ticket};
 use ddr4_timing::place::Place;
@@ -129,7 +129,8 @@ pub trait ChannelPort {
         requires lost { (view self.old).waits.reads ≡ [] }
         ensures pays { PaysInTurn costs.now (drain_actions (length (view self.old).waits.writes))
             (E.gauge energy.old) result (E.gauge energy.new) }
-        ensures takes { (gone : ℕ) × TakesWrites gone (view self.old).waits (view self.new).waits }
+        ensures takes { TakesPaid (drain_actions (length (view self.old).waits.writes)) (view self.old).waits
+            (E.gauge energy.old) result (view self.new).waits (E.gauge energy.new) }
         ensures dry { OnOk result ((view self.new).waits ≡ emptied (view self.old).waits) }
         ensures rest { view self.new ≡ record (view self.old) {
           waits = (view self.new).waits;

@@ -1,18 +1,20 @@
 -- What the drains of some of the ports, one after another, are for all channels.
 use Rattle.std.specs.Prelude.{IsErr, vec_len}
 use Rattle.std.specs.Vec.{with_items}
-use Rattle.std.proofs.lemmas.Bool.{cases_lt}
+use Rattle.std.proofs.Math.Seq.{drop-length}
 use Rattle.std.proofs.lemmas.List.{with_items_is}
 use Rattle.energy_budget.specs.declared.energy.Dark.{Dark}
 use Rattle.energy_budget.specs.Actions.{drain_actions}
 use Rattle.energy_budget.specs.Gauge.{Gauge}
-use Rattle.channel_port.specs.Draining.{Paid, PaysInTurn, TakesWrites, pending_each}
+use Rattle.channel_port.specs.Draining.{Paid, PaysInTurn, TakesPaid, TakesWrites, entries_in, pending_each}
 use Rattle.channel_set.specs.Draining.{DrainsAll}
-use Rattle.channel_set.proofs.Common.{◌+◌, length-set, arith, ◌≡◌, ◌<◌, ◌≤◌, inl, inr, ℕ, suc, refl, sym, ap, subst, ◌∙◌, List, [], drop, flat_map, length, slice_get, slice_set, same_Some, slice_get_within, Some, AllZip, Err, Ok, OnOk, Costs, Ghosts, KeepsCarried, Waits, emptied, PortTerms, ArePorts, ChannelSet, IsShape, places_of, shape_with, view_of, waits_in}
+use Rattle.channel_set.proofs.Common.{◌+◌, length-set, arith, ◌≡◌, ◌<◌, ◌≤◌, inl, inr, ℕ, suc, refl, sym, ap, subst, ◌∙◌, List, [], drop, take, flat_map, length, slice_get, slice_set, same_Some, slice_get_within, Some, AllZip, Err, Ok, OnOk, Costs, Ghosts, KeepsCarried, Waits, emptied, PortTerms, ArePorts, ChannelSet, IsShape, places_of, shape_with, view_of, waits_in}
 use Rattle.channel_set.proofs.Alike.{Alike, alike-from, places-again, ports-alike, seen, seen-again, shaped-again}
 use Rattle.channel_set.proofs.Carried.{Kept}
 use Rattle.channel_set.proofs.Counted.{OwnWrites, given_in, reads_in, same-waits, writes-there, writes_in}
-use Rattle.channel_set.proofs.Lists.{AreTaken, Moved, moved-more, moved-none, at-within, get-set_other, moved-all, moved-last, piles-none, piles-same, piles-taken, set-cases, zip-size, zip-was, zip-weaker}
+use Rattle.channel_set.proofs.Lists.{AreTaken, Moved, at-within, moved-more, moved-none, get-set_other, get-set_same, moved-all, moved-last, piles-none, piles-same, piles-taken, taken-count, set-cases, zip-size, zip-weaker}
+use Rattle.channel_port.proofs.Entries.{paid-calls, refused-calls}
+use Rattle.channel_set.proofs.Entries.{entries-each, entries-first}
 use Rattle.channel_set.proofs.Paying.{pays-more, pays-refused}
 use Rattle.channel_set.proofs.Piles.{remain-dropped}
 
@@ -36,10 +38,11 @@ module _ {K : Type 0} (L : Ghosts K) where
     pub writes : writes_in L port ≡ []
     pub reads : reads_in L port ≡ []
 
-  -- The first ports are dry, of one some writes have gone, and the others are as they were.
-  pub record DrainedTo (k : ℕ) (old new : List K) : Type 0 where
+  -- The first ports are dry, of one so many writes have gone, and the others are as they were.
+  pub record DrainedTo (k gone : ℕ) (old new : List K) : Type 0 where
     pub each : AllZip Drains old new
     pub dry : (j : ℕ) (q : K) → j < k → slice_get new j ≡ Some q → IsDry q
+    pub cut : (p q : K) → slice_get old k ≡ Some p → slice_get new k ≡ Some q → writes_in L q ≡ drop gone (writes_in L p)
     pub left : (j : ℕ) → k < j → slice_get new j ≡ slice_get old j
 
   moved-dry : (k : ℕ) (old now : List K) (j : ℕ) (q : K) → Moved DrainsDry k old now → j < k → slice_get now j ≡ Some q → IsDry q
@@ -48,24 +51,29 @@ module _ {K : Type 0} (L : Ghosts K) where
       let dry = (moved.done j was.it q less was.stands at).dry in
       record { writes = ap (λ (w : Waits). w.writes) dry; reads = ap (λ (w : Waits). w.reads) dry }
 
-  pub drained-dry : (k : ℕ) (old now : List K) → length old ≤ k → Moved DrainsDry k old now → DrainedTo k old now
+  pub drained-dry : (k : ℕ) (old now : List K) → length old ≤ k → Moved DrainsDry k old now → DrainedTo k 0 old now
   drained-dry k old now all moved = record {
     each = zip-weaker DrainsDry Drains old now (λ j p q at d. d.drains) (moved-all DrainsDry k old now all moved);
     dry = λ j q less at. moved-dry k old now j q moved less at;
+    cut = λ p q stood stands. absurd (omega (arith, all, slice_get_within old k p stood));
     left = λ j less. moved.left j (omega (arith, less));
   }
 
-  pub drained-last : (k : ℕ) (old now : List K) (p q : K) → Moved DrainsDry k old now → slice_get now k ≡ Some p → Drains p q → DrainedTo k old (slice_set now k q)
-  drained-last k old now p q moved at drains = record {
+  pub drained-last : (k gone : ℕ) (old now : List K) (p q : K) → Moved DrainsDry k old now → slice_get now k ≡ Some p → Drains p q → writes_in L q ≡ drop gone (writes_in L p) → DrainedTo k gone old (slice_set now k q)
+  drained-last k gone old now p q moved at drains cut = record {
     each = moved-last DrainsDry Drains k old now p q (λ a b d. d.drains) drains-none moved at drains;
     dry = λ j z less there. elim (set-cases now k q j z there) [
       | inl here ↦ absurd (omega (arith, less, here.0))
       | inr else ↦ moved-dry k old now j z moved less else.1
     ];
+    cut = λ a b stood stands.
+        ap (writes_in L) (sym (same_Some q b (sym (get-set_same now k q (slice_get_within now k p at)) ∙ stands)))
+        ∙ cut
+        ∙ ap (λ x. drop gone (writes_in L x)) (same_Some p a (sym at ∙ moved.left k (omega arith) ∙ stood));
     left = λ j less. get-set_other now k j q (λ e. absurd (omega (arith, less, e))) ∙ moved.left j (omega (arith, less));
   }
 
-  module _ (k : ℕ) (old new : List K) (drained : DrainedTo k old new) where
+  module _ (k gone : ℕ) (old new : List K) (drained : DrainedTo k gone old new) where
     drained-size : length new ≡ length old
     drained-size = zip-size Drains old new drained.each
 
@@ -83,37 +91,23 @@ module _ {K : Type 0} (L : Ghosts K) where
     pub drained-kept : AllZip (Kept L) old new
     drained-kept = zip-weaker Drains (Kept L) old new (λ j p q at d. record { keeps = d.keeps; remain = remain-dropped d.takes.0 (writes_in L p) (writes_in L q) d.takes.1.writes }) drained.each
 
-    are-taken : (gone : ℕ) → ((p q : K) → slice_get old k ≡ Some p → slice_get new k ≡ Some q → writes_in L q ≡ drop gone (writes_in L p)) → AreTaken (writes_in L) k gone old new
-    are-taken gone cut = record {
+    are-taken : AreTaken (writes_in L) k gone old new
+    are-taken = record {
       size = drained-size;
       none = λ j q less at. (drained.dry j q less at).writes;
-      cut = cut;
+      cut = drained.cut;
       left = λ j p q less stood stands. ap (writes_in L) (same_Some q p (sym stands ∙ drained.left j less ∙ stood));
     }
-
-    drained-writes : (gone : ℕ) × (flat_map (writes_in L) new ≡ drop gone (flat_map (writes_in L) old))
-    drained-writes = elim (cases_lt k (length new)) [
-      | inl within ↦
-          let last = at-within new k within in
-          let was = zip-was Drains old new k last.it drained.each last.stands in
-          piles-taken (writes_in L) k was.related.takes.0 old new (are-taken was.related.takes.0 (λ p q stood stands.
-          ap (writes_in L) (same_Some q last.it (sym stands ∙ last.stands)) ∙ was.related.takes.1.writes ∙ ap (λ x. drop was.related.takes.0 (writes_in L x)) (same_Some was.old p (sym was.stood ∙ stood))))
-      | inr beyond ↦ piles-taken (writes_in L) k 0 old new (are-taken 0 (λ p q stood stands. absurd (omega (arith, beyond, slice_get_within new k q stands))))
-    ]
 
     drained-given : (waits_in L new).given ≡ (waits_in L old).given
     drained-given = piles-same (given_in L) old new (zip-weaker Drains (λ p q. given_in L q ≡ given_in L p) old new (λ j p q at d. d.takes.1.given) drained.each)
 
-    drained-takes : (gone : ℕ) × TakesWrites gone (waits_in L old) (waits_in L new)
-    drained-takes =
-        let (gone, writes) = drained-writes in (
-          gone,
-          record {
-            writes = writes;
-            reads = piles-same (reads_in L) old new (zip-weaker Drains (λ p q. reads_in L q ≡ reads_in L p) old new (λ j p q at d. d.takes.1.reads) drained.each);
-            given = drained-given;
-          },
-        )
+    drained-takes : TakesWrites (taken-count (writes_in L) k gone old) (waits_in L old) (waits_in L new)
+    drained-takes = record {
+      writes = piles-taken (writes_in L) k gone old new are-taken;
+      reads = piles-same (reads_in L) old new (zip-weaker Drains (λ p q. reads_in L q ≡ reads_in L p) old new (λ j p q at d. d.takes.1.reads) drained.each);
+      given = drained-given;
+    }
 
     drained-empty : length old ≤ k → waits_in L new ≡ emptied (waits_in L old)
     drained-empty all =
@@ -155,34 +149,71 @@ module _ {K : Type 0} (L : Ghosts K) where
         → PaysInTurn channels.costs (flat_map drain_actions (pending_each (length channels.ports.items) (waits_in L channels.ports.items).writes)) before (Err dark) later
     draining-refused own dark later less then = pays-refused channels.costs (suc i) (length channels.ports.items) (waits_in L channels.ports.items).writes before dark later (omega (arith, less)) (pays-there own (Err dark) later then)
 
-    pub drained-then : (was : List K) → was ≡ channels.ports.items → length was ≡ vec_len channels.ports → Drains p q → DrainedTo i channels.ports.items (with_items channels.ports (slice_set now i q)).items
-    drained-then was is len drains =
-        subst (DrainedTo i channels.ports.items) (sym (with_items_is channels.ports (slice_set now i q) (length-set now i q ∙ draining.moved.size ∙ ap length (sym is) ∙ len)))
-        (drained-last i channels.ports.items now p q draining.moved at drains)
+    -- which writes have gone then
+    pub refused-takes : OwnWrites L → (dark : Dark) (later : Gauge) (new : List K) → (did : TakesPaid (drain_actions (length (writes_in L p))) (L.view p).waits mid (Err dark) (L.view q).waits later)
+        → PaysInTurn channels.costs (drain_actions (length (writes_in L p))) mid (Err dark) later → DrainedTo i (entries_in (take did.paid (drain_actions (length (writes_in L p))))) channels.ports.items new
+        → TakesPaid (flat_map drain_actions (pending_each (length channels.ports.items) (waits_in L channels.ports.items).writes)) (waits_in L channels.ports.items) before (Err dark) (waits_in L new) later
+    refused-takes own dark later new did pays drained =
+        let ports = channels.ports.items in
+        let actions = drain_actions (length (writes_in L p)) in
+        let first = flat_map drain_actions (pending_each i (waits_in L ports).writes) in
+        let within : did.paid ≤ length actions = omega (arith, did.counts, refused-calls channels.costs actions mid dark later pays) in
+        record {
+          paid = length first + did.paid;
+          counts = omega (arith, did.counts, paid-calls channels.costs first before mid draining.pays);
+          takes = subst (λ n. TakesWrites n (waits_in L ports) (waits_in L new)) (sym (entries-first L channels.terms ports channels.are own i did.paid p stood within))
+              (drained-takes i (entries_in (take did.paid actions)) ports new drained);
+        }
+
+    pub drained-then : (was : List K) → was ≡ channels.ports.items → length was ≡ vec_len channels.ports → Drains p q → (gone : ℕ) → writes_in L q ≡ drop gone (writes_in L p)
+        → DrainedTo i gone channels.ports.items (with_items channels.ports (slice_set now i q)).items
+    drained-then was is len drains gone cut =
+        subst (DrainedTo i gone channels.ports.items) (sym (with_items_is channels.ports (slice_set now i q) (length-set now i q ∙ draining.moved.size ∙ ap length (sym is) ∙ len)))
+        (drained-last i gone channels.ports.items now p q draining.moved at drains cut)
 
   pub drained-whole : (channels : ChannelSet K L) (before : Gauge) (i : ℕ) (now : List K) (gauge : Gauge) (was : List K) → Draining channels before i now gauge → was ≡ channels.ports.items → length was ≡ vec_len channels.ports → length was ≤ i
-      → DrainedTo i channels.ports.items (with_items channels.ports now).items
+      → DrainedTo i 0 channels.ports.items (with_items channels.ports now).items
   drained-whole channels before i now gauge was draining is len all =
-      subst (DrainedTo i channels.ports.items) (sym (with_items_is channels.ports now (draining.moved.size ∙ ap length (sym is) ∙ len)))
+      subst (DrainedTo i 0 channels.ports.items) (sym (with_items_is channels.ports now (draining.moved.size ∙ ap length (sym is) ∙ len)))
       (drained-dry i channels.ports.items now (omega (arith, all, ap length is)) draining.moved)
 
-  module _ (channels : ChannelSet K L) (k : ℕ) (new : List K) (drained : DrainedTo k channels.ports.items new) where
+  module _ (channels : ChannelSet K L) (k gone : ℕ) (new : List K) (drained : DrainedTo k gone channels.ports.items new) where
     pub drains-all : (before : Gauge) (result : Paid) (later : Gauge) → PaysInTurn channels.costs (flat_map drain_actions (pending_each (length channels.ports.items) (waits_in L channels.ports.items).writes)) before result later
+        → TakesPaid (flat_map drain_actions (pending_each (length channels.ports.items) (waits_in L channels.ports.items).writes)) (waits_in L channels.ports.items) before result (waits_in L new) later
         → OnOk result (length channels.ports.items ≤ k) → DrainsAll (view_of L channels) before result (seen L channels.terms channels.costs new) later
-    drains-all before result later pays all =
+    drains-all before result later pays takes all =
         let old = channels.ports.items in
-        let (gone, takes) = drained-takes k old new drained in
         record {
           pays = pays;
-          rest = seen-again L channels.terms channels.costs old new (drained-size k old new drained) (drained-places k old new drained);
-          takes = (gone, takes);
-          remain = remain-dropped gone (waits_in L old).writes (waits_in L new).writes takes.writes;
-          dry = dry-where-ok k old new drained result all;
+          rest = seen-again L channels.terms channels.costs old new (drained-size k gone old new drained) (drained-places k gone old new drained);
+          takes = takes;
+          remain = remain-dropped (taken-count (writes_in L) k gone old) (waits_in L old).writes (waits_in L new).writes (drained-takes k gone old new drained).writes;
+          dry = dry-where-ok k gone old new drained result all;
         }
+
+    -- all were paid for
+    pub drains-whole : OwnWrites L → (before later : Gauge) → PaysInTurn channels.costs (flat_map drain_actions (pending_each (length channels.ports.items) (waits_in L channels.ports.items).writes)) before (Ok tt) later
+        → length channels.ports.items ≤ k → DrainsAll (view_of L channels) before (Ok tt) (seen L channels.terms channels.costs new) later
+    drains-whole own before later pays all =
+        let old = channels.ports.items in
+        let actions = flat_map drain_actions (pending_each (length old) (waits_in L old).writes) in
+        let none : (waits_in L new).writes ≡ [] = ap (λ (w : Waits). w.writes) (drained-empty k gone old new drained all) in
+        drains-all before (Ok tt) later pays
+        (record {
+          paid = length actions;
+          counts = refl;
+          takes = record {
+            writes = none ∙ sym (drop-length (waits_in L old).writes) ∙ ap (λ n. drop n (waits_in L old).writes) (sym (entries-each L channels.terms old channels.are own));
+            reads = (drained-takes k gone old new drained).reads;
+            given = (drained-takes k gone old new drained).given;
+          };
+        })
+        all
 
     -- a payment was refused
     pub drains-refused : (before : Gauge) (result : Paid) (dark : Dark) (later : Gauge) → IsErr result
         → PaysInTurn channels.costs (flat_map drain_actions (pending_each (length channels.ports.items) (waits_in L channels.ports.items).writes)) before (Err dark) later
+        → TakesPaid (flat_map drain_actions (pending_each (length channels.ports.items) (waits_in L channels.ports.items).writes)) (waits_in L channels.ports.items) before (Err dark) (waits_in L new) later
         → DrainsAll (view_of L channels) before result (seen L channels.terms channels.costs new) later
-    drains-refused before (Ok done) dark later is pays = absurd (let bad : ⊥ = cc in bad)
-    drains-refused before (Err other) dark later is pays = drains-all before (Err other) later pays tt
+    drains-refused before (Ok done) dark later is pays takes = absurd (let bad : ⊥ = cc in bad)
+    drains-refused before (Err other) dark later is pays takes = drains-all before (Err other) later pays (record { paid = takes.paid; counts = takes.counts; takes = takes.takes }) tt

@@ -12,3 +12,4 @@ pub mod Paging
 pub mod Turned
 pub mod Paying
 pub mod Drained
+pub mod Entries

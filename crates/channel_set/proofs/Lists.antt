@@ -147,22 +147,29 @@ pub record AreTaken {X A : Type 0} (f : X → List A) (k gone : ℕ) (xs ys : Li
   pub cut : (x y : X) → slice_get xs k ≡ Some x → slice_get ys k ≡ Some y → f y ≡ drop gone (f x)
   pub left : (j : ℕ) (x y : X) → k < j → slice_get xs j ≡ Some x → slice_get ys j ≡ Some y → f y ≡ f x
 
-pub piles-taken : {X A : Type 0} (f : X → List A) (k gone : ℕ) (xs ys : List X) → AreTaken f k gone xs ys → (m : ℕ) × (flat_map f ys ≡ drop m (flat_map f xs))
-piles-taken f k gone [] [] taken = (0, refl)
+-- how many elements are gone then
+abbrev pub taken-count : {X A : Type 0} → (X → List A) → ℕ → ℕ → List X → ℕ
+taken-count f k gone [] = 0
+taken-count f zero gone (x ∷ xs) = min gone (length (f x))
+taken-count f (suc k) gone (x ∷ xs) = length (f x) + taken-count f k gone xs
+
+pub piles-taken : {X A : Type 0} (f : X → List A) (k gone : ℕ) (xs ys : List X) → AreTaken f k gone xs ys → flat_map f ys ≡ drop (taken-count f k gone xs) (flat_map f xs)
+piles-taken f k gone [] [] taken = refl
 piles-taken f k gone [] (y ∷ ys) taken = absurd (omega (arith, taken.size))
 piles-taken f k gone (x ∷ xs) [] taken = absurd (omega (arith, taken.size))
 piles-taken f zero gone (x ∷ xs) (y ∷ ys) taken =
     let n = min gone (length (f x)) in
     let rest = piles-same f xs ys (zip-of (λ x y. f y ≡ f x) xs ys (omega (arith, taken.size)) (λ j a b stood stands. taken.left (suc j) a b (omega arith) stood stands)) in
-    (n, ap (λ zs. zs ++ flat_map f ys) (taken.cut x y refl refl ∙ sym (drop_min gone (f x))) ∙ ap (λ zs. drop n (f x) ++ zs) rest ∙ sym (drop-append-le n (f x) (flat_map f xs) (omega arith)))
+    ap (λ zs. zs ++ flat_map f ys) (taken.cut x y refl refl ∙ sym (drop_min gone (f x))) ∙ ap (λ zs. drop n (f x) ++ zs) rest ∙ sym (drop-append-le n (f x) (flat_map f xs) (omega arith))
 piles-taken f (suc k) gone (x ∷ xs) (y ∷ ys) taken =
-    let (m, is) = piles-taken f k gone xs ys (record {
+    let m = taken-count f k gone xs in
+    let is = piles-taken f k gone xs ys (record {
       size = omega (arith, taken.size);
       none = λ j b less stands. taken.none (suc j) b (omega (arith, less)) stands;
       cut = λ a b stood stands. taken.cut a b stood stands;
       left = λ j a b less stood stands. taken.left (suc j) a b (omega (arith, less)) stood stands;
     }) in
-    (length (f x) + m, ap (λ zs. zs ++ flat_map f ys) (taken.none zero y (omega arith) refl) ∙ is ∙ ap (drop m) (sym (drop_at (f x) (flat_map f xs) (length (f x)) refl)) ∙ drop-drop m (length (f x)) (f x ++ flat_map f xs))
+    ap (λ zs. zs ++ flat_map f ys) (taken.none zero y (omega arith) refl) ∙ is ∙ ap (drop m) (sym (drop_at (f x) (flat_map f xs) (length (f x)) refl)) ∙ drop-drop m (length (f x)) (f x ++ flat_map f xs)
 
 -- where all piles together are none, each is none
 pub none-of : {X A : Type 0} (f : X → List A) (xs : List X) (i : ℕ) (x : X) → slice_get xs i ≡ Some x → flat_map f xs ≡ [] → f x ≡ []

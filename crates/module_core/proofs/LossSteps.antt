@@ -1,15 +1,17 @@
 -- The loss of mains while writes are backed: which step of the machine it is.
 use Rattle.std.proofs.Math.ListN.{get_or-append}
-use Rattle.std.proofs.Math.Seq.{take-append-add, take-length}
-use Rattle.std.proofs.lemmas.List.{get_or-append-add, take-append-le}
+use Rattle.std.proofs.Math.Seq.{drop-nil, take-append-add, take-length}
+use Rattle.std.proofs.lemmas.List.{drop-drop, get_or-append-add, length-take-le, take-append-le}
 use Rattle.std.proofs.lemmas.Option.{get_or_from_slice_get, slice_get_read, slice_get_within}
 use Rattle.std.specs.List.{flat_map}
 use Rattle.std.specs.Prelude.{slice_get}
 use Rattle.arm_state.specs.declared.loss.Loss.{Loss}
-use Rattle.channel_port.specs.Draining.{Paid, PaysInTurn, pending_each}
+use Rattle.channel_port.specs.Draining.{Paid, PaysInTurn, entries_in, pending_each}
 use Rattle.channel_port.specs.Waits.{Remain, emptied}
 use Rattle.channel_port.specs.declared.answers.Ticket.{Ticket}
+use Rattle.channel_port.proofs.Entries.{entries-both, paid-calls}
 use Rattle.channel_set.specs.Draining.{DrainsAll}
+use Rattle.energy_budget.specs.declared.energy.GaugeCall.TheVariants.{Pay}
 use Rattle.energy_budget.specs.Actions.{closing_actions, drain_actions}
 use Rattle.module_core.specs.Closing.{ClosesChannels, ClosingAt, DarkInDrains, RefusedAfter, SavesClosing}
 use Rattle.module_core.specs.Saving.{IsAmongEither}
@@ -20,7 +22,7 @@ use Rattle.save_device.specs.Calls.{all_good}
 use Rattle.arm_state.specs.declared.loss.Loss.TheVariants as loss
 use Rattle.arm_state.specs.declared.mode.Mode.TheVariants as modes
 use Rattle.slot_store.specs.declared.source.BrokenOff.TheVariants as broken
-use Rattle.module_core.proofs.Common.{[], ℕ, ◌++◌, ◌+◌, ◌-◌, ◌<◌, ◌∙◌, ◌∷◌, ◌≡◌, Action, Costs, Dark, DeviceState, Err, Gauge, GaugeCall, Image, IsAmong, LeavesOnly, List, Machine, Mode, None, Ok, ReachesStore, ReadsLevel, Setup, Some, StopsWithin, Store, Waiting, World, after, after_steps, ap, append-nil, arith, false, inl, inr, is_backed, length, length-append, made_of, more, present, refl, restored, rules, save_actions, saved_in, started, step_failed, subst, suc, sym, take, true}
+use Rattle.module_core.proofs.Common.{[], ℕ, ◌++◌, ◌+◌, ◌-◌, ◌<◌, ◌∙◌, ◌∷◌, ◌≡◌, Action, Costs, Dark, DeviceState, Err, Gauge, GaugeCall, Image, IsAmong, LeavesOnly, List, Machine, Mode, None, Ok, ReachesStore, ReadsLevel, Setup, Some, StopsWithin, Store, Waiting, Waits, World, after, after_steps, ap, append-nil, arith, drop, false, inl, inr, is_backed, length, length-append, made_of, more, present, refl, restored, rules, save_actions, saved_in, started, step_failed, subst, suc, sym, take, true}
 use Rattle.module_core.proofs.RunningSaves.{failed_none}
 
 -- where the payments stopped
@@ -71,8 +73,8 @@ module _ (trail : ℕ) (m : Machine) (before : Gauge) (reading : ℕ) (old new :
     backed = backed;
     answered = refl;
     rest = refl;
-    reads = d.takes.1.reads ∙ no_reads;
-    given = d.takes.1.given ∙ tickets;
+    reads = d.takes.takes.reads ∙ no_reads;
+    given = d.takes.takes.given ∙ tickets;
     writes = subst (λ (ws : List Waiting). Remain ws new.channels.waits.writes) writes d.remain;
     ended = none;
   }
@@ -103,6 +105,37 @@ module _ (trail : ℕ) (m : Machine) (before : Gauge) (reading : ℕ) (old new :
   -- nothing waits behind the drains
   emptied_on : (mid : Gauge) → DrainsAll old.channels old.at.gauge (Ok tt) new.channels mid → new.channels.waits ≡ emptied m.waits
   emptied_on mid d = d.dry ∙ ap (λ (ts : List Ticket). record { writes = []; reads = []; given = ts }) tickets
+
+  -- which writes wait where a payment for the drains was refused, the one after so many
+  left_in_drains : (dark : Dark) (paid : ℕ) → DrainsAll old.channels old.at.gauge (Err dark) new.channels new.at.gauge → RefusedAfter costs drains paid old.at.gauge new.at.gauge → paid < drain_count setup m
+      → new.channels.waits.writes ≡ drop (entries_in (take paid (closing_of setup m))) m.waits.writes
+  left_in_drains dark paid d s below =
+      let size : length (take paid drains) ≡ paid = length-take-le paid drains (omega (arith, below)) in
+      let same : d.takes.paid ≡ paid = omega (arith, d.takes.counts, paid-calls costs (take paid drains) old.at.gauge s.mid s.pays, size, ap length s.refused.called, length-append s.mid.calls (Pay ∷ [])) in
+      d.takes.takes.writes
+      ∙ ap (λ (ws : List Waiting). drop (entries_in (take d.takes.paid (flat_map drain_actions (pending_each setup.shape.channels ws)))) ws) writes
+      ∙ ap (λ (k : ℕ). drop (entries_in (take k drains)) m.waits.writes) same
+      ∙ ap (λ (xs : List Action). drop (entries_in xs) m.waits.writes) (sym (take-append-le paid drains steps (omega (arith, below))))
+      ∙ ap (λ (xs : List Action). drop (entries_in (take paid xs)) m.waits.writes) (sym whole)
+
+  -- and none waits behind the drains
+  left_behind : (mid : Gauge) (k : ℕ) → DrainsAll old.channels old.at.gauge (Ok tt) new.channels mid → new.channels.waits.writes ≡ drop (entries_in (take (drain_count setup m + k) (closing_of setup m))) m.waits.writes
+  left_behind mid k d =
+      let none : new.channels.waits.writes ≡ [] = ap (λ (w : Waits). w.writes) (emptied_on mid d) in
+      let all : List Action = flat_map drain_actions (pending_each setup.shape.channels old.channels.waits.writes) in
+      let took : new.channels.waits.writes ≡ drop (entries_in drains) m.waits.writes =
+      d.takes.takes.writes
+      ∙ ap (λ (n : ℕ). drop (entries_in (take n all)) old.channels.waits.writes) d.takes.counts
+      ∙ ap (λ (xs : List Action). drop (entries_in xs) old.channels.waits.writes) (take-length all)
+      ∙ ap (λ (ws : List Waiting). drop (entries_in (flat_map drain_actions (pending_each setup.shape.channels ws))) ws) writes in
+      let more : ℕ = entries_in (take k steps) in
+      none
+      ∙ sym (drop-nil more)
+      ∙ ap (drop more) (sym none ∙ took)
+      ∙ drop-drop more (entries_in drains) m.waits.writes
+      ∙ ap (λ (n : ℕ). drop n m.waits.writes) (sym (entries-both drains (take k steps)))
+      ∙ ap (λ (xs : List Action). drop (entries_in xs) m.waits.writes) (sym (take-append-add drains steps k))
+      ∙ ap (λ (xs : List Action). drop (entries_in (take (drain_count setup m + k) xs)) m.waits.writes) (sym whole)
 
   -- all was saved
   pub saved_on : ClosesChannels m.store made (Ok tt) old new → (mid : Gauge) × DrainsAll old.channels old.at.gauge (Ok tt) new.channels mid × SavesAfter mid (Ok tt)
@@ -144,6 +177,7 @@ module _ (trail : ℕ) (m : Machine) (before : Gauge) (reading : ℕ) (old new :
           comes = ap (λ (xs : List Action). slice_get xs paid) whole ∙ get_front drains steps paid s.coming s.comes;
           answer = s.answer;
           refused = s.refused;
+          left = left_in_drains d.answer paid d.drains s below;
           saved = ap (λ (k : ℕ). record (after_steps lines m.store made k).store { saving = None }) (sym none);
           calls = ap (λ (x : DeviceState). x.calls) d.unasked ∙ sym (append-nil old.at.device.calls) ∙ ap (λ (k : ℕ). old.at.device.calls ++ all_good (take k (save_calls setup m))) (sym none);
         };
@@ -168,6 +202,7 @@ module _ (trail : ℕ) (m : Machine) (before : Gauge) (reading : ℕ) (old new :
           comes = ap (λ (xs : List Action). slice_get xs (drain_count setup m + a.steps)) whole ∙ get_behind drains steps a.steps r.coming r.comes;
           answer = r.answer;
           refused = r.refused;
+          left = left_behind mid a.steps d;
           saved = ap (λ (k : ℕ). record (after_steps lines m.store made k).store { saving = None }) (sym behind);
           calls = a.calls ∙ ap (λ (k : ℕ). old.at.device.calls ++ all_good (take k (save_calls setup m))) (sym behind);
         };

@@ -1,5 +1,5 @@
 -- The loss of mains.
-use Rattle.std.specs.Prelude.{◌≡◌, ℕ, ◌+◌, ◌-◌, true, false, List, [], ◌∷◌, ◌++◌, length, take, slice_get, Ok, Err, Some, None}
+use Rattle.std.specs.Prelude.{◌≡◌, ℕ, ◌+◌, ◌-◌, true, false, List, [], ◌∷◌, ◌++◌, drop, length, take, slice_get, Ok, Err, Some, None}
 use Rattle.save_device.specs.declared.calls.CallKind.{CallKind}
 use Rattle.save_device.specs.Calls.{called, all_good}
 use Rattle.slot_store.specs.declared.plan.Step.TheVariants.{Close}
@@ -13,7 +13,7 @@ use Rattle.energy_budget.specs.Actions.{cost_of, drain_actions, closing_actions}
 use Rattle.energy_budget.specs.declared.energy.GaugeCall.TheVariants.{Tick}
 use Rattle.energy_budget.specs.Gauge.{Gauge, ReadsLevel, PaysCost}
 use Rattle.channel_port.specs.Waits.{Remain, emptied}
-use Rattle.channel_port.specs.Draining.{PaysInTurn, pending_each}
+use Rattle.channel_port.specs.Draining.{PaysInTurn, entries_in, pending_each}
 use Rattle.arm_state.specs.declared.loss.Loss.{Loss}
 use Rattle.arm_state.specs.declared.loss.Loss.TheVariants as loss
 use Rattle.nv_machine.specs.State.{Setup, Machine, World, made_of}
@@ -63,7 +63,8 @@ pub record SavesAll (setup : Setup) (generation count : ℕ) (old new : World) :
   pub pays : PaysFirst setup old new.machine.reading (length (closing_of setup old.machine)) new.gauge
   pub calls : new.device.calls ≡ old.device.calls ++ all_good (save_calls setup old.machine)
 
--- A payment was refused, and nothing ran after it: each action before it was paid for and made.
+-- A payment was refused, and nothing ran after it: each action before it was paid for and made. For each entry among them one write
+-- waits no more, from the first channel on, and in each the oldest first.
 pub record EndsDark (setup : Setup) (old new : World) : Type 0 where
   pub closes : LosesMains loss.Dark old.machine new.machine
   pub mode : new.machine.mode ≡ modes.Closing
@@ -74,6 +75,7 @@ pub record EndsDark (setup : Setup) (old new : World) : Type 0 where
   pub comes : slice_get (closing_of setup old.machine) paid ≡ Some coming
   pub answer : Dark
   pub refused : PaysCost mid (cost_of setup.shape.costs coming) (Err answer) new.gauge
+  pub left : new.machine.waits.writes ≡ drop (entries_in (take paid (closing_of setup old.machine))) old.machine.waits.writes
   pub saved : new.machine.store
       ≡ record (after_steps setup.shape.lines old.machine.store (made_of false old.machine) (paid - drain_count setup old.machine)).store { saving = None }
   pub calls : new.device.calls ≡ old.device.calls ++ all_good (take (paid - drain_count setup old.machine) (save_calls setup old.machine))

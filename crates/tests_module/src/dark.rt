@@ -26,8 +26,9 @@ struct Left {
     /// How many commands it has issued, and the last one.
     commands: u64,
     last: Option<Command>,
-    /// How many writes wait in it.
+    /// How many writes wait in it, and the number of the oldest of them.
     pending: u64,
+    oldest: Option<u64>,
 }
 
 fn left_in(channel: &Channel) -> Left {
@@ -43,6 +44,7 @@ fn left_in(channel: &Channel) -> Left {
         commands,
         last,
         pending: channel.pending() as u64,
+        oldest: channel.oldest().map(|(number, _place)| number),
     }
 }
 
@@ -53,9 +55,16 @@ fn left_on<R: Abort>(rt: &R, running: &Module<Ddr4Port<'_, ReadyMap>>, number: u
     }
 }
 
-// An armed module with a write that waits in channel 0, whose row is open, loses mains with so many units, and goes dark. The
-// two channels are left so.
-fn goes_dark<R: Abort>(rt: &R, alloc: Global, units: u64, first: Left, second: Left) {
+// An armed module loses mains with so many units, and goes dark. One write waits in channel 0, whose row is open, and behind it
+// those of further lines. The two channels are left so.
+fn goes_dark<R: Abort>(
+    rt: &R,
+    alloc: Global,
+    further: &[u64],
+    units: u64,
+    first: Left,
+    second: Left,
+) {
     let profile = tiny(rt, alloc);
     let map = ReadyMap {
         interleaving: Interleaving::Lines,
@@ -69,6 +78,9 @@ fn goes_dark<R: Abort>(rt: &R, alloc: Global, units: u64, first: Left, second: L
     };
     let mut load: Load<Ddr4Port<'_, ReadyMap>, MemoryDevice> = load_of(rt, ready);
     load.arm_with_a_write(rt);
+    for line in further.iter() {
+        load.write(rt, *line);
+    }
     load.gauge.set(units);
     same(rt, load.lose(), Loss::Dark);
     same(rt, left_on(rt, &load.running, 0), first);
@@ -94,12 +106,28 @@ const OPEN: Left = Left {
         row: 0,
     }),
     pending: 1,
+    oldest: Some(0),
 };
 
 const CLOSED: Left = Left {
     commands: 2,
     last: Some(Command::PreAll { rank: 0 }),
     pending: 1,
+    oldest: Some(0),
+};
+
+// Behind the precharge the first entry's ACT, WR and PRE.
+const ENTERED: Left = Left {
+    commands: 5,
+    last: Some(Command::Pre {
+        at: BankAddress {
+            rank: 0,
+            group: 0,
+            bank: 0,
+        },
+    }),
+    pending: 1,
+    oldest: Some(1),
 };
 
 // Behind the precharge the entry's ACT, WR and PRE, and the SRE.
@@ -107,38 +135,48 @@ const DRAINED: Left = Left {
     commands: 6,
     last: Some(Command::Sre { rank: 0 }),
     pending: 0,
+    oldest: None,
 };
 
 const UNTOUCHED: Left = Left {
     commands: 0,
     last: None,
     pending: 0,
+    oldest: None,
 };
 
 const ASLEEP: Left = Left {
     commands: 1,
     last: Some(Command::Sre { rank: 0 }),
     pending: 0,
+    oldest: None,
 };
 
 #[test]
 fn dark_before_the_first_action(rt: HostRuntime) {
-    goes_dark(&rt, rt.alloc(), 438, OPEN, UNTOUCHED);
+    goes_dark(&rt, rt.alloc(), &[], 438, OPEN, UNTOUCHED);
 }
 
 #[test]
 fn dark_behind_the_close_step(rt: HostRuntime) {
-    goes_dark(&rt, rt.alloc(), 439, CLOSED, UNTOUCHED);
-    goes_dark(&rt, rt.alloc(), 951, CLOSED, UNTOUCHED);
+    goes_dark(&rt, rt.alloc(), &[], 439, CLOSED, UNTOUCHED);
+    goes_dark(&rt, rt.alloc(), &[], 951, CLOSED, UNTOUCHED);
+}
+
+// The older of two writes is in the array, and the newer waits.
+#[test]
+fn dark_between_two_entries(rt: HostRuntime) {
+    goes_dark(&rt, rt.alloc(), &[2], 952, ENTERED, UNTOUCHED);
+    goes_dark(&rt, rt.alloc(), &[2], 1_464, ENTERED, UNTOUCHED);
 }
 
 #[test]
 fn dark_behind_the_first_channel(rt: HostRuntime) {
-    goes_dark(&rt, rt.alloc(), 952, DRAINED, UNTOUCHED);
-    goes_dark(&rt, rt.alloc(), 1_390, DRAINED, UNTOUCHED);
+    goes_dark(&rt, rt.alloc(), &[], 952, DRAINED, UNTOUCHED);
+    goes_dark(&rt, rt.alloc(), &[], 1_390, DRAINED, UNTOUCHED);
 }
 
 #[test]
 fn dark_behind_both_channels(rt: HostRuntime) {
-    goes_dark(&rt, rt.alloc(), 1_391, DRAINED, ASLEEP);
+    goes_dark(&rt, rt.alloc(), &[], 1_391, DRAINED, ASLEEP);
 }

@@ -52,7 +52,8 @@ impl<K: ChannelPort, D: SaveDevice> Load<K, D> {
         panic!(*rt; "not there in time")
     }
 
-    fn write<R: Abort>(&mut self, rt: &R, line: u64) {
+    /// Writes a line.
+    pub(crate) fn write<R: Abort>(&mut self, rt: &R, line: u64) {
         let data = [0x44; 64];
         same(rt, self.running.write(Write { line, data }).is_ok(), true);
     }

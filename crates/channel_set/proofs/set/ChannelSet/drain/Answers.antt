@@ -1,9 +1,9 @@
 use Rattle.energy_budget.specs.Actions.{drain_actions}
-use Rattle.channel_port.specs.Draining.{PaysInTurn, pending_each}
-use Rattle.channel_set.proofs.Common.{arith, ◌≡◌, ◌<◌, ◌≤◌, refl, ap, subst, Ok, flat_map, get_or, length, slice_get-get_or, waits_in}
+use Rattle.channel_port.specs.Draining.{PaysInTurn, entries_in, pending_each}
+use Rattle.channel_set.proofs.Common.{arith, ◌≡◌, ◌<◌, ◌≤◌, refl, ap, subst, Ok, flat_map, get_or, length, slice_get-get_or, take, waits_in}
 use Rattle.channel_set.proofs.Carried.{carries-again}
-use Rattle.channel_set.proofs.Counted.{reads_in}
-use Rattle.channel_set.proofs.Drained.{draining-more, draining-none, draining-refused, drained-are, drained-kept, drained-places, drained-shaped, drained-then, drained-whole, drains-all, drains-refused, stood}
+use Rattle.channel_set.proofs.Counted.{reads_in, writes_in}
+use Rattle.channel_set.proofs.Drained.{draining-more, draining-none, draining-refused, drained-are, drained-kept, drained-places, drained-shaped, drained-then, drained-whole, drains-refused, drains-whole, refused-takes, stood}
 use Rattle.channel_set.proofs.Lists.{none-of}
 use Rattle.channel_set.proofs.set.ChannelSet.drain.Goals as goal
 
@@ -28,8 +28,9 @@ loop-port-preserved g c =
     let i = c.loop-port.port-index in
     let at = slice_get-get_or now i c.port-item.result (omega (arith, c.loop-port-test.true, c.loop-port.auto.port-items)) in
     let did = c.in_ok-drain.ensures in
+    let p = get_or now i c.port-item.result in
     draining-more L c.args.self.now (g.E.Energy.gauge c.args.energy.now) i now (g.E.Energy.gauge c.loop-port.energy) c.loop-port.invariant (get_or now i c.port-item.result) c.drain.new.self at g.met.K.ChannelPort.own_writes (g.E.Energy.gauge c.drain.new.energy)
-    (record { drains = record { takes = did.takes; rest = did.rest; keeps = did.keeps }; dry = did.dry }) did.pays
+    (record { drains = record { takes = (entries_in (take did.takes.paid (drain_actions (length (writes_in L p)))), did.takes.takes); rest = did.rest; keeps = did.keeps }; dry = did.dry }) did.pays
 
 pub invariant_of-self : goal.invariant_of-self
 invariant_of-self g c =
@@ -38,7 +39,7 @@ invariant_of-self g c =
     let ports = channels.ports.items in
     let i = c.loop-port.port-index in
     let drained = drained-whole L channels (g.E.Energy.gauge c.args.energy.now) i c.loop-port.port-items (g.E.Energy.gauge c.loop-port.energy) c.deref_mut-port-items.result.now c.loop-port.invariant c.deref_mut-port-items.ensures.value c.deref_mut-port-items.ensures.len c.loop-port-test.false in
-    record { are = drained-are L i ports _ drained channels.terms channels.are; shaped = drained-shaped L i ports _ drained channels.terms channels.costs channels.shaped }
+    record { are = drained-are L i 0 ports _ drained channels.terms channels.are; shaped = drained-shaped L i 0 ports _ drained channels.terms channels.costs channels.shaped }
 
 pub invariant_of-self-in-Break-1 : goal.invariant_of-self-in-Break-1
 invariant_of-self-in-Break-1 g c =
@@ -49,9 +50,11 @@ invariant_of-self-in-Break-1 g c =
     let i = c.loop-port.port-index in
     let at = slice_get-get_or now i c.port-item.result (omega (arith, c.loop-port-test.true, c.loop-port.auto.port-items)) in
     let did = c.drain.ensures in
+    let p = get_or now i c.port-item.result in
+    let gone = entries_in (take did.takes.paid (drain_actions (length (writes_in L p)))) in
     let drained = drained-then L channels (g.E.Energy.gauge c.args.energy.now) i now (g.E.Energy.gauge c.loop-port.energy) c.loop-port.invariant (get_or now i c.port-item.result) c.drain.new.self at c.deref_mut-port-items.result.now c.deref_mut-port-items.ensures.value c.deref_mut-port-items.ensures.len
-    (record { takes = did.takes; rest = did.rest; keeps = did.keeps }) in
-    record { are = drained-are L i ports _ drained channels.terms channels.are; shaped = drained-shaped L i ports _ drained channels.terms channels.costs channels.shaped }
+    (record { takes = (gone, did.takes.takes); rest = did.rest; keeps = did.keeps }) gone did.takes.takes.writes in
+    record { are = drained-are L i gone ports _ drained channels.terms channels.are; shaped = drained-shaped L i gone ports _ drained channels.terms channels.costs channels.shaped }
 
 pub returns-in_err-drain : goal.returns-in_err-drain
 returns-in_err-drain g c =
@@ -65,13 +68,15 @@ returns-in_err-drain g c =
     let i = c.loop-port.port-index in
     let p = get_or now i c.port-item.result in
     let at = slice_get-get_or now i c.port-item.result (omega (arith, c.loop-port-test.true, c.loop-port.auto.port-items)) in
-    let did = c.drain.ensures in
-    let drained = drained-then L channels before i now mid c.loop-port.invariant p c.drain.new.self at c.deref_mut-port-items.result.now c.deref_mut-port-items.ensures.value c.deref_mut-port-items.ensures.len (record { takes = did.takes; rest = did.rest; keeps = did.keeps }) in
+    let did = c.in_err-drain.ensures in
+    let gone = entries_in (take did.takes.paid (drain_actions (length (writes_in L p)))) in
+    let drained = drained-then L channels before i now mid c.loop-port.invariant p c.drain.new.self at c.deref_mut-port-items.result.now c.deref_mut-port-items.ensures.value c.deref_mut-port-items.ensures.len (record { takes = (gone, did.takes.takes); rest = did.rest; keeps = did.keeps }) gone did.takes.takes.writes in
     let less : i < length channels.ports.items = omega (arith, c.loop-port-test.true, ap length c.deref_mut-port-items.ensures.value) in
     let pays = draining-refused L channels before i now mid c.loop-port.invariant p c.drain.new.self at g.met.K.ChannelPort.own_writes dark later less c.in_err-drain.ensures.pays in
+    let takes = refused-takes L channels before i now mid c.loop-port.invariant p c.drain.new.self at g.met.K.ChannelPort.own_writes dark later _ did.takes did.pays drained in
     record {
-      drains = drains-refused L channels i _ drained before c.from_residual.result dark later c.from_residual.ensures.0 pays;
-      keeps = carries-again L channels _ refl (drained-places L i channels.ports.items _ drained) (drained-kept L i channels.ports.items _ drained);
+      drains = drains-refused L channels i gone _ drained before c.from_residual.result dark later c.from_residual.ensures.0 pays takes;
+      keeps = carries-again L channels _ refl (drained-places L i gone channels.ports.items _ drained) (drained-kept L i gone channels.ports.items _ drained);
     }
 
 pub returns : goal.returns
@@ -85,6 +90,6 @@ returns g c =
     let all : length channels.ports.items ≤ i = omega (arith, c.loop-port-test.false, ap length c.deref_mut-port-items.ensures.value) in
     let count : i ≡ length channels.ports.items = omega (arith, all, c.loop-port.auto.port-index-end, ap length c.deref_mut-port-items.ensures.value) in
     record {
-      drains = drains-all L channels i _ drained before (Ok tt) later (subst (λ n. PaysInTurn channels.costs (flat_map drain_actions (pending_each n (waits_in L channels.ports.items).writes)) before (Ok tt) later) count c.loop-port.invariant.pays) all;
-      keeps = carries-again L channels _ refl (drained-places L i channels.ports.items _ drained) (drained-kept L i channels.ports.items _ drained);
+      drains = drains-whole L channels i 0 _ drained g.met.K.ChannelPort.own_writes before later (subst (λ n. PaysInTurn channels.costs (flat_map drain_actions (pending_each n (waits_in L channels.ports.items).writes)) before (Ok tt) later) count c.loop-port.invariant.pays) all;
+      keeps = carries-again L channels _ refl (drained-places L i 0 channels.ports.items _ drained) (drained-kept L i 0 channels.ports.items _ drained);
     }

@@ -29,7 +29,13 @@ pub returns-clause-takes : goal.returns-clause-takes
 returns-clause-takes g c =
     let did = c.drain_paying-drained.ensures.drains in
     let none = lost-on-backup c.self.inside.stage c.self.inside.channel c.self.invariant.1.staged (rw (← c.self.view_is) at c.requires.backup) in
-    rw (← c.self.view_is) (drain-takes c.args.costs.now c.drain_paying-drained.result c.self.inside.channel c.drain_paying-drained.new.channel _ _ did none)
+    let s = c.self.inside.channel in
+    let t = c.drain_paying-drained.new.channel in
+    rw (← c.self.view_is)
+    (elim c.match-drained.branch [
+      | in-Ok w ↦ drain-takes c.args.costs.now c.drain_paying-drained.result s t _ _ did none c.match-drained.result (w.result-is ∙ sym (ap paid_by w.in-Ok.is))
+      | in-Err w ↦ drain-takes c.args.costs.now c.drain_paying-drained.result s t _ _ did none c.match-drained.result (w.result-is ∙ sym (ap paid_by w.in-Err.is))
+    ])
 
 pub returns-clause-keeps : goal.returns-clause-keeps
 returns-clause-keeps g c =
