@@ -20,6 +20,7 @@ pub mod Leaving
 -- what a run of events comes to
 pub mod JoinedRuns
 pub mod RisingMarks
+pub mod GivenTickets
 pub mod HonestRuns
 pub mod CountedFaults
 pub mod SparedDevices

@@ -11,6 +11,7 @@ pub mod Headline
 pub mod Honesty
 pub mod Rising
 pub mod SavedImages
+pub mod Tickets
 -- lives in a chain, and what a restore finds after them
 pub mod Opening
 pub mod Lives

@@ -12,6 +12,7 @@ mod lives;
 mod rising;
 mod saves;
 mod survival;
+mod tickets;
 mod turns;
 
 pub use events::{Accepted, Event, Reply, StepReply};
@@ -20,4 +21,5 @@ pub use lives::one_history;
 pub use rising::history_grows;
 pub use saves::saves_leave_old_or_new;
 pub use survival::survives_any_stop;
+pub use tickets::tickets_are_new;
 pub use turns::runs_join;

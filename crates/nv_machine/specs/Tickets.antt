@@ -1,0 +1,16 @@
+-- The tickets that replies give to reads.
+use Rattle.std.specs.Prelude.{◌≢◌, Ok, Option, Some, None}
+use Rattle.std.specs.Option.{ForSome}
+use Rattle.channel_port.specs.declared.answers.Got.TheVariants.{Later}
+use Rattle.channel_port.specs.declared.answers.Ticket.{Ticket}
+use Rattle.nv_machine.specs.declared.events.Reply.{Reply}
+use Rattle.nv_machine.specs.declared.events.Reply.TheVariants as replies
+
+-- the ticket that a reply gives, if it gives one
+abbrev pub ticket_of : Reply → Option Ticket
+ticket_of (replies.Read (Ok (Later ticket))) = Some ticket
+ticket_of reply = None
+
+-- the second reply doesn't give the ticket that the first one gave
+abbrev pub GivesAnother : Reply → Reply → Type 0
+GivesAnother first second = ForSome (ticket_of first) (λ ticket. ticket_of second ≢ Some ticket)
