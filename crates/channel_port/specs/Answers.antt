@@ -1,5 +1,5 @@
 -- What the calls of a channel answer, and what they change of what waits.
-use Rattle.std.specs.Prelude.{◌≡◌, ℕ, ◌<◌, Bool, true, false, List, slice_get, slice_set, Option, Some, None}
+use Rattle.std.specs.Prelude.{◌≡◌, ℕ, ◌<◌, Bool, true, false, List, insert, slice_get, slice_set, Option, Some, None}
 use Rattle.channel_port.specs.declared.answers.Ticket.{Ticket}
 use Rattle.channel_port.specs.declared.answers.Got.{Got}
 use Rattle.channel_port.specs.declared.answers.Got.TheVariants.{Now, Later}
@@ -7,15 +7,16 @@ use Rattle.channel_port.specs.declared.answers.Collected.{Collected}
 use Rattle.channel_port.specs.declared.answers.Collected.TheVariants.{Data, Pending, Unknown}
 use Rattle.channel_port.specs.declared.answers.Served.{Served}
 use Rattle.channel_port.specs.declared.answers.Served.TheVariants as served
-use Rattle.channel_port.specs.Waits.{OpenRead, Waits, Has, Joins, Goes, IsNewTicket, IsNeverGiven, waiting}
+use Rattle.channel_port.specs.Waits.{OpenRead, Waits, Has, Joins, Goes, IsNewTicket, IsNeverGiven, waiting, writes_up_to}
 
 -- the read that a ticket stands for
 abbrev pub open_read : Ticket → ℕ → List ℕ → ℕ → Bool → OpenRead
 open_read ticket line bytes at answered = record { ticket = ticket; line = line; bytes = bytes; at = at; answered = answered }
 
--- a write of this number, of a line of this channel, waits
+-- A write of this number, of a line of this channel, waits behind those of the channel and of all channels before it. So writes
+-- wait channel by channel, and in each the oldest first.
 pub record Puts (number channel : ℕ) (old new : Waits) : Type 0 where
-  pub joins : Joins (waiting number channel) old.writes new.writes
+  pub joins : new.writes ≡ insert old.writes (writes_up_to channel old.writes) (waiting number channel)
   pub reads : new.reads ≡ old.reads
   pub given : new.given ≡ old.given
 

@@ -1,5 +1,5 @@
 -- What waits in channels: writes that aren't in an array yet, and reads that were not collected; and which tickets they gave.
-use Rattle.std.specs.Prelude.{◌≡◌, ◌≢◌, ◌==◌, ℕ, ◌<◌, ◌≤◌, Bool, true, List, [], length, insert, remove, count_by, slice_get, All, Some}
+use Rattle.std.specs.Prelude.{◌≡◌, ◌≢◌, ◌==◌, ℕ, ◌<◌, ◌≤◌, Bool, true, List, [], length, insert, remove, count_by, nat_le, slice_get, All, Some}
 use Rattle.std.specs.List.{list_any}
 use Rattle.channel_port.specs.declared.answers.Ticket.{Ticket}
 use Rattle.channel_port.specs.declared.waiting.Waiting.{Waiting}
@@ -75,3 +75,10 @@ writes_on channel writes = count_by (is_write_on channel) writes
 
 abbrev pub reads_on : ℕ → List OpenRead → ℕ
 reads_on channel reads = count_by (is_read_on channel) reads
+
+-- whether a write is one of this channel or of one before it, and how many are
+abbrev pub is_write_up_to : ℕ → Waiting → Bool
+is_write_up_to channel w = nat_le w.channel channel
+
+abbrev pub writes_up_to : ℕ → List Waiting → ℕ
+writes_up_to channel writes = count_by (is_write_up_to channel) writes

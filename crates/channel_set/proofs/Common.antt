@@ -1,6 +1,6 @@
 -- The words that most proofs of this crate cite, passed on from one place.
 pub use Rattle.std.proofs.Common.{rules, arith, ◌≡◌, ◌≢◌, ◌==◌, ◌||◌, ◌+◌, ◌-◌, ◌*◌, ◌<◌, ◌≤◌, ◌⊎◌, inl, inr, ℕ, zero, suc, min, Bool, true, false, cond, eqb, nat_lt, if◌then◌else◌, refl, sym, ap, subst, ◌∙◌}
-pub use Rattle.std.proofs.Common.{All, List, [], ◌∷◌, ◌++◌, count_by, drop, filter, get_or, length, length-set, map, remove, slice_get, slice_index_or, slice_set, take, Option, Some, None, IfNone, IfSome}
+pub use Rattle.std.proofs.Common.{All, List, [], ◌∷◌, ◌++◌, count_by, drop, filter, get_or, insert, length, length-set, map, remove, slice_get, slice_index_or, slice_set, take, Option, Some, None, IfNone, IfSome}
 pub use Rattle.std.specs.Prelude.{Err, Ok, OnOk}
 pub use Rattle.std.specs.List.{AllZip, flat_map, list_any, range_with_len}
 pub use Rattle.std.proofs.lemmas.Bool.{cases_eq, eq-eqb, eqb-true, ne_eqb}

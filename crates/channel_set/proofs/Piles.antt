@@ -1,9 +1,9 @@
 -- Lists put behind one another, where one of them changes.
-use Rattle.std.proofs.lemmas.List.Edits.{insert-append_left}
+use Rattle.std.proofs.lemmas.List.Edits.{insert-append_left, insert-append_right, insert_end}
 use Rattle.std.proofs.lemmas.List.Elements.{filter-append}
 use Rattle.std.proofs.lemmas.List.Sums.{length-filter, sum_by-cons}
 use Rattle.std.proofs.lemmas.List.Folds.{list_any-append, list_any_at}
-use Rattle.channel_set.proofs.Common.{arith, ◌≡◌, ◌≢◌, ◌||◌, ◌+◌, ◌⊎◌, inl, inr, ℕ, zero, suc, Bool, true, false, cond, eqb, refl, sym, ap, subst, ◌∙◌, List, [], ◌∷◌, ◌++◌, count_by, drop, filter, length, remove, slice_get, slice_set, Some, flat_map, list_any, eq-eqb, ne_eqb, length-append, get_or_from_slice_get, same_Some, slice_get_within, Goes, Has, Joins, Remain}
+use Rattle.channel_set.proofs.Common.{arith, ◌≡◌, ◌≢◌, ◌||◌, ◌+◌, ◌-◌, ◌<◌, ◌≤◌, ◌⊎◌, inl, inr, ℕ, zero, suc, Bool, true, false, cond, eqb, refl, sym, ap, subst, ◌∙◌, List, [], ◌∷◌, ◌++◌, count_by, drop, filter, insert, length, remove, slice_get, slice_set, Some, flat_map, list_any, eq-eqb, ne_eqb, length-append, get_or_from_slice_get, same_Some, slice_get_within, Goes, Has, Joins, Remain}
 
 -- one element has another value
 abbrev pub Becomes : {X : Type 0} → X → X → List X → List X → Type 0
@@ -186,3 +186,28 @@ count-one test here f (x' ∷ xs) (suc i) x at_i else at tells =
 pub count-on : {X A : Type 0} (test : A → Bool) (f : X → List A) (xs : List X) (i : ℕ) (x : X) → slice_get xs i ≡ Some x
     → ((j : ℕ) (y : X) (a : A) → slice_get xs j ≡ Some y → Has a (f y) → test a ≡ eqb j i) → count_by test (flat_map f xs) ≡ length (f x)
 count-on test f xs i x at tells = count-one test (λ j. eqb j i) f xs i x (eq-eqb i i refl) (λ j apart. ne_eqb j i apart) at tells
+
+-- What joins one pile at its end stands behind that pile and all piles before it, where a test tells these from the others.
+pub one-behind : {X A : Type 0} (w : A) (test : A → Bool) (here : ℕ → Bool) (f : X → List A) (xs : List X) (i : ℕ) (x y : X) → ((j : ℕ) → j ≤ i → here j ≡ true) → ((j : ℕ) → i < j → here j ≡ false) → slice_get xs i ≡ Some x
+    → f y ≡ f x ++ w ∷ [] → ((j : ℕ) (z : X) (a : A) → slice_get xs j ≡ Some z → Has a (f z) → test a ≡ here j) → flat_map f (slice_set xs i y) ≡ insert (flat_map f xs) (count_by test (flat_map f xs)) w
+one-behind w test here f [] i x y upto past at ends tells = absurd cc
+one-behind w test here f (x' ∷ xs) zero x y upto past at ends tells =
+    let rest = flat_map f xs in
+    let first : count_by test (f x') ≡ length (f x') = count-each test true (f x') (λ a has. tells zero x' a refl has ∙ upto zero (omega arith)) in
+    let none : count_by test rest ≡ 0 = count-each test false rest (λ a has. let pile = from-pile f xs a has in tells (suc pile.place) pile.pile a pile.at pile.has ∙ past (suc pile.place) (omega arith)) in
+    let count : count_by test (f x' ++ rest) ≡ length (f x') = count-both test (f x') rest ∙ omega (arith, first, none) in
+    ap (λ ws. ws ++ rest) (ends ∙ ap (λ z. f z ++ w ∷ []) (sym (same_Some x' x at)) ∙ sym (insert_end (f x') w))
+    ∙ sym (insert-append_left (f x') rest (length (f x')) w (omega arith))
+    ∙ ap (λ n. insert (f x' ++ rest) n w) (sym count)
+one-behind w test here f (x' ∷ xs) (suc i) x y upto past at ends tells =
+    let rest = flat_map f xs in
+    let n = count_by test rest in
+    let first : count_by test (f x') ≡ length (f x') = count-each test true (f x') (λ a has. tells zero x' a refl has ∙ upto zero (omega arith)) in
+    let later =
+    one-behind w test (λ j. here (suc j)) f xs i x y (λ j less. upto (suc j) (omega (arith, less))) (λ j less. past (suc j) (omega (arith, less))) at ends (λ j z a there has. tells (suc j) z a there has) in
+    let count : count_by test (f x' ++ rest) ≡ length (f x') + n = count-both test (f x') rest ∙ omega (arith, first) in
+    let left : length (f x') + n - length (f x') ≡ n = omega arith in
+    ap (λ ws. f x' ++ ws) later
+    ∙ ap (λ k. f x' ++ insert rest k w) (sym left)
+    ∙ sym (insert-append_right (f x') rest (length (f x')) (length (f x') + n) w refl (omega arith))
+    ∙ ap (λ k. insert (f x' ++ rest) k w) (sym count)

@@ -1,13 +1,15 @@
 -- What a write that one port takes does to all channels.
 use Rattle.line_memory.specs.Memory.{IsMemory}
-use Rattle.std.proofs.lemmas.List.Edits.{insert_end}
+use Rattle.std.proofs.lemmas.Bool.{le-leb, lt-leb}
+use Rattle.std.specs.Prelude.{nat_le}
 use Rattle.channel_port.specs.Answers.{Puts}
 use Rattle.channel_port.specs.View.{with_write}
-use Rattle.channel_set.proofs.Common.{arith, ◌≡◌, ◌+◌, inl, inr, ℕ, zero, suc, refl, sym, ap, subst, ◌∙◌, List, [], ◌∷◌, ◌++◌, length, slice_get, slice_set, Some, same_Some, AreBefore, numbered, written_on, Ghosts, Has, Numbered, Waiting, Write, waiting, CarriesAll, CarriesOwn, ChannelSet, WaitAmong, places_of, Place, shape_of, waits_in}
+use Rattle.channel_port.specs.Waits.{is_write_up_to}
+use Rattle.channel_set.proofs.Common.{arith, ◌≡◌, ◌+◌, inl, inr, ℕ, zero, suc, refl, sym, ap, subst, ◌∙◌, List, [], ◌∷◌, ◌++◌, length, slice_get, slice_set, Some, same_Some, AreBefore, numbered, written_on, Ghosts, Has, Numbered, Waiting, Write, waiting, CarriesAll, CarriesOwn, ChannelSet, WaitAmong, PortTerms, ArePorts, places_of, Place, shape_of, waits_in}
 use Rattle.channel_set.proofs.Alike.{places-set}
-use Rattle.channel_set.proofs.Counted.{given_in, reads_in, writes_in}
+use Rattle.channel_set.proofs.Counted.{OwnWrites, given_in, reads_in, write-here, writes_in}
 use Rattle.channel_set.proofs.Lists.{set-cases}
-use Rattle.channel_set.proofs.Piles.{has-before, has-behind, has-either, one-joins, one-stays}
+use Rattle.channel_set.proofs.Piles.{has-before, has-behind, has-either, one-behind, one-stays}
 use Rattle.channel_set.proofs.Written.{numbers-before, written-else, written-here}
 
 module _ {K : Type 0} (L : Ghosts K) where
@@ -16,16 +18,13 @@ module _ {K : Type 0} (L : Ghosts K) where
     pub puts : L.view new ≡ with_write number (L.view old)
     pub carries : (base : List (List ℕ)) (mine : List Numbered) → L.carries old base mine → AreBefore number mine → L.carries new base (mine ++ numbered number write ∷ [])
 
-  pub puts-there : (number channel i : ℕ) (write : Write) (ports : List K) (p q : K) → slice_get ports i ≡ Some p → TakesWrite number write p q → (L.view p).number ≡ channel
-      → Puts number channel (waits_in L ports) (waits_in L (slice_set ports i q))
-  puts-there number channel i write ports p q at takes here = record {
-    joins = one-joins (waiting number channel) (writes_in L) ports i p q at (
-      length (writes_in L p),
-      omega arith,
-      ap (λ v. v.waits.writes) takes.puts
-          ∙ ap (λ c. writes_in L p ++ waiting number c ∷ []) here
-          ∙ sym (insert_end (writes_in L p) (waiting number channel)),
-    );
+  pub puts-there : (terms : PortTerms) (ports : List K) → ArePorts L terms ports → OwnWrites L → (number i : ℕ) (write : Write) (p q : K) → slice_get ports i ≡ Some p → TakesWrite number write p q
+      → Puts number i (waits_in L ports) (waits_in L (slice_set ports i q))
+  puts-there terms ports are own number i write p q at takes = record {
+    joins =
+        let ends = ap (λ v. v.waits.writes) takes.puts ∙ ap (λ c. writes_in L p ++ waiting number c ∷ []) (are.each i p at).number_is in
+        one-behind (waiting number i) (is_write_up_to i) (λ j. nat_le j i) (writes_in L) ports i p q (λ j less. le-leb j i less) (λ j less. lt-leb j i less) at ends
+        (λ j z w there has. ap (λ n. nat_le n i) (write-here L terms ports are own j z w there has));
     reads = one-stays (reads_in L) ports i p q at (ap (λ v. v.waits.reads) takes.puts);
     given = one-stays (given_in L) ports i p q at (ap (λ v. v.waits.given) takes.puts);
   }

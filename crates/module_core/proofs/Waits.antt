@@ -5,10 +5,11 @@ use Rattle.std.proofs.lemmas.Bool.Decides.{eqb_tells}
 use Rattle.std.proofs.lemmas.List.{take-append-drop}
 use Rattle.std.proofs.lemmas.List.Elements.{All-append, All-cons, All-drop, All-take, All-weaker}
 use Rattle.std.proofs.lemmas.List.Folds.{list_any-append}
+use Rattle.std.proofs.lemmas.List.Sums.{count_by-le-length}
 use Rattle.std.specs.List.{list_any}
 use Rattle.std.specs.Prelude.{◌==◌, ◌||◌, All, IfNone, IfSome}
 use Rattle.channel_port.specs.Answers.{IsBelowHold, IsServed, Puts}
-use Rattle.channel_port.specs.Waits.{AllBelow, Goes, Joins, waiting}
+use Rattle.channel_port.specs.Waits.{AllBelow, Goes, Joins, is_write_up_to, waiting, writes_up_to}
 use Rattle.channel_port.specs.declared.answers.Done.{Done}
 use Rattle.channel_port.specs.declared.answers.Served.{Served}
 use Rattle.std.proofs.Common.{drop-cons, get_or, slice_get}
@@ -46,12 +47,16 @@ held_joined n all w old new is joins held number from below =
     (λ other. let apart : number ≢ all = other.1 in any_stays (λ v. v.number == number) w old new joins (held number from (omega arith)))
     (eqb_tells number all)
 
+-- a write that is put joins those that wait
+pub puts_joins : (number channel : ℕ) (old new : Waits) → Puts number channel old new → Joins (waiting number channel) old.writes new.writes
+puts_joins number channel old new puts = (writes_up_to channel old.writes, count_by-le-length (is_write_up_to channel) old.writes, puts.joins)
+
 -- a write of the next number joins those below it
 pub below_joined : (number channel : ℕ) (old new : Waits) → Puts number channel old new → AllBelow number old.writes → AllBelow (number + 1) new.writes
 below_joined number channel old new puts all =
-    let place = puts.joins.0 in let P : Waiting → Type 0 = λ w. w.number < number + 1 in
+    let place = writes_up_to channel old.writes in let P : Waiting → Type 0 = λ w. w.number < number + 1 in
     let more : All P old.writes = All-weaker (λ w. w.number < number) P (λ w less. omega (arith, less)) old.writes all in
-    subst (All P) (sym puts.joins.2) (All-append P (take place old.writes) (waiting number channel ∷ drop place old.writes) (All-take P place old.writes more)
+    subst (All P) (sym puts.joins) (All-append P (take place old.writes) (waiting number channel ∷ drop place old.writes) (All-take P place old.writes more)
     (All-cons P (waiting number channel) (drop place old.writes) (omega arith) (All-drop P place old.writes more)))
 
 or_out : (a b c : Bool) → (a || (c || b)) ≡ true → c ≡ false → (a || b) ≡ true

@@ -5,6 +5,8 @@ use Rattle.save_device.specs.Device.{faults_of}
 use Rattle.save_device.specs.declared.calls.CallKind.{CallKind}
 use Rattle.slot_store.proofs.StepsLeft.{no_steps_left, steps_left-after}
 use Rattle.slot_store.specs.Steps.{steps_left}
+use Rattle.std.proofs.lemmas.List.Sums.{count_by-le-length}
+use Rattle.channel_port.specs.Waits.{is_write_up_to, writes_up_to}
 use Rattle.nv_machine.specs.Headline.{ticks_until_saved}
 use Rattle.nv_machine.proofs.Common.{Bool, [], ap, arith, false, length, refl, sym, true, ℕ, ◌+◌, ◌<◌, ◌∙◌, ◌∷◌, ◌≡◌, ◌≢◌, ◌≤◌, None, Ok, Some, is_some, length-append, Write, faults_more, DeviceState, step_after, Step, is_armed, is_backed, is_disarming, reads_gauge, mode_after, save_refusal, Mode, Move, backing_level-ticks, need_backs, Gauge, GaugeCall, IsHonestThrough, ReadsLevel, backing_level, IsBacked, IsHonest, SavesAllWritten, StaysBacked, MachineStep, WriteStep, advanced, armed, begun, disarming, finished, read_as, step_failed, stepped, written, is_low, lacks_energy, need_for, saves_of, Machine, RunningSave, Setup, Store, World, pending_of, Accepted, Event, Reply}
 use Rattle.nv_machine.proofs.ModeLaws.{is_armed_mode}
@@ -38,7 +40,7 @@ module _ (setup : Setup) (old new : World) (known : IsKnown setup old.machine) (
       by_kind : (b : Bool) → is_armed m.mode ≡ b → IsBacked setup (record m { life = written m.mode m.life write; waits = new.machine.waits }) old.gauge
       by_kind true on =
           let energy : lacks_energy setup m ≡ false = (accepted_where setup m write.line done.0).1 in let need : need_for setup (pending_of m + 1) ≤ m.reading = grind arith in
-          let more : pending_of new.machine ≡ pending_of m + 1 = ap length done.1.puts.joins.2 ∙ length-insert m.waits.writes done.1.puts.joins.0 _ done.1.puts.joins.1 in
+          let channel = setup.shape.channel_of write.line in let more : pending_of new.machine ≡ pending_of m + 1 = ap length done.1.puts.joins ∙ length-insert m.waits.writes (writes_up_to channel m.waits.writes) _ (count_by-le-length (is_write_up_to channel) m.waits.writes) in
           armed_backs setup _ old.gauge (is_armed_mode m.mode on) (rw more need) (backed.read on)
       by_kind false off = let calm : is_disarming m.mode ≡ false = (accepted_where setup m write.line done.0).0 in not_backed setup _ old.gauge (grind arith)
 

@@ -39,7 +39,7 @@ returns g c =
     let q = c.put.new.self in
     let at = stands-for L channels c.args.write.line c.args.place p c.requires.line c.requires.place c.index_mut.ensures.value in
     record {
-      puts = puts-there L c.args.number i i c.args.write channels.ports.items p q at (record { puts = c.put.ensures.puts; carries = c.put.ensures.carries }) (channels.are.each i p at).number_is;
+      puts = puts-there L channels.terms channels.ports.items channels.are g.met.K.ChannelPort.own_writes c.args.number i c.args.write p q at (record { puts = c.put.ensures.puts; carries = c.put.ensures.carries });
       rest = seen-set L channels i p q _ at c.put.ensures.puts;
       mains = stage-set L OnMains channels.ports.items i p q _ _ at c.put.ensures.puts c.requires.mains;
       carries = carries-put L channels _ i c.args.number c.args.write p q refl refl at (ap (λ (x : Place). x.channel) (sym c.requires.place)) (record { puts = c.put.ensures.puts; carries = c.put.ensures.carries });

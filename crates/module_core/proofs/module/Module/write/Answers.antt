@@ -11,7 +11,7 @@ use Rattle.nv_machine.specs.declared.events.Reply.TheVariants as replies
 use Rattle.module_core.specs.Stands.{IsCarried}
 use Rattle.module_core.proofs.Common.{rules, shape_of, [], ℕ, ◌+◌, ◌∙◌, ◌∷◌, ◌≡◌, ChannelsView, Err, IsMemory, Machine, Ok, Setup, Waits, WaitsFrom, all_of, ap, arith, base_of_life, inl, length, length-append, lines_of_module, memory_of, refl, setup_of, start_of_life, subst, sym, view_of}
 use Rattle.module_core.proofs.Applying.{alone, same_setup, unmoved}
-use Rattle.module_core.proofs.Waits.{below_joined, held_joined}
+use Rattle.module_core.proofs.Waits.{below_joined, held_joined, puts_joins}
 use Rattle.module_core.proofs.module.Module.write.Goals as goal
 
 pub returns-clause-answers : goal.returns-clause-answers
@@ -35,7 +35,7 @@ returns-clause-answers g c = λ device gauge.
       waits = refl;
       hold = ap (λ v. v.hold) c.put.ensures.rest ∙ h.carried.hold;
       held = λ k some. subst (λ (end : ℕ). WaitsFrom k end later.writes) (sym more)
-          (held_joined k (all_of m) (waiting (all_of m) channel) m.waits.writes later.writes refl puts.joins (h.carried.held k some));
+          (held_joined k (all_of m) (waiting (all_of m) channel) m.waits.writes later.writes refl (puts_joins (all_of m) channel m.waits later puts) (h.carried.held k some));
     } in record {
       later = n;
       step = (refl, (c.in-Ok.ensures.admitted m h, record { number = h.accepted; mark = persisted; puts = puts; is = refl }));
