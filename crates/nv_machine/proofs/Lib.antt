@@ -21,6 +21,7 @@ pub mod Leaving
 pub mod JoinedRuns
 pub mod RisingMarks
 pub mod GivenTickets
+pub mod OrderedWrites
 pub mod HonestRuns
 pub mod CountedFaults
 pub mod SparedDevices

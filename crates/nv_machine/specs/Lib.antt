@@ -12,6 +12,7 @@ pub mod Honesty
 pub mod Rising
 pub mod SavedImages
 pub mod Tickets
+pub mod WaitingOrder
 -- lives in a chain, and what a restore finds after them
 pub mod Opening
 pub mod Lives

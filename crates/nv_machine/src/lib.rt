@@ -9,6 +9,7 @@
 mod events;
 mod honesty;
 mod lives;
+mod order;
 mod rising;
 mod saves;
 mod survival;
@@ -18,6 +19,7 @@ mod turns;
 pub use events::{Accepted, Event, Reply, StepReply};
 pub use honesty::honest_run;
 pub use lives::one_history;
+pub use order::oldest_go_first;
 pub use rising::history_grows;
 pub use saves::saves_leave_old_or_new;
 pub use survival::survives_any_stop;
