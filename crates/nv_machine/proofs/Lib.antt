@@ -22,6 +22,7 @@ pub mod JoinedRuns
 pub mod RisingMarks
 pub mod GivenTickets
 pub mod OrderedWrites
+pub mod PaidEntries
 pub mod HonestRuns
 pub mod CountedFaults
 pub mod SparedDevices

@@ -1,19 +1,21 @@
 // In which order writes wait.
-ghost use Rattle.std.specs.Prelude.{Bool, List};
+ghost use Rattle.std.specs.Prelude.{◌≡◌, ◌+◌, Bool, List, length, take};
 ghost use Rattle.save_image.specs.Image.{Image};
 ghost use Rattle.slot_store.specs.declared.slots.Slot.{Slot};
 ghost use Rattle.channel_port.specs.declared.waiting.Waiting.{Waiting};
+ghost use Rattle.channel_port.specs.Draining.{entries_in};
 ghost use Rattle.channel_port.specs.Waits.{Has};
 ghost use Rattle.nv_machine.specs.declared.events.Event.{Event};
 ghost use Rattle.nv_machine.specs.declared.events.Reply.{Reply};
 ghost use Rattle.nv_machine.specs.State.{Setup, World};
 ghost use Rattle.nv_machine.specs.Headline.{Run};
-ghost use Rattle.nv_machine.specs.Losses.{EndsDark};
+ghost use Rattle.nv_machine.specs.Losses.{EndsDark, closing_of};
 ghost use Rattle.nv_machine.specs.Opening.{new_life};
 ghost use Rattle.nv_machine.specs.WaitingOrder.{GoesBefore, IsInOrder, WaitsNoMore};
 
 /// Throughout a life writes wait channel by channel, and in each the oldest first. So where a loss of mains ends dark, each write
-/// that waits no more is one of an earlier channel than each that waits still, or an older one of its channel.
+/// that waits no more is one of an earlier channel than each that waits still, or an older one of its channel; and as many wait
+/// no more as entries were paid for.
 pub fn oldest_go_first()
     ensures begins { (slot : Slot) (closed : Bool) (image : Image)
         → IsInOrder (new_life slot closed image) }
@@ -23,4 +25,8 @@ pub fn oldest_go_first()
         → EndsDark setup old new → IsInOrder old.machine
         → Has gone old.machine.waits.writes → WaitsNoMore gone new.machine.waits.writes
         → Has left new.machine.waits.writes → GoesBefore gone left }
+    ensures count { (setup : Setup) (old new : World) (dark : EndsDark setup old new)
+        → length new.machine.waits.writes
+        + entries_in (take dark.paid (closing_of setup old.machine))
+        ≡ length old.machine.waits.writes }
 {}
