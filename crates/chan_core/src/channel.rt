@@ -69,7 +69,8 @@ impl Channel {
         requires depth { (1 ≤ depth) × (depth ≤ 64) }
         requires reads { reads ≤ 64 }
         ensures { IfOk result (λ new.
-            new ≡ new_channel checked.now channel (zero_lines (cells_of checked.now.geometry)) depth reads) }
+            new ≡ new_channel checked.now channel (zero_lines (cells_of checked.now.geometry))
+                depth reads) }
     {
         let array = zero_memory(alloc, cells(checked))?;
         Ok(Channel {

@@ -194,6 +194,7 @@ impl ChannelSeat {
         ensures taken { (log_tells self.now.log).taken
             ≤ length (log_tells self.now.log).written }
     {
+        // a log keeps both clauses by the invariant of its seat, so there is nothing to do
         let _ = &self.seat;
     }
 }

@@ -28,7 +28,7 @@ pub fn check_trace<R: Read + Drop>(
         let Some(found) = reader.next()? else {
             break;
         };
-        // `is_lawful` of the whole check answers it in the end
+        // `is_lawful` and `are_lawful` of the check answer it in the end
         let _lawful = check.take(checked, &found.entry, found.line);
     }
     Ok(check)

@@ -1,8 +1,7 @@
 -- A module that has just begun on what a device restored to.
-use Rattle.std.proofs.Common.{◌≡◌, ◌∙◌, ℕ, [], refl, sym, ap, subst, arith}
+use Rattle.std.proofs.Common.{◌≡◌, ◌∙◌, ℕ, [], sym, ap, arith}
 use Rattle.std.proofs.lemmas.Grind.{merely}
 use Rattle.line_memory.specs.History.{Recorded, recorded}
-use Rattle.save_device.specs.Device.{DeviceState}
 use Rattle.save_device.specs.declared.device.SaveDevice.{Ghosts as DeviceGhosts}
 use Rattle.save_image.specs.Image.{Image}
 use Rattle.slot_store.specs.declared.head.Head.{Head}

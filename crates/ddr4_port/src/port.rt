@@ -26,7 +26,8 @@ impl<'m, M: LineMap> Model for Ddr4Port<'m, M> {
 
     ghost view = { λ p. port_state (M.place_of p.map.now) p.stage p.channel };
 
-    ghost invariant = { λ p. HasMap (M.is_lawful p.map.now) (M.geometry_of p.map.now) p.channel.checked.geometry
+    ghost invariant = { λ p.
+        HasMap (M.is_lawful p.map.now) (M.geometry_of p.map.now) p.channel.checked.geometry
         × IsRightPort (port_state (M.place_of p.map.now) p.stage p.channel) };
 }
 

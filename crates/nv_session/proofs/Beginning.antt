@@ -1,5 +1,5 @@
 -- How a life begins after a format, and after a restore.
-use Rattle.std.proofs.Common.{◌≡◌, ◌∙◌, ℕ, List, Bool, [], refl, sym, ap, subst, true, Option}
+use Rattle.std.proofs.Common.{◌≡◌, ◌∙◌, ℕ, List, refl, sym, ap, subst, true, Option}
 use Rattle.nv_session.proofs.Common.{DeviceState, Ghosts, Head, IsShapeFor, Module, ModuleStands, Outcome, Profile}
 use Rattle.nv_session.proofs.Common.{Revives, RunsWith, Setup, first_image, fuse_state, lines_of, restored, verdict_of}
 use Rattle.interleave_map.specs.declared.ready.Interleaving.{Interleaving}

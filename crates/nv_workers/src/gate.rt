@@ -39,7 +39,7 @@ pub trait Gate {
 }
 
 /// Issues one command of a channel at each `Go`, until the gate says stop or mains were lost. Behind a turn that was held
-/// or found no command it gives its processor away, and behind 16 of them in a row it sleeps, 1 to 50 microseconds.
+/// or found no command it gives its processor away, and behind 16 of them in a row it sleeps, three milliseconds at most.
 pub fn channel_worker<K, D, E, B, N, G, R>(
     rt: &R,
     board: &Board<K, D, E, B, N>,

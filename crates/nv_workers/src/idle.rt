@@ -8,13 +8,13 @@ use std::time::{Clock, Duration};
 const YIELDS: u64 = 16;
 
 /// How long a thread sleeps at most behind a turn, in microseconds.
-const LONGEST_SLEEP: u64 = 1_000;
+const LONGEST_SLEEP: u64 = 3_000;
 
-// How long a thread sleeps that has had so many idle turns in a row and then one more, in microseconds: one more behind each, and 1,000
-// at most, half a second after its last work. The first 16 are followed by no sleep.
+// How long a thread sleeps that has had so many idle turns in a row and then one more, in microseconds: one more behind each, and 3,000
+// at most, five seconds after its last work. The first 16 are followed by no sleep.
 fn sleep_after(idle: u64) -> Option<u64>
     ensures none { IfNone result (idle < 16) }
-    ensures some { IfSome result (λ micros. (16 ≤ idle) × (micros ≡ min (idle - 15) 1000)) }
+    ensures some { IfSome result (λ micros. (16 ≤ idle) × (micros ≡ min (idle - 15) 3000)) }
 {
     let beyond = idle.checked_sub(YIELDS)?;
     Some(beyond.min(LONGEST_SLEEP - 1) + 1)
