@@ -183,9 +183,9 @@ where
     let form = source.form(rt, matches.get_flag("answers"));
     let written = form.and_then(|form| source.write_check(rt, form, &profile.checked, writer));
     match written {
-        Ok(are_lawful) => {
+        Ok(check) => {
             flush(writer)?;
-            Ok(status_by(are_lawful))
+            Ok(status_by(check.are_lawful(&profile.checked)))
         }
         Err(TraceFault::Line(line)) => Err(Fault::Trace(line)),
         Err(TraceFault::Reader) => Err(Fault::File(name)),

@@ -1,39 +1,91 @@
 -- One more command of a trace is one of its channel's alone.
-use Rattle.std.proofs.Common.{◌≡◌, ◌≢◌, ◌==◌, ◌<◌, ℕ, false, List, [], ◌∷◌, ◌++◌, length, append-nil, filter, map, get_or, set, slice_index_or, slice_set, refl, sym, ap, subst, ◌∙◌, inl, inr, arith}
+use Rattle.std.proofs.Common.{◌≡◌, ◌≢◌, ◌==◌, ◌<◌, ◌≤◌, ◌⊎◌, ℕ, Bool, true, false, List, [], ◌∷◌, ◌++◌, length, append-nil, filter, get_or, map, nat_le, set, slice_index_or, slice_set, refl, sym, ap, subst, ◌∙◌, inl, inr, arith}
 use Rattle.std.proofs.lemmas.Bool.{cases_eq, eq-eqb}
-use Rattle.std.proofs.lemmas.List.{map-append, get_or-set_same, get_or-set_other}
+use Rattle.std.proofs.lemmas.List.{get_or-set_same, get_or-set_other, map-append}
 use Rattle.std.proofs.lemmas.List.Elements.{filter-append}
+use Rattle.std.proofs.lemmas.List.Sums.{take_while-cons}
+use Rattle.std.specs.List.{take_while}
 use Rattle.ddr4_timing.specs.declared.timing.Checked.{Checked}
-use Rattle.command_trace.specs.declared.entry.Entry.{Entry}
+use Rattle.command_trace.specs.declared.diagnosis.Listed.{Listed}
+use Rattle.command_trace.specs.declared.entry.Located.{Located}
 use Rattle.command_trace.specs.declared.front.Front.{Front}
-use Rattle.command_trace.specs.Channels.{commands_of}
+use Rattle.command_trace.specs.Channels.{Lists, found_of, found_up_to}
 use Rattle.command_trace.specs.Following.{FollowsCommands}
+use Rattle.command_trace.proofs.Following.{commands_in-append}
 
-added : (channel : ℕ) (entries : List Entry) (e : Entry) (more : List Entry) → filter (λ (x : Entry). x.channel == channel) (e ∷ []) ≡ more
-    → commands_of channel (entries ++ e ∷ []) ≡ commands_of channel entries ++ map (λ (x : Entry). x.command) more
-added channel entries e more here =
-    let p = λ (x : Entry). x.channel == channel in let f = λ (x : Entry). x.command in
-    ap (λ l. map f l) (filter-append p entries (e ∷ [])) ∙ ap (λ l. map f (filter p entries ++ l)) here ∙ map-append f (filter p entries) more
+added : (channel : ℕ) (found : List Located) (x : Located) (more : List Located) → filter (λ (l : Located). l.entry.channel == channel) (x ∷ []) ≡ more
+    → found_of channel (found ++ x ∷ []) ≡ found_of channel found ++ more
+added channel found x more here =
+    let p = λ (l : Located). l.entry.channel == channel in
+    filter-append p found (x ∷ []) ∙ ap (λ l. filter p found ++ l) here
 
 apart : (a b : ℕ) → a ≢ b → (a == b) ≡ false
 apart a b other = grind arith
 
-pub commands_of-at : (channel : ℕ) (entries : List Entry) (e : Entry) → e.channel ≡ channel
-    → commands_of channel (entries ++ e ∷ []) ≡ commands_of channel entries ++ e.command ∷ []
-commands_of-at channel entries e same = added channel entries e (e ∷ []) (rw (eq-eqb e.channel channel same) refl)
+pub found_of-at : (channel : ℕ) (found : List Located) (x : Located) → x.entry.channel ≡ channel
+    → found_of channel (found ++ x ∷ []) ≡ found_of channel found ++ x ∷ []
+found_of-at channel found x same = added channel found x (x ∷ []) (rw (eq-eqb x.entry.channel channel same) refl)
 
-pub commands_of-other : (channel : ℕ) (entries : List Entry) (e : Entry) → e.channel ≢ channel
-    → commands_of channel (entries ++ e ∷ []) ≡ commands_of channel entries
-commands_of-other channel entries e other = added channel entries e [] (rw (apart e.channel channel other) refl) ∙ append-nil _
+pub found_of-other : (channel : ℕ) (found : List Located) (x : Located) → x.entry.channel ≢ channel
+    → found_of channel (found ++ x ∷ []) ≡ found_of channel found
+found_of-other channel found x other = added channel found x [] (rw (apart x.entry.channel channel other) refl) ∙ append-nil _
 
 -- a front behind a command of its channel, among those of all channels
-pub follows_all : (c : Checked) (fronts : List Front) (entries : List Entry) (e : Entry) (new : Front) → e.channel < length fronts
-    → ((channel : ℕ) (none : Front) → channel < 8 → FollowsCommands c (slice_index_or fronts channel none) (commands_of channel entries))
-    → FollowsCommands c new (commands_of e.channel entries ++ e.command ∷ [])
-    → (channel : ℕ) (none : Front) → channel < 8 → FollowsCommands c (slice_index_or (slice_set fronts e.channel new) channel none) (commands_of channel (entries ++ e ∷ []))
-follows_all c fronts entries e new within all one channel none below =
-    elim (cases_eq e.channel channel) [
-      | inl same ↦ subst (λ (n : ℕ). FollowsCommands c (get_or (set fronts e.channel new) n none) (commands_of n (entries ++ e ∷ []))) same
-          (rw (get_or-set_same fronts e.channel new none within, commands_of-at e.channel entries e refl) one)
-      | inr other ↦ rw (get_or-set_other fronts e.channel channel new none (λ s. other (sym s)), commands_of-other channel entries e other) (all channel none below)
+pub follows_all : (c : Checked) (fronts : List Front) (found : List Located) (x : Located) (new : Front) → x.entry.channel < length fronts
+    → ((channel : ℕ) (none : Front) → channel < 8 → FollowsCommands c (slice_index_or fronts channel none) (found_of channel found))
+    → FollowsCommands c new (found_of x.entry.channel found ++ x ∷ [])
+    → (channel : ℕ) (none : Front) → channel < 8 → FollowsCommands c (slice_index_or (slice_set fronts x.entry.channel new) channel none) (found_of channel (found ++ x ∷ []))
+follows_all c fronts found x new within all one channel none below =
+    elim (cases_eq x.entry.channel channel) [
+      | inl same ↦ subst (λ (n : ℕ). FollowsCommands c (get_or (set fronts x.entry.channel new) n none) (found_of n (found ++ x ∷ []))) same
+          (rw (get_or-set_same fronts x.entry.channel new none within, found_of-at x.entry.channel found x refl) one)
+      | inr other ↦ rw (get_or-set_other fronts x.entry.channel channel new none (λ s. other (sym s)), found_of-other channel found x other) (all channel none below)
     ]
+
+-- a command taken into the list of its channel, and one that isn't
+pub lists_at : (channel : ℕ) (old new : Listed) (found : List Located) (x : Located) → x.entry.channel ≡ channel → Lists channel old found
+    → new.commands.items ≡ old.commands.items ++ x.entry.command ∷ [] → new.lines.items ≡ old.lines.items ++ x.line ∷ []
+    → Lists channel new (found ++ x ∷ [])
+lists_at channel old new found x same lists commands lines =
+    let at = found_of-at channel found x same in
+    let told = commands_in-append (found_of channel found) (x ∷ []) in
+    let stood = map-append (λ (l : Located). l.line) (found_of channel found) (x ∷ []) in
+    (rw at (commands ∙ ap (λ l. l ++ x.entry.command ∷ []) lists.0 ∙ sym told), rw at (lines ∙ ap (λ l. l ++ x.line ∷ []) lists.1 ∙ sym stood))
+
+pub lists_other : (channel : ℕ) (listed : Listed) (found : List Located) (x : Located) → x.entry.channel ≢ channel → Lists channel listed found
+    → Lists channel listed (found ++ x ∷ [])
+lists_other channel listed found x other lists = rw (found_of-other channel found x other) lists
+
+known : (b : Bool) → (b ≡ true) ⊎ (b ≡ false)
+known true = inl refl
+known false = inr refl
+
+passes_more : {X : Type 0} (p : X → Bool) (xs ys : List X) → take_while p xs ≡ xs → take_while p (xs ++ ys) ≡ xs ++ take_while p ys
+passes_more p [] ys e = refl
+passes_more p (x ∷ xs) ys e = elim (known (p x)) [
+  | inl passes ↦
+      let first : take_while p (x ∷ xs) ≡ x ∷ take_while p xs = take_while-cons p x xs ∙ rw passes refl in
+      let rest : take_while p xs ≡ xs = cc in
+      take_while-cons p x (xs ++ ys) ∙ rw passes (ap (λ l. x ∷ l) (passes_more p xs ys rest))
+  | inr stops ↦
+      let first : take_while p (x ∷ xs) ≡ [] = take_while-cons p x xs ∙ rw stops refl in
+      absurd cc
+]
+
+reaches : (line last : ℕ) → line ≤ last → nat_le line last ≡ true
+reaches line last h = grind arith
+
+passes_by : (line last : ℕ) → last < line → nat_le line last ≡ false
+passes_by line last h = grind arith
+
+pub found_up_to-more : (last : ℕ) (found : List Located) (x : Located) → found_up_to last found ≡ found → x.line ≤ last
+    → found_up_to last (found ++ x ∷ []) ≡ found ++ x ∷ []
+found_up_to-more last found x e h =
+    let p = λ (l : Located). nat_le l.line last in
+    passes_more p found (x ∷ []) e ∙ ap (λ l. found ++ l) (take_while-cons p x [] ∙ rw (reaches x.line last h) refl)
+
+pub found_up_to-past : (last : ℕ) (found : List Located) (x : Located) → found_up_to last found ≡ found → last < x.line
+    → found_up_to last (found ++ x ∷ []) ≡ found
+found_up_to-past last found x e h =
+    let p = λ (l : Located). nat_le l.line last in
+    passes_more p found (x ∷ []) e ∙ ap (λ l. found ++ l) (take_while-cons p x [] ∙ rw (passes_by x.line last h) refl) ∙ append-nil _

@@ -1,23 +1,38 @@
 -- The channels of a trace.
-use Rattle.std.specs.Prelude.{ℕ, ◌<◌, ◌==◌, List, filter, map, slice_index_or}
+use Rattle.std.specs.Prelude.{◌≡◌, ℕ, ◌<◌, ◌==◌, List, filter, map, nat_le, slice_index_or}
+use Rattle.std.specs.List.{take_while}
 use Rattle.ddr4_timing.specs.Lawful.{IsLawful}
 use Rattle.ddr4_timing.specs.declared.command.Stamped.{Stamped}
 use Rattle.ddr4_timing.specs.declared.timing.Checked.{Checked}
-use Rattle.command_trace.specs.declared.entry.Entry.{Entry}
+use Rattle.command_trace.specs.declared.diagnosis.Listed.{Listed}
+use Rattle.command_trace.specs.declared.entry.Located.{Located}
 use Rattle.command_trace.specs.declared.front.Front.{Front}
 use Rattle.command_trace.specs.declared.trace_check.TraceCheck.{TraceCheck}
-use Rattle.command_trace.specs.Following.{FollowsCommands}
+use Rattle.command_trace.specs.Following.{FollowsCommands, commands_in}
 
--- the commands of a channel, in their order
-abbrev pub commands_of : ℕ → List Entry → List Stamped
-commands_of channel entries = map (λ entry. entry.command) (filter (λ entry. entry.channel == channel) entries)
+-- what goes to a channel, in its order
+abbrev pub found_of : ℕ → List Located → List Located
+found_of channel found = filter (λ l. l.entry.channel == channel) found
+
+-- the commands of a channel
+abbrev pub commands_of : ℕ → List Located → List Stamped
+commands_of channel found = commands_in (found_of channel found)
+
+-- what stands before the first line behind this one
+abbrev pub found_up_to : ℕ → List Located → List Located
+found_up_to last found = take_while (λ l. nat_le l.line last) found
+
+-- the commands of a channel, and the line of each
+abbrev pub Lists : ℕ → Listed → List Located → Type 0
+Lists channel listed found =
+    (listed.commands.items ≡ commands_of channel found) × (listed.lines.items ≡ map (λ l. l.line) (found_of channel found))
 
 -- each channel's front follows the commands of that channel
 abbrev pub FollowsAll : Checked → TraceCheck → Type 0
 FollowsAll c check =
     (channel : ℕ) (none : Front) → channel < 8 →
-    FollowsCommands c (slice_index_or check.fronts channel none) (commands_of channel check.entries.items)
+    FollowsCommands c (slice_index_or check.fronts channel none) (found_of channel check.given.items)
 
 -- the commands of each channel of the geometry are lawful
 abbrev pub AreLawful : Checked → TraceCheck → Type 0
-AreLawful c check = (channel : ℕ) → channel < c.geometry.channels → IsLawful c (commands_of channel check.entries.items)
+AreLawful c check = (channel : ℕ) → channel < c.geometry.channels → IsLawful c (commands_of channel check.given.items)

@@ -1,5 +1,6 @@
 -- What a trace writes of a command.
-use Rattle.std.specs.Prelude.{◌≡◌, ℕ, List, [], ◌∷◌}
+use Rattle.std.specs.Prelude.{◌≡◌, ℕ, List, [], ◌∷◌, ◌⊎◌, codes, map}
+use Rattle.std.specs.Char.{to_ascii_lowercase}
 use Rattle.ddr4_timing.specs.declared.command.Command.{Command}
 use Rattle.ddr4_timing.specs.declared.command.Command.TheVariants as cmd
 use Rattle.command_trace.specs.declared.kind.Kind.{Kind}
@@ -26,3 +27,27 @@ numbers_of (cmd.Sre rank) = rank ∷ []
 
 abbrev pub IsCommandOf : Kind → List ℕ → Command → Type 0
 IsCommandOf kind numbers x = (kind_of x ≡ kind) × (numbers_of x ≡ numbers)
+
+-- its name, as this program prints it
+abbrev pub name_of_kind : Kind → List ℕ
+name_of_kind kind.Act = codes "ACT"
+name_of_kind kind.Rd = codes "RD"
+name_of_kind kind.Wr = codes "WR"
+name_of_kind kind.Pre = codes "PRE"
+name_of_kind kind.PreAll = codes "PREA"
+name_of_kind kind.Ref = codes "REF"
+name_of_kind kind.Sre = codes "SRE"
+
+-- the same word, in any case
+abbrev pub IsWord : List ℕ → List ℕ → Type 0
+IsWord word name = map to_ascii_lowercase word ≡ map to_ascii_lowercase name
+
+-- a name of the kind in one of the spellings that simulators print, in any case
+abbrev pub IsSpelling : Kind → List ℕ → Type 0
+IsSpelling kind.Act name = IsWord (codes "ACT") name ⊎ IsWord (codes "ACTIVATE") name
+IsSpelling kind.Rd name = IsWord (codes "RD") name ⊎ IsWord (codes "READ") name
+IsSpelling kind.Wr name = IsWord (codes "WR") name ⊎ IsWord (codes "WRITE") name
+IsSpelling kind.Pre name = IsWord (codes "PRE") name ⊎ IsWord (codes "PRECHARGE") name
+IsSpelling kind.PreAll name = IsWord (codes "PREA") name
+IsSpelling kind.Ref name = IsWord (codes "REF") name ⊎ IsWord (codes "REFRESH") name
+IsSpelling kind.Sre name = IsWord (codes "SRE") name ⊎ IsWord (codes "SREF_ENTER") name

@@ -2,3 +2,4 @@ pub mod Following
 pub mod Channels
 pub mod Kinds
 pub mod Reading
+pub mod Reasons

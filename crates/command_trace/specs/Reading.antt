@@ -1,13 +1,13 @@
 -- What a reader of a trace gives.
-use Rattle.std.specs.Prelude.{ℕ, ◌<◌, ◌^◌, List, [], ◌∷◌, Option, Some, None}
+use Rattle.std.specs.Prelude.{◌≡◌, ℕ, ◌<◌, ◌^◌, Bool, ◌⊎◌}
 use Rattle.command_trace.specs.declared.entry.Entry.{Entry}
-use Rattle.command_trace.specs.declared.entry.Located.{Located}
+use Rattle.command_trace.specs.declared.reading.Form.{Form}
+use Rattle.command_trace.specs.declared.reading.Form.TheVariants.{Lines, Table}
 
 -- its channel is one of so many, and its clock is one that a check takes
 abbrev pub FitsChannels : ℕ → Entry → Type 0
 FitsChannels channels entry = (entry.channel < channels) × (entry.command.clock < 2 ^ 63)
 
--- what was found, as a list
-abbrev pub entries_found : Option Located → List Entry
-entries_found (Some found) = found.entry ∷ []
-entries_found None = []
+-- a table, or lines with or without others among them
+abbrev pub IsFormWith : Bool → Form → Type 0
+IsFormWith others form = (form ≡ Table) ⊎ (form ≡ Lines others)

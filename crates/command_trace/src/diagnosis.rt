@@ -1,8 +1,11 @@
 // The check of a trace, and the least fault of a channel.
-ghost use Rattle.std.specs.Prelude.{◌≡◌, [], ◌≤◌, ◌<◌, ◌↔◌, length, slice_get, Some, IfOk, IfSome, IsNone};
+ghost use Rattle.std.specs.Prelude.{◌≡◌, ℕ, [], ◌∷◌, ◌++◌, ◌≤◌, ◌<◌, ◌↔◌, List, length, slice_get, slice_index, take, Some, IfOk, OnOk, IfSome, IsNone};
 ghost use Rattle.ddr4_timing.specs.Lawful.{IsLawful, IsLeastFault};
-ghost use Rattle.command_trace.specs.Channels.{FollowsAll};
+ghost use Rattle.command_trace.specs.Channels.{FollowsAll, Lists, found_up_to};
+ghost use Rattle.command_trace.specs.Reasons.{IsReasonOf};
+ghost use Rattle.command_trace.specs.declared.entry.Located.{Located};
 
+use crate::entry::Located;
 use crate::reading::{TraceFault, TraceReader};
 use crate::reason::Reason;
 use crate::trace_check::TraceCheck;
@@ -21,7 +24,7 @@ pub fn check_trace<R: Read + Drop>(
     requires channels { reader.old.channels ≤ 8 }
     requires fresh { reader.old.given.items ≡ [] }
     ensures follows { IfOk result (FollowsAll checked.now) }
-    ensures whole { IfOk result (λ check. check.entries.items ≡ reader.new.given.items) }
+    ensures whole { IfOk result (λ check. check.given.items ≡ reader.new.given.items) }
 {
     let mut check = TraceCheck::new(checked);
     for _ in 0..u64::MAX {
@@ -29,7 +32,7 @@ pub fn check_trace<R: Read + Drop>(
             break;
         };
         // `is_lawful` and `are_lawful` of the check answer it in the end
-        let _lawful = check.take(checked, &found.entry, found.line);
+        let _lawful = check.take(checked, &found);
     }
     Ok(check)
 }
@@ -41,24 +44,26 @@ pub struct Listed {
     pub lines: Vec<u64>,
 }
 
-/// Reads a trace as far as a line, and lists the commands of a channel.
+/// Reads a trace as far as a line, and lists the commands of a channel and the line of each.
 pub fn list_commands<R: Read + Drop>(
     alloc: Global,
     reader: &mut TraceReader<R>,
     channel: u64,
     last: u64,
-) -> Result<Listed, TraceFault> {
-    let mut listed = Listed {
-        commands: Vec::new(alloc),
-        lines: Vec::new(alloc),
-    };
+) -> Result<Listed, TraceFault>
+    requires { reader.old.given.items ≡ [] }
+    ensures { IfOk result (λ listed.
+        Lists channel listed (found_up_to last reader.new.given.items)) }
+{
+    let mut listed = Listed::new(alloc);
     for _ in 0..u64::MAX {
-        match reader.next()? {
-            Some(found) if found.line <= last => if found.entry.channel == channel {
-                listed.add(found.entry.command, found.line)?;
-            },
-            _ => break,
+        let Some(found) = reader.next()? else {
+            break;
+        };
+        if found.line > last {
+            return Ok(listed);
         }
+        listed.take(channel, &found)?;
     }
     Ok(listed)
 }
@@ -96,9 +101,26 @@ impl fmt::Display for Diagnosis {
 }
 
 impl Listed {
-    fn add(&mut self, command: Stamped, line: u64) -> Result<(), AllocError> {
-        self.commands.push(command)?;
-        self.lines.push(line)?;
+    // No commands.
+    fn new(alloc: Global) -> Listed
+        ensures { (channel : ℕ) → Lists channel result [] }
+    {
+        Listed {
+            commands: Vec::new(alloc),
+            lines: Vec::new(alloc),
+        }
+    }
+
+    // Takes the next command in where it goes to the channel.
+    fn take(&mut self, channel: u64, next: &Located) -> Result<(), AllocError>
+        ensures { (found : List Located) → Lists channel self.old found →
+            OnOk result (Lists channel self.new (found ++ next.now ∷ [])) }
+    {
+        if next.entry.channel != channel {
+            return Ok(());
+        }
+        self.commands.push(next.entry.command)?;
+        self.lines.push(next.line)?;
         Ok(())
     }
 }
@@ -106,7 +128,8 @@ impl Listed {
 // The command at an index, and its line.
 fn command_at(commands: &[Stamped], lines: &[u64], index: usize) -> Numbered
     requires { index < length commands.now }
-    ensures { Some result.command ≡ slice_get commands.now index }
+    ensures command { Some result.command ≡ slice_get commands.now index }
+    ensures line { result.line ≡ slice_index lines.now index }
 {
     Numbered {
         line: lines.get(index).copied().unwrap_or(0),
@@ -124,6 +147,11 @@ pub fn diagnose(checked: &Checked, commands: &[Stamped], lines: &[u64]) -> Optio
         slice_get commands.now d.fault.first ≡ Some d.first.command) }
     ensures second { IfSome result (λ d.
         slice_get commands.now d.fault.second ≡ Some d.second.command) }
+    ensures first_line { IfSome result (λ d. d.first.line ≡ slice_index lines.now d.fault.first) }
+    ensures second_line { IfSome result (λ d.
+        d.second.line ≡ slice_index lines.now d.fault.second) }
+    ensures reason { IfSome result (λ d. IsReasonOf checked.now d.fault.rule
+        (take d.fault.second commands.now) d.first.command d.second.command d.reason) }
 {
     let Some(fault) = first_fault(checked, commands) else {
         return None;

@@ -1,20 +1,24 @@
 // Whether the commands of a channel are lawful, in a constant size.
-ghost use Rattle.std.specs.Prelude.{◌<◌, ◌^◌, ◌↔◌, IsTrue, List, [], ◌∷◌, ◌++◌};
+ghost use Rattle.std.specs.Prelude.{◌≡◌, ◌<◌, ◌^◌, ◌-◌, ◌↔◌, IsTrue, List, [], ◌∷◌, ◌++◌, length, min};
 ghost use Rattle.ddr4_timing.specs.Lawful.{IsLawful};
-ghost use Rattle.ddr4_timing.specs.declared.command.Stamped.{Stamped};
-ghost use Rattle.command_trace.specs.Following.{FollowsCommands};
+ghost use Rattle.command_trace.specs.declared.entry.Located.{Located};
+ghost use Rattle.command_trace.specs.Following.{FollowsCommands, IsFirstFault, commands_in};
 
+use crate::entry::Located;
 use ddr4_timing::command::Stamped;
 use ddr4_timing::timing::Checked;
 use ddr4_timing::timing_state::TimingState;
 
-/// Whether the commands that came are lawful, and what they leave to the next one while they are.
+/// Whether the commands that came are lawful, and what they leave to the next one while they are. How many they are, and the
+/// line of the first one that isn't lawful.
 ///
 /// Each call is given the profile for which it was made.
 #[derive(Clone, Copy)]
 pub struct Front {
     state: TimingState,
     is_lawful: bool,
+    count: u64,
+    line: u64,
 }
 
 impl Front {
@@ -25,33 +29,60 @@ impl Front {
         Front {
             state: TimingState::new(checked),
             is_lawful: true,
+            count: 0,
+            line: 0,
         }
     }
 
     /// Takes the next command. Answers whether all commands until now are lawful.
-    pub fn take(&mut self, checked: &Checked, next: &Stamped) -> bool
-        requires { next.now.clock < 2 ^ 63 }
-        ensures follows { (list : List Stamped) → FollowsCommands checked.now self.old list →
-            FollowsCommands checked.now self.new (list ++ next.now ∷ []) }
-        ensures lawful { (list : List Stamped) → FollowsCommands checked.now self.old list →
-            (IsTrue result ↔ IsLawful checked.now (list ++ next.now ∷ [])) }
+    pub fn take(&mut self, checked: &Checked, next: &Located) -> bool
+        requires { next.now.entry.command.clock < 2 ^ 63 }
+        ensures follows { (found : List Located) → FollowsCommands checked.now self.old found →
+            FollowsCommands checked.now self.new (found ++ next.now ∷ []) }
+        ensures lawful { (found : List Located) → FollowsCommands checked.now self.old found →
+            (IsTrue result ↔ IsLawful checked.now (commands_in (found ++ next.now ∷ []))) }
     {
+        self.count = self.count.saturating_add(1);
         if !self.is_lawful {
             return false;
         }
-        if !self.state.ready(checked, &next.cmd, next.clock) {
+        let Stamped { clock, cmd } = next.entry.command;
+        if !self.state.ready(checked, &cmd, clock) {
             self.is_lawful = false;
+            self.line = next.line;
             return false;
         }
-        self.state.issue(checked, &next.cmd, next.clock);
+        self.state.issue(checked, &cmd, clock);
         true
     }
 
     /// Are the commands that came lawful?
     pub fn is_lawful(&self) -> bool
-        ensures { (checked : Checked) (list : List Stamped) →
-            FollowsCommands checked self.now list → (IsTrue result ↔ IsLawful checked list) }
+        ensures { (checked : Checked) (found : List Located) →
+            FollowsCommands checked self.now found →
+            (IsTrue result ↔ IsLawful checked (commands_in found)) }
     {
         self.is_lawful
+    }
+
+    /// How many commands came.
+    pub fn count(&self) -> u64
+        ensures { (checked : Checked) (found : List Located) →
+            FollowsCommands checked self.now found →
+            result ≡ min (length found) (2 ^ 64 - 1) }
+    {
+        self.count
+    }
+
+    /// The line of the first command that isn't lawful behind those before it; 0 where all are.
+    pub fn line(&self) -> u64
+        ensures none { (checked : Checked) (found : List Located) →
+            FollowsCommands checked self.now found → IsLawful checked (commands_in found) →
+            result ≡ 0 }
+        ensures first { (checked : Checked) (found : List Located) →
+            FollowsCommands checked self.now found → ¬ IsLawful checked (commands_in found) →
+            IsFirstFault checked found result }
+    {
+        self.line
     }
 }

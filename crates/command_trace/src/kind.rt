@@ -1,7 +1,8 @@
 // The kinds of commands, by the names that traces give them.
-ghost use Rattle.std.specs.Prelude.{◌≡◌, ◌≢◌, IfSome, IsNone};
+ghost use Rattle.std.specs.Prelude.{◌≡◌, ◌≢◌, ◌⊎◌, ◌↔◌, IsTrue, IfSome, IsNone};
 ghost use Rattle.ddr4_timing.specs.declared.command.Command.{Command};
-ghost use Rattle.command_trace.specs.Kinds.{IsCommandOf, kind_of, numbers_of};
+ghost use Rattle.command_trace.specs.Kinds.{IsCommandOf, IsSpelling, IsWord, kind_of, name_of_kind, numbers_of};
+ghost use Rattle.command_trace.specs.declared.kind.Kind.{Kind};
 
 use ddr4_timing::command::Command;
 use ddr4_timing::place::BankAddress;
@@ -20,7 +21,10 @@ pub enum Kind {
 
 impl Kind {
     /// The kind of a name as this program prints it.
-    pub fn named(name: &str) -> Option<Kind> {
+    pub fn named(name: &str) -> Option<Kind>
+        ensures some { IfSome result (λ kind. name.now ≡ name_of_kind kind) }
+        ensures none { IsNone result → (kind : Kind) → name.now ≢ name_of_kind kind }
+    {
         match name {
             "ACT" => Some(Kind::Act),
             "RD" => Some(Kind::Rd),
@@ -34,13 +38,27 @@ impl Kind {
     }
 
     /// The kind of a name in one of the spellings that simulators print, in any case.
-    pub fn spelled(name: &str) -> Option<Kind> {
-        for (spelling, kind) in SPELLINGS {
-            if spelling.eq_ignore_ascii_case(name) {
-                return Some(kind);
-            }
+    pub fn spelled(name: &str) -> Option<Kind>
+        ensures some { IfSome result (λ kind. IsSpelling kind name.now) }
+        ensures none { IsNone result → (kind : Kind) → ¬ IsSpelling kind name.now }
+    {
+        if is_either("ACT", "ACTIVATE", name) {
+            Some(Kind::Act)
+        } else if is_either("RD", "READ", name) {
+            Some(Kind::Rd)
+        } else if is_either("WR", "WRITE", name) {
+            Some(Kind::Wr)
+        } else if is_either("PRE", "PRECHARGE", name) {
+            Some(Kind::Pre)
+        } else if "PREA".eq_ignore_ascii_case(name) {
+            Some(Kind::PreAll)
+        } else if is_either("REF", "REFRESH", name) {
+            Some(Kind::Ref)
+        } else if is_either("SRE", "SREF_ENTER", name) {
+            Some(Kind::Sre)
+        } else {
+            None
         }
-        None
     }
 
     /// Does a command of this kind have the part that a table names in this column? They are the rank in column 3, the bank
@@ -84,21 +102,12 @@ impl Kind {
     }
 }
 
-const SPELLINGS: [(&str, Kind); 13] = [
-    ("ACT", Kind::Act),
-    ("ACTIVATE", Kind::Act),
-    ("RD", Kind::Rd),
-    ("READ", Kind::Rd),
-    ("WR", Kind::Wr),
-    ("WRITE", Kind::Wr),
-    ("PRE", Kind::Pre),
-    ("PRECHARGE", Kind::Pre),
-    ("PREA", Kind::PreAll),
-    ("REF", Kind::Ref),
-    ("REFRESH", Kind::Ref),
-    ("SRE", Kind::Sre),
-    ("SREF_ENTER", Kind::Sre),
-];
+// Is the name one of two words, in any case?
+fn is_either(short: &str, long: &str, name: &str) -> bool
+    ensures { IsTrue result ↔ (IsWord short.now name.now ⊎ IsWord long.now name.now) }
+{
+    short.eq_ignore_ascii_case(name) || long.eq_ignore_ascii_case(name)
+}
 
 fn bank_of(rank: &u64, group: &u64, bank: &u64) -> BankAddress
     ensures { result ≡ record { rank = rank.now; group = group.now; bank = bank.now } }
@@ -111,7 +120,9 @@ fn bank_of(rank: &u64, group: &u64, bank: &u64) -> BankAddress
 }
 
 /// The name of a command.
-pub fn name_of(x: &Command) -> &'static str {
+pub fn name_of(x: &Command) -> &'static str
+    ensures { result.now ≡ name_of_kind (kind_of x.now) }
+{
     match x {
         Command::Act { .. } => "ACT",
         Command::Rd { .. } => "RD",

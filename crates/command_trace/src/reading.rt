@@ -1,6 +1,7 @@
 // The commands of a trace, read as a stream.
 ghost use Rattle.std.specs.Prelude.{◌≡◌, [], ◌++◌, IfOk, IfSome};
-ghost use Rattle.command_trace.specs.Reading.{FitsChannels, entries_found};
+ghost use Rattle.std.specs.Option.{option_to_list};
+ghost use Rattle.command_trace.specs.Reading.{FitsChannels, IsFormWith};
 
 use crate::entry::{Entry, Located};
 use crate::kind::Kind;
@@ -74,7 +75,7 @@ pub struct TraceReader<R> {
     form: Form,
     channels: u64,
     is_begun: bool,
-    pub given: Trace<Entry>,
+    pub given: Trace<Located>,
 }
 
 // Rows of so many fields as there are, each a line.
@@ -96,7 +97,9 @@ fn rows_of<R: Read + Drop>(
 }
 
 /// The form of a trace, by its first line that is neither empty nor a comment: a table where that has a comma.
-pub fn form_of<R: Read + Drop>(alloc: Global, source: R, others: bool) -> Result<Form, TraceFault> {
+pub fn form_of<R: Read + Drop>(alloc: Global, source: R, others: bool) -> Result<Form, TraceFault>
+    ensures { IfOk result (IsFormWith others) }
+{
     let mut rows = rows_of(alloc, source, b',');
     let mut row = ByteRecord::new(alloc);
     for _ in 0..u64::MAX {
@@ -211,6 +214,7 @@ fn is_header(row: &ByteRecord) -> bool {
 impl<R: Read + Drop> TraceReader<R> {
     /// The commands of a trace of this form, whose channels are numbered below `channels`.
     pub fn new(alloc: Global, source: R, form: Form, channels: u64) -> TraceReader<R>
+        ensures form { result.form ≡ form }
         ensures channels { result.channels ≡ channels }
         ensures given { result.given.items ≡ [] }
     {
@@ -253,7 +257,7 @@ impl<R: Read + Drop> TraceReader<R> {
             FitsChannels self.old.channels l.entry)) }
         ensures channels { self.new.channels ≡ self.old.channels }
         ensures given { IfOk result (λ found. self.new.given.items
-            ≡ self.old.given.items ++ entries_found found) }
+            ≡ self.old.given.items ++ option_to_list found) }
     {
         for _ in 0..u64::MAX {
             if !self.rows.read_byte_record(&mut self.row)? {
@@ -264,8 +268,9 @@ impl<R: Read + Drop> TraceReader<R> {
                 Row::Other => {}
                 Row::Command(entry)
                     if entry.channel < self.channels && entry.command.clock < 1 << 63 => {
-                    self.given.note(&entry);
-                    return Ok(Some(Located { line, entry }));
+                    let found = Located { line, entry };
+                    self.given.note(&found);
+                    return Ok(Some(found));
                 }
                 Row::Command(_) | Row::Bad => return Err(TraceFault::Line(line)),
             }

@@ -1,11 +1,15 @@
 // What the rule of a fault asks, in words.
-ghost use Rattle.ddr4_timing.specs.Limits.{AreInLimits};
+ghost use Rattle.std.specs.Prelude.{◌≡◌, ◌≤◌, ◌↔◌, IsTrue, length};
+ghost use Rattle.ddr4_timing.specs.Lawful.{IsInGeometry, is_asleep, last_ref, ref_count};
+ghost use Rattle.ddr4_timing.specs.Command.{is_ref_of, is_sre_of};
+ghost use Rattle.ddr4_timing.specs.declared.rules.Rule.TheVariants.{Refi};
+ghost use Rattle.command_trace.specs.Reasons.{IsReasonOf, IsWanted, rows_wanted};
 
-use crate::asked::{Asked, bank_named};
+use crate::asked::Asked;
 use crate::kind::name_of;
 use ddr4_timing::command::{Command, Stamped};
 use ddr4_timing::rules::Rule;
-use ddr4_timing::timing::{Checked, Geometry, Timing};
+use ddr4_timing::timing::{Checked, Geometry};
 use std::fmt;
 
 /// What a rule asks of a command, and what it found.
@@ -93,15 +97,21 @@ fn write_gap<W: fmt::Write>(
     write!(f, ", {shared}: at least {times} = {clocks}, here {passed}")
 }
 
-// What a command that breaks the rule on rows wants. The commands before it are lawful.
-fn wanted(g: &Geometry, before: &[Stamped], x: &Command) -> &'static str {
-    if !lies_in(g, x) {
-        return "a place of the geometry";
+fn is_in_geometry(g: &Geometry, x: &Command) -> bool
+    ensures { IsTrue result ↔ IsInGeometry g.now x.now }
+{
+    match *x {
+        Command::Act { at, row } => at.lies_in(g) && row < g.rows,
+        Command::Rd { at, column } => at.lies_in(g) && column < g.columns,
+        Command::Wr { at, column } => at.lies_in(g) && column < g.columns,
+        Command::Pre { at } => at.lies_in(g),
+        Command::PreAll { rank } | Command::Ref { rank } | Command::Sre { rank } => rank < g.ranks,
     }
-    let rank = x.rank();
-    if before.iter().any(|a| a.cmd == Command::Sre { rank }) {
-        return "a rank that is awake";
-    }
+}
+
+fn rows_wanted(x: &Command) -> &'static str
+    ensures { result.now ≡ rows_wanted x.now }
+{
     match x {
         Command::Act { .. } => "its bank closed",
         Command::Rd { .. } | Command::Wr { .. } | Command::Pre { .. } => "its bank open",
@@ -110,38 +120,89 @@ fn wanted(g: &Geometry, before: &[Stamped], x: &Command) -> &'static str {
     }
 }
 
-fn lies_in(g: &Geometry, x: &Command) -> bool {
-    let has_part = match *x {
-        Command::Act { row, .. } => row < g.rows,
-        Command::Rd { column, .. } | Command::Wr { column, .. } => column < g.columns,
-        _ => true,
-    };
-    has_part && bank_named(x).lies_in(g)
+fn is_ref_of(rank: u64, x: &Command) -> bool
+    ensures { result ≡ is_ref_of rank x.now }
+{
+    matches!(x, Command::Ref { .. }) && x.rank() == rank
 }
 
-// What a command that breaks the rule on refreshes lacks.
-fn refresh_reason(t: &Timing, before: &[Stamped], x: &Stamped) -> Reason
-    requires { AreInLimits t.now }
+fn is_sre_of(rank: u64, x: &Command) -> bool
+    ensures { result ≡ is_sre_of rank x.now }
 {
-    let refresh = Command::Ref { rank: x.cmd.rank() };
-    let last = before
-        .iter()
-        .fold(0, |last, a| if a.cmd == refresh { a.clock } else { last });
-    let most = 9 * t.t_refi;
-    let passed = x.clock.saturating_sub(last);
-    if passed > most {
-        return Reason::Late { most, passed };
+    matches!(x, Command::Sre { .. }) && x.rank() == rank
+}
+
+// The rank had an SRE.
+#[tactic(auto, unfolding(ddr4_timing::specs::Lawful::is_asleep))]
+fn is_asleep(rank: u64, before: &[Stamped]) -> bool
+    ensures { result ≡ is_asleep rank before.now }
+{
+    before.iter().any(|a| is_sre_of(rank, &a.cmd))
+}
+
+// What a command that breaks the rule on rows lacks, in words.
+fn wanted(g: &Geometry, before: &[Stamped], x: &Command) -> &'static str
+    ensures { IsWanted g.now before.now x.now result.now }
+{
+    if !is_in_geometry(g, x) {
+        return "a place of the geometry";
     }
-    let count = before.iter().filter(|a| a.cmd == refresh).count() as u64;
-    let count = count.saturating_add(1);
-    Reason::Early {
-        count,
-        least: count.saturating_mul(t.t_refi),
-        clock: x.clock,
+    if is_asleep(x.rank(), before) {
+        return "a rank that is awake";
     }
+    rows_wanted(x)
+}
+
+// The clock of the rank's last REF, 0 where it had none.
+#[tactic(auto, unfolding(ddr4_timing::specs::Lawful::last_ref))]
+fn last_ref(rank: u64, before: &[Stamped]) -> u64
+    ensures { result ≡ last_ref rank before.now }
+{
+    before.iter().fold(
+        0,
+        |last, a| if is_ref_of(rank, &a.cmd) {
+            a.clock
+        } else {
+            last
+        },
+    )
+}
+
+// How many REF the rank had.
+#[tactic(auto, unfolding(ddr4_timing::specs::Lawful::ref_count))]
+fn ref_count(rank: u64, before: &[Stamped]) -> usize
+    ensures count { result ≡ ref_count rank before.now }
+    ensures few { result ≤ length before.now }
+{
+    before.iter().filter(|a| is_ref_of(rank, &a.cmd)).count()
 }
 
 impl Reason {
+    // What a command that breaks the rule on refreshes lacks.
+    fn of_refresh(
+        checked: &Checked,
+        before: &[Stamped],
+        first: &Stamped,
+        second: &Stamped,
+    ) -> Reason
+        ensures { IsReasonOf checked.now Refi before.now first.now second.now result }
+    {
+        // the earlier command says nothing here
+        let _first = first;
+        let rank = second.cmd.rank();
+        let most = 9 * checked.timing.t_refi;
+        let passed = second.clock.saturating_sub(last_ref(rank, before));
+        if passed > most {
+            return Reason::Late { most, passed };
+        }
+        let count = ref_count(rank, before) as u64 + 1;
+        Reason::Early {
+            count,
+            least: count.saturating_mul(checked.timing.t_refi),
+            clock: second.clock,
+        }
+    }
+
     /// Why the rule doesn't hold of the command `second`, which stands behind the lawful commands `before`, and of the earlier
     /// command `first`, where the rule is on two.
     pub fn of(
@@ -150,7 +211,9 @@ impl Reason {
         before: &[Stamped],
         first: &Stamped,
         second: &Stamped,
-    ) -> Reason {
+    ) -> Reason
+        ensures { IsReasonOf checked.now rule before.now first.now second.now result }
+    {
         match rule {
             Rule::Order => Reason::Order {
                 first: first.clock,
@@ -160,7 +223,7 @@ impl Reason {
                 command: second.cmd,
                 wanted: wanted(&checked.geometry, before, &second.cmd),
             },
-            Rule::Refi => refresh_reason(&checked.timing, before, second),
+            Rule::Refi => Reason::of_refresh(checked, before, first, second),
             _ => Reason::Gap {
                 rule,
                 asked: Asked::of(&checked.timing, rule, &first.cmd, &second.cmd),

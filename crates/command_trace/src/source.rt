@@ -1,6 +1,7 @@
 // The check of a file's trace, written.
 ghost use Rattle.std.specs.Prelude.{◌<◌, IfOk};
 ghost use Rattle.command_trace.specs.Channels.{FollowsAll};
+ghost use Rattle.command_trace.specs.Reading.{IsFormWith};
 
 use crate::diagnosis::{Listed, check_trace, diagnose, list_commands};
 use crate::reading::{Form, TraceFault, TraceReader, form_of};
@@ -23,7 +24,9 @@ pub enum Source<'a> {
 
 impl Source<'_> {
     /// The form of its trace. `others` says whether other lines of a run are passed over.
-    pub fn form<R: Files + AllocGlobal>(&self, rt: &R, others: bool) -> Result<Form, TraceFault> {
+    pub fn form<R: Files + AllocGlobal>(&self, rt: &R, others: bool) -> Result<Form, TraceFault>
+        ensures { IfOk result (IsFormWith others) }
+    {
         match self {
             Source::File(name) => form_of(rt.alloc(), open(rt, name)?, others),
             Source::Bytes(bytes) => form_of(rt.alloc(), bytes.as_slice(), others),
@@ -59,15 +62,16 @@ impl Source<'_> {
     }
 
     /// Checks its trace, and writes a line for each channel: `CHANNEL lawful COUNT`, or `CHANNEL fault RULE` with what the rule
-    /// asks and the commands of which it doesn't hold. Answers whether the commands of every channel are lawful. Where a line is
-    /// no command it writes nothing.
+    /// asks and the commands of which it doesn't hold. Answers the check. Where a line is no command it writes nothing.
     pub fn write_check<R: Files + AllocGlobal, W: Write>(
         &self,
         rt: &R,
         form: Form,
         checked: &Checked,
         writer: &mut W,
-    ) -> Result<bool, TraceFault> {
+    ) -> Result<TraceCheck, TraceFault>
+        ensures { IfOk result (FollowsAll checked.now) }
+    {
         let check = self.check(rt, form, checked)?;
         for channel in 0..checked.geometry.channels {
             if check.is_lawful(checked, channel) {
@@ -78,7 +82,7 @@ impl Source<'_> {
                 write_fault(checked, channel, &listed, writer)?;
             }
         }
-        Ok(check.are_lawful(checked))
+        Ok(check)
     }
 }
 

@@ -1,9 +1,10 @@
 // Whether the commands of each channel of a trace are lawful.
-ghost use Rattle.std.specs.Prelude.{◌≡◌, ◌<◌, ◌^◌, ◌↔◌, [], ◌∷◌, ◌++◌, IsTrue, if◌then◌else◌};
+ghost use Rattle.std.specs.Prelude.{◌≡◌, ◌<◌, ◌^◌, ◌-◌, ◌↔◌, [], ◌∷◌, ◌++◌, IsTrue, length, min};
 ghost use Rattle.ddr4_timing.specs.Lawful.{IsLawful};
-ghost use Rattle.command_trace.specs.Channels.{AreLawful, FollowsAll, commands_of};
+ghost use Rattle.command_trace.specs.Channels.{AreLawful, FollowsAll, commands_of, found_of};
+ghost use Rattle.command_trace.specs.Following.{IsFirstFault};
 
-use crate::entry::Entry;
+use crate::entry::Located;
 use crate::front::Front;
 use ddr4_timing::timing::Checked;
 use ghost_trace::Trace;
@@ -18,48 +19,33 @@ pub const MOST_CHANNELS: u64 = 8;
 #[derive(Drop)]
 pub struct TraceCheck {
     fronts: [Front; 8],
-    counts: [u64; 8],
-    lines: [u64; 8],
-    entries: Trace<Entry>,
-}
-
-// One of two lines, by a test.
-fn one_of(test: bool, yes: u64, no: u64) -> u64
-    ensures { result ≡ (if test then yes else no) }
-{
-    if test { yes } else { no }
+    given: Trace<Located>,
 }
 
 impl TraceCheck {
     /// Before any command.
     pub fn new(checked: &Checked) -> TraceCheck
-        ensures empty { result.entries.items ≡ [] }
+        ensures empty { result.given.items ≡ [] }
         ensures follows { FollowsAll checked.now result }
     {
         TraceCheck {
             fronts: [Front::new(checked); 8],
-            counts: [0; 8],
-            lines: [0; 8],
-            entries: Trace::new(),
+            given: Trace::new(),
         }
     }
 
-    /// Takes the next command, which stands in the line. Answers whether all commands of its channel are lawful until now.
-    pub fn take(&mut self, checked: &Checked, entry: &Entry, line: u64) -> bool
-        requires channel { entry.now.channel < MOST_CHANNELS }
-        requires clock { entry.now.command.clock < 2 ^ 63 }
-        ensures adds { self.new.entries.items ≡ self.old.entries.items ++ entry.now ∷ [] }
+    /// Takes the next command. Answers whether all commands of its channel are lawful until now.
+    pub fn take(&mut self, checked: &Checked, next: &Located) -> bool
+        requires channel { next.now.entry.channel < MOST_CHANNELS }
+        requires clock { next.now.entry.command.clock < 2 ^ 63 }
+        ensures adds { self.new.given.items ≡ self.old.given.items ++ next.now ∷ [] }
         ensures follows { FollowsAll checked.now self.old → FollowsAll checked.now self.new }
         ensures lawful { FollowsAll checked.now self.old → (IsTrue result
-            ↔ IsLawful checked.now (commands_of entry.now.channel self.new.entries.items)) }
+            ↔ IsLawful checked.now (commands_of next.now.entry.channel self.new.given.items)) }
     {
-        let channel = entry.channel as usize;
-        let front = &mut self.fronts[channel];
-        let was_lawful = front.is_lawful();
-        let is_lawful = front.take(checked, &entry.command);
-        self.entries.note(entry);
-        self.counts[channel] = self.counts[channel].saturating_add(1);
-        self.lines[channel] = one_of(was_lawful && !is_lawful, line, self.lines[channel]);
+        let channel = next.entry.channel as usize;
+        let is_lawful = self.fronts[channel].take(checked, next);
+        self.given.note(next);
         is_lawful
     }
 
@@ -67,7 +53,7 @@ impl TraceCheck {
     pub fn is_lawful(&self, checked: &Checked, channel: u64) -> bool
         requires { channel < MOST_CHANNELS }
         ensures { FollowsAll checked.now self.now → (IsTrue result
-            ↔ IsLawful checked.now (commands_of channel self.now.entries.items)) }
+            ↔ IsLawful checked.now (commands_of channel self.now.given.items)) }
     {
         // the contract is of this profile, and the fronts know it already
         let _of = checked;
@@ -90,14 +76,21 @@ impl TraceCheck {
     /// How many commands the channel has.
     pub fn count(&self, channel: u64) -> u64
         requires { channel < MOST_CHANNELS }
+        ensures { (checked : Checked) → FollowsAll checked self.now
+            → result ≡ min (length (found_of channel self.now.given.items)) (2 ^ 64 - 1) }
     {
-        self.counts[channel as usize]
+        self.fronts[channel as usize].count()
     }
 
     /// The line of the first command of the channel that isn't lawful behind those before it; 0 where all are.
     pub fn line(&self, channel: u64) -> u64
         requires { channel < MOST_CHANNELS }
+        ensures none { (checked : Checked) → FollowsAll checked self.now
+            → IsLawful checked (commands_of channel self.now.given.items) → result ≡ 0 }
+        ensures first { (checked : Checked) → FollowsAll checked self.now
+            → ¬ IsLawful checked (commands_of channel self.now.given.items)
+            → IsFirstFault checked (found_of channel self.now.given.items) result }
     {
-        self.lines[channel as usize]
+        self.fronts[channel as usize].line()
     }
 }

@@ -13,7 +13,7 @@ loop-channel-preserved c all channel below = elim (cases_lt channel c.loop-chann
   | inl before ↦ c.loop-channel.invariant all channel before
   | inr last ↦
       let same : c.loop-channel.channel ≡ channel = omega arith in
-      subst (λ (n : ℕ). IsLawful c.args.checked.now (commands_of n c.args.self.now.entries.items)) same ((c.if-not-is_lawful.ensures all).0 refl)
+      subst (λ (n : ℕ). IsLawful c.args.checked.now (commands_of n c.args.self.now.given.items)) same ((c.if-not-is_lawful.ensures all).0 refl)
 ]
 
 pub returns : goal.returns
