@@ -70,7 +70,7 @@ impl Channel {
         requires reads { reads ≤ 64 }
         ensures { IfOk result (λ new.
             new ≡ new_channel checked.now channel (zero_lines (cells_of checked.now.geometry))
-                depth reads) }
+            depth reads) }
     {
         let array = zero_memory(alloc, cells(checked))?;
         Ok(Channel {
