@@ -8,15 +8,20 @@ pub struct Random {
 }
 
 impl Random {
-    ghost use Rattle.std.specs.Prelude.{◌<◌, ◌^◌};
+    ghost use Rattle.std.specs.Prelude.{◌≡◌, ◌+◌, ◌*◌, ◌/◌, ◌%◌, ◌<◌, ◌^◌};
 
     /// The numbers that begin with a seed.
-    pub fn with_seed(seed: u64) -> Random {
+    pub fn with_seed(seed: u64) -> Random
+        ensures { result.state ≡ seed }
+    {
         Random { state: seed }
     }
 
-    /// The next number.
+    /// The next number: the upper 31 bits of the next state.
     pub fn next(&mut self) -> u64
+        ensures state { self.new.state
+            ≡ (self.old.state * 6364136223846793005 + 1442695040888963407) % 2 ^ 64 }
+        ensures upper { result ≡ self.new.state / 2 ^ 33 }
         ensures small { result < 2 ^ 31 }
     {
         self.state = self
