@@ -34,7 +34,8 @@ impl<K: ChannelPort + Drop, A: Wires<K> + Drop> Session<K, A> {
     ghost use Rattle.nv_session.specs.Restoring.{Revives, FindsPrefixOf, KeepsPrefixOf};
     ghost use Rattle.nv_session.specs.Sessions.{line_count_in, moment_in, restored_in, setup_over};
 
-    // A life with what was restored, over a map. It refuses only where there is no memory for the channels.
+    // A life with what was restored, over a map. It refuses only where there is no memory for the channels, and then hands back what
+    // was restored.
     fn open(
         &self,
         alloc: Global,
@@ -50,6 +51,7 @@ impl<K: ChannelPort + Drop, A: Wires<K> + Drop> Session<K, A> {
             (opened_with restored.head (image_of_restored restored arm))) }
         ensures setup { IfOk result
             (λ life. setup_of K.ChannelPort life ≡ setup_over self.now map) }
+        ensures back { IfErr result (λ back. back.0 ≡ restored) }
     {
         let trail = self.profile.sizes.trail;
         self.wires.open(alloc, map, restored, trail)
