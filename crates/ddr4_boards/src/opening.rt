@@ -1,17 +1,21 @@
 // A module on the image of a device.
-ghost use Rattle.std.specs.Prelude.{◌≡◌, ℕ, [], IfErr, IfOk};
+ghost use Rattle.std.specs.Prelude.{◌≡◌, ℕ, [], replicate, IfErr, IfOk};
 ghost use Rattle.ddr4_timing.specs.Limits.{lines_of};
 ghost use Rattle.line_memory.specs.History.{recorded};
 ghost use Rattle.line_memory.specs.Memory.{IsMemory};
 ghost use Rattle.module_core.specs.Opening.{opened_with};
 ghost use Rattle.module_core.specs.Stands.{ModuleStands, setup_of};
-ghost use Rattle.save_device.specs.Device.{DeviceState};
+ghost use Rattle.save_device.specs.Device.{DeviceState, IsSettled};
+ghost use Rattle.save_device.specs.Memory.{state_of};
 ghost use Rattle.save_image.specs.Header.{Fits};
-ghost use Rattle.slot_store.specs.Outcomes.{restored};
+ghost use Rattle.slot_store.specs.declared.slots.Slot.TheVariants.{First};
+ghost use Rattle.slot_store.specs.Formatted.{IsFormatted};
+ghost use Rattle.slot_store.specs.Outcomes.{Found, first_image, restored};
 ghost use Rattle.slot_store.specs.Rest.{IsAtRestOn};
-ghost use Rattle.slot_store.specs.Slots.{IsCapacity};
+ghost use Rattle.slot_store.specs.Slots.{IsCapacity, device_size};
 ghost use Rattle.slot_store.specs.Told.{Refuses, image_of_restored};
 ghost use Rattle.ddr4_boards.specs.Restored.{RecordsRestored};
+ghost use Rattle.ddr4_boards.specs.Setup.{IsSetupOf};
 
 use crate::ready::Ready;
 use channel_port::ChannelPort;
@@ -46,8 +50,18 @@ fn capacity_of(checked: &Checked) -> usize
     line_count(checked) as usize
 }
 
-/// A device in memory with zero lines, as many as the profile has.
-pub fn formatted(alloc: Global, profile: &Profile) -> anyhow::Result<MemoryDevice> {
+/// A device in memory with zero lines, as many as the profile has: zero bytes that were formatted, settled, of which a restore finds
+/// the image of generation 1.
+pub fn formatted(alloc: Global, profile: &Profile) -> anyhow::Result<MemoryDevice>
+    ensures formatted { IfOk result (λ device.
+        IsFormatted (lines_of profile.now.checked.geometry)
+        (replicate (device_size (lines_of profile.now.checked.geometry)) 0)
+        (state_of device).bytes) }
+    ensures finds { IfOk result (λ device.
+        restored (lines_of profile.now.checked.geometry) (state_of device).bytes
+        ≡ Found First (first_image (lines_of profile.now.checked.geometry))) }
+    ensures settled { IfOk result (λ device. IsSettled (state_of device)) }
+{
     let lines = capacity_of(&profile.checked);
     let bytes = Vec::from_elem(alloc, 0, device_size(lines))?;
     let mut device = MemoryDevice::new(alloc, bytes)?;
@@ -93,15 +107,8 @@ fn begin<'m, M: LineMap>(
         (lines_of profile.now.checked.geometry) restored.head.closed at
         → ModuleStands ⟦<Ddr4Port<'m, M> as ChannelPort>⟧ begun.running at
         (opened_with restored.head (image_of_restored restored arm))) }
-    ensures channels { IfOk result (λ begun.
-        (setup_of ⟦<Ddr4Port<'m, M> as ChannelPort>⟧ begun.running).shape.channels
-        ≡ profile.now.checked.geometry.channels) }
-    ensures lines { IfOk result (λ begun.
-        (setup_of ⟦<Ddr4Port<'m, M> as ChannelPort>⟧ begun.running).shape.lines
-        ≡ lines_of profile.now.checked.geometry) }
-    ensures trail { IfOk result (λ begun.
-        (setup_of ⟦<Ddr4Port<'m, M> as ChannelPort>⟧ begun.running).trail
-        ≡ profile.now.sizes.trail) }
+    ensures setup { IfOk result (λ begun. IsSetupOf (M.place_of map.now) profile.now
+        (setup_of ⟦<Ddr4Port<'m, M> as ChannelPort>⟧ begun.running)) }
     ensures history { IfOk result (λ begun. begun.history
         ≡ recorded restored.lines.items restored.head.count [] profile.now.sizes.trail) }
 {
@@ -144,6 +151,8 @@ pub fn open<'m, M: LineMap, D: SaveDevice + Drop, E: Energy + Drop>(
     ensures same { IfOk result (λ ready.
         (D.state ready.recorded.device).bytes ≡ (D.state device).bytes) }
     ensures gauge { IfOk result (λ ready. ready.recorded.energy ≡ energy) }
+    ensures setup { IfOk result (λ ready. IsSetupOf (M.place_of map.now) profile.now
+        (setup_of ⟦<Ddr4Port<'m, M> as ChannelPort>⟧ ready.recorded.running)) }
     ensures refused { IfErr result (λ none. Refuses none.why
         (restored (lines_of profile.now.checked.geometry) (D.state device).bytes)) }
     ensures device { IfErr result (λ none. (D.state none.device).bytes ≡ (D.state device).bytes) }

@@ -1,9 +1,16 @@
-use Rattle.std.proofs.Common.{◌∙◌, ℕ, List, [], ap}
+use Rattle.std.proofs.Common.{◌∙◌, ℕ, List, [], ap, refl, subst, sym}
 use Rattle.line_memory.specs.History.{recorded}
+use Rattle.nv_machine.specs.State.{Setup}
+use Rattle.ddr4_boards.specs.Setup.{IsSetupOf}
 use Rattle.ddr4_boards.proofs.opening.begin.Goals as goal
 
 pub returns-clause-mark : goal.returns-clause-mark
 returns-clause-mark g c = c.in_ok-opening.ensures.mark ∙ c.mark.ensures
+
+pub returns-clause-setup : goal.returns-clause-setup
+returns-clause-setup g c =
+    subst (λ (s : Setup). IsSetupOf (g.M.LineMap.place_of c.args.map.now) c.args.profile.now s) (sym c.in-Ok.ensures.setup)
+    (record { is = refl; numbers = c.of-costs.ensures.numbers; reckoned = c.of-costs.ensures.profile })
 
 pub returns-clause-history : goal.returns-clause-history
 returns-clause-history g c =

@@ -1,10 +1,11 @@
-use Rattle.std.proofs.Common.{◌≡◌, ℕ, rules, subst}
+use Rattle.std.proofs.Common.{◌≡◌, ℕ, ap, rules, subst, sym}
 use Rattle.std.proofs.lemmas.Grind.{merely}
 use Rattle.save_device.specs.Device.{DeviceState}
 use Rattle.save_image.specs.Image.{Image}
 use Rattle.slot_store.specs.Outcomes.{Found, restored}
 use Rattle.slot_store.specs.Rest.{IsAtRestOn}
 use Rattle.slot_store.specs.Told.{image_of_restored}
+use Rattle.nv_machine.specs.State.{Setup}
 use Rattle.module_core.specs.Opening.{opened_with}
 use Rattle.module_core.specs.Stands.{ModuleStands}
 use Rattle.module_core.proofs.CallsInTurn.{life_begins}
@@ -27,7 +28,11 @@ pub invariant_of-result-clause-kept : goal.invariant_of-result-clause-kept
 invariant_of-result-clause-kept g c =
     let it = c.in-Ok.restored in
     new_is_kept _ g.D.SaveDevice _ it.head (image_of_restored it c.in-Ok.ensures.found.arm) c.args.profile.now.sizes.trail
-    (begun_stands g (goal.at.invariant_of-result-clause-kept g c).In-Ok-begin) c.mark.ensures (search rules) c.in-Ok-begin.ensures.trail
+    (begun_stands g (goal.at.invariant_of-result-clause-kept g c).In-Ok-begin) c.mark.ensures (search rules)
+    (ap (λ (s : Setup). s.trail) c.in-Ok-begin.ensures.setup.is)
+
+pub invariant_of-result-clause-counted : goal.invariant_of-result-clause-counted
+invariant_of-result-clause-counted g c = sym (ap (λ (s : Setup). s.shape.channels) c.in-Ok-begin.ensures.setup.is)
 
 pub invariant_of-result-clause-lived : goal.invariant_of-result-clause-lived
 invariant_of-result-clause-lived g c =
