@@ -166,6 +166,9 @@ impl<K: ChannelPort, D: SaveDevice, E: Energy, B: BoardName> Held<K, D, E, B> {
         requires { HasChannel K.ChannelPort self.old.recorded.running channel }
         ensures steps { Steps K.ChannelPort D.SaveDevice E.Energy B.BoardName.own
             (Event.Work channel) (Reply.Work result) self.old self.new }
+        ensures history { self.new.recorded.history ≡ self.old.recorded.history }
+        ensures accepted { self.new.recorded.running.accepted
+            ≡ self.old.recorded.running.accepted }
         ensures device { self.new.recorded.device ≡ self.old.recorded.device }
         ensures energy { self.new.recorded.energy ≡ self.old.recorded.energy }
         ensures setup { setup_of K.ChannelPort self.new.recorded.running

@@ -4,13 +4,13 @@ ghost use Rattle.std.specs.Arc.{arc_value};
 ghost use Rattle.module_core.specs.Stands.{setup_of};
 ghost use Rattle.nv_workers.specs.Client.{SeesNoLess, client};
 ghost use Rattle.nv_workers.specs.Marks.{told_at};
-ghost use Rattle.nv_workers.specs.Serving.{IsOfChannels, ReadsServed};
+ghost use Rattle.nv_workers.specs.Serving.{IsOfChannels, ReadsServed, WritesServed};
 ghost use Rattle.nv_workers.specs.Steps.{Steps};
 
 use crate::board::Board;
 use crate::board_name::BoardName;
 use crate::held::{Held, ReadAt};
-use crate::serving::{serve, told_for};
+use crate::serving::{make_room, serve, told_for};
 use arm_state::{ReadRefusal, WriteRefusal};
 use channel_port::{ChannelPort, Got};
 use energy_budget::Energy;
@@ -119,7 +119,39 @@ impl<B: BoardName> Host<B> {
         }
     }
 
-    /// Writes a line.
+    /// Writes a line at the module that is lent, as `write_in` does. Before that its channel issues commands while it has no room, 64 at
+    /// most.
+    pub fn write_served_in<K: ChannelPort, D: SaveDevice, E: Energy>(
+        &mut self,
+        held: &mut Held<K, D, E, B>,
+        write: Write,
+    ) -> Result<Receipt, WriteRefusal>
+        ensures ok { IfOk result (λ r. WritesServed K.ChannelPort D.SaveDevice E.Energy
+            B.BoardName.own write (Ok (told_at r.number held.new.recorded.running.persisted))
+            held.old held.new) }
+        ensures err { IfErr result (λ refusal. WritesServed K.ChannelPort D.SaveDevice E.Energy
+            B.BoardName.own write (Err refusal) held.old held.new) }
+        ensures number { IfOk result (λ r. r.number ≡ held.old.recorded.running.accepted) }
+        ensures line { IfOk result (λ r. r.line ≡ write.line) }
+        ensures data { IfOk result (λ r. r.data ≡ write.data) }
+        ensures seen { IfOk result (λ r. r.number < self.new.accepted) }
+        ensures rises { SeesNoLess self.old self.new }
+        ensures one { IfOk result (λ r. self.new.writes ≡ self.old.writes + 1) }
+        ensures none { IfErr result (λ e. self.new.writes ≡ self.old.writes) }
+        ensures adds { IfOk result (λ r.
+            held.new.recorded.history.writes ≡ held.old.recorded.history.writes ++ write ∷ []) }
+        ensures stays { IfErr result (λ e.
+            held.new.recorded.history.writes ≡ held.old.recorded.history.writes) }
+        ensures device { held.new.recorded.device ≡ held.old.recorded.device }
+        ensures energy { held.new.recorded.energy ≡ held.old.recorded.energy }
+        ensures setup { setup_of K.ChannelPort held.new.recorded.running
+            ≡ setup_of K.ChannelPort held.old.recorded.running }
+    {
+        make_room(held, write.line);
+        self.write_in(held, write)
+    }
+
+    /// Writes a line. While its channel has no room the channel issues commands under the lock in which the host writes, 64 at most.
     pub fn write<K: ChannelPort, D: SaveDevice, E: Energy, N: Notices>(
         &mut self,
         rt: &impl Wait,
@@ -134,7 +166,7 @@ impl<B: BoardName> Host<B> {
         ensures none { IfErr result (λ e. self.new.writes ≡ self.old.writes) }
     {
         let mut held = board.held.lock(rt);
-        self.write_in(&mut *held, write)
+        self.write_served_in(&mut *held, write)
     }
 
     /// Reads a line at the module that is lent. The number is how many writes were accepted before it.

@@ -1,4 +1,5 @@
-use Rattle.std.proofs.Common.{◌∙◌, refl}
+use Rattle.std.proofs.Common.{ap, ◌∙◌, refl, sym}
+use Rattle.mark_board.specs.SeenMarks.{SeenMarks}
 use Rattle.nv_machine.specs.declared.events.Event.TheVariants as events
 use Rattle.nv_machine.specs.declared.events.Reply.TheVariants as replies
 use Rattle.nv_workers.proofs.Keeping.{keeps_same}
@@ -20,3 +21,9 @@ pub invariant_of-self-clause-shown : goal.invariant_of-self-clause-shown
 invariant_of-self-clause-shown g c =
     let it = c.args.self.now in let call = c.work in let after = record it.recorded { running = call.new.self } in
     it.shown ∙ same_marks g.K.ChannelPort g.D.SaveDevice g.E.Energy (events.Work c.args.channel) (replies.Work call.result) it.recorded after it.kept (call.ensures.answers _ _) (work_is_quiet c.args.channel call.result) g.B.BoardName.board
+
+pub returns-clause-accepted : goal.returns-clause-accepted
+returns-clause-accepted g c =
+    let it = c.args.self.now in let call = c.work in let after = record it.recorded { running = call.new.self } in
+    let same = same_marks g.K.ChannelPort g.D.SaveDevice g.E.Energy (events.Work c.args.channel) (replies.Work call.result) it.recorded after it.kept (call.ensures.answers _ _) (work_is_quiet c.args.channel call.result) g.B.BoardName.board in
+    ap (λ (marks : SeenMarks). marks.accepted) (sym same)
