@@ -1,20 +1,38 @@
 -- How the life of a session goes on.
-use Rattle.std.proofs.Common.{◌≡◌, ℕ, ap, refl, sym, subst, Option, Some, None}
+use Rattle.std.proofs.Common.{◌≡◌, ℕ, List, ap, refl, sym, subst, Option, Some, None}
 use Rattle.std.proofs.Math.Logic.{∥∥₁_map}
 use Rattle.std.specs.Prelude.{MatchOption}
-use Rattle.nv_session.proofs.Common.{Assembly, Comes, ComesAlone, ComesTo, DeviceState, Ghosts, GoesOnAlone, GoesOnBy}
-use Rattle.nv_session.proofs.Common.{HasDevice, HasLife, IsLiving, IsShapeFor, LivesOn, Module, Profile, SessionAt}
+use Rattle.nv_session.proofs.Common.{Assembly, Comes, ComesAlone, ComesTo, DeviceState, Event, Ghosts, GoesOnAlone, GoesOnBy}
+use Rattle.nv_session.proofs.Common.{HasDevice, HasLife, IsLiving, IsShapeFor, LivesOn, Machine, Module, Profile, Reply, SessionAt}
 use Rattle.nv_session.proofs.Common.{Setup, Tale, assembly, life_charged, life_on, lines_of, session_at, setup_of}
 use Rattle.slot_store.specs.Slots.{HasSize}
 use Rattle.energy_budget.specs.Charging.{RisesTo}
 use Rattle.energy_budget.specs.Gauge.{Gauge}
 use Rattle.module_core.specs.ModuleLives.{LifeSoFar}
+use Rattle.nv_session.proofs.Coming.{comes_retold}
 
 module _ {K : Type 0} (L : Ghosts K) where
   pub goes_on_by : (Told : Setup → Tale) (old new : SessionAt L) (it later : Module K L) → old.life ≡ Some it → new.life ≡ Some later
       → Comes L (Told (setup_of L it)) (assembly it old.device old.gauge) (assembly later new.device new.gauge) → setup_of L later ≡ setup_of L it → GoesOnBy L Told old new
   goes_on_by Told old new it later was runs comes same =
       subst (λ (life : Option (Module K L)). MatchOption life (new ≡ old) (λ it. LivesOn L Told it old new)) (sym was) (record { it = later; runs = runs; over = same; holds = comes })
+
+  -- the same events, of which something else is told too
+  pub goes_retold : (Told Next : Setup → Tale) (old new : SessionAt L) → ((setup : Setup) (es : List Event) (rs : List Reply) (m n : Machine) → Told setup es rs m n → Next setup es rs m n)
+      → GoesOnBy L Told old new → GoesOnBy L Next old new
+  goes_retold Told Next old new tells goes = of_life old.life goes
+    where
+      lives_retold : (it : Module K L) → LivesOn L Told it old new → LivesOn L Next it old new
+      lives_retold it lives = record {
+        it = lives.it;
+        runs = lives.runs;
+        over = lives.over;
+        holds = comes_retold L (Told (setup_of L it)) (Next (setup_of L it)) (assembly it old.device old.gauge) (assembly lives.it new.device new.gauge) lives.holds (tells (setup_of L it));
+      }
+
+      of_life : (life : Option (Module K L)) → MatchOption life (new ≡ old) (λ it. LivesOn L Told it old new) → MatchOption life (new ≡ old) (λ it. LivesOn L Next it old new)
+      of_life None same = same
+      of_life (Some it) lives = lives_retold it lives
 
   pub goes_on_alone : (Told : Setup → Tale) (life : Option (Module K L)) (it later : Module K L) → life ≡ Some it
       → ComesAlone L (Told (setup_of L it)) it later → setup_of L later ≡ setup_of L it → GoesOnAlone L Told life (Some later)

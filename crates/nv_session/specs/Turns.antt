@@ -92,7 +92,3 @@ pub record GoesOnSaving (result : Result StepReply ArmRefusal) (events : List Ev
 pub record MakesStep (result : Result StepReply ArmRefusal) (events : List Event) (replies : List Reply) (old new : Machine) : Type 0 where
   pub goes_on : GoesOnSaving result events replies old new
   pub are : AreOfStep result events replies
-
--- works alone
-pub record OnlyWorks (events : List Event) (replies : List Reply) (old new : Machine) : Type 0 where
-  pub same : SameButWaits old new

@@ -3,7 +3,7 @@ ghost use Rattle.std.specs.Prelude.{◌≡◌, ◌<◌, unwrap_or, Err, None, So
 ghost use Rattle.std.specs.Option.{option_map};
 ghost use Rattle.save_device.specs.Device.{DeviceState};
 ghost use Rattle.energy_budget.specs.Meter.{meter_gauge, lie_of};
-ghost use Rattle.nv_session.specs.Turns.{SeesLine};
+ghost use Rattle.nv_session.specs.ReadTurns.{ReadsLine};
 ghost use Rattle.nv_session.specs.Coming.{IsOneEvent};
 ghost use Rattle.nv_session.specs.Living.{GoesOnBy, GoesOnAlone, IsWork, fuse_state, session_at, set_to, read_refusal_at_rest, write_refusal_at_rest};
 
@@ -58,7 +58,7 @@ impl<K: ChannelPort + Drop, A: Wires<K> + Drop> Session<K, A> {
 
     /// Reads a line of the memory after all accepted writes. A read that must wait works its channel up to 64 times.
     pub fn read(&mut self, line: u64) -> Result<LineSeen, ReadRefusal>
-        ensures comes { GoesOnAlone K.ChannelPort (λ setup. SeesLine setup line result)
+        ensures comes { GoesOnAlone K.ChannelPort (λ setup. ReadsLine setup line result)
             self.old.life self.new.life }
         ensures none { self.old.life ≡ None
             → result ≡ Err (read_refusal_at_rest (line_count_in self.old) line) }

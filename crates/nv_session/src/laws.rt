@@ -22,7 +22,9 @@ ghost use Rattle.nv_session.specs.Coming.{IsOneEvent};
 ghost use Rattle.nv_session.specs.declared.session.Session.{Session};
 ghost use Rattle.nv_session.specs.Living.{GoesOnBy, HasLife, IsWork, SessionAt, fuse_state, session_at, set_to};
 ghost use Rattle.nv_session.specs.SessionLives.{HasLived, HasLivedOn};
-ghost use Rattle.nv_session.specs.Turns.{GoesOnSaving, HasSaved, MakesStep, SeesLine};
+ghost use Rattle.nv_session.specs.ReadTurns.{ReadsLine};
+ghost use Rattle.nv_session.specs.SaveTurns.{MakesSave};
+ghost use Rattle.nv_session.specs.Turns.{HasSaved, MakesStep};
 ghost use Rattle.nv_session.specs.Restoring.{Revives, FindsSaved, FindsPrefix};
 
 use crate::wires::Wires;
@@ -79,9 +81,9 @@ pub fn sessions_live<K: ChannelPort>()
     ensures read { (line : ℕ) (result : Result LineSeen ReadRefusal) (found : Head) (image : Image)
         (events : List Event) (replies : List Reply) (first : Assembly K.ChannelPort)
         (old new : SessionAt K.ChannelPort)
-        → GoesOnBy K.ChannelPort (λ setup. SeesLine setup line result) old new
+        → GoesOnBy K.ChannelPort (λ setup. ReadsLine setup line result) old new
         → (lived : HasLived K.ChannelPort found image events replies first old)
-        → HasLivedOn K.ChannelPort (SeesLine (setup_of K.ChannelPort lived.it) line result)
+        → HasLivedOn K.ChannelPort (ReadsLine (setup_of K.ChannelPort lived.it) line result)
         found image events replies first new }
     ensures step { (result : Result StepReply ArmRefusal) (found : Head) (image : Image)
         (events : List Event) (replies : List Reply) (first : Assembly K.ChannelPort)
@@ -92,9 +94,11 @@ pub fn sessions_live<K: ChannelPort>()
     ensures save { (result : Result StepReply ArmRefusal) (found : Head) (image : Image)
         (events : List Event) (replies : List Reply) (first : Assembly K.ChannelPort)
         (old new : SessionAt K.ChannelPort)
-        → GoesOnBy K.ChannelPort (λ setup. GoesOnSaving result) old new
-        → HasLived K.ChannelPort found image events replies first old
-        → HasLivedOn K.ChannelPort (GoesOnSaving result) found image events replies first new }
+        → GoesOnBy K.ChannelPort (λ setup. MakesSave setup.shape.channels result) old new
+        → (lived : HasLived K.ChannelPort found image events replies first old)
+        → HasLivedOn K.ChannelPort
+        (MakesSave (setup_of K.ChannelPort lived.it).shape.channels result)
+        found image events replies first new }
     ensures level { (found : Head) (image : Image) (events : List Event) (replies : List Reply)
         (first : Assembly K.ChannelPort) (level : ℕ) (at : SessionAt K.ChannelPort)
         → HasLived K.ChannelPort found image events replies first at

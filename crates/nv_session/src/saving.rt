@@ -1,6 +1,7 @@
 // The calls of a session that may call its device, and ask its gauge.
 ghost use Rattle.std.specs.Prelude.{◌≡◌, Err, None};
-ghost use Rattle.nv_session.specs.Turns.{MakesStep, GoesOnSaving};
+ghost use Rattle.nv_session.specs.SaveTurns.{MakesSave};
+ghost use Rattle.nv_session.specs.Turns.{MakesStep};
 ghost use Rattle.nv_session.specs.Coming.{IsOneEvent};
 ghost use Rattle.nv_session.specs.Living.{GoesOnBy};
 
@@ -16,7 +17,7 @@ impl<K: ChannelPort + Drop, A: Wires<K> + Drop> Session<K, A> {
 
     /// A save, or the rest of one that runs: up to 4,096 turns of a step, or where that waits of one work on each channel.
     pub fn save(&mut self) -> Result<StepReply, ArmRefusal>
-        ensures comes { GoesOnBy K.ChannelPort (λ setup. GoesOnSaving result)
+        ensures comes { GoesOnBy K.ChannelPort (λ setup. MakesSave setup.shape.channels result)
             (moment_in self.old) (moment_in self.new) }
         ensures none { self.old.life ≡ None → result ≡ Err ArmRefusal.Closed }
         ensures profile { self.new.profile ≡ self.old.profile }

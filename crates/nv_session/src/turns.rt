@@ -2,7 +2,9 @@
 ghost use Rattle.std.specs.Prelude.{◌≡◌};
 ghost use Rattle.module_core.specs.Stands.{HasChannel, HasDevice, assembly, setup_of};
 ghost use Rattle.nv_session.specs.Coming.{Comes, ComesAlone};
-ghost use Rattle.nv_session.specs.Turns.{SeesPromised, SeesLine, MakesStep, OnlyWorks, GoesOnSaving};
+ghost use Rattle.nv_session.specs.ReadTurns.{AwaitsLine, ReadsLine};
+ghost use Rattle.nv_session.specs.SaveTurns.{MakesSave, WorksBehind, WorksEach, is_underway};
+ghost use Rattle.nv_session.specs.Turns.{MakesStep};
 
 use arm_state::{ArmRefusal, ReadRefusal};
 use channel_port::{ChannelPort, Collected, Got, Ticket};
@@ -29,15 +31,17 @@ pub enum LineSeen {
 // Works the channel of a read that waits, until it has its bytes or the channel is idle.
 fn await_read<K: ChannelPort>(running: &mut Module<K>, ticket: Ticket) -> LineSeen
     requires { HasChannel K.ChannelPort running.old ticket.channel }
-    ensures comes { ComesAlone K.ChannelPort (SeesPromised ticket result) running.old running.new }
+    ensures comes { ComesAlone K.ChannelPort (AwaitsLine ticket result) running.old running.new }
     ensures setup { setup_of K.ChannelPort running.new ≡ setup_of K.ChannelPort running.old }
 {
     for _turn in 0..READ_TURNS {
-        if let Collected::Data { bytes, .. } = running.collect(ticket) {
-            return LineSeen::Content(bytes);
-        }
-        if running.work(ticket.channel).is_none() {
-            return LineSeen::Waiting;
+        match running.collect(ticket) {
+            Collected::Data { bytes, .. } => return LineSeen::Content(bytes),
+            _ => {
+                let Some(_) = running.work(ticket.channel) else {
+                    return LineSeen::Waiting;
+                };
+            }
         }
     }
     match running.collect(ticket) {
@@ -54,7 +58,7 @@ pub(crate) fn read<K: ChannelPort>(
 ) -> Result<LineSeen, ReadRefusal>
     requires channels { channels ≡ (setup_of K.ChannelPort running.old).shape.channels }
     ensures comes { ComesAlone K.ChannelPort
-        (SeesLine (setup_of K.ChannelPort running.old) line result) running.old running.new }
+        (ReadsLine (setup_of K.ChannelPort running.old) line result) running.old running.new }
     ensures setup { setup_of K.ChannelPort running.new ≡ setup_of K.ChannelPort running.old }
 {
     match running.read(line) {
@@ -90,7 +94,7 @@ pub(crate) fn step<K: ChannelPort, D: SaveDevice, E: Energy>(
 // One work on each channel.
 fn work_each<K: ChannelPort>(running: &mut Module<K>, channels: u64)
     requires { channels ≡ (setup_of K.ChannelPort running.old).shape.channels }
-    ensures comes { ComesAlone K.ChannelPort OnlyWorks running.old running.new }
+    ensures comes { ComesAlone K.ChannelPort (WorksEach channels) running.old running.new }
     ensures setup { setup_of K.ChannelPort running.new ≡ setup_of K.ChannelPort running.old }
 {
     for channel in 0..channels {
@@ -100,17 +104,20 @@ fn work_each<K: ChannelPort>(running: &mut Module<K>, channels: u64)
 }
 
 // Whether a save has a further turn after this reply.
-fn goes_on(reply: StepReply) -> bool {
+fn is_underway(reply: StepReply) -> bool
+    ensures { result ≡ is_underway reply }
+{
     matches!(reply, StepReply::Did(_) | StepReply::Waiting)
 }
 
 // Works each channel where a step had to wait.
 fn work_where_waiting<K: ChannelPort>(running: &mut Module<K>, channels: u64, reply: StepReply)
     requires { channels ≡ (setup_of K.ChannelPort running.old).shape.channels }
-    ensures comes { ComesAlone K.ChannelPort OnlyWorks running.old running.new }
+    ensures comes { ComesAlone K.ChannelPort (WorksBehind channels reply)
+        running.old running.new }
     ensures setup { setup_of K.ChannelPort running.new ≡ setup_of K.ChannelPort running.old }
 {
-    if reply == StepReply::Waiting {
+    if matches!(reply, StepReply::Waiting) {
         work_each(running, channels);
     }
 }
@@ -125,7 +132,7 @@ pub(crate) fn save<K: ChannelPort, D: SaveDevice, E: Energy>(
 ) -> Result<StepReply, ArmRefusal>
     requires channels { channels ≡ (setup_of K.ChannelPort running.old).shape.channels }
     requires size { HasDevice K.ChannelPort running.old (D.state device.old) }
-    ensures comes { Comes K.ChannelPort (GoesOnSaving result)
+    ensures comes { Comes K.ChannelPort (MakesSave channels result)
         (assembly running.old (D.state device.old) (E.gauge energy.old))
         (assembly running.new (D.state device.new) (E.gauge energy.new)) }
     ensures setup { setup_of K.ChannelPort running.new ≡ setup_of K.ChannelPort running.old }
@@ -136,7 +143,7 @@ pub(crate) fn save<K: ChannelPort, D: SaveDevice, E: Energy>(
         Err(refusal) => return Err(refusal),
     };
     for _turn in 1..SAVE_TURNS {
-        if !goes_on(reply) {
+        if !is_underway(reply) {
             return Ok(reply);
         }
         work_where_waiting(running, channels, reply);

@@ -5,8 +5,7 @@ use Rattle.nv_machine.specs.declared.events.Event.TheVariants as events
 use Rattle.nv_machine.specs.declared.events.Reply.TheVariants as replies
 use Rattle.module_core.specs.Stands.{AnswersAlone}
 use Rattle.nv_session.specs.declared.turns.LineSeen.TheVariants.{Waiting}
-use Rattle.nv_session.proofs.Awaiting.{awaits_itself, sees_waiting}
-use Rattle.nv_session.proofs.Reading.{sees_now, sees_later, sees_refusal}
+use Rattle.nv_session.proofs.Reading.{sees_later, sees_nowhere, sees_now, sees_refusal}
 use Rattle.nv_session.proofs.turns.read.Goals as goal
 
 pub returns-in-Ok-Now-clause-comes : goal.returns-in-Ok-Now-clause-comes
@@ -24,11 +23,10 @@ returns-in-Ok-Later-clause-comes g c =
 
 pub returns-in-Ok-Later-2-clause-comes : goal.returns-in-Ok-Later-2-clause-comes
 returns-in-Ok-Later-2-clause-comes g c =
-    let L = g.K.ChannelPort in let ticket = c.in-Ok-Later-2.field-0-0 in
-    sees_later L c.args.line ticket Waiting c.args.running.now c.read.new.self c.read.new.self c.read.ensures.setup
+    let L = g.K.ChannelPort in let ticket = c.in-Ok-Later.ticket in
+    sees_nowhere L c.args.line c.args.channels ticket Waiting c.args.running.now c.read.new.self c.requires.channels c.if-ticket-channels.false
     (subst (λ (answer : Result Got ReadRefusal). AnswersAlone L (events.Read c.args.line) (replies.Read answer) c.args.running.now c.read.new.self)
-    (c.in-Ok-Later.is ∙ ap (λ (got : Got). Ok got) c.in-Ok-Later-2.field-0-is) c.read.ensures.answers)
-    (sees_waiting L ticket c.read.new.self c.read.new.self (awaits_itself L ticket c.read.new.self))
+    (c.in-Ok-Later.is ∙ ap (λ (got : Got). Ok got) c.in-Ok-Later.field-0-is) c.read.ensures.answers)
 
 pub returns-in-Err-clause-comes : goal.returns-in-Err-clause-comes
 returns-in-Err-clause-comes g c =

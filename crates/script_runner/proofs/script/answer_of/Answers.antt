@@ -6,7 +6,10 @@ use Rattle.save_device.specs.declared.memory.MemoryDevice.{MemoryDevice}
 use Rattle.energy_budget.specs.Meter.{meter_gauge}
 use Rattle.nv_machine.specs.declared.events.Event.TheVariants as events
 use Rattle.nv_machine.specs.declared.events.Reply.TheVariants as replies
-use Rattle.nv_session.specs.Turns.{SeesLine}
+use Rattle.nv_session.specs.ReadTurns.{ReadsLine}
+use Rattle.nv_session.specs.SaveTurns.{MakesSave}
+use Rattle.nv_session.specs.Turns.{GoesOnSaving, SeesLine}
+use Rattle.nv_session.proofs.Going.{goes_retold}
 use Rattle.nv_script.specs.declared.line.ScriptLine.TheVariants as line
 use Rattle.nv_script.specs.declared.answer.Answer.TheVariants as answer
 use Rattle.script_runner.specs.Replies.{read_told, work_told}
@@ -35,7 +38,10 @@ pub returns-in-Read-clause-truly : goal.returns-in-Read-clause-truly
 returns-in-Read-clause-truly g c =
     let L = g.K.ChannelPort in let it = c.args.session.now in let lines = line_count_in it in let old = moment_in it in
     let made = c.read.new.self in let ensures = c.read.ensures in
-    truly_as L {said = read_told c.in-Read.line c.read.result} c.in-Read.is c.read_answer.ensures (read_truly L lines c.in-Read.line c.read.result _ old (moment_in made) ensures.none (goes_alone L (λ setup. SeesLine setup c.in-Read.line c.read.result) it made ensures.device ensures.gauge ensures.comes))
+    truly_as L {said = read_told c.in-Read.line c.read.result} c.in-Read.is c.read_answer.ensures
+    (read_truly L lines c.in-Read.line c.read.result _ old (moment_in made) ensures.none
+    (goes_retold L (λ setup. ReadsLine setup c.in-Read.line c.read.result) (λ setup. SeesLine setup c.in-Read.line c.read.result) old (moment_in made) (λ setup es rs m n told. told.sees)
+    (goes_alone L (λ setup. ReadsLine setup c.in-Read.line c.read.result) it made ensures.device ensures.gauge ensures.comes)))
 
 pub returns-in-Work-clause-truly : goal.returns-in-Work-clause-truly
 returns-in-Work-clause-truly g c =
@@ -46,7 +52,9 @@ returns-in-Work-clause-truly g c =
 pub returns-in-Save-clause-truly : goal.returns-in-Save-clause-truly
 returns-in-Save-clause-truly g c =
     let L = g.K.ChannelPort in let it = c.args.session.now in let lines = line_count_in it in let old = moment_in it in
-    truly_as L c.in-Save.is c.save_answer.ensures (save_truly L lines c.save.result old (moment_in c.save.new.self) c.save.ensures.none c.save.ensures.comes)
+    truly_as L c.in-Save.is c.save_answer.ensures
+    (save_truly L lines c.save.result old (moment_in c.save.new.self) c.save.ensures.none
+    (goes_retold L (λ setup. MakesSave setup.shape.channels c.save.result) (λ setup. GoesOnSaving c.save.result) old (moment_in c.save.new.self) (λ setup es rs m n told. told.goes_on) c.save.ensures.comes))
 
 pub returns-in-Step-clause-truly : goal.returns-in-Step-clause-truly
 returns-in-Step-clause-truly g c =

@@ -1,14 +1,14 @@
 use Rattle.std.proofs.Common.{refl}
-use Rattle.nv_session.proofs.Common.{SeesLine, assembly, fuse_state, meter_gauge, setup_of}
+use Rattle.nv_session.proofs.Common.{ReadsLine, assembly, fuse_state, meter_gauge, setup_of}
 use Rattle.nv_session.proofs.Going.{goes_on_alone, lives_on_alone}
 use Rattle.nv_session.proofs.session.Session.read.Goals as goal
 
 pub returns-in-Some-clause-comes : goal.returns-in-Some-clause-comes
 returns-in-Some-clause-comes g c =
-    goes_on_alone g.K.ChannelPort (λ setup. SeesLine setup c.args.line c.read.result) c.args.self.now.life c.in-Some.life c.read.new.running c.in-Some.is c.read.ensures.comes c.read.ensures.setup
+    goes_on_alone g.K.ChannelPort (λ setup. ReadsLine setup c.args.line c.read.result) c.args.self.now.life c.in-Some.life c.read.new.running c.in-Some.is c.read.ensures.comes c.read.ensures.setup
 
 pub invariant_of-self-clause-living : goal.invariant_of-self-clause-living
 invariant_of-self-clause-living g c =
     let L = g.K.ChannelPort in let it = c.args.self.now in let life = c.in-Some.life in let device = fuse_state it.device in let gauge = meter_gauge it.gauge in
-    lives_on_alone L (SeesLine (setup_of L life) c.args.line c.read.result) it.profile it.life (assembly life device gauge) (assembly c.read.new.running device gauge) c.in-Some.is refl it.living
+    lives_on_alone L (ReadsLine (setup_of L life) c.args.line c.read.result) it.profile it.life (assembly life device gauge) (assembly c.read.new.running device gauge) c.in-Some.is refl it.living
     (c.read.ensures.comes device gauge) c.read.ensures.setup
