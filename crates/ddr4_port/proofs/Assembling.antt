@@ -23,12 +23,12 @@ whole-lines (x ∷ memory) told (suc k) d less = whole-lines memory (λ i within
 abbrev pub BeginWith : (ℕ → Place) → Checked → List (List ℕ) → ℕ → ℕ → List PortState → Type 0
 BeginWith f checked memory depth reads ports = (number : ℕ) (port : PortState) → slice_get ports number ≡ Some port → BeginsWith f checked memory depth reads number port
 
--- one more
-pub begin-more : (f : ℕ → Place) (checked : Checked) (memory : List (List ℕ)) (depth reads : ℕ) (ports : List PortState) (number : ℕ) (port : PortState) → length ports ≡ number → BeginWith f checked memory depth reads ports
-    → BeginsWith f checked memory depth reads number port → BeginWith f checked memory depth reads (ports ++ port ∷ [])
-begin-more f checked memory depth reads ports number port count begin next k other there = elim (appended ports port k other there).is [
-  | inl old ↦ begin k other old
-  | inr last ↦ subst (λ p. BeginsWith f checked memory depth reads k p) last.1 (subst (λ n. BeginsWith f checked memory depth reads n port) (sym count ∙ sym last.0) next)
+-- one more of which this is so
+pub each-more : (Is : ℕ → PortState → Type 0) (ports : List PortState) (number : ℕ) (port : PortState) → length ports ≡ number → ((number : ℕ) (port : PortState) → slice_get ports number ≡ Some port → Is number port) → Is number port
+    → (k : ℕ) (other : PortState) → slice_get (ports ++ port ∷ []) k ≡ Some other → Is k other
+each-more Is ports number port count each next k other there = elim (appended ports port k other there).is [
+  | inl old ↦ each k other old
+  | inr last ↦ subst (Is k) last.1 (subst (λ n. Is n port) (sym count ∙ sym last.0) next)
 ]
 
 none-in : {A : Type 0} (of : PortState → List A) (ports : List PortState) → ((number : ℕ) (port : PortState) → slice_get ports number ≡ Some port → of port ≡ []) → flat_map of ports ≡ []

@@ -1,9 +1,11 @@
 -- A channel whose array is filled with the lines of a memory, one line after the other.
-use Rattle.std.proofs.Common.{◌≡◌, ◌≢◌, ◌+◌, ◌<◌, ◌≤◌, ◌^◌, ℕ, List, [], filter, length, nat_lt, slice_get, slice_index_or, Some, refl, sym, ap, subst, ◌∙◌, arith, length-set, get_or-set_same, get_or-set_other, ⊎_elim}
+use Rattle.std.proofs.Common.{◌≡◌, ◌≢◌, ◌+◌, ◌<◌, ◌≤◌, ◌^◌, ℕ, List, [], filter, get_or, length, nat_lt, slice_get, slice_index_or, slice_set, inl, inr, Some, refl, sym, ap, subst, ◌∙◌, arith, length-set, get_or-set_same, get_or-set_other, ⊎_elim}
 use Rattle.std.proofs.lemmas.Bool.Decides.{eqb_tells}
-use Rattle.ddr4_port.proofs.Common.{Carries, ChannelState, Checked, Geometry, HoldsFirst, IsChannel, IsFresh}
-use Rattle.ddr4_port.proofs.Common.{IsInterleaving, IsPlaceOn, LiesOn, PendingWrite, Place, cell_in, line_of, lines_of}
-use Rattle.ddr4_port.proofs.Common.{loaded_at, stored_at}
+use Rattle.std.proofs.lemmas.Option.{slice_get_read}
+use Rattle.ddr4_port.proofs.Common.{AreUnused, BeginsWith, Carries, ChannelState, Checked, Geometry, HoldsFirst}
+use Rattle.ddr4_port.proofs.Common.{IsChannel, IsFresh, IsInterleaving, IsPlaceOn, IsUnused, LiesOn}
+use Rattle.ddr4_port.proofs.Common.{PendingWrite, Place, PortState, cell_in, line_of, lines_of, listed_place, loaded_at}
+use Rattle.ddr4_port.proofs.Common.{new_channel, places_by, stored_at}
 use Rattle.ddr4_timing.specs.Places.{LiesIn}
 use Rattle.ddr4_timing.specs.declared.command.Stamped.{Stamped}
 use Rattle.interleave_map.specs.Cells.{cells_of}
@@ -11,6 +13,7 @@ use Rattle.interleave_map.proofs.Numbering.{cell_within, same_cell_same_place}
 use Rattle.wpq_core.specs.PendingMemory.{after_pending}
 use Rattle.frfcfs.specs.Margin.{last_clock}
 use Rattle.channel_port.specs.declared.stage.Stage.TheVariants.{OnMains}
+use Rattle.channel_set.proofs.Lists.{set-cases}
 use Rattle.ddr4_port.proofs.Keeping.{carried}
 use Rattle.ddr4_port.proofs.Seen.{place-named, places_of}
 use Rattle.ddr4_port.proofs.Standing.{IsPort}
@@ -83,6 +86,75 @@ module _ (f : ℕ → Place) (checked : Checked) (number depth reads : ℕ) (mem
           (eqb_tells line n);
     }
 
+-- as it is made
+pub fresh-made : (checked : Checked) (number depth reads : ℕ) (array : List (List ℕ)) (s : ChannelState) → s ≡ new_channel checked number array depth reads → IsFresh checked number depth reads s
+fresh-made checked number depth reads array s made = made ∙ ap (λ a. new_channel checked number a depth reads) (sym (ap (λ (x : ChannelState). x.array) made))
+
+-- before its first line
+pub fresh-fills : (f : ℕ → Place) (checked : Checked) (number depth reads : ℕ) (s : ChannelState) → IsFresh checked number depth reads s → length s.array ≡ cells_of checked.geometry → IsFilling f checked number depth reads [] 0 s
+fresh-fills f checked number depth reads s fresh size = record { fresh = fresh; size = size; holds = λ line below. absurd (omega (arith, below)) }
+
+-- a port whose first lines, those below n, are those of the memory
+pub record IsFilled (f : ℕ → Place) (checked : Checked) (depth reads : ℕ) (memory : List (List ℕ)) (n number : ℕ) (port : PortState) : Type 0 where
+  pub unused : IsUnused f checked depth reads number port
+  pub holds : HoldsFirst f memory n port.channel
+
+-- such ports, side by side
+pub record AreFilled (f : ℕ → Place) (checked : Checked) (depth reads : ℕ) (memory : List (List ℕ)) (n : ℕ) (ports : List PortState) : Type 0 where
+  pub count : length ports ≡ checked.geometry.channels
+  pub each : (number : ℕ) (port : PortState) → slice_get ports number ≡ Some port → IsFilled f checked depth reads memory n number port
+
+module _ (f : ℕ → Place) (checked : Checked) (depth reads : ℕ) (memory : List (List ℕ)) where
+  -- before the first line
+  pub none-filled : (ports : List PortState) → AreUnused f checked depth reads ports → AreFilled f checked depth reads memory 0 ports
+  none-filled ports are = record {
+    count = are.count;
+    each = λ number port there. record { unused = are.each number port there; holds = λ line below. absurd (omega (arith, below)) };
+  }
+
+  module _ (n number : ℕ) (port : PortState) (filled : IsFilled f checked depth reads memory n number port) where
+    pub filling : IsFilling f checked number depth reads memory n port.channel
+    filling = record { fresh = filled.unused.fresh; size = filled.unused.size; holds = filled.holds }
+
+    -- its channel goes on
+    goes-on : (next : ChannelState) → IsFilling f checked number depth reads memory (n + 1) next → IsFilled f checked depth reads memory (n + 1) number (record port { channel = next })
+    goes-on next fill = record {
+      unused = record { fresh = fill.fresh; stage = filled.unused.stage; places = filled.unused.places; size = fill.size };
+      holds = fill.holds;
+    }
+
+  -- the next line, on the port of its channel
+  module _ (map : IsInterleaving checked.geometry f) (n : ℕ) (ports : List PortState) (are : AreFilled f checked depth reads memory n ports) (less : n < lines_of checked.geometry) where
+    pub stands-there : (f n).channel < length ports
+    stands-there = omega (arith, are.count, (map.lies_in n less).channel)
+
+    pub port-there : (place : Place) (p : PortState) → place ≡ f n → p ≡ get_or ports place.channel p → slice_get ports (f n).channel ≡ Some p
+    port-there place p is read = slice_get_read ports (length ports) (f n).channel p refl stands-there (read ∙ ap (λ (x : Place). get_or ports x.channel p) is)
+
+    module _ (p : PortState) (at : slice_get ports (f n).channel ≡ Some p) where
+      is-filling : IsFilling f checked (f n).channel depth reads memory n p.channel
+      is-filling = filling n (f n).channel p (are.each (f n).channel p at)
+
+      pub may-load : IsPlaceOn p.channel (f n)
+      may-load = loads-there f checked (f n).channel depth reads memory map n p.channel is-filling less refl
+
+      pub load-quiet : p.channel.requests ≡ []
+      load-quiet = loads-quiet f checked (f n).channel depth reads memory map n p.channel is-filling
+
+      pub one-more : (bytes : List ℕ) → bytes ≡ line_of memory n → AreFilled f checked depth reads memory (n + 1) (slice_set ports (f n).channel (record p { channel = loaded_at p.channel (f n) bytes }))
+      one-more bytes value = record {
+        count = length-set ports (f n).channel _ ∙ are.count;
+        each = λ number port there. elim (set-cases ports (f n).channel (record p { channel = loaded_at p.channel (f n) bytes }) number port there) [
+          | inl same ↦
+              subst (λ q. IsFilled f checked depth reads memory (n + 1) number q) same.1
+              (subst (λ k. IsFilled f checked depth reads memory (n + 1) k (record p { channel = loaded_at p.channel (f n) bytes })) (sym same.0)
+              (goes-on n (f n).channel p (are.each (f n).channel p at) (loaded_at p.channel (f n) bytes) (loads f checked (f n).channel depth reads memory map n p.channel is-filling bytes less refl value)))
+          | inr other ↦
+              let was = are.each number port other.1 in
+              goes-on n number port was port.channel (passes f checked number depth reads memory map n port.channel (filling n number port was) (λ here. other.0 (sym here)))
+        ];
+      }
+
 zero-clock : last_clock [] < 2 ^ 62 + 2 ^ 24
 unfolding last_clock
 zero-clock = omega arith
@@ -140,3 +212,18 @@ module _ (f : ℕ → Place) (checked : Checked) (number depth reads : ℕ) (mem
           let is = placed line own.below in
           let all : lines_of s.checked.geometry ≡ lines_of checked.geometry = ap (λ (c : Checked). lines_of c.geometry) its-checked in
           ap (stored_at s) is ∙ fill.holds line (omega (arith, all, own.below, lines, whole)) (record { below = own.below; here = sym (ap (λ (p : Place). p.channel) is) ∙ own.here })
+
+-- With all lines each port carries the memory.
+pub all-begin : (f : ℕ → Place) (checked : Checked) (depth reads : ℕ) (memory : List (List ℕ)) → IsInterleaving checked.geometry f → length memory ≡ lines_of checked.geometry → (n : ℕ) → length memory ≤ n → (ports : List PortState)
+    → AreFilled f checked depth reads memory n ports → (number : ℕ) (port : PortState) → slice_get ports number ≡ Some port → BeginsWith f checked memory depth reads number port
+all-begin f checked depth reads memory map lines n whole ports are number port there =
+    let is = are.each number port there in
+    record {
+      fresh = is.unused.fresh;
+      stage = is.unused.stage;
+      places = is.unused.places;
+      carries =
+          let fill = filling f checked depth reads memory n number port is in
+          let same : places_of f port.channel ≡ listed_place port.places = ap (λ (s : ChannelState). listed_place (places_by f s.checked.geometry)) fill.fresh ∙ sym (ap listed_place is.unused.places) in
+          subst (λ places. Carries places port.channel memory []) same (begins-carries f checked number depth reads memory checked.geometry refl map n port.channel fill lines whole);
+    }

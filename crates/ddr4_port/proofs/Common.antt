@@ -18,8 +18,8 @@ pub use Rattle.channel_port.specs.Waits.{AllBelow, Has, IsNeverGiven, IsNewTicke
 pub use Rattle.chan_core.specs.Always.{HasRightContents, IsChannel}
 pub use Rattle.chan_core.specs.Calls.{AddsWrite, AnswersCollect, AnswersGet, HasNothingToSend, IssuesChoice, LosesReads, MovesWrite, ServesIndex, ServesRequest, WritesAt, after_command, after_get, loaded_at, with_hold}
 pub use Rattle.chan_core.specs.Mapped.{IsPlaceOn, LiesOn}
-pub use Rattle.chan_core.specs.State.{ChannelState, cell_in, channel_memory, clock_of, line_at, memory_below, stored_at}
+pub use Rattle.chan_core.specs.State.{ChannelState, cell_in, channel_memory, clock_of, line_at, memory_below, new_channel, stored_at}
 pub use Rattle.chan_core.proofs.Taken.{appended, before_removal, map-remove}
 pub use Rattle.ddr4_port.specs.Carrying.{Carries, line_below}
-pub use Rattle.ddr4_port.specs.Memory.{BeginsWith, HoldsFirst, IsFresh, shape_over}
+pub use Rattle.ddr4_port.specs.Memory.{AreUnused, BeginsWith, HoldsFirst, IsFresh, IsUnused, shape_over}
 pub use Rattle.ddr4_port.specs.Port.{HasMap, IsAtStage, IsRightPort, PortState, RunsEarly, Sends, SendsOnly, listed_place, open_on, places_by, port_state, port_view, ticket_on, waiting_on, waits_of}

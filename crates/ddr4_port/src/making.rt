@@ -2,16 +2,19 @@
 ghost use Rattle.std.specs.Prelude.{◌≡◌, ◌≤◌, ℕ, [], None, IfOk, length};
 ghost use Rattle.ddr4_timing.specs.Limits.{lines_of};
 ghost use Rattle.energy_budget.specs.Costs.{AreReckonedFor};
+ghost use Rattle.chan_core.specs.Calls.{loaded_at};
+ghost use Rattle.chan_core.specs.Mapped.{IsPlaceOn};
 ghost use Rattle.channel_port.specs.declared.stage.Stage.TheVariants.{OnMains};
 ghost use Rattle.channel_port.specs.Waits.{nothing};
 ghost use Rattle.channel_set.specs.Set.{AreAt, shape_of, view_of};
 ghost use Rattle.channel_set.specs.Carrying.{CarriesAll};
-ghost use Rattle.ddr4_port.specs.Memory.{BeginsWith, shape_over};
+ghost use Rattle.ddr4_port.specs.Memory.{AreUnused, IsUnused, shape_over};
 
 use crate::Ddr4Port;
 use chan_core::Channel;
 use channel_port::{ChannelPort, Stage};
 use channel_set::{ChannelSet, PortTerms};
+use ddr4_timing::place::Place;
 use ddr4_timing::timing::Checked;
 use energy_budget::Costs;
 use interleave_map::line_map::LineMap;
@@ -19,33 +22,23 @@ use line_memory::Line;
 use std::alloc::{AllocError, Global};
 
 impl<'m, M: LineMap> Ddr4Port<'m, M> {
-    // The channel of a number whose lines are those of this memory, before any command.
-    fn with_memory(
+    // The channel of a number, of zero lines, before any command.
+    fn unused(
         alloc: Global,
         map: &'m M,
         checked: &Checked,
         number: u64,
-        memory: &[Line],
         depth: usize,
         reads: usize,
     ) -> Result<Self, AllocError>
         requires lawful { M.is_lawful map.now }
         requires geometry { M.geometry_of map.now ≡ checked.now.geometry }
-        requires lines { length memory.now ≡ lines_of checked.now.geometry }
         requires depth { (1 ≤ depth) × (depth ≤ 64) }
         requires reads { reads ≤ 64 }
-        ensures { IfOk result
-            (BeginsWith (M.place_of map.now) checked.now memory.now depth reads number) }
+        ensures { IfOk result (IsUnused (M.place_of map.now) checked.now depth reads number) }
     {
         map.interleaves();
-        let mut channel = Channel::new(alloc, checked, number, depth, reads)?;
-        channel.always();
-        for (line, bytes) in memory.iter().enumerate() {
-            let place = map.place(line as u64);
-            if place.channel == number {
-                channel.load_at(place, *bytes);
-            }
-        }
+        let channel = Channel::new(alloc, checked, number, depth, reads)?;
         channel.always();
         Ok(Ddr4Port {
             channel,
@@ -53,6 +46,40 @@ impl<'m, M: LineMap> Ddr4Port<'m, M> {
             stage: Stage::OnMains,
         })
     }
+
+    // Sets the line at a place of this channel, on which nothing waits.
+    fn load(&mut self, place: Place, bytes: Line)
+        requires place { IsPlaceOn self.old.channel place }
+        requires quiet { self.old.channel.requests ≡ [] }
+        ensures { self.new
+            ≡ record self.old { channel = loaded_at self.old.channel place bytes } }
+    {
+        self.channel.load_at(place, bytes);
+        self.channel.always();
+    }
+}
+
+// The channels of a profile, each of zero lines, before any command.
+fn unused_ports<'m, M: LineMap>(
+    alloc: Global,
+    map: &'m M,
+    checked: &Checked,
+    depth: usize,
+    reads: usize,
+) -> Result<Vec<Ddr4Port<'m, M>>, AllocError>
+    requires lawful { M.is_lawful map.now }
+    requires geometry { M.geometry_of map.now ≡ checked.now.geometry }
+    requires depth { (1 ≤ depth) × (depth ≤ 64) }
+    requires reads { reads ≤ 64 }
+    ensures { IfOk result (λ ports.
+        AreUnused (M.place_of map.now) checked.now depth reads ports.items) }
+{
+    let mut ports = Vec::with_capacity(alloc, checked.geometry.channels as usize)?;
+    for number in 0..checked.geometry.channels {
+        let port = Ddr4Port::unused(alloc, map, checked, number, depth, reads)?;
+        ports.push_reserved(port);
+    }
+    Ok(ports)
 }
 
 /// The channels of a profile over a lawful map of its geometry, whose arrays hold this memory. Nothing waits on them, and no
@@ -85,10 +112,10 @@ pub fn channels_with_memory<'m, M: LineMap>(
         → CarriesAll ⟦<Ddr4Port<'m, M> as ChannelPort>⟧ set memory.now start []) }
 {
     map.interleaves();
-    let mut ports = Vec::with_capacity(alloc, checked.geometry.channels as usize)?;
-    for number in 0..checked.geometry.channels {
-        let port = Ddr4Port::with_memory(alloc, map, checked, number, memory, depth, reads)?;
-        ports.push_reserved(port);
+    let mut ports = unused_ports(alloc, map, checked, depth, reads)?;
+    for (line, bytes) in memory.iter().enumerate() {
+        let place = map.place(line as u64);
+        ports[place.channel as usize].load(place, *bytes);
     }
     let terms = PortTerms {
         lines: memory.len() as u64,
