@@ -17,12 +17,11 @@ use Rattle.module_core.specs.Closing.{ClosesChannels, ClosingAt, DarkInDrains, R
 use Rattle.module_core.specs.Saving.{IsAmongEither}
 use Rattle.slot_store.specs.Finishing.{Finish}
 use Rattle.nv_machine.proofs.Payments.{pays_append}
-use Rattle.nv_machine.specs.Losses.{LoseStep, LosesMains, PaysFirst, closing_of, drain_count, pending_in, save_calls}
-use Rattle.save_device.specs.Calls.{all_good}
+use Rattle.nv_machine.specs.Losses.{LoseStep, LosesMains, PaysFirst, closing_of, drain_count, pending_in}
 use Rattle.arm_state.specs.declared.loss.Loss.TheVariants as loss
 use Rattle.arm_state.specs.declared.mode.Mode.TheVariants as modes
 use Rattle.slot_store.specs.declared.source.BrokenOff.TheVariants as broken
-use Rattle.module_core.proofs.Common.{[], ℕ, ◌++◌, ◌+◌, ◌-◌, ◌<◌, ◌∙◌, ◌∷◌, ◌≡◌, Action, Costs, Dark, DeviceState, Err, Gauge, GaugeCall, Image, IsAmong, LeavesOnly, List, Machine, Mode, None, Ok, ReachesStore, ReadsLevel, Setup, Some, StopsWithin, Store, Waiting, Waits, World, after, after_steps, ap, append-nil, arith, drop, false, inl, inr, is_backed, length, length-append, made_of, more, present, refl, restored, rules, save_actions, saved_in, started, step_failed, subst, suc, sym, take, true}
+use Rattle.module_core.proofs.Common.{[], ℕ, ◌++◌, ◌+◌, ◌<◌, ◌∙◌, ◌∷◌, ◌≡◌, Action, Costs, Dark, DeviceState, Err, Gauge, GaugeCall, Image, IsAmong, LeavesOnly, List, Machine, Mode, None, Ok, ReachesStore, ReadsLevel, Setup, Some, StopsWithin, Store, Waiting, Waits, World, after, after_steps, ap, append-nil, arith, drop, false, inl, inr, is_backed, length, length-append, made_of, more, present, refl, restored, rules, save_actions, saved_in, started, step_failed, subst, suc, sym, take, true}
 use Rattle.module_core.proofs.RunningSaves.{failed_none}
 
 -- where the payments stopped
@@ -157,7 +156,6 @@ module _ (trail : ℕ) (m : Machine) (before : Gauge) (reading : ℕ) (old new :
   dark_in_drains here d =
       let at = stops_at costs drains old.at.gauge d.answer new.at.gauge (drained (Err d.answer) new.at.gauge d.drains) in let paid : ℕ = at.0 in let s = at.1 in
       let below : paid < drain_count setup m = slice_get_within drains paid s.coming s.comes in
-      let none : paid - drain_count setup m ≡ 0 = omega (arith, below) in
       let store : Store = record m.store { saving = None } in
       record {
         store = store;
@@ -178,8 +176,10 @@ module _ (trail : ℕ) (m : Machine) (before : Gauge) (reading : ℕ) (old new :
           answer = s.answer;
           refused = s.refused;
           left = left_in_drains d.answer paid d.drains s below;
-          saved = ap (λ (k : ℕ). record (after_steps lines m.store made k).store { saving = None }) (sym none);
-          calls = ap (λ (x : DeviceState). x.calls) d.unasked ∙ sym (append-nil old.at.device.calls) ∙ ap (λ (k : ℕ). old.at.device.calls ++ all_good (take k (save_calls setup m))) (sym none);
+          steps = 0;
+          reached = inl (below, refl);
+          saved = refl;
+          calls = ap (λ (x : DeviceState). x.calls) d.unasked ∙ sym (append-nil old.at.device.calls);
         };
         rest = d.drains.rest;
       }
@@ -187,7 +187,6 @@ module _ (trail : ℕ) (m : Machine) (before : Gauge) (reading : ℕ) (old new :
   dark_after : (mid : Gauge) → DrainsAll old.channels old.at.gauge (Ok tt) new.channels mid → SavesAfter mid (Err broken.Refused) → IsBrokenOff loss.Dark
   dark_after mid d a =
       let store : Store = record (after_steps lines m.store made a.steps).store { saving = None } in let r = a.pays in
-      let behind : drain_count setup m + a.steps - drain_count setup m ≡ a.steps = omega arith in
       record {
         store = store;
         none = refl;
@@ -203,8 +202,10 @@ module _ (trail : ℕ) (m : Machine) (before : Gauge) (reading : ℕ) (old new :
           answer = r.answer;
           refused = r.refused;
           left = left_behind mid a.steps d;
-          saved = ap (λ (k : ℕ). record (after_steps lines m.store made k).store { saving = None }) (sym behind);
-          calls = a.calls ∙ ap (λ (k : ℕ). old.at.device.calls ++ all_good (take k (save_calls setup m))) (sym behind);
+          steps = a.steps;
+          reached = inr refl;
+          saved = refl;
+          calls = a.calls;
         };
         rest = d.rest;
       }

@@ -9,10 +9,10 @@ use Rattle.arm_state.specs.declared.refusal.ArmRefusal.{ArmRefusal}
 use Rattle.arm_state.specs.declared.refusal.ArmReply.{ArmReply}
 use Rattle.nv_machine.specs.Headline.{given}
 use Rattle.nv_machine.specs.Honesty.{IsHonestAlong, IsSparedAlong}
-use Rattle.nv_machine.specs.Losses.{PaysFirst, closing_of, drain_count, save_calls}
+use Rattle.nv_machine.specs.Losses.{PaysFirst, closing_of, save_calls}
 use Rattle.nv_machine.specs.Machine.{ArmStep, SaveStepStep, arm_calls, step_call}
 use Rattle.nv_machine.specs.declared.events.StepReply.{StepReply}
-use Rattle.nv_machine.proofs.Common.{Bool, List, [], ap, arith, false, refl, take, true, ℕ, ◌++◌, ◌-◌, ◌∙◌, ◌∷◌, ◌≡◌, ◌≤◌, Err, Ok, faults_more, DeviceState, Loss, Gauge, GaugeCall, IsHonestThrough, ReadsLevel, LoseStep, MachineStep, Run, Setup, World, Event, Reply}
+use Rattle.nv_machine.proofs.Common.{Bool, List, [], ap, arith, false, refl, take, true, ℕ, ◌++◌, ◌∙◌, ◌∷◌, ◌≡◌, ◌≤◌, Err, Ok, faults_more, DeviceState, Loss, Gauge, GaugeCall, IsHonestThrough, ReadsLevel, LoseStep, MachineStep, Run, Setup, World, Event, Reply}
 use Rattle.nv_machine.proofs.Effects.{Effect, rests, shows, runs_low, disarms, accepts, begins, arms, fails_to_arm, steps, ends, fails, closes, effect}
 use Rattle.nv_machine.proofs.Payments.{IsPaid, paid_of}
 
@@ -94,7 +94,7 @@ device_in_loss : (setup : Setup) (old new : World) (loss : Loss) → LoseStep se
 device_in_loss setup old new Loss.Closed done = same_device old new done.1
 device_in_loss setup old new Loss.Unsaved done = uncalled old.device new.device (ap (λ (w : World). w.device) done.1)
 device_in_loss setup old new (Loss.Saved generation count) done = calls_more (save_calls setup old.machine) true old.device.calls new.device.calls done.calls
-device_in_loss setup old new Loss.Dark done = calls_more (take (done.paid - drain_count setup old.machine) (save_calls setup old.machine)) true old.device.calls new.device.calls done.calls
+device_in_loss setup old new Loss.Dark done = calls_more (take done.steps (save_calls setup old.machine)) true old.device.calls new.device.calls done.calls
 device_in_loss setup old new Loss.Fault done =
     let stop : StopAtFault (take done.steps (save_calls setup old.machine) ++ done.failed ∷ []) old.device.calls new.device.calls = record { done = _; fails = done.failed; rest = []; in_order = refl; made = done.calls } in
     calls_more _ false old.device.calls new.device.calls stop

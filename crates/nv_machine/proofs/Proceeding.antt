@@ -1,7 +1,7 @@
 -- The store while a save makes its steps.
-use Rattle.nv_machine.specs.Losses.{LosesMains, drain_count}
+use Rattle.nv_machine.specs.Losses.{LosesMains}
 use Rattle.nv_machine.specs.Moves.{after_steps}
-use Rattle.nv_machine.proofs.Common.{ap, false, refl, suc, true, zero, ℕ, ◌-◌, ◌∙◌, ◌≡◌, None, Option, Some, ForSome, Image, Step, Loss, Mode, EndsDark, EndsInFault, step_failed, stepped, Machine, Setup, Store, World, made_of}
+use Rattle.nv_machine.proofs.Common.{ap, false, refl, suc, true, zero, ℕ, ◌∙◌, ◌≡◌, None, Option, Some, ForSome, Image, Step, Loss, Mode, EndsDark, EndsInFault, step_failed, stepped, Machine, Setup, Store, World, made_of}
 use Rattle.nv_machine.proofs.GuardLaws.{for_none, for_one}
 
 -- the new store, but for the candidates: those of the old one, with this image in the other slot
@@ -50,7 +50,7 @@ newest_stays made old new goes = ap (λ (s : Store). s.maybe.newest.count) goes.
 -- a closing save that ran out of energy, and one in which the device failed
 pub dark_goes : (setup : Setup) (old new : World) (done : EndsDark setup old new) → Proceeds (made_of false old.machine) old.machine.store new.machine.store
 dark_goes setup old new done =
-    let goes = steps_go setup.shape.lines (made_of false old.machine) old.machine.store (done.paid - drain_count setup old.machine) in
+    let goes = steps_go setup.shape.lines (made_of false old.machine) old.machine.store done.steps in
     rw done.saved (record { saved = goes.saved; is = ap (λ (s : Store). record s { saving = None }) goes.is; may = goes.may; unsettled = goes.unsettled })
 
 pub fault_goes : (setup : Setup) (old new : World) (done : EndsInFault setup old new) → Proceeds (made_of false old.machine) old.machine.store new.machine.store

@@ -1,5 +1,5 @@
 -- The loss of mains.
-use Rattle.std.specs.Prelude.{◌≡◌, ℕ, ◌+◌, ◌-◌, true, false, List, [], ◌∷◌, ◌++◌, drop, length, take, slice_get, Ok, Err, Some, None}
+use Rattle.std.specs.Prelude.{◌≡◌, ◌⊎◌, ℕ, ◌+◌, ◌<◌, true, false, List, [], ◌∷◌, ◌++◌, drop, length, take, slice_get, Ok, Err, Some, None}
 use Rattle.save_device.specs.declared.calls.CallKind.{CallKind}
 use Rattle.save_device.specs.Calls.{called, all_good}
 use Rattle.slot_store.specs.declared.plan.Step.TheVariants.{Close}
@@ -63,6 +63,10 @@ pub record SavesAll (setup : Setup) (generation count : ℕ) (old new : World) :
   pub pays : PaysFirst setup old new.machine.reading (length (closing_of setup old.machine)) new.gauge
   pub calls : new.device.calls ≡ old.device.calls ++ all_good (save_calls setup old.machine)
 
+-- How many steps of the save are behind so many actions: none before the drains are done.
+abbrev pub ReachesSteps : ℕ → ℕ → ℕ → Type 0
+ReachesSteps drains paid steps = ((paid < drains) × (steps ≡ 0)) ⊎ (paid ≡ drains + steps)
+
 -- A payment was refused, and nothing ran after it: each action before it was paid for and made. For each entry among them one write
 -- waits no more, from the first channel on, and in each the oldest first.
 pub record EndsDark (setup : Setup) (old new : World) : Type 0 where
@@ -76,9 +80,11 @@ pub record EndsDark (setup : Setup) (old new : World) : Type 0 where
   pub answer : Dark
   pub refused : PaysCost mid (cost_of setup.shape.costs coming) (Err answer) new.gauge
   pub left : new.machine.waits.writes ≡ drop (entries_in (take paid (closing_of setup old.machine))) old.machine.waits.writes
+  pub steps : ℕ
+  pub reached : ReachesSteps (drain_count setup old.machine) paid steps
   pub saved : new.machine.store
-      ≡ record (after_steps setup.shape.lines old.machine.store (made_of false old.machine) (paid - drain_count setup old.machine)).store { saving = None }
-  pub calls : new.device.calls ≡ old.device.calls ++ all_good (take (paid - drain_count setup old.machine) (save_calls setup old.machine))
+      ≡ record (after_steps setup.shape.lines old.machine.store (made_of false old.machine) steps).store { saving = None }
+  pub calls : new.device.calls ≡ old.device.calls ++ all_good (take steps (save_calls setup old.machine))
 
 -- The device failed in a step of the save, and nothing ran after it: each action so far was paid for, and but for the last
 -- one it was made. The channels were drained before, so no write waits.
