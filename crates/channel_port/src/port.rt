@@ -129,8 +129,9 @@ pub trait ChannelPort {
         requires lost { (view self.old).waits.reads ≡ [] }
         ensures pays { PaysInTurn costs.now (drain_actions (length (view self.old).waits.writes))
             (E.gauge energy.old) result (E.gauge energy.new) }
-        ensures takes { TakesPaid (drain_actions (length (view self.old).waits.writes)) (view self.old).waits
-            (E.gauge energy.old) result (view self.new).waits (E.gauge energy.new) }
+        ensures takes { TakesPaid (drain_actions (length (view self.old).waits.writes))
+            (view self.old).waits (E.gauge energy.old) result
+            (view self.new).waits (E.gauge energy.new) }
         ensures dry { OnOk result ((view self.new).waits ≡ emptied (view self.old).waits) }
         ensures rest { view self.new ≡ record (view self.old) {
           waits = (view self.new).waits;

@@ -1,5 +1,5 @@
 -- The drain of a channel whose actions are asked for one by one.
-use Rattle.std.specs.Prelude.{◌≡◌, ℕ, zero, suc, ◌+◌, ◌<◌, List, take, length, Result, Ok, Err}
+use Rattle.std.specs.Prelude.{◌≡◌, ℕ, zero, suc, ◌+◌, ◌<◌, take, length, Result, Ok, Err}
 use Rattle.energy_budget.specs.declared.action.Action.{Action}
 use Rattle.energy_budget.specs.declared.action.Action.TheVariants.{CloseStep, EntryStep}
 use Rattle.energy_budget.specs.declared.costs.Costs.{Costs}

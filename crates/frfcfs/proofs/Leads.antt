@@ -1,6 +1,6 @@
 -- From which clock on a rank is in lead, and before which one its requests may have their commands.
 use Rattle.std.proofs.Common.{◌≡◌, ◌≢◌, ℕ, ◌+◌, ◌-◌, ◌*◌, ◌<◌, ◌≤◌, ◌^◌, ◌↔◌, min, List, IsTrue, inl, inr, arith, refl, length, get_or, set, get_or-set_same, get_or-set_other, le-div_iff_mul-le}
-use Rattle.std.proofs.lemmas.Bool.{cases_eq, cases_lt}
+use Rattle.std.proofs.lemmas.Bool.{cases_eq}
 use Rattle.frfcfs.proofs.Common.{Checked, IsEnd, IsInLead, IsLawful, Stamped, is_asleep, last_ref, lead_clock, ref_count}
 use Rattle.bank_core.proofs.Refreshes.{refreshes_keep_pace}
 

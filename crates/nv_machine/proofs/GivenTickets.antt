@@ -15,7 +15,7 @@ use Rattle.channel_port.specs.declared.answers.Ticket.{Ticket}
 use Rattle.nv_machine.specs.Headline.{given}
 use Rattle.nv_machine.specs.Machine.{SenseStep}
 use Rattle.nv_machine.specs.Moves.{sensed}
-use Rattle.nv_machine.specs.Tickets.{GivesAnother, ticket_of}
+use Rattle.nv_machine.specs.Tickets.{GivesAnother, given_ticket}
 use Rattle.nv_machine.specs.declared.events.StepReply.{StepReply}
 use Rattle.nv_machine.proofs.Common.{All, All-cons, All-nil, Bool, arith, Err, Event, ForSome, GaugeCall, List, LoseStep, Loss, Machine, MachineStep, None, Ok, Option, ReadsLevel, Reply, Run, Setup, Some, Waits, World, [], ap, disarming, false, if◌then◌else◌, is_low, reads_gauge, read_as, refl, slice_get_within, subst, suc, sym, take, true, zero, ℕ, ◌++◌, ◌∙◌, ◌∷◌, ◌≡◌, ◌≢◌}
 
@@ -39,10 +39,10 @@ never_had ticket given never (k, at) =
 -- The tickets that were given before a reply are given still, and the one that it gives was not.
 record GoesOn (reply : Reply) (old new : Waits) : Type 0 where
   kept : (ticket : Ticket) → Has ticket old.given → Has ticket new.given
-  gives : ForSome (ticket_of reply) (λ ticket. IsNeverGiven ticket old.given × Has ticket new.given)
+  gives : ForSome (given_ticket reply) (λ ticket. IsNeverGiven ticket old.given × Has ticket new.given)
 
 -- none is given
-same_given : (reply : Reply) (old new : Waits) → ticket_of reply ≡ None → new.given ≡ old.given → GoesOn reply old new
+same_given : (reply : Reply) (old new : Waits) → given_ticket reply ≡ None → new.given ≡ old.given → GoesOn reply old new
 same_given reply old new none is = record {
   kept = λ ticket has. subst (Has ticket) (sym is) has;
   gives = λ ticket some. absurd (let bad : ⊥ = cc in bad);
@@ -127,11 +127,11 @@ module _ (setup : Setup) (old new : World) where
 
 module _ (setup : Setup) where
   -- no read of a run is given a ticket that was given before it
-  pub given_before : (events : List Event) (replies : List Reply) (old new : World) (ticket : Ticket) → Run setup events replies old new → Has ticket old.machine.waits.given → All (λ reply. ticket_of reply ≢ Some ticket) replies
+  pub given_before : (events : List Event) (replies : List Reply) (old new : World) (ticket : Ticket) → Run setup events replies old new → Has ticket old.machine.waits.given → All (λ reply. given_ticket reply ≢ Some ticket) replies
   given_before [] [] old new ticket run has = All-nil _
   given_before (event ∷ events) (reply ∷ replies) old new ticket run has =
       let goes : GoesOn reply old.machine.waits run.0.machine.waits = event_goes setup (given run.1.gauge old) run.0 event reply run.1.happens.step in
-      All-cons (λ (r : Reply). ticket_of r ≢ Some ticket) reply replies
+      All-cons (λ (r : Reply). given_ticket r ≢ Some ticket) reply replies
       (λ some. never_had ticket old.machine.waits.given (goes.gives ticket some).0 has)
       (given_before events replies run.0 new ticket run.2 (goes.kept ticket has))
   given_before _ _ old new ticket none has = absurd none

@@ -18,7 +18,7 @@ use Rattle.channel_port.specs.declared.waiting.Waiting.{Waiting}
 use Rattle.nv_machine.specs.Headline.{given}
 use Rattle.nv_machine.specs.Machine.{SenseStep}
 use Rattle.nv_machine.specs.Moves.{sensed}
-use Rattle.nv_machine.specs.WaitingOrder.{AreInOrder, GoesBefore, IsInOrder}
+use Rattle.nv_machine.specs.WaitingOrder.{WaitInOrder, GoesBefore, IsInOrder}
 use Rattle.nv_machine.specs.declared.events.StepReply.{StepReply}
 use Rattle.nv_machine.proofs.Common.{All, All-cons, All-nil, Bool, EndsDark, Err, Event, GaugeCall, List, LoseStep, Loss, Machine, MachineStep, None, Ok, Option, ReadsLevel, Reply, Run, Setup, Some, Waits, World, [], all_of, ap, arith, disarming, false, if◌then◌else◌, inl, inr, is_low, length, length-append, read_as, reads_gauge, refl, slice_get_within, subst, suc, sym, take, true, zero, ℕ, ◌++◌, ◌+◌, ◌<◌, ◌∙◌, ◌∷◌, ◌≡◌, ◌≤◌}
 use Rattle.nv_machine.proofs.Effects.{collected_writes}
@@ -115,21 +115,21 @@ drop_pairs (suc n) [] pairs = pairs
 drop_pairs (suc n) (w ∷ ws) pairs = drop_pairs n ws (tail_pairs w ws pairs)
 
 -- in order still: where one more is put, one goes, or the first ones go
-put_order : (all channel : ℕ) (ws : List Waiting) → AreInOrder all ws → AreInOrder (all + 1) (insert ws (writes_up_to channel ws) (waiting all channel))
+put_order : (all channel : ℕ) (ws : List Waiting) → WaitInOrder all ws → WaitInOrder (all + 1) (insert ws (writes_up_to channel ws) (waiting all channel))
 put_order all channel ws o = record { order = put_pairs all channel ws o.order o.below; below = put_below all channel (writes_up_to channel ws) ws o.below }
 
-gone_order : (all : ℕ) (w : Waiting) (old new : List Waiting) → Goes w old new → AreInOrder all old → AreInOrder all new
+gone_order : (all : ℕ) (w : Waiting) (old new : List Waiting) → Goes w old new → WaitInOrder all old → WaitInOrder all new
 gone_order all w old new (place, stands, is) o =
     let P : Waiting → Type 0 = λ v. v.number < all in
-    subst (AreInOrder all) (sym is) (record {
+    subst (WaitInOrder all) (sym is) (record {
       order = all_pairs_remove GoesBefore old place (slice_get_within old place w stands) o.order;
       below = All-append P (take place old) (drop (suc place) old) (All-take P place old o.below) (All-drop P (suc place) old o.below);
     })
 
-drop_order : (all n : ℕ) (ws : List Waiting) → AreInOrder all ws → AreInOrder all (drop n ws)
+drop_order : (all n : ℕ) (ws : List Waiting) → WaitInOrder all ws → WaitInOrder all (drop n ws)
 drop_order all n ws o = record { order = drop_pairs n ws o.order; below = All-drop (λ w. w.number < all) n ws o.below }
 
-pub none_order : (all : ℕ) → AreInOrder all []
+pub none_order : (all : ℕ) → WaitInOrder all []
 none_order all = record { order = no_pairs; below = All-nil _ }
 
 has_dropped : (n : ℕ) (ws : List Waiting) (w : Waiting) → Has w (drop n ws) → Has w ws
@@ -155,10 +155,10 @@ got_writes : (bytes : List ℕ) (line at channel : ℕ) (got : Got) (old new : W
 got_writes bytes line at channel (Got.Now given) old new is = ap (λ (w : Waits). w.writes) is.1
 got_writes bytes line at channel (Got.Later ticket) old new is = is.3
 
-served_order : (all : ℕ) (hold : Option ℕ) (channel : ℕ) (s : Option Served) (old new : Waits) → IsServed hold channel s old new → AreInOrder all old.writes → AreInOrder all new.writes
-served_order all hold channel None old new is o = subst (λ (w : Waits). AreInOrder all w.writes) (sym is) o
+served_order : (all : ℕ) (hold : Option ℕ) (channel : ℕ) (s : Option Served) (old new : Waits) → IsServed hold channel s old new → WaitInOrder all old.writes → WaitInOrder all new.writes
+served_order all hold channel None old new is o = subst (λ (w : Waits). WaitInOrder all w.writes) (sym is) o
 served_order all hold channel (Some (Served.Write number)) old new is o = gone_order all (waiting number channel) old.writes new.writes is.goes o
-served_order all hold channel (Some (Served.Read ticket)) old new is o = subst (AreInOrder all) (sym is.writes) o
+served_order all hold channel (Some (Served.Read ticket)) old new is o = subst (WaitInOrder all) (sym is.writes) o
 
 module _ (setup : Setup) (old new : World) (o : IsInOrder old.machine) where
   abbrev m : Machine
@@ -171,12 +171,12 @@ module _ (setup : Setup) (old new : World) (o : IsInOrder old.machine) where
   world_moved w is order = subst (λ (x : World). IsInOrder x.machine) (sym is) order
 
   -- as many writes were accepted, and these wait
-  so_many : all_of new.machine ≡ all_of m → AreInOrder (all_of m) new.machine.waits.writes → IsInOrder new.machine
-  so_many same order = subst (λ n. AreInOrder n new.machine.waits.writes) (sym same) order
+  so_many : all_of new.machine ≡ all_of m → WaitInOrder (all_of m) new.machine.waits.writes → IsInOrder new.machine
+  so_many same order = subst (λ n. WaitInOrder n new.machine.waits.writes) (sym same) order
 
   accepts_order : (channel : ℕ) → all_of new.machine ≡ all_of m + 1 → new.machine.waits.writes ≡ insert m.waits.writes (writes_up_to channel m.waits.writes) (waiting (all_of m) channel) → IsInOrder new.machine
   accepts_order channel more joins =
-      subst (λ n. AreInOrder n new.machine.waits.writes) (sym more) (subst (AreInOrder (all_of m + 1)) (sym joins) (put_order (all_of m) channel m.waits.writes o))
+      subst (λ n. WaitInOrder n new.machine.waits.writes) (sym more) (subst (WaitInOrder (all_of m + 1)) (sym joins) (put_order (all_of m) channel m.waits.writes o))
 
   sensed_order : (level : ℕ) → SenseStep setup level m old.gauge new.machine new.gauge → IsInOrder new.machine
   sensed_order level done = by_mode (reads_gauge m.mode) done
@@ -192,9 +192,9 @@ module _ (setup : Setup) (old new : World) (o : IsInOrder old.machine) where
   lost_order : (loss : Loss) → LoseStep setup loss old new → IsInOrder new.machine
   lost_order Loss.Closed done = world_moved old done.1 o
   lost_order Loss.Unsaved done = world_moved _ done.1 o
-  lost_order (Loss.Saved generation count) done = so_many (ap all_of done.closes.rest) (subst (λ (w : Waits). AreInOrder (all_of m) w.writes) (sym done.drained) (none_order (all_of m)))
-  lost_order Loss.Dark done = so_many (ap all_of done.closes.rest) (subst (AreInOrder (all_of m)) (sym done.left) (drop_order (all_of m) _ m.waits.writes o))
-  lost_order Loss.Fault done = so_many (ap all_of done.closes.rest) (subst (λ (w : Waits). AreInOrder (all_of m) w.writes) (sym done.drained) (none_order (all_of m)))
+  lost_order (Loss.Saved generation count) done = so_many (ap all_of done.closes.rest) (subst (λ (w : Waits). WaitInOrder (all_of m) w.writes) (sym done.drained) (none_order (all_of m)))
+  lost_order Loss.Dark done = so_many (ap all_of done.closes.rest) (subst (WaitInOrder (all_of m)) (sym done.left) (drop_order (all_of m) _ m.waits.writes o))
+  lost_order Loss.Fault done = so_many (ap all_of done.closes.rest) (subst (λ (w : Waits). WaitInOrder (all_of m) w.writes) (sym done.drained) (none_order (all_of m)))
 
   event_order : (event : Event) (reply : Reply) → MachineStep setup event reply old new → IsInOrder new.machine
   event_order (Event.Write write) (Reply.Write (Ok accepted)) done =
@@ -202,10 +202,10 @@ module _ (setup : Setup) (old new : World) (o : IsInOrder old.machine) where
       let more : all_of new.machine ≡ all_of m + 1 = ap all_of done.1.1.is ∙ omega (arith, size) in
       accepts_order _ more done.1.1.puts.joins
   event_order (Event.Write write) (Reply.Write (Err refusal)) done = moved m done.1.1 o
-  event_order (Event.Read line) (Reply.Read (Ok got)) done = so_many (ap all_of done.1.2) (subst (AreInOrder (all_of m)) (sym (got_writes _ _ _ _ got m.waits new.machine.waits done.1.1)) o)
+  event_order (Event.Read line) (Reply.Read (Ok got)) done = so_many (ap all_of done.1.2) (subst (WaitInOrder (all_of m)) (sym (got_writes _ _ _ _ got m.waits new.machine.waits done.1.1)) o)
   event_order (Event.Read line) (Reply.Read (Err refusal)) done = moved m done.1.1 o
   event_order (Event.Collect ticket) (Reply.Collect collected) done =
-      so_many (ap all_of done.1.1) (subst (AreInOrder (all_of m)) (sym (collected_writes ticket collected m.waits new.machine.waits done.1.0)) o)
+      so_many (ap all_of done.1.1) (subst (WaitInOrder (all_of m)) (sym (collected_writes ticket collected m.waits new.machine.waits done.1.0)) o)
   event_order (Event.Work channel) (Reply.Work None) done = moved m done.1 o
   event_order (Event.Work channel) (Reply.Work (Some work)) done = so_many (ap all_of done.1.2) (served_order (all_of m) _ channel work.served m.waits new.machine.waits done.1.1 o)
   event_order Event.Sense (Reply.Sense level) done = sensed_order level done.1

@@ -1,5 +1,5 @@
 -- What a stop leaves of a save that nothing disturbs.
-use Rattle.std.specs.Prelude.{◌≡◌, ◌⊎◌, false, List, [], ◌∷◌, None}
+use Rattle.std.specs.Prelude.{◌≡◌, ◌⊎◌, false, List, ◌∷◌, None}
 use Rattle.slot_store.specs.Outcomes.{Outcome, Found}
 use Rattle.slot_store.specs.Slots.{other}
 use Rattle.arm_state.specs.Modes.{has_ended, is_armed}

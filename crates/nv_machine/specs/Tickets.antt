@@ -7,10 +7,10 @@ use Rattle.nv_machine.specs.declared.events.Reply.{Reply}
 use Rattle.nv_machine.specs.declared.events.Reply.TheVariants as replies
 
 -- the ticket that a reply gives, if it gives one
-abbrev pub ticket_of : Reply → Option Ticket
-ticket_of (replies.Read (Ok (Later ticket))) = Some ticket
-ticket_of reply = None
+abbrev pub given_ticket : Reply → Option Ticket
+given_ticket (replies.Read (Ok (Later ticket))) = Some ticket
+given_ticket reply = None
 
 -- the second reply doesn't give the ticket that the first one gave
 abbrev pub GivesAnother : Reply → Reply → Type 0
-GivesAnother first second = ForSome (ticket_of first) (λ ticket. ticket_of second ≢ Some ticket)
+GivesAnother first second = ForSome (given_ticket first) (λ ticket. given_ticket second ≢ Some ticket)

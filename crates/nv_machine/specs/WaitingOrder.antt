@@ -13,10 +13,10 @@ abbrev pub WaitsNoMore : Waiting → List Waiting → Type 0
 WaitsNoMore write writes = Has write writes → ⊥
 
 -- these wait channel by channel, and in each the oldest first; and each is one of so many writes
-pub record AreInOrder (all : ℕ) (writes : List Waiting) : Type 0 where
+pub record WaitInOrder (all : ℕ) (writes : List Waiting) : Type 0 where
   pub order : AllPairs GoesBefore writes
   pub below : AllBelow all writes
 
 -- the writes that wait do
 abbrev pub IsInOrder : Machine → Type 0
-IsInOrder m = AreInOrder (all_of m) m.waits.writes
+IsInOrder m = WaitInOrder (all_of m) m.waits.writes

@@ -1,7 +1,7 @@
 -- A read that is awaited, by the calls that are made meanwhile.
 use Rattle.std.proofs.Common.{◌≡◌, ℕ, suc, ◌<◌, ◌≤◌, List, [], ◌∷◌, ◌++◌, ◌∙◌, refl, sym, ap, subst, Option, Some, None, inl, inr, append_assoc, arith}
 use Rattle.nv_session.proofs.Common.{AnswersAlone, AwaitsLine, AwaitsRead, CollectStep, ComesAlone, Event, Ghosts}
-use Rattle.nv_session.proofs.Common.{IsNothing, Machine, Module, Reply, SameButWaits, SeesPromised, Setup, TakesTurns}
+use Rattle.nv_session.proofs.Common.{IsNothing, Machine, Module, Reply, SameButWaits, SeesPromised, Setup, TakesReadTurns}
 use Rattle.nv_session.proofs.Common.{WorkStep, assembly, hold_of, setup_of}
 use Rattle.channel_port.specs.declared.answers.Ticket.{Ticket}
 use Rattle.channel_port.specs.declared.answers.Collected.{Collected}
@@ -38,14 +38,14 @@ sees_given ticket line bytes at es fs rs ts m n l told step =
 -- a read is awaited, and so many turns were made for it
 pub record AwaitsTurns (ticket : Ticket) (turns : ℕ) (asked : List Event) (told : List Reply) (old new : Machine) : Type 0 where
   pub awaits : AwaitsRead ticket asked told old new
-  pub takes : TakesTurns ticket turns asked told
+  pub takes : TakesReadTurns ticket turns asked told
 
 -- and then this was there for its ticket
 pub record Looks (ticket : Ticket) (turns : ℕ) (answer : Collected) (asked : List Event) (told : List Reply) (old new : Machine) : Type 0 where
   pub awaits : AwaitsRead ticket asked told old new
   pub before : List Event
   pub given : List Reply
-  pub takes : TakesTurns ticket turns before given
+  pub takes : TakesReadTurns ticket turns before given
   pub asked_is : asked ≡ before ++ events.Collect ticket ∷ []
   pub told_is : told ≡ given ++ replies.Collect answer ∷ []
 

@@ -1,12 +1,11 @@
 -- How a life begins after a format, and after a restore.
 use Rattle.std.proofs.Common.{◌≡◌, ◌∙◌, ℕ, List, refl, sym, ap, subst, true, Option}
 use Rattle.nv_session.proofs.Common.{DeviceState, Ghosts, Head, IsShapeFor, Module, ModuleStands, Outcome, Profile}
-use Rattle.nv_session.proofs.Common.{Revives, RunsWith, Setup, first_image, fuse_state, lines_of, restored, verdict_of}
+use Rattle.nv_session.proofs.Common.{Revives, RunsWith, Setup, first_image, fuse_state, lines_of, restored}
 use Rattle.interleave_map.specs.declared.ready.Interleaving.{Interleaving}
 use Rattle.line_memory.specs.Memory.{zero_lines}
 use Rattle.save_image.specs.Image.{Image}
 use Rattle.slot_store.specs.declared.restoring.Restored.{Restored}
-use Rattle.slot_store.specs.declared.slots.Slot.{Slot}
 use Rattle.slot_store.specs.declared.slots.Slot.TheVariants.{First}
 use Rattle.slot_store.specs.Formatted.{first_head}
 use Rattle.slot_store.specs.Outcomes as outcome

@@ -19,6 +19,6 @@ pub use Rattle.nv_profile.specs.declared.profile.Profile.{Profile}
 pub use Rattle.nv_session.specs.Coming.{Comes, ComesAlone, ComesTo, IsOneEvent, Tale}
 pub use Rattle.nv_session.specs.Living.{GoesOnAlone, GoesOnBy, HasLife, IsLiving, IsShapeFor, IsWork, LivesOn, RunsWith, SessionAt, fuse_state, session_at, set_to}
 pub use Rattle.nv_session.specs.Restoring.{FindsPrefix, FindsPrefixOf, FindsSaved, GoesBackTo, IsLeftBy, KeepsPrefixOf, Revives, TellsImage, TellsPrefix}
-pub use Rattle.nv_session.specs.ReadTurns.{AwaitsLine, IsNothing, ReadsLine, TakesTurns}
+pub use Rattle.nv_session.specs.ReadTurns.{AwaitsLine, IsNothing, ReadsLine, TakesReadTurns}
 pub use Rattle.nv_session.specs.SaveTurns.{MakesSave, TakesSteps, WorksBehind, WorksEach, is_underway}
 pub use Rattle.nv_session.specs.Turns.{AwaitsRead, GoesOnSaving, HasSaved, IsPromised, IsSavedBy, MakesStep, SameButWaits, SameWrites, SeesLine, SeesPromised}

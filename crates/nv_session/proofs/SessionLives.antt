@@ -1,15 +1,13 @@
 -- What the calls of a session come to is events of a life; and setting the gauge's level charges it, or counts a fault.
-use Rattle.std.proofs.Common.{◌≡◌, ◌∙◌, ℕ, ◌+◌, ◌≤◌, Bool, true, false, List, [], ◌++◌, Option, Some, arith, refl, subst}
+use Rattle.std.proofs.Common.{◌≡◌, ◌∙◌, ℕ, ◌+◌, ◌≤◌, Bool, true, false, List, [], Option, Some, arith, refl, subst}
 use Rattle.std.specs.Prelude.{MatchOption, nat_lt, if◌then◌else◌}
 use Rattle.std.proofs.lemmas.Bool.{ltb-false}
-use Rattle.std.proofs.lemmas.List.{append-nil}
 use Rattle.nv_session.proofs.Common.{Assembly, ComesTo, DeviceState, Event, Ghosts, GoesOnBy, Head, LivesOn, Module}
 use Rattle.nv_session.proofs.Common.{Outcome, Reply, Revives, SessionAt, Setup, Tale, answered_none, assembly}
 use Rattle.nv_session.proofs.Common.{none_answered_on, runs_on, session_at, set_to, setup_of}
 use Rattle.save_image.specs.Image.{Image}
 use Rattle.energy_budget.specs.Gauge.{Gauge}
 use Rattle.energy_budget.specs.Charging.{RisesTo}
-use Rattle.module_core.specs.ModuleLives.{HasAnswered}
 use Rattle.nv_session.specs.SessionLives.{HasLived, HasLivedOn}
 
 pub set_rises : (level : ℕ) (gauge : Gauge) → RisesTo gauge (set_to level gauge)

@@ -22,7 +22,7 @@ IsNothing Pending = Unit {0}
 IsNothing Unknown = Unit {0}
 
 -- A turn of a read that waits, after these events: there was nothing for its ticket, and its channel issued a command.
-pub record TakesTurn (ticket : Ticket) (before : List Event) (given : List Reply) (asked : List Event) (told : List Reply) : Type 0 where
+pub record TakesReadTurn (ticket : Ticket) (before : List Event) (given : List Reply) (asked : List Event) (told : List Reply) : Type 0 where
   pub answer : Collected
   pub nothing : IsNothing answer
   pub done : Done
@@ -30,10 +30,10 @@ pub record TakesTurn (ticket : Ticket) (before : List Event) (given : List Reply
   pub told_is : told ≡ given ++ replies.Collect answer ∷ replies.Work (Some done) ∷ []
 
 -- so many turns
-abbrev pub TakesTurns : Ticket → ℕ → List Event → List Reply → Type 0
-TakesTurns ticket zero asked told = (asked ≡ []) × (told ≡ [])
-TakesTurns ticket (suc turns) asked told =
-    (before : List Event) × (given : List Reply) × TakesTurns ticket turns before given × TakesTurn ticket before given asked told
+abbrev pub TakesReadTurns : Ticket → ℕ → List Event → List Reply → Type 0
+TakesReadTurns ticket zero asked told = (asked ≡ []) × (told ≡ [])
+TakesReadTurns ticket (suc turns) asked told =
+    (before : List Event) × (given : List Reply) × TakesReadTurns ticket turns before given × TakesReadTurn ticket before given asked told
 
 -- How a read ends behind so many turns: with the bytes that there were for its ticket; or waiting, where there was nothing for
 -- it and either its channel had no command or these were all turns.
@@ -51,7 +51,7 @@ pub record IsAwaited (ticket : Ticket) (seen : LineSeen) (asked : List Event) (t
   pub most : turns ≤ 64
   pub before : List Event
   pub given : List Reply
-  pub takes : TakesTurns ticket turns before given
+  pub takes : TakesReadTurns ticket turns before given
   pub last : List Event
   pub answered : List Reply
   pub ends : EndsRead ticket turns seen last answered

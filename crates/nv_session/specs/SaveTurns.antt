@@ -57,7 +57,7 @@ TakesSteps channels (suc further) reply asked told =
     (was : StepReply) × (before : List Event) × (given : List Reply) × TakesSteps channels further was before given × TakesStep channels was reply before given asked told
 
 -- Steps of a save, 4,096 at most, up to the first behind which it isn't underway any more: it still is only behind all of them.
-pub record IsSaved (channels : ℕ) (reply : StepReply) (asked : List Event) (told : List Reply) : Type 0 where
+pub record EndsSave (channels : ℕ) (reply : StepReply) (asked : List Event) (told : List Reply) : Type 0 where
   pub further : ℕ
   pub most : further < 4096
   pub takes : TakesSteps channels further reply asked told
@@ -65,7 +65,7 @@ pub record IsSaved (channels : ℕ) (reply : StepReply) (asked : List Event) (to
 
 -- the events of a save with this result
 abbrev pub AreOfSave : ℕ → Result StepReply ArmRefusal → List Event → List Reply → Type 0
-AreOfSave channels (Ok reply) asked told = IsSaved channels reply asked told
+AreOfSave channels (Ok reply) asked told = EndsSave channels reply asked told
 AreOfSave channels (Err refusal) asked told = AreOfStep (Err refusal) asked told
 
 -- a save is made, or the rest of one: what it keeps and leaves, and the events that it takes

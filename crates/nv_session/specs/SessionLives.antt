@@ -1,5 +1,5 @@
 -- The life of a session as one of the headline.
-use Rattle.std.specs.Prelude.{◌≡◌, List, ◌++◌, Option, Some}
+use Rattle.std.specs.Prelude.{◌≡◌, List, ◌++◌, Some}
 use Rattle.save_image.specs.Image.{Image}
 use Rattle.channel_port.specs.declared.port.ChannelPort.{Ghosts}
 use Rattle.nv_machine.specs.declared.events.Event.{Event}

@@ -1,9 +1,8 @@
 use Rattle.std.proofs.Common.{ℕ, List, sym, subst}
 use Rattle.std.proofs.lemmas.Grind.{merely}
-use Rattle.nv_session.proofs.Common.{DeviceState, Head, Revives, assembly, fuse_state, life_begins, lines_of}
+use Rattle.nv_session.proofs.Common.{DeviceState, Revives, assembly, fuse_state, life_begins, lines_of}
 use Rattle.nv_session.proofs.Common.{meter_gauge}
 use Rattle.slot_store.specs.declared.restoring.Restored.{Restored}
-use Rattle.module_core.specs.Opening.{opened_with}
 use Rattle.nv_session.specs.Sessions.{restored_in}
 use Rattle.nv_session.proofs.Beginning.{FindsRestored, is_capacity, revives_restored}
 use Rattle.nv_session.proofs.session.Session.revive.Goals as goal
