@@ -31,7 +31,7 @@ abbrev small : Geometry
 small = record { channels = 2; ranks = 1; groups = 2; banks = 4; rows = 2; columns = 4 }
 
 abbrev numbers : CostNumbers
-numbers = record { e_act = 4; e_col = 2; e_pre = 1; e_ref = 20; e_sre = 1; e_clk = 1; e_mark = 50; e_sync = 100; e_page = 1000; leak = 1 }
+numbers = record { e_act = 4; e_col = 2; e_pre = 1; e_ref = 20; e_sre = 1; e_clk = 1; e_mark = 50; e_sync = 100; e_page = 1000; e_digest = 0; leak = 1 }
 
 abbrev first : BankAddress
 first = record { rank = 0; group = 0; bank = 0 }

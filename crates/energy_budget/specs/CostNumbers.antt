@@ -16,6 +16,7 @@ pub record AreCostsInLimits (n : CostNumbers) : Type 0 where
   pub e_mark : n.e_mark ≤ 1000000
   pub e_sync : n.e_sync ≤ 1000000
   pub e_page : n.e_page ≤ 1000000
+  pub e_digest : n.e_digest ≤ 1000000
   pub leak : n.leak ≤ 1000000
 
 -- a command: a PREA costs what a PRE does, and RD and WR cost the same
@@ -38,9 +39,9 @@ close_cost_of n ranks clocks = ranks * (n.e_pre + n.e_sre) + n.e_clk * clocks
 abbrev pub entry_cost_of : CostNumbers → ℕ → ℕ → ℕ
 entry_cost_of n ranks clocks = ranks * n.e_ref + n.e_act + n.e_col + n.e_pre + n.e_clk * clocks
 
--- one page of a save
+-- one page of a save: it is written, and its bytes go into the digest
 abbrev pub page_cost_of : CostNumbers → ℕ
-page_cost_of n = n.e_page
+page_cost_of n = n.e_page + n.e_digest
 
 -- all of a save but its pages: the gate is closed, the header written and the gate opened, with a sync after each
 abbrev pub frame_cost_of : CostNumbers → ℕ

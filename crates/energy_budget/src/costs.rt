@@ -26,8 +26,10 @@ pub struct CostNumbers {
     pub e_mark: u64,
     /// A sync.
     pub e_sync: u64,
-    /// A page.
+    /// Writing a page.
     pub e_page: u64,
+    /// A page's part of its image's digest.
+    pub e_digest: u64,
     /// The most that the gauge may lose between two readings on mains.
     pub leak: u64,
 }
@@ -43,6 +45,7 @@ pub const TINY_COSTS: CostNumbers = CostNumbers {
     e_mark: 50,
     e_sync: 100,
     e_page: 1000,
+    e_digest: 0,
     leak: 1,
 };
 
@@ -90,7 +93,10 @@ impl CostNumbers {
         if self.e_ref > most || self.e_sre > most || self.e_clk > most {
             return false;
         }
-        if self.e_mark > most || self.e_sync > most || self.e_page > most {
+        if self.e_mark > most || self.e_sync > most {
+            return false;
+        }
+        if self.e_page > most || self.e_digest > most {
             return false;
         }
         self.leak <= most
@@ -111,9 +117,11 @@ impl CostNumbers {
 
     // One page of a save.
     fn page_cost(&self) -> u64
-        ensures { result ≡ page_cost_of self.now }
+        requires { AreCostsInLimits self.now }
+        ensures value { result ≡ page_cost_of self.now }
+        ensures fits { result ≤ 2000000 }
     {
-        self.e_page
+        self.e_page + self.e_digest
     }
 }
 

@@ -12,11 +12,11 @@ fn tiny<R: Abort>(rt: &R) -> Checked {
     TINY.check(&SMALL).expect(rt, "a profile")
 }
 
-// All ten of them alike.
+// All of them alike.
 fn alike(e: u64) -> CostNumbers
     ensures { (result.e_act ≡ e) × (result.e_col ≡ e) × (result.e_pre ≡ e) × (result.e_ref ≡ e)
         × (result.e_sre ≡ e) × (result.e_clk ≡ e) × (result.e_mark ≡ e) × (result.e_sync ≡ e)
-        × (result.e_page ≡ e) × (result.leak ≡ e) }
+        × (result.e_page ≡ e) × (result.e_digest ≡ e) × (result.leak ≡ e) }
 {
     CostNumbers {
         e_act: e,
@@ -28,6 +28,7 @@ fn alike(e: u64) -> CostNumbers
         e_mark: e,
         e_sync: e,
         e_page: e,
+        e_digest: e,
         leak: e,
     }
 }
@@ -60,6 +61,20 @@ fn worked_sums(rt: HostRuntime) {
 }
 
 #[test]
+fn worked_sums_with_digests(rt: HostRuntime) {
+    let numbers = CostNumbers {
+        e_digest: 100,
+        ..TINY_COSTS
+    };
+    let costs = Costs::of(&tiny(&rt), &numbers);
+    same(&rt, costs.cost(Action::WritePage), 1100);
+    same(&rt, (costs.reserve(0), costs.reserve(1)), (3528, 4041));
+    same(&rt, (costs.steps(0), costs.steps(1)), (10, 11));
+    same(&rt, (costs.floor(0), costs.floor(1)), (3539, 4053));
+    same(&rt, (costs.need(0), costs.need(1)), (3540, 4054));
+}
+
+#[test]
 fn least_and_largest_costs(rt: HostRuntime) {
     let checked = tiny(&rt);
     let none = Costs::of(&checked, &alike(0));
@@ -74,7 +89,7 @@ fn least_and_largest_costs(rt: HostRuntime) {
     same(
         &rt,
         (most.reserve(0), most.floor(0)),
-        (886_000_000, 897_000_000),
+        (888_000_000, 899_000_000),
     );
 }
 
@@ -138,9 +153,14 @@ fn other_costs_past_their_limit(rt: HostRuntime) {
             ..most
         }
         .is_in_limits(),
+        CostNumbers {
+            e_digest: past,
+            ..most
+        }
+        .is_in_limits(),
         CostNumbers { leak: past, ..most }.is_in_limits(),
     ];
-    same(&rt, each, [false; 5]);
+    same(&rt, each, [false; 6]);
 }
 
 #[test]

@@ -13,6 +13,7 @@ returns c = (
     e_mark = c.if-self-most-7.false;
     e_sync = c.if-self-most-8.false;
     e_page = c.if-self-most-9.false;
+    e_digest = c.if-self-most-10.false;
     leak = search rules;
   },
   λ all. search rules,

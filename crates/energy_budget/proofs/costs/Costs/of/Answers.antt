@@ -12,8 +12,7 @@ invariant_of-result c =
     let pages = c.line_count-pages.result / 64 in
     let drains : c.args.checked.now.geometry.channels * close.result ≤ 8 * 2 ^ 40 = mul-le-mul small.channels close.ensures.fits in
     let all : pages ≤ 1024 = omega (arith, c.line_count-pages.ensures, small.lines.1) in
-    let page : c.page_cost.result ≤ 1000000 = omega (arith, c.page_cost.ensures, limits.e_page) in
-    let paged : pages * c.page_cost.result ≤ 1024 * 1000000 = mul-le-mul all page in
+    let paged : pages * c.page_cost.result ≤ 1024 * 2000000 = mul-le-mul all c.page_cost.ensures.fits in
     record {
       in_limits = limits;
       few = (small.channels, small.ranks, all);
@@ -21,7 +20,7 @@ invariant_of-result c =
       fit = (omega (arith, close.ensures.fits), omega (arith, refreshes.ensures.fits, limits.e_act, limits.e_col, limits.e_pre), omega (arith, drains, paged, limits.e_mark, limits.e_sync));
       is_close_step = close.ensures.value;
       is_entry_step = omega (arith, refreshes.ensures.value);
-      is_without_entries = ap (λ (n : ℕ). c.args.checked.now.geometry.channels * close.result + pages * n + frame_cost_of c.args.numbers.now) c.page_cost.ensures;
+      is_without_entries = ap (λ (n : ℕ). c.args.checked.now.geometry.channels * close.result + pages * n + frame_cost_of c.args.numbers.now) c.page_cost.ensures.value;
     }
 
 pub close-close-requires-clause-limits : goal.close-close-requires-clause-limits
@@ -91,19 +90,16 @@ overflow_mul-result c =
 pub overflow_mul-result-2 : goal.overflow_mul-result-2
 overflow_mul-result-2 c =
     let all : c.line_count-pages.result / 64 ≤ 1024 = omega (arith, c.line_count-pages.ensures, c.args.checked.now.is_small.lines.1) in
-    let page : c.page_cost.result ≤ 1000000 = omega (arith, c.page_cost.ensures, c.requires.e_page) in
-    let paged : c.line_count-pages.result / 64 * c.page_cost.result ≤ 1024 * 1000000 = mul-le-mul all page in omega (arith, paged)
+    let paged : c.line_count-pages.result / 64 * c.page_cost.result ≤ 1024 * 2000000 = mul-le-mul all c.page_cost.ensures.fits in omega (arith, paged)
 
 pub overflow_add-result-4 : goal.overflow_add-result-4
 overflow_add-result-4 c =
     let drains : c.args.checked.now.geometry.channels * c.cost_with_clocks-close_step.result ≤ 8 * 2 ^ 40 = mul-le-mul c.args.checked.now.is_small.channels c.cost_with_clocks-close_step.ensures.fits in
     let all : c.line_count-pages.result / 64 ≤ 1024 = omega (arith, c.line_count-pages.ensures, c.args.checked.now.is_small.lines.1) in
-    let page : c.page_cost.result ≤ 1000000 = omega (arith, c.page_cost.ensures, c.requires.e_page) in
-    let paged : c.line_count-pages.result / 64 * c.page_cost.result ≤ 1024 * 1000000 = mul-le-mul all page in omega (arith, drains, paged)
+    let paged : c.line_count-pages.result / 64 * c.page_cost.result ≤ 1024 * 2000000 = mul-le-mul all c.page_cost.ensures.fits in omega (arith, drains, paged)
 
 pub overflow_add-result-5 : goal.overflow_add-result-5
 overflow_add-result-5 c =
     let drains : c.args.checked.now.geometry.channels * c.cost_with_clocks-close_step.result ≤ 8 * 2 ^ 40 = mul-le-mul c.args.checked.now.is_small.channels c.cost_with_clocks-close_step.ensures.fits in
     let all : c.line_count-pages.result / 64 ≤ 1024 = omega (arith, c.line_count-pages.ensures, c.args.checked.now.is_small.lines.1) in
-    let page : c.page_cost.result ≤ 1000000 = omega (arith, c.page_cost.ensures, c.requires.e_page) in
-    let paged : c.line_count-pages.result / 64 * c.page_cost.result ≤ 1024 * 1000000 = mul-le-mul all page in omega (arith, drains, paged, c.requires.e_mark, c.requires.e_sync)
+    let paged : c.line_count-pages.result / 64 * c.page_cost.result ≤ 1024 * 2000000 = mul-le-mul all c.page_cost.ensures.fits in omega (arith, drains, paged, c.requires.e_mark, c.requires.e_sync)
