@@ -1,15 +1,17 @@
 -- What contracts see of a channel.
 use Rattle.std.specs.Prelude.{◌==◌, ℕ, Bool, List, ◌++◌, [], ◌∷◌, length, Option}
 use Rattle.ddr4_timing.specs.declared.place.Place.{Place}
+use Rattle.ddr4_timing.specs.declared.timing.Checked.{Checked}
 use Rattle.channel_port.specs.declared.stage.Stage.{Stage}
 use Rattle.channel_port.specs.declared.stage.Stage.TheVariants.{OnBackup}
 use Rattle.channel_port.specs.Waits.{Waits, waiting}
 
--- Its number among the channels; how many lines the memory has, and where each lies, on this channel or another; how many writes
+-- Its number among the channels, and the profile of all of them; how many lines the memory has, and where each lies, on this channel or another; how many writes
 -- may wait in it, and how many of its reads may be open. What waits; the number from which on writes stay out of its array, if
 -- there is one; its stage; and the bytes of each of its lines in the array.
 pub record PortView : Type 0 where
   pub number : ℕ
+  pub checked : Checked
   pub lines : ℕ
   pub place_of : ℕ → Place
   pub depth : ℕ

@@ -6,7 +6,9 @@ ghost use Rattle.ddr4_timing.specs.declared.command.Stamped.{Stamped};
 ghost use Rattle.line_memory.specs.declared.parts.Numbered.{Numbered};
 ghost use Rattle.line_memory.specs.Memory.{after, line_of};
 ghost use Rattle.line_memory.specs.Parts.{AreBefore, below, numbered, writes_of};
-ghost use Rattle.energy_budget.specs.Actions.{drain_actions};
+ghost use Rattle.energy_budget.specs.declared.costs.CostNumbers.{CostNumbers};
+ghost use Rattle.energy_budget.specs.Costs.{AreReckonedFor};
+ghost use Rattle.energy_budget.specs.Actions.{drain_actions, total_cost};
 ghost use Rattle.channel_port.specs.View.{PortView, is_full, is_full_of_reads, on_backup, with_write};
 ghost use Rattle.channel_port.specs.declared.stage.Stage.TheVariants.{OnBackup, OnMains};
 ghost use Rattle.channel_port.specs.Waits.{AllBelow, emptied};
@@ -33,6 +35,9 @@ pub trait ChannelPort {
 
     /// The command that it has to issue next, with its clock; none where it has nothing to issue.
     ghost next_command: { Self → Option Stamped → Type 0 };
+
+    /// What its drain costs by these numbers: its commands, and the clocks up to its last one.
+    ghost drain_cost: { Self → CostNumbers → ℕ };
 
     /// Where a line lies.
     fn place(&self, line: u64) -> Place
@@ -107,6 +112,7 @@ pub trait ChannelPort {
     /// From now on writes from this number on stay out of the array; or none does.
     fn hold(&mut self, from: Option<u64>)
         ensures held { view self.new ≡ record (view self.old) { hold = from } }
+        ensures cost { drain_cost self.new ≡ drain_cost self.old }
         ensures keeps { KeepsCarried (carries self.old) (carries self.new) };
 
     /// A line in the array, without the writes that wait.
@@ -120,10 +126,12 @@ pub trait ChannelPort {
     fn lose_mains(&mut self)
         requires mains { (view self.old).stage ≡ OnMains }
         ensures lost { view self.new ≡ on_backup (view self.old) }
+        ensures cost { drain_cost self.new ≡ drain_cost self.old }
         ensures keeps { KeepsCarried (carries self.old) (carries self.new) };
 
     /// On backup: pays for the close step and for the entry of each write, each before it is made, and takes the writes into
-    /// the array in number order, whether they are held or not. Where a payment is refused nothing runs after it.
+    /// the array in number order, whether they are held or not. Where a payment is refused nothing runs after it. By costs that
+    /// are reckoned for its profile all these payments are no less than what its drain costs.
     fn drain<E: Energy>(&mut self, costs: &Costs, energy: &mut E) -> Result<(), Dark>
         requires backup { (view self.old).stage ≡ OnBackup }
         requires lost { (view self.old).waits.reads ≡ [] }
@@ -132,6 +140,9 @@ pub trait ChannelPort {
         ensures takes { TakesPaid (drain_actions (length (view self.old).waits.writes))
             (view self.old).waits (E.gauge energy.old) result
             (view self.new).waits (E.gauge energy.new) }
+        ensures covers { AreReckonedFor (view self.old).checked costs.now
+            → drain_cost self.old costs.now.numbers
+            ≤ total_cost costs.now (drain_actions (length (view self.old).waits.writes)) }
         ensures dry { OnOk result ((view self.new).waits ≡ emptied (view self.old).waits) }
         ensures rest { view self.new ≡ record (view self.old) {
           waits = (view self.new).waits;

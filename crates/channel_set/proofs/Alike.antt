@@ -14,6 +14,7 @@ module _ {K : Type 0} (L : Ghosts K) where
   -- a port with the number and the sizes of another one, and with this hold
   pub record Alike (hold : Option ℕ) (old new : K) : Type 0 where
     pub number : (L.view new).number ≡ (L.view old).number
+    pub checked : (L.view new).checked ≡ (L.view old).checked
     pub lines : (L.view new).lines ≡ (L.view old).lines
     pub places : (L.view new).place_of ≡ (L.view old).place_of
     pub depth : (L.view new).depth ≡ (L.view old).depth
@@ -24,6 +25,7 @@ module _ {K : Type 0} (L : Ghosts K) where
       → L.view new ≡ record (L.view old) { waits = waits; stage = stage; stored = stored } → Alike hold old new
   alike-from hold old new waits stage stored held is = record {
     number = ap (λ v. v.number) is;
+    checked = ap (λ v. v.checked) is;
     lines = ap (λ v. v.lines) is;
     places = ap (λ v. v.place_of) is;
     depth = ap (λ v. v.depth) is;
@@ -63,6 +65,7 @@ module _ {K : Type 0} (L : Ghosts K) where
             let is = are.each j was.old was.stood in
             record {
               number_is = was.related.number ∙ is.number_is;
+              checked = was.related.checked ∙ is.checked;
               lines = was.related.lines ∙ is.lines;
               places_are = was.related.places ∙ is.places_are ∙ sym places;
               depth = was.related.depth ∙ is.depth;
@@ -75,7 +78,7 @@ module _ {K : Type 0} (L : Ghosts K) where
   pub ports-set : (terms : PortTerms) (ports : List K) (i : ℕ) (p q : K) → ArePorts L terms ports → slice_get ports i ≡ Some p → Alike terms.hold p q → ArePorts L terms (slice_set ports i q)
   ports-set terms ports i p q are at alike =
       ports-alike terms terms.hold ports (slice_set ports i q) are
-      (zip-set (Alike terms.hold) ports i p q (λ j z there. record { number = refl; lines = refl; places = refl; depth = refl; most_reads = refl; hold_is = (are.each j z there).hold }) at alike)
+      (zip-set (Alike terms.hold) ports i p q (λ j z there. record { number = refl; checked = refl; lines = refl; places = refl; depth = refl; most_reads = refl; hold_is = (are.each j z there).hold }) at alike)
 
   pub shaped-again : (terms : PortTerms) (costs : Costs) (old new : List K) → length new ≡ length old → places_of L new ≡ places_of L old → IsShape (shape_with L terms costs old) → IsShape (shape_with L terms costs new)
   shaped-again terms costs old new size places shaped = record {

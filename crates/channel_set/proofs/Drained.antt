@@ -4,10 +4,12 @@ use Rattle.std.specs.Vec.{with_items}
 use Rattle.std.proofs.Math.Seq.{drop-length}
 use Rattle.std.proofs.lemmas.List.{with_items_is}
 use Rattle.energy_budget.specs.declared.energy.Dark.{Dark}
-use Rattle.energy_budget.specs.Actions.{drain_actions}
+use Rattle.energy_budget.specs.Actions.{drain_actions, total_cost}
 use Rattle.energy_budget.specs.Gauge.{Gauge}
 use Rattle.channel_port.specs.Draining.{Paid, PaysInTurn, TakesPaid, TakesWrites, entries_in, pending_each}
-use Rattle.channel_set.specs.Draining.{DrainsAll}
+use Rattle.ddr4_timing.specs.declared.timing.Checked.{Checked}
+use Rattle.energy_budget.specs.Costs.{AreReckonedFor}
+use Rattle.channel_set.specs.Draining.{DrainsAll, drains_cost}
 use Rattle.channel_set.proofs.Common.{◌+◌, length-set, arith, ◌≡◌, ◌<◌, ◌≤◌, inl, inr, ℕ, suc, refl, sym, ap, subst, ◌∙◌, List, [], drop, take, flat_map, length, slice_get, slice_set, same_Some, slice_get_within, Some, AllZip, Err, Ok, OnOk, Costs, Ghosts, KeepsCarried, Waits, emptied, PortTerms, ArePorts, ChannelSet, IsShape, places_of, shape_with, view_of, waits_in}
 use Rattle.channel_set.proofs.Alike.{Alike, alike-from, places-again, ports-alike, seen, seen-again, shaped-again}
 use Rattle.channel_set.proofs.Carried.{Kept}
@@ -15,6 +17,7 @@ use Rattle.channel_set.proofs.Counted.{OwnWrites, given_in, reads_in, same-waits
 use Rattle.channel_set.proofs.Lists.{AreTaken, Moved, at-within, moved-more, moved-none, get-set_other, get-set_same, moved-all, moved-last, piles-none, piles-same, piles-taken, taken-count, set-cases, zip-size, zip-weaker}
 use Rattle.channel_port.proofs.Entries.{paid-calls, refused-calls}
 use Rattle.channel_set.proofs.Entries.{entries-each, entries-first}
+use Rattle.channel_set.proofs.Costing.{cost-more, paid-more}
 use Rattle.channel_set.proofs.Paying.{pays-more, pays-refused}
 use Rattle.channel_set.proofs.Piles.{remain-dropped}
 
@@ -122,9 +125,10 @@ module _ {K : Type 0} (L : Ghosts K) where
   pub record Draining (channels : ChannelSet K L) (before : Gauge) (i : ℕ) (now : List K) (gauge : Gauge) : Type 0 where
     pub moved : Moved DrainsDry i channels.ports.items now
     pub pays : PaysInTurn channels.costs (flat_map drain_actions (pending_each i (waits_in L channels.ports.items).writes)) before (Ok tt) gauge
+    pub covered : drains_cost L (take i channels.ports.items) channels.costs.numbers ≤ total_cost channels.costs (flat_map drain_actions (pending_each i (waits_in L channels.ports.items).writes))
 
   pub draining-none : (channels : ChannelSet K L) (before : Gauge) (was : List K) → was ≡ channels.ports.items → Draining channels before 0 was before
-  draining-none channels before was is = record { moved = subst (Moved DrainsDry 0 channels.ports.items) (sym is) (moved-none DrainsDry channels.ports.items); pays = refl }
+  draining-none channels before was is = record { moved = subst (Moved DrainsDry 0 channels.ports.items) (sym is) (moved-none DrainsDry channels.ports.items); pays = refl; covered = omega arith }
 
   module _ (channels : ChannelSet K L) (before : Gauge) (i : ℕ) (now : List K) (mid : Gauge) (draining : Draining channels before i now mid) (p q : K) (at : slice_get now i ≡ Some p) where
     pub stood : slice_get channels.ports.items i ≡ Some p
@@ -136,12 +140,22 @@ module _ {K : Type 0} (L : Ghosts K) where
         let there = writes-there L channels.terms channels.ports.items channels.are own i p stood in
         pays-more channels.costs i (waits_in L channels.ports.items).writes before mid result later draining.pays (subst (λ n. PaysInTurn channels.costs (drain_actions n) mid result later) (sym there) then)
 
-    pub draining-more : OwnWrites L → (later : Gauge) → DrainsDry p q → PaysInTurn channels.costs (drain_actions (length (writes_in L p))) mid (Ok tt) later → Draining channels before (i + 1) (slice_set now i q) later
-    draining-more own later dry then =
+    abbrev Covers : Type 0
+    Covers = AreReckonedFor (L.view p).checked channels.costs → L.drain_cost p channels.costs.numbers ≤ total_cost channels.costs (drain_actions (length (writes_in L p)))
+
+    covers-there : OwnWrites L → Covers → drains_cost L (take (suc i) channels.ports.items) channels.costs.numbers ≤ total_cost channels.costs (flat_map drain_actions (pending_each (suc i) (waits_in L channels.ports.items).writes))
+    covers-there own covers =
+        let reckoned : AreReckonedFor (L.view p).checked channels.costs = subst (λ (k : Checked). AreReckonedFor k channels.costs) (sym (channels.are.each i p stood).checked) channels.reckoned in
+        let there = writes-there L channels.terms channels.ports.items channels.are own i p stood in
+        omega (arith, draining.covered, covers reckoned, cost-more L channels.costs.numbers channels.ports.items i p stood, paid-more channels.costs i (waits_in L channels.ports.items).writes, ap (λ (n : ℕ). total_cost channels.costs (drain_actions n)) there)
+
+    pub draining-more : OwnWrites L → (later : Gauge) → DrainsDry p q → PaysInTurn channels.costs (drain_actions (length (writes_in L p))) mid (Ok tt) later → Covers → Draining channels before (i + 1) (slice_set now i q) later
+    draining-more own later dry then covers =
         let next : suc i ≡ i + 1 = omega arith in
         record {
           moved = moved-more DrainsDry i channels.ports.items now p q draining.moved at dry;
           pays = subst (λ n. PaysInTurn channels.costs (flat_map drain_actions (pending_each n (waits_in L channels.ports.items).writes)) before (Ok tt) later) next (pays-there own (Ok tt) later then);
+          covered = subst (λ n. drains_cost L (take n channels.ports.items) channels.costs.numbers ≤ total_cost channels.costs (flat_map drain_actions (pending_each n (waits_in L channels.ports.items).writes))) next (covers-there own covers);
         }
 
     -- the payment for one more is refused

@@ -10,6 +10,7 @@ pub mod Settling
 pub mod Answered
 pub mod Paging
 pub mod Turned
+pub mod Costing
 pub mod Paying
 pub mod Drained
 pub mod Entries

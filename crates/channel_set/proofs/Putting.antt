@@ -5,7 +5,7 @@ use Rattle.std.specs.Prelude.{nat_le}
 use Rattle.channel_port.specs.Answers.{Puts}
 use Rattle.channel_port.specs.View.{with_write}
 use Rattle.channel_port.specs.Waits.{is_write_up_to}
-use Rattle.channel_set.proofs.Common.{arith, ◌≡◌, ◌+◌, inl, inr, ℕ, zero, suc, refl, sym, ap, subst, ◌∙◌, List, [], ◌∷◌, ◌++◌, length, slice_get, slice_set, Some, same_Some, AreBefore, numbered, written_on, Ghosts, Has, Numbered, Waiting, Write, waiting, CarriesAll, CarriesOwn, ChannelSet, WaitAmong, PortTerms, ArePorts, places_of, Place, shape_of, waits_in}
+use Rattle.channel_set.proofs.Common.{◌≡◌, ◌+◌, inl, inr, ℕ, zero, suc, refl, sym, ap, subst, ◌∙◌, List, [], ◌∷◌, ◌++◌, length, slice_get, slice_set, Some, same_Some, AreBefore, numbered, written_on, Ghosts, Has, Numbered, Waiting, Write, waiting, CarriesAll, CarriesOwn, ChannelSet, WaitAmong, PortTerms, ArePorts, places_of, Place, shape_of, waits_in}
 use Rattle.channel_set.proofs.Alike.{places-set}
 use Rattle.channel_set.proofs.Counted.{OwnWrites, given_in, reads_in, write-here, writes_in}
 use Rattle.channel_set.proofs.Lists.{set-cases}

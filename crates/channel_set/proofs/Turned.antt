@@ -4,6 +4,9 @@ use Rattle.std.specs.Vec.{with_items}
 use Rattle.channel_set.proofs.Common.{◌≡◌, ◌≤◌, ℕ, refl, ap, ◌∙◌, List, [], length, slice_get, Some, Option, AllZip, Costs, Ghosts, IsShape, KeepsCarried, OnBackup, Stage, Waits, PortTerms, ArePorts, ChannelSet, places_of, shape_with, view_of, waits_in}
 use Rattle.channel_set.proofs.Alike.{Alike, stage-again, places-again, ports-alike, seen, seen-stored, shaped-again}
 use Rattle.channel_set.proofs.Carried.{Kept}
+use Rattle.energy_budget.specs.declared.costs.CostNumbers.{CostNumbers}
+use Rattle.channel_set.specs.Draining.{drains_cost}
+use Rattle.channel_set.proofs.Costing.{costs-same}
 use Rattle.channel_set.proofs.Counted.{given_in, reads_in, same-waits, writes_in}
 use Rattle.channel_set.proofs.Lists.{Moved, moved-vec, piles-none, piles-same, zip-size, zip-was, zip-weaker}
 use Rattle.channel_set.proofs.Piles.{remain-same}
@@ -12,6 +15,7 @@ module _ {K : Type 0} (L : Ghosts K) where
   -- what waits in the port, its hold and its stage have changed so
   pub record Turns (after : Waits → Waits) (hold : Option ℕ → Option ℕ) (stage : Stage → Stage) (old new : K) : Type 0 where
     pub is : L.view new ≡ record (L.view old) { waits = after (L.view old).waits; hold = hold (L.view old).hold; stage = stage (L.view old).stage }
+    pub cost : L.drain_cost new ≡ L.drain_cost old
     pub keeps : KeepsCarried (L.carries old) (L.carries new)
 
   abbrev pub HoldsFrom : Option ℕ → K → K → Type 0
@@ -32,6 +36,7 @@ module _ {K : Type 0} (L : Ghosts K) where
     pub turned-are : (terms : PortTerms) → ArePorts L terms old → ArePorts L (record terms { hold = hold terms.hold }) new
     turned-are terms are = ports-alike L terms (hold terms.hold) old new are (zip-weaker (Turns after hold stage) (Alike L (hold terms.hold)) old new (λ j p q at t. record {
       number = ap (λ v. v.number) t.is;
+      checked = ap (λ v. v.checked) t.is;
       lines = ap (λ v. v.lines) t.is;
       places = ap (λ v. v.place_of) t.is;
       depth = ap (λ v. v.depth) t.is;
@@ -63,6 +68,10 @@ module _ {K : Type 0} (L : Ghosts K) where
 
     pub turned-kept : ((w : Waits) → (after w).writes ≡ w.writes) → AllZip (Kept L) old new
     turned-kept same = zip-weaker (Turns after hold stage) (Kept L) old new (λ j p q at t. record { keeps = t.keeps; remain = remain-same (writes_in L p) (writes_in L q) (ap (λ v. v.waits.writes) t.is ∙ same (L.view p).waits) }) turned.each
+
+    -- their drains cost the same
+    pub turned-cost : (numbers : CostNumbers) → drains_cost L new numbers ≡ drains_cost L old numbers
+    turned-cost numbers = costs-same L numbers old new (zip-weaker (Turns after hold stage) (λ p q. L.drain_cost q ≡ L.drain_cost p) old new (λ j p q at t. t.cost) turned.each)
 
   -- one hold for all
   pub held-seen : (from : Option ℕ) (channels : ChannelSet K L) (new : List K) → Turned (λ waits. waits) (λ hold. from) (λ stage. stage) channels.ports.items new

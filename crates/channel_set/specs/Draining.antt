@@ -1,11 +1,26 @@
 -- The drains of all channels on backup.
-use Rattle.std.specs.Prelude.{◌≡◌, OnOk}
-use Rattle.std.specs.List.{flat_map}
-use Rattle.energy_budget.specs.Actions.{drain_actions}
+use Rattle.std.specs.Prelude.{◌≡◌, ℕ, List, OnOk}
+use Rattle.std.specs.List.{flat_map, sum_by}
+use Rattle.energy_budget.specs.declared.costs.CostNumbers.{CostNumbers}
+use Rattle.energy_budget.specs.Actions.{drain_actions, total_cost}
 use Rattle.energy_budget.specs.Gauge.{Gauge}
+use Rattle.channel_port.specs.declared.port.ChannelPort.{Ghosts}
 use Rattle.channel_port.specs.Draining.{Paid, PaysInTurn, TakesPaid, pending_each}
 use Rattle.channel_port.specs.Waits.{Remain, emptied}
+use Rattle.channel_set.specs.declared.set.ChannelSet.{ChannelSet}
 use Rattle.channel_set.specs.Set.{ChannelsView}
+
+-- what the drains of these ports cost together, by these numbers, and those of all channels
+module _ {K : Type 0} (L : Ghosts K) where
+  abbrev pub drains_cost : List K → CostNumbers → ℕ
+  drains_cost ports numbers = sum_by (λ port. L.drain_cost port numbers) ports
+
+  abbrev pub cost_of_drains : ChannelSet K L → CostNumbers → ℕ
+  cost_of_drains channels = drains_cost channels.ports.items
+
+-- what is paid for the drains of all channels
+abbrev pub paid_for_drains : ChannelsView → ℕ
+paid_for_drains v = total_cost v.shape.costs (flat_map drain_actions (pending_each v.shape.channels v.waits.writes))
 
 -- The drains of the channels, one after another, were paid for, or a payment was refused. For each entry that was paid for one
 -- write has gone to its array, from the first channel on, and in each the oldest first.

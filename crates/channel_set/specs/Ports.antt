@@ -21,6 +21,7 @@ module _ {K : Type 0} (L : Ghosts K) where
   -- a port of this number, with these places of the lines
   pub record IsPort (terms : PortTerms) (places : ℕ → Place) (number : ℕ) (port : K) : Type 0 where
     pub number_is : (L.view port).number ≡ number
+    pub checked : (L.view port).checked ≡ terms.checked
     pub lines : (L.view port).lines ≡ terms.lines
     pub places_are : (L.view port).place_of ≡ places
     pub depth : (L.view port).depth ≡ terms.depth

@@ -1,5 +1,6 @@
 // Backup: mains and the reads are lost, and the channels are drained.
-ghost use Rattle.std.specs.Prelude.{◌≡◌, []};
+ghost use Rattle.std.specs.Prelude.{◌≡◌, ◌≤◌, ℕ, [], OnOk};
+ghost use Rattle.energy_budget.specs.declared.costs.CostNumbers.{CostNumbers};
 ghost use Rattle.channel_port.specs.declared.stage.Stage.TheVariants.{OnBackup, OnMains};
 
 use crate::ChannelSet;
@@ -9,7 +10,7 @@ use energy_budget::{Dark, Energy};
 impl<K: ChannelPort> ChannelSet<K> {
     ghost use Rattle.channel_set.specs.Set.{AreAt, view_of};
     ghost use Rattle.channel_set.specs.Carrying.{KeepsAll};
-    ghost use Rattle.channel_set.specs.Draining.{DrainsAll};
+    ghost use Rattle.channel_set.specs.Draining.{DrainsAll, cost_of_drains, paid_for_drains};
 
     /// Ends the work on mains, as backup begins: all reads are lost, and their tickets are unknown from now on.
     pub fn lose_mains(&mut self)
@@ -19,6 +20,8 @@ impl<K: ChannelPort> ChannelSet<K> {
         ensures rest { view_of K.ChannelPort self.new ≡ record (view_of K.ChannelPort self.old) {
           waits = (view_of K.ChannelPort self.new).waits;
         } }
+        ensures cost { (numbers : CostNumbers) → cost_of_drains K.ChannelPort self.new numbers
+            ≡ cost_of_drains K.ChannelPort self.old numbers }
         ensures backup { AreAt K.ChannelPort OnBackup self.new }
         ensures keeps { KeepsAll K.ChannelPort self.old self.new }
     {
@@ -28,12 +31,15 @@ impl<K: ChannelPort> ChannelSet<K> {
     }
 
     /// Drains all channels in rising order, each action of it paid for before it is made, where no read is open any more. Where
-    /// a payment is refused nothing runs after it. Once all are drained nothing waits.
+    /// a payment is refused nothing runs after it. Once all are drained nothing waits, and what was paid is no less than what
+    /// their drains cost.
     pub fn drain<E: Energy>(&mut self, energy: &mut E) -> Result<(), Dark>
         requires backup { AreAt K.ChannelPort OnBackup self.old }
         requires lost { (view_of K.ChannelPort self.old).waits.reads ≡ [] }
         ensures drains { DrainsAll (view_of K.ChannelPort self.old) (E.gauge energy.old) result
             (view_of K.ChannelPort self.new) (E.gauge energy.new) }
+        ensures covers { OnOk result (cost_of_drains K.ChannelPort self.old self.old.costs.numbers
+            ≤ paid_for_drains (view_of K.ChannelPort self.old)) }
         ensures keeps { KeepsAll K.ChannelPort self.old self.new }
     {
         for port in self.ports.iter_mut() {

@@ -1,6 +1,7 @@
 // Ports side by side.
 ghost use Rattle.std.specs.Prelude.{◌≡◌, ◌<◌, ◌≤◌, ℕ, List, [], length, slice_get, true, Some, IfNone, IfSome};
 ghost use Rattle.line_memory.specs.Memory.{IsMemory};
+ghost use Rattle.energy_budget.specs.Costs.{AreReckonedFor};
 ghost use Rattle.channel_port.specs.Shape.{IsShape};
 ghost use Rattle.channel_port.specs.Waits.{nothing};
 ghost use Rattle.channel_set.specs.Ports.{ArePorts, shape_with, waits_in};
@@ -20,6 +21,7 @@ pub struct ChannelSet<K: ChannelPort> {
     pub(crate) costs: Costs,
     ghost are: { ArePorts K.ChannelPort terms ports.items },
     ghost shaped: { IsShape (shape_with K.ChannelPort terms costs ports.items) },
+    ghost reckoned: { AreReckonedFor terms.checked costs },
 }
 
 impl<K: ChannelPort> ChannelSet<K> {
@@ -31,6 +33,7 @@ impl<K: ChannelPort> ChannelSet<K> {
         requires ports { ArePorts K.ChannelPort terms ports.items }
         requires shape { IsShape
             (shape_with K.ChannelPort terms costs ports.items) }
+        requires costs { AreReckonedFor terms.checked costs }
         ensures shape { shape_of K.ChannelPort result
             ≡ shape_with K.ChannelPort terms costs ports.items }
         ensures hold { (view_of K.ChannelPort result).hold ≡ terms.hold }

@@ -1,8 +1,11 @@
 // What ports have in common.
+use ddr4_timing::timing::Checked;
 
 /// What all ports of a set have in common.
-#[derive(Clone, Copy, Debug, PartialEq, Eq)]
+#[derive(Clone, Copy, Debug)]
 pub struct PortTerms {
+    /// The profile of all of them.
+    pub checked: Checked,
     /// How many lines the memory has.
     pub lines: u64,
     /// How many writes may wait in each.

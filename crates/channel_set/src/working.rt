@@ -3,6 +3,7 @@ ghost use Rattle.std.specs.Prelude.{◌≡◌, ◌==◌, ◌+◌, ◌<◌, ◌++
 ghost use Rattle.std.specs.Option.{option_map};
 ghost use Rattle.line_memory.specs.declared.Write.{Write};
 ghost use Rattle.line_memory.specs.Memory.{after, line_of};
+ghost use Rattle.energy_budget.specs.declared.costs.CostNumbers.{CostNumbers};
 ghost use Rattle.channel_port.specs.Answers.{IsCollected, IsGot, IsServed, Puts};
 ghost use Rattle.channel_port.specs.Waits.{AllBelow, reads_on, writes_on};
 ghost use Rattle.channel_port.specs.declared.stage.Stage.TheVariants.{OnMains};
@@ -15,6 +16,7 @@ use line_memory::Write;
 impl<K: ChannelPort> ChannelSet<K> {
     ghost use Rattle.channel_set.specs.Set.{AreAt, NextCommand, place_in, shape_of, view_of};
     ghost use Rattle.channel_set.specs.Carrying.{CarriesAll, KeepsAll};
+    ghost use Rattle.channel_set.specs.Draining.{cost_of_drains};
 
     /// Takes a write at the place of its line, whose number is above those of all that wait.
     pub fn put(&mut self, number: u64, write: Write, place: Place)
@@ -102,6 +104,8 @@ impl<K: ChannelPort> ChannelSet<K> {
     pub fn hold(&mut self, from: Option<u64>)
         ensures held { view_of K.ChannelPort self.new
             ≡ record (view_of K.ChannelPort self.old) { hold = from } }
+        ensures cost { (numbers : CostNumbers) → cost_of_drains K.ChannelPort self.new numbers
+            ≡ cost_of_drains K.ChannelPort self.old numbers }
         ensures mains { AreAt K.ChannelPort OnMains self.old
             → AreAt K.ChannelPort OnMains self.new }
         ensures keeps { KeepsAll K.ChannelPort self.old self.new }

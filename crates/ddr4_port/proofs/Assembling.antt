@@ -4,15 +4,15 @@ use Rattle.std.specs.List.{flat_map}
 use Rattle.ddr4_port.proofs.Common.{BeginsWith, Carries, ChannelState, Checked, Costs, IsInterleaving, Place}
 use Rattle.ddr4_port.proofs.Common.{PortState, SendsOnly, appended, lines_of, listed_place, nothing, places_by}
 use Rattle.ddr4_port.proofs.Common.{port_view, shape_over, waits_of}
+use Rattle.drain_core.specs.Steps.{spent_by}
 use Rattle.channel_port.specs.declared.port.ChannelPort.{Ghosts}
 use Rattle.channel_set.specs.Ports.{ArePorts, places_of, shape_with, waits_in}
 use Rattle.channel_set.specs.declared.terms.PortTerms.{PortTerms}
 use Rattle.channel_set.proofs.Counted.{same-waits}
-use Rattle.ddr4_port.proofs.Seen.{place-named}
 
 -- what contracts see of a port
 abbrev pub over : Ghosts PortState
-over = record { view = port_view; carries = λ port. Carries (listed_place port.places) port.channel; next_command = λ port. SendsOnly port.channel }
+over = record { view = port_view; carries = λ port. Carries (listed_place port.places) port.channel; next_command = λ port. SendsOnly port.channel; drain_cost = λ port numbers. spent_by numbers port.channel }
 
 pub whole-lines : (memory : List (List ℕ)) → ((i : ℕ) → i < length memory → length (slice_index_or memory i []) ≡ 64) → All (λ line. length line ≡ 64) memory
 whole-lines [] told k d less = absurd (omega (arith, less))
@@ -37,7 +37,7 @@ none-in of (port ∷ ports) none = ap (λ xs. xs ++ flat_map of ports) (none zer
 
 module _ (f : ℕ → Place) (checked : Checked) (memory : List (List ℕ)) (depth reads : ℕ) (ports : List PortState) (begin : BeginWith f checked memory depth reads ports) where
   abbrev terms : PortTerms
-  terms = record { lines = length memory; depth = depth; most_reads = reads; hold = None }
+  terms = record { checked = checked; lines = length memory; depth = depth; most_reads = reads; hold = None }
 
   pub nothing-waits : waits_in over ports ≡ nothing
   nothing-waits =
@@ -58,6 +58,7 @@ module _ (f : ℕ → Place) (checked : Checked) (memory : List (List ℕ)) (dep
     are-ports = record {
       each = λ number port there. let is = begin number port there in record {
         number_is = ap (λ (s : ChannelState). s.channel) is.fresh;
+        checked = ap (λ (s : ChannelState). s.checked) is.fresh;
         lines = ap (λ (s : ChannelState). lines_of s.checked.geometry) is.fresh ∙ sym lines;
         places_are = ap listed_place is.places ∙ sym places-are;
         depth = ap (λ (s : ChannelState). s.depth) is.fresh;

@@ -9,6 +9,7 @@ pub mod Putting
 pub mod Seen
 pub mod Standing
 pub mod Paying
+pub mod DrainCosts
 pub mod Draining
 pub mod Beginning
 pub mod Shaping

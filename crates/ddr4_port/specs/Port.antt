@@ -61,6 +61,7 @@ port_state place_of stage channel = record { places = places_by place_of channel
 abbrev pub port_view : PortState → PortView
 port_view p = record {
   number = p.channel.channel;
+  checked = p.channel.checked;
   lines = lines_of p.channel.checked.geometry;
   place_of = listed_place p.places;
   depth = p.channel.depth;

@@ -118,6 +118,7 @@ pub fn channels_with_memory<'m, M: LineMap>(
         ports[place.channel as usize].load(place, *bytes);
     }
     let terms = PortTerms {
+        checked: *checked,
         lines: memory.len() as u64,
         depth: depth as u64,
         most_reads: reads as u64,

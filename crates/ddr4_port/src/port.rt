@@ -43,6 +43,7 @@ impl<'m, M: LineMap> Ddr4Port<'m, M> {
 impl<'m, M: LineMap> ChannelPort for Ddr4Port<'m, M> {
     ghost use Rattle.std.proofs.lemmas.List.Elements.{All-map};
     ghost use Rattle.std.specs.List.{range_with_len};
+    ghost use Rattle.drain_core.specs.Steps.{spent_by};
     ghost use Rattle.ddr4_port.specs.Carrying.{Carries};
     ghost use Rattle.ddr4_port.specs.Port.{SendsOnly, open_on, listed_place, port_view, ticket_on, waiting_on};
 
@@ -51,6 +52,8 @@ impl<'m, M: LineMap> ChannelPort for Ddr4Port<'m, M> {
     ghost carries = { λ port. Carries (listed_place port.places) port.channel };
 
     ghost next_command = { λ port. SendsOnly port.channel };
+
+    ghost drain_cost = { λ port numbers. spent_by numbers port.channel };
 
     fn place(&self, line: u64) -> Place {
         self.map.place(line)

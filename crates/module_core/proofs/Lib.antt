@@ -12,6 +12,7 @@ pub mod ClosingSteps
 pub mod ClosingStores
 pub mod ClosingSaves
 pub mod Emptied
+pub mod Covering
 pub mod LossSteps
 pub mod LostModules
 pub mod RunsOn

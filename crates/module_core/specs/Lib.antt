@@ -7,6 +7,7 @@ pub mod Stands
 pub mod Opening
 pub mod Stepping
 pub mod Closing
+pub mod Covering
 -- what the laws say of modules
 pub mod InTurn
 pub mod ModuleLives

@@ -44,7 +44,10 @@ impl<K: ChannelPort, E: Energy> SaveSource for PaidArrays<'_, K, E> {
 
     fn ask(&mut self, step: Step) -> Result<(), Refused> {
         let cost = self.channels.costs().cost(action_of(step));
-        self.energy.pay(cost).map_err(|_| Refused)
+        match self.energy.pay(cost) {
+            Ok(()) => Ok(()),
+            Err(_) => Err(Refused),
+        }
     }
 
     fn page<'p>(&'p self, page: usize, room: &'p mut [u8; 4096]) -> &'p [u8; 4096] {

@@ -1,5 +1,7 @@
 // The loss of mains.
-ghost use Rattle.std.specs.Prelude.{◌≡◌, ◌+◌, ◌≤◌, ◌^◌, ℕ, List, [], length, true, false, None, Some};
+ghost use Rattle.std.specs.Prelude.{◌≡◌, ◌+◌, ◌≤◌, ◌^◌, ℕ, List, [], length, true, false, None, Some, OnOk};
+ghost use Rattle.energy_budget.specs.declared.costs.CostNumbers.{CostNumbers};
+ghost use Rattle.channel_set.specs.Draining.{cost_of_drains, paid_for_drains};
 ghost use Rattle.arm_state.specs.Modes.{has_ended};
 ghost use Rattle.channel_set.specs.Set.{AreAt, shape_of, view_of};
 ghost use Rattle.channel_port.specs.declared.stage.Stage.TheVariants.{OnBackup, OnMains};
@@ -38,6 +40,9 @@ impl<K: ChannelPort> Module<K> {
         ensures ends { EndsMains K.ChannelPort reading self.old self.new }
         ensures begins { BeginsSave self.old.saves self.old.accepted false
             (shape_of K.ChannelPort self.old.channels).lines self.new.saves }
+        ensures cost { (numbers : CostNumbers)
+            → cost_of_drains K.ChannelPort self.new.channels numbers
+            ≡ cost_of_drains K.ChannelPort self.old.channels numbers }
         ensures backup { AreAt K.ChannelPort OnBackup self.new.channels }
     {
         self.reading = reading;
@@ -51,6 +56,7 @@ impl<K: ChannelPort> Module<K> {
 
 impl<K: ChannelPort> Module<K> {
     ghost use Rattle.module_core.specs.Closing.{ClosesModule};
+    ghost use Rattle.module_core.specs.Covering.{IsCovered};
     ghost use Rattle.module_core.specs.HonestCalls.{SavesWhereHonest};
     ghost use Rattle.module_core.specs.Stands.{Answers, HasDevice, SameButSaves, setup_of, assembly};
 
@@ -67,6 +73,9 @@ impl<K: ChannelPort> Module<K> {
         ensures closes { ClosesModule result
             (assembly self.old (D.state device.old) (E.gauge energy.old))
             (assembly self.new (D.state device.new) (E.gauge energy.new)) }
+        ensures covers { OnOk result (cost_of_drains K.ChannelPort self.old.channels
+            (shape_of K.ChannelPort self.old.channels).costs.numbers
+            ≤ paid_for_drains (view_of K.ChannelPort self.old.channels)) }
         ensures same { SameButSaves K.ChannelPort self.old self.new }
         ensures setup { setup_of K.ChannelPort self.new ≡ setup_of K.ChannelPort self.old }
         ensures size { HasDevice K.ChannelPort self.new (D.state device.new) }
@@ -80,7 +89,8 @@ impl<K: ChannelPort> Module<K> {
 
     /// Mains were lost. Where acknowledged writes are to be saved, the channels are drained and all accepted writes are
     /// saved, each action paid for first; a payment that is refused or a fault of the device breaks it off. Disarmed, nothing
-    /// is written.
+    /// is written. Where all is saved, the energy that is kept for a closing save is no less than what the commands and the
+    /// clocks of its drains and the steps of its save cost.
     ///
     /// **With an honest gauge and a device that has counted no fault since the life began, the answer is `Saved` with all
     /// accepted writes, and a restore finds them all, complete.**
@@ -89,6 +99,7 @@ impl<K: ChannelPort> Module<K> {
         ensures answers { Answers K.ChannelPort Event.Lose (Reply.Lose result)
             (assembly self.old (D.state device.old) (E.gauge energy.old))
             (assembly self.new (D.state device.new) (E.gauge energy.new)) }
+        ensures covered { IsCovered K.ChannelPort result self.old.channels }
         ensures honest { SavesWhereHonest K.ChannelPort result
             (assembly self.old (D.state device.old) (E.gauge energy.old))
             (assembly self.new (D.state device.new) (E.gauge energy.new)) }

@@ -1,5 +1,5 @@
 use Rattle.module_core.specs.Rising.{HasMarksInOrder, MarksRise}
-use Rattle.nv_machine.proofs.RisingMarks.{run_rises}
+use Rattle.nv_machine.proofs.RisingMarks.{event_rises, run_rises}
 use Rattle.nv_machine.specs.Rising.{Rises}
 use Rattle.module_core.proofs.Common.{DeviceState, Ghosts, Machine, Module, ModuleStands, arith, point_of, setup_of, world_of}
 use Rattle.module_core.proofs.RunsOn.{run_worlds}
@@ -19,6 +19,11 @@ module _ {K : Type 0} (L : Ghosts K) where
     persisted = omega (arith, before.matches.persisted, behind.matches.persisted, rises.persisted);
     ordered = in_order new later n behind;
   }
+
+pub returns-clause-call : goal.returns-clause-call
+returns-clause-call g c = λ event reply old new m stands answers.
+    let L = g.K.ChannelPort in let to = answers m stands in
+    rises_with L old.it new.it old.device new.device m to.0 stands to.1 (event_rises (setup_of L old.it) event reply (world_of L old m) (world_of L new to.0) to.2.happens.step stands.guarded)
 
 pub returns-clause-run : goal.returns-clause-run
 returns-clause-run g c = λ events replies old new m stands answers.

@@ -28,7 +28,7 @@ invariant_of-self g c =
     let i = c.args.ticket.channel in
     let p = c.index_mut.result.now in
     let at = slice_get_read channels.ports.items (length channels.ports.items) i p refl (omega (arith, c.if-ticket-len.false, c.len.ensures)) c.index_mut.ensures.value in
-    record { are = are-set L channels i p c.collect.new.self _ _ _ at c.collect.ensures.rest; shaped = shaped-set L channels i p c.collect.new.self at (ap (λ v. v.place_of) c.collect.ensures.rest) }
+    record { are = are-set L channels i p c.collect.new.self _ _ _ at c.collect.ensures.rest; shaped = shaped-set L channels i p c.collect.new.self at (ap (λ v. v.place_of) c.collect.ensures.rest); reckoned = channels.reckoned }
 
 pub returns : goal.returns
 returns g c =

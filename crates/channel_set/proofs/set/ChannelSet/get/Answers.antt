@@ -30,7 +30,7 @@ invariant_of-self g c =
     let i = c.args.place.channel in
     let p = c.index_mut.result.now in
     let at = stands-for L channels c.args.line c.args.place p c.requires.line c.requires.place c.index_mut.ensures.value in
-    record { are = are-set L channels i p c.get.new.self _ _ _ at c.get.ensures.rest; shaped = shaped-set L channels i p c.get.new.self at (ap (λ v. v.place_of) c.get.ensures.rest) }
+    record { are = are-set L channels i p c.get.new.self _ _ _ at c.get.ensures.rest; shaped = shaped-set L channels i p c.get.new.self at (ap (λ v. v.place_of) c.get.ensures.rest); reckoned = channels.reckoned }
 
 pub returns : goal.returns
 returns g c =

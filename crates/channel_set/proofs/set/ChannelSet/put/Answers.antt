@@ -28,7 +28,7 @@ invariant_of-self g c =
     let i = c.args.place.channel in
     let p = c.index_mut.result.now in
     let at = stands-for L channels c.args.write.line c.args.place p c.requires.line c.requires.place c.index_mut.ensures.value in
-    record { are = are-set L channels i p c.put.new.self _ _ _ at c.put.ensures.puts; shaped = shaped-set L channels i p c.put.new.self at (ap (λ v. v.place_of) c.put.ensures.puts) }
+    record { are = are-set L channels i p c.put.new.self _ _ _ at c.put.ensures.puts; shaped = shaped-set L channels i p c.put.new.self at (ap (λ v. v.place_of) c.put.ensures.puts); reckoned = channels.reckoned }
 
 pub returns : goal.returns
 returns g c =

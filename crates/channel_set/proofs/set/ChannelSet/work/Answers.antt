@@ -12,7 +12,7 @@ invariant_of-self g c =
     let i = c.args.channel in
     let p = c.index_mut.result.now in
     let at = slice_get_read channels.ports.items (length channels.ports.items) i p refl c.requires.channel c.index_mut.ensures.value in
-    record { are = are-set L channels i p c.work.new.self _ _ _ at c.work.ensures.rest; shaped = shaped-set L channels i p c.work.new.self at (ap (λ v. v.place_of) c.work.ensures.rest) }
+    record { are = are-set L channels i p c.work.new.self _ _ _ at c.work.ensures.rest; shaped = shaped-set L channels i p c.work.new.self at (ap (λ v. v.place_of) c.work.ensures.rest); reckoned = channels.reckoned }
 
 pub returns : goal.returns
 returns g c =

@@ -1,4 +1,5 @@
 use Rattle.std.proofs.Common.{sym, ap, ◌∙◌}
+use Rattle.ddr4_port.proofs.DrainCosts.{drain-covers}
 use Rattle.ddr4_port.proofs.Draining.{drain-checked, drain-keeps, drain-lost, drain-pays, drain-takes}
 use Rattle.ddr4_port.proofs.Paying.{paid_by}
 use Rattle.ddr4_port.proofs.Standing.{lost-on-backup, right-drained}
@@ -36,6 +37,12 @@ returns-clause-takes g c =
       | in-Ok w ↦ drain-takes c.args.costs.now c.drain_paying-drained.result s t _ _ did none c.match-drained.result (w.result-is ∙ sym (ap paid_by w.in-Ok.is))
       | in-Err w ↦ drain-takes c.args.costs.now c.drain_paying-drained.result s t _ _ did none c.match-drained.result (w.result-is ∙ sym (ap paid_by w.in-Err.is))
     ])
+
+pub returns-clause-covers : goal.returns-clause-covers
+returns-clause-covers g c =
+    let right = c.self.invariant.1 in
+    let awaits = right.staged.backup (rw (← c.self.view_is) at c.requires.backup) in
+    rw (← c.self.view_is) (drain-covers c.args.costs.now c.self.inside.channel awaits.can right.channel.contents)
 
 pub returns-clause-keeps : goal.returns-clause-keeps
 returns-clause-keeps g c =

@@ -1,7 +1,17 @@
 use Rattle.std.specs.Prelude.{Some, None}
+use Rattle.ddr4_port.proofs.DrainCosts.{hold-cost}
 use Rattle.ddr4_port.proofs.Standing.{hold-keeps}
 use Rattle.ddr4_port.proofs.port.Ddr4PortChannelPort.hold.Goals.{in-None, in-Some}
 use Rattle.ddr4_port.proofs.port.Ddr4PortChannelPort.hold.Goals as goal
+
+pub returns-clause-cost : goal.returns-clause-cost
+returns-clause-cost g c =
+    let s = c.self.inside.channel in
+    rw (← c.self.view_is)
+    (elim c.match-from.branch [
+      | in-Some w ↦ rw (w.self-inside-is) (hold-cost s w.hold_from.new.self (Some w.in-Some.number) w.hold_from.ensures)
+      | in-None w ↦ rw (w.self-inside-is) (hold-cost s w.release.new.self None w.release.ensures)
+    ])
 
 pub returns-clause-keeps : goal.returns-clause-keeps
 returns-clause-keeps g c =

@@ -2,6 +2,7 @@ use Rattle.channel_set.proofs.Settling.{settled}
 use Rattle.line_memory.proofs.MemoryLaws.{memory_at-all}
 use Rattle.module_core.specs.Closing.{SavesClosing}
 use Rattle.module_core.proofs.Common.{ℕ, ◌+◌, ◌∙◌, ◌≡◌, ChannelsView, IsReadyToClose, IsResting, Shape, Some, Store, ap, begun_save, inl, inr, length, lines_of_module, refl, saves_at, shape_of, subst, sym, view_of}
+use Rattle.module_core.proofs.Covering.{on-ok}
 use Rattle.module_core.proofs.Emptied.{all_wait, none_waits}
 use Rattle.module_core.proofs.StoreSteps.{at_rest}
 use Rattle.module_core.proofs.module.Module.close.Goals as goal
@@ -36,3 +37,6 @@ returns-clause-closes g c = λ s made base start writes ready carries same.
       subst (λ (h : Shape). SavesClosing h s made c.finish.result (saves_at old.saves (D.state c.args.device.now) mid) (saves_at c.finish.new.self (D.state c.finish.new.device) (E.gauge c.finish.new.energy)))
           shape (c.finish.ensures.saves s made ready' array),
     )
+
+pub returns-clause-covers : goal.returns-clause-covers
+returns-clause-covers g c = on-ok _ c.finish.result c.in-Ok.ensures.covers

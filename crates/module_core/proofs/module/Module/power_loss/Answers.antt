@@ -1,5 +1,6 @@
 use Rattle.module_core.proofs.Common.{◌∙◌, ◌≡◌, ap, assembly, false, has_ended, is_backed, refl, rules, sym, true}
 use Rattle.module_core.proofs.Applying.{unmoved}
+use Rattle.module_core.proofs.Covering.{covered}
 use Rattle.module_core.proofs.HonestCalls.{ended_setup, honest_loss}
 use Rattle.module_core.proofs.LostModules.{answers_dark, answers_fault, answers_saved, answers_unsaved}
 use Rattle.module_core.proofs.module.Module.power_loss.Goals as goal
@@ -46,3 +47,6 @@ pub returns-in-Err-Fault-clause-honest : goal.returns-in-Err-Fault-clause-honest
 returns-in-Err-Fault-clause-honest g c =
     honest_loss g.K.ChannelPort _ _ _
     (record { answers = returns-in-Err-Fault-clause-answers g c; setup = c.close.ensures.setup ∙ ended_setup g.K.ChannelPort c.tick.result c.args.self.now c.begin_closing.new.self c.begin_closing.ensures.ends })
+
+pub returns-in-Ok-clause-covered : goal.returns-in-Ok-clause-covered
+returns-in-Ok-clause-covered g c = let b = c.begin_closing.ensures in covered g.K.ChannelPort c.args.self.now.channels c.begin_closing.new.self.channels b.ends.channels b.cost c.in-Ok.ensures.covers
