@@ -32,7 +32,7 @@ impl<D: SaveDevice + Drop> Plain<D> {
             return Err(Stall::Device.into());
         }
         let restored = restore(alloc, &mut device, lines)?;
-        let Restored { head, lines } = restored;
+        let Restored { head, lines, .. } = restored;
         Ok(Plain {
             lines,
             device,

@@ -20,6 +20,7 @@ use interleave_map::Interleaving;
 use line_memory::zero_memory;
 use module_core::Module;
 use save_device::Pick;
+use save_image::Version;
 use slot_store::{Head, RestoreError, Restored, format, restore};
 use std::alloc::{AllocError, Global};
 
@@ -93,6 +94,7 @@ impl<K: ChannelPort + Drop, A: Wires<K> + Drop> Session<K, A> {
         };
         let restored = Restored {
             head,
+            version: Version::One,
             lines: memory,
         };
         let map = self.profile.map;

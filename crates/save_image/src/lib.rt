@@ -1,5 +1,6 @@
 //! The bytes of a save image, exactly: its header, a page of 4,096 bytes, and the pages of its body. Numbers are little
-//! endian. `specs/Header.antt` and `specs/Body.antt` spell them out.
+//! endian. There are two versions: in version 2 the header has the SHA-256 of the body. `specs/Header.antt`,
+//! `specs/Body.antt` and `specs/Image.antt` spell them out.
 #![tactic(auto)]
 
 mod body;
@@ -7,5 +8,5 @@ mod reading;
 mod writing;
 
 pub use body::{page_bytes, page_lines};
-pub use reading::{Header, HeaderFault, read_header};
-pub use writing::{ARMED, header_bytes};
+pub use reading::{Header, HeaderFault, Version, read_header};
+pub use writing::{ARMED, header_bytes, header_bytes_2};

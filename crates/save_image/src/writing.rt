@@ -1,6 +1,6 @@
 // How a header is written.
-ghost use Rattle.std.specs.Prelude.{◌≡◌, ◌+◌, ◌≤◌, length};
-ghost use Rattle.save_image.specs.Header.{header, arm_byte, zeros, le8, spliced};
+ghost use Rattle.std.specs.Prelude.{◌≡◌, ◌+◌, ◌≤◌, [], ◌∷◌, ◌++◌, length, Some, None};
+ghost use Rattle.save_image.specs.Header.{header, fields, arm_byte, zeros, le8, spliced};
 
 use byteorder::{ByteOrder, LittleEndian};
 
@@ -32,17 +32,45 @@ fn zero_page() -> [u8; 4096]
     [0; 4096]
 }
 
-/// The header of an image, with a closed gate: its generation (1 to 2^63 - 1), the number of writes that it holds (at
-/// most 2^62), the number of lines, and whether it is armed. Opening the gate, byte 0, is a write of its own.
-pub fn header_bytes(generation: u64, count: u64, lines: u64, armed: bool) -> [u8; 4096]
-    ensures { result ≡ header 0 (arm_byte armed) generation count lines }
+// A page with a closed gate, an arm byte, a magic text and the numbers, and zeros behind them.
+fn page_of_fields(
+    magic: &[u8; 8],
+    generation: u64,
+    count: u64,
+    lines: u64,
+    armed: bool,
+) -> [u8; 4096]
+    ensures { result ≡ fields 0 (arm_byte armed) magic.now generation count lines ++ zeros 4056 }
 {
     let mut page = zero_page();
     let arm = if armed { ARMED } else { 0 };
     put(&mut page, 0, &[0, arm]);
-    put(&mut page, 8, b"NVSAVE01");
+    put(&mut page, 8, magic);
     put_number(&mut page, 16, generation);
     put_number(&mut page, 24, count);
     put_number(&mut page, 32, lines);
+    page
+}
+
+/// The header of an image of version 1, with a closed gate: its generation (1 to 2^63 - 1), the number of writes that it
+/// holds (at most 2^62), the number of lines, and whether it is armed. Opening the gate, byte 0, is a write of its own.
+pub fn header_bytes(generation: u64, count: u64, lines: u64, armed: bool) -> [u8; 4096]
+    ensures { result ≡ header None 0 (arm_byte armed) generation count lines }
+{
+    page_of_fields(b"NVSAVE01", generation, count, lines, armed)
+}
+
+/// The header of an image of version 2, with a closed gate: the same, and the SHA-256 of its body.
+pub fn header_bytes_2(
+    generation: u64,
+    count: u64,
+    lines: u64,
+    armed: bool,
+    digest: &[u8; 32],
+) -> [u8; 4096]
+    ensures { result ≡ header (Some digest.now) 0 (arm_byte armed) generation count lines }
+{
+    let mut page = page_of_fields(b"NVSAVE02", generation, count, lines, armed);
+    put(&mut page, 40, digest);
     page
 }

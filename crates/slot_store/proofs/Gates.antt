@@ -3,8 +3,8 @@ use Rattle.std.proofs.lemmas.Bool.Decides.{Decides-eqb, Decides-ltb, nat_tests}
 use Rattle.std.specs.Prelude.{◌==◌, None, Option}
 use Rattle.save_image.specs.declared.reading.Header.{Header}
 use Rattle.slot_store.specs.Outcomes.{newer, restored}
-use Rattle.slot_store.specs.Slots.{opened, slot_state}
-use Rattle.slot_store.proofs.Common.{if◌then◌else◌, ℕ, ◌+◌, ◌-◌, ◌<◌, ◌∙◌, ◌≡◌, ◌≢◌, Bool, Closed, Damaged, First, Found, Full, Image, List, Second, Slot, SlotState, Some, WrongSize, ap, arith, body_in, chosen, device_size, drop, eqb_tells, false, get_or, get_or-drop, get_or-take, header_in, length, nat_lt, other, page_in, slice_index, start_of, sym, true, ⊎_elim}
+use Rattle.slot_store.specs.Slots.{Broken, digest_fits, opened, slot_state}
+use Rattle.slot_store.proofs.Common.{if◌then◌else◌, ℕ, ◌+◌, ◌-◌, ◌<◌, ◌∙◌, ◌≡◌, ◌≢◌, Bool, Closed, Damaged, First, Found, Full, Image, List, Second, Slot, SlotState, Some, WrongSize, ap, arith, body_in, chosen, device_size, drop, eqb_tells, false, get_or, get_or-drop, get_or-take, header_in, image_with, length, nat_lt, other, page_in, slice_index, start_of, sym, true, ⊎_elim}
 
 pub gate_in_page : (lines : ℕ) (slot : Slot) (c : List ℕ) → slice_index (page_in lines slot c) 0 ≡ slice_index c (start_of lines slot)
 gate_in_page lines slot c =
@@ -61,8 +61,19 @@ pub the_newer : (lines : ℕ) (slot : Slot) (c : List ℕ) (old new : Image) →
 the_newer lines First c old new size there here less = by_states lines c (Full new) (Full old) size here there ∙ chosen_older new old less
 the_newer lines Second c old new size there here less = by_states lines c (Full old) (Full new) size there here ∙ chosen_newer old new less
 
+-- an open slot whose lines have the digest of its header, and one whose lines don't
+pub opened_fits : (h : Header) (memory : List (List ℕ)) → digest_fits h.digest memory ≡ true → opened (Some h) memory ≡ Full (image_with h memory)
+opened_fits h memory fits = ap (λ (b : Bool). if b then Full (image_with h memory) else Broken) fits
+
+pub opened_unfit : (h : Header) (memory : List (List ℕ)) → digest_fits h.digest memory ≡ false → opened (Some h) memory ≡ Broken
+opened_unfit h memory unfit = ap (λ (b : Bool). if b then Full (image_with h memory) else Broken) unfit
+
+never_by : (b : Bool) (image : Image) → (if b then Full image else Broken) ≡ Closed → ⊥
+never_by true image is = cc
+never_by false image is = cc
+
 never_closed : (o : Option Header) (memory : List (List ℕ)) → opened o memory ≡ Closed → ⊥
-never_closed (Some h) memory is = cc
+never_closed (Some h) memory is = never_by (digest_fits h.digest memory) (image_with h memory) is
 never_closed None memory is = cc
 
 -- a slot that is closed has a gate that isn't open

@@ -8,6 +8,7 @@ pub mod Stops
 pub mod Standing
 pub mod Going
 pub mod Resting
+pub mod Checked
 pub mod GivenUp
 pub mod ImageBytes
 pub mod StepsLeft

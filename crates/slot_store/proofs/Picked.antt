@@ -1,10 +1,10 @@
 -- Which slot's image two readings pick.
 use Rattle.std.proofs.Common.{if◌then◌else◌}
 use Rattle.slot_store.specs.Outcomes.{restored}
-use Rattle.slot_store.specs.Told.{IsChosen, IsFailure, IsNewestIn, image_of_head, NamesOutcome, Refuses, memory_in, state_other}
+use Rattle.slot_store.specs.Told.{IsChosen, IsFailure, IsHeadOf, image_of_head, NamesOutcome, Refuses, memory_in, state_other}
 use Rattle.slot_store.specs.declared.head.Head.{Head}
 use Rattle.slot_store.specs.declared.restoring.RestoreError.TheVariants as errors
-use Rattle.slot_store.proofs.Common.{ℕ, ◌∙◌, ◌≡◌, ◌≢◌, Bool, Err, First, Found, List, Ok, Outcome, RestoreError, Result, Second, Slot, SlotState, WrongSize, ap, body_in, chosen, device_size, false, is_closed, is_fault, length, other, refl, slot_state, sym}
+use Rattle.slot_store.proofs.Common.{ℕ, ◌∙◌, ◌≡◌, ◌≢◌, Bool, Err, First, Found, List, Ok, Outcome, RestoreError, Result, Second, Slot, SlotState, WrongSize, ap, body_in, chosen, device_size, is_closed, length, other, refl, slot_state, sym}
 use Rattle.slot_store.proofs.Gates.{by_states, not_equal}
 
 memory_of : (lines : ℕ) (slot : Slot) (bytes : List ℕ) → memory_in slot (body_in lines First bytes) (body_in lines Second bytes) ≡ body_in lines slot bytes
@@ -15,12 +15,18 @@ other_of : (lines : ℕ) (slot : Slot) (bytes : List ℕ) (s t : SlotState) → 
 other_of lines First bytes s t p q = sym q
 other_of lines Second bytes s t p q = sym p
 
-refuses : (e : RestoreError) (o u : Outcome) → u ≡ o → NamesOutcome e o → Refuses e u
+pub refuses : (e : RestoreError) (o u : Outcome) → u ≡ o → NamesOutcome e o → Refuses e u
 refuses errors.NoImage o u same n = same ∙ n
 refuses (errors.Damaged slot) o u same n = same ∙ n
 refuses errors.WrongSize o u same n = same ∙ n
 refuses errors.Device o u same n = tt
 refuses errors.Memory o u same n = tt
+
+-- of the bytes of a device, the newest image's head or the error
+abbrev pub IsNewestIn : Result Head RestoreError → ℕ → List ℕ → Type 0
+IsNewestIn (Ok head) lines bytes =
+    IsHeadOf head (body_in lines head.newest.slot bytes) (restored lines bytes) (slot_state lines (other head.newest.slot) bytes)
+IsNewestIn (Err error) lines bytes = Refuses error (restored lines bytes)
 
 pub picked : (r : Result Head RestoreError) (lines : ℕ) (bytes : List ℕ) (s t : SlotState) → length bytes ≡ device_size lines
     → slot_state lines First bytes ≡ s → slot_state lines Second bytes ≡ t → IsChosen r (body_in lines First bytes) (body_in lines Second bytes) s t → IsNewestIn r lines bytes
@@ -32,20 +38,11 @@ picked (Ok head) lines bytes s t size one two c = record {
 }
 picked (Err e) lines bytes s t size one two c = refuses e (chosen s t) (restored lines bytes) (by_states lines bytes s t size one two) c
 
--- a choice is no fault
-pub not_fault : (r : Result Head RestoreError) (one two : List (List ℕ)) (s t : SlotState) → IsChosen r one two s t → is_fault r ≡ false
-not_fault (Ok p) one two s t c = refl
-not_fault (Err errors.NoImage) one two s t c = refl
-not_fault (Err (errors.Damaged slot)) one two s t c = refl
-not_fault (Err errors.WrongSize) one two s t c = refl
-not_fault (Err errors.Device) one two s t c = absurd c
-not_fault (Err errors.Memory) one two s t c = refl
-
 pub wrong_size : (lines : ℕ) (bytes : List ℕ) → length bytes ≢ device_size lines → restored lines bytes ≡ WrongSize
 unfolding restored
 wrong_size lines bytes differ = ap (λ (b : Bool). if b then chosen (slot_state lines First bytes) (slot_state lines Second bytes) else WrongSize) (not_equal (length bytes) (device_size lines) differ)
 
-failed : (e : RestoreError) (o : Outcome) → IsFailure e → Refuses e o
+pub failed : (e : RestoreError) (o : Outcome) → IsFailure e → Refuses e o
 failed errors.NoImage o f = absurd f
 failed (errors.Damaged slot) o f = absurd f
 failed errors.WrongSize o f = absurd f

@@ -1,7 +1,8 @@
 -- An image whose arm byte is written.
 use Rattle.std.proofs.lemmas.Bool.{cases_eq}
-use Rattle.save_image.specs.Header.{header}
+use Rattle.save_image.specs.Header.{fields, header}
 use Rattle.save_image.specs.Image.{image_bytes}
+use Rattle.save_image.specs.declared.reading.Version.{Version}
 use Rattle.slot_store.specs.Rest.{IsAtRestRearmed, with_any_arm}
 use Rattle.slot_store.proofs.Common.{[], ℕ, ◌+◌, ◌-◌, ◌<◌, ◌∙◌, ◌∷◌, ◌≡◌, ◌≢◌, ◌≤◌, ◌⊎◌, Bool, DeviceState, DiffersOnlyAt, First, Found, Full, Image, IsAmong, IsAtRestOn, IsInRange, IsSettled, IsShut, IsTrue, LeavesOnly, List, Makes, MayLeave, Put, Second, Settle, Slot, and_then, ap, arith, device_size, differs_within, drop, false, get_or, get_or-drop, get_or-take, holds-within, inl, inr, is_closed, length, length-drop, length-take, other, overwritten, present, rearmed, refl, restored, same_number_lists, slice_index, slot_size, slot_state, start_of, suc, sym, take, true, within_call, zero, ⊎_elim}
 use Rattle.slot_store.proofs.Gates.{the_newer}
@@ -15,41 +16,44 @@ abbrev arm_of : ℕ → Slot → ℕ
 arm_of lines slot = start_of lines slot + 1
 
 -- an image's bytes but for the arm byte
-bytes_rearmed : (lines : ℕ) (image : Image) (arm k : ℕ) → k ≢ 1 → get_or (image_bytes lines (rearmed image arm)) k 0 ≡ get_or (image_bytes lines image) k 0
-unfolding image_bytes header
-bytes_rearmed lines image arm zero differs = refl
-bytes_rearmed lines image arm (suc zero) differs = absurd (differs refl)
-bytes_rearmed lines image arm (suc (suc k)) differs = refl
+bytes_rearmed : (lines : ℕ) (version : Version) (image : Image) (arm k : ℕ) → k ≢ 1 → get_or (image_bytes lines version (rearmed image arm)) k 0 ≡ get_or (image_bytes lines version image) k 0
+unfolding image_bytes header fields
+bytes_rearmed lines version image arm zero differs = refl
+bytes_rearmed lines version image arm (suc zero) differs = absurd (differs refl)
+bytes_rearmed lines version image arm (suc (suc k)) differs = refl
 
-byte_rearmed : (lines : ℕ) (image : Image) (arm : ℕ) → get_or (image_bytes lines (rearmed image arm)) 1 0 ≡ arm
-unfolding image_bytes header
-byte_rearmed lines image arm = refl
+byte_rearmed : (lines : ℕ) (version : Version) (image : Image) (arm : ℕ) → get_or (image_bytes lines version (rearmed image arm)) 1 0 ≡ arm
+unfolding image_bytes header fields
+byte_rearmed lines version image arm = refl
 
-length_rearmed : (lines : ℕ) (image : Image) (arm : ℕ) → length (image_bytes lines (rearmed image arm)) ≡ length (image_bytes lines image)
-unfolding image_bytes header
-length_rearmed lines image arm = refl
+length_rearmed : (lines : ℕ) (version : Version) (image : Image) (arm : ℕ) → length (image_bytes lines version (rearmed image arm)) ≡ length (image_bytes lines version image)
+unfolding image_bytes header fields
+length_rearmed lines version image arm = refl
 
 -- a slot whose arm byte was written
 full_rearmed : (lines : ℕ) (slot : Slot) (old new : List ℕ) (image : Image) → length old ≡ device_size lines → slot_state lines slot old ≡ Full image
     → DiffersOnlyAt (λ k. k ≡ arm_of lines slot) old new → slot_state lines slot new ≡ Full (rearmed image (slice_index new (arm_of lines slot)))
 full_rearmed lines slot old new image size full d =
     let start : ℕ = start_of lines slot in let arm : ℕ = slice_index new (arm_of lines slot) in let n : ℕ = start + slot_size lines - start in
-    let was = image_from_full lines slot old image size full in
+    let was = image_from_full lines slot old image size full in let version : Version = was.1.0 in let bytes_are = was.1.1 in
     let fits = within lines slot in
     let long_old : length (take n (drop start old)) ≡ slot_size lines = omega (arith, length-take n (drop start old), length-drop start old, size, fits) in
     let long_new : length (take n (drop start new)) ≡ slot_size lines = omega (arith, length-take n (drop start new), length-drop start new, d.size, size, fits) in
-    let long_image : length (image_bytes lines (rearmed image arm)) ≡ slot_size lines = length_rearmed lines image arm ∙ sym (ap length was.1) ∙ long_old in
+    let long_image : length (image_bytes lines version (rearmed image arm)) ≡ slot_size lines = length_rearmed lines version image arm ∙ sym (ap length bytes_are) ∙ long_old in
     full_from_image lines slot new (rearmed image arm) (d.size ∙ size) (
       record { fits = was.0.fits; memory = was.0.memory },
-      same_number_lists (take n (drop start new)) (image_bytes lines (rearmed image arm)) (long_new ∙ sym long_image) (λ k less.
-          let small : k < n = omega (arith, long_new, less) in
-          let here : get_or (take n (drop start new)) k 0 ≡ get_or new (start + k) 0 = get_or-take n (drop start new) k 0 small ∙ get_or-drop start new k 0 in
-          let there : get_or (take n (drop start old)) k 0 ≡ get_or old (start + k) 0 = get_or-take n (drop start old) k 0 small ∙ get_or-drop start old k 0 in
-          ⊎_elim
-          (λ (at : k ≡ 1). here ∙ ap (λ (i : ℕ). get_or new (start + i) 0) at ∙ sym (byte_rearmed lines image arm) ∙ ap (λ (i : ℕ). get_or (image_bytes lines (rearmed image arm)) i 0) (sym at))
-          (λ (off : k ≢ 1).
-          here ∙ d.outside (start + k) (λ at. off (omega (arith, at))) ∙ sym there ∙ ap (λ (bytes : List ℕ). get_or bytes k 0) was.1 ∙ sym (bytes_rearmed lines image arm k off))
-          (cases_eq k 1)),
+      (
+        version,
+        same_number_lists (take n (drop start new)) (image_bytes lines version (rearmed image arm)) (long_new ∙ sym long_image) (λ k less.
+            let small : k < n = omega (arith, long_new, less) in
+            let here : get_or (take n (drop start new)) k 0 ≡ get_or new (start + k) 0 = get_or-take n (drop start new) k 0 small ∙ get_or-drop start new k 0 in
+            let there : get_or (take n (drop start old)) k 0 ≡ get_or old (start + k) 0 = get_or-take n (drop start old) k 0 small ∙ get_or-drop start old k 0 in
+            ⊎_elim
+            (λ (at : k ≡ 1). here ∙ ap (λ (i : ℕ). get_or new (start + i) 0) at ∙ sym (byte_rearmed lines version image arm) ∙ ap (λ (i : ℕ). get_or (image_bytes lines version (rearmed image arm)) i 0) (sym at))
+            (λ (off : k ≢ 1).
+            here ∙ d.outside (start + k) (λ at. off (omega (arith, at))) ∙ sym there ∙ ap (λ (bytes : List ℕ). get_or bytes k 0) bytes_are ∙ sym (bytes_rearmed lines version image arm k off))
+            (cases_eq k 1)),
+      ),
     )
 
 -- the arm byte isn't in the other slot

@@ -75,11 +75,11 @@ pub record FindsIn (closed : Bool) (slot : Slot) (image : Image) (here there : S
   pub full : here ≡ Full image
   pub behind : Behind closed image there
 
-abbrev here_of : Slot → SlotState → SlotState → SlotState
+abbrev pub here_of : Slot → SlotState → SlotState → SlotState
 here_of First s t = s
 here_of Second s t = t
 
-abbrev there_of : Slot → SlotState → SlotState → SlotState
+abbrev pub there_of : Slot → SlotState → SlotState → SlotState
 there_of First s t = t
 there_of Second s t = s
 
@@ -109,7 +109,7 @@ newer_finds slot image one two is =
         record { full = ap (λ (i : Image). Full i) same; behind = older two refl refl (subst (λ (i : Image). two.generation < i.generation) same less) }
     finds_first Second image one two less is = absurd (let bad : ⊥ = cc in bad)
 
-chosen_finds : (slot : Slot) (image : Image) (s t : SlotState) → chosen s t ≡ Found slot image → FindsIn (is_closed (there_of slot s t)) slot image (here_of slot s t) (there_of slot s t)
+pub chosen_finds : (slot : Slot) (image : Image) (s t : SlotState) → chosen s t ≡ Found slot image → FindsIn (is_closed (there_of slot s t)) slot image (here_of slot s t) (there_of slot s t)
 chosen_finds slot image Broken t is = absurd (let bad : ⊥ = cc in bad)
 chosen_finds slot image Closed Broken is = absurd (let bad : ⊥ = cc in bad)
 chosen_finds slot image Closed Closed is = absurd (let bad : ⊥ = cc in bad)

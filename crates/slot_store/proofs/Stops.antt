@@ -3,7 +3,7 @@ use Rattle.save_device.specs.Device.{Elapses}
 use Rattle.slot_store.specs.Saving.{FindsEither, FindsNew, FindsOld}
 use Rattle.slot_store.proofs.Common.{[], if◌then◌else◌, ℕ, ◌+◌, ◌<◌, ◌∙◌, ◌∷◌, ◌≡◌, ◌≤◌, ◌⊎◌, Bool, Candidates, Close, DeviceState, DiffersOnlyAt, Done, First, Full, GateShut, HasSize, Header, Image, IsInRange, IsKept, IsTrue, IsWritten, Leaves, LeavesOnly, List, MayLeave, Open, Page, Plan, Put, SavingAt, Second, Settle, Slot, Step, SyncBody, SyncClosed, SyncOpen, Touches, arith, change_of, device_size, false, gate_of, inl, inr, length, other, present, reach_of, refl, slice_index, slot_size, slot_state, start_of, sym, true, within_call, ⊎_elim}
 use Rattle.slot_store.proofs.Same.{state_same}
-use Rattle.slot_store.proofs.Torn.{length-tail, new_alone, old_alone, old_or_new, written_but_gate}
+use Rattle.slot_store.proofs.Torn.{length-behind_gate, new_alone, old_alone, old_or_new, written_but_gate}
 
 pub record InSlot (plan : Plan) (k : ℕ) : Type 0 where
   pub least : gate_of plan ≤ k
@@ -18,7 +18,7 @@ closes_gate plan page k w =
 pub writes_here : (plan : Plan) (next : Step) (page : List ℕ) (k : ℕ) → length page ≡ 4096 → reach_of next ≤ plan.lines → Touches (change_of plan next page) k → InSlot plan k
 writes_here plan Close page k n r w = let at : k ≡ gate_of plan = (closes_gate plan page k w).1 in record { least = omega arith; most = omega arith }
 writes_here plan SyncClosed page k n r w = absurd w
-writes_here plan Header page k n r w = record { least = omega (arith, w.0); most = omega (arith, w.1, length-tail plan) }
+writes_here plan Header page k n r w = record { least = omega (arith, w.0); most = omega (arith, w.1, length-behind_gate plan) }
 writes_here plan (Page i) page k n r w = record { least = omega (arith, w.0); most = omega (arith, w.1) }
 writes_here plan SyncBody page k n r w = absurd w
 writes_here plan Open page k n r w = record { least = omega (arith, w.0); most = omega (arith, w.1) }

@@ -1,11 +1,13 @@
 -- What a row restores to where the slot that is written is shut, and where all of it but the gate is written.
 use Rattle.std.proofs.Common.{drop-cons}
 use Rattle.std.proofs.lemmas.List.{take_all}
-use Rattle.save_image.proofs.Again.{header-gate, length-header, read_again}
+use Rattle.std.specs.Prelude.{None}
+use Rattle.save_image.proofs.Again.{header-gate, length-header, length-tail, read_again}
+use Rattle.save_image.specs.declared.reading.Version.TheVariants.{One}
 use Rattle.save_image.specs.declared.reading.Header.{Header}
 use Rattle.slot_store.specs.Changes.{planned}
 use Rattle.slot_store.specs.Saving.{HasHeader, HasLines}
-use Rattle.slot_store.proofs.Common.{ℕ, ◌*◌, ◌+◌, ◌-◌, ◌<◌, ◌∙◌, ◌∷◌, ◌≡◌, ◌≢◌, ◌≤◌, ◌⊎◌, Found, Full, Image, IsInRange, IsMemory, IsWritten, List, Plan, Some, ap, arith, arm_byte, body_in, device_size, drop, eqb_tells, gate_of, get_or, get_or-drop, get_or-take, header_in, holds-within, image_of, image_with, inl, inr, length, length-drop, length-take, other, overwritten, page_in, restored, same_number_lists, slice_index, slice_range, slot_size, slot_state, start_of, suc, sym, take, ⊎_elim}
+use Rattle.slot_store.proofs.Common.{[], ℕ, ◌*◌, ◌+◌, ◌-◌, ◌<◌, ◌∙◌, ◌∷◌, ◌≡◌, ◌≢◌, ◌≤◌, ◌⊎◌, Found, Full, Image, IsInRange, IsMemory, IsWritten, List, Plan, Some, ap, arith, arm_byte, body_in, device_size, drop, eqb_tells, gate_of, get_or, get_or-drop, get_or-take, header_in, holds-within, image_of, image_with, inl, inr, length, length-drop, length-take, other, overwritten, page_in, restored, same_number_lists, slice_index, slice_range, slot_size, slot_state, start_of, suc, sym, take, ⊎_elim}
 use Rattle.slot_store.proofs.Gates.{closed_gate, only_other, open_gate, the_newer}
 use Rattle.slot_store.proofs.Same.{Agree, lines_same, part_same, state_same}
 
@@ -15,18 +17,21 @@ page_split start c less =
     ap (λ (i : ℕ). take i (drop start c)) n ∙ ap (λ (xs : List ℕ). take 4096 xs) (drop-cons c start 0 less) ∙ ap (λ (i : ℕ). get_or c start 0 ∷ take 4095 (drop i c)) (let e : suc start ≡ start + 1 = omega arith in e)
 
 module _ (plan : Plan) where
-  pub length-tail : length (drop 1 (planned plan 0)) ≡ 4095
-  length-tail = length-drop 1 (planned plan 0) ∙ omega (arith, length-header 0 (arm_byte plan.armed) plan.generation plan.count plan.lines)
+  length-planned : (gate : ℕ) → length (planned plan gate) ≡ 4096
+  length-planned gate = length-header None gate (arm_byte plan.armed) plan.generation plan.count plan.lines (length-tail One [])
+
+  pub length-behind_gate : length (drop 1 (planned plan 0)) ≡ 4095
+  length-behind_gate = length-drop 1 (planned plan 0) ∙ omega (arith, length-planned 0)
 
   header_from : (c : List ℕ) → gate_of plan < length c → take 4095 (drop (gate_of plan + 1) c) ≡ drop 1 (planned plan 0) → HasHeader plan c
   header_from c less rest =
       page_split (gate_of plan) c less ∙ ap (λ (xs : List ℕ). slice_index c (gate_of plan) ∷ xs) rest
-      ∙ sym (header-gate (slice_index c (gate_of plan)) 0 (arm_byte plan.armed) plan.generation plan.count plan.lines)
+      ∙ sym (header-gate None (slice_index c (gate_of plan)) 0 (arm_byte plan.armed) plan.generation plan.count plan.lines)
 
   rest_from : (c : List ℕ) → gate_of plan < length c → HasHeader plan c → take 4095 (drop (gate_of plan + 1) c) ≡ drop 1 (planned plan 0)
   rest_from c less has =
       let one : slice_index c (gate_of plan) ∷ take 4095 (drop (gate_of plan + 1) c) ≡ slice_index c (gate_of plan) ∷ drop 1 (planned plan 0) =
-      sym (page_split (gate_of plan) c less) ∙ has ∙ header-gate (slice_index c (gate_of plan)) 0 (arm_byte plan.armed) plan.generation plan.count plan.lines in
+      sym (page_split (gate_of plan) c less) ∙ has ∙ header-gate None (slice_index c (gate_of plan)) 0 (arm_byte plan.armed) plan.generation plan.count plan.lines in
       ap (λ (xs : List ℕ). drop 1 xs) one
 
   -- the header stands where all its bytes but the gate are as they were
@@ -37,7 +42,7 @@ module _ (plan : Plan) where
   pub header_written : (bytes c : List ℕ) → gate_of plan + 4096 ≤ length bytes → length c ≡ length bytes → c ≡ overwritten bytes (gate_of plan + 1) (drop 1 (planned plan 0)) → HasHeader plan c
   header_written bytes c fits size holds =
       let at = gate_of plan + 1 in
-      let n : length (drop 1 (planned plan 0)) ≡ 4095 = length-tail in
+      let n : length (drop 1 (planned plan 0)) ≡ 4095 = length-behind_gate in
       let l : length (take 4095 (drop at c)) ≡ 4095 = omega (arith, length-take 4095 (drop at c), length-drop at c) in
       header_from c (omega (arith, size)) (same_number_lists (take 4095 (drop at c)) (drop 1 (planned plan 0)) (l ∙ sym n)
       (λ k less. let small : k < 4095 = omega (arith, l) in
@@ -59,8 +64,8 @@ module _ (plan : Plan) where
   -- a slot that is written and has an open gate holds the image
   pub holds_new : (memory : List (List ℕ)) (c : List ℕ) → IsMemory plan.lines memory → IsWritten plan memory c → slice_index c (gate_of plan) ≡ 0xA5 → slot_state plan.lines plan.slot c ≡ Full (image_of plan memory)
   holds_new memory c lines w is_open =
-      let h : Header = record { gate = slice_index c (gate_of plan); arm = arm_byte plan.armed; generation = plan.generation; count = plan.count } in
-      let said : header_in plan.lines (page_in plan.lines plan.slot c) ≡ Some h = read_again plan.lines (page_in plan.lines plan.slot c) h w.header plan.numbers in
+      let h : Header = record { gate = slice_index c (gate_of plan); arm = arm_byte plan.armed; generation = plan.generation; count = plan.count; digest = None } in
+      let said : header_in plan.lines (page_in plan.lines plan.slot c) ≡ Some h = read_again plan.lines (page_in plan.lines plan.slot c) h (ap length w.header ∙ length-planned (slice_index c (gate_of plan))) w.header plan.numbers in
       let body : body_in plan.lines plan.slot c ≡ memory = w.body ∙ take_all plan.lines memory (omega (arith, lines.size)) in
       open_gate plan.lines plan.slot c h is_open said ∙ ap (λ (m : List (List ℕ)). Full (image_with h m)) body
 

@@ -1,5 +1,5 @@
 -- What the steps of a save change.
-use Rattle.std.specs.Prelude.{◌≡◌, Bool, true, false, not, ℕ, ◌+◌, ◌*◌, if◌then◌else◌, List, [], ◌∷◌, drop}
+use Rattle.std.specs.Prelude.{◌≡◌, Bool, true, false, not, ℕ, ◌+◌, ◌*◌, if◌then◌else◌, List, [], ◌∷◌, drop, None}
 use Rattle.save_device.specs.Changes.{Change, Put, Settle}
 use Rattle.save_image.specs.Header.{header, arm_byte}
 use Rattle.save_image.specs.Body.{page_of}
@@ -14,7 +14,7 @@ gate_of plan = start_of plan.lines plan.slot
 
 -- the header of the image that is saved, with this byte as its gate
 abbrev pub planned : Plan → ℕ → List ℕ
-planned plan gate = header gate (arm_byte plan.armed) plan.generation plan.count plan.lines
+planned plan gate = header None gate (arm_byte plan.armed) plan.generation plan.count plan.lines
 
 -- What a step changes. The gate is closed, in place of a write by a sync where it is known closed and settled; then come
 -- the header but for the gate, the pages, and the open gate.

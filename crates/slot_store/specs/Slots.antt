@@ -3,7 +3,8 @@ use Rattle.std.specs.Prelude.{◌≡◌, ◌==◌, ℕ, ◌+◌, ◌*◌, ◌%�
 use Rattle.save_device.specs.Device.{DeviceState}
 use Rattle.save_image.specs.declared.reading.Header.{Header}
 use Rattle.save_image.specs.Body.{lines_in}
-use Rattle.save_image.specs.Image.{Image, header_in}
+use Rattle.std.specs.Str.{bytes_eq}
+use Rattle.save_image.specs.Image.{Image, header_in, digest_of}
 use Rattle.slot_store.specs.declared.slots.Slot.{Slot}
 use Rattle.slot_store.specs.declared.slots.Slot.TheVariants.{First, Second}
 
@@ -51,9 +52,14 @@ body_in lines slot bytes = lines_in lines (drop (start_of lines slot + 4096) byt
 abbrev pub image_with : Header → List (List ℕ) → Image
 image_with header memory = record { generation = header.generation; count = header.count; arm = header.arm; memory = memory }
 
+-- a header's digest, where it has one, is that of these lines
+abbrev pub digest_fits : Option (List ℕ) → List (List ℕ) → Bool
+digest_fits None memory = true
+digest_fits (Some digest) memory = bytes_eq digest (digest_of memory)
+
 -- an open slot with this header, if it is one, and these lines
 abbrev pub opened : Option Header → List (List ℕ) → SlotState
-opened (Some header) memory = Full (image_with header memory)
+opened (Some header) memory = if digest_fits header.digest memory then Full (image_with header memory) else Broken
 opened None memory = Broken
 
 -- a slot with this header page and these lines: the gate, byte 0, is open where it is 0xA5

@@ -2,6 +2,7 @@
 ghost use Rattle.std.specs.Prelude.{◌≡◌, ◌≢◌, ◌↔◌, ◌+◌, ◌<◌, ℕ, Bool, false, List, length, slice_range};
 ghost use Rattle.save_device.specs.Device.{DeviceState, MayLeave, present};
 ghost use Rattle.save_image.specs.Image.{Image, IsImage, image_bytes};
+ghost use Rattle.save_image.specs.declared.reading.Version.{Version};
 ghost use Rattle.slot_store.specs.declared.plan.Step.TheVariants.{Done};
 ghost use Rattle.slot_store.specs.declared.saving.SaveRun.{SaveRun};
 ghost use Rattle.slot_store.specs.declared.slots.Slot.{Slot};
@@ -12,13 +13,15 @@ ghost use Rattle.slot_store.specs.Rest.{Candidates, IsAmong, IsAtRest, IsAtRestO
 ghost use Rattle.slot_store.specs.Saving.{image_of, Leaves};
 ghost use Rattle.slot_store.specs.Runs.{plan_of, next_of, Saving, IsGivenUp};
 
-/// A slot holds an image exactly where its bytes are the image's, with the gate open, each byte of them.
+/// A slot holds an image exactly where its bytes are the image's in one of the versions, with the gate open, each byte of
+/// them.
 pub fn full_slots()
     ensures { (lines : ℕ) (slot : Slot) (bytes : List ℕ) (image : Image)
         → length bytes ≡ device_size lines
         → ((slot_state lines slot bytes ≡ Full image) ↔ (IsImage lines image
+        × ((version : Version)
         × (slice_range bytes (start_of lines slot) (start_of lines slot + slot_size lines)
-        ≡ image_bytes lines image))) }
+        ≡ image_bytes lines version image)))) }
 {}
 
 /// What a stop leaves of a device at rest: one of the candidates.
