@@ -1,4 +1,6 @@
-use Rattle.std.proofs.Common.{◌≡◌, ◌≤◌, All, subst, sym}
+use Rattle.std.proofs.Common.{◌≡◌, ◌≤◌, ◌∙◌, All, ap, subst, sym}
+use Rattle.atomic_table.specs.Seated.{TableId}
+use Rattle.mark_board.specs.SeenMarks.{AllHaveSeen, seen_marks}
 use Rattle.nv_workers.proofs.Common.{Client, IsBehind, SeenMarks, client}
 use Rattle.nv_workers.specs.Opening.{OpeningView}
 use Rattle.nv_workers.proofs.Holding.{opened_behind}
@@ -13,3 +15,9 @@ publish-requires-clause-behind g c =
 
 pub returns-clause-hosts : goal.returns-clause-hosts
 returns-clause-hosts g c = subst (λ (o : OpeningView). All (λ (h : Client). h ≡ client o.mark o.mark 0) c.in-Ok-seated.hosts.items) c.opening.view_is c.in-Ok-seated.ensures.hosts
+
+pub seated-requires-clause-seats : goal.seated-requires-clause-seats
+seated-requires-clause-seats g c =
+    let inside = c.opening.inside in
+    let board = ap (λ (o : OpeningView). o.board) c.opening.view_is ∙ c.requires.board in
+    subst (λ (b : TableId). AllHaveSeen (seen_marks b inside.mark inside.mark) inside.seats.items) board c.opening.invariant.2

@@ -1,4 +1,7 @@
-use Rattle.std.proofs.Common.{◌≡◌, ◌≤◌, [], ◌∷◌, ap, ◌∙◌, arith}
+use Rattle.std.proofs.Common.{All, List, ℕ, ◌≡◌, ◌≤◌, [], ◌∷◌, ap, subst, sym, ◌∙◌, arith}
+use Rattle.std.proofs.lemmas.Iterator.Adapters.{YieldsList-from_vec}
+use Rattle.std.proofs.lemmas.Iterator.Consumers.{YieldsList-end}
+use Rattle.std.proofs.lemmas.List.{map-id}
 use Rattle.std.proofs.lemmas.List.{length-append}
 use Rattle.std.proofs.lemmas.List.Elements.{All-push}
 use Rattle.std.proofs.lemmas.List.Sums.{sum_by-append}
@@ -17,3 +20,12 @@ loop-host-preserved g c =
       c.end_host.ensures.same ∙ before.2,
       All-push (λ (h : Client). h.persisted ≤ c.args.self.seat.persisted) c.loop-host.yielded host before.3 (omega (arith, c.end_host.ensures.below, same)),
     )
+
+pub returns-clause-marks : goal.returns-clause-marks
+returns-clause-marks g c =
+    let gives = c.into_iter-host-iterator.ensures.into_iter_gives in
+    let whole = YieldsList-end (YieldsList-from_vec c.args.hosts.items gives.0 (omega (arith, gives.1, c.args.hosts.ok))) c.loop-host.yielded c.loop-host.host-iterator c.loop-host.yielded_by c.next.result c.next.new.self c.in-None.is c.next.ensures.steps in
+    let all : c.loop-host.yielded ≡ c.args.hosts.items = sym (map-id c.loop-host.yielded) ∙ whole.0 in
+    let shown : c.args.self.seat.persisted ≡ c.args.self.recorded.running.persisted = ap (λ (m : SeenMarks). m.persisted) c.args.self.shown in
+    subst (λ (hosts : List Client). All (λ (h : Client). h.persisted ≤ c.args.self.recorded.running.persisted) hosts) all
+    (subst (λ (p : ℕ). All (λ (h : Client). h.persisted ≤ p) c.loop-host.yielded) shown c.loop-host.invariant.3)
