@@ -7,3 +7,4 @@ pub mod Answering
 pub mod Telling
 pub mod Turns
 pub mod Stories
+pub mod Doing

@@ -3,3 +3,4 @@ pub mod Replies
 pub mod Ledger
 pub mod Story
 pub mod Keeping
+pub mod Doing

@@ -2,6 +2,7 @@
 ghost use Rattle.std.specs.Prelude.{◌≡◌, ◌<◌, IfErr, IfOk, OnOk, All};
 ghost use Rattle.nv_session.specs.Sessions.{line_count_in, moment_in};
 ghost use Rattle.nv_script.specs.Line.{NamesChannelOf};
+ghost use Rattle.script_runner.specs.Doing.{Does};
 ghost use Rattle.script_runner.specs.Story.{AreAllAnswered, AreCutShort, GivesOut};
 ghost use Rattle.script_runner.specs.Keeping.{AnswersTruly, AnswersPart, AnswersWhole};
 
@@ -87,7 +88,7 @@ where
     Ok(())
 }
 
-// The answer to a turn of a line. It refuses only where there is no memory for a life.
+// Does a turn of a line with its own words, and answers by what that came to. It refuses only where there is no memory for a life.
 fn answer_of<K, A>(
     alloc: Global,
     session: &mut Session<K, A>,
@@ -99,6 +100,7 @@ where
     requires line { NamesChannelOf session.old.profile.checked.geometry line }
     ensures truly { IfOk result (λ answer. AnswersTruly K.ChannelPort (line_count_in session.old)
         line answer (moment_in session.old) (moment_in session.new)) }
+    ensures does { IfOk result (λ answer. Does line answer session.old session.new) }
     ensures fault { IfErr result GivesOut }
     ensures profile { session.new.profile ≡ session.old.profile }
 {

@@ -1,21 +1,28 @@
-use Rattle.std.proofs.Common.{refl, ap, sym, subst}
-use Rattle.script_runner.proofs.Common.{Gauge, GoesOnBy, IsOneEvent, IsWork, fuse_state, line_count_in, moment_in}
-use Rattle.script_runner.proofs.Common.{session_at, set_to}
+use Rattle.std.proofs.Common.{◌∙◌, ℕ, Option, refl, ap, sym, subst}
+use Rattle.std.specs.Option.{option_map}
+use Rattle.script_runner.proofs.Common.{Gauge, GoesOnBy, IsOneEvent, IsWork, SessionAt, Setup, Tale, fuse_state}
+use Rattle.script_runner.proofs.Common.{line_count_in, moment_in, session_at, set_to}
+use Rattle.save_device.specs.Memory.{state_of, IsPicked}
 use Rattle.save_device.specs.declared.fuse.Fuse.{Fuse}
 use Rattle.save_device.specs.declared.memory.MemoryDevice.{MemoryDevice}
+use Rattle.save_device.specs.declared.memory.Pick.{Pick}
 use Rattle.energy_budget.specs.Meter.{meter_gauge}
+use Rattle.arm_state.specs.declared.loss.Loss.{Loss}
+use Rattle.arm_state.specs.declared.mode.Mode.{Mode}
 use Rattle.nv_machine.specs.declared.events.Event.TheVariants as events
 use Rattle.nv_machine.specs.declared.events.Reply.TheVariants as replies
 use Rattle.nv_session.specs.ReadTurns.{ReadsLine}
 use Rattle.nv_session.specs.SaveTurns.{MakesSave}
-use Rattle.nv_session.specs.Turns.{GoesOnSaving, SeesLine}
+use Rattle.nv_session.specs.Turns.{GoesOnSaving, MakesStep, SeesLine}
 use Rattle.nv_session.proofs.Going.{goes_retold}
 use Rattle.nv_script.specs.declared.line.ScriptLine.TheVariants as line
 use Rattle.nv_script.specs.declared.answer.Answer.TheVariants as answer
-use Rattle.script_runner.specs.Replies.{read_told, work_told}
+use Rattle.script_runner.specs.Doing.{AreEventsOf}
+use Rattle.script_runner.specs.Replies.{write_told, read_told, work_told, step_told, save_told, arm_told, disarm_told, restore_told}
 use Rattle.script_runner.proofs.Answering.{write_truly, read_truly, work_truly, sense_truly, arm_truly, disarm_truly, save_truly, step_truly, lose_truly, regauged}
 use Rattle.script_runner.proofs.Telling.{truly_as, lie_truly, fuse_truly, mark_truly, format_truly, fault_truly, restored_truly}
 use Rattle.script_runner.proofs.Alone.{goes_alone}
+use Rattle.script_runner.proofs.Doing.{does_as, none_begins}
 use Rattle.script_runner.proofs.script.answer_of.Goals as goal
 
 pub returns-in-Ok-clause-truly : goal.returns-in-Ok-clause-truly
@@ -107,3 +114,149 @@ pub returns-in-Restore-clause-truly : goal.returns-in-Restore-clause-truly
 returns-in-Restore-clause-truly g c =
     let L = g.K.ChannelPort in let it = c.args.session.now in let lines = line_count_in it in let old = moment_in it in
     truly_as L c.in-Restore.is c.restore_answer.ensures (restored_truly L lines c.in-Restore.pick c.in-Restore.map _ c.restore.result old (moment_in c.restore.new.self) c.restore.ensures.finds c.restore.ensures.keeps c.restore.ensures.none)
+
+pub returns-in-Write-clause-does : goal.returns-in-Write-clause-does
+returns-in-Write-clause-does g c =
+    let L = g.K.ChannelPort in let it = c.args.session.now in let made = c.write.new.self in let ensures = c.write.ensures in
+    let Told : Setup → Tale = λ setup. IsOneEvent (events.Write c.in-Write.write) (replies.Write c.write.result) in
+    does_as L {said = write_told c.write.result} it made c.in-Write.is c.write_answer.ensures
+    (record {
+      comes = goes_retold L Told (AreEventsOf (line.Write c.in-Write.write) (write_told c.write.result)) (moment_in it) (moment_in made)
+          (λ setup es rs m n told. (c.write.result, refl, told)) (goes_alone L Told it made ensures.device ensures.gauge ensures.comes);
+      none = λ none. ap write_told (ensures.none none);
+    })
+
+pub returns-in-Read-clause-does : goal.returns-in-Read-clause-does
+returns-in-Read-clause-does g c =
+    let L = g.K.ChannelPort in let it = c.args.session.now in let made = c.read.new.self in let ensures = c.read.ensures in
+    let Told : Setup → Tale = λ setup. ReadsLine setup c.in-Read.line c.read.result in
+    does_as L {said = read_told c.in-Read.line c.read.result} it made c.in-Read.is c.read_answer.ensures
+    (record {
+      comes = goes_retold L Told (AreEventsOf (line.Read c.in-Read.line) (read_told c.in-Read.line c.read.result)) (moment_in it) (moment_in made)
+          (λ setup es rs m n told. (c.read.result, refl, told)) (goes_alone L Told it made ensures.device ensures.gauge ensures.comes);
+      none = λ none. ap (read_told c.in-Read.line) (ensures.none none);
+    })
+
+pub returns-in-Work-clause-does : goal.returns-in-Work-clause-does
+returns-in-Work-clause-does g c =
+    let L = g.K.ChannelPort in let it = c.args.session.now in let made = c.work.new.self in let ensures = c.work.ensures in
+    let Told : Setup → Tale = λ setup. IsWork c.in-Work.channel c.work.result in
+    does_as L {said = work_told c.in-Work.channel c.work.result} it made c.in-Work.is c.work_answer.ensures
+    (record {
+      comes = goes_retold L Told (AreEventsOf (line.Work c.in-Work.channel c.in-Work.most) (work_told c.in-Work.channel c.work.result)) (moment_in it) (moment_in made)
+          (λ setup es rs m n told. (c.work.result, refl, told)) (goes_alone L Told it made ensures.device ensures.gauge ensures.comes);
+      none = λ none. ap (work_told c.in-Work.channel) (ensures.none none);
+    })
+
+pub returns-in-Save-clause-does : goal.returns-in-Save-clause-does
+returns-in-Save-clause-does g c =
+    let L = g.K.ChannelPort in let it = c.args.session.now in let made = c.save.new.self in let ensures = c.save.ensures in
+    let Told : Setup → Tale = λ setup. MakesSave setup.shape.channels c.save.result in
+    does_as L {said = save_told c.save.result} it made c.in-Save.is c.save_answer.ensures
+    (record {
+      comes = goes_retold L Told (AreEventsOf line.Save (save_told c.save.result)) (moment_in it) (moment_in made)
+          (λ setup es rs m n told. (c.save.result, refl, told)) ensures.comes;
+      none = λ none. ap save_told (ensures.none none);
+    })
+
+pub returns-in-Step-clause-does : goal.returns-in-Step-clause-does
+returns-in-Step-clause-does g c =
+    let L = g.K.ChannelPort in let it = c.args.session.now in let made = c.step.new.self in let ensures = c.step.ensures in
+    let Told : Setup → Tale = λ setup. MakesStep c.step.result in
+    does_as L {said = step_told c.step.result} it made c.in-Step.is c.step_answer.ensures
+    (record {
+      comes = goes_retold L Told (AreEventsOf line.Step (step_told c.step.result)) (moment_in it) (moment_in made)
+          (λ setup es rs m n told. (c.step.result, refl, told)) ensures.comes;
+      none = λ none. ap step_told (ensures.none none);
+    })
+
+pub returns-in-Arm-clause-does : goal.returns-in-Arm-clause-does
+returns-in-Arm-clause-does g c =
+    let L = g.K.ChannelPort in let it = c.args.session.now in let made = c.arm.new.self in let ensures = c.arm.ensures in
+    let Told : Setup → Tale = λ setup. IsOneEvent events.Arm (replies.Arm c.arm.result) in
+    does_as L {said = arm_told c.arm.result} it made c.in-Arm.is c.arm_answer.ensures
+    (record {
+      comes = goes_retold L Told (AreEventsOf line.Arm (arm_told c.arm.result)) (moment_in it) (moment_in made)
+          (λ setup es rs m n told. (c.arm.result, refl, told)) ensures.comes;
+      none = λ none. ap arm_told (ensures.none none);
+    })
+
+pub returns-in-Disarm-clause-does : goal.returns-in-Disarm-clause-does
+returns-in-Disarm-clause-does g c =
+    let L = g.K.ChannelPort in let it = c.args.session.now in let made = c.disarm.new.self in let ensures = c.disarm.ensures in
+    let Told : Setup → Tale = λ setup. IsOneEvent events.Disarm (replies.Disarm c.disarm.result) in
+    does_as L {said = disarm_told c.disarm.result} it made c.in-Disarm.is c.disarm_answer.ensures
+    (record {
+      comes = goes_retold L Told (AreEventsOf line.Disarm (disarm_told c.disarm.result)) (moment_in it) (moment_in made)
+          (λ setup es rs m n told. (c.disarm.result, refl, told)) (goes_alone L Told it made ensures.device ensures.gauge ensures.comes);
+      none = λ none. ap disarm_told (ensures.none none);
+    })
+
+pub returns-in-Lose-clause-does : goal.returns-in-Lose-clause-does
+returns-in-Lose-clause-does g c =
+    let L = g.K.ChannelPort in let it = c.args.session.now in let made = c.lose.new.self in let ensures = c.lose.ensures in
+    let Told : Setup → Tale = λ setup. IsOneEvent events.Lose (replies.Lose c.lose.result) in
+    does_as L {said = answer.Lost c.lose.result} it made c.in-Lose.is refl
+    (record {
+      comes = goes_retold L Told (AreEventsOf line.Lose (answer.Lost c.lose.result)) (moment_in it) (moment_in made)
+          (λ setup es rs m n told. (c.lose.result, refl, told)) ensures.comes;
+      none = λ none. ap (λ (loss : Loss). answer.Lost loss) (ensures.none none);
+    })
+
+pub returns-in-Sense-clause-does : goal.returns-in-Sense-clause-does
+returns-in-Sense-clause-does g c =
+    let L = g.K.ChannelPort in let it = c.args.session.now in let level = c.in-Sense.level in
+    let made = c.sense-reading.new.self in let told = c.sense-reading.result in let ensures = c.sense-reading.ensures in
+    let Told : Setup → Tale = λ setup. IsOneEvent events.Sense (replies.Sense told.reading) in
+    let set : SessionAt L = session_at it.life (fuse_state it.device) (set_to level (meter_gauge it.gauge)) in
+    let goes : GoesOnBy L Told set (moment_in made) =
+    subst (λ (d : Fuse MemoryDevice). GoesOnBy L Told set (session_at made.life (fuse_state d) (meter_gauge made.gauge))) (sym ensures.device) (ensures.comes (fuse_state it.device)) in
+    does_as L {said = answer.Level told.reading told.mode} it made c.in-Sense.is refl (
+      record {
+        comes = goes_retold L Told (AreEventsOf (line.Sense level) (answer.Level told.reading told.mode)) set (moment_in made)
+            (λ setup es rs m n is. (told.reading, told.mode, refl, is)) goes;
+        none = λ none.
+            ap (λ (reading : ℕ). answer.Level reading told.mode) (ensures.none none)
+            ∙ ap (λ (mode : Option Mode). answer.Level level mode) (ensures.mode ∙ ap (option_map (λ life. life.mode)) (none_begins L Told set (moment_in made) goes none));
+      },
+      ensures.mode,
+    )
+
+pub returns-in-Ok-clause-does : goal.returns-in-Ok-clause-does
+returns-in-Ok-clause-does g c =
+    does_as g.K.ChannelPort c.args.session.now c.format.new.self c.in-Format.is refl (c.in-Ok.ensures.begins, record { lie = c.format.ensures.lie; gauge = c.format.ensures.gauge })
+
+pub returns-in-Err-Device-clause-does : goal.returns-in-Err-Device-clause-does
+returns-in-Err-Device-clause-does g c =
+    does_as g.K.ChannelPort c.args.session.now c.format.new.self c.in-Format.is refl (c.in-Err-Device.ensures.none, record { lie = c.format.ensures.lie; gauge = c.format.ensures.gauge })
+
+pub returns-in-Restore-clause-does : goal.returns-in-Restore-clause-does
+returns-in-Restore-clause-does g c =
+    let it = c.args.session.now in let made = c.restore.new.self in let ensures = c.restore.ensures in
+    does_as g.K.ChannelPort {said = restore_told c.restore.result} it made c.in-Restore.is c.restore_answer.ensures (
+      record {
+        result = c.restore.result;
+        told = refl;
+        picked = subst (λ (pick : Pick). IsPicked pick it.device.device (state_of made.device.device).bytes) c.unwrap_or.ensures ensures.picked;
+        revives = ensures.revives;
+        refused = ensures.refused;
+        none = ensures.none;
+      },
+      record { lie = ensures.lie; gauge = ensures.gauge },
+    )
+
+pub returns-in-Lie-clause-does : goal.returns-in-Lie-clause-does
+returns-in-Lie-clause-does g c =
+    let ensures = c.lie.ensures in
+    does_as g.K.ChannelPort c.args.session.now c.lie.new.self c.in-Lie.is refl
+    (record { told = refl; lie = ensures.lie; gauge = ensures.gauge; device = ensures.device; life = ensures.life })
+
+pub returns-in-Fuse-clause-does : goal.returns-in-Fuse-clause-does
+returns-in-Fuse-clause-does g c =
+    let ensures = c.fuse.ensures in
+    does_as g.K.ChannelPort c.args.session.now c.fuse.new.self c.in-Fuse.is refl
+    (record { told = refl; passes = ensures.passes; device = ensures.state; gauge = ensures.gauge; life = ensures.life })
+
+pub returns-in-Mark-clause-does : goal.returns-in-Mark-clause-does
+returns-in-Mark-clause-does g c =
+    does_as g.K.ChannelPort c.args.session.now c.args.session.now c.in-Mark.is refl (record { told = ap (λ (mark : ℕ). answer.Mark mark) c.mark.ensures; same = refl })
