@@ -101,3 +101,32 @@ const ENDED_FUSES: [(&str, &str); 2] = [
 fn a_fuse_ends_with_the_life(rt: HostRuntime) {
     are_answered(&rt, &ENDED_FUSES);
 }
+
+// The save's last sync fails: a stop may leave the gate of its slot closed, open or torn.
+const PICKS: [(&str, &str); 5] = [
+    (
+        "format/write 0 11/fuse 7/save/restore/read 0",
+        "formatted/accepted 0 mark 0/fuse 7/fault save/restored 1 0 Complete/line 0 = 00",
+    ),
+    (
+        "format/write 0 11/fuse 7/save/restore old/read 0",
+        "formatted/accepted 0 mark 0/fuse 7/fault save/restored 1 0 Complete/line 0 = 00",
+    ),
+    (
+        "format/write 0 11/fuse 7/save/restore new/read 0",
+        "formatted/accepted 0 mark 0/fuse 7/fault save/restored 2 1 Complete/line 0 = 11",
+    ),
+    (
+        "format/write 0 11/fuse 7/save/restore torna5/read 0",
+        "formatted/accepted 0 mark 0/fuse 7/fault save/restored 2 1 Complete/line 0 = 11",
+    ),
+    (
+        "format/write 0 11/fuse 7/save/restore torn00/read 0",
+        "formatted/accepted 0 mark 0/fuse 7/fault save/restored 1 0 Complete/line 0 = 00",
+    ),
+];
+
+#[test]
+fn what_a_pick_leaves(rt: HostRuntime) {
+    are_answered(&rt, &PICKS);
+}

@@ -68,7 +68,7 @@ fn while_disarmed(rt: HostRuntime) {
     are_answered(&rt, &DISARMED);
 }
 
-const ARMED: [(&str, &str); 6] = [
+const ARMED: [(&str, &str); 8] = [
     (
         "format/sense 3339/arm/sense 3340/arm/arm/disarm/disarm",
         "formatted/level 3339 disarmed/refused arm 1 NeedEnergy 3340 3339/level 3340 disarmed/armed/armed already/disarming/refused disarm 4 Disarming",
@@ -92,6 +92,14 @@ const ARMED: [(&str, &str); 6] = [
     (
         "format/sense 9000/arm/write 0 11/disarm/save/disarm/restore new",
         "formatted/level 9000 disarmed/armed/accepted 0 mark 1/disarming/saved 2 1/disarmed already/restored 2 1 Complete",
+    ),
+    (
+        "format/sense 9000/arm/disarm/sense 5000/save/sense 6000",
+        "formatted/level 9000 disarmed/armed/disarming/level 9000 disarming/saved 2 0/level 6000 disarmed",
+    ),
+    (
+        "format/sense 9000/arm/disarm/fuse 0/save/sense 5000",
+        "formatted/level 9000 disarmed/armed/disarming/fuse 0/fault save/level 9000 stranded",
     ),
 ];
 
@@ -210,6 +218,29 @@ fn the_map_of_the_profile(rt: HostRuntime) {
         &rt,
         script,
         "formatted/accepted 0 mark 0/0 idle/1 0 ACT 0 0 0 1",
+    );
+}
+
+const MAPS: [(&str, &str); 2] = [
+    (
+        "format/restore old xor/write 69 44/work 0 1/work 1 1",
+        "formatted/restored 1 0 Complete/accepted 0 mark 0/0 0 ACT 0 0 0 1/1 idle",
+    ),
+    (
+        "format/restore old xor/restore/write 69 44/work 0 1/work 1 1",
+        "formatted/restored 1 0 Complete/restored 1 0 Complete/accepted 0 mark 0/0 idle/1 0 ACT 0 0 0 1",
+    ),
+];
+
+#[test]
+fn the_map_of_a_restore(rt: HostRuntime) {
+    are_answered(&rt, &MAPS);
+    is_answered_with(
+        &rt,
+        "map = \"lines\"",
+        "map = \"xor\"",
+        "format/restore old lines/write 69 44/work 0 1/work 1 1",
+        "formatted/restored 1 0 Complete/accepted 0 mark 0/0 idle/1 0 ACT 0 0 0 1",
     );
 }
 
