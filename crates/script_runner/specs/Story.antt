@@ -89,3 +89,8 @@ abbrev pub GivesOut : ScriptFault → Type 0
 GivesOut fault.Writer = Unit {0}
 GivesOut fault.Memory = Unit {0}
 GivesOut (fault.Line number) = ⊥
+
+-- Why a run came to no end, by what its report refused before and then: the report refused an answer, by this fault; or it
+-- refused none, and there was no memory for the device or for a life.
+abbrev pub EndsBy : ScriptFault → List ScriptFault → List ScriptFault → Type 0
+EndsBy why old new = (GivesOut why × (new ≡ old ++ why ∷ [])) ⊎ ((why ≡ fault.Memory) × (new ≡ old))

@@ -1,9 +1,9 @@
 // Scripts over two maps of a profile.
-ghost use Rattle.std.specs.Prelude.{IfErr, OnOk, All};
+ghost use Rattle.std.specs.Prelude.{◌≡◌, IfErr, OnOk, All};
 ghost use Rattle.ddr4_timing.specs.Limits.{lines_of};
 ghost use Rattle.nv_script.specs.Line.{NamesChannelOf};
 ghost use Rattle.script_runner.specs.Wiring.{IsMapOf};
-ghost use Rattle.script_runner.specs.Story.{AreAllAnswered, AreCutShort, GivesOut};
+ghost use Rattle.script_runner.specs.Story.{AreAllAnswered, AreCutShort, EndsBy};
 
 use crate::report::{Printer, Report};
 use crate::script::answer_lines;
@@ -20,7 +20,8 @@ use std::io::Write;
 /// answers. From a format on each answer is true by the ones before it: a write's number is its place among the accepted
 /// writes, a read has its line of the memory after them, within a life no mark falls, and a restore finds a prefix of them,
 /// told Complete one that holds all that were told to be persistent, also behind one that was refused. Each line has all its
-/// answers; where the report or memory gives out, so have the lines before that one. Answers the device as the lines left it.
+/// answers; where the report or memory gives out, so have the lines before that one. It gives the fault by which the report
+/// refused an answer, or `Memory` where it refused none. Answers the device as the lines left it.
 pub fn run_lines<M: LineMap, R: Report>(
     alloc: Global,
     profile: &Profile,
@@ -36,7 +37,9 @@ pub fn run_lines<M: LineMap, R: Report>(
         lines.now (R.answers report.old) (R.answers report.new)) }
     ensures cut { IfErr result (λ fault. AreCutShort (lines_of profile.now.checked.geometry)
         lines.now (R.answers report.old) (R.answers report.new)) }
-    ensures fault { IfErr result GivesOut }
+    ensures unrefused { OnOk result (R.refusals report.new ≡ R.refusals report.old) }
+    ensures fault { IfErr result (λ fault. EndsBy fault
+        (R.refusals report.old) (R.refusals report.new)) }
 {
     let wiring = Wiring::new(lines_map, xor_map, profile);
     let mut session = Session::new(alloc, profile, wiring)?;

@@ -3,7 +3,7 @@ ghost use Rattle.std.specs.Prelude.{◌≡◌, ◌<◌, IfErr, IfOk, OnOk, All};
 ghost use Rattle.nv_session.specs.Sessions.{line_count_in, moment_in};
 ghost use Rattle.nv_script.specs.Line.{NamesChannelOf};
 ghost use Rattle.script_runner.specs.Doing.{Does};
-ghost use Rattle.script_runner.specs.Story.{AreAllAnswered, AreCutShort, GivesOut};
+ghost use Rattle.script_runner.specs.Story.{AreAllAnswered, AreCutShort, EndsBy};
 ghost use Rattle.script_runner.specs.Keeping.{AnswersTruly, AnswersPart, AnswersWhole};
 
 use crate::answers::{
@@ -33,7 +33,9 @@ where
         lines.now (R.answers report.old) (R.answers report.new)) }
     ensures cut { IfErr result (λ fault. AreCutShort (line_count_in session.old)
         lines.now (R.answers report.old) (R.answers report.new)) }
-    ensures fault { IfErr result GivesOut }
+    ensures unrefused { OnOk result (R.refusals report.new ≡ R.refusals report.old) }
+    ensures fault { IfErr result (λ fault. EndsBy fault
+        (R.refusals report.old) (R.refusals report.new)) }
 {
     for line in lines {
         answer_line(alloc, session, *line, report)?;
@@ -75,7 +77,9 @@ where
         (moment_in session.old) (moment_in session.new)) }
     ensures part { IfErr result (λ fault. AnswersPart K.ChannelPort (line_count_in session.old) line
         (R.answers report.old) (R.answers report.new) (moment_in session.old)) }
-    ensures fault { IfErr result GivesOut }
+    ensures unrefused { OnOk result (R.refusals report.new ≡ R.refusals report.old) }
+    ensures fault { IfErr result (λ fault. EndsBy fault
+        (R.refusals report.old) (R.refusals report.new)) }
     ensures profile { session.new.profile ≡ session.old.profile }
 {
     for _turn in 0..turns_of(line) {
@@ -101,7 +105,7 @@ where
     ensures truly { IfOk result (λ answer. AnswersTruly K.ChannelPort (line_count_in session.old)
         line answer (moment_in session.old) (moment_in session.new)) }
     ensures does { IfOk result (λ answer. Does line answer session.old session.new) }
-    ensures fault { IfErr result GivesOut }
+    ensures fault { IfErr result (λ fault. fault ≡ ScriptFault.Memory) }
     ensures profile { session.new.profile ≡ session.old.profile }
 {
     Ok(match line {

@@ -8,6 +8,7 @@ use Rattle.script_runner.proofs.script.answer_line.Goals as goal
 pub loop-turn-init : goal.loop-turn-init
 loop-turn-init g c = record {
   profile = refl;
+  unrefused = refl;
   turns = turns_begin g.K.ChannelPort (line_count_in c.args.session.now) c.args.line (g.R.Report.answers c.args.report.now) (moment_in c.args.session.now);
 }
 
@@ -24,6 +25,7 @@ loop-turn-preserved g c =
     let answers = g.R.Report.answers in let old = c.args.session.now in let mid = c.loop-turn.session in let new = c.answer_of.new.session in
     record {
       profile = c.answer_of.ensures.profile ∙ c.loop-turn.invariant.profile;
+      unrefused = c.in_ok-answer-2.ensures.unrefused ∙ c.loop-turn.invariant.unrefused;
       turns = turns_grow g.K.ChannelPort (line_count_in old) c.args.line (line_count_in mid) (ap (λ (profile : Profile). lines_of profile.checked.geometry) c.loop-turn.invariant.profile) c.loop-turn._turn
           c.in_ok-answer.answer (answers c.args.report.now) (answers c.loop-turn.report) (answers c.answer.new.self) (moment_in old) (moment_in mid) (moment_in new)
           c.loop-turn.invariant.turns c.in_ok-answer.ensures.truly c.in_ok-answer-2.ensures.taken (sym c.is_busy.ensures ∙ c.if-not-is_busy.false);

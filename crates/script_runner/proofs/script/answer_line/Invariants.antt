@@ -7,5 +7,6 @@ invariant-loop-turn g l =
     let old = l.initial.session in
     record {
       profile : l.session.profile ≡ old.profile;
+      unrefused : g.R.Report.refusals l.report ≡ g.R.Report.refusals l.initial.report;
       turns : AnswersTurns g.K.ChannelPort (line_count_in old) l._turn l.line (g.R.Report.answers l.initial.report) (g.R.Report.answers l.report) (moment_in old) (moment_in l.session);
     }

@@ -21,6 +21,7 @@ answer_line-requires g c =
 pub loop-line-init : goal.loop-line-init
 loop-line-init g c = record {
   profile = refl;
+  unrefused = refl;
   through = through_begins g.K.ChannelPort (line_count_in c.args.session.now) (g.R.Report.answers c.args.report.now) (moment_in c.args.session.now);
 }
 
@@ -29,6 +30,7 @@ loop-line-preserved g c =
     let answers = g.R.Report.answers in let old = c.args.session.now in let mid = c.loop-line.session in
     record {
       profile = c.answer_line.ensures.profile ∙ c.loop-line.invariant.profile;
+      unrefused = c.in_ok-answer_line.ensures.unrefused ∙ c.loop-line.invariant.unrefused;
       through = through_grows g.K.ChannelPort (line_count_in old) (line_count_in mid) (ap (λ (profile : Profile). lines_of profile.checked.geometry) c.loop-line.invariant.profile) c.args.lines.now c.loop-line.line-index Format
           (answers c.args.report.now) (answers c.loop-line.report) (answers c.answer_line.new.report) (moment_in mid) (moment_in c.answer_line.new.session)
           c.loop-line-test.true c.loop-line.invariant.through c.in_ok-answer_line.ensures.whole;

@@ -7,5 +7,6 @@ invariant-loop-line g l =
     let old = l.initial.session in
     record {
       profile : l.session.profile ≡ old.profile;
+      unrefused : g.R.Report.refusals l.report ≡ g.R.Report.refusals l.initial.report;
       through : GoesThrough g.K.ChannelPort (line_count_in old) (take l.line-index l.lines) (g.R.Report.answers l.initial.report) (g.R.Report.answers l.report) (moment_in l.session);
     }
