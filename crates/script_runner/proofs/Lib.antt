@@ -8,3 +8,4 @@ pub mod Telling
 pub mod Turns
 pub mod Stories
 pub mod Doing
+pub mod Runs

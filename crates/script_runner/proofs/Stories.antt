@@ -57,14 +57,14 @@ nearly_push lines asked old mid new answered next whole grown holds =
     }
 
 module _ {K : Type 0} (L : Ghosts K) (lines : ℕ) where
-  pub through_begins : (old : List Answer) (at : SessionAt L) → GoesThrough L lines [] old old at
+  abbrev pub through_begins : (old : List Answer) (at : SessionAt L) → GoesThrough L lines [] old old at
   through_begins old at = record {
     answered = none_answered lines old old refl;
     whole = All-nil IsWhole;
     bears = λ ledger is. absurd (none-some ledger is);
   }
 
-  abbrev pushed : (asked : List ScriptLine) (line : ScriptLine) (old mid new : List Answer) (last next : SessionAt L) → GoesThrough L lines asked old mid last
+  abbrev pub pushed : (asked : List ScriptLine) (line : ScriptLine) (old mid new : List Answer) (last next : SessionAt L) → GoesThrough L lines asked old mid last
       → AnswersWhole L lines line mid new last next → GoesThrough L lines (asked ++ line ∷ []) old new next
   pushed asked line old mid new last next through whole =
       let exchange : Exchange = record { asked = line; answers = whole.line.part.given } in

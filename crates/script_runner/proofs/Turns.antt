@@ -32,7 +32,7 @@ module _ {K : Type 0} (L : Ghosts K) (lines : ℕ) (asked : ScriptLine) where
         keeps = λ known bears. subst (λ (k : Option Ledger). BearsOut L lines k next) (sym (known_push asked given answer known)) (then known bears).bears;
       }
 
-  pub turns_begin : (old : List Answer) (at : SessionAt L) → AnswersTurns L lines 0 asked old old at at
+  abbrev pub turns_begin : (old : List Answer) (at : SessionAt L) → AnswersTurns L lines 0 asked old old at at
   turns_begin old at = record {
     line = record {
       part = record { given = []; grown_by = sym (append-nil old); holds = λ known bears. tt };
@@ -41,7 +41,7 @@ module _ {K : Type 0} (L : Ghosts K) (lines : ℕ) (asked : ScriptLine) where
     taken = record { busy = All-nil (λ (answer : Answer). is_busy answer ≡ true); count = refl };
   }
 
-  pub turns_grow : (other : ℕ) → other ≡ lines → (turns : ℕ) (answer : Answer) (old mid new : List Answer) (first last next : SessionAt L)
+  abbrev pub turns_grow : (other : ℕ) → other ≡ lines → (turns : ℕ) (answer : Answer) (old mid new : List Answer) (first last next : SessionAt L)
       → AnswersTurns L lines turns asked old mid first last → AnswersTruly L other asked answer last next → new ≡ mid ++ answer ∷ [] → is_busy answer ≡ true
       → AnswersTurns L lines (turns + 1) asked old new first next
   turns_grow other same turns answer old mid new first last next so_far truly more busy =
@@ -55,13 +55,13 @@ module _ {K : Type 0} (L : Ghosts K) (lines : ℕ) (asked : ScriptLine) where
         };
       }
 
-  pub turns_end : (turns : ℕ) (old new : List Answer) (first last : SessionAt L) → AnswersTurns L lines turns asked old new first last → turns ≡ turns_of asked → AnswersWhole L lines asked old new first last
+  abbrev pub turns_end : (turns : ℕ) (old new : List Answer) (first last : SessionAt L) → AnswersTurns L lines turns asked old new first last → turns ≡ turns_of asked → AnswersWhole L lines asked old new first last
   turns_end turns old new first last so_far all = record {
     line = so_far.line;
     whole = inl (subst (λ (n : ℕ). TakesTurns n so_far.line.part.given) all so_far.taken);
   }
 
-  pub turns_idle : (other : ℕ) → other ≡ lines → (turns : ℕ) (answer : Answer) (old mid new : List Answer) (first last next : SessionAt L)
+  abbrev pub turns_idle : (other : ℕ) → other ≡ lines → (turns : ℕ) (answer : Answer) (old mid new : List Answer) (first last next : SessionAt L)
       → AnswersTurns L lines turns asked old mid first last → AnswersTruly L other asked answer last next → new ≡ mid ++ answer ∷ [] → is_busy answer ≡ false
       → turns < turns_of asked → AnswersWhole L lines asked old new first next
   turns_idle other same turns answer old mid new first last next so_far truly more idle early = record {

@@ -1,5 +1,5 @@
 -- What each line of a script does at a session, and which answer tells of it.
-use Rattle.std.specs.Prelude.{◌≡◌, ℕ, ◌-◌, ◌^◌, List, Result, Option, Some, None, IfErr, IfOk, unwrap_or}
+use Rattle.std.specs.Prelude.{◌≡◌, ℕ, ◌-◌, ◌^◌, List, [], ◌∷◌, Result, Option, Some, None, IfErr, IfOk, unwrap_or}
 use Rattle.std.specs.Option.{option_map}
 use Rattle.ddr4_timing.specs.declared.command.Stamped.{Stamped}
 use Rattle.interleave_map.specs.declared.ready.Interleaving.{Interleaving}
@@ -45,6 +45,7 @@ use Rattle.nv_script.specs.declared.line.ScriptLine.{ScriptLine}
 use Rattle.nv_script.specs.declared.line.ScriptLine.TheVariants as line
 use Rattle.nv_script.specs.declared.answer.Answer.{Answer}
 use Rattle.nv_script.specs.declared.answer.Answer.TheVariants as answer
+use Rattle.script_runner.specs.Story.{Exchange}
 use Rattle.script_runner.specs.Replies.{write_told, read_told, work_told, step_told, save_told, arm_told, disarm_told, restore_told}
 
 -- The events of a line where a life runs: those of the session's call with the line's words. The answer tells of its result.
@@ -150,3 +151,13 @@ module _ {K A : Type 0} {L : Ghosts K} {W : wires.Ghosts A K} where
   Does (line.Fuse calls) given old new = Fuses calls given old new
   Does line.Mark given old new = Marks given old new
   Does asked given old new = GoesOnBehind asked given old new
+
+  -- it is done once for each of these answers, in turn
+  abbrev pub DoesEach : ScriptLine → List Answer → Session K A L W → Session K A L W → Type 0
+  DoesEach asked [] old new = new ≡ old
+  DoesEach asked (given ∷ later) old new = (mid : Session K A L W) × Does asked given old mid × DoesEach asked later mid new
+
+  -- lines are done, in turn, each with its answers
+  abbrev pub DoesAll : List Exchange → Session K A L W → Session K A L W → Type 0
+  DoesAll [] old new = new ≡ old
+  DoesAll (exchange ∷ later) old new = (mid : Session K A L W) × DoesEach exchange.asked exchange.answers old mid × DoesAll later mid new

@@ -4,3 +4,4 @@ pub mod Ledger
 pub mod Story
 pub mod Keeping
 pub mod Doing
+pub mod Runs

@@ -8,5 +8,5 @@ mod script;
 mod wiring;
 
 pub use report::{Printer, Report};
-pub use running::{run_lines, run_script};
+pub use running::{do_lines, run_lines, run_script};
 pub use wiring::Wiring;

@@ -1,17 +1,20 @@
 // Scripts over two maps of a profile.
-ghost use Rattle.std.specs.Prelude.{◌≡◌, IfErr, OnOk, All};
+ghost use Rattle.std.specs.Prelude.{◌≡◌, IfErr, IfOk, OnOk, All};
 ghost use Rattle.ddr4_timing.specs.Limits.{lines_of};
 ghost use Rattle.nv_script.specs.Line.{NamesChannelOf};
 ghost use Rattle.script_runner.specs.Wiring.{IsMapOf};
+ghost use Rattle.script_runner.specs.Runs.{IsRun};
 ghost use Rattle.script_runner.specs.Story.{AreAllAnswered, AreCutShort, EndsBy};
 
 use crate::report::{Printer, Report};
 use crate::script::answer_lines;
 use crate::wiring::Wiring;
+use channel_port::ChannelPort;
+use ddr4_port::Ddr4Port;
 use interleave_map::line_map::LineMap;
 use nv_profile::Profile;
 use nv_script::{ScriptFault, ScriptLine, read_script};
-use nv_session::Session;
+use nv_session::{Session, Wires};
 use save_device::MemoryDevice;
 use std::alloc::Global;
 use std::io::Write;
@@ -35,6 +38,33 @@ pub fn run_lines<M: LineMap, R: Report>(
     requires xor_map { IsMapOf M.LineMap profile.now.checked.geometry xor_map.now }
     ensures answered { OnOk result (AreAllAnswered (lines_of profile.now.checked.geometry)
         lines.now (R.answers report.old) (R.answers report.new)) }
+    ensures cut { IfErr result (λ fault. AreCutShort (lines_of profile.now.checked.geometry)
+        lines.now (R.answers report.old) (R.answers report.new)) }
+    ensures unrefused { OnOk result (R.refusals report.new ≡ R.refusals report.old) }
+    ensures fault { IfErr result (λ fault. EndsBy fault
+        (R.refusals report.old) (R.refusals report.new)) }
+{
+    do_lines(alloc, profile, lines, lines_map, xor_map, report)
+}
+
+/// Runs lines as `run_lines` does, which makes this call. The session begins with no life, a device of zero bytes and a gauge
+/// that shows 0; it does line by line, each with the line's own words, and each answer tells of what its line did.
+pub fn do_lines<'m, M: LineMap, R: Report>(
+    alloc: Global,
+    profile: &Profile,
+    lines: &[ScriptLine],
+    lines_map: &'m M,
+    xor_map: &'m M,
+    report: &mut R,
+) -> Result<MemoryDevice, ScriptFault>
+    requires lines { All (NamesChannelOf profile.now.checked.geometry) lines.now }
+    requires lines_map { IsMapOf M.LineMap profile.now.checked.geometry lines_map.now }
+    requires xor_map { IsMapOf M.LineMap profile.now.checked.geometry xor_map.now }
+    ensures answered { OnOk result (AreAllAnswered (lines_of profile.now.checked.geometry)
+        lines.now (R.answers report.old) (R.answers report.new)) }
+    ensures runs { IfOk result (λ device. IsRun ⟦<Ddr4Port<'m, M> as ChannelPort>⟧
+        ⟦<Wiring<'m, M> as Wires<Ddr4Port<'m, M>>>⟧ profile.now
+        lines.now (R.answers report.old) (R.answers report.new) device) }
     ensures cut { IfErr result (λ fault. AreCutShort (lines_of profile.now.checked.geometry)
         lines.now (R.answers report.old) (R.answers report.new)) }
     ensures unrefused { OnOk result (R.refusals report.new ≡ R.refusals report.old) }

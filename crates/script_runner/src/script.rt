@@ -3,8 +3,9 @@ ghost use Rattle.std.specs.Prelude.{◌≡◌, ◌<◌, IfErr, IfOk, OnOk, All};
 ghost use Rattle.nv_session.specs.Sessions.{line_count_in, moment_in};
 ghost use Rattle.nv_script.specs.Line.{NamesChannelOf};
 ghost use Rattle.script_runner.specs.Doing.{Does};
-ghost use Rattle.script_runner.specs.Story.{AreAllAnswered, AreCutShort, EndsBy};
-ghost use Rattle.script_runner.specs.Keeping.{AnswersTruly, AnswersPart, AnswersWhole};
+ghost use Rattle.script_runner.specs.Runs.{AreAllDone, DoesLine};
+ghost use Rattle.script_runner.specs.Story.{AreCutShort, EndsBy};
+ghost use Rattle.script_runner.specs.Keeping.{AnswersTruly, AnswersPart};
 
 use crate::answers::{
     arm_answer, disarm_answer, read_answer, restore_answer, save_answer, step_answer, work_answer,
@@ -17,7 +18,7 @@ use nv_session::{FormatError, Level, Session, Wires};
 use save_device::Pick;
 use std::alloc::Global;
 
-/// Runs lines, and reports their answers.
+/// Does lines, and reports their answers.
 pub(crate) fn answer_lines<K, A, R>(
     alloc: Global,
     session: &mut Session<K, A>,
@@ -29,8 +30,8 @@ where
     A: Wires<K> + Drop,
     R: Report,
     requires names { All (NamesChannelOf session.old.profile.checked.geometry) lines.now }
-    ensures answered { OnOk result (AreAllAnswered (line_count_in session.old)
-        lines.now (R.answers report.old) (R.answers report.new)) }
+    ensures done { OnOk result (AreAllDone (line_count_in session.old)
+        lines.now (R.answers report.old) (R.answers report.new) session.old session.new) }
     ensures cut { IfErr result (λ fault. AreCutShort (line_count_in session.old)
         lines.now (R.answers report.old) (R.answers report.new)) }
     ensures unrefused { OnOk result (R.refusals report.new ≡ R.refusals report.old) }
@@ -60,7 +61,7 @@ fn is_busy(answer: Answer) -> bool
     !matches!(answer, Answer::Idle { .. })
 }
 
-// Runs one line and reports its answers.
+// Does one line, turn by turn, and reports its answers.
 fn answer_line<K, A, R>(
     alloc: Global,
     session: &mut Session<K, A>,
@@ -72,9 +73,8 @@ where
     A: Wires<K> + Drop,
     R: Report,
     requires line { NamesChannelOf session.old.profile.checked.geometry line }
-    ensures whole { OnOk result (AnswersWhole K.ChannelPort (line_count_in session.old) line
-        (R.answers report.old) (R.answers report.new)
-        (moment_in session.old) (moment_in session.new)) }
+    ensures done { OnOk result (DoesLine (line_count_in session.old) line
+        (R.answers report.old) (R.answers report.new) session.old session.new) }
     ensures part { IfErr result (λ fault. AnswersPart K.ChannelPort (line_count_in session.old) line
         (R.answers report.old) (R.answers report.new) (moment_in session.old)) }
     ensures unrefused { OnOk result (R.refusals report.new ≡ R.refusals report.old) }

@@ -1,5 +1,6 @@
 use Rattle.std.proofs.Common.{◌≡◌}
-use Rattle.script_runner.proofs.Common.{AnswersTurns, line_count_in, moment_in}
+use Rattle.script_runner.proofs.Common.{line_count_in}
+use Rattle.script_runner.specs.Runs.{DoesTurns}
 use Rattle.script_runner.proofs.script.answer_line.Given as goal
 
 abbrev pub invariant-loop-turn : goal.invariant-loop-turn
@@ -8,5 +9,5 @@ invariant-loop-turn g l =
     record {
       profile : l.session.profile ≡ old.profile;
       unrefused : g.R.Report.refusals l.report ≡ g.R.Report.refusals l.initial.report;
-      turns : AnswersTurns g.K.ChannelPort (line_count_in old) l._turn l.line (g.R.Report.answers l.initial.report) (g.R.Report.answers l.report) (moment_in old) (moment_in l.session);
+      turns : DoesTurns (line_count_in old) l._turn l.line (g.R.Report.answers l.initial.report) (g.R.Report.answers l.report) old l.session;
     }

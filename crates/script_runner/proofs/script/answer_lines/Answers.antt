@@ -6,7 +6,8 @@ use Rattle.nv_script.specs.Line.{NamesChannelOf}
 use Rattle.nv_script.specs.declared.line.ScriptLine.TheVariants.{Format}
 use Rattle.script_runner.specs.Story.{AreCutShort}
 use Rattle.script_runner.proofs.Results.{if_err_so}
-use Rattle.script_runner.proofs.Stories.{through_begins, through_grows, through_cut, through_ends}
+use Rattle.script_runner.proofs.Runs.{lines_begin, lines_grow, lines_end}
+use Rattle.script_runner.proofs.Stories.{through_cut}
 use Rattle.script_runner.proofs.script.answer_lines.Goals as goal
 
 pub answer_line-requires : goal.answer_line-requires
@@ -22,7 +23,7 @@ pub loop-line-init : goal.loop-line-init
 loop-line-init g c = record {
   profile = refl;
   unrefused = refl;
-  through = through_begins g.K.ChannelPort (line_count_in c.args.session.now) (g.R.Report.answers c.args.report.now) (moment_in c.args.session.now);
+  done = lines_begin (line_count_in c.args.session.now) (g.R.Report.answers c.args.report.now) c.args.session.now;
 }
 
 pub loop-line-preserved : goal.loop-line-preserved
@@ -31,9 +32,9 @@ loop-line-preserved g c =
     record {
       profile = c.answer_line.ensures.profile ∙ c.loop-line.invariant.profile;
       unrefused = c.in_ok-answer_line.ensures.unrefused ∙ c.loop-line.invariant.unrefused;
-      through = through_grows g.K.ChannelPort (line_count_in old) (line_count_in mid) (ap (λ (profile : Profile). lines_of profile.checked.geometry) c.loop-line.invariant.profile) c.args.lines.now c.loop-line.line-index Format
-          (answers c.args.report.now) (answers c.loop-line.report) (answers c.answer_line.new.report) (moment_in mid) (moment_in c.answer_line.new.session)
-          c.loop-line-test.true c.loop-line.invariant.through c.in_ok-answer_line.ensures.whole;
+      done = lines_grow (line_count_in old) (line_count_in mid) (ap (λ (profile : Profile). lines_of profile.checked.geometry) c.loop-line.invariant.profile) c.args.lines.now c.loop-line.line-index Format
+          (answers c.args.report.now) (answers c.loop-line.report) (answers c.answer_line.new.report) old mid c.answer_line.new.session
+          c.loop-line-test.true c.loop-line.invariant.done c.in_ok-answer_line.ensures.done;
     }
 
 pub returns-in_err-answer_line-clause-cut : goal.returns-in_err-answer_line-clause-cut
@@ -42,10 +43,10 @@ returns-in_err-answer_line-clause-cut g c =
     if_err_so c.from_residual.result (AreCutShort (line_count_in old) c.args.lines.now (answers c.args.report.now) (answers c.answer_line.new.report))
     (through_cut g.K.ChannelPort (line_count_in old) (line_count_in mid) (ap (λ (profile : Profile). lines_of profile.checked.geometry) c.loop-line.invariant.profile) c.args.lines.now c.loop-line.line-index Format
     (answers c.args.report.now) (answers c.loop-line.report) (answers c.answer_line.new.report) (moment_in mid)
-    c.loop-line-test.true c.loop-line.invariant.through c.in_err-answer_line.ensures.part)
+    c.loop-line-test.true c.loop-line.invariant.done.through c.in_err-answer_line.ensures.part)
 
-pub returns-clause-answered : goal.returns-clause-answered
-returns-clause-answered g c =
+pub returns-clause-done : goal.returns-clause-done
+returns-clause-done g c =
     let answers = g.R.Report.answers in
     let all : c.loop-line.line-index ≡ length c.args.lines.now = search rules in
-    through_ends g.K.ChannelPort (line_count_in c.args.session.now) c.args.lines.now c.loop-line.line-index (answers c.args.report.now) (answers c.loop-line.report) (moment_in c.loop-line.session) all c.loop-line.invariant.through
+    lines_end (line_count_in c.args.session.now) c.args.lines.now c.loop-line.line-index (answers c.args.report.now) (answers c.loop-line.report) c.args.session.now c.loop-line.session all c.loop-line.invariant.done

@@ -2,10 +2,11 @@ use Rattle.std.proofs.Common.{refl, sym, subst, All}
 use Rattle.ddr4_timing.specs.Limits.{lines_of}
 use Rattle.nv_profile.specs.declared.profile.Profile.{Profile}
 use Rattle.nv_script.specs.Line.{NamesChannelOf}
+use Rattle.script_runner.specs.Runs.{AreAllDone}
 use Rattle.script_runner.specs.Story.{AreCutShort}
 use Rattle.script_runner.proofs.Results.{if_err_so}
 use Rattle.script_runner.proofs.Stories.{cut_first}
-use Rattle.script_runner.proofs.running.run_lines.Goals as goal
+use Rattle.script_runner.proofs.running.do_lines.Goals as goal
 
 pub returns-in_err-session-clause-cut : goal.returns-in_err-session-clause-cut
 returns-in_err-session-clause-cut g c =
@@ -16,3 +17,15 @@ pub answer_lines-requires : goal.answer_lines-requires
 answer_lines-requires g c =
     let Names : Profile → Type 0 = λ profile. All (NamesChannelOf profile.checked.geometry) c.args.lines.now in
     record { names = subst Names (sym c.in_ok-session.ensures.profile) c.requires.lines }
+
+pub returns-clause-runs : goal.returns-clause-runs
+returns-clause-runs g c =
+    let made = c.in_ok-session.ensures in let first = c.in_ok-session.session in let last = c.answer_lines.new.session in
+    let before = g.R.Report.answers c.args.report.now in let after = g.R.Report.answers c.answer_lines.new.report in
+    record {
+      first = first;
+      last = last;
+      begins = record { profile_is = made.profile; life = made.life; bytes = made.device; passes = made.passes; level = made.gauge };
+      done = subst (λ (profile : Profile). AreAllDone (lines_of profile.checked.geometry) c.args.lines.now before after first last) made.profile c.in_ok-answer_lines.ensures.done;
+      device_is = c.into_device.ensures;
+    }

@@ -1,0 +1,55 @@
+-- What a session does at the lines of a script, with answers that are true of it.
+use Rattle.std.specs.Prelude.{◌≡◌, ℕ, ◌-◌, ◌^◌, List, None, replicate}
+use Rattle.ddr4_timing.specs.Limits.{lines_of}
+use Rattle.save_device.specs.Memory.{state_of}
+use Rattle.save_device.specs.declared.memory.MemoryDevice.{MemoryDevice}
+use Rattle.slot_store.specs.Slots.{device_size}
+use Rattle.energy_budget.specs.Meter.{level_of}
+use Rattle.channel_port.specs.declared.port.ChannelPort.{Ghosts}
+use Rattle.nv_profile.specs.declared.profile.Profile.{Profile}
+use Rattle.nv_session.specs.declared.session.Session.{Session}
+use Rattle.nv_session.specs.declared.wires.Wires as wires
+use Rattle.nv_session.specs.Sessions.{moment_in}
+use Rattle.nv_script.specs.declared.line.ScriptLine.{ScriptLine}
+use Rattle.nv_script.specs.declared.answer.Answer.{Answer}
+use Rattle.script_runner.specs.Doing.{DoesAll, DoesEach}
+use Rattle.script_runner.specs.Keeping.{AnswersTurns, AnswersWhole, GoesThrough}
+use Rattle.script_runner.specs.Story.{AreAllAnswered}
+
+module _ {K A : Type 0} {L : Ghosts K} {W : wires.Ghosts A K} where
+  -- so many turns of a line were answered, and each answer tells what its turn did
+  pub record DoesTurns (lines turns : ℕ) (asked : ScriptLine) (before after : List Answer) (old new : Session K A L W) : Type 0 where
+    pub answers : AnswersTurns L lines turns asked before after (moment_in old) (moment_in new)
+    pub does : DoesEach asked answers.line.part.given old new
+
+  -- all of them
+  pub record DoesLine (lines : ℕ) (asked : ScriptLine) (before after : List Answer) (old new : Session K A L W) : Type 0 where
+    pub answers : AnswersWhole L lines asked before after (moment_in old) (moment_in new)
+    pub does : DoesEach asked answers.line.part.given old new
+
+  -- lines were answered from the beginning of a session on, and each answer tells what it did
+  pub record DoesLines (lines : ℕ) (asked : List ScriptLine) (before after : List Answer) (first new : Session K A L W) : Type 0 where
+    pub through : GoesThrough L lines asked before after (moment_in new)
+    pub does : DoesAll through.answered.story first new
+
+  -- these were the lines of a script
+  pub record AreAllDone (lines : ℕ) (asked : List ScriptLine) (before after : List Answer) (first last : Session K A L W) : Type 0 where
+    pub all : AreAllAnswered lines asked before after
+    pub does : DoesAll all.answered.story first last
+
+  -- a session before its first line: no life runs, the device has zero bytes and passes all calls, and the gauge shows 0
+  pub record IsNew (profile : Profile) (session : Session K A L W) : Type 0 where
+    pub profile_is : session.profile ≡ profile
+    pub life : session.life ≡ None
+    pub bytes : (state_of session.device.device).bytes ≡ replicate (device_size (lines_of profile.checked.geometry)) 0
+    pub passes : session.device.left ≡ 2 ^ 64 - 1
+    pub level : level_of session.gauge ≡ 0
+
+-- The lines of a script are done by a new session, in turn: their answers are those that were reported, and tell what each did.
+-- The device is the session's at the end.
+pub record IsRun {K A : Type 0} (L : Ghosts K) (W : wires.Ghosts A K) (profile : Profile) (asked : List ScriptLine) (before after : List Answer) (device : MemoryDevice) : Type 0 where
+  pub first : Session K A L W
+  pub last : Session K A L W
+  pub begins : IsNew profile first
+  pub done : AreAllDone (lines_of profile.checked.geometry) asked before after first last
+  pub device_is : device ≡ last.device.device
