@@ -4,10 +4,11 @@ ghost use Rattle.std.specs.Process.{exit_status};
 ghost use Rattle.command_line.specs.declared.command.Fault.TheVariants.{Memory};
 ghost use Rattle.command_line.specs.Exit.{IsOfWords, IsOfNoFile};
 
+use crate::crash::{write_crash, write_line};
 use crate::maps::run_on_maps;
 use crate::store::{STORE_BYTES, show_store};
 use clap::error::ErrorKind;
-use clap::{Arg, ArgAction, ArgMatches, Command, Error as UsageError};
+use clap::{Arg, ArgAction, ArgMatches, Command, Error as UsageError, value_parser};
 use command_trace::{Source, TraceFault};
 use nv_profile::{MOST_BYTES, Profile, ProfileFault, TINY, read_profile};
 use nv_script::{SCRIPT_BYTES, ScriptFault};
@@ -19,6 +20,7 @@ use std::fs::{self, File};
 use std::io::{self, Eprint, Input, Print, Read, Write};
 use std::process::ExitCode;
 use std::rt::Files;
+use std::time::Clock;
 use thiserror::Error;
 
 /// The program's version.
@@ -42,6 +44,9 @@ pub enum Fault<'a> {
     /// The line of a trace is no command.
     #[error("trace line {0}")]
     Trace(u64),
+    /// The script runs no line of this number.
+    #[error("no line {0}")]
+    NoLine(u64),
     #[error("memory")]
     Memory,
 }
@@ -90,9 +95,14 @@ pub fn words_of<R: Env + AllocGlobal>(rt: &R) -> Result<Vec<String>, Fault<'stat
 ///
 /// Faults are found in this order: of the words, of the profile, of the script or the trace, of the run. Nothing is written
 /// before the last of these.
-pub fn run<'a, R, W>(rt: &R, words: &'a [String], writer: &mut W) -> Result<ExitCode, Fault<'a>>
+pub fn run<'a, R, W>(
+    rt: &R,
+    words: &'a [String],
+    is_watched: bool,
+    writer: &mut W,
+) -> Result<ExitCode, Fault<'a>>
 where
-    R: Files + Input + Print + Eprint + AllocGlobal,
+    R: Files + Input + Print + Eprint + Clock + AllocGlobal,
     W: Write,
 {
     let matches = match program(rt.alloc())?.try_get_matches_from(words) {
@@ -104,6 +114,9 @@ where
     }
     if let Some(matches) = matches.subcommand_matches("check") {
         return check(rt, matches, writer);
+    }
+    if let Some(matches) = matches.subcommand_matches("crash") {
+        crash(rt, matches, is_watched, writer)?;
     }
     if let Some(matches) = matches.subcommand_matches("profile") {
         explain(rt, matches.get_str("PROFILE").unwrap_or("tiny"), writer)?;
@@ -194,6 +207,30 @@ where
     }
 }
 
+// Tells what a crash may leave of a script, or of one of its lines.
+fn crash<'a, R, W>(
+    rt: &R,
+    matches: &ArgMatches<'a>,
+    is_watched: bool,
+    writer: &mut W,
+) -> Result<(), Fault<'a>>
+where
+    R: Files + Input + Eprint + Clock + AllocGlobal,
+    W: Write,
+{
+    let profile = profile_of(rt, matches.get_str("PROFILE").unwrap_or("tiny"))?;
+    let script = bytes_of(rt, matches.get_str("SCRIPT").unwrap_or("-"), SCRIPT_BYTES)?;
+    match matches.get_one::<u64>("line") {
+        Some(number) => {
+            if !write_line(rt.alloc(), &profile, &script, number, writer)? {
+                return Err(Fault::NoLine(number));
+            }
+        }
+        None => write_crash(rt, is_watched, &profile, &script, writer)?,
+    }
+    flush(writer)
+}
+
 // Tells what the numbers of a profile come to, or why there is none.
 fn explain<'a, R, W>(rt: &R, word: &'a str, writer: &mut W) -> Result<(), Fault<'a>>
 where
@@ -241,12 +278,14 @@ fn program<'a>(alloc: Global) -> Result<Command<'a>, AllocError> {
     let show = show_command(alloc)?;
     let check = check_command(alloc)?;
     let profile = profile_command(alloc)?;
+    let crash = crash_command(alloc)?;
     Command::new(alloc, "nvctl")
         .about("Runs scripts on an NVDIMM-N controller")
         .version(VERSION)
         .subcommand_required(true)
         .subcommand(run)?
         .subcommand(show)?
+        .subcommand(crash)?
         .subcommand(check)?
         .subcommand(profile)
 }
@@ -295,6 +334,22 @@ fn profile_command<'a>(alloc: Global) -> Result<Command<'a>, AllocError> {
     Command::new(alloc, "profile")
         .about("Tells what a profile means, or why a text is none")
         .arg(profile_word(alloc))
+}
+
+fn crash_command<'a>(alloc: Global) -> Result<Command<'a>, AllocError> {
+    Command::new(alloc, "crash")
+        .about("Tells what a crash may leave of a script")
+        .arg(profile_word(alloc))?
+        .arg(script_word(alloc))?
+        .arg(line_word(alloc))
+}
+
+fn line_word<'a>(alloc: Global) -> Arg<'a> {
+    Arg::new(alloc, "line")
+        .long("line")
+        .value_name("N")
+        .value_parser(value_parser!(u64))
+        .help("Shows each stop within this line of the script alone")
 }
 
 fn trace_word<'a>(alloc: Global) -> Arg<'a> {

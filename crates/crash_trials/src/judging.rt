@@ -21,6 +21,8 @@ pub enum Wrong {
     Complete,
     /// It lacks a write that was told persistent, though nothing failed but what the gauge and the writes allow.
     Lost,
+    /// The table of a script's crashes has another restore for this stop, or other writes that were told persistent.
+    Table,
 }
 
 // The answer to the last restore.

@@ -4,7 +4,8 @@
 //!     crash_trials all     the same, with each number of units that a gauge may have left, up to 4,000
 //!
 //! A trial is wrong where the restore is refused, holds lines that no prefix of the accepted writes gives, is told Complete and
-//! lacks a write that was told persistent, or lacks one though the gauge told the truth and the device failed nowhere.
+//! lacks a write that was told persistent, or lacks one though the gauge told the truth and the device failed nowhere. It is
+//! also wrong where the table that `nvctl crash` prints has another restore for the same stop.
 #![tactic(auto)]
 
 mod judging;

@@ -3,22 +3,16 @@ ghost use Rattle.std.specs.Prelude.{◌≡◌};
 
 use crate::judging::{Restored, Wrong, judged};
 use crate::ledger::Ledger;
+use crash_table::{Outcome, PICKS};
 use interleave_map::{Interleaving, ReadyMap};
 use nv_profile::Profile;
+use nv_script::read_script;
+use save_device::Pick;
 use script_runner::run_script;
-use std::alloc::Global;
+use std::alloc::{AllocError, Global};
 
-/// The words of restores: what becomes of each byte that is unsettled.
-pub type Picks = &'static [&'static str];
-
-/// The bytes of old, of new, and of sixteen kinds of torn ones.
-pub const PICKS: Picks = &[
-    "old", "new", "torn00", "torn11", "torn22", "torn33", "torn44", "torn55", "torn66", "torn77",
-    "torn88", "torn99", "tornaa", "tornbb", "torncc", "torndd", "tornee", "tornff",
-];
-
-/// Two of them.
-const FEW: Picks = &["old", "torna5"];
+/// Two kinds of unsettled bytes.
+const FEW: [Pick; 2] = [Pick::Old, Pick::Torn(0xa5)];
 
 /// Behind so many device calls each script has ended.
 const MOST_CALLS: u64 = 64;
@@ -56,6 +50,22 @@ impl Tally {
         };
         *place = place.saturating_add(1);
     }
+}
+
+// The word of a pick.
+fn word_of(alloc: Global, pick: Pick) -> Result<String, AllocError> {
+    match pick {
+        Pick::Old => format!(in alloc; "old"),
+        Pick::New => format!(in alloc; "new"),
+        Pick::Torn(byte) => format!(in alloc; "torn{byte:02x}"),
+    }
+}
+
+// Is this what the table of a script's crashes has for the same stop?
+fn is_same(outcome: &Outcome, restored: &Restored, told: u64) -> bool {
+    outcome.found.count() == restored.count
+        && outcome.found.is_complete() == restored.is_complete
+        && outcome.told == told
 }
 
 /// The trials of a profile.
@@ -98,23 +108,49 @@ impl<'p> Trials<'p> {
         Ok(String::from_utf8(bytes)?)
     }
 
+    // What a restore behind a script found, judged by the writes before it and by the table of crashes.
+    fn judge(
+        &self,
+        script: &str,
+        pick: Pick,
+        answers: &str,
+        honest: bool,
+    ) -> anyhow::Result<Result<Restored, Wrong>> {
+        let ledger = Ledger::of(self.alloc, script, answers)?;
+        let restored = match judged(&ledger, answers, honest) {
+            Ok(restored) => restored,
+            Err(wrong) => return Ok(Err(wrong)),
+        };
+        let lines = read_script(
+            self.alloc,
+            script.as_bytes(),
+            &self.profile.checked.geometry,
+        )?;
+        let outcome = crash_table::Trials::new(self.alloc, self.profile).outcome(&lines, pick)?;
+        if is_same(&outcome, &restored, ledger.told) {
+            Ok(Ok(restored))
+        } else {
+            Ok(Err(Wrong::Table))
+        }
+    }
+
     // Runs a script to its end, restores what it left by each pick, and counts what was found. Answers whether a call of the
     // device failed.
     fn restore(
         &self,
         script: &str,
-        picks: Picks,
+        picks: &[Pick],
         honest: bool,
         tally: &mut Tally,
     ) -> anyhow::Result<bool> {
         let mut has_failed = false;
         for pick in picks {
+            let word = word_of(self.alloc, *pick)?;
             let whole = format!(in self.alloc;
-                "{script}restore {pick}\nread 0\nread 1\nread 127\n"
+                "{script}restore {word}\nread 0\nread 1\nread 127\n"
             )?;
             let answers = self.answers(&whole)?;
-            let ledger = Ledger::of(self.alloc, script, &answers)?;
-            tally.count(judged(&ledger, &answers, honest));
+            tally.count(self.judge(script, *pick, &answers, honest)?);
             has_failed = has_failed || answers.contains("fault ");
         }
         Ok(has_failed)
@@ -125,7 +161,7 @@ impl<'p> Trials<'p> {
         let mut tally = Tally::new();
         for calls in 0..MOST_CALLS {
             let script = format!(in self.alloc; "format\nfuse {calls}\n{text}")?;
-            if !self.restore(&script, PICKS, false, &mut tally)? {
+            if !self.restore(&script, &PICKS, false, &mut tally)? {
                 break;
             }
         }
@@ -140,7 +176,7 @@ impl<'p> Trials<'p> {
             begun.push_str(line)?;
             let script = format!(in self.alloc; "{begun}lose\n")?;
             // a device call that failed ends nothing here: each line is tried
-            let _failed = self.restore(&script, PICKS, true, &mut tally)?;
+            let _failed = self.restore(&script, &PICKS, true, &mut tally)?;
         }
         Ok(tally)
     }
@@ -152,7 +188,7 @@ impl<'p> Trials<'p> {
                 let lie = units.wrapping_mul(unit);
                 let script = format!(in self.alloc; "{begun}lie {lie}\nlose\n")?;
                 // nor here: each number of units is tried
-                let _failed = self.restore(&script, FEW, false, tally)?;
+                let _failed = self.restore(&script, &FEW, false, tally)?;
             }
         }
         Ok(())

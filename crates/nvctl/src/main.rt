@@ -2,7 +2,7 @@
 #![tactic(auto)]
 
 use command_line::{Fault, run, words_of};
-use std::io::{self, BufWriter};
+use std::io::{self, BufWriter, IsTerminal};
 use std::process::ExitCode;
 
 fn main(rt: HostRuntime) -> io::Result<ExitCode> {
@@ -13,7 +13,7 @@ fn main(rt: HostRuntime) -> io::Result<ExitCode> {
     let Ok(mut writer) = BufWriter::new(rt.alloc(), io::writer(&rt)) else {
         return fails(&rt, Fault::Memory);
     };
-    match run(&rt, &words, &mut writer) {
+    match run(&rt, &words, rt.stderr().is_terminal(), &mut writer) {
         Ok(code) => Ok(code),
         Err(fault) => fails(&rt, fault),
     }

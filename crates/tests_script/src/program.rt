@@ -9,11 +9,12 @@ use std::fs;
 use std::io::{Eprint, Input, Print, Write};
 use std::process::{self, Abort, ExitCode};
 use std::rt::Files;
+use std::time::Clock;
 
 // What the program does: its exit status, and its line on standard error but for the name in front.
 fn outcome<R, W>(rt: &R, place: &str, words: &[&str], writer: &mut W) -> (ExitCode, String)
 where
-    R: Abort + Files + Input + Print + Eprint + AllocGlobal,
+    R: Abort + Files + Input + Print + Eprint + Clock + AllocGlobal,
     W: Write,
 {
     let mut given = Vec::new(rt.alloc());
@@ -21,7 +22,7 @@ where
     for word in words {
         given.push(named(rt, place, word)).expect(rt, "memory");
     }
-    match run(rt, &given, writer) {
+    match run(rt, &given, false, writer) {
         Ok(code) => (code, String::new(rt.alloc())),
         Err(fault) => (fault.exit_code(), shown(rt, &fault)),
     }
@@ -35,7 +36,7 @@ fn shown<R: Abort + AllocGlobal>(rt: &R, fault: &Fault<'_>) -> String {
 // begin the names of a test's own files by a %, which stands for their place.
 fn ends<R>(rt: &R, place: &str, words: &[&str], code: ExitCode, line: &str, text: &str)
 where
-    R: Abort + Files + Input + Print + Eprint + AllocGlobal,
+    R: Abort + Files + Input + Print + Eprint + Clock + AllocGlobal,
 {
     let mut written = Vec::new(rt.alloc());
     let (found, told) = outcome(rt, place, words, &mut written);
@@ -62,7 +63,7 @@ fn remove<R: Abort + Files + AllocGlobal>(rt: &R, place: &str, name: &str) {
     fs::remove_file(rt, named(rt, place, name).as_str()).expect(rt, "a file");
 }
 
-const NO_USAGE: [&[&str]; 14] = [
+const NO_USAGE: [&[&str]; 17] = [
     &[],
     &["run"],
     &["run", "tiny"],
@@ -73,6 +74,9 @@ const NO_USAGE: [&[&str]; 14] = [
     &["check", "tiny"],
     &["check", "tiny", "-", "-"],
     &["check", "tiny", "-", "--others"],
+    &["crash", "tiny"],
+    &["crash", "tiny", "-", "-"],
+    &["crash", "tiny", "-", "--line", "first"],
     &["profile"],
     &["profile", "tiny", "tiny"],
     &["walk"],
@@ -258,6 +262,74 @@ fn traces_that_are_checked(rt: HostRuntime) {
     remove(&rt, place, "%answers");
 }
 
+// A save makes eight device calls. The last but one opens the slot by its gate, which is A5, and the last one syncs that.
+const SAVED: &str = "lines 2 to 4
+      72 generation 1, writes 0, Complete, acknowledged 0 of 0
+line 5
+     143 generation 1, writes 0, Complete, acknowledged 0 of 0
+       1 generation 2, writes 1, Complete, acknowledged 0 of 0
+      36 generation 2, writes 1, Complete, acknowledged 1 of 1
+stops 252, acknowledged writes missing: with Complete 0, with PossibleLoss 0
+";
+
+// Words one after another, with the status, the line and the text.
+const CRASHES: [(&[&str], ExitCode, &str, &str); 6] = [
+    (&["crash", "tiny", "%saving"], ExitCode::SUCCESS, "", SAVED),
+    (
+        &["crash", "tiny", "%saving", "--line", "2"],
+        ExitCode::SUCCESS,
+        "",
+        "line 2, dark behind 0 device calls
+      18 generation 1, writes 0, Complete, acknowledged 0 of 0
+line 2, mains lost behind it
+      18 generation 1, writes 0, Complete, acknowledged 0 of 0
+stops 36, acknowledged writes missing: with Complete 0, with PossibleLoss 0
+",
+    ),
+    (
+        &["crash", "tiny", "%saving", "--line", "3"],
+        ExitCode::FAILURE,
+        "no line 3",
+        "",
+    ),
+    (
+        &["crash", "tiny", "%bad"],
+        ExitCode::FAILURE,
+        "script line 1",
+        "",
+    ),
+    (
+        &["crash", "tiny", "/no/script"],
+        ExitCode::FAILURE,
+        "file /no/script",
+        "",
+    ),
+    (
+        &["crash", "/no/profile", "/no/script"],
+        ExitCode::FAILURE,
+        "file /no/profile",
+        "",
+    ),
+];
+
+#[test]
+fn what_a_crash_leaves(rt: HostRuntime) {
+    let place = place(&rt, process::id(rt.process()));
+    let place = place.as_str();
+    make(
+        &rt,
+        place,
+        "%saving",
+        b"# a save\nformat\n\nwrite 5 a5\nsave\n",
+    );
+    make(&rt, place, "%bad", b"wirte 0 11\n");
+    for (words, code, line, text) in CRASHES {
+        ends(&rt, place, words, code, line, text);
+    }
+    remove(&rt, place, "%saving");
+    remove(&rt, place, "%bad");
+}
+
 #[test]
 fn a_writer_that_takes_no_more(rt: HostRuntime) {
     let place = place(&rt, process::id(rt.process()));
@@ -292,6 +364,7 @@ fn texts_of_faults(rt: HostRuntime) {
             ExitCode::FAILURE,
         ),
         (Fault::Trace(7), "trace line 7", ExitCode::FAILURE),
+        (Fault::NoLine(7), "no line 7", ExitCode::FAILURE),
         (Fault::Memory, "memory", ExitCode::FAILURE),
     ] {
         let told = shown(&rt, &fault);

@@ -1,0 +1,8 @@
+pub mod Told
+pub mod Runs
+pub mod Trying
+pub mod Counted
+pub mod Rows
+pub mod Adding
+pub mod Blocks
+pub mod Telling

@@ -1,0 +1,6 @@
+pub mod Stops
+pub mod Outcomes
+pub mod Counting
+pub mod Rows
+pub mod Blocks
+pub mod Tables

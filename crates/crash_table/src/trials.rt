@@ -1,0 +1,201 @@
+// Scripts that are stopped and restored.
+ghost use Rattle.std.specs.Prelude.{◌≡◌, [], map, All, IfOk, IfErr};
+ghost use Rattle.ddr4_timing.specs.Limits.{lines_of};
+ghost use Rattle.nv_script.specs.Line.{NamesChannelOf};
+ghost use Rattle.script_runner.specs.Story.{AreAllAnswered, GivesOut};
+ghost use Rattle.crash_table.specs.Stops.{picks, with_picks};
+ghost use Rattle.crash_table.specs.Counting.{complete_ones, most_missing};
+ghost use Rattle.crash_table.specs.Outcomes.{AreTried, IsRestored, IsTried, Makes, MayEnd, tried_at};
+ghost use Rattle.crash_table.specs.Tables.{TellsEach};
+
+use crate::answers::{Answers, ends_with_fault, told_in};
+use crate::outcome::{Found, Outcome};
+use crate::script::Script;
+use crate::stop::{PICKS, Stop};
+use crate::table::Table;
+use crate::tried::Tried;
+use interleave_map::{Interleaving, ReadyMap};
+use nv_profile::Profile;
+use nv_script::{Answer, ScriptFault, ScriptLine};
+use save_device::Pick;
+use script_runner::run_lines;
+use std::alloc::Global;
+
+/// Who is told how far trials are.
+pub trait Progress {
+    /// So many of the lines are done.
+    fn tell(&mut self, done: usize, lines: usize);
+}
+
+/// The trials of a profile. Each is a run of lines from the first on, on a device of its own.
+#[derive(Clone, Copy, Drop)]
+pub struct Trials<'p> {
+    alloc: Global,
+    profile: &'p Profile,
+}
+
+impl<'p> Trials<'p> {
+    /// Of this profile.
+    pub fn new(alloc: Global, profile: &'p Profile) -> Trials<'p>
+        ensures { result.profile.now ≡ profile.now }
+    {
+        Trials { alloc, profile }
+    }
+
+    // A ready-made map of the profile.
+    fn map(&self, interleaving: Interleaving) -> ReadyMap
+        ensures { result.checked ≡ self.now.profile.now.checked }
+    {
+        ReadyMap {
+            interleaving,
+            checked: self.profile.checked,
+        }
+    }
+
+    /// The answers to lines, from the first on. Refused only where there is no memory.
+    pub fn answers(&self, lines: &[ScriptLine]) -> Result<Vec<Answer>, ScriptFault>
+        requires { All (NamesChannelOf self.now.profile.now.checked.geometry) lines.now }
+        ensures answered { IfOk result (λ answers. AreAllAnswered
+            (lines_of self.now.profile.now.checked.geometry) lines.now [] answers.items) }
+        ensures fault { IfErr result GivesOut }
+    {
+        let lines_map = self.map(Interleaving::Lines);
+        let xor_map = self.map(Interleaving::Xor);
+        let mut answers = Answers::new(self.alloc);
+        // what the device holds in the end is told by the answers
+        let _device = run_lines(
+            self.alloc,
+            self.profile,
+            lines,
+            &lines_map,
+            &xor_map,
+            &mut answers,
+        )?;
+        Ok(answers.taken)
+    }
+
+    /// What a restore by the pick finds behind lines. Refused only where there is no memory.
+    pub fn outcome(&self, lines: &[ScriptLine], pick: Pick) -> Result<Outcome, ScriptFault>
+        requires { All (NamesChannelOf self.now.profile.now.checked.geometry) lines.now }
+        ensures found { IfOk result (IsRestored
+            (lines_of self.now.profile.now.checked.geometry) lines.now pick) }
+        ensures fault { IfErr result GivesOut }
+    {
+        let mut whole = lines.to_vec(self.alloc)?;
+        whole.extend_from_slice(&[ScriptLine::Restore {
+            pick: Some(pick),
+            map: None,
+        }])?;
+        let answers = self.answers(&whole)?;
+        let Some((restore, before)) = answers.split_last() else {
+            return Err(ScriptFault::Memory);
+        };
+        Ok(Outcome {
+            found: Found::by(restore),
+            told: told_in(before).unwrap_or(0),
+        })
+    }
+
+    // Does a run of these lines end with a fault of the device?
+    fn fails(&self, lines: &[ScriptLine]) -> Result<bool, ScriptFault>
+        requires { All (NamesChannelOf self.now.profile.now.checked.geometry) lines.now }
+        ensures ends { IfOk result (MayEnd
+            (lines_of self.now.profile.now.checked.geometry) lines.now) }
+        ensures fault { IfErr result GivesOut }
+    {
+        let answers = self.answers(lines)?;
+        Ok(ends_with_fault(&answers))
+    }
+
+    /// How many calls of the device a line makes behind others. Refused only where there is no memory.
+    pub fn calls(&self, before: &[ScriptLine], line: ScriptLine) -> Result<u64, ScriptFault>
+        requires before { All (NamesChannelOf self.now.profile.now.checked.geometry) before.now }
+        requires line { NamesChannelOf self.now.profile.now.checked.geometry line }
+        ensures makes { IfOk result (Makes
+            (lines_of self.now.profile.now.checked.geometry) before.now line) }
+        ensures fault { IfErr result GivesOut }
+    {
+        for calls in 0..u64::MAX {
+            let lines = Stop::Dark { calls }.lines(self.alloc, before, line)?;
+            if !self.fails(&lines)? {
+                return Ok(calls);
+            }
+        }
+        // no line makes so many
+        Err(ScriptFault::Memory)
+    }
+
+    // A stop with each pick.
+    fn try_stop(
+        &self,
+        before: &[ScriptLine],
+        line: ScriptLine,
+        stop: Stop,
+    ) -> Result<Vec<Tried>, ScriptFault>
+        requires before { All (NamesChannelOf self.now.profile.now.checked.geometry) before.now }
+        requires line { NamesChannelOf self.now.profile.now.checked.geometry line }
+        ensures each { IfOk result (λ tried. map tried_at tried.items ≡ with_picks picks stop) }
+        ensures are { IfOk result (λ tried. All (IsTried
+            (lines_of self.now.profile.now.checked.geometry) before.now line) tried.items) }
+        ensures fault { IfErr result GivesOut }
+    {
+        let lines = stop.lines(self.alloc, before, line)?;
+        let mut tried = Vec::new(self.alloc);
+        for pick in &PICKS {
+            let outcome = self.outcome(&lines, *pick)?;
+            tried.extend_from_slice(&[Tried {
+                stop,
+                pick: *pick,
+                outcome,
+            }])?;
+        }
+        Ok(tried)
+    }
+
+    /// Each stop of a line, with each pick: darkness behind each number of device calls that the line makes, darkness behind the
+    /// line, and a loss of mains behind it. None that is told Complete lacks a write that was told to be persistent. Refused only
+    /// where there is no memory.
+    pub fn tried(&self, before: &[ScriptLine], line: ScriptLine) -> Result<Vec<Tried>, ScriptFault>
+        requires before { All (NamesChannelOf self.now.profile.now.checked.geometry) before.now }
+        requires line { NamesChannelOf self.now.profile.now.checked.geometry line }
+        ensures tried { IfOk result (λ tried. AreTried
+            (lines_of self.now.profile.now.checked.geometry) before.now line tried.items) }
+        ensures complete { IfOk result (λ tried. most_missing (complete_ones tried.items) ≡ 0) }
+        ensures fault { IfErr result GivesOut }
+    {
+        let made = self.calls(before, line)?;
+        let mut tried = Vec::new(self.alloc);
+        for calls in 0..made {
+            let dark = self.try_stop(before, line, Stop::Dark { calls })?;
+            tried.extend_from_slice(&dark)?;
+        }
+        let behind = self.try_stop(before, line, Stop::Dark { calls: made })?;
+        tried.extend_from_slice(&behind)?;
+        let lost = self.try_stop(before, line, Stop::Loss)?;
+        tried.extend_from_slice(&lost)?;
+        Ok(tried)
+    }
+
+    /// Each stop of each line of a script, the lines before it run first. None that is told Complete lacks a write that was told to
+    /// be persistent. Refused only where there is no memory.
+    pub fn table<P: Progress>(
+        &self,
+        script: &Script,
+        progress: &mut P,
+    ) -> Result<Table, ScriptFault>
+        requires { All (NamesChannelOf self.now.profile.now.checked.geometry)
+            script.now.lines.items }
+        ensures tells { IfOk result (TellsEach
+            (lines_of self.now.profile.now.checked.geometry) script.now) }
+        ensures complete { IfOk result (λ table. table.counts.complete ≡ 0) }
+        ensures fault { IfErr result GivesOut }
+    {
+        let mut table = Table::new(self.alloc);
+        for place in 0..script.lines.len() {
+            progress.tell(place, script.lines.len());
+            let tried = self.tried(&script.lines[..place], script.lines[place])?;
+            table.add(script.number(place), &tried)?;
+        }
+        Ok(table)
+    }
+}
