@@ -4,6 +4,7 @@ ghost use Rattle.script_runner.specs.Ledger;
 ghost use Rattle.crash_table.specs.Outcomes.{told_behind, EndsWithFault};
 
 use arm_state::Loss;
+use ghost_trace::Trace;
 use nv_script::{Answer, ScriptFault};
 use script_runner::Report;
 use std::alloc::Global;
@@ -12,6 +13,7 @@ use std::alloc::Global;
 #[derive(Drop)]
 pub(crate) struct Answers {
     pub taken: Vec<Answer>,
+    refused: Trace<ScriptFault>,
 }
 
 impl Answers {
@@ -21,6 +23,7 @@ impl Answers {
     {
         Answers {
             taken: Vec::new(alloc),
+            refused: Trace::new(),
         }
     }
 }
@@ -28,10 +31,16 @@ impl Answers {
 impl Report for Answers {
     ghost answers = { λ answers. answers.taken.items };
 
+    ghost refusals = { λ answers. answers.refused.items };
+
     fn answer(&mut self, answer: Answer) -> Result<(), ScriptFault> {
         match self.taken.push(answer) {
             Ok(()) => Ok(()),
-            Err(_) => Err(ScriptFault::Memory),
+            Err(_) => {
+                let fault = ScriptFault::Memory;
+                self.refused.note(&fault);
+                Err(fault)
+            }
         }
     }
 }
