@@ -1,9 +1,10 @@
-use Rattle.std.proofs.Common.{◌≡◌, ℕ, ap, rules, subst, sym}
+use Rattle.std.proofs.Common.{◌≡◌, ◌∙◌, ℕ, ap, rules, subst, sym}
 use Rattle.std.proofs.lemmas.Grind.{merely}
 use Rattle.save_device.specs.Device.{DeviceState}
 use Rattle.save_image.specs.Image.{Image}
 use Rattle.slot_store.specs.Outcomes.{Found, restored}
 use Rattle.slot_store.specs.Rest.{IsAtRestOn}
+use Rattle.slot_store.specs.Slots.{HasSize}
 use Rattle.slot_store.specs.Told.{image_of_restored}
 use Rattle.nv_machine.specs.State.{Setup}
 use Rattle.module_core.specs.Opening.{opened_with}
@@ -30,6 +31,13 @@ invariant_of-result-clause-kept g c =
     new_is_kept _ g.D.SaveDevice _ it.head (image_of_restored it c.in-Ok.ensures.found.arm) c.args.profile.now.sizes.trail
     (begun_stands g (goal.at.invariant_of-result-clause-kept g c).In-Ok-begin) c.mark.ensures (search rules)
     (ap (λ (s : Setup). s.trail) c.in-Ok-begin.ensures.setup.is)
+
+pub invariant_of-result-clause-sized : goal.invariant_of-result-clause-sized
+invariant_of-result-clause-sized g c =
+    let read = c.in-Ok.ensures in
+    let rest = read.at_rest (image_of_restored c.in-Ok.restored read.found.arm) read.found.newest in
+    let lines = ap (λ (s : Setup). s.shape.lines) c.in-Ok-begin.ensures.setup.is in
+    subst (λ (n : ℕ). HasSize n (g.D.SaveDevice.state c.restore.new.device)) (c.capacity_of-lines.ensures.is ∙ sym lines) rest.size
 
 pub invariant_of-result-clause-counted : goal.invariant_of-result-clause-counted
 invariant_of-result-clause-counted g c = sym (ap (λ (s : Setup). s.shape.channels) c.in-Ok-begin.ensures.setup.is)
