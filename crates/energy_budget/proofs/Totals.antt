@@ -30,7 +30,7 @@ module _ (costs : Costs) where
   unfolding total_cost
   total_cost-nil = refl
 
-  pub cost-page_actions : (pages : ℕ) → total_cost costs (page_actions pages) ≡ pages * page_cost_of costs.numbers + costs.numbers.e_mark + 2 * costs.numbers.e_sync
+  pub cost-page_actions : (pages : ℕ) → total_cost costs (page_actions pages) ≡ pages * page_cost_of costs.numbers + 2 * costs.numbers.e_mark + 2 * costs.numbers.e_sync
   unfolding page_actions
   cost-page_actions pages =
       simp (total_cost-append, total_cost-cons, total_cost-replicate, total_cost-nil) (omega arith)

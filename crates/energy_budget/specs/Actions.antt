@@ -26,11 +26,11 @@ drain_actions pending = CloseStep ∷ replicate pending EntryStep
 
 -- from a save's pages on, this many of them
 unfoldable pub page_actions : ℕ → List Action
-page_actions pages = replicate pages WritePage ++ Sync ∷ OpenGate ∷ Sync ∷ []
+page_actions pages = replicate pages WritePage ++ WriteHeader ∷ Sync ∷ OpenGate ∷ Sync ∷ []
 
 -- a save of this many pages
 unfoldable pub save_actions : ℕ → List Action
-save_actions pages = CloseGate ∷ Sync ∷ WriteHeader ∷ page_actions pages
+save_actions pages = CloseGate ∷ Sync ∷ page_actions pages
 
 -- a closing save of channels with these numbers of pending writes, one channel after another
 unfoldable pub closing_actions : ℕ → List ℕ → List Action

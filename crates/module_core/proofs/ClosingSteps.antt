@@ -20,9 +20,9 @@ use Rattle.module_core.proofs.Common.{[], if◌then◌else◌, ℕ, ◌+◌, ◌
 -- the actions of the steps that are still to come, of so many pages
 abbrev pub actions_left : ℕ → Step → List Action
 actions_left n Close = save_actions n
-actions_left n SyncClosed = actions.Sync ∷ actions.WriteHeader ∷ page_actions n
-actions_left n Header = actions.WriteHeader ∷ page_actions n
+actions_left n SyncClosed = actions.Sync ∷ page_actions n
 actions_left n (Page k) = page_actions (n - k)
+actions_left n Header = actions.WriteHeader ∷ actions.Sync ∷ actions.OpenGate ∷ actions.Sync ∷ []
 actions_left n SyncBody = actions.Sync ∷ actions.OpenGate ∷ actions.Sync ∷ []
 actions_left n Open = actions.OpenGate ∷ actions.Sync ∷ []
 actions_left n SyncOpen = actions.Sync ∷ []
@@ -45,14 +45,14 @@ module _ (costs : Costs) (lines : ℕ) (capacity : IsCapacity lines) (is : lines
 
   actions_left-after : (next : Step) → reach_of next ≤ lines → 0 < steps_left lines next → actions_left pages next ≡ action_of next ∷ actions_left pages (step_after lines next)
   unfolding save_actions page_actions
-  actions_left-after Header reach more = let none : pages ≡ pages - 0 = omega arith in ap (λ (j : ℕ). actions.WriteHeader ∷ page_actions j) none
+  actions_left-after SyncClosed reach more = let none : pages ≡ pages - 0 = omega arith in ap (λ (j : ℕ). actions.Sync ∷ page_actions j) none
   actions_left-after (Page k) reach more =
       let here : actions_left pages (Page k) ≡ actions.WritePage ∷ page_actions (pages - (k + 1)) = ap page_actions (let one : pages - k ≡ suc (pages - (k + 1)) = omega (arith, is, reach) in one) in
       elim (below_or_not lines (64 * (k + 2))) [
         | inl last ↦
             let none : pages - (k + 1) ≡ 0 = omega (arith, last.1, is) in
-            here ∙ ap (λ (j : ℕ). actions.WritePage ∷ page_actions j) none ∙ ap (λ (b : Bool). actions.WritePage ∷ actions_left pages (if b then SyncBody else Page (k + 1))) (sym last.0)
-        | inr further ↦ here ∙ ap (λ (b : Bool). actions.WritePage ∷ actions_left pages (if b then SyncBody else Page (k + 1))) (sym further.0)
+            here ∙ ap (λ (j : ℕ). actions.WritePage ∷ page_actions j) none ∙ ap (λ (b : Bool). actions.WritePage ∷ actions_left pages (if b then Header else Page (k + 1))) (sym last.0)
+        | inr further ↦ here ∙ ap (λ (b : Bool). actions.WritePage ∷ actions_left pages (if b then Header else Page (k + 1))) (sym further.0)
       ]
   actions_left-after Done reach more = absurd (omega (arith, more))
   actions_left-after next reach more = refl

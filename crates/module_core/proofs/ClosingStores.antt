@@ -7,7 +7,7 @@ use Rattle.slot_store.specs.Outcomes.{Found}
 use Rattle.slot_store.specs.Rest.{Candidates}
 use Rattle.slot_store.specs.Saving.{FindsNew, FindsOld, Leaves, image_of, old_and_new, only_old}
 use Rattle.slot_store.specs.Steps.{reach_of, step_later, steps_left}
-use Rattle.slot_store.specs.declared.plan.Step.TheVariants.{Open, SyncBody}
+use Rattle.slot_store.specs.declared.plan.Step.TheVariants.{Header, Open}
 use Rattle.module_core.proofs.Common.{if◌then◌else◌, ℕ, ◌+◌, ◌<◌, ◌∙◌, ◌≡◌, ◌≢◌, ◌≤◌, ◌⊎◌, Bool, Close, DeviceState, Done, HoldsWhile, Image, IsAmong, Knows, List, Newest, None, Outcome, Page, Plan, SavingAt, Some, Step, Store, SyncClosed, SyncOpen, after_steps, ap, arith, closed_before, false, inl, inr, other, refl, restored, rules, step_after, step_failed, stepped, subst, suc, sym, true}
 use Rattle.module_core.proofs.StoreSteps.{alone_in, both_in, here, old_in, rests_in}
 
@@ -21,8 +21,8 @@ store_before s made step = record s { maybe = record s.maybe { saved = None }; c
 
 stepped_before : (lines : ℕ) (s : Store) (made : Image) (step : Step) → stepped (store_before s made step) made step ≡ store_before s made (step_after lines step)
 stepped_before lines s made (Page k) = elim (below_or_not lines (64 * (k + 2))) [
-  | inl last ↦ ap (λ (b : Bool). store_before s made (if b then SyncBody else Page (k + 1))) (sym last.0)
-  | inr further ↦ ap (λ (b : Bool). store_before s made (if b then SyncBody else Page (k + 1))) (sym further.0)
+  | inl last ↦ ap (λ (b : Bool). store_before s made (if b then Header else Page (k + 1))) (sym last.0)
+  | inr further ↦ ap (λ (b : Bool). store_before s made (if b then Header else Page (k + 1))) (sym further.0)
 ]
 stepped_before lines s made step = refl
 

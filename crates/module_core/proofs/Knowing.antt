@@ -2,10 +2,9 @@
 use Rattle.module_core.specs.Saves.{StoreMoves}
 use Rattle.module_core.specs.Device.{IsPlanFor}
 use Rattle.save_image.specs.Header.{arm_byte}
-use Rattle.slot_store.proofs.GivenUp.{saving_begins}
 use Rattle.slot_store.specs.Rest.{IsAtRest}
 use Rattle.slot_store.specs.Runs.{newest_made}
-use Rattle.module_core.proofs.Common.{ℕ, ◌+◌, ◌∙◌, ◌≡◌, ◌≢◌, BeginsSave, Bool, Close, DeviceState, Done, HoldsWhile, Image, IsMemory, IsResting, IsSaving, Knows, Newest, Option, Plan, SaveRun, Saves, SavingAt, Some, Step, Store, SyncOpen, after_step, ap, arith, armed, begun_save, closed_before, false, inl, inr, other, plan_of, refl, rules, saved_in, step_failed, subst, sym, tried_of, true}
+use Rattle.module_core.proofs.Common.{ℕ, ◌+◌, ◌∙◌, ◌≡◌, ◌≢◌, BeginsSave, Bool, DeviceState, Done, HoldsWhile, Image, IsMemory, IsResting, IsSaving, Knows, Newest, Option, Plan, SaveRun, Saves, Slot, Some, Step, Store, SyncOpen, after_step, ap, armed, begun_save, closed_before, false, inl, inr, other, plan_of, refl, rules, saved_in, step_failed, subst, sym, true}
 use Rattle.module_core.proofs.StoreSteps.{at_rest}
 
 module _ (lines : ℕ) (s : Store) (made : Image) (rises : made.generation ≡ s.maybe.newest.generation + 1) (newest : Newest) (closed unsettled : Bool) (knows : Knows newest closed unsettled s) where
@@ -37,12 +36,6 @@ module _ (lines : ℕ) (s : Store) (state : DeviceState) where
         lines_are = begun.lines_are;
         rises = rises;
       } in
-      let first : SavingAt rest.candidates rest.image plan made.memory Close false state =
-      saving_begins rest.candidates rest.image plan made.memory s.maybe.slot state p.slot
-      (let e : rest.image.generation ≡ s.maybe.newest.generation = ap (λ (i : Image). i.generation) rest.newest.is in omega (arith, e, p.generation, rises))
-      (subst (λ (k : ℕ). IsMemory k made.memory) (sym p.lines_are) memory)
-      (subst (λ (k : ℕ). IsAtRest rest.candidates rest.image s.maybe.slot k plan.closed state) (sym p.lines_are)
-      (subst (λ (c : Bool). IsAtRest rest.candidates rest.image s.maybe.slot lines c state) (sym (begun.shut ∙ knows.shut)) rest.rest)) in
       let saves : IsSaving lines (record s { saving = Some (begun_save made) }) (begun_save made) b.run state = record {
         candidates = rest.candidates;
         image = rest.image;
@@ -50,8 +43,10 @@ module _ (lines : ℕ) (s : Store) (state : DeviceState) where
         plan = record { slot = p.slot; generation = p.generation; count = p.count; arm = p.arm; lines_are = p.lines_are; rises = p.rises };
         next = begun.next;
         untried = begun.untried;
-        saving = subst (λ (x : Step). SavingAt rest.candidates rest.image plan made.memory x (tried_of b.run) state) (sym begun.next)
-            (subst (λ (t : Bool). SavingAt rest.candidates rest.image plan made.memory Close t state) (sym begun.untried) first);
+        saving = begun.saving rest.candidates rest.image made.memory state
+            (subst (λ (at : Slot). IsAtRest rest.candidates rest.image at lines old.closed state) (sym knows.slot)
+            (subst (λ (c : Bool). IsAtRest rest.candidates rest.image s.maybe.slot lines c state) (sym knows.shut) rest.rest))
+            (ap (λ (i : Image). i.generation) rest.newest.is ∙ sym knows.generation) memory;
         shut = sym (begun.shut ∙ knows.shut);
         among = rest.among;
         going = λ is. cc;

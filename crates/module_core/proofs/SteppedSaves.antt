@@ -28,13 +28,13 @@ last_step : (lines : ℕ) (next : Step) → next ≢ Done → step_after lines n
 last_step lines next going last = search rules
 
 -- the call of a step
-pub kind_is : (plan : Plan) (next : Step) (page : List ℕ) → call_of (change_of plan next page) ≡ step_call plan.closed next
-kind_is plan Close page = by_gate plan.closed
+pub kind_is : (plan : Plan) (digest : List ℕ) (next : Step) (page : List ℕ) → call_of (change_of plan digest next page) ≡ step_call plan.closed next
+kind_is plan digest Close page = by_gate plan.closed
   where
     by_gate : (b : Bool) → call_of (if b then Settle else Put (gate_of plan) (0 ∷ [])) ≡ (if b then Sync else Write)
     by_gate true = refl
     by_gate false = refl
-kind_is plan next page = refl
+kind_is plan digest next page = refl
 
 -- A save's step, after which the module keeps what the save says: it had taken the save from what it knew.
 module _ (lines : ℕ) (s : Store) (save : RunningSave) (saves : Saves) (page : List ℕ) (before : DeviceState) (ready : IsReadyFor lines s save saves page before)

@@ -8,7 +8,7 @@ use Rattle.slot_store.specs.Outcomes.{Found}
 use Rattle.slot_store.specs.Rest.{Candidates, IsAtRest, only}
 use Rattle.slot_store.specs.Runs.{Saving}
 use Rattle.slot_store.specs.Saving.{Leaves, candidates_before, image_of, old_and_new, only_old}
-use Rattle.slot_store.specs.declared.plan.Step.TheVariants.{Header, Open, SyncBody}
+use Rattle.slot_store.specs.declared.plan.Step.TheVariants.{Header, Open}
 use Rattle.module_core.proofs.Common.{if◌then◌else◌, ℕ, ◌+◌, ◌∙◌, ◌≡◌, ◌≢◌, ◌⊎◌, Bool, DeviceState, Done, HoldsWhile, Image, IsAmong, IsResting, IsSaving, List, None, Option, Outcome, Page, Plan, RunningSave, SaveRun, SavingAt, Slot, Some, Step, Store, SyncClosed, SyncOpen, after_step, ap, closed_before, false, more, next_of, other, plan_of, present, rearmed, refl, restored, rules, saved_in, step_after, step_failed, subst, sym, tried_of, true}
 
 -- a save by its plan, its coming step, and whether that failed
@@ -16,7 +16,7 @@ module _ (later : SaveRun) (plan : Plan) (next : Step) (tried : Bool) (plan_is :
   pub saving_as : (candidates : Candidates) (image : Image) (memory : List (List ℕ)) (state : DeviceState) → Saving candidates image memory later state → SavingAt candidates image plan memory next tried state
   saving_as candidates image memory state saving =
       subst (λ (t : Bool). SavingAt candidates image plan memory next t state) tried_is
-      (subst (λ (x : Step). SavingAt candidates image plan memory x (tried_of later) state) next_is (subst (λ (x : Plan). SavingAt candidates image x memory (next_of later) (tried_of later) state) plan_is saving))
+      (subst (λ (x : Step). SavingAt candidates image plan memory x (tried_of later) state) next_is (subst (λ (x : Plan). SavingAt candidates image x memory (next_of later) (tried_of later) state) plan_is saving.0))
 
   pub closed_as : closed_before (plan_of later) (next_of later) (tried_of later) ≡ closed_before plan next tried
   closed_as = ap (λ (x : Plan). closed_before x (next_of later) (tried_of later)) plan_is ∙ ap (λ (x : Step). closed_before plan x (tried_of later)) next_is ∙ ap (closed_before plan next) tried_is
@@ -70,10 +70,10 @@ module _ (lines : ℕ) (s : Store) (candidates : Candidates) (image made : Image
         → s.closed ≡ closed_before plan next false → AreAmong (candidates_before candidates image plan made.memory next false) s.maybe → step_after lines next ≢ Done → Saving candidates image made.memory run state
         → IsSaving lines (after_step lines s (record { made = made; next = next }) next) (record { made = made; next = step_after lines next }) run state
     holds_next SyncClosed run same next_is untried shut among going saving =
-        goes_on (after_step lines s (record { made = made; next = SyncClosed }) SyncClosed) refl refl refl Header run same next_is untried refl (alone_in (record s.maybe { saved = None }) refl refl refl) going saving
+        goes_on (after_step lines s (record { made = made; next = SyncClosed }) SyncClosed) refl refl refl (Page 0) run same next_is untried refl (alone_in (record s.maybe { saved = None }) refl refl refl) going saving
     holds_next (Page k) run same next_is untried shut among going saving =
-        let by_size : (b : Bool) → closed_before plan (if b then SyncBody else Page (k + 1)) false ≡ true = elim [ true ↦ refl | false ↦ refl ] in
-        let candidates_by : (b : Bool) → candidates_before candidates image plan made.memory (if b then SyncBody else Page (k + 1)) false ≡ only_old image plan = elim [ true ↦ refl | false ↦ refl ] in
+        let by_size : (b : Bool) → closed_before plan (if b then Header else Page (k + 1)) false ≡ true = elim [ true ↦ refl | false ↦ refl ] in
+        let candidates_by : (b : Bool) → candidates_before candidates image plan made.memory (if b then Header else Page (k + 1)) false ≡ only_old image plan = elim [ true ↦ refl | false ↦ refl ] in
         goes_on (after_step lines s (record { made = made; next = Page k }) (Page k)) refl refl refl (step_after lines (Page k)) run same next_is untried
         (shut ∙ sym (by_size (nat_lt lines (64 * (k + 2))))) (subst (λ (c : Candidates). AreAmong c s.maybe) (sym (candidates_by (nat_lt lines (64 * (k + 2))))) among) going saving
     holds_next Open run same next_is untried shut among going saving =
@@ -128,7 +128,7 @@ at_rest lines s state None None rest = rest
 at_rest lines s state (Some save) (Some run) v =
     rests_in lines s v.candidates v.image save.made (plan_of run) v.plan v.newest state s refl refl refl save.next false v.going v.shut v.among
     (subst (λ (b : Bool). SavingAt v.candidates v.image (plan_of run) save.made.memory save.next b state) v.untried
-    (subst (λ (x : Step). SavingAt v.candidates v.image (plan_of run) save.made.memory x (tried_of run) state) v.next v.saving))
+    (subst (λ (x : Step). SavingAt v.candidates v.image (plan_of run) save.made.memory x (tried_of run) state) v.next v.saving.0))
 at_rest lines s state o r none = absurd none
 
 -- what a stop now leaves of the device is among the images that the machine says

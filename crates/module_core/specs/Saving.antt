@@ -2,14 +2,16 @@
 use Rattle.std.specs.Prelude.{◌≡◌, ◌≢◌, ◌⊎◌, ℕ, ◌+◌, ◌≤◌, Bool, false, List, Result, Ok, Err, Option, Some, None, IfOk}
 use Rattle.std.specs.Option.{ForSome}
 use Rattle.save_device.specs.Device.{DeviceState}
+use Rattle.line_memory.specs.Memory.{IsMemory}
+use Rattle.save_image.specs.Image.{Image}
 use Rattle.slot_store.specs.declared.plan.Newest.{Newest}
 use Rattle.slot_store.specs.declared.plan.Step.{Step}
 use Rattle.slot_store.specs.declared.plan.Step.TheVariants.{Close, SyncOpen, Done}
 use Rattle.slot_store.specs.declared.saving.SaveRun.{SaveRun}
 use Rattle.slot_store.specs.Slots.{other, HasSize}
 use Rattle.slot_store.specs.Outcomes.{restored}
-use Rattle.slot_store.specs.Rest.{IsAmong}
-use Rattle.slot_store.specs.Runs.{plan_of, next_of, tried_of}
+use Rattle.slot_store.specs.Rest.{Candidates, IsAmong, IsAtRest}
+use Rattle.slot_store.specs.Runs.{Saving, plan_of, next_of, tried_of}
 use Rattle.nv_machine.specs.State.{RunningSave, Store}
 use Rattle.nv_machine.specs.Moves.{stepped, step_failed, saved_in, advanced}
 
@@ -68,6 +70,10 @@ pub record IsBegun (newest : Newest) (closed : Bool) (count : ℕ) (armed : Bool
   pub lines_are : (plan_of run).lines ≡ lines
   pub next : next_of run ≡ Close
   pub untried : tried_of run ≡ false
+  pub saving : (candidates : Candidates) (image : Image) (memory : List (List ℕ)) (state : DeviceState)
+      → IsAtRest candidates image newest.slot lines closed state
+      → image.generation ≡ newest.generation → IsMemory lines memory
+      → Saving candidates image memory run state
 
 -- a stop leaves an image that was possible before the step, or is after it
 abbrev pub IsAmongEither : ℕ → Store → Store → List ℕ → Type 0

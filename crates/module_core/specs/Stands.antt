@@ -5,7 +5,7 @@ use Rattle.line_memory.specs.Memory.{IsMemory}
 use Rattle.save_device.specs.Device.{DeviceState, present, StopsWithin}
 use Rattle.slot_store.specs.Outcomes.{restored}
 use Rattle.slot_store.specs.declared.plan.Step.{Step}
-use Rattle.slot_store.specs.declared.plan.Step.TheVariants.{SyncBody}
+use Rattle.slot_store.specs.declared.plan.Step.TheVariants.{Header}
 use Rattle.slot_store.specs.Slots.{HasSize}
 use Rattle.slot_store.specs.Runs.{next_of}
 use Rattle.arm_state.specs.declared.mode.Mode.TheVariants as modes
@@ -31,7 +31,7 @@ use Rattle.module_core.specs.Device.{Holds}
 
 -- the hold before this step: it ends behind the last page
 abbrev pub hold_behind : Option Step → Option ℕ → Option ℕ
-hold_behind (Some SyncBody) hold = None
+hold_behind (Some Header) hold = None
 hold_behind next hold = hold
 
 -- a module with its device and its gauge

@@ -72,7 +72,7 @@ impl<K: ChannelPort> Module<K> {
         let Some(step) = self.saves.next() else {
             return;
         };
-        if matches!(step, Step::SyncBody) {
+        if matches!(step, Step::Header) {
             self.channels.hold(None);
         }
     }

@@ -67,8 +67,8 @@ page_entries (suc pages) rest = omega (arith, sum_by-cons (λ a. cond (is_entry 
 save_entries : (pages : ℕ) → entries_in (save_actions pages) ≡ 0
 unfolding save_actions page_actions
 save_entries pages =
-    entries-both (CloseGate ∷ Sync ∷ WriteHeader ∷ []) (replicate pages WritePage ++ Sync ∷ OpenGate ∷ Sync ∷ [])
-    ∙ omega (arith, page_entries pages (Sync ∷ OpenGate ∷ Sync ∷ []))
+    entries-both (CloseGate ∷ Sync ∷ []) (replicate pages WritePage ++ WriteHeader ∷ Sync ∷ OpenGate ∷ Sync ∷ [])
+    ∙ omega (arith, page_entries pages (WriteHeader ∷ Sync ∷ OpenGate ∷ Sync ∷ []))
 
 closing_entries : (pages n : ℕ) (ws : List Waiting) → entries_in (closing_actions pages (pending_each n ws)) ≤ length ws
 unfolding closing_actions

@@ -5,7 +5,7 @@ use Rattle.line_memory.specs.Memory.{after, memory_at}
 use Rattle.save_image.specs.Image.{Image}
 use Rattle.save_image.specs.Header.{arm_byte}
 use Rattle.slot_store.specs.declared.plan.Step.{Step}
-use Rattle.slot_store.specs.declared.plan.Step.TheVariants.{Close, SyncBody, Open, SyncOpen, Done}
+use Rattle.slot_store.specs.declared.plan.Step.TheVariants.{Close, Header, SyncBody, Open, SyncOpen, Done}
 use Rattle.slot_store.specs.Rest.{Candidates}
 use Rattle.save_device.specs.Device.{DeviceState}
 use Rattle.arm_state.specs.declared.mode.Mode.{Mode}
@@ -90,6 +90,7 @@ begun_save made = record { made = made; next = Close }
 
 -- the writes from this number on stay out of the arrays, until a save has written its last page
 abbrev pub hold_at : ℕ → Step → Option ℕ
+hold_at count Header = None
 hold_at count SyncBody = None
 hold_at count Open = None
 hold_at count SyncOpen = None

@@ -1,5 +1,5 @@
 -- Which profile a TOML table says.
-use Rattle.std.specs.Prelude.{◌≡◌, ℕ, ◌≤◌, List, length, codes, Some, IsSomeAnd, IsUtf8}
+use Rattle.std.specs.Prelude.{◌≡◌, ℕ, ◌≤◌, List, length, codes, Some, IsSomeAnd, IsUtf8, if◌then◌else◌}
 use Rattle.ddr4_timing.specs.declared.timing.Timing.{Timing}
 use Rattle.ddr4_timing.specs.declared.timing.Geometry.{Geometry}
 use Rattle.ddr4_timing.specs.Limits.{Passes}
@@ -14,7 +14,7 @@ use Rattle.nv_profile.specs.declared.profile.Profile.{Profile}
 use Rattle.nv_profile.specs.declared.reading.TheConstants.{MOST_BYTES}
 use Rattle.nv_profile.specs.Nothing.{HoldsOfNone}
 use Rattle.nv_profile.specs.Limits.{AreSizes}
-use Rattle.nv_profile.specs.Tables.{size_of, number_at, word_at, table_at}
+use Rattle.nv_profile.specs.Tables.{size_of, has_key, number_at, number_or_zero, word_at, table_at}
 
 -- these 18 keys and no further one, each with its number
 pub record SaysTiming (table : Members) (timing : Timing) : Type 0 where
@@ -47,9 +47,9 @@ pub record SaysGeometry (table : Members) (geometry : Geometry) : Type 0 where
   pub rows : number_at (codes "rows") table ≡ Some geometry.rows
   pub columns : number_at (codes "columns") table ≡ Some geometry.columns
 
--- and each cost within its limits; no digest is paid for
+-- of these keys `e_digest` may be missing; each cost is within its limits
 pub record SaysCosts (table : Members) (costs : CostNumbers) : Type 0 where
-  pub size : size_of table ≡ 10
+  pub size : size_of table ≡ (if has_key (codes "e_digest") table then 11 else 10)
   pub e_act : number_at (codes "e_act") table ≡ Some costs.e_act
   pub e_col : number_at (codes "e_col") table ≡ Some costs.e_col
   pub e_pre : number_at (codes "e_pre") table ≡ Some costs.e_pre
@@ -59,8 +59,8 @@ pub record SaysCosts (table : Members) (costs : CostNumbers) : Type 0 where
   pub e_mark : number_at (codes "e_mark") table ≡ Some costs.e_mark
   pub e_sync : number_at (codes "e_sync") table ≡ Some costs.e_sync
   pub e_page : number_at (codes "e_page") table ≡ Some costs.e_page
+  pub e_digest : number_or_zero (codes "e_digest") table ≡ Some costs.e_digest
   pub leak : number_at (codes "leak") table ≡ Some costs.leak
-  pub e_digest : costs.e_digest ≡ 0
   pub within : AreCostsInLimits costs
 
 pub record SaysModule (table : Members) (sizes : ModuleSizes) (word : Interleaving) : Type 0 where

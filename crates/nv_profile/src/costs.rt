@@ -2,10 +2,10 @@
 ghost use Rattle.std.specs.Prelude.{IfSome, IsNone};
 ghost use Rattle.toml.specs.View.{table_view};
 ghost use Rattle.nv_profile.specs.Nothing.{HoldsOfNone};
-ghost use Rattle.nv_profile.specs.Tables.{HasNumber, HasNoNumber};
+ghost use Rattle.nv_profile.specs.Tables.{HasNumber, HasNoNumber, HasNumberIfAny};
 ghost use Rattle.nv_profile.specs.Profile.{SaysCosts};
 
-use crate::table::{number_within, size};
+use crate::table::{has, number_within, size};
 use energy_budget::CostNumbers;
 use toml::Table;
 
@@ -20,12 +20,26 @@ fn cost(table: &Table, key: &str) -> Option<u64>
     number_within(table, key, 0, MOST_COST)
 }
 
-/// The costs that a table says: exactly these keys, each with a number within its limits.
+/// The cost under a key that may be missing, and is 0 then.
+fn cost_if_any(table: &Table, key: &str) -> Option<u64>
+    ensures some { IfSome result (HasNumberIfAny key.now (table_view table.now) MOST_COST) }
+    ensures none { IsNone result
+        → HoldsOfNone (HasNumberIfAny key.now (table_view table.now) MOST_COST) }
+{
+    if has(table, key) {
+        cost(table, key)
+    } else {
+        Some(0)
+    }
+}
+
+/// The costs that a table says: exactly these keys, of which `e_digest` may be missing, each with a number within its limits.
 pub(crate) fn read_costs(table: &Table) -> Option<CostNumbers>
     ensures some { IfSome result (SaysCosts (table_view table.now)) }
     ensures none { IsNone result → HoldsOfNone (SaysCosts (table_view table.now)) }
 {
-    if size(table) != 10 {
+    let keys = if has(table, "e_digest") { 11 } else { 10 };
+    if size(table) != keys {
         return None;
     }
     Some(CostNumbers {
@@ -38,7 +52,7 @@ pub(crate) fn read_costs(table: &Table) -> Option<CostNumbers>
         e_mark: cost(table, "e_mark")?,
         e_sync: cost(table, "e_sync")?,
         e_page: cost(table, "e_page")?,
-        e_digest: 0,
+        e_digest: cost_if_any(table, "e_digest")?,
         leak: cost(table, "leak")?,
     })
 }

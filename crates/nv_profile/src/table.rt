@@ -3,7 +3,7 @@ ghost use Rattle.std.specs.Prelude.{◌≡◌, option_map, IfSome, IsNone};
 ghost use Rattle.toml.specs.Data.{get_member};
 ghost use Rattle.toml.specs.View.{view, table_view};
 ghost use Rattle.nv_profile.specs.Nothing.{HoldsOfNone};
-ghost use Rattle.nv_profile.specs.Tables.{size_of, number_at, HasNumber, HasNoNumber, HasNumbers, word_at, table_at};
+ghost use Rattle.nv_profile.specs.Tables.{size_of, has_key, number_at, HasNumber, HasNoNumber, HasNumbers, word_at, table_at};
 
 use toml::{Table, Value};
 
@@ -19,6 +19,13 @@ fn at<'a>(table: &'a Table, key: &str) -> Option<&'a Value>
     ensures { option_map (λ v. view v.now) result ≡ get_member key.now (table_view table.now) }
 {
     table.get(key)
+}
+
+/// Whether a value stands under the key.
+pub(crate) fn has(table: &Table, key: &str) -> bool
+    ensures { result ≡ has_key key.now (table_view table.now) }
+{
+    at(table, key).is_some()
 }
 
 /// The number under the key, where a whole number stands there.

@@ -94,7 +94,7 @@ impl<K: ChannelPort + Drop, A: Wires<K> + Drop> Session<K, A> {
         };
         let restored = Restored {
             head,
-            version: Version::One,
+            version: Version::Two,
             lines: memory,
         };
         let map = self.profile.map;

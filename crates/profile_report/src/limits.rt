@@ -6,6 +6,8 @@ pub(crate) struct Limits {
     pub(crate) keys: &'static [&'static str],
     pub(crate) least: u64,
     pub(crate) most: u64,
+    /// Whether they may be missing.
+    pub(crate) optional: bool,
 }
 
 /// A table of a profile, with its keys that have a number.
@@ -27,11 +29,13 @@ pub(crate) const TABLES: [KnownTable; 4] = [
                 ],
                 least: 1,
                 most: 100_000,
+                optional: false,
             },
             Limits {
                 keys: &["tREFI"],
                 least: 1,
                 most: 1_000_000,
+                optional: false,
             },
         ],
     },
@@ -42,39 +46,53 @@ pub(crate) const TABLES: [KnownTable; 4] = [
                 keys: &["channels"],
                 least: 1,
                 most: 8,
+                optional: false,
             },
             Limits {
                 keys: &["ranks"],
                 least: 1,
                 most: 4,
+                optional: false,
             },
             Limits {
                 keys: &["groups"],
                 least: 2,
                 most: 4,
+                optional: false,
             },
             Limits {
                 keys: &["banks"],
                 least: 4,
                 most: 4,
+                optional: false,
             },
             Limits {
                 keys: &["rows", "columns"],
                 least: 1,
                 most: 65_536,
+                optional: false,
             },
         ],
     },
     KnownTable {
         name: "costs",
-        limits: &[Limits {
-            keys: &[
-                "e_act", "e_col", "e_pre", "e_ref", "e_sre", "e_clk", "e_mark", "e_sync", "e_page",
-                "leak",
-            ],
-            least: 0,
-            most: 1_000_000,
-        }],
+        limits: &[
+            Limits {
+                keys: &[
+                    "e_act", "e_col", "e_pre", "e_ref", "e_sre", "e_clk", "e_mark", "e_sync",
+                    "e_page", "leak",
+                ],
+                least: 0,
+                most: 1_000_000,
+                optional: false,
+            },
+            Limits {
+                keys: &["e_digest"],
+                least: 0,
+                most: 1_000_000,
+                optional: true,
+            },
+        ],
     },
     KnownTable {
         name: "module",
@@ -83,16 +101,19 @@ pub(crate) const TABLES: [KnownTable; 4] = [
                 keys: &["depth", "reads"],
                 least: 1,
                 most: 64,
+                optional: false,
             },
             Limits {
                 keys: &["trail"],
                 least: 1,
                 most: 65_536,
+                optional: false,
             },
             Limits {
                 keys: &["notices"],
                 least: 1,
                 most: 4_096,
+                optional: false,
             },
         ],
     },

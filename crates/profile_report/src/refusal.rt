@@ -97,9 +97,17 @@ fn why_of_numbers(
     inner: &Table,
     limits: &Limits,
 ) -> Result<Option<String>, AllocError> {
-    let Limits { keys, least, most } = *limits;
+    let Limits {
+        keys,
+        least,
+        most,
+        optional,
+    } = *limits;
     for key in keys.iter().copied() {
         let Some(value) = inner.get(key) else {
+            if optional {
+                continue;
+            }
             return Ok(Some(format!(in alloc; "no key {name}.{key}")?));
         };
         let Some(number) = value.as_integer() else {

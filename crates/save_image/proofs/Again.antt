@@ -285,6 +285,14 @@ unfolding header fields
 header-gate digest gate other arm generation count lines = refl
 
 -- a digest has 32 bytes
+pub length-digest_of : (memory : List (List ℕ)) → length (digest_of memory) ≡ 32
+unfolding digest_of
+length-digest_of memory = length-sha256 (bytes_of memory)
+
+pub length-tail_of : (digest : List ℕ) → length digest ≡ 32 → length (tail (Some digest)) ≡ 4056
+unfolding tail
+length-tail_of digest long = length-append digest (zeros 4024) ∙ omega (arith, long, length-zeros 4024)
+
 pub length-tail : (version : Version) (memory : List (List ℕ)) → length (tail (digest_for version memory)) ≡ 4056
 unfolding tail digest_of
 length-tail One memory = length-zeros 4056

@@ -5,7 +5,7 @@ use Rattle.std.specs.List.{concat}
 use Rattle.std.specs.Prelude.{replicate}
 use Rattle.line_memory.specs.Memory.{zero_line, zero_lines}
 use Rattle.save_image.specs.Body.{page_of}
-use Rattle.save_image.specs.declared.reading.Version.TheVariants.{One}
+use Rattle.save_image.specs.declared.reading.Version.TheVariants.{Two}
 use Rattle.slot_store.specs.Formatted.{HasShutGates, IsFormatted}
 use Rattle.slot_store.specs.Outcomes.{first_image}
 use Rattle.slot_store.proofs.Common.{[], ℕ, ◌*◌, ◌++◌, ◌+◌, ◌-◌, ◌<◌, ◌∙◌, ◌∷◌, ◌≡◌, ◌≤◌, Bool, DeviceState, DiffersOnlyAt, Done, Err, First, Full, GateShut, HasSize, Image, IsAtRestOn, IsInRange, IsMemory, IsSettled, List, Ok, Plan, Result, Second, Slot, SlotHas, ap, arith, arm_byte, device_size, differs_within, false, gate_of, get_or, holds-within, image_bytes, image_of, length, overwritten, refl, slice_index, slice_range, slot_size, slot_state, start_of, subst, suc, sym, take, true, zero, zero_lines-IsMemory}
@@ -88,10 +88,10 @@ module _ (lines : ℕ) (plan : Plan) (is : IsFirstPlan lines plan) where
     formatted_bytes = record {
       size = keeps.size;
       first =
-          let bytes : slice_range new.bytes (gate_of plan) (gate_of plan + slot_size plan.lines) ≡ image_bytes plan.lines One (image_of plan (zero_lines lines)) = written_bytes plan (zero_lines lines) new.bytes memory_is done.0 done.1.is_open (omega (arith, keeps.size, size, gate_is, is.lines_are)) in
+          let bytes : slice_range new.bytes (gate_of plan) (gate_of plan + slot_size plan.lines) ≡ image_bytes plan.lines Two (image_of plan (zero_lines lines)) = written_bytes plan (zero_lines lines) new.bytes memory_is done.0 done.1.is_open (omega (arith, keeps.size, size, gate_is, is.lines_are)) in
           let start : gate_of plan + slot_size plan.lines ≡ slot_size lines = omega (arith, gate_is, is.lines_are) in
           ap (λ (to : ℕ). slice_range new.bytes 0 to) (sym start) ∙ ap (λ (from : ℕ). slice_range new.bytes from (gate_of plan + slot_size plan.lines)) (sym gate_is) ∙ bytes
-          ∙ ap (λ (n : ℕ). image_bytes n One (image_of plan (zero_lines lines))) is.lines_are ∙ ap (image_bytes lines One) image_is;
+          ∙ ap (λ (n : ℕ). image_bytes n Two (image_of plan (zero_lines lines))) is.lines_are ∙ ap (image_bytes lines Two) image_is;
       second = keeps.shut;
       rest = keeps.rest;
     }

@@ -1,10 +1,14 @@
 -- A closed gate hides its slot, and an open one shows it.
 use Rattle.std.proofs.lemmas.Bool.Decides.{Decides-eqb, Decides-ltb, nat_tests}
 use Rattle.std.specs.Prelude.{◌==◌, None, Option}
+use Rattle.std.proofs.lemmas.Slice.Eq.{bytes_eq-Decides}
+use Rattle.save_image.specs.Image.{digest_for, digest_of}
 use Rattle.save_image.specs.declared.reading.Header.{Header}
+use Rattle.save_image.specs.declared.reading.Version.{Version}
+use Rattle.save_image.specs.declared.reading.Version.TheVariants.{One, Two}
 use Rattle.slot_store.specs.Outcomes.{newer, restored}
 use Rattle.slot_store.specs.Slots.{Broken, digest_fits, opened, slot_state}
-use Rattle.slot_store.proofs.Common.{if◌then◌else◌, ℕ, ◌+◌, ◌-◌, ◌<◌, ◌∙◌, ◌≡◌, ◌≢◌, Bool, Closed, Damaged, First, Found, Full, Image, List, Second, Slot, SlotState, Some, WrongSize, ap, arith, body_in, chosen, device_size, drop, eqb_tells, false, get_or, get_or-drop, get_or-take, header_in, image_with, length, nat_lt, other, page_in, slice_index, start_of, sym, true, ⊎_elim}
+use Rattle.slot_store.proofs.Common.{if◌then◌else◌, ℕ, ◌+◌, ◌-◌, ◌<◌, ◌∙◌, ◌≡◌, ◌≢◌, Bool, Closed, Damaged, First, Found, Full, Image, List, Second, Slot, SlotState, Some, WrongSize, ap, arith, body_in, chosen, device_size, drop, eqb_tells, false, get_or, get_or-drop, get_or-take, header_in, image_with, length, nat_lt, other, page_in, refl, slice_index, start_of, sym, true, ⊎_elim}
 
 pub gate_in_page : (lines : ℕ) (slot : Slot) (c : List ℕ) → slice_index (page_in lines slot c) 0 ≡ slice_index c (start_of lines slot)
 gate_in_page lines slot c =
@@ -64,6 +68,11 @@ the_newer lines Second c old new size there here less = by_states lines c (Full 
 -- an open slot whose lines have the digest of its header, and one whose lines don't
 pub opened_fits : (h : Header) (memory : List (List ℕ)) → digest_fits h.digest memory ≡ true → opened (Some h) memory ≡ Full (image_with h memory)
 opened_fits h memory fits = ap (λ (b : Bool). if b then Full (image_with h memory) else Broken) fits
+
+-- the digest of either version fits
+pub version_fits : (version : Version) (memory : List (List ℕ)) → digest_fits (digest_for version memory) memory ≡ true
+version_fits One memory = refl
+version_fits Two memory = (bytes_eq-Decides (digest_of memory) (digest_of memory)).1 refl
 
 pub opened_unfit : (h : Header) (memory : List (List ℕ)) → digest_fits h.digest memory ≡ false → opened (Some h) memory ≡ Broken
 opened_unfit h memory unfit = ap (λ (b : Bool). if b then Full (image_with h memory) else Broken) unfit

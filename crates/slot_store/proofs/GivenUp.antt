@@ -70,7 +70,7 @@ pub given_up : (candidates : Candidates) (old : Image) (plan : Plan) (memory : L
     → IsAtRest (candidates_before candidates old plan memory next tried) old (other plan.slot) plan.lines (closed_before plan next tried) state
 given_up candidates old plan memory Close tried state going s = rest_closing candidates old plan memory tried state Close s s.guards s.has
 given_up candidates old plan memory SyncClosed tried state going s = rest_closing candidates old plan memory tried state SyncClosed s s.guards s.has.1
-given_up candidates old plan memory Header tried state going s = rest_old candidates old plan memory tried state Header s s.guards s.has
+given_up candidates old plan memory Header tried state going s = rest_old candidates old plan memory tried state Header s s.guards s.has.0
 given_up candidates old plan memory (Page i) tried state going s = rest_old candidates old plan memory tried state (Page i) s s.guards s.has.0
 given_up candidates old plan memory SyncBody tried state going s = rest_old candidates old plan memory tried state SyncBody s s.guards s.has.0
 given_up candidates old plan memory Open true state going s = rest_opening candidates old plan memory true state Open s s.has.0 s.has.1

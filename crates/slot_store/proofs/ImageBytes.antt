@@ -15,7 +15,7 @@ use Rattle.save_image.specs.declared.reading.Version.TheVariants.{One, Two}
 use Rattle.slot_store.specs.Changes.{planned}
 use Rattle.slot_store.specs.Slots.{Broken, digest_fits, opened, slot_state}
 use Rattle.slot_store.proofs.Common.{[], if◌then◌else◌, ℕ, ◌*◌, ◌++◌, ◌+◌, ◌-◌, ◌∙◌, ◌≡◌, ◌≤◌, Bool, Closed, Full, Image, IsMemory, IsWritten, List, Plan, Slot, Some, ap, append-nil, arith, body_in, device_size, drop, false, gate_of, header, header_in, image_of, image_with, length, length-drop, length-take, lines_in, page_in, refl, slice_index, slice_range, slot_size, start_of, subst, suc, sym, take, true, zero}
-use Rattle.slot_store.proofs.Gates.{equal, gate_in_page, gate_open, open_gate, opened_fits, opened_unfit}
+use Rattle.slot_store.proofs.Gates.{equal, gate_in_page, gate_open, open_gate, opened_fits, opened_unfit, version_fits}
 use Rattle.slot_store.proofs.Stops.{within}
 
 -- a header page, and then the bytes of the lines
@@ -27,13 +27,13 @@ slot_split start n c =
     ∙ ap (λ (rest : List ℕ). slice_range c start (start + 4096) ++ take n rest) (drop-drop 4096 start c)
 
 pub written_bytes : (plan : Plan) (memory : List (List ℕ)) (c : List ℕ) → IsMemory plan.lines memory → IsWritten plan memory c → slice_index c (gate_of plan) ≡ 0xA5 → gate_of plan + slot_size plan.lines ≤ length c
-    → slice_range c (gate_of plan) (gate_of plan + slot_size plan.lines) ≡ image_bytes plan.lines One (image_of plan memory)
+    → slice_range c (gate_of plan) (gate_of plan + slot_size plan.lines) ≡ image_bytes plan.lines Two (image_of plan memory)
 unfolding image_bytes
 written_bytes plan memory c lines w is_open fits =
     let body : lines_in plan.lines (drop (gate_of plan + 4096) c) ≡ memory = w.body ∙ take_all plan.lines memory (omega (arith, lines.size)) in
     slot_split (gate_of plan) (64 * plan.lines) c
-    ∙ ap (λ (page : List ℕ). page ++ take (64 * plan.lines) (drop (gate_of plan + 4096) c)) (w.header ∙ ap (planned plan) is_open)
-    ∙ ap (λ (bytes : List ℕ). planned plan 0xA5 ++ bytes) (sym (bytes_of-lines_in plan.lines (drop (gate_of plan + 4096) c)) ∙ ap bytes_of body)
+    ∙ ap (λ (page : List ℕ). page ++ take (64 * plan.lines) (drop (gate_of plan + 4096) c)) (w.header ∙ ap (planned plan (digest_of memory)) is_open)
+    ∙ ap (λ (bytes : List ℕ). planned plan (digest_of memory) 0xA5 ++ bytes) (sym (bytes_of-lines_in plan.lines (drop (gate_of plan + 4096) c)) ∙ ap bytes_of body)
 
 lines_in-IsMemory : (n : ℕ) (bytes : List ℕ) → 64 * n ≤ length bytes → IsMemory n (lines_in n bytes)
 lines_in-IsMemory n bytes fits = record { size = length-lines_in n bytes; whole = each_whole n bytes fits }
@@ -48,10 +48,6 @@ fits_as : (digest : Option (List ℕ)) (memory : List (List ℕ)) → digest_fit
 fits_as None memory fits = (One, refl)
 fits_as (Some digest) memory fits =
     let same : digest ≡ digest_of memory = (bytes_eq-Decides digest (digest_of memory)).0 fits in (Two, ap (λ (bytes : List ℕ). let d : Option (List ℕ) = Some bytes in d) same)
-
-pub version_fits : (version : Version) (memory : List (List ℕ)) → digest_fits (digest_for version memory) memory ≡ true
-version_fits One memory = refl
-version_fits Two memory = (bytes_eq-Decides (digest_of memory) (digest_of memory)).1 refl
 
 -- what a full slot's header and lines are
 record IsFilled (lines : ℕ) (slot : Slot) (bytes : List ℕ) (image : Image) : Type 0 where

@@ -6,6 +6,7 @@ pub mod RestoreCalls
 pub mod Torn
 pub mod Stops
 pub mod Standing
+pub mod Digested
 pub mod Going
 pub mod Resting
 pub mod Checked

@@ -12,16 +12,16 @@ use Rattle.slot_store.proofs.Standing.{below_or_not}
 pub steps_left-after : (lines : ℕ) (next : Step) → IsCapacity lines → reach_of next ≤ lines → 0 < steps_left lines next → steps_left lines (step_after lines next) + 1 ≡ steps_left lines next
 steps_left-after lines Close cap reach some = omega arith
 steps_left-after lines SyncClosed cap reach some = omega arith
-steps_left-after lines Header cap reach some = omega arith
 steps_left-after lines (Page k) cap reach some =
     elim (below_or_not lines (64 * (k + 2))) [
       | inl last ↦
-          let after : steps_left lines (if nat_lt lines (64 * (k + 2)) then SyncBody else Page (k + 1)) ≡ 3 = ap (λ (b : Bool). steps_left lines (if b then SyncBody else Page (k + 1))) last.0 in
+          let after : steps_left lines (if nat_lt lines (64 * (k + 2)) then Header else Page (k + 1)) ≡ 4 = ap (λ (b : Bool). steps_left lines (if b then Header else Page (k + 1))) last.0 in
           omega (arith, after, last.1, cap.whole)
       | inr further ↦
-          let after : steps_left lines (if nat_lt lines (64 * (k + 2)) then SyncBody else Page (k + 1)) ≡ lines / 64 + 3 - (k + 1) = ap (λ (b : Bool). steps_left lines (if b then SyncBody else Page (k + 1))) further.0 in
+          let after : steps_left lines (if nat_lt lines (64 * (k + 2)) then Header else Page (k + 1)) ≡ lines / 64 + 4 - (k + 1) = ap (λ (b : Bool). steps_left lines (if b then Header else Page (k + 1))) further.0 in
           omega (arith, after, further.1)
     ]
+steps_left-after lines Header cap reach some = refl
 steps_left-after lines SyncBody cap reach some = refl
 steps_left-after lines Open cap reach some = refl
 steps_left-after lines SyncOpen cap reach some = refl
@@ -81,32 +81,32 @@ module _ (lines : ℕ) (capacity : IsCapacity lines) (first : Step) (reach : rea
 
 -- the call of a page, and those behind it
 page_call : (lines k : ℕ) → 64 * (k + 1) ≤ lines → page_calls lines k ≡ Write ∷ page_calls lines (k + 1)
-page_call lines k reach = ap (λ (n : ℕ). replicate n Write ++ (Sync ∷ Write ∷ Sync ∷ [])) (let e : lines / 64 - k ≡ suc (lines / 64 - (k + 1)) = omega arith in e)
+page_call lines k reach = ap (λ (n : ℕ). replicate n Write ++ (Write ∷ Sync ∷ Write ∷ Sync ∷ [])) (let e : lines / 64 - k ≡ suc (lines / 64 - (k + 1)) = omega arith in e)
 
 -- behind the last page
-last_page : (lines k : ℕ) → lines < 64 * (k + 1) → page_calls lines k ≡ Sync ∷ Write ∷ Sync ∷ []
-last_page lines k last = ap (λ (n : ℕ). replicate n Write ++ (Sync ∷ Write ∷ Sync ∷ [])) (let e : lines / 64 - k ≡ 0 = omega arith in e)
+last_page : (lines k : ℕ) → lines < 64 * (k + 1) → page_calls lines k ≡ Write ∷ Sync ∷ Write ∷ Sync ∷ []
+last_page lines k last = ap (λ (n : ℕ). replicate n Write ++ (Write ∷ Sync ∷ Write ∷ Sync ∷ [])) (let e : lines / 64 - k ≡ 0 = omega arith in e)
 
 close_call : (plan : Plan) (closed : Bool) → call_of (if closed then Settle else Put (gate_of plan) (0 ∷ [])) ≡ (if closed then Sync else Write)
 close_call plan true = refl
 close_call plan false = refl
 
 -- the call of a step, and those behind it
-pub calls_left-after : (plan : Plan) (next : Step) (page : List ℕ) → reach_of next ≤ plan.lines → 0 < steps_left plan.lines next
-    → calls_left plan.closed plan.lines next ≡ call_of (change_of plan next page) ∷ calls_left plan.closed plan.lines (step_after plan.lines next)
-calls_left-after plan Close page reach some = ap (λ (kind : CallKind). kind ∷ calls_left plan.closed plan.lines SyncClosed) (sym (close_call plan plan.closed))
-calls_left-after plan SyncClosed page reach some = refl
-calls_left-after plan Header page reach some = refl
-calls_left-after plan (Page k) page reach some =
+pub calls_left-after : (plan : Plan) (digest : List ℕ) (next : Step) (page : List ℕ) → reach_of next ≤ plan.lines → 0 < steps_left plan.lines next
+    → calls_left plan.closed plan.lines next ≡ call_of (change_of plan digest next page) ∷ calls_left plan.closed plan.lines (step_after plan.lines next)
+calls_left-after plan digest Close page reach some = ap (λ (kind : CallKind). kind ∷ calls_left plan.closed plan.lines SyncClosed) (sym (close_call plan plan.closed))
+calls_left-after plan digest SyncClosed page reach some = refl
+calls_left-after plan digest Header page reach some = refl
+calls_left-after plan digest (Page k) page reach some =
     elim (below_or_not plan.lines (64 * (k + 2))) [
       | inl last ↦
           page_call plan.lines k reach ∙ ap (λ (calls : List CallKind). Write ∷ calls) (last_page plan.lines (k + 1) (omega (arith, last.1)))
-          ∙ ap (λ (b : Bool). Write ∷ calls_left plan.closed plan.lines (if b then SyncBody else Page (k + 1))) (sym last.0)
+          ∙ ap (λ (b : Bool). Write ∷ calls_left plan.closed plan.lines (if b then Header else Page (k + 1))) (sym last.0)
       | inr further ↦
           page_call plan.lines k reach
-          ∙ ap (λ (b : Bool). Write ∷ calls_left plan.closed plan.lines (if b then SyncBody else Page (k + 1))) (sym further.0)
+          ∙ ap (λ (b : Bool). Write ∷ calls_left plan.closed plan.lines (if b then Header else Page (k + 1))) (sym further.0)
     ]
-calls_left-after plan SyncBody page reach some = refl
-calls_left-after plan Open page reach some = refl
-calls_left-after plan SyncOpen page reach some = refl
-calls_left-after plan Done page reach some = absurd (omega (arith, some))
+calls_left-after plan digest SyncBody page reach some = refl
+calls_left-after plan digest Open page reach some = refl
+calls_left-after plan digest SyncOpen page reach some = refl
+calls_left-after plan digest Done page reach some = absurd (omega (arith, some))

@@ -9,12 +9,12 @@ use Rattle.save_device.specs.Changes.{call_of}
 use Rattle.save_device.specs.declared.calls.Call.{Call}
 use Rattle.save_device.specs.declared.calls.CallKind.{CallKind}
 use Rattle.slot_store.specs.Finishing.{AsksFor, Finish, Finishes, GrantsEach, GrantsFirst, LeavesInFirst, StandsAfter, TriesFirst, Underway, calls_to_come, is_tried, steps_tried, underway}
-use Rattle.slot_store.specs.Runs.{GoesOnFrom, HasSoFar, Saving, next_of, plan_of, tried_of}
+use Rattle.slot_store.specs.Runs.{GoesOnFrom, HasSoFar, MakesStep, Saving, next_of, plan_of, tried_of}
 use Rattle.slot_store.specs.declared.saving.SaveRun.{SaveRun}
 use Rattle.slot_store.specs.declared.source.Refused.{Refused}
 use Rattle.slot_store.specs.declared.source.SaveSource.{Ghosts}
 use Rattle.slot_store.specs.declared.source.BrokenOff.TheVariants as broken
-use Rattle.slot_store.proofs.Common.{[], ℕ, ◌++◌, ◌+◌, ◌<◌, ◌∙◌, ◌∷◌, ◌≡◌, ◌≢◌, ◌⊎◌, Bool, BrokenOff, CallsFor, Candidates, DeviceState, DiffersOnlyAt, Done, Err, GivesPage, Image, IsInRange, IsMemory, Leaves, LeavesOnly, List, Makes, MakesCalls, MayLeave, Ok, Plan, Result, Step, and_then, ap, append-nil, arith, calls_left, change_of, device_size, drop, false, gate_of, get_or, inl, inr, steps_to_come, length, present, refl, slot_size, step_after, step_on, steps_left, subst, suc, sym, take, true, weaker, zero}
+use Rattle.slot_store.proofs.Common.{[], ℕ, ◌++◌, ◌+◌, ◌<◌, ◌∙◌, ◌∷◌, ◌≡◌, ◌≢◌, ◌⊎◌, Bool, BrokenOff, CallsFor, Candidates, Close, DeviceState, DiffersOnlyAt, Done, Err, GivesPage, Header, Image, IsInRange, IsMemory, Leaves, LeavesOnly, List, MakesCalls, MayLeave, Ok, Open, Page, Plan, Result, Step, SyncBody, SyncClosed, SyncOpen, and_then, ap, append-nil, arith, calls_left, change_of, device_size, drop, false, gate_of, get_or, inl, inr, steps_to_come, length, present, refl, slot_size, step_after, step_on, steps_left, subst, suc, sym, take, true, weaker, zero}
 use Rattle.slot_store.proofs.StepsLeft.{ComesAt, calls_left-after, comes_at, no_steps_left, steps_left-after}
 use Rattle.slot_store.proofs.Standing.{below_or_not}
 use Rattle.slot_store.proofs.Stops.{sized_within}
@@ -88,9 +88,20 @@ module _ {S T : Type 0} (G : Ghosts S) (H : Ghosts T) (see : S → T) (follow : 
     tries = subst (λ (memory : List (List ℕ)). TriesFirst memory (steps_tried finish told.made) old.run old.device new.run new.device) (same old.source) told.tries;
   }
 
+-- a step makes one call whatever its digest is
+same_kind : (plan : Plan) (one two : List ℕ) (next : Step) (page : List ℕ) → call_of (change_of plan one next page) ≡ call_of (change_of plan two next page)
+same_kind plan one two Close page = refl
+same_kind plan one two SyncClosed page = refl
+same_kind plan one two (Page k) page = refl
+same_kind plan one two Header page = refl
+same_kind plan one two SyncBody page = refl
+same_kind plan one two Open page = refl
+same_kind plan one two SyncOpen page = refl
+same_kind plan one two Done page = refl
+
 -- one step of a save, as `SaveRun::step` tells of it
 pub record TriesStep (good : Bool) (page : List ℕ) (run : SaveRun) (now : DeviceState) (later : SaveRun) (new : DeviceState) : Type 0 where
-  pub call : Makes (change_of (plan_of run) (next_of run) page) good now new
+  pub call : MakesStep run page good now new
   pub outside : DiffersOnlyAt (IsInRange (gate_of (plan_of run)) (slot_size (plan_of run).lines)) now.bytes new.bytes
   pub next : GoesOnFrom good run later
   pub has : (memory : List (List ℕ)) → IsMemory (plan_of run).lines memory → GivesPage memory (next_of run) page → HasSoFar memory run now → HasSoFar memory later new
@@ -149,7 +160,7 @@ module _ {S : Type 0} (G : Ghosts S) (source : S) (run : SaveRun) (old : DeviceS
 
         module _ (asked : G.asks giver s (Ok tt) later_giver) (page : List ℕ) (gives : GivesPage (G.memory later_giver) s page) (later : SaveRun) (new : DeviceState) where
           abbrev kind : CallKind
-          kind = call_of (change_of (plan_of at) (next_of at) page)
+          kind = call_of (change_of (plan_of at) [] (next_of at) page)
 
           abbrev behind : List CallKind
           behind = calls_left (plan_of at).closed (plan_of at).lines (step_after (plan_of at).lines (next_of at))
@@ -158,14 +169,18 @@ module _ {S : Type 0} (G : Ghosts S) (source : S) (run : SaveRun) (old : DeviceS
           granted = (giver, m.granted, subst (λ (s : Step). G.asks giver s (Ok tt) later_giver) (is ∙ m.stands.next) asked)
 
           comes : ComesAt (calls_to_come run) made kind behind
-          comes = comes_at (calls_to_come run) made kind behind (m.coming ∙ calls_left-after (plan_of at) (next_of at) page at.place some)
+          comes = comes_at (calls_to_come run) made kind behind (m.coming ∙ calls_left-after (plan_of at) [] (next_of at) page at.place some)
+
+          -- the call that was made
+          counted : (good : Bool) → TriesStep good page at now later new → new.calls ≡ now.calls ++ called kind good ∷ []
+          counted good step = step.call.makes.call.counted ∙ ap (λ (k : CallKind). now.calls ++ called k good ∷ []) (same_kind (plan_of at) step.call.digest [] (next_of at) page)
 
           -- one step more was tried
           tries_more : (good : Bool) → TriesStep good page at now later new → TriesFirst memory (suc made) run old later new
           tries_more good step = record {
             has = λ is so. step.has memory (subst (λ (p : Plan). IsMemory p.lines memory) (sym m.stands.plan) is) gives_same (m.tries.has is so);
             outside = record { size = outside.size ∙ m.tries.outside.size; outside = λ place out. outside.outside place out ∙ m.tries.outside.outside place out };
-            size = and_then old now new m.tries.size (sized_within (plan_of run).lines now new step.call.call.time now_size (outside.size ∙ now_size));
+            size = and_then old now new m.tries.size (sized_within (plan_of run).lines now new step.call.makes.call.time now_size (outside.size ∙ now_size));
             saving = λ candidates image s. step.saving candidates image memory gives_same (m.tries.saving candidates image s);
             any_moment = λ candidates image s.
                 and_then old now new (weaker old now (before candidates image) (m.tries.any_moment candidates image s))
@@ -194,7 +209,7 @@ module _ {S : Type 0} (G : Ghosts S) (source : S) (run : SaveRun) (old : DeviceS
           pub ends_failed : TriesStep false page at now later new → Finishes G (Err broken.Fault) (underway source run old) (underway later_giver later new)
           ends_failed step =
               let again : steps_to_come later ≡ steps_to_come at = ap (λ (p : Plan). steps_left p.lines (next_of later)) step.next.plan ∙ ap (steps_left (plan_of at).lines) step.next.next in
-              let calls : new.calls ≡ old.calls ++ all_good (take made (calls_to_come run)) ++ called kind false ∷ [] = step.call.call.counted ∙ ap (λ (calls : List Call). calls ++ called kind false ∷ []) m.calls in
+              let calls : new.calls ≡ old.calls ++ all_good (take made (calls_to_come run)) ++ called kind false ∷ [] = counted false step ∙ ap (λ (calls : List Call). calls ++ called kind false ∷ []) m.calls in
               record {
                 made = made;
                 stands = record { plan = step.next.plan ∙ m.stands.plan; next = step.next.next ∙ m.stands.next; left = ap (λ (left : ℕ). left + made) again ∙ m.stands.left; tried_is = step.next.tried };
@@ -216,7 +231,7 @@ module _ {S : Type 0} (G : Ghosts S) (source : S) (run : SaveRun) (old : DeviceS
                 stands = record { plan = step.next.plan ∙ m.stands.plan; next = next; left = omega (arith, less, after, m.stands.left); tried_is = step.next.tried };
                 granted = granted;
                 coming = comes.rest ∙ sym coming;
-                calls = calls_more (calls_to_come run) behind made kind old.calls now.calls new.calls comes m.calls step.call.call.counted;
+                calls = calls_more (calls_to_come run) behind made kind old.calls now.calls new.calls comes m.calls (counted true step);
                 same = same ∙ m.same;
                 tries = tries_more true step;
               }

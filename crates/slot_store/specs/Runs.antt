@@ -1,14 +1,19 @@
 -- What a save that runs shows of itself.
-use Rattle.std.specs.Prelude.{◌≡◌, ℕ, Bool, not, if◌then◌else◌, List}
+use Rattle.std.specs.Prelude.{◌≡◌, ℕ, Bool, not, if◌then◌else◌, List, length, take}
+use Rattle.sha2.specs.Hashers.{Holds256}
+use Rattle.save_device.specs.Changes.{Makes}
 use Rattle.save_device.specs.Device.{DeviceState}
-use Rattle.save_image.specs.Image.{Image}
+use Rattle.line_memory.specs.Memory.{IsMemory}
+use Rattle.save_image.specs.Body.{bytes_of}
+use Rattle.save_image.specs.Image.{Image, digest_of}
 use Rattle.slot_store.specs.declared.plan.Newest.{Newest}
 use Rattle.slot_store.specs.declared.plan.Plan.{Plan}
 use Rattle.slot_store.specs.declared.plan.Step.{Step}
 use Rattle.slot_store.specs.declared.saving.SaveRun.{SaveRun}
 use Rattle.slot_store.specs.Slots.{other}
-use Rattle.slot_store.specs.Steps.{step_after}
-use Rattle.slot_store.specs.Changes.{closed_before}
+use Rattle.slot_store.specs.declared.plan.Step.TheVariants.{Header}
+use Rattle.slot_store.specs.Steps.{lines_before, step_after}
+use Rattle.slot_store.specs.Changes.{change_of, closed_before}
 use Rattle.slot_store.specs.Rest.{Candidates, IsAtRest}
 use Rattle.slot_store.specs.Saving.{SlotHas, SavingAt, candidates_before}
 
@@ -34,14 +39,25 @@ pub record GoesOnFrom (good : Bool) (old new : SaveRun) : Type 0 where
   pub next : next_of new ≡ (if good then step_after (plan_of old).lines (next_of old) else next_of old)
   pub tried : tried_of new ≡ not good
 
--- what stands in the slot that the save writes
+-- the pages of this memory that were written so far were digested, in their order
+abbrev pub HasDigested : List (List ℕ) → SaveRun → Type 0
+HasDigested memory run = Holds256 run.hasher (bytes_of (take (lines_before (plan_of run).lines (next_of run)) memory))
+
+-- The one device call of the coming step, where its header has this digest: that of the memory whose pages were digested.
+pub record MakesStep (run : SaveRun) (page : List ℕ) (good : Bool) (old new : DeviceState) : Type 0 where
+  pub digest : List ℕ
+  pub size : length digest ≡ 32
+  pub own : (memory : List (List ℕ)) → IsMemory (plan_of run).lines memory → HasDigested memory run → next_of run ≡ Header → digest ≡ digest_of memory
+  pub makes : Makes (change_of (plan_of run) digest (next_of run) page) good old new
+
+-- what stands in the slot that the save writes, and what was digested of it
 abbrev pub HasSoFar : List (List ℕ) → SaveRun → DeviceState → Type 0
-HasSoFar memory run state = SlotHas (plan_of run) memory (next_of run) (tried_of run) state
+HasSoFar memory run state = SlotHas (plan_of run) memory (next_of run) (tried_of run) state × HasDigested memory run
 
 -- this save of this memory runs over the newest image `old`
 abbrev pub Saving : Candidates → Image → List (List ℕ) → SaveRun → DeviceState → Type 0
 Saving candidates old memory run state =
-    SavingAt candidates old (plan_of run) memory (next_of run) (tried_of run) state
+    SavingAt candidates old (plan_of run) memory (next_of run) (tried_of run) state × HasDigested memory run
 
 -- the device is at rest where that save is given up, on the old image still
 abbrev pub IsGivenUp : Candidates → Image → List (List ℕ) → SaveRun → DeviceState → Type 0

@@ -5,7 +5,7 @@ use Rattle.save_device.specs.Device.{DeviceState, IsSettled}
 use Rattle.line_memory.specs.Memory.{IsMemory}
 use Rattle.save_image.specs.Header.{arm_byte}
 use Rattle.save_image.specs.Body.{lines_in}
-use Rattle.save_image.specs.Image.{Image}
+use Rattle.save_image.specs.Image.{Image, digest_of}
 use Rattle.slot_store.specs.declared.plan.Plan.{Plan}
 use Rattle.slot_store.specs.declared.plan.Step.{Step}
 use Rattle.slot_store.specs.declared.plan.Step.TheVariants.{Close, SyncClosed, Header, Page, SyncBody, Open, SyncOpen, Done}
@@ -22,9 +22,10 @@ image_of plan memory = record { generation = plan.generation; count = plan.count
 abbrev pub GateShut : Plan → DeviceState → Type 0
 GateShut plan state = IsShut plan.lines plan.slot state
 
--- the header of the slot is the planned one, whatever its gate
-abbrev pub HasHeader : Plan → List ℕ → Type 0
-HasHeader plan bytes = page_in plan.lines plan.slot bytes ≡ planned plan (slice_index bytes (gate_of plan))
+-- the header of the slot is the planned one, with the digest of this memory, whatever its gate
+abbrev pub HasHeader : Plan → List (List ℕ) → List ℕ → Type 0
+HasHeader plan memory bytes =
+    page_in plan.lines plan.slot bytes ≡ planned plan (digest_of memory) (slice_index bytes (gate_of plan))
 
 -- the first n lines of the slot's body are the memory's
 abbrev pub HasLines : Plan → List (List ℕ) → ℕ → List ℕ → Type 0
@@ -32,7 +33,7 @@ HasLines plan memory n bytes = lines_in n (drop (gate_of plan + 4096) bytes) ≡
 
 -- all of the slot but its gate is the image's
 pub record IsWritten (plan : Plan) (memory : List (List ℕ)) (bytes : List ℕ) : Type 0 where
-  pub header : HasHeader plan bytes
+  pub header : HasHeader plan memory bytes
   pub body : HasLines plan memory plan.lines bytes
 
 -- nothing but the gate may be unsettled
@@ -50,9 +51,8 @@ abbrev pub SlotHas : Plan → List (List ℕ) → Step → Bool → DeviceState 
 SlotHas plan memory Close tried state = plan.closed ≡ true → GateShut plan state
 SlotHas plan memory SyncClosed tried state =
     (slice_index state.bytes (gate_of plan) ≢ 0xA5) × (plan.closed ≡ true → GateShut plan state)
-SlotHas plan memory Header tried state = GateShut plan state
-SlotHas plan memory (Page k) tried state =
-    GateShut plan state × HasHeader plan state.bytes × HasLines plan memory (64 * k) state.bytes
+SlotHas plan memory (Page k) tried state = GateShut plan state × HasLines plan memory (64 * k) state.bytes
+SlotHas plan memory Header tried state = GateShut plan state × HasLines plan memory plan.lines state.bytes
 SlotHas plan memory SyncBody tried state = GateShut plan state × IsWritten plan memory state.bytes
 SlotHas plan memory Open tried state =
     IsWritten plan memory state.bytes × IsSettledButGate plan state × (tried ≡ false → GateShut plan state)

@@ -10,12 +10,19 @@ abbrev pub reach_of : Step → ℕ
 reach_of (Page k) = 64 * (k + 1)
 reach_of step = 0
 
+-- how many lines of the body were written before it, in this save
+abbrev pub lines_before : ℕ → Step → ℕ
+lines_before lines Close = 0
+lines_before lines SyncClosed = 0
+lines_before lines (Page k) = 64 * k
+lines_before lines step = lines
+
 -- the order of the steps
 abbrev pub step_after : ℕ → Step → Step
 step_after lines Close = SyncClosed
-step_after lines SyncClosed = Header
-step_after lines Header = Page 0
-step_after lines (Page k) = if nat_lt lines (64 * (k + 2)) then SyncBody else Page (k + 1)
+step_after lines SyncClosed = Page 0
+step_after lines (Page k) = if nat_lt lines (64 * (k + 2)) then Header else Page (k + 1)
+step_after lines Header = SyncBody
 step_after lines SyncBody = Open
 step_after lines Open = SyncOpen
 step_after lines SyncOpen = Done
@@ -30,23 +37,23 @@ step_later lines next (suc made) = step_after lines (step_later lines next made)
 abbrev pub steps_left : ℕ → Step → ℕ
 steps_left lines Close = lines / 64 + 6
 steps_left lines SyncClosed = lines / 64 + 5
-steps_left lines Header = lines / 64 + 4
-steps_left lines (Page k) = lines / 64 + 3 - k
+steps_left lines (Page k) = lines / 64 + 4 - k
+steps_left lines Header = 4
 steps_left lines SyncBody = 3
 steps_left lines Open = 2
 steps_left lines SyncOpen = 1
 steps_left lines Done = 0
 
--- the calls of the pages from the k-th on, and of the opening
+-- the calls of the pages from the k-th on, of the header and of the opening
 abbrev pub page_calls : ℕ → ℕ → List CallKind
-page_calls lines k = replicate (lines / 64 - k) Write ++ (Sync ∷ Write ∷ Sync ∷ [])
+page_calls lines k = replicate (lines / 64 - k) Write ++ (Write ∷ Sync ∷ Write ∷ Sync ∷ [])
 
 -- the calls of the steps that are still to come: where the gate is known closed the first one is a sync
 abbrev pub calls_left : Bool → ℕ → Step → List CallKind
-calls_left closed lines Close = (if closed then Sync else Write) ∷ Sync ∷ Write ∷ page_calls lines 0
-calls_left closed lines SyncClosed = Sync ∷ Write ∷ page_calls lines 0
-calls_left closed lines Header = Write ∷ page_calls lines 0
+calls_left closed lines Close = (if closed then Sync else Write) ∷ Sync ∷ page_calls lines 0
+calls_left closed lines SyncClosed = Sync ∷ page_calls lines 0
 calls_left closed lines (Page k) = page_calls lines k
+calls_left closed lines Header = Write ∷ Sync ∷ Write ∷ Sync ∷ []
 calls_left closed lines SyncBody = Sync ∷ Write ∷ Sync ∷ []
 calls_left closed lines Open = Write ∷ Sync ∷ []
 calls_left closed lines SyncOpen = Sync ∷ []
@@ -54,4 +61,4 @@ calls_left closed lines Done = []
 
 -- the calls of a format: both gates are closed and that is made durable, and then the first image is saved
 abbrev pub format_calls : ℕ → List CallKind
-format_calls lines = Write ∷ Write ∷ Sync ∷ Write ∷ page_calls lines 0
+format_calls lines = Write ∷ Write ∷ Sync ∷ page_calls lines 0

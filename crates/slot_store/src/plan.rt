@@ -12,10 +12,11 @@ pub enum Step {
     /// Closes the gate of the slot, or syncs where it is known closed and settled.
     Close,
     SyncClosed,
-    /// Writes the header but for the gate.
-    Header,
     /// Writes this page of the body, from 0 on.
     Page(usize),
+    /// Writes the header but for the gate, with the digest of the pages.
+    Header,
+    /// Makes the pages and the header durable.
     SyncBody,
     /// Opens the gate.
     Open,
@@ -29,8 +30,8 @@ impl fmt::Display for Step {
         match self {
             Step::Close => write!(f, "close"),
             Step::SyncClosed | Step::SyncBody | Step::SyncOpen | Step::Done => write!(f, "sync"),
-            Step::Header => write!(f, "header"),
             Step::Page(page) => write!(f, "page {page}"),
+            Step::Header => write!(f, "header"),
             Step::Open => write!(f, "open"),
         }
     }

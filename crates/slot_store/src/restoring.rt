@@ -354,8 +354,8 @@ fn read_newest<D: SaveDevice>(
     ensures refused { IfErr result
         (λ error. Refuses error (restored lines (D.state device.old).bytes)) }
     ensures bodies { IfErr result IsOfBodies }
-    ensures reads { OnlyReads
-        (reads_of_newest lines (header_of_reading (in_slot readings (other head.newest.slot))) result)
+    ensures reads { OnlyReads (reads_of_newest lines
+        (header_of_reading (in_slot readings (other head.newest.slot))) result)
         (not (is_fault result)) (D.state device.old) (D.state device.new) }
 {
     let slot = head.newest.slot;

@@ -1,22 +1,24 @@
 // A save, one device call a step.
-ghost use Rattle.std.specs.Prelude.{◌≡◌, ◌⊎◌, ◌↔◌, ℕ, ◌+◌, ◌-◌, ◌*◌, ◌<◌, ◌≤◌, ◌^◌, true, false, List, drop, length, is_ok, IsTrue, OnOk, IfOk};
+ghost use Rattle.std.specs.Prelude.{◌≡◌, ◌⊎◌, ◌↔◌, ℕ, ◌+◌, ◌++◌, ◌-◌, ◌*◌, ◌<◌, ◌≤◌, ◌^◌, true, false, List, drop, length, is_ok, IsTrue, OnOk, IfOk};
 ghost use Rattle.std.specs.Option.{SomeIff};
 ghost use Rattle.save_device.specs.Rows.{IsInRange, DiffersOnlyAt};
 ghost use Rattle.save_device.specs.Device.{DeviceState, LeavesOnly};
-ghost use Rattle.save_device.specs.Changes.{Put, Settle, Makes};
+ghost use Rattle.sha2.specs.Hashers.{Holds256};
+ghost use Rattle.sha2.specs.Sha256.{sha256};
 ghost use Rattle.line_memory.specs.Memory.{IsMemory};
 ghost use Rattle.save_image.specs.Image.{Image};
 ghost use Rattle.slot_store.specs.declared.plan.Step.TheVariants.{Done};
 ghost use Rattle.slot_store.specs.Slots.{IsCapacity, HasSize, other, slot_size};
 ghost use Rattle.slot_store.specs.Steps.{step_after, steps_left, reach_of};
-ghost use Rattle.slot_store.specs.Changes.{gate_of, change_of, closed_before, GivesPage};
+ghost use Rattle.slot_store.specs.Changes.{gate_of, body_bytes, closed_before, GivesPage};
 ghost use Rattle.slot_store.specs.Rest.{Candidates, IsAtRest};
 ghost use Rattle.slot_store.specs.Saving.{Leaves};
 
 use crate::slots::device_size;
 use crate::{Newest, Plan, Slot, Step};
 use save_device::{DeviceFault, SaveDevice};
-use save_image::header_bytes;
+use save_image::header_bytes_2;
+use sha2::{Digest, Sha256};
 
 /// A gate that is open; any other byte is closed, and closing writes 0x00.
 const OPEN: u8 = 0xA5;
@@ -28,6 +30,8 @@ pub struct SaveRun {
     plan: Plan,
     next: Step,
     tried: bool,
+    // It holds the pages that were written so far.
+    hasher: Sha256,
     ghost place: { reach_of next ≤ plan.lines },
 }
 
@@ -39,8 +43,18 @@ fn tail_of(header: &[u8; 4096]) -> &[u8]
     &header[1..]
 }
 
+// Digests what a step wrote of the body.
+fn digest_written(hasher: &mut Sha256, step: Step, page: &[u8; 4096])
+    ensures { (message : List ℕ) → Holds256 hasher.old message
+        → Holds256 hasher.new (message ++ body_bytes step page.now) }
+{
+    if let Step::Page(_) = step {
+        hasher.update(page);
+    }
+}
+
 impl SaveRun {
-    ghost use Rattle.slot_store.specs.Runs.{plan_of, next_of, tried_of, newest_made, GoesOnFrom, HasSoFar, Saving};
+    ghost use Rattle.slot_store.specs.Runs.{plan_of, next_of, tried_of, newest_made, GoesOnFrom, HasDigested, HasSoFar, MakesStep, Saving};
 
     /// A save of a memory after `count` writes over the newest image, in the other slot, with the next generation; its
     /// arm byte is 0x5A where it is `armed`. `closed` says that the other slot's gate is known closed and settled. It makes
@@ -77,6 +91,7 @@ impl SaveRun {
             },
             next: Step::Close,
             tried: false,
+            hasher: Sha256::new(),
         }
     }
 
@@ -89,7 +104,8 @@ impl SaveRun {
         ensures clear { (plan_of result).armed ≡ false }
         ensures closed { (plan_of result).closed ≡ true }
         ensures lines { (plan_of result).lines ≡ lines }
-        ensures next { next_of result ≡ Step.Header }
+        ensures next { next_of result ≡ Step.Page 0 }
+        ensures digested { (memory : List (List ℕ)) → HasDigested memory result }
     {
         SaveRun {
             plan: Plan {
@@ -100,8 +116,9 @@ impl SaveRun {
                 closed: true,
                 lines,
             },
-            next: Step::Header,
+            next: Step::Page(0),
             tried: false,
+            hasher: Sha256::new(),
         }
     }
 
@@ -127,8 +144,8 @@ impl SaveRun {
         match self.next {
             Step::Close => pages + 6,
             Step::SyncClosed => pages + 5,
-            Step::Header => pages + 4,
-            Step::Page(page) => pages + 3 - page,
+            Step::Page(page) => pages + 4 - page,
+            Step::Header => 4,
             Step::SyncBody => 3,
             Step::Open => 2,
             Step::SyncOpen => 1,
@@ -150,7 +167,7 @@ impl SaveRun {
     {
         match self.next {
             Step::Close | Step::SyncClosed => self.plan.closed,
-            Step::Header | Step::Page(_) | Step::SyncBody => true,
+            Step::Page(_) | Step::Header | Step::SyncBody => true,
             Step::Open => !self.tried,
             Step::SyncOpen | Step::Done => false,
         }
@@ -184,15 +201,15 @@ impl SaveRun {
     {
         match self.next {
             Step::Close => Step::SyncClosed,
-            Step::SyncClosed => Step::Header,
-            Step::Header => Step::Page(0),
+            Step::SyncClosed => Step::Page(0),
             Step::Page(page) => {
                 if 64 * (page + 2) <= self.plan.lines {
                     Step::Page(page + 1)
                 } else {
-                    Step::SyncBody
+                    Step::Header
                 }
             }
+            Step::Header => Step::SyncBody,
             Step::SyncBody => Step::Open,
             Step::Open => Step::SyncOpen,
             Step::SyncOpen => Step::Done,
@@ -200,10 +217,19 @@ impl SaveRun {
         }
     }
 
+    // The digest of the pages that were written so far.
+    fn digest(&self) -> [u8; 32]
+        ensures size { length result ≡ 32 }
+        ensures digest { (message : List ℕ) → Holds256 self.now.hasher message
+            → result ≡ sha256 message }
+    {
+        self.hasher.clone().unwrap().finalize()
+    }
+
     // The one device call of the coming step.
     fn call<D: SaveDevice>(&self, device: &mut D, page: &[u8; 4096]) -> Result<(), DeviceFault>
         requires { HasSize self.now.plan.lines (D.state device.old) }
-        ensures { Makes (change_of self.now.plan self.now.next page.now) (is_ok result)
+        ensures { MakesStep self.now page.now (is_ok result)
             (D.state device.old) (D.state device.new) }
     {
         let start = self.plan.slot.start(self.plan.lines);
@@ -215,16 +241,17 @@ impl SaveRun {
                     device.write_at(start, &[0])
                 }
             }
+            Step::Page(k) => device.write_at(start + 4096 + 4096 * k, page),
             Step::Header => {
-                let header = header_bytes(
+                let header = header_bytes_2(
                     self.plan.generation,
                     self.plan.count,
                     self.plan.lines as u64,
                     self.plan.armed,
+                    &self.digest(),
                 );
                 device.write_at(start + 1, tail_of(&header))
             }
-            Step::Page(k) => device.write_at(start + 4096 + 4096 * k, page),
             Step::Open => device.write_at(start, &[OPEN]),
             Step::SyncClosed | Step::SyncBody | Step::SyncOpen | Step::Done => device.sync(),
         }
@@ -239,9 +266,10 @@ impl SaveRun {
     ) -> Result<Step, DeviceFault>
         requires { HasSize (plan_of self.old).lines (D.state device.old) }
 
-        // The one call that the plan says, and what it makes of each byte. Nothing outside the slot is written.
-        ensures call { Makes (change_of (plan_of self.old) (next_of self.old) page.now)
-            (is_ok result) (D.state device.old) (D.state device.new) }
+        // The one call that the plan says, and what it makes of each byte; the header has the digest of the pages that were
+        // written. Nothing outside the slot is written.
+        ensures call { MakesStep self.old page.now (is_ok result)
+            (D.state device.old) (D.state device.new) }
         ensures outside { DiffersOnlyAt
             (IsInRange (gate_of (plan_of self.old)) (slot_size (plan_of self.old).lines))
             (D.state device.old).bytes (D.state device.new).bytes }
@@ -269,6 +297,7 @@ impl SaveRun {
         let step = self.next;
         match self.call(device, page) {
             Ok(()) => {
+                digest_written(&mut self.hasher, step, page);
                 self.next = self.after();
                 self.tried = false;
                 Ok(step)

@@ -1,7 +1,7 @@
 // Profiles at their limits and one past them, and texts that are none.
 use crate::check::same;
 use ddr4_timing::profiles;
-use energy_budget::TINY_COSTS;
+use energy_budget::{CostNumbers, TINY_COSTS};
 use interleave_map::Interleaving;
 use nv_profile::{ModuleSizes, Profile, ProfileFault, TINY, read_profile};
 use std::alloc::Global;
@@ -98,6 +98,38 @@ fn limits_of_costs(rt: HostRuntime) {
         for value in ["-1", "1000001"] {
             refuses(&rt, key, value);
         }
+    }
+}
+
+// The text of the word `tiny` with a cost of digests.
+fn with_digests<R: Abort + AllocGlobal>(rt: &R, value: &str) -> String {
+    let line = format!(in rt.alloc(); "leak = 1\ne_digest = {value}\n").expect(rt, "memory");
+    without(rt, "leak = 1\n", line.as_str())
+}
+
+#[test]
+fn costs_of_digests(rt: HostRuntime) {
+    same(&rt, tiny(&rt).costs.e_digest, 0);
+    for (value, cost) in [("0", 0), ("100", 100), ("1000000", 1_000_000)] {
+        let text = with_digests(&rt, value);
+        let profile = read_profile(rt.alloc(), text.as_bytes()).expect(&rt, "a profile");
+        let wanted = CostNumbers {
+            e_digest: cost,
+            ..TINY_COSTS
+        };
+        same(&rt, profile.costs, wanted);
+    }
+    for value in [
+        "-1",
+        "1000001",
+        "1.0",
+        "\"1\"",
+        "true",
+        "{}",
+        "0\ne_digest = 0",
+    ] {
+        let text = with_digests(&rt, value);
+        assert!(rt; is_refused(rt.alloc(), text.as_bytes()), "{value}");
     }
 }
 
@@ -207,6 +239,9 @@ fn further_and_missing_keys(rt: HostRuntime) {
         ("tCS = 2\n", "tCS = 2\ntCKE = 2\n"),
         ("tCS = 2\n", "tcs = 2\n"),
         ("leak = 1\n", "leak = 1\nretries = 0\n"),
+        ("leak = 1\n", "e_digest = 0\n"),
+        ("leak = 1\n", "leak = 1\ne_digests = 0\n"),
+        ("depth = 8\n", "depth = 8\ne_digest = 0\n"),
         ("banks = 4\n", "banks = 4\nlines = 128\n"),
         ("notices = 64\n", "notices = 64\nname = \"tiny\"\n"),
         ("[timing]\n", "name = \"tiny\"\n[timing]\n"),

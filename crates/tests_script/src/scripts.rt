@@ -42,8 +42,8 @@ const DISARMED: [(&str, &str); 7] = [
         "formatted/accepted 0 mark 0/saved 2 1/accepted 1 mark 1/line 127 = ff/restored 2 1 Complete/line 127 = ab/accepted 1 mark 1/saved 3 2",
     ),
     (
-        "format/step/step/step/step/write 127 33/step/step/step/step/restore/read 127",
-        "formatted/step close/step sync/step header/step page 0/accepted 0 mark 0/step page 1/step sync/step open/saved 2 0/restored 2 0 Complete/line 127 = 00",
+        "format/step/step/step/write 127 33/step/step/step/step/step/restore/read 127",
+        "formatted/step close/step sync/step page 0/accepted 0 mark 0/step page 1/step header/step sync/step open/saved 2 0/restored 2 0 Complete/line 127 = 00",
     ),
     (
         "format/write 69 44/work 1 2/save/restore old xor/read 69",
@@ -55,7 +55,7 @@ const DISARMED: [(&str, &str); 7] = [
     ),
     (
         "format/write 0 11/write 127 22/step/step/step/step/step/save/mark/restore/read 127",
-        "formatted/accepted 0 mark 0/accepted 1 mark 0/step close/step sync/step header/waiting/waiting/saved 2 2/mark 2/restored 2 2 Complete/line 127 = 22",
+        "formatted/accepted 0 mark 0/accepted 1 mark 0/step close/step sync/waiting/waiting/waiting/saved 2 2/mark 2/restored 2 2 Complete/line 127 = 22",
     ),
     (
         "mark/work 0 3/step/format/step/restore/mark/save/mark",
@@ -79,7 +79,7 @@ const ARMED: [(&str, &str); 8] = [
     ),
     (
         "format/sense 3854/arm/write 0 11/sense 3853/write 0 22/step/step/step/step/save/mark/restore",
-        "formatted/level 3854 disarmed/armed/accepted 0 mark 1/level 3853 disarming/refused write 3 Disarming/step close/step sync/step header/waiting/saved 2 1/mark 1/restored 2 1 Complete",
+        "formatted/level 3854 disarmed/armed/accepted 0 mark 1/level 3853 disarming/refused write 3 Disarming/step close/step sync/waiting/waiting/saved 2 1/mark 1/restored 2 1 Complete",
     ),
     (
         "format/write 0 11/fuse 7/save/sense 9000/arm/fuse off/save/arm",
@@ -130,8 +130,8 @@ const LOSSES: [(&str, &str); 6] = [
         "formatted/level 9000 disarmed/armed/accepted 0 mark 1/fuse 3/lost fault/lost already/restored 1 0 PossibleLoss",
     ),
     (
-        "format/sense 9000/arm/step/step/step/step/write 127 33/step/step/step/step/lose/restore old xor/read 127",
-        "formatted/level 9000 disarmed/armed/step close/step sync/step header/step page 0/accepted 0 mark 1/step page 1/step sync/step open/saved 2 0/lost saved 3 1/restored 3 1 Complete/line 127 = 33",
+        "format/sense 9000/arm/step/step/step/write 127 33/step/step/step/step/step/lose/restore old xor/read 127",
+        "formatted/level 9000 disarmed/armed/step close/step sync/step page 0/accepted 0 mark 1/step page 1/step header/step sync/step open/saved 2 0/lost saved 3 1/restored 3 1 Complete/line 127 = 33",
     ),
 ];
 

@@ -186,7 +186,7 @@ fn the_steps_of_a_save(rt: HostRuntime) {
     same(
         &rt,
         said.as_str(),
-        "close, sync, header, page 0, page 1, sync, open, sync, ",
+        "close, sync, page 0, page 1, header, sync, open, sync, ",
     );
     same(&rt, run.next(), Step::Done);
 }

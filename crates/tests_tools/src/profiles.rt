@@ -72,6 +72,18 @@ fn keys_and_values(rt: HostRuntime) -> anyhow::Result<()> {
     )?;
     refused(
         &rt,
+        "e_act = 4",
+        "e_act = 4\ne_digest = 1000001",
+        "costs.e_digest = 1000001, and 0 to 1000000 are allowed",
+    )?;
+    refused(
+        &rt,
+        "e_act = 4\ne_col = 2",
+        "e_act = 4\ne_digest = 1",
+        "no key costs.e_col",
+    )?;
+    refused(
+        &rt,
         "map = \"lines\"",
         "map = \"line\"",
         "module.map is neither lines nor xor",

@@ -30,6 +30,10 @@ pub returns-in_err-cost-9-clause-none : goal.returns-in_err-cost-9-clause-none
 returns-in_err-cost-9-clause-none c _ costs says =
     c.in_err-cost-9.ensures.none refl costs.e_page (says.e_page, omega arith, says.within.e_page)
 
+pub returns-in_err-cost_if_any-clause-none : goal.returns-in_err-cost_if_any-clause-none
+returns-in_err-cost_if_any-clause-none c _ costs says =
+    c.in_err-cost_if_any.ensures.none refl costs.e_digest (says.e_digest, says.within.e_digest)
+
 pub returns-in_err-cost-10-clause-none : goal.returns-in_err-cost-10-clause-none
 returns-in_err-cost-10-clause-none c _ costs says =
     c.in_err-cost-10.ensures.none refl costs.leak (says.leak, omega arith, says.within.leak)

@@ -35,7 +35,7 @@ returns-in_default g c =
       failed = λ candidates image ready.
           still_over a.newest a.closed a.count a.armed memory at.plan (subst (IsPlanOver a.newest a.closed a.count a.armed (length memory)) (sym told.stands.plan) plan) candidates image at.next at.tried c.is_closed.result new c.is_closed.ensures
           (newest_among candidates image a.newest.slot (length memory) a.closed old ready.rest)
-          (given_up candidates image at.plan memory at.next at.tried new told.ends (told.tries.saving candidates image (runs candidates image ready)));
+          (given_up candidates image at.plan memory at.next at.tried new told.ends (told.tries.saving candidates image (runs candidates image ready)).0);
       slot = tt;
       generation = tt;
       calls = rw (begun.closed, begun.lines, begun.next) at calls;
@@ -57,7 +57,7 @@ returns g c =
           stops_over a.newest a.closed a.count a.armed memory run.plan plan candidates image run old new _ refl ready (told.tries.any_moment candidates image (runs candidates image ready));
       saved = λ candidates image ready.
           saved_over a.newest a.closed a.count a.armed memory at.plan (subst (IsPlanOver a.newest a.closed a.count a.armed (length memory)) (sym told.stands.plan) plan) new
-          (save_done candidates image at.plan memory at.tried new (subst (λ (next : Step). SavingAt candidates image at.plan memory next at.tried new) told.ends (told.tries.saving candidates image (runs candidates image ready))));
+          (save_done candidates image at.plan memory at.tried new (subst (λ (next : Step). SavingAt candidates image at.plan memory next at.tried new) told.ends (told.tries.saving candidates image (runs candidates image ready)).0));
       failed = tt;
       slot = c.next.ensures.slot;
       generation = c.next.ensures.generation;
