@@ -31,7 +31,8 @@ pub use Rattle.energy_budget.specs.declared.action.Action.{Action}
 pub use Rattle.energy_budget.specs.declared.costs.Costs.{Costs}
 pub use Rattle.channel_port.specs.Draining.{pending_each}
 pub use Rattle.channel_port.specs.Waits.{Waits}
-pub use Rattle.nv_machine.specs.Guard.{HasCause, IsGood, IsGuarded, IsPrefix, is_broken_off, may_lack}
+pub use Rattle.nv_machine.specs.Guard.{Guards, HasCause, IsGood, IsPrefix, is_broken_off, may_lack}
+unfoldable pub use Rattle.nv_machine.specs.Guard.{IsGuarded}
 pub use Rattle.nv_machine.specs.Headline.{IsBacked, IsHonest, Recovers, RecoversAfterwards, Run, SavesAllWritten, StaysBacked, marks, ticks_left}
 pub use Rattle.nv_machine.specs.Honesty.{IsBackedAt}
 pub use Rattle.nv_machine.specs.Lives.{AreChained, IsLived, Lived}

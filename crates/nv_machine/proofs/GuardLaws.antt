@@ -2,7 +2,7 @@
 use Rattle.std.proofs.lemmas.Bool.{both_ways}
 use Rattle.std.proofs.lemmas.Option.{none-some}
 use Rattle.line_memory.proofs.MemoryLaws.{memory_at-all}
-use Rattle.nv_machine.proofs.Common.{Bool, arith, false, refl, subst, sym, true, ℕ, ◌≡◌, ◌≢◌, ◌≤◌, None, Option, Some, ForSome, arm_byte, Image, is_disarming, Mode, HasCause, IsGood, IsGuarded, may_lack, Machine, base_of_life, made_of, start_of_life}
+use Rattle.nv_machine.proofs.Common.{Bool, arith, false, refl, subst, sym, true, ℕ, ◌≡◌, ◌≢◌, ◌≤◌, None, Option, Some, ForSome, arm_byte, Image, is_disarming, Mode, HasCause, IsGood, Guards, may_lack, Machine, base_of_life, made_of, start_of_life}
 
 -- what holds of none, and of one
 pub for_none : {X : Type 0} (o : Option X) (P : X → Type 0) → o ≡ None → ForSome o P
@@ -24,21 +24,21 @@ clash_some z is = cc
 pub clash_mode : {A : Type 0} {x y : A} (mode : Mode) → is_disarming mode ≡ false → mode ≡ Mode.Disarming → x ≡ y
 clash_mode mode off on = grind arith
 
--- what closes the fields of `IsGuarded` that can't come up, and those of no save and of one
+-- what closes the fields of `Guards` that can't come up, and those of no save and of one
 pub ruleset never = (both_ways, none-some, clash, clash_le, clash_some, clash_mode, for_none, for_one)
 
 -- a good image stays good where the life is the same
 pub carry : (m n : Machine) → ((image : Image) → HasCause m image → HasCause (record n { life = m.life }) image) → (may_lack n ≡ false → may_lack m ≡ false)
     → (image : Image) → IsGood m image → IsGood (record n { life = m.life }) image
-carry m n cause calm image good = search (cause, calm, good.complete, good.cause, good.whole)
+carry m n cause calm image good = search (cause, calm, good.complete, good.cause, good.holds_all)
 
 -- the image of all accepted writes is good
-pub made_good : (m n : Machine) (b : Bool) → IsGuarded m → (b ≡ true → HasCause (record n { life = m.life }) (made_of b m)) → IsGood (record n { life = m.life }) (made_of b m)
+pub made_good : (m n : Machine) (b : Bool) → Guards m → (b ≡ true → HasCause (record n { life = m.life }) (made_of b m)) → IsGood (record n { life = m.life }) (made_of b m)
 made_good m n b guarded cause = record {
   prefix = record { from = omega arith; to = omega arith; memory = sym (memory_at-all (base_of_life m.life) (start_of_life m.life) m.life.writes) };
-  complete = λ clear. guarded.most;
+  complete = λ clear. guarded.persisted_accepted;
   cause = λ set. cause (armed_where b set);
-  whole = λ calm. guarded.most;
+  holds_all = λ calm. guarded.persisted_accepted;
 }
   where
     armed_where : (b : Bool) → arm_byte b ≢ 0 → b ≡ true

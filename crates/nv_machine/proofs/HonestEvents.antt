@@ -10,6 +10,7 @@ use Rattle.channel_port.specs.Waits.{is_write_up_to, writes_up_to}
 use Rattle.nv_machine.specs.Headline.{ticks_until_saved}
 use Rattle.nv_machine.proofs.Common.{Bool, [], ap, arith, false, length, refl, sym, true, ℕ, ◌+◌, ◌<◌, ◌∙◌, ◌∷◌, ◌≡◌, ◌≢◌, ◌≤◌, None, Ok, Some, is_some, length-append, Write, faults_more, DeviceState, step_after, Step, is_armed, is_backed, is_disarming, reads_gauge, mode_after, save_refusal, Mode, Move, backing_level-ticks, need_backs, Gauge, GaugeCall, IsHonestThrough, ReadsLevel, backing_level, IsBacked, IsHonest, SavesAllWritten, StaysBacked, MachineStep, WriteStep, advanced, armed, begun, disarming, finished, read_as, step_failed, stepped, written, is_low, lacks_energy, need_for, saves_of, Machine, RunningSave, Setup, Store, World, pending_of, Accepted, Event, Reply}
 use Rattle.nv_machine.proofs.ModeLaws.{is_armed_mode}
+use Rattle.nv_machine.proofs.Guarded.{disarming_saves}
 use Rattle.nv_machine.proofs.Refusing.{arms_where, accepted_where, begins_where}
 use Rattle.nv_machine.proofs.Effects.{Effect, rests, shows, runs_low, disarms, accepts, begins, arms, fails_to_arm, steps, ends, fails, closes, effect}
 use Rattle.nv_machine.proofs.Backing.{IsKnown, one_tick, falls, not_backed, armed_backs, bound_backs, fewer_backs}
@@ -49,7 +50,7 @@ module _ (setup : Setup) (old new : World) (known : IsKnown setup old.machine) (
   begun_backs free = record { bound = by_mode m.mode refl; shown = backed.shown; read = backed.read }
     where
       by_mode : (mode : Mode) → m.mode ≡ mode → is_backed mode ≡ true → level_for (ticks_until_saved setup mode (begun m).store.saving) ≤ old.gauge.level
-      by_mode Mode.Disarming is on = let idle : m.store.saving ≡ None = (begins_where m free).1 in let runs : is_some m.store.saving ≡ true = known.guarded.runs is in cc
+      by_mode Mode.Disarming is on = let idle : m.store.saving ≡ None = (begins_where m free).1 in let runs : is_some m.store.saving ≡ true = disarming_saves m known.guarded is in cc
       by_mode mode is on = rw is at (backed.bound (ap is_backed is ∙ on))
 
   -- A reading was taken.

@@ -6,6 +6,7 @@ pub mod Refusing
 -- what an event makes of the machine: nothing, or one of its moves
 pub mod Effects
 -- what the machine keeps, move by move and in any event, and what becomes of its life
+pub mod Guarded
 pub mod GuardLaws
 pub mod Proceeding
 pub mod GuardMoves

@@ -120,16 +120,18 @@ alone : (c : Candidates) → c.any_arm ≡ false → c.saved ≡ None → c ≡ 
 alone c own none = ap (λ (b : Bool). record c { any_arm = b }) own ∙ ap (λ (s : Option Image). record { slot = c.slot; newest = c.newest; any_arm = false; saved = s }) none
 
 own_arm : (m : Machine) → IsGuarded m → m.store.unsettled ≡ false → (b : Bool) → m.store.maybe.any_arm ≡ b → b ≡ false
-own_arm m guarded settled true any = let refused = guarded.refuses any in cc (refused, settled)
+unfolding IsGuarded
+own_arm m guarded settled true any = let refused = guarded.failed_arm_unsettled any in cc (refused, settled)
 own_arm m guarded settled false any = refl
 
 -- a save begins
 begins : (m n : Machine) → IsGuarded m → IsUnsaving m → n.store ≡ record m.store { saving = Some (record { made = made_of (is_armed m.mode) m; next = Step.Close }) }
     → Stage m.store.maybe.slot (newest_of m) (made_of (is_armed m.mode) m) n.store
+unfolding IsGuarded
 begins m n guarded clean is =
     inl (record {
       saved = None;
-      is = ap (λ (s : Store). s.maybe) is ∙ alone m.store.maybe (own_arm m guarded clean.settled m.store.maybe.any_arm refl) (guarded.single clean.runs clean.settled clean.idle);
+      is = ap (λ (s : Store). s.maybe) is ∙ alone m.store.maybe (own_arm m guarded clean.settled m.store.maybe.any_arm refl) (guarded.only_newest clean.runs clean.settled clean.idle);
       may = λ image none. let bad : ⊥ = cc in absurd bad;
       save = record { made = made_of (is_armed m.mode) m; next = Step.Close };
       runs = ap (λ (s : Store). s.saving) is;

@@ -1,5 +1,5 @@
 -- What a stop leaves of a life.
-use Rattle.std.proofs.Common.{drop, rules}
+use Rattle.std.proofs.Common.{drop}
 use Rattle.std.proofs.Math.Seq.{drop-append_seam}
 use Rattle.std.proofs.lemmas.List.Elements.{All-contains}
 use Rattle.save_device.specs.Device.{LeavesOnly, Moment, StopsWithin, moments_of, present}
@@ -8,7 +8,8 @@ use Rattle.nv_machine.specs.Headline.{Happens}
 use Rattle.nv_machine.specs.Lives.{IsLeftAt, Unanswered, moments_since, stop_moments}
 use Rattle.nv_machine.specs.Opening.{new_life}
 use Rattle.nv_machine.specs.Survival.{HasCauseAt, MayBeNewest}
-use Rattle.nv_machine.proofs.Common.{All, Bool, List, [], ap, append_assoc, inl, length, refl, subst, sym, ℕ, ◌++◌, ◌∙◌, ◌∷◌, ◌≡◌, None, Option, Some, All-cons, All-nil, ForSome, Image, DeviceState, Outcome, Slot, IsGuarded, Recovers, RecoversAfterwards, Run, IsLived, Lived, Machine, Setup, World, Event, Reply}
+use Rattle.nv_machine.proofs.Common.{All, List, [], ap, append_assoc, inl, length, refl, subst, sym, ℕ, ◌++◌, ◌∙◌, ◌∷◌, ◌≡◌, None, Option, Some, All-cons, All-nil, ForSome, DeviceState, Outcome, IsGuarded, Recovers, RecoversAfterwards, Run, IsLived, Lived, Machine, Setup, World, Event, Reply}
+use Rattle.nv_machine.proofs.Guarded.{guarded_new}
 use Rattle.nv_machine.proofs.Leaving.{left_after}
 
 -- at whichever moment it came: an image that may be the newest, and that recovers what was acknowledged
@@ -16,10 +17,7 @@ pub record RecoversAt (unanswered : Option Unanswered) (m : Machine) (outcome : 
   pub newest : MayBeNewest unanswered m outcome
   pub recovers : Recovers m (HasCauseAt unanswered m) outcome
 
--- a machine keeps its promises from the beginning of a life on
-guarded_new : (slot : Slot) (closed : Bool) (image : Image) → IsGuarded (new_life slot closed image)
-guarded_new slot closed image = search rules
-
+-- the first machine of a life is guarded
 pub guarded_first : (life : Lived) → IsLived life → IsGuarded life.first.machine
 guarded_first life lived = rw lived.begins (guarded_new life.slot life.closed life.image)
 

@@ -58,7 +58,7 @@ restored_of life lived =
       newest = rw r.found at left.newest;
       from = omega (arith, r.prefix.from, ap (λ (i : Image). i.count) (last_is life lived));
       complete = λ told. r.complete (clear_where r.image.arm r.image.count told);
-      honest = λ honest. r.whole (honest_calm life lived honest);
+      honest = λ honest. r.holds_all (honest_calm life lived honest);
       cause = λ told. r.cause (λ clear. told (ap (λ (arm : ℕ). verdict_of arm r.image.count) clear));
       told = told_along life.setup life.events life.replies life.first life.last lived.run (guarded_first life lived);
     }

@@ -36,29 +36,34 @@ pub record IsGood (m : Machine) (image : Image) : Type 0 where
   pub prefix : IsPrefix m image
   pub complete : image.arm ≡ 0 → m.life.persisted ≤ image.count
   pub cause : image.arm ≢ 0 → HasCause m image
-  pub whole : may_lack m ≡ false → m.life.persisted ≤ image.count
+  pub holds_all : may_lack m ≡ false → m.life.persisted ≤ image.count
 
 -- What the machine keeps: each image that a stop may make the newest is good, and so is the one that a save makes.
-pub record IsGuarded (m : Machine) : Type 0 where
-  pub newest : IsGood m (newest_of m)
-  pub saved : ForSome m.store.maybe.saved (IsGood m)
-  pub saving : ForSome m.store.saving (λ save. IsGood m save.made)
+pub record Guards (m : Machine) : Type 0 where
+  pub good_newest : IsGood m (newest_of m)
+  pub good_saved : ForSome m.store.maybe.saved (IsGood m)
+  pub good_made : ForSome m.store.saving (λ save. IsGood m save.made)
   -- where an arm call failed, the newest image holds each acknowledged write whatever its arm byte, and arming is refused
   -- until a save has ended
-  pub any_arm : m.store.maybe.any_arm ≡ true → m.life.persisted ≤ (newest_of m).count
-  pub refuses : m.store.maybe.any_arm ≡ true → m.store.unsettled ≡ true
-  pub least : start_of_life m.life ≤ m.life.persisted
-  pub most : m.life.persisted ≤ all_of m
-  pub backed : is_backed m.mode ≡ true → m.life.persisted ≡ all_of m
-  pub disarming : is_disarming m.mode ≡ true → ForSome m.store.saving (λ save. save.made.count ≡ all_of m)
-  pub runs : m.mode ≡ modes.Disarming → is_some m.store.saving ≡ true
+  pub failed_arm_holds_all : m.store.maybe.any_arm ≡ true → m.life.persisted ≤ (newest_of m).count
+  pub failed_arm_unsettled : m.store.maybe.any_arm ≡ true → m.store.unsettled ≡ true
+  -- the writes that the life was opened with are persistent, and the persistent ones are accepted
+  pub opened_persisted : start_of_life m.life ≤ m.life.persisted
+  pub persisted_accepted : m.life.persisted ≤ all_of m
+  pub backed_persisted : is_backed m.mode ≡ true → m.life.persisted ≡ all_of m
+  pub disarming_saves : m.mode ≡ modes.Disarming → is_some m.store.saving ≡ true
+  pub disarming_holds_all : is_disarming m.mode ≡ true → ForSome m.store.saving (λ save. save.made.count ≡ all_of m)
   -- while armed each image is armed, and a save that runs while not armed makes one that isn't
-  pub armed : is_armed m.mode ≡ true → (newest_of m).arm ≢ 0
+  pub armed_newest : is_armed m.mode ≡ true → (newest_of m).arm ≢ 0
   pub armed_saved : is_armed m.mode ≡ true → ForSome m.store.maybe.saved (λ image. image.arm ≢ 0)
-  pub armed_saving : is_armed m.mode ≡ true → ForSome m.store.saving (λ save. save.made.arm ≢ 0)
-  pub armed_fast : is_armed m.mode ≡ true → m.store.maybe.any_arm ≡ false
-  pub unarmed : is_armed m.mode ≡ false → ForSome m.store.saving (λ save. save.made.arm ≡ 0)
-  pub ended : has_ended m.mode ≡ true → m.store.saving ≡ None
+  pub armed_made : is_armed m.mode ≡ true → ForSome m.store.saving (λ save. save.made.arm ≢ 0)
+  pub no_arm_failed : is_armed m.mode ≡ true → m.store.maybe.any_arm ≡ false
+  pub unarmed_made : is_armed m.mode ≡ false → ForSome m.store.saving (λ save. save.made.arm ≡ 0)
+  pub no_save_at_end : has_ended m.mode ≡ true → m.store.saving ≡ None
   -- between two saves, where no call failed, only the newest image may be found
-  pub single : has_ended m.mode ≡ false → m.store.unsettled ≡ false → m.store.saving ≡ None → m.store.maybe.saved ≡ None
-  pub running : has_ended m.mode ≡ false → m.lost ≡ None
+  pub only_newest : has_ended m.mode ≡ false → m.store.unsettled ≡ false → m.store.saving ≡ None → m.store.maybe.saved ≡ None
+  pub mains_last : has_ended m.mode ≡ false → m.lost ≡ None
+
+-- The same, closed: what other crates know of a guarded machine are the laws in `proofs/Guarded.antt`.
+unfoldable pub IsGuarded : Machine → Type 0
+IsGuarded m = Guards m

@@ -32,7 +32,7 @@ pub record Recovers (m : Machine) (Why : Image → Type 0) (outcome : Outcome) :
   pub prefix : IsPrefix m image
   pub complete : image.arm ≡ 0 → m.life.persisted ≤ image.count
   pub cause : image.arm ≢ 0 → Why image
-  pub whole : may_lack m ≡ false → m.life.persisted ≤ image.count
+  pub holds_all : may_lack m ≡ false → m.life.persisted ≤ image.count
 
 -- in an event with this reply the arm byte of the newest image was written
 abbrev pub marks : Reply → Bool

@@ -7,6 +7,7 @@
 #![tactic(auto)]
 
 mod events;
+mod guard;
 mod honesty;
 mod lives;
 mod order;
@@ -17,6 +18,7 @@ mod tickets;
 mod turns;
 
 pub use events::{Accepted, Event, Reply, StepReply};
+pub use guard::guarded_machines;
 pub use honesty::honest_run;
 pub use lives::one_history;
 pub use order::oldest_go_first;

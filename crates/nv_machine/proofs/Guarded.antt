@@ -1,0 +1,41 @@
+-- The laws of a guarded machine: all that is known of one where `IsGuarded` stays closed.
+use Rattle.std.proofs.Common.{rules}
+use Rattle.nv_machine.specs.Opening.{new_life}
+use Rattle.nv_machine.specs.State.{memory_after}
+use Rattle.nv_machine.proofs.Common.{Bool, false, true, ◌≡◌, ◌≤◌, None, Some, is_some, Image, Slot, has_ended, is_armed, Mode}
+use Rattle.nv_machine.proofs.Common.{IsGuarded, Machine, RunningSave, all_of, start_of_life}
+
+-- it is guarded from the beginning of a life on, and stays so in any event (`guarded_event`)
+pub guarded_new : (slot : Slot) (closed : Bool) (image : Image) → IsGuarded (new_life slot closed image)
+unfolding IsGuarded
+guarded_new slot closed image = search rules
+
+-- the writes that the life was opened with are persistent, and the persistent ones are accepted
+pub opened_persisted : (m : Machine) → IsGuarded m → start_of_life m.life ≤ m.life.persisted
+unfolding IsGuarded
+opened_persisted m guarded = guarded.opened_persisted
+
+pub persisted_accepted : (m : Machine) → IsGuarded m → m.life.persisted ≤ all_of m
+unfolding IsGuarded
+persisted_accepted m guarded = guarded.persisted_accepted
+
+-- mains aren't lost before it has ended
+pub mains_last : (m : Machine) → IsGuarded m → has_ended m.mode ≡ false → m.lost ≡ None
+unfolding IsGuarded
+mains_last m guarded = guarded.mains_last
+
+-- a save that runs makes the memory after so many writes as it counts, and while not armed an image that isn't
+pub memory_made : (m : Machine) (save : RunningSave) → IsGuarded m → m.store.saving ≡ Some save
+    → save.made.memory ≡ memory_after m save.made.count
+unfolding IsGuarded
+memory_made m save guarded runs = (guarded.good_made save runs).prefix.memory
+
+pub unarmed_made : (m : Machine) (save : RunningSave) → IsGuarded m → m.store.saving ≡ Some save
+    → is_armed m.mode ≡ false → save.made.arm ≡ 0
+unfolding IsGuarded
+unarmed_made m save guarded runs unarmed = guarded.unarmed_made unarmed save runs
+
+-- while disarming a save runs
+pub disarming_saves : (m : Machine) → IsGuarded m → m.mode ≡ Mode.Disarming → is_some m.store.saving ≡ true
+unfolding IsGuarded
+disarming_saves m guarded = guarded.disarming_saves

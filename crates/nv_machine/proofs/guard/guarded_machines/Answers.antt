@@ -1,0 +1,25 @@
+-- What is known of a guarded machine.
+use Rattle.nv_machine.proofs.EachEvent.{guarded_event}
+use Rattle.nv_machine.proofs.Guarded.{guarded_new, mains_last, memory_made, opened_persisted, persisted_accepted, unarmed_made}
+use Rattle.nv_machine.proofs.guard.guarded_machines.Goals as goal
+
+pub returns-clause-begins : goal.returns-clause-begins
+returns-clause-begins c = guarded_new
+
+pub returns-clause-stays : goal.returns-clause-stays
+returns-clause-stays c = guarded_event
+
+pub returns-clause-opened : goal.returns-clause-opened
+returns-clause-opened c = opened_persisted
+
+pub returns-clause-accepted : goal.returns-clause-accepted
+returns-clause-accepted c = persisted_accepted
+
+pub returns-clause-mains : goal.returns-clause-mains
+returns-clause-mains c = mains_last
+
+pub returns-clause-memory : goal.returns-clause-memory
+returns-clause-memory c = memory_made
+
+pub returns-clause-unarmed : goal.returns-clause-unarmed
+returns-clause-unarmed c = unarmed_made
