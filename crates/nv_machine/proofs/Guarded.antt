@@ -1,9 +1,12 @@
 -- The laws of a guarded machine: all that is known of one where `IsGuarded` stays closed.
 use Rattle.std.proofs.Common.{rules}
+use Rattle.slot_store.specs.Rest.{Candidates, only}
 use Rattle.nv_machine.specs.Opening.{new_life}
+use Rattle.nv_machine.specs.SavedImages.{IsUnsaving}
 use Rattle.nv_machine.specs.State.{memory_after}
-use Rattle.nv_machine.proofs.Common.{Bool, false, true, ◌≡◌, ◌≤◌, None, Some, is_some, Image, Slot, has_ended, is_armed, Mode}
-use Rattle.nv_machine.proofs.Common.{IsGuarded, Machine, RunningSave, all_of, start_of_life}
+use Rattle.nv_machine.proofs.Common.{Bool, false, true, ◌∙◌, ◌≡◌, ◌≤◌, ap, refl, None, Option, Some, is_some}
+use Rattle.nv_machine.proofs.Common.{Image, Slot, has_ended, is_armed, Mode}
+use Rattle.nv_machine.proofs.Common.{IsGuarded, Machine, RunningSave, all_of, newest_of, start_of_life}
 
 -- it is guarded from the beginning of a life on, and stays so in any event (`guarded_event`)
 pub guarded_new : (slot : Slot) (closed : Bool) (image : Image) → IsGuarded (new_life slot closed image)
@@ -34,6 +37,23 @@ pub unarmed_made : (m : Machine) (save : RunningSave) → IsGuarded m → m.stor
     → is_armed m.mode ≡ false → save.made.arm ≡ 0
 unfolding IsGuarded
 unarmed_made m save guarded runs unarmed = guarded.unarmed_made unarmed save runs
+
+-- between two saves, where no call of the device has failed, a stop leaves the newest image alone
+alone : (c : Candidates) → c.any_arm ≡ false → c.saved ≡ None → c ≡ only c.slot c.newest
+alone c own none =
+    ap (λ (b : Bool). record c { any_arm = b }) own
+    ∙ ap (λ (s : Option Image). record { slot = c.slot; newest = c.newest; any_arm = false; saved = s }) none
+
+own_arm : (m : Machine) → IsGuarded m → m.store.unsettled ≡ false → (b : Bool) → m.store.maybe.any_arm ≡ b → b ≡ false
+unfolding IsGuarded
+own_arm m guarded settled true any = let refused = guarded.failed_arm_unsettled any in cc (refused, settled)
+own_arm m guarded settled false any = refl
+
+pub newest_alone : (m : Machine) → IsGuarded m → IsUnsaving m → m.store.maybe ≡ only m.store.maybe.slot (newest_of m)
+unfolding IsGuarded
+newest_alone m guarded clean =
+    let own : m.store.maybe.any_arm ≡ false = own_arm m guarded clean.settled m.store.maybe.any_arm refl in
+    alone m.store.maybe own (guarded.only_newest clean.runs clean.settled clean.idle)
 
 -- while disarming a save runs
 pub disarming_saves : (m : Machine) → IsGuarded m → m.mode ≡ Mode.Disarming → is_some m.store.saving ≡ true

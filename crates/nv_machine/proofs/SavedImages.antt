@@ -8,8 +8,9 @@ use Rattle.slot_store.specs.Slots.{other}
 use Rattle.nv_machine.specs.Headline.{HappensNext, MayFindMeanwhile, given}
 use Rattle.nv_machine.specs.SavedImages.{DisturbNoSave, DisturbsNoSave, IsOldOrNew, IsUnsaving}
 use Rattle.nv_machine.specs.declared.events.StepReply.{StepReply}
-use Rattle.nv_machine.proofs.Common.{Bool, List, [], ap, false, inl, inr, refl, subst, sym, true, ⊎_elim, ◌∙◌, ◌∷◌, ◌≡◌, Err, Found, ForSome, Image, IsGuarded, MachineStep, None, Ok, Option, Outcome, Run, RunningSave, Setup, Slot, Some, Step, Store, World, is_armed, made_of, marks, newest_of, stepped, Machine, Event, Reply}
+use Rattle.nv_machine.proofs.Common.{List, [], ap, false, inl, inr, refl, subst, sym, ⊎_elim, ◌∙◌, ◌∷◌, ◌≡◌, Err, Found, ForSome, Image, IsGuarded, MachineStep, None, Ok, Option, Outcome, Run, RunningSave, Setup, Slot, Some, Step, Store, World, is_armed, made_of, marks, newest_of, stepped, Machine, Event, Reply}
 use Rattle.std.specs.Prelude.{◌⊎◌}
+use Rattle.nv_machine.proofs.Guarded.{newest_alone}
 use Rattle.nv_machine.proofs.Proceeding.{stepped_goes}
 use Rattle.nv_machine.proofs.StoppedLives.{StopsRecover, left_along}
 
@@ -115,23 +116,13 @@ unmarked setup Event.SaveBegin reply old new done none = absurd none
 unmarked setup Event.Lose reply old new done none = absurd none
 unmarked setup event reply old new none calm = absurd none
 
--- the newest image alone may be found
-alone : (c : Candidates) → c.any_arm ≡ false → c.saved ≡ None → c ≡ only c.slot c.newest
-alone c own none = ap (λ (b : Bool). record c { any_arm = b }) own ∙ ap (λ (s : Option Image). record { slot = c.slot; newest = c.newest; any_arm = false; saved = s }) none
-
-own_arm : (m : Machine) → IsGuarded m → m.store.unsettled ≡ false → (b : Bool) → m.store.maybe.any_arm ≡ b → b ≡ false
-unfolding IsGuarded
-own_arm m guarded settled true any = let refused = guarded.failed_arm_unsettled any in cc (refused, settled)
-own_arm m guarded settled false any = refl
-
 -- a save begins
 begins : (m n : Machine) → IsGuarded m → IsUnsaving m → n.store ≡ record m.store { saving = Some (record { made = made_of (is_armed m.mode) m; next = Step.Close }) }
     → Stage m.store.maybe.slot (newest_of m) (made_of (is_armed m.mode) m) n.store
-unfolding IsGuarded
 begins m n guarded clean is =
     inl (record {
       saved = None;
-      is = ap (λ (s : Store). s.maybe) is ∙ alone m.store.maybe (own_arm m guarded clean.settled m.store.maybe.any_arm refl) (guarded.only_newest clean.runs clean.settled clean.idle);
+      is = ap (λ (s : Store). s.maybe) is ∙ newest_alone m guarded clean;
       may = λ image none. let bad : ⊥ = cc in absurd bad;
       save = record { made = made_of (is_armed m.mode) m; next = Step.Close };
       runs = ap (λ (s : Store). s.saving) is;

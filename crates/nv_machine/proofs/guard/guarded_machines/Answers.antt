@@ -1,6 +1,6 @@
 -- What is known of a guarded machine.
 use Rattle.nv_machine.proofs.EachEvent.{guarded_event}
-use Rattle.nv_machine.proofs.Guarded.{guarded_new, mains_last, memory_made, opened_persisted, persisted_accepted, unarmed_made}
+use Rattle.nv_machine.proofs.Guarded.{guarded_new, mains_last, memory_made, newest_alone, opened_persisted, persisted_accepted, unarmed_made}
 use Rattle.nv_machine.proofs.guard.guarded_machines.Goals as goal
 
 pub returns-clause-begins : goal.returns-clause-begins
@@ -23,3 +23,6 @@ returns-clause-memory c = memory_made
 
 pub returns-clause-unarmed : goal.returns-clause-unarmed
 returns-clause-unarmed c = unarmed_made
+
+pub returns-clause-alone : goal.returns-clause-alone
+returns-clause-alone c = newest_alone
