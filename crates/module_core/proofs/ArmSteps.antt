@@ -4,6 +4,7 @@ use Rattle.arm_state.specs.Refusals.{arm_refusal, energy_refusal_of}
 use Rattle.arm_state.specs.declared.refusal.ArmRefusal.{ArmRefusal}
 use Rattle.arm_state.specs.declared.refusal.ArmReply.{ArmReply}
 use Rattle.arm_state.specs.declared.refusal.SaveState.{SaveState}
+use Rattle.nv_machine.proofs.Guarded.{mains_last, newest_alone}
 use Rattle.nv_machine.proofs.Refusing.{Arms, arms_where}
 use Rattle.nv_machine.proofs.Leaving.{left_marking}
 use Rattle.nv_machine.specs.Guard.{is_broken_off, may_lack}
@@ -11,13 +12,15 @@ use Rattle.nv_machine.specs.Machine.{ArmStep, MayArm}
 use Rattle.nv_machine.specs.Moves.{arm_failed}
 use Rattle.nv_machine.specs.Refusals.{need_for}
 use Rattle.nv_machine.specs.State.{newest_of, pending_of}
-use Rattle.slot_store.specs.Rest.{IsAtRestOn, IsAtRestRearmed, with_any_arm}
+use Rattle.slot_store.specs.Rest.{Candidates, IsAtRestOn, IsAtRestRearmed, only, with_any_arm}
+use Rattle.slot_store.specs.Slots.{Full}
 use Rattle.arm_state.specs.declared.mode.Mode.TheVariants as modes
 use Rattle.arm_state.specs.declared.refusal.ArmRefusal.TheVariants as refusals
 use Rattle.nv_machine.specs.declared.events.Event.TheVariants as events
 use Rattle.nv_machine.specs.declared.events.Reply.TheVariants as replies
 use Rattle.module_core.proofs.Common.{ℕ, ◌<◌, ◌∙◌, ◌≡◌, ◌≤◌, Assembly, DeviceState, Err, Gauge, GaugeCall, Ghosts, HappensAt, HoldsWhile, IsAmong, IsResting, LeavesOnly, Machine, Matches, Mode, Module, ModuleStands, None, Option, Outcome, ReadsLevel, Result, RunningSave, AreSameSave, SaveRun, Setup, Slot, Some, Store, Waits, World, ap, armed, assembly, false, has_ended, is_armed, is_backed, length, lines_of_module, marks, point_of, rearmed, restored, rules, saves_of, setup_of, subst, sym, true, view_of, weaker, world_of}
 use Rattle.module_core.proofs.Applying.{asked}
+use Rattle.module_core.proofs.StoreSteps.{at_rest}
 
 -- such a refusal comes before the arm byte is written
 pub unmarked : (mode : Mode) (s : SaveState) (r : ArmRefusal) → arm_refusal mode s ≡ Some r → marks (replies.Arm (Err r)) ≡ false
@@ -81,7 +84,21 @@ module _ {K : Type 0} (L : Ghosts K) (old : Module K L) (device : DeviceState) (
   running = ap has_ended a.disarmed
 
   pub alone_there : IsAtRestOn old.saves.newest.slot (newest_of m) lines m.store.closed device
-  alone_there = search rules
+  alone_there =
+      let rest : IsResting lines m.store device = at_rest lines m.store device m.store.saving old.saves.saving stands.holds in
+      let alone : m.store.maybe ≡ only m.store.maybe.slot (newest_of m) =
+      newest_alone m stands.guarded (record { runs = running; idle = a.idle; settled = a.settled }) in
+      let own : rest.image.arm ≡ (newest_of m).arm = rest.newest.own (ap (λ (c : Candidates). c.any_arm) alone) in
+      let newest : rest.image ≡ newest_of m = rest.newest.is ∙ ap (rearmed (newest_of m)) own in
+      subst (λ (x : Slot). IsAtRestOn x (newest_of m) lines m.store.closed device) (sym stands.matches.knows.slot)
+      (record {
+        size = rest.rest.size;
+        full = rest.rest.full ∙ ap Full newest;
+        harmless = λ image differs.
+            let found : Outcome = restored lines image in
+            subst (λ (c : Candidates). IsAmong c found) alone (rest.among found (rest.rest.harmless image differs));
+        shut = rest.rest.shut;
+      })
 
   pub answers_marked : (result : Result ArmReply ArmRefusal) → marks (replies.Arm result) ≡ true → (before : Gauge) (new : Assembly L) → setup_of L new.it ≡ setup_of L old → (n : Machine)
       → ArmStep (setup_of L old) result (world_of L (assembly old device before) m) (world_of L new n) → Matches L new.it n → n.store.saving ≡ m.store.saving → IsResting lines n.store new.device
@@ -91,5 +108,5 @@ module _ {K : Type 0} (L : Ghosts K) (old : Module K L) (device : DeviceState) (
       asked L events.Arm (replies.Arm result) (assembly old device before) new setup m stands n step matches
       (holds_none lines n.store new.device n.store.saving new.it.saves.saving (idle ∙ a.idle) matches.saving rests) tt
       (weaker device new.device (λ bytes left guarded.
-      left_marking (replies.Arm result) m n marked (calm_disarmed m a.disarmed (stands.guarded.running running)) stands.guarded (restored lines bytes)
+      left_marking (replies.Arm result) m n marked (calm_disarmed m a.disarmed (mains_last m stands.guarded running)) stands.guarded (restored lines bytes)
       (any_arm_in m (restored lines bytes) (subst (λ (x : Slot). IsAmong (with_any_arm x (newest_of m)) (restored lines bytes)) stands.matches.knows.slot left))) moments)

@@ -83,7 +83,7 @@ module _ {K : Type 0} (L : Ghosts K) where
               slot = here.slot;
               image = here.image;
               found = ap (λ (s : Setup). restored s.shape.lines bytes) answered.setup ∙ here.found;
-              holds = omega (arith, r.stands.matches.persisted, here.whole settled);
+              holds = omega (arith, r.stands.matches.persisted, here.holds_all settled);
             };
       }
 

@@ -1,4 +1,5 @@
 use Rattle.module_core.specs.Rising.{HasMarksInOrder, MarksRise}
+use Rattle.nv_machine.proofs.Guarded.{opened_persisted, persisted_accepted}
 use Rattle.nv_machine.proofs.RisingMarks.{event_rises, run_rises}
 use Rattle.nv_machine.specs.Rising.{Rises}
 use Rattle.module_core.proofs.Common.{DeviceState, Ghosts, Machine, Module, ModuleStands, arith, point_of, setup_of, world_of}
@@ -8,8 +9,8 @@ use Rattle.module_core.proofs.laws.marks_rise.Goals as goal
 module _ {K : Type 0} (L : Ghosts K) where
   in_order : (it : Module K L) (device : DeviceState) (m : Machine) → ModuleStands L it device m → HasMarksInOrder L it
   in_order it device m stands = record {
-    start = omega (arith, stands.matches.start, stands.matches.persisted, stands.guarded.least);
-    within = omega (arith, stands.matches.accepted, stands.matches.persisted, stands.guarded.most);
+    start = omega (arith, stands.matches.start, stands.matches.persisted, opened_persisted m stands.guarded);
+    within = omega (arith, stands.matches.accepted, stands.matches.persisted, persisted_accepted m stands.guarded);
   }
 
   -- the marks of the modules are those of the machines
@@ -19,6 +20,9 @@ module _ {K : Type 0} (L : Ghosts K) where
     persisted = omega (arith, before.matches.persisted, behind.matches.persisted, rises.persisted);
     ordered = in_order new later n behind;
   }
+
+pub returns-clause-ordered : goal.returns-clause-ordered
+returns-clause-ordered g c = λ it m stands. in_order g.K.ChannelPort it.it it.device m stands
 
 pub returns-clause-call : goal.returns-clause-call
 returns-clause-call g c = λ event reply old new m stands answers.

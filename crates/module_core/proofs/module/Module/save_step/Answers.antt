@@ -3,6 +3,7 @@ use Rattle.std.proofs.lemmas.List.FromFn.{length-map-range_with_len}
 use Rattle.channel_set.proofs.Settling.{settled}
 use Rattle.slot_store.specs.Steps.{reach_of}
 use Rattle.module_core.specs.Saves.{IsReadyFor, StoreMoves}
+use Rattle.nv_machine.proofs.Guarded.{memory_made}
 use Rattle.nv_machine.proofs.Leaving.{left_within}
 use Rattle.nv_machine.specs.Machine.{MadeStep, SaveStepStep, is_made, must_wait}
 use Rattle.nv_machine.specs.Moves.{disarming}
@@ -66,7 +67,7 @@ returns-clause-answers g c = λ m stands.
     let pages : NoneBelow count m.waits.writes → WaitsFrom count end m.waits.writes → array ≡ save.made.memory = λ none all.
     settled L now.channels (base_of_life m.life) (start_of_life m.life) m.life.writes h'.carried.carries count g.met.K.ChannelPort.settled
     (subst (λ (w : List Waiting). NoneBelow count w) (sym writes) none) (subst (λ (w : List Waiting). WaitsFrom count end w) (sym writes) all)
-    ∙ sym (stands.guarded.saving save s.1).prefix.memory in
+    ∙ sym (memory_made m save stands.guarded s.1) in
     let page : GivesPage save.made.memory save.next c.page_for.result.now =
     gives array save.made.memory m count end save.next c.page_for.result.now (subst (λ (x : Step). GivesPage array x c.page_for.result.now) (sym s.2) c.page_for.ensures) ready
     (subst (λ (o : Option RunningSave). ForSome (hold_of o) (λ k. WaitsFrom k end m.waits.writes)) s.1 h.carried.held) pages in
