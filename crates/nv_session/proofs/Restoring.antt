@@ -47,7 +47,7 @@ tells_prefix m found image what slot tells is left =
       prefix = subst (λ (i : Image). IsPrefix m i) same r.prefix;
       complete = λ told.
           omega (arith, count, subst (λ (i : Image). i.arm ≡ 0 → m.life.persisted ≤ i.count) same r.complete (clear_where image.arm image.count (sym tells.verdict_is ∙ told)));
-      whole = λ calm. omega (arith, count, subst (λ (i : Image). m.life.persisted ≤ i.count) same (r.whole calm));
+      holds_all = λ calm. omega (arith, count, subst (λ (i : Image). m.life.persisted ≤ i.count) same (r.holds_all calm));
       cause = λ other.
           subst (λ (i : Image). i.arm ≢ 0 → HasCause m i) same r.cause (λ clear. other (tells.verdict_is ∙ ap (λ (a : ℕ). verdict_of a image.count) clear));
     }

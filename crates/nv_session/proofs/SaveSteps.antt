@@ -1,6 +1,5 @@
 -- The steps of a save, and what they leave.
-use Rattle.std.proofs.Common.{◌≡◌, ℕ, ◌∙◌, refl, sym, ap, subst, Option, Some, None, Ok, Err, false, Result}
-use Rattle.std.specs.Option.{ForSome}
+use Rattle.std.proofs.Common.{◌≡◌, ℕ, ◌∙◌, refl, sym, ap, subst, None, Ok, Err, false, Result}
 use Rattle.nv_session.proofs.Common.{ArmRefusal, HasSaved, IsSavedBy, Machine, RunningSave, SameButWaits, SameWrites}
 use Rattle.nv_session.proofs.Common.{SaveBeginStep, SaveStepStep, Setup, StepReply, World, memory_after, newest_of}
 use Rattle.slot_store.specs.Rest.{only}
@@ -10,7 +9,8 @@ use Rattle.arm_state.specs.declared.moves.Move.TheVariants.{EndSave}
 use Rattle.arm_state.specs.Moves.{mode_after}
 use Rattle.arm_state.specs.Modes.{is_armed}
 use Rattle.nv_machine.specs.declared.events.StepReply.TheVariants as step
-use Rattle.nv_machine.specs.Guard.{IsGuarded, IsGood}
+use Rattle.nv_machine.specs.Guard.{IsGuarded}
+use Rattle.nv_machine.proofs.Guarded.{memory_made, unarmed_made}
 
 still_unarmed : (mode : Mode) → is_armed (mode_after EndSave mode) ≡ false → is_armed mode ≡ false
 still_unarmed Disarmed unarmed = refl
@@ -19,10 +19,6 @@ still_unarmed Disarming unarmed = refl
 still_unarmed Stranded unarmed = refl
 still_unarmed Closing unarmed = refl
 still_unarmed Saved unarmed = refl
-
--- what holds of the save that runs
-of_running : (P : RunningSave → Type 0) (saving : Option RunningSave) (save : RunningSave) → saving ≡ Some save → ForSome saving P → P save
-of_running P saving save is holds = holds save is
 
 pub step_keeps : (setup : Setup) (reply : StepReply) (old new : World) → SaveStepStep setup reply old new → SameWrites old.machine new.machine
 step_keeps setup step.NoSave old new told = record { opened = ap (λ (w : World). w.machine.life.opened) told.1; writes = ap (λ (w : World). w.machine.life.writes) told.1 }
@@ -38,17 +34,16 @@ step_keeps setup step.Fault old new told =
 step_saves : (setup : Setup) (generation count : ℕ) (old new : World) → IsGuarded old.machine → SaveStepStep setup (step.Saved generation count) old new → HasSaved generation count new.machine
 step_saves setup generation count old new guarded told =
     let save : RunningSave = told.0 in
-    let good : IsGood old.machine save.made = of_running (λ s. IsGood old.machine s.made) old.machine.store.saving save told.1.runs guarded.saving in
     let is = told.6.3 in
     record {
       idle = subst (λ (m : Machine). m.store.saving ≡ None) (sym is) refl;
       generation_is = ap (λ (m : Machine). (newest_of m).generation) is ∙ sym told.6.1;
       count_is = ap (λ (m : Machine). (newest_of m).count) is ∙ sym told.6.2;
       memory = subst (λ (m : Machine). (newest_of m).memory ≡ memory_after m count) (sym is)
-          (subst (λ (n : ℕ). save.made.memory ≡ memory_after old.machine n) (sym told.6.2) good.prefix.memory);
+          (subst (λ (n : ℕ). save.made.memory ≡ memory_after old.machine n) (sym told.6.2) (memory_made old.machine save guarded told.1.runs));
       alone = subst (λ (m : Machine). m.store.maybe ≡ only m.store.maybe.slot (newest_of m)) (sym is) refl;
       complete = subst (λ (m : Machine). is_armed m.mode ≡ false → (newest_of m).arm ≡ 0) (sym is)
-          (λ unarmed. of_running (λ s. s.made.arm ≡ 0) old.machine.store.saving save told.1.runs (guarded.unarmed (still_unarmed old.machine.mode unarmed)));
+          (λ unarmed. unarmed_made old.machine save guarded told.1.runs (still_unarmed old.machine.mode unarmed));
     }
 
 pub step_ends : (setup : Setup) (reply : StepReply) (old new : World) → IsGuarded old.machine → SaveStepStep setup reply old new → IsSavedBy reply new.machine

@@ -29,7 +29,7 @@ pub record TellsPrefix (m : Machine) (found : Head) (image : Image) : Type 0 whe
   pub tells : TellsImage found image
   pub prefix : IsPrefix m image
   pub complete : found.verdict ≡ Complete → m.life.persisted ≤ found.count
-  pub whole : may_lack m ≡ false → m.life.persisted ≤ found.count
+  pub holds_all : may_lack m ≡ false → m.life.persisted ≤ found.count
   pub cause : found.verdict ≢ Complete → HasCause m image
 
 -- whatever a stop leaves of the device, it is what a stop left after this machine
