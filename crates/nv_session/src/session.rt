@@ -5,7 +5,7 @@ ghost use Rattle.interleave_map.specs.declared.ready.Interleaving.{Interleaving}
 ghost use Rattle.save_device.specs.Device.{IsSettled, MayLeave, present};
 ghost use Rattle.save_device.specs.Memory.{state_of, IsPicked};
 ghost use Rattle.slot_store.specs.Slots.{device_size};
-ghost use Rattle.energy_budget.specs.Meter.{meter_gauge, level_of, lie_of};
+ghost use Rattle.energy_budget.specs.Meter.{meter_gauge, level_of, leak_of, lie_of};
 ghost use Rattle.nv_session.specs.Living.{IsShapeFor, IsLiving, fuse_state};
 
 use crate::wires::Wires;
@@ -46,6 +46,7 @@ impl<K: ChannelPort + Drop, A: Wires<K> + Drop> Session<K, A> {
             ≡ replicate (device_size (lines_of profile.now.checked.geometry)) 0) }
         ensures passes { IfOk result (λ session. session.device.left ≡ ALL_CALLS) }
         ensures gauge { IfOk result (λ session. level_of session.gauge ≡ 0) }
+        ensures leak { IfOk result (λ session. leak_of session.gauge ≡ 0) }
     {
         let size = device_size(line_count(&profile.checked) as usize);
         let bytes = Vec::from_elem(alloc, 0, size)?;
