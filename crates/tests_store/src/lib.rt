@@ -11,3 +11,5 @@ mod gauges;
 mod images;
 #[cfg(test)]
 mod slots;
+#[cfg(test)]
+mod versions;

@@ -5,7 +5,7 @@ ghost use Rattle.slot_store.specs.Runs.{plan_of};
 use crate::check::same;
 use line_memory::Line;
 use save_device::{Fuse, MemoryDevice, OneFault, Pick, SaveDevice};
-use save_image::{Version, header_bytes, header_bytes_2, page_bytes};
+use save_image::page_bytes;
 use slot_store::{
     BrokenOff, Newest, Refused, RestoreError, SaveFault, SaveRun, SaveSource, Slot, Step, Verdict,
     device_size, format, mark_armed, restore, save,
@@ -13,18 +13,18 @@ use slot_store::{
 use std::alloc::Global;
 use std::process::Abort;
 
-const LINES: usize = 128;
+pub(crate) const LINES: usize = 128;
 
-const SIZE: usize = 24_576;
+pub(crate) const SIZE: usize = 24_576;
 
-const CLOSED_FIRST: Newest = Newest {
+pub(crate) const CLOSED_FIRST: Newest = Newest {
     slot: Slot::First,
     generation: 1,
 };
 
 const PICKS: [Pick; 4] = [Pick::Old, Pick::New, Pick::Torn(0xa5), Pick::Torn(0)];
 
-fn formatted<R: Abort + AllocGlobal>(rt: &R) -> MemoryDevice {
+pub(crate) fn formatted<R: Abort + AllocGlobal>(rt: &R) -> MemoryDevice {
     let zeros = Vec::from_elem(rt.alloc(), 0, SIZE).expect(rt, "memory");
     let mut device = MemoryDevice::new(rt.alloc(), zeros).expect(rt, "memory");
     assert!(*rt; device.len() == SIZE);
@@ -33,7 +33,7 @@ fn formatted<R: Abort + AllocGlobal>(rt: &R) -> MemoryDevice {
 }
 
 // A memory whose first line has this byte.
-fn memory(byte: u8) -> [Line; LINES] {
+pub(crate) fn memory(byte: u8) -> [Line; LINES] {
     let mut lines = [[0; 64]; LINES];
     lines[0] = [byte; 64];
     lines
@@ -309,7 +309,10 @@ fn the_second_slot_is_armed(rt: HostRuntime) {
 }
 
 // What a device restores to.
-fn told(alloc: Global, device: &mut MemoryDevice) -> Result<(u64, Verdict), RestoreError> {
+pub(crate) fn told(
+    alloc: Global,
+    device: &mut MemoryDevice,
+) -> Result<(u64, Verdict), RestoreError> {
     restore(alloc, device, LINES).map(|restored| (
         restored.head.newest.generation,
         restored.head.verdict,
@@ -317,7 +320,7 @@ fn told(alloc: Global, device: &mut MemoryDevice) -> Result<(u64, Verdict), Rest
 }
 
 // Sets bytes of a device.
-fn set<R: Abort>(rt: &R, device: &mut MemoryDevice, changes: &[(usize, u8)]) {
+pub(crate) fn set<R: Abort>(rt: &R, device: &mut MemoryDevice, changes: &[(usize, u8)]) {
     for (at, byte) in changes {
         if *at < device.len() {
             device.write_at(*at, &[*byte]).expect(rt, "a write");
@@ -345,119 +348,8 @@ fn what_a_store_restores_to(rt: HostRuntime) {
     restores(&rt, &[(0, 0xa4)], Err(RestoreError::NoImage));
     restores(&rt, &[(32, 127)], Err(first));
     restores(&rt, &[(40, 1)], Err(first));
+    restores(&rt, &[(72, 1)], Err(first));
     restores(&rt, &[(SIZE / 2, 0xa5)], Err(second));
-}
-
-// The SHA-256 of the 8,192 zero bytes of so many zero lines, by another program.
-const DIGEST_OF_ZEROS: [u8; 32] = [
-    0x9f, 0x1d, 0xcb, 0xc3, 0x5c, 0x35, 0x0d, 0x60, 0x27, 0xf9, 0x8b, 0xe0, 0xf5, 0xc8, 0xb4, 0x3b,
-    0x42, 0xca, 0x52, 0xb7, 0x60, 0x44, 0x59, 0xc0, 0xc4, 0x2b, 0xe3, 0xaa, 0x88, 0x91, 0x3d, 0x47,
-];
-
-// Makes a slot of a store of zero lines an image of this version, after five writes, clear and with an open gate.
-fn put_image<R: Abort>(
-    rt: &R,
-    device: &mut MemoryDevice,
-    slot: Slot,
-    version: Version,
-    generation: u64,
-) {
-    let lines = LINES as u64;
-    let mut page = match version {
-        Version::One => header_bytes(generation, 5, lines, false),
-        Version::Two => header_bytes_2(generation, 5, lines, false, &DIGEST_OF_ZEROS),
-    };
-    page[0] = 0xa5;
-    let at = slot.start(LINES);
-    assert!(*rt; at <= SIZE - 4096);
-    assert!(*rt; device.len() == SIZE);
-    device.write_at(at, &page).expect(rt, "a write");
-}
-
-// Fails where a formatted store with an image of version 2 in its second slot and these bytes set restores to something else.
-fn restores_2<R: Abort + AllocGlobal>(
-    rt: &R,
-    generation: u64,
-    changes: &[(usize, u8)],
-    wanted: Result<(u64, Verdict), RestoreError>,
-) {
-    let mut device = formatted(rt);
-    put_image(rt, &mut device, Slot::Second, Version::Two, generation);
-    set(rt, &mut device, changes);
-    same(rt, told(rt.alloc(), &mut device), wanted);
-}
-
-#[test]
-fn what_a_store_of_version_2_restores_to(rt: HostRuntime) {
-    let first = RestoreError::Damaged { slot: Slot::First };
-    let second = RestoreError::Damaged { slot: Slot::Second };
-    let start = SIZE / 2;
-    restores_2(&rt, 2, &[], Ok((2, Verdict::Complete)));
-    let armed = Verdict::PossibleLoss { after: 5 };
-    restores_2(&rt, 2, &[(start + 1, 1)], Ok((2, armed)));
-    restores_2(&rt, 2, &[(start, 0)], Ok((1, Verdict::Complete)));
-    restores_2(
-        &rt,
-        2,
-        &[(start, 0), (start + 40, 0)],
-        Ok((1, Verdict::Complete)),
-    );
-    restores_2(&rt, 2, &[(start + 72, 1)], Err(second));
-    restores_2(&rt, 2, &[(start + 15, 0x31)], Err(second));
-    restores_2(&rt, 1, &[], Err(second));
-    restores_2(&rt, 2, &[(40, 1)], Err(first));
-    restores_2(&rt, 2, &[(start + 40, 0), (40, 1)], Err(first));
-}
-
-// One bit of each byte of the digest is changed, and of the first and the last byte of some lines.
-#[test]
-fn a_digest_that_is_not_that_of_the_lines(rt: HostRuntime) {
-    let second = RestoreError::Damaged { slot: Slot::Second };
-    for at in 0..32 {
-        let byte = DIGEST_OF_ZEROS[at] ^ 1;
-        restores_2(&rt, 2, &[(SIZE / 2 + 40 + at, byte)], Err(second));
-    }
-    for at in [16_384, 16_447, 16_448, 20_479, 20_480, 24_575] {
-        restores_2(&rt, 2, &[(at, 0x80)], Err(second));
-    }
-}
-
-// The older image is damaged where its digest is wrong, whichever version the newest one is of.
-#[test]
-fn a_digest_of_the_older_image(rt: HostRuntime) {
-    let first = RestoreError::Damaged { slot: Slot::First };
-    for version in [Version::One, Version::Two] {
-        for at in [40, 71, 4096, SIZE / 2 - 1] {
-            let mut device = formatted(&rt);
-            put_image(&rt, &mut device, Slot::First, Version::Two, 2);
-            put_image(&rt, &mut device, Slot::Second, version, 3);
-            same(
-                &rt,
-                told(rt.alloc(), &mut device),
-                Ok((3, Verdict::Complete)),
-            );
-            set(&rt, &mut device, &[(at, 0x11)]);
-            same(&rt, told(rt.alloc(), &mut device), Err(first));
-        }
-    }
-}
-
-// The version is told, and generations are compared whatever the versions are.
-#[test]
-fn images_of_both_versions(rt: HostRuntime) {
-    for first in [Version::One, Version::Two] {
-        for second in [Version::One, Version::Two] {
-            for (older, newer, newest) in [(4, 5, second), (5, 4, first)] {
-                let mut device = formatted(&rt);
-                put_image(&rt, &mut device, Slot::First, first, older);
-                put_image(&rt, &mut device, Slot::Second, second, newer);
-                let restored = restore(rt.alloc(), &mut device, LINES).expect(&rt, "an image");
-                same(&rt, restored.head.newest.generation, 5);
-                same(&rt, restored.version, newest);
-                same(&rt, restored.lines.as_slice(), memory(0).as_slice());
-            }
-        }
-    }
 }
 
 #[test]
@@ -479,31 +371,6 @@ fn a_restore_on_a_device_that_fails(rt: HostRuntime) {
             Ok(0)
         };
         same(&rt, answer, expected);
-    }
-}
-
-// The sync, both headers, the pages of the newest image, and those of the older one where it has a digest: each once.
-#[test]
-fn a_restore_of_two_images_on_a_device_that_fails(rt: HostRuntime) {
-    for (older, whole) in [(Version::One, 5), (Version::Two, 7)] {
-        for newest in [Version::One, Version::Two] {
-            for calls in 0..9 {
-                let mut device = formatted(&rt);
-                put_image(&rt, &mut device, Slot::First, older, 2);
-                put_image(&rt, &mut device, Slot::Second, newest, 3);
-                let mut fuse = Fuse::new(device, calls);
-                let answer = restore(rt.alloc(), &mut fuse, LINES).map(|restored| restored
-                    .head
-                    .count);
-                let expected = if calls < whole {
-                    Err(RestoreError::Device)
-                } else {
-                    Ok(5)
-                };
-                same(&rt, (calls, answer), (calls, expected));
-                same(&rt, fuse.left, calls.saturating_sub(whole));
-            }
-        }
     }
 }
 
