@@ -7,10 +7,12 @@
 mod costs;
 mod profile;
 mod reading;
+mod ready;
 mod sizes;
 mod table;
 mod timing;
 
 pub use profile::Profile;
-pub use reading::{MOST_BYTES, ProfileFault, TINY, read_profile};
+pub use reading::{MOST_BYTES, ProfileFault, read_profile};
+pub use ready::{TINY, TINY2, ready_profile};
 pub use sizes::ModuleSizes;

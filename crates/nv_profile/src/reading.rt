@@ -28,52 +28,6 @@ pub enum ProfileFault {
     Memory = 2,
 }
 
-/// The profile of the word `tiny`: 128 lines on two channels.
-pub const TINY: &str = "[timing]
-tRCD = 16
-tRP = 16
-tRAS = 39
-CL = 16
-CWL = 12
-tCCD_S = 4
-tCCD_L = 6
-tRRD_S = 4
-tRRD_L = 6
-tFAW = 26
-tWR = 18
-tWTR_S = 3
-tWTR_L = 9
-tRTP = 9
-tRTW = 10
-tCS = 2
-tRFC = 420
-tREFI = 9360
-[geometry]
-channels = 2
-ranks = 1
-groups = 2
-banks = 4
-rows = 2
-columns = 4
-[costs]
-e_act = 4
-e_col = 2
-e_pre = 1
-e_ref = 20
-e_sre = 1
-e_clk = 1
-e_mark = 50
-e_sync = 100
-e_page = 1000
-leak = 1
-[module]
-depth = 8
-reads = 8
-trail = 1024
-notices = 64
-map = \"lines\"
-";
-
 /// Reads a profile: bytes that are at most 65,536, UTF-8, and TOML with exactly the keys of a profile, each with a whole
 /// number within its limits, and `map` with one of its two words. Timing and geometry have to pass `Timing::check`.
 ///
