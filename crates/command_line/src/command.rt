@@ -1,7 +1,8 @@
 // The command line: its words, the files that they name, and the exit status.
-ghost use Rattle.std.specs.Prelude.{◌≡◌, IfErr, codes, if◌then◌else◌};
+ghost use Rattle.std.specs.Prelude.{◌≡◌, IfErr, if◌then◌else◌};
 ghost use Rattle.std.specs.Process.{exit_status};
 ghost use Rattle.command_line.specs.declared.command.Fault.TheVariants.{Memory};
+ghost use Rattle.nv_profile.specs.Ready.{IsReadyWord};
 ghost use Rattle.command_line.specs.Exit.{IsOfWords, IsOfNoFile};
 
 use crate::crash::{write_crash, write_line};
@@ -10,7 +11,7 @@ use crate::store::{STORE_BYTES, show_store};
 use clap::error::ErrorKind;
 use clap::{Arg, ArgAction, ArgMatches, Command, Error as UsageError, value_parser};
 use command_trace::{Source, TraceFault};
-use nv_profile::{MOST_BYTES, Profile, ProfileFault, TINY, read_profile};
+use nv_profile::{MOST_BYTES, Profile, ProfileFault, read_profile, ready_profile};
 use nv_script::{SCRIPT_BYTES, ScriptFault};
 use profile_report::{Meaning, why_refused};
 use save_device::{MemoryDevice, SaveDevice};
@@ -237,10 +238,9 @@ where
     R: Files + AllocGlobal,
     W: Write,
 {
-    let text = if word == "tiny" {
-        TINY.as_bytes().to_vec(rt.alloc())?
-    } else {
-        file_bytes(rt, word, MOST_BYTES as u64 + 1)?
+    let text = match ready_profile(word) {
+        Some(text) => text.as_bytes().to_vec(rt.alloc())?,
+        None => file_bytes(rt, word, MOST_BYTES as u64 + 1)?,
     };
     let profile = match read_profile(rt.alloc(), &text) {
         Ok(profile) => profile,
@@ -300,7 +300,7 @@ fn run_command<'a>(alloc: Global) -> Result<Command<'a>, AllocError> {
 
 fn profile_word<'a>(alloc: Global) -> Arg<'a> {
     Arg::new(alloc, "PROFILE").required(true).help(
-        "The word tiny, a module of 128 lines, or the profile's TOML file",
+        "The word tiny or tiny2, a module of 128 lines, or the profile's TOML file",
     )
 }
 
@@ -382,15 +382,14 @@ fn usage<'a, R: Print + Eprint>(rt: &R, error: &UsageError) -> Result<ExitCode, 
     }
 }
 
-/// The profile of its word: `tiny`, or a file of TOML.
+/// The profile of its word: `tiny`, `tiny2`, or a file of TOML.
 pub fn profile_of<'a, R: Files + AllocGlobal>(rt: &R, word: &'a str) -> Result<Profile, Fault<'a>>
-    ensures tiny { word.entry.now ≡ codes "tiny" → IfErr result IsOfNoFile }
+    ensures ready { IsReadyWord word.entry.now → IfErr result IsOfNoFile }
 {
-    let read = if word == "tiny" {
-        read_profile(rt.alloc(), TINY.as_bytes())
-    } else {
+    let read = match ready_profile(word) {
+        Some(text) => read_profile(rt.alloc(), text.as_bytes()),
         // one byte more than a profile may have
-        read_profile(rt.alloc(), &file_bytes(rt, word, MOST_BYTES as u64 + 1)?)
+        None => read_profile(rt.alloc(), &file_bytes(rt, word, MOST_BYTES as u64 + 1)?),
     };
     match read {
         Ok(profile) => Ok(profile),
