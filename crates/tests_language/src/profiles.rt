@@ -3,7 +3,7 @@ use crate::check::same;
 use ddr4_timing::profiles;
 use energy_budget::{CostNumbers, TINY_COSTS};
 use interleave_map::Interleaving;
-use nv_profile::{ModuleSizes, Profile, ProfileFault, TINY, read_profile};
+use nv_profile::{ModuleSizes, Profile, ProfileFault, TINY, read_profile, ready_profile};
 use std::alloc::Global;
 use std::process::Abort;
 
@@ -130,6 +130,16 @@ fn costs_of_digests(rt: HostRuntime) {
     ] {
         let text = with_digests(&rt, value);
         assert!(rt; is_refused(rt.alloc(), text.as_bytes()), "{value}");
+    }
+}
+
+#[test]
+fn profiles_that_a_word_names(rt: HostRuntime) {
+    same(&rt, ready_profile("tiny"), Some(TINY));
+    let digested = with_digests(&rt, "100");
+    same(&rt, ready_profile("tiny2"), Some(digested.as_str()));
+    for word in ["", "tiny1", "tiny3", "tiny22", "Tiny", "tiny ", "small"] {
+        same(&rt, ready_profile(word), None);
     }
 }
 

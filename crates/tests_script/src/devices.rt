@@ -4,7 +4,7 @@ use nv_profile::TINY;
 use std::alloc::{AllocError, Global};
 use std::process::Abort;
 
-// How many of its eight calls a save may make before it fails: a gate, a sync, the header, two pages, a sync, a gate, a sync.
+// How many of its eight calls a save may make before it fails: a gate, a sync, two pages, the header, a sync, a gate, a sync.
 const OF_SAVE: [&str; 8] = ["0", "1", "2", "3", "4", "5", "6", "7"];
 
 // Fails where a script doesn't answer these lines, with the number of calls for each % in both.

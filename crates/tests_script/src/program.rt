@@ -109,6 +109,24 @@ fn a_script_that_runs(rt: HostRuntime) {
     remove(&rt, place, "%good");
 }
 
+// A page of tiny2 costs 100 more, and a memory has two.
+#[test]
+fn a_script_on_tiny2(rt: HostRuntime) {
+    let place = place(&rt, process::id(rt.process()));
+    let place = place.as_str();
+    let script = b"format\nsense 3539\narm\nsense 3540\narm\n";
+    make(&rt, place, "%script", script);
+    let text = "formatted
+level 3539 disarmed
+refused arm 1 NeedEnergy 3540 3539
+level 3540 disarmed
+armed
+";
+    let words = ["run", "tiny2", "%script"];
+    ends(&rt, place, &words, ExitCode::SUCCESS, "", text);
+    remove(&rt, place, "%script");
+}
+
 const FAULTS: [(&[&str], &str); 6] = [
     (&["run", "/no/profile", "/no/such/file"], "file /no/profile"),
     (&["run", "%bad", "/no/such/file"], "profile"),
@@ -139,16 +157,21 @@ pending 8: steps 18, reserve 7432, floor 7451, least reading 7452
 pending 16: steps 26, reserve 11536, floor 11563, least reading 11564
 ";
 
+const TINY2_MEANING: &str = "lines 128 on 2 channels, map lines
+device 24576 bytes
+entry 486 clocks
+close step 437 clocks
+pending 0: steps 10, reserve 3528, floor 3539, least reading 3540
+pending 1: steps 11, reserve 4041, floor 4053, least reading 4054
+pending 8: steps 18, reserve 7632, floor 7651, least reading 7652
+pending 16: steps 26, reserve 11736, floor 11763, least reading 11764
+";
+
 #[test]
 fn what_a_profile_means(rt: HostRuntime) {
-    ends(
-        &rt,
-        "",
-        &["profile", "tiny"],
-        ExitCode::SUCCESS,
-        "",
-        TINY_MEANING,
-    );
+    for (word, text) in [("tiny", TINY_MEANING), ("tiny2", TINY2_MEANING)] {
+        ends(&rt, "", &["profile", word], ExitCode::SUCCESS, "", text);
+    }
 }
 
 const SAVING: &str = "formatted\naccepted 0 mark 0\nsaved 2 1\naccepted 1 mark 1\n";

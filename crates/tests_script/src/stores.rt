@@ -31,6 +31,12 @@ fn put(store: &mut Vec<u8>, at: usize, bytes: &[u8]) {
     }
 }
 
+// Makes the image in a slot one of version 1, which has no digest.
+fn drop_digest(store: &mut Vec<u8>, slot: usize) {
+    put(store, slot + 8, b"NVSAVE01");
+    put(store, slot + 40, &[0; 32]);
+}
+
 // Copies the first slot into the second one.
 fn copy(store: &mut Vec<u8>) {
     for at in 0..SLOT {
@@ -83,10 +89,12 @@ fn gates_and_arm_bytes(rt: HostRuntime) {
 
 #[test]
 fn headers_that_are_none(rt: HostRuntime) {
-    let changes: [(usize, &[u8]); 10] = [
+    let changes: [(usize, &[u8]); 12] = [
         (2, &[1]),
         (15, &[0x30]),
+        (15, &[0x31]),
         (40, &[1]),
+        (72, &[1]),
         (4095, &[1]),
         (16, &[0]),
         (16, &[0, 0, 0, 0, 0, 0, 0, 0x80]),
@@ -121,18 +129,50 @@ fn two_slots(rt: HostRuntime) {
     put(&mut same, 16, &[4]);
     copy(&mut same);
     is_shown(&rt, 0, same, false, "refused restore 2 Damaged 1\n");
-    let mut second = formatted(&rt);
-    copy(&mut second);
-    put(&mut second, SLOT + 16, &[2]);
-    put(&mut second, SLOT + 24, &[3]);
-    put(&mut second, SLOT + 4096 + 64, &[0x11; 64]);
-    put(&mut second, SLOT + 4096 + 127 * 64 + 63, &[0xa5]);
+}
+
+// The SHA-256 of 128 lines, by another program: line 1 has 64 bytes 0x11, the last byte of line 127 is 0xa5, and all others are 0.
+const DIGEST: [u8; 32] = [
+    0xd4, 0x31, 0x8e, 0xcb, 0x4d, 0x79, 0x26, 0xe1, 0xe3, 0x5e, 0x70, 0x9b, 0xd1, 0x5c, 0xb8, 0xe0,
+    0x60, 0x5f, 0xcb, 0x21, 0x14, 0x7c, 0xb3, 0xd3, 0x8c, 0x3d, 0x8e, 0x48, 0xa4, 0xe6, 0x48, 0xe8,
+];
+
+// A store with those lines in its second slot, by generation 2 after three writes, and a digest of zeros.
+fn with_lines<R: Abort + AllocGlobal>(rt: &R) -> Vec<u8> {
+    let mut store = formatted(rt);
+    copy(&mut store);
+    put(&mut store, SLOT + 16, &[2]);
+    put(&mut store, SLOT + 24, &[3]);
+    put(&mut store, SLOT + 4096 + 64, &[0x11; 64]);
+    put(&mut store, SLOT + 4096 + 127 * 64 + 63, &[0xa5]);
+    store
+}
+
+// Lines are shown where the image has no digest, or its own.
+#[test]
+fn lines_that_are_shown(rt: HostRuntime) {
     let zeros = "00000000000000000000000000000000000000000000000000000000000000";
     let text = format!(in rt.alloc();
         "restored 2 3 Complete\nline 1 = 11\nline 127 = {zeros}{zeros}00a5\n"
     );
     let text = text.expect(&rt, "memory");
-    is_shown(&rt, 1, second, true, text.as_str());
+    let damaged = "refused restore 2 Damaged 1\n";
+    is_shown(&rt, 0, with_lines(&rt), false, damaged);
+    let mut digested = with_lines(&rt);
+    put(&mut digested, SLOT + 40, &DIGEST);
+    is_shown(&rt, 1, digested, true, text.as_str());
+    let mut changed = with_lines(&rt);
+    put(&mut changed, SLOT + 40, &DIGEST);
+    put(&mut changed, SLOT + 4096 + 63, &[1]);
+    is_shown(&rt, 2, changed, false, damaged);
+    let mut old = with_lines(&rt);
+    drop_digest(&mut old, SLOT);
+    is_shown(&rt, 3, old, true, text.as_str());
+    // both slots of version 1
+    let mut older = with_lines(&rt);
+    drop_digest(&mut older, 0);
+    drop_digest(&mut older, SLOT);
+    is_shown(&rt, 4, older, true, text.as_str());
 }
 
 #[test]
