@@ -21,7 +21,7 @@ use Rattle.module_core.specs.Device.{HoldsWhile}
 -- a device that holds a store is of the size that its images need
 right_size : (lines : ℕ) (s : Store) (save : Option RunningSave) (run : Option SaveRun) (device : DeviceState) → HoldsWhile save run lines s device → HasSize lines device
 right_size lines s None None device resting = resting.rest.size
-right_size lines s (Some save) (Some run) device saving = subst (λ (lines : ℕ). HasSize lines device) saving.plan.lines_are saving.saving.size
+right_size lines s (Some save) (Some run) device saving = subst (λ (lines : ℕ). HasSize lines device) saving.plan.lines_are saving.saving.0.size
 right_size lines s None (Some run) device none = absurd none
 right_size lines s (Some save) None device none = absurd none
 
