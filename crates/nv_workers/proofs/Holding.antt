@@ -14,6 +14,7 @@ use Rattle.channel_port.specs.declared.port.ChannelPort.{Ghosts}
 use Rattle.nv_machine.specs.declared.events.Event.{Event}
 use Rattle.nv_machine.specs.declared.events.Reply.{Reply}
 use Rattle.nv_machine.specs.Rising.{Rises}
+use Rattle.nv_machine.proofs.Guarded.{persisted_accepted}
 use Rattle.nv_machine.proofs.RisingMarks.{event_rises}
 use Rattle.module_core.specs.declared.module.Module.{Module}
 use Rattle.module_core.specs.Device.{HoldsWhile}
@@ -32,7 +33,7 @@ module _ {K : Type 0} (L : Ghosts K) where
 
   -- the persistent writes are accepted ones
   in_order : (it : Module K L) (device : DeviceState) (m : Machine) → ModuleStands L it device m → it.persisted ≤ it.accepted
-  in_order it device m stands = omega (arith, stands.matches.accepted, stands.matches.persisted, stands.guarded.most)
+  in_order it device m stands = omega (arith, stands.matches.accepted, stands.matches.persisted, persisted_accepted m stands.guarded)
 
 module _ {K D E : Type 0} (L : Ghosts K) (M : DeviceGhosts D) (it : RecordedModule K D E L) (kept : IsRecordKept L M it) where
   -- the device has the module's size

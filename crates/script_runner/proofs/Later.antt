@@ -10,6 +10,7 @@ use Rattle.nv_machine.specs.Guard.{IsGuarded}
 use Rattle.nv_machine.specs.Headline.{Happens, Run, given}
 use Rattle.nv_machine.specs.Rising.{Rises}
 use Rattle.nv_machine.specs.Survival.{told_mark}
+use Rattle.nv_machine.proofs.Guarded.{persisted_accepted}
 use Rattle.nv_machine.proofs.RisingMarks.{run_rises, told_along}
 use Rattle.module_core.specs.Stands.{Assembly, ModuleStands, assembly, point_of, setup_of, world_of}
 use Rattle.module_core.proofs.RunsOn.{run_worlds}
@@ -61,7 +62,7 @@ module _ {K : Type 0} (L : Ghosts K) where
         rises = run_rises setup comes.events comes.replies from to run stands.guarded;
         marks = told_along setup comes.events comes.replies from to run stands.guarded;
         guarded = stands.guarded;
-        most = comes.runs.stands.guarded.most;
+        most = persisted_accepted n comes.runs.stands.guarded;
         one = λ event reply is_event is_reply. one_step setup comes.events comes.replies event reply from to is_event is_reply run;
       }
 

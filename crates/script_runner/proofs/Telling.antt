@@ -11,6 +11,7 @@ use Rattle.save_device.specs.declared.memory.Pick.{Pick}
 use Rattle.slot_store.specs.Outcomes.{first_image}
 use Rattle.slot_store.specs.declared.head.Head.{Head}
 use Rattle.slot_store.specs.declared.restoring.RestoreError.{RestoreError}
+use Rattle.nv_machine.proofs.Guarded.{persisted_accepted}
 use Rattle.module_core.specs.Opening.{opened_with}
 use Rattle.module_core.specs.Stands.{ModuleStands}
 use Rattle.interleave_map.specs.declared.ready.Interleaving.{Interleaving}
@@ -41,7 +42,7 @@ module _ {K : Type 0} (L : Ghosts K) where
     writes = sym (append-nil m.life.writes) ∙ ap (λ (ws : List Write). m.life.writes ++ ws) adds;
     rises = omega arith;
     told = told;
-    most = stands.guarded.most;
+    most = persisted_accepted m stands.guarded;
     holds = holds;
   }
 
