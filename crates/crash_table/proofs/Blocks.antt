@@ -10,7 +10,7 @@ use Rattle.crash_table.specs.declared.table.Block.{Block}
 use Rattle.crash_table.specs.declared.table.Row.{Row}
 use Rattle.crash_table.specs.declared.tried.Tried.{Tried}
 use Rattle.crash_table.specs.Rows.{AreRowsOf, StandOnce, outcomes_of, times_found, times_told}
-use Rattle.crash_table.specs.Blocks.{AreBlocksOf, IsBlockOf, Joins, Shows, TakesLine, tried_in}
+use Rattle.crash_table.specs.Blocks.{AreBlocksOf, IsBlockOf, JoinsBlock, Shows, TakesLine, tried_in}
 
 zip_push : (groups : List (List (ℕ × List Tried))) (blocks : List Block) (group : List (ℕ × List Tried)) (block : Block) → AllZip IsBlockOf groups blocks → IsBlockOf group block
     → AllZip IsBlockOf (groups ++ group ∷ []) (blocks ++ block ∷ [])
@@ -56,7 +56,7 @@ alone line tried rows block are first last same =
     }
 
 -- a block that has taken a line in
-joined : (lines : List (ℕ × List Tried)) (line : ℕ) (tried : List Tried) (rows : List Row) (before after : Block) → IsBlockOf lines before → AreRowsOf tried rows → Joins line rows before after
+joined : (lines : List (ℕ × List Tried)) (line : ℕ) (tried : List Tried) (rows : List Row) (before after : Block) → IsBlockOf lines before → AreRowsOf tried rows → JoinsBlock line rows before after
     → IsBlockOf (lines ++ (line, tried) ∷ []) after
 joined lines line tried rows before after is are joins =
     let more : ℕ × List Tried = (line, tried) in
@@ -113,7 +113,7 @@ blocks_more lines line tried rows old new are of_line (inr joins) =
     }
 
 -- the last block is joined at its place
-pub joins_last : (line : ℕ) (rows : List Row) (blocks : List Block) (place : ℕ) (before after : Block) → length blocks ≡ place + 1 → before ≡ get_or blocks place before → Joins line rows before after
+pub joins_last : (line : ℕ) (rows : List Row) (blocks : List Block) (place : ℕ) (before after : Block) → length blocks ≡ place + 1 → before ≡ get_or blocks place before → JoinsBlock line rows before after
     → TakesLine line rows blocks (set blocks place after)
 joins_last line rows blocks place before after size at joins =
     let inside : place < length blocks = omega (arith, size) in

@@ -17,9 +17,9 @@ use Rattle.script_runner.specs.Story.{Exchange, AreAllAnswered, AreTrueOf, FillT
 use Rattle.crash_table.specs.declared.outcome.Outcome.{Outcome}
 use Rattle.crash_table.specs.declared.stop.Stop.{Stop}
 use Rattle.crash_table.specs.declared.stop.Stop.TheVariants.{Dark, Loss}
-use Rattle.crash_table.specs.Counting.{count_in, is_complete, missing}
+use Rattle.crash_table.specs.Counting.{writes_found, is_complete, missing}
 use Rattle.crash_table.specs.Stops.{stopped_lines}
-use Rattle.crash_table.specs.Outcomes.{EndsWithFault, IsRestored, MayEnd, found_by, told_of}
+use Rattle.crash_table.specs.Outcomes.{EndsWithFault, IsOutcomeOf, MayEnd, found_by, told_of}
 use Rattle.crash_table.proofs.Told.{answers_in, told_all, told_is}
 
 abbrev lines_in : List Exchange → List ScriptLine
@@ -89,7 +89,7 @@ restore_by pick = line.Restore (Some pick) None
 -- what the last answer of a run tells is what a restore found behind its lines
 pub restored_by : (size : ℕ) (lines : List ScriptLine) (pick : Pick) (answers : List Answer) → AreAllAnswered size (lines ++ restore_by pick ∷ []) [] answers
     → (before : List Answer) (given : Answer) → answers ≡ before ++ given ∷ []
-    → (outcome : Outcome) → outcome.found ≡ found_by given → outcome.told ≡ unwrap_or (told_all None before) 0 → IsRestored size lines pick outcome
+    → (outcome : Outcome) → outcome.found ≡ found_by given → outcome.told ≡ unwrap_or (told_all None before) 0 → IsOutcomeOf size lines pick outcome
 restored_by size lines pick answers all before given split outcome found told =
     let it : EndsWith all.answered.story lines (restore_by pick) = ends_with all.answered.story lines (restore_by pick) all.answered.asked_are in
     let far : TrueAsFar size None it.before it.end = true_as_far size None it.before it.end (subst (IsTrueStory size None) it.is all.answered.holds) in
@@ -113,7 +113,7 @@ restored_by size lines pick answers all before given split outcome found told =
     }
 
 lacks_none : (size : ℕ) (known : Option Ledger) (given : Answer) → ((ledger : Ledger) → known ≡ Some ledger → IsTrueBy size given ledger)
-    → is_complete (found_by given) ≡ true → told_of known - count_in (found_by given) ≡ 0
+    → is_complete (found_by given) ≡ true → told_of known - writes_found (found_by given) ≡ 0
 lacks_none size None given holds complete = omega arith
 lacks_none size (Some ledger) (answer.Restored generation count Complete) holds complete =
     let within = (holds ledger refl).1 refl in omega (arith, within)
@@ -121,11 +121,11 @@ lacks_none size (Some ledger) (answer.Restored generation count (PossibleLoss af
 lacks_none size (Some ledger) given holds complete = absurd cc
 
 -- a restore that is told Complete lacks no write that was told to be persistent
-pub complete_lacks_none : (size : ℕ) (lines : List ScriptLine) (pick : Pick) (outcome : Outcome) → IsRestored size lines pick outcome → is_complete outcome.found ≡ true → missing outcome ≡ 0
+pub complete_lacks_none : (size : ℕ) (lines : List ScriptLine) (pick : Pick) (outcome : Outcome) → IsOutcomeOf size lines pick outcome → is_complete outcome.found ≡ true → missing outcome ≡ 0
 complete_lacks_none size lines pick outcome restored complete =
     let known : Option Ledger = known_after None restored.story in
-    let same : missing outcome ≡ told_of known - count_in (found_by restored.given) =
-    ap (λ (n : ℕ). n - count_in outcome.found) restored.told ∙ ap (λ found. told_of known - count_in found) restored.found in
+    let same : missing outcome ≡ told_of known - writes_found (found_by restored.given) =
+    ap (λ (n : ℕ). n - writes_found outcome.found) restored.told ∙ ap (λ found. told_of known - writes_found found) restored.found in
     same ∙ lacks_none size known restored.given restored.holds.holds (sym (ap is_complete restored.found) ∙ complete)
 
 -- answers of a run tell how it ends

@@ -10,7 +10,7 @@ use Rattle.crash_table.specs.declared.stop.Stop.{Stop}
 use Rattle.crash_table.specs.declared.stop.Stop.TheVariants.{Dark, Loss}
 use Rattle.crash_table.specs.declared.tried.Tried.{Tried}
 use Rattle.crash_table.specs.Stops.{dark_below, picks, with_each_pick, with_picks}
-use Rattle.crash_table.specs.Outcomes.{AreTried, IsTried, Makes, tried_at}
+use Rattle.crash_table.specs.Outcomes.{AreTried, IsTried, MakesDeviceCalls, tried_at}
 
 -- one pick more at a stop
 pub pick_more : (some : List Pick) (stop : Stop) (i : ℕ) (d : Pick) (tried : List Tried) (outcome : Outcome) → i < length some → map tried_at tried ≡ with_picks (take i some) stop
@@ -37,7 +37,7 @@ tries_more size before last stops stop tried more tries each are = record {
 }
 
 -- a line's stops are darkness behind each of its calls, darkness behind it, and a loss
-pub tries_all : (size : ℕ) (before : List ScriptLine) (last : ScriptLine) (calls : ℕ) (tried : List Tried) → Makes size before last calls
+pub tries_all : (size : ℕ) (before : List ScriptLine) (last : ScriptLine) (calls : ℕ) (tried : List Tried) → MakesDeviceCalls size before last calls
     → TriesEach size before last ((dark_below calls ++ Dark calls ∷ []) ++ Loss ∷ []) tried → AreTried size before last tried
 tries_all size before last calls tried makes tries = record {
   calls = calls;

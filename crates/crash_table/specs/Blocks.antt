@@ -34,7 +34,7 @@ abbrev pub IsAlikeLast : List Row → List Block → ℕ → Type 0
 IsAlikeLast rows blocks place = (length blocks ≡ place + 1) × HoldsAt (λ block. AreAlike block.rows.items rows) blocks place
 
 -- a block has taken a line in, whose rows have its outcomes
-pub record Joins (line : ℕ) (rows : List Row) (old new : Block) : Type 0 where
+pub record JoinsBlock (line : ℕ) (rows : List Row) (old new : Block) : Type 0 where
   pub first : new.first ≡ old.first
   pub last : new.last ≡ line
   pub same : outcomes_of rows ≡ outcomes_of old.rows.items
@@ -55,7 +55,7 @@ pub record JoinsLast (line : ℕ) (rows : List Row) (old new : List Block) : Typ
   pub after : Block
   pub was : old ≡ front ++ before ∷ []
   pub is : new ≡ front ++ after ∷ []
-  pub joins : Joins line rows before after
+  pub joins : JoinsBlock line rows before after
 
 abbrev pub TakesLine : ℕ → List Row → List Block → List Block → Type 0
 TakesLine line rows old new = ComesLast line rows old new ⊎ JoinsLast line rows old new

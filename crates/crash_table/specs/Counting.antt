@@ -8,9 +8,9 @@ use Rattle.crash_table.specs.declared.tried.Tried.{Tried}
 use Rattle.crash_table.specs.declared.counts.Counts.{Counts}
 
 -- how many writes what was found holds
-abbrev pub count_in : Found → ℕ
-count_in (Image generation count verdict) = count
-count_in other = 0
+abbrev pub writes_found : Found → ℕ
+writes_found (Image generation count verdict) = count
+writes_found other = 0
 
 abbrev pub is_complete : Found → Bool
 is_complete (Image generation count Complete) = true
@@ -18,7 +18,7 @@ is_complete other = false
 
 -- how many of the writes that were told to be persistent it lacks
 abbrev pub missing : Outcome → ℕ
-missing outcome = outcome.told - count_in outcome.found
+missing outcome = outcome.told - writes_found outcome.found
 
 -- the most that one of these lacks
 abbrev pub most_missing : List Tried → ℕ

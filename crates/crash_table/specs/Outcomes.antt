@@ -20,7 +20,7 @@ use Rattle.crash_table.specs.declared.tried.Tried.{Tried}
 use Rattle.crash_table.specs.Stops.{stopped_lines, stops_of, with_each_pick}
 
 -- these lines were run from the first to the last on a device of zero bytes of so many lines, and each answer is true
-pub record IsRun (size : ℕ) (lines : List ScriptLine) (story : List Exchange) : Type 0 where
+pub record IsTrueRun (size : ℕ) (lines : List ScriptLine) (story : List Exchange) : Type 0 where
   pub asked : map (λ exchange. exchange.asked) story ≡ lines
   pub holds : IsTrueStory size None story
   pub whole : All IsWhole story
@@ -38,9 +38,9 @@ found_by other = Refused errors.NoImage
 
 -- Behind a run of these lines a restore by this pick gave this outcome: it is told what the restore of that very device
 -- answered, true by what was known before it, and how many writes were told to be persistent by then.
-pub record IsRestored (size : ℕ) (lines : List ScriptLine) (pick : Pick) (outcome : Outcome) : Type 0 where
+pub record IsOutcomeOf (size : ℕ) (lines : List ScriptLine) (pick : Pick) (outcome : Outcome) : Type 0 where
   pub story : List Exchange
-  pub run : IsRun size lines story
+  pub run : IsTrueRun size lines story
   pub told : outcome.told ≡ told_of (known_after None story)
   pub given : Answer
   pub holds : IsTrueOf size (known_after None story) (line.Restore (Some pick) None) given
@@ -55,25 +55,25 @@ told_behind (answer.RestoreRefused error) told = told
 told_behind given told = option_map (λ n. max n (told_by given)) told
 
 -- whether an answer tells a fault of the device
-abbrev pub is_fault : Answer → Bool
-is_fault answer.FormatFault = true
-is_fault answer.ArmFault = true
-is_fault answer.SaveFault = true
-is_fault (answer.Lost lost.Fault) = true
-is_fault other = false
+abbrev pub tells_fault : Answer → Bool
+tells_fault answer.FormatFault = true
+tells_fault answer.ArmFault = true
+tells_fault answer.SaveFault = true
+tells_fault (answer.Lost lost.Fault) = true
+tells_fault other = false
 
 -- whether the last of these answers does
 abbrev pub EndsWithFault : List Answer → Bool → Type 0
-EndsWithFault answers fails = MatchOption (slice_get answers (length answers - 1)) (fails ≡ false) (λ last. fails ≡ is_fault last)
+EndsWithFault answers fails = MatchOption (slice_get answers (length answers - 1)) (fails ≡ false) (λ last. fails ≡ tells_fault last)
 
 -- a run of these lines may end with a fault of the device, or without one
 pub record MayEnd (size : ℕ) (lines : List ScriptLine) (fails : Bool) : Type 0 where
   pub story : List Exchange
-  pub run : IsRun size lines story
+  pub run : IsTrueRun size lines story
   pub ends : EndsWithFault (flat_map (λ exchange. exchange.answers) story) fails
 
 -- a line behind others makes so many calls of the device: behind fewer it fails, and behind so many it doesn't
-pub record Makes (size : ℕ) (before : List ScriptLine) (last : ScriptLine) (calls : ℕ) : Type 0 where
+pub record MakesDeviceCalls (size : ℕ) (before : List ScriptLine) (last : ScriptLine) (calls : ℕ) : Type 0 where
   pub fails : (fewer : ℕ) → fewer < calls → MayEnd size (stopped_lines before last (Dark fewer)) true
   pub passes : MayEnd size (stopped_lines before last (Dark calls)) false
 
@@ -82,11 +82,11 @@ tried_at tried = (tried.stop, tried.pick)
 
 -- what was tried is the restore of the device that its stop left, by its pick
 abbrev pub IsTried : ℕ → List ScriptLine → ScriptLine → Tried → Type 0
-IsTried size before last tried = IsRestored size (stopped_lines before last tried.stop) tried.pick tried.outcome
+IsTried size before last tried = IsOutcomeOf size (stopped_lines before last tried.stop) tried.pick tried.outcome
 
 -- Each stop of a line was tried with each pick.
 pub record AreTried (size : ℕ) (before : List ScriptLine) (last : ScriptLine) (tried : List Tried) : Type 0 where
   pub calls : ℕ
-  pub makes : Makes size before last calls
+  pub makes : MakesDeviceCalls size before last calls
   pub each : map tried_at tried ≡ with_each_pick (stops_of calls)
   pub are : All (IsTried size before last) tried

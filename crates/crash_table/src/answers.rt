@@ -85,8 +85,8 @@ pub(crate) fn told_in(answers: &[Answer]) -> Option<u64>
     told
 }
 
-fn is_fault(answer: &Answer) -> bool
-    ensures { result ≡ Rattle.crash_table.specs.Outcomes.is_fault answer.now }
+fn tells_fault(answer: &Answer) -> bool
+    ensures { result ≡ Rattle.crash_table.specs.Outcomes.tells_fault answer.now }
 {
     matches!(
         *answer,
@@ -99,7 +99,7 @@ pub(crate) fn ends_with_fault(answers: &[Answer]) -> bool
     ensures { EndsWithFault answers.now result }
 {
     match answers.last() {
-        Some(answer) => is_fault(answer),
+        Some(answer) => tells_fault(answer),
         None => false,
     }
 }

@@ -1,6 +1,6 @@
 // What a restore finds behind a stop.
 ghost use Rattle.std.specs.Prelude.{◌≡◌, min};
-ghost use Rattle.crash_table.specs.Counting.{count_in, missing};
+ghost use Rattle.crash_table.specs.Counting.{writes_found, missing};
 ghost use Rattle.crash_table.specs.Outcomes.{found_by};
 
 use nv_script::Answer;
@@ -49,7 +49,7 @@ impl Found {
 
     /// How many writes it holds, 0 where there is no image.
     pub fn count(&self) -> u64
-        ensures { result ≡ count_in self.now }
+        ensures { result ≡ writes_found self.now }
     {
         match *self {
             Found::Image { count, .. } => count,
@@ -74,7 +74,7 @@ impl Found {
 impl Outcome {
     /// How many of the writes that were told to be persistent it holds.
     pub fn held(&self) -> u64
-        ensures { result ≡ min self.now.told (count_in self.now.found) }
+        ensures { result ≡ min self.now.told (writes_found self.now.found) }
     {
         self.told.min(self.found.count())
     }

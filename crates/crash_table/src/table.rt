@@ -3,7 +3,7 @@ ghost use Rattle.std.specs.Prelude.{◌≡◌, ◌<◌, ◌-◌, ◌^◌, ℕ, t
 ghost use Rattle.crash_table.specs.declared.tried.Tried.{Tried};
 ghost use Rattle.crash_table.specs.Counting.{IsCountOf};
 ghost use Rattle.crash_table.specs.Rows.{AreAdded, AreAlike, AreRowsOf, IsAlike, IsAtStop, IsOneMore, IsRowOf};
-ghost use Rattle.crash_table.specs.Blocks.{AreBlocksOf, IsAlikeLast, Joins, TakesLine};
+ghost use Rattle.crash_table.specs.Blocks.{AreBlocksOf, IsAlikeLast, JoinsBlock, TakesLine};
 
 use crate::counts::Counts;
 use crate::outcome::Outcome;
@@ -143,7 +143,7 @@ impl Block {
     // Takes the next line in, whose rows have the same outcomes.
     fn join(&mut self, line: u64, rows: &[Row])
         requires { AreAlike self.old.rows.items rows.now }
-        ensures { Joins line rows.now self.old self.new }
+        ensures { JoinsBlock line rows.now self.old self.new }
     {
         self.last = line;
         add_rows(&mut self.rows, rows);

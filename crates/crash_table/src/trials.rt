@@ -5,7 +5,7 @@ ghost use Rattle.nv_script.specs.Line.{NamesChannelOf};
 ghost use Rattle.script_runner.specs.Story.{AreAllAnswered, GivesOut};
 ghost use Rattle.crash_table.specs.Stops.{picks, with_picks};
 ghost use Rattle.crash_table.specs.Counting.{complete_ones, most_missing};
-ghost use Rattle.crash_table.specs.Outcomes.{AreTried, IsRestored, IsTried, Makes, MayEnd, tried_at};
+ghost use Rattle.crash_table.specs.Outcomes.{AreTried, IsOutcomeOf, IsTried, MakesDeviceCalls, MayEnd, tried_at};
 ghost use Rattle.crash_table.specs.Tables.{TellsEach};
 
 use crate::answers::{Answers, ends_with_fault, told_in};
@@ -77,7 +77,7 @@ impl<'p> Trials<'p> {
     /// What a restore by the pick finds behind lines. Refused only where there is no memory.
     pub fn outcome(&self, lines: &[ScriptLine], pick: Pick) -> Result<Outcome, ScriptFault>
         requires { All (NamesChannelOf self.now.profile.now.checked.geometry) lines.now }
-        ensures found { IfOk result (IsRestored
+        ensures found { IfOk result (IsOutcomeOf
             (lines_of self.now.profile.now.checked.geometry) lines.now pick) }
         ensures fault { IfErr result GivesOut }
     {
@@ -111,7 +111,7 @@ impl<'p> Trials<'p> {
     pub fn calls(&self, before: &[ScriptLine], line: ScriptLine) -> Result<u64, ScriptFault>
         requires before { All (NamesChannelOf self.now.profile.now.checked.geometry) before.now }
         requires line { NamesChannelOf self.now.profile.now.checked.geometry line }
-        ensures makes { IfOk result (Makes
+        ensures makes { IfOk result (MakesDeviceCalls
             (lines_of self.now.profile.now.checked.geometry) before.now line) }
         ensures fault { IfErr result GivesOut }
     {

@@ -6,7 +6,7 @@ use Rattle.save_device.specs.declared.memory.Pick.{Pick}
 use Rattle.save_device.specs.declared.memory.Pick.TheVariants.{Old}
 use Rattle.crash_table.specs.declared.tried.Tried.{Tried}
 use Rattle.crash_table.specs.Stops.{picks, stopped_lines}
-use Rattle.crash_table.specs.Outcomes.{IsRestored, IsTried, tried_at}
+use Rattle.crash_table.specs.Outcomes.{IsOutcomeOf, IsTried, tried_at}
 use Rattle.crash_table.proofs.Trying.{pick_more}
 use Rattle.crash_table.proofs.trials.Trials.try_stop.Goals as goal
 
@@ -17,8 +17,8 @@ loop-pick-preserved c =
     let pick : Pick = get_or picks c.loop-pick.pick-index Old in
     let one : Tried = record { stop = c.args.stop; pick = pick; outcome = c.in_ok-outcome.outcome } in
     let items : c.extend_from_slice.new.self.items ≡ c.loop-pick.tried.items ++ one ∷ [] = c.in_ok-extend_from_slice.ensures.items in
-    let found : IsRestored size (stopped_lines before c.args.line c.args.stop) pick c.in_ok-outcome.outcome =
-    subst (λ (lines : List ScriptLine). IsRestored size lines pick c.in_ok-outcome.outcome) (c.deref.ensures.value ∙ c.in_ok-lines.ensures) c.in_ok-outcome.ensures.found in
+    let found : IsOutcomeOf size (stopped_lines before c.args.line c.args.stop) pick c.in_ok-outcome.outcome =
+    subst (λ (lines : List ScriptLine). IsOutcomeOf size lines pick c.in_ok-outcome.outcome) (c.deref.ensures.value ∙ c.in_ok-lines.ensures) c.in_ok-outcome.ensures.found in
     let are : All (IsTried size before c.args.line) (c.loop-pick.tried.items ++ one ∷ []) =
     All-push (IsTried size before c.args.line) c.loop-pick.tried.items one c.loop-pick.invariant.are found in
     record {
