@@ -1,12 +1,16 @@
 // Scripts from text.
-ghost use Rattle.std.specs.Prelude.{◌≡◌, ◌≢◌, ◌<◌, Err, All, IfOk};
+ghost use Rattle.std.specs.Prelude.{◌≡◌, ◌≢◌, ◌<◌, Err, All, IfErr, IfOk};
 ghost use Rattle.std.specs.Option.{ForSome};
+ghost use Rattle.nv_script.specs.declared.reading.LineFault.TheVariants as line_faults;
 ghost use Rattle.nv_script.specs.declared.reading.ScriptFault.TheVariants.{Memory};
-ghost use Rattle.ddr4_timing.specs.declared.timing.Geometry.{Geometry};
+ghost use Rattle.interleave_map.specs.Ready.{text_of};
+ghost use Rattle.nv_profile.specs.Nothing.{HoldsOfNone};
 ghost use Rattle.nv_script.specs.Line.{NamesChannelOf};
+ghost use Rattle.nv_script.specs.Texts.{ComesTo, IsRefusedBy, IsScript};
+ghost use Rattle.nv_script.specs.Words.{IsNumber, SaysAlone, SaysLine, SaysWithOne, SaysWithTwo, texts_of, words_in};
 
 use crate::line::ScriptLine;
-use crate::word::{BadWord, byte, number, pick};
+use crate::word::{BadWord, byte, fuse, number, pick};
 use ddr4_timing::timing::Geometry;
 use interleave_map::Interleaving;
 use line_memory::Write;
@@ -59,6 +63,8 @@ impl From<BadWord> for LineFault {
 }
 
 impl From<AllocError> for LineFault {
+    ghost from_gives = { λ _ fault. fault ≡ line_faults.Memory };
+
     fn from(_: AllocError) -> LineFault {
         LineFault::Memory
     }
@@ -74,7 +80,9 @@ pub fn read_script(
     script: &[u8],
     geometry: &Geometry,
 ) -> Result<Vec<ScriptLine>, ScriptFault>
+    ensures script { IfOk result (λ lines. IsScript geometry.now script.now lines.items) }
     ensures lines { IfOk result (λ lines. All (NamesChannelOf geometry.now) lines.items) }
+    ensures refused { IfErr result (IsRefusedBy geometry.now script.now) }
     ensures fault { result ≢ Err ScriptFault.Writer }
 {
     let text = script.strip_suffix(b"\n").unwrap_or(script);
@@ -103,7 +111,9 @@ fn read_line(
     line: &[u8],
     geometry: &Geometry,
 ) -> Result<Option<ScriptLine>, LineFault>
-    ensures { IfOk result (λ line. ForSome line (NamesChannelOf geometry.now)) }
+    ensures comes { IfOk result (ComesTo geometry.now line.now) }
+    ensures names { IfOk result (λ line. ForSome line (NamesChannelOf geometry.now)) }
+    ensures bad { result ≡ Err LineFault.Bad → HoldsOfNone (ComesTo geometry.now line.now) }
 {
     if line.len() > MOST_LINE_BYTES {
         return Err(LineFault::Bad);
@@ -114,59 +124,39 @@ fn read_line(
     if text.starts_with('#') {
         return Ok(None);
     }
-    let words: Vec<&str> = text
-        .split(' ')
-        .filter(|word| !word.is_empty())
-        .collect(alloc)?;
+    let words = words_of(alloc, text)?;
     if words.is_empty() {
         return Ok(None);
     }
     Ok(Some(line_of(&words, geometry)?))
 }
 
-// The value of a line's words.
-fn line_of(words: &[&str], geometry: &Geometry) -> Result<ScriptLine, BadWord>
-    ensures { IfOk result (NamesChannelOf geometry.now) }
+// The words of a line.
+fn words_of(alloc: Global, text: &str) -> Result<Vec<&str>, AllocError>
+    ensures { IfOk result (λ words. texts_of words.items ≡ words_in text.now) }
 {
-    let line = match words {
-        [verb] => bare_line(verb)?,
-        ["write", line, data] => ScriptLine::Write(Write {
-            line: number(line)?,
-            data: [byte(data)?; 64],
-        }),
-        ["read", line] => ScriptLine::Read {
-            line: number(line)?,
-        },
-        ["work", channel, most] => ScriptLine::Work {
-            channel: channel_of(channel, geometry)?,
-            most: number(most)?,
-        },
-        ["sense", level] => ScriptLine::Sense {
-            level: number(level)?,
-        },
-        ["lie", units] => ScriptLine::Lie {
-            units: number(units)?,
-        },
-        ["fuse", "off"] => ScriptLine::Fuse { calls: None },
-        ["fuse", calls] => ScriptLine::Fuse {
-            calls: Some(number(calls)?),
-        },
-        ["restore", word] => ScriptLine::Restore {
-            pick: Some(pick(word)?),
-            map: None,
-        },
-        ["restore", word, map] => ScriptLine::Restore {
-            pick: Some(pick(word)?),
-            map: Some(Interleaving::named(map).ok_or(BadWord)?),
-        },
-        _ => return Err(BadWord),
-    };
-    Ok(line)
+    text.split(' ')
+        .filter(|word| !word.is_empty())
+        .collect(alloc)
 }
 
-// The value of a line of one word.
-fn bare_line(verb: &str) -> Result<ScriptLine, BadWord>
-    ensures { (geometry : Geometry) → IfOk result (NamesChannelOf geometry) }
+// The line that words say.
+fn line_of(words: &[&str], geometry: &Geometry) -> Result<ScriptLine, BadWord>
+    ensures says { IfOk result (SaysLine geometry.now (texts_of words.now)) }
+    ensures none { IfErr result (λ bad. HoldsOfNone (SaysLine geometry.now (texts_of words.now))) }
+{
+    match words {
+        [verb] => line_alone(verb),
+        [verb, word] => line_with_one(verb, word),
+        [verb, first, second] => line_with_two(verb, first, second, geometry),
+        _ => Err(BadWord),
+    }
+}
+
+// The line that a word alone says.
+fn line_alone(verb: &str) -> Result<ScriptLine, BadWord>
+    ensures says { IfOk result (SaysAlone verb.now) }
+    ensures none { IfErr result (λ bad. HoldsOfNone (SaysAlone verb.now)) }
 {
     match verb {
         "format" => Ok(ScriptLine::Format),
@@ -184,9 +174,72 @@ fn bare_line(verb: &str) -> Result<ScriptLine, BadWord>
     }
 }
 
+// With one word behind it.
+fn line_with_one(verb: &str, word: &str) -> Result<ScriptLine, BadWord>
+    ensures says { IfOk result (SaysWithOne verb.now word.now) }
+    ensures none { IfErr result (λ bad. HoldsOfNone (SaysWithOne verb.now word.now)) }
+{
+    match verb {
+        "read" => Ok(ScriptLine::Read {
+            line: number(word)?,
+        }),
+        "sense" => Ok(ScriptLine::Sense {
+            level: number(word)?,
+        }),
+        "lie" => Ok(ScriptLine::Lie {
+            units: number(word)?,
+        }),
+        "fuse" => Ok(ScriptLine::Fuse { calls: fuse(word)? }),
+        "restore" => Ok(ScriptLine::Restore {
+            pick: Some(pick(word)?),
+            map: None,
+        }),
+        _ => Err(BadWord),
+    }
+}
+
+// With two.
+fn line_with_two(
+    verb: &str,
+    first: &str,
+    second: &str,
+    geometry: &Geometry,
+) -> Result<ScriptLine, BadWord>
+    ensures says { IfOk result (SaysWithTwo geometry.now verb.now first.now second.now) }
+    ensures none { IfErr result (λ bad.
+        HoldsOfNone (SaysWithTwo geometry.now verb.now first.now second.now)) }
+{
+    match verb {
+        "write" => Ok(ScriptLine::Write(Write {
+            line: number(first)?,
+            data: [byte(second)?; 64],
+        })),
+        "work" => Ok(ScriptLine::Work {
+            channel: channel_of(first, geometry)?,
+            most: number(second)?,
+        }),
+        "restore" => Ok(ScriptLine::Restore {
+            pick: Some(pick(first)?),
+            map: Some(map_of(second)?),
+        }),
+        _ => Err(BadWord),
+    }
+}
+
+// The map of a word.
+fn map_of(word: &str) -> Result<Interleaving, BadWord>
+    ensures named { IfOk result (λ map. word.now ≡ text_of map) }
+    ensures none { IfErr result (λ bad. HoldsOfNone (λ map. word.now ≡ text_of map)) }
+{
+    Interleaving::named(word).ok_or(BadWord)
+}
+
 // A channel that is there.
 fn channel_of(word: &str, geometry: &Geometry) -> Result<u64, BadWord>
-    ensures { IfOk result (λ channel. channel < geometry.now.channels) }
+    ensures channel { IfOk result (λ channel.
+        IsNumber word.now channel × (channel < geometry.now.channels)) }
+    ensures none { IfErr result (λ bad. HoldsOfNone (λ channel.
+        IsNumber word.now channel × (channel < geometry.now.channels))) }
 {
     let channel = number(word)?;
     if channel < geometry.channels {

@@ -1,4 +1,8 @@
 // The words of a line.
+ghost use Rattle.std.specs.Prelude.{IfOk, IfErr};
+ghost use Rattle.nv_profile.specs.Nothing.{HoldsOfNone};
+ghost use Rattle.nv_script.specs.Words.{IsNumber, IsByte, IsPick, IsFuse};
+
 use hex::FromHex;
 use save_device::Pick;
 
@@ -7,15 +11,24 @@ use save_device::Pick;
 pub(crate) struct BadWord;
 
 /// A number: decimal digits alone, that fit 64 bits.
-pub(crate) fn number(word: &str) -> Result<u64, BadWord> {
+pub(crate) fn number(word: &str) -> Result<u64, BadWord>
+    ensures number { IfOk result (IsNumber word.now) }
+    ensures none { IfErr result (λ bad. HoldsOfNone (IsNumber word.now)) }
+{
     if !word.bytes().all(|byte| byte.is_ascii_digit()) {
         return Err(BadWord);
     }
-    word.parse().map_err(|_| BadWord)
+    match word.parse() {
+        Ok(number) => Ok(number),
+        Err(_) => Err(BadWord),
+    }
 }
 
 /// A byte: two hexadecimal digits.
-pub(crate) fn byte(word: &str) -> Result<u8, BadWord> {
+pub(crate) fn byte(word: &str) -> Result<u8, BadWord>
+    ensures byte { IfOk result (IsByte word.now) }
+    ensures none { IfErr result (λ bad. HoldsOfNone (IsByte word.now)) }
+{
     match <[u8; 1] as FromHex>::from_hex(word) {
         Ok(bytes) => Ok(bytes[0]),
         Err(_) => Err(BadWord),
@@ -23,7 +36,10 @@ pub(crate) fn byte(word: &str) -> Result<u8, BadWord> {
 }
 
 /// What a stop leaves: `old`, `new`, or `torn` and a byte.
-pub(crate) fn pick(word: &str) -> Result<Pick, BadWord> {
+pub(crate) fn pick(word: &str) -> Result<Pick, BadWord>
+    ensures pick { IfOk result (IsPick word.now) }
+    ensures none { IfErr result (λ bad. HoldsOfNone (IsPick word.now)) }
+{
     match word {
         "old" => Ok(Pick::Old),
         "new" => Ok(Pick::New),
@@ -31,5 +47,16 @@ pub(crate) fn pick(word: &str) -> Result<Pick, BadWord> {
             let torn = word.strip_prefix("torn").ok_or(BadWord)?;
             Ok(Pick::Torn(byte(torn)?))
         }
+    }
+}
+
+/// The calls that a fuse passes: a number, or all by `off`.
+pub(crate) fn fuse(word: &str) -> Result<Option<u64>, BadWord>
+    ensures fuse { IfOk result (IsFuse word.now) }
+    ensures none { IfErr result (λ bad. HoldsOfNone (IsFuse word.now)) }
+{
+    match word {
+        "off" => Ok(None),
+        _ => Ok(Some(number(word)?)),
     }
 }
