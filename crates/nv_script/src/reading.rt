@@ -85,8 +85,8 @@ pub fn read_script(
     ensures refused { IfErr result (IsRefusedBy geometry.now script.now) }
     ensures fault { result ≢ Err ScriptFault.Writer }
 {
-    let text = script.strip_suffix(b"\n").unwrap_or(script);
     let mut lines = Vec::new(alloc);
+    let text = without_last_newline(script);
     for (index, line) in text.split(|byte| *byte == b'\n').enumerate() {
         let number = index + 1;
         if number > MOST_LINES {
@@ -103,6 +103,16 @@ pub fn read_script(
         }
     }
     Ok(lines)
+}
+
+// The text but for a newline at its end.
+fn without_last_newline(script: &[u8]) -> &[u8]
+    ensures { result.now ≡ Rattle.nv_script.specs.Texts.without_last_newline script.now }
+{
+    match script {
+        [before @ .., b'\n'] => before,
+        _ => script,
+    }
 }
 
 // The value of a line, if it isn't skipped.
