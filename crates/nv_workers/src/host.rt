@@ -182,7 +182,7 @@ impl<B: BoardName> Host<B> {
             (Event.Read line) (Reply.Read (Err refusal)) held.old held.new) }
         ensures channel { IfOk result (λ r. IsOfChannels B.channels r.0) }
         ensures at { IfOk result (λ r. r.1 ≡ held.old.recorded.running.accepted) }
-        ensures seen { IfOk result (λ r. self.old.accepted ≤ r.1) }
+        ensures seen { IfOk result (λ r. r.1 ≡ self.new.accepted) }
         ensures rises { SeesNoLess self.old self.new }
         ensures writes { self.new.writes ≡ self.old.writes }
         ensures device { held.new.recorded.device ≡ held.old.recorded.device }
@@ -210,7 +210,7 @@ impl<B: BoardName> Host<B> {
             Steps K.ChannelPort D.SaveDevice E.Energy B.BoardName.own
             (Event.Read line) (Reply.Read (Err refusal)) held.old held.new) }
         ensures at { IfOk result (λ r. r.1 ≡ held.old.recorded.running.accepted) }
-        ensures seen { IfOk result (λ r. self.old.accepted ≤ r.1) }
+        ensures seen { IfOk result (λ r. r.1 ≡ self.new.accepted) }
         ensures rises { SeesNoLess self.old self.new }
         ensures writes { self.new.writes ≡ self.old.writes }
         ensures device { held.new.recorded.device ≡ held.old.recorded.device }
@@ -234,7 +234,7 @@ impl<B: BoardName> Host<B> {
         line: u64,
     ) -> Result<Seen, ReadRefusal>
         ensures line { IfOk result (λ s. s.line ≡ line) }
-        ensures at { IfOk result (λ s. self.old.accepted ≤ s.at) }
+        ensures at { IfOk result (λ s. s.at ≡ self.new.accepted) }
         ensures rises { SeesNoLess self.old self.new }
         ensures writes { self.new.writes ≡ self.old.writes }
     {
@@ -255,7 +255,7 @@ impl<B: BoardName> Host<B> {
         board: &Board<K, D, E, B, N>,
         line: u64,
     ) -> Result<(Got, u64), ReadRefusal>
-        ensures at { IfOk result (λ r. self.old.accepted ≤ r.1) }
+        ensures at { IfOk result (λ r. r.1 ≡ self.new.accepted) }
         ensures rises { SeesNoLess self.old self.new }
         ensures writes { self.new.writes ≡ self.old.writes }
     {
@@ -270,7 +270,7 @@ impl<B: BoardName> Host<B> {
         board: &Board<K, D, E, B, N>,
         line: u64,
     ) -> Result<(Got, u64), ReadRefusal>
-        ensures at { IfOk result (λ r. self.old.accepted ≤ r.1) }
+        ensures at { IfOk result (λ r. r.1 ≡ self.new.accepted) }
         ensures rises { SeesNoLess self.old self.new }
         ensures writes { self.new.writes ≡ self.old.writes }
     {

@@ -1,5 +1,5 @@
-use Rattle.std.proofs.Common.{ap, arith, subst}
-use Rattle.nv_workers.proofs.Common.{Client, Got, IfOk, IsOfChannels, Result, SeenMarks, Steps}
+use Rattle.std.proofs.Common.{ap, subst, sym, ◌∙◌}
+use Rattle.nv_workers.proofs.Common.{Got, IfOk, IsOfChannels, Result, SeenMarks, Steps}
 use Rattle.arm_state.specs.declared.refusal.ReadRefusal.{ReadRefusal}
 use Rattle.nv_machine.specs.declared.events.Event.TheVariants as events
 use Rattle.nv_machine.specs.declared.events.Reply.TheVariants as replies
@@ -21,9 +21,8 @@ returns-clause-at g c = elim c.match-reply.branch [ in-Ok w ↦ rw w.result-is c
 
 pub returns-clause-seen : goal.returns-clause-seen
 returns-clause-seen g c =
-    let now = ap (λ (host : Client). host.accepted) c.self.view_is in
     let new = ap (λ (marks : SeenMarks). marks.accepted) c.read-reply.ensures.seen in
-    elim c.match-reply.branch [ in-Ok w ↦ rw w.result-is (omega (arith, c.read-reply.ensures.at, c.read-reply.ensures.rises.accepted, now, new)) | in-Err w ↦ rw w.result-is tt ]
+    elim c.match-reply.branch [ in-Ok w ↦ rw w.result-is (c.read-reply.ensures.at ∙ sym new) | in-Err w ↦ rw w.result-is tt ]
 
 pub returns-clause-channel : goal.returns-clause-channel
 returns-clause-channel g c =
