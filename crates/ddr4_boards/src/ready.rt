@@ -1,5 +1,5 @@
 // A module with its record and the words of its board, before the board has a name.
-ghost use Rattle.std.specs.Prelude.{◌≡◌, ◌≤◌, length, vec_len, All, IfOk};
+ghost use Rattle.std.specs.Prelude.{◌≡◌, ◌≤◌, [], length, vec_len, All, IfOk};
 ghost use Rattle.module_core.specs.Stands.{HasDevice, setup_of};
 ghost use Rattle.nv_workers.specs.Client.{client};
 ghost use Rattle.nv_workers.specs.Kept.{IsRecordKept};
@@ -41,7 +41,7 @@ impl<K: ChannelPort + Drop, D: SaveDevice + Drop, E: Energy + Drop> Ready<K, D, 
         requires channels { self.channels ≡ B.channels }
         ensures number { IfOk result (λ s. vec_len s.1 ≡ B.parts) }
         ensures hosts { IfOk result (λ s.
-            All (λ h. h ≡ client self.opening.mark self.opening.mark 0) s.1.items) }
+            All (λ h. h ≡ client self.opening.mark self.opening.mark 0 []) s.1.items) }
     {
         let Ready {
             opening,

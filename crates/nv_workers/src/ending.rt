@@ -121,6 +121,7 @@ fn end_host<B: BoardName>(
         marks: _,
         seat: host_seat,
         share,
+        delivered: _,
     } = host;
     seat.join(marks, host_seat);
     rest.merge(share);

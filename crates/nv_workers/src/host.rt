@@ -14,6 +14,7 @@ use crate::serving::{make_room, serve, told_for};
 use arm_state::{ReadRefusal, WriteRefusal};
 use channel_port::{ChannelPort, Got};
 use energy_budget::Energy;
+use ghost_trace::Trace;
 use line_memory::{Line, Write};
 use mark_board::{HostSeat, MarkBoard};
 use notice_book::{Notices, Persisted};
@@ -47,12 +48,14 @@ pub struct Behind {
     pub found: u64,
 }
 
-/// A host of one board. Contracts see the marks that it has seen, and how many of its writes were accepted.
+/// A host of one board. Contracts see the marks that it has seen, how many of its writes were accepted, and the marks of its
+/// deliveries.
 #[derive(Drop)]
 pub struct Host<B: BoardName> {
     pub(crate) marks: Arc<MarkBoard, Global>,
     pub(crate) seat: HostSeat,
     pub(crate) share: Share<B>,
+    pub(crate) delivered: Trace<u64>,
 }
 
 impl<B: BoardName> Model for Host<B> {
@@ -62,7 +65,8 @@ impl<B: BoardName> Model for Host<B> {
 
     ghost Value = { Client };
 
-    ghost view = { λ h. client h.seat.accepted h.seat.persisted h.share.amount };
+    ghost view = { λ h.
+        client h.seat.accepted h.seat.persisted h.share.amount h.delivered.items };
 
     ghost invariant = { λ h. (arc_value h.marks ≡ B.board)
         × (h.seat.board ≡ B.board) × (h.share.parts ≡ 1) };
@@ -74,9 +78,14 @@ impl<B: BoardName> Host<B> {
         requires board { arc_value marks ≡ B.board }
         requires seat { seat.board ≡ B.board }
         requires part { share.parts ≡ 1 }
-        ensures { result ≡ client seat.accepted seat.persisted share.amount }
+        ensures { result ≡ client seat.accepted seat.persisted share.amount [] }
     {
-        Host { marks, seat, share }
+        Host {
+            marks,
+            seat,
+            share,
+            delivered: Trace::new(),
+        }
     }
 
     /// Writes a line at the module that is lent.
@@ -281,7 +290,8 @@ impl<B: BoardName> Host<B> {
     /// Loads how many writes are persistent, with no lock.
     pub fn mark(&mut self) -> u64
         ensures rises { self.old.persisted ≤ result }
-        ensures seen { self.new ≡ client self.old.accepted result self.old.writes }
+        ensures seen { self.new
+            ≡ client self.old.accepted result self.old.writes self.old.delivered }
     {
         self.seat.persisted(&self.marks)
     }

@@ -1,5 +1,5 @@
 // How a board begins.
-ghost use Rattle.std.specs.Prelude.{◌≡◌, ◌≤◌, length, vec_len, All, IfOk, IfErr};
+ghost use Rattle.std.specs.Prelude.{◌≡◌, ◌≤◌, [], length, vec_len, All, IfOk, IfErr};
 ghost use Rattle.std.specs.Arc.{arc_value};
 ghost use Rattle.mark_board.specs.SeenMarks.{AllHaveSeen, seen_marks};
 ghost use Rattle.module_core.specs.Stands.{setup_of};
@@ -36,7 +36,7 @@ fn seated<B: BoardName>(
     requires parts { whole.old.parts ≡ vec_len seats }
     requires amount { whole.old.amount ≡ 0 }
     ensures number { IfOk result (λ hosts. vec_len hosts ≡ vec_len seats) }
-    ensures hosts { IfOk result (λ hosts. All (λ h. h ≡ client mark mark 0) hosts.items) }
+    ensures hosts { IfOk result (λ hosts. All (λ h. h ≡ client mark mark 0 []) hosts.items) }
     ensures rest { IfOk result (λ _. whole.new.parts ≡ 0) }
     ensures none { IfOk result (λ _. whole.new.amount ≡ 0) }
 {
@@ -68,7 +68,7 @@ pub fn start<K: ChannelPort, D: SaveDevice, E: Energy, B: BoardName, N: Notices>
     requires channels { (setup_of K.ChannelPort recorded.running).shape.channels ≡ B.channels }
     ensures number { IfOk result (λ s. vec_len s.1 ≡ B.parts) }
     ensures hosts { IfOk result (λ s.
-        All (λ h. h ≡ client opening.mark opening.mark 0) s.1.items) }
+        All (λ h. h ≡ client opening.mark opening.mark 0 []) s.1.items) }
     ensures recorded { IfErr result (λ e. e.0 ≡ recorded) }
     ensures notices { IfErr result (λ e. e.1 ≡ notices) }
 {

@@ -1,7 +1,7 @@
 // The notices of a board.
-ghost use Rattle.std.specs.Prelude.{◌≡◌, ◌≤◌, IfErr, IfOk, OnOk};
+ghost use Rattle.std.specs.Prelude.{◌≡◌, ◌≤◌, IfErr, IfOk, OnErr, OnOk};
 ghost use Rattle.notice_book.specs.NoticeBooks.{refused_notice};
-ghost use Rattle.nv_workers.specs.Client.{client};
+ghost use Rattle.nv_workers.specs.Client.{delivered_at};
 
 use crate::board::Board;
 use crate::board_name::BoardName;
@@ -14,9 +14,8 @@ use std::alloc::{AllocError, Global};
 use std::sync::Wait;
 
 impl<K: ChannelPort, D: SaveDevice, E: Energy, B: BoardName, N: Notices> Board<K, D, E, B, N> {
-    /// Calls the notices below a mark that the host loads anew, each once and in rising order, and gives the number and the
-    /// answer of each. It takes the lock of the notices alone. It refuses only where there is no memory for the answers:
-    /// then none was called.
+    /// Calls the notices below a mark that the host loads anew, as `Host::deliver_in` at the book that the lock lends. It takes the
+    /// lock of the notices alone.
     pub fn deliver(
         &self,
         rt: &impl Wait,
@@ -26,14 +25,31 @@ impl<K: ChannelPort, D: SaveDevice, E: Energy, B: BoardName, N: Notices> Board<K
         ensures delivered { IfOk result (λ answers. (before : N) × (after : N)
             × N.delivers host.new.persisted before answers.items after) }
         ensures rises { host.old.persisted ≤ host.new.persisted }
-        ensures seen { host.new ≡ client host.old.accepted host.new.persisted host.old.writes }
+        ensures once { host.new ≡ delivered_at host.new.persisted host.old }
     {
-        let mark = host.mark();
-        self.notices.lock(rt).deliver_below(alloc, mark)
+        host.deliver_in(alloc, &mut *self.notices.lock(rt))
     }
 }
 
 impl<B: BoardName> Host<B> {
+    /// Calls the notices of the book that is lent, those below a mark that the host loads anew, each once and in rising order, and
+    /// gives the number and the answer of each. It refuses only where there is no memory for the answers: then none was called.
+    pub fn deliver_in<N: Notices>(
+        &mut self,
+        alloc: Global,
+        book: &mut N,
+    ) -> Result<Vec<(u64, u64)>, AllocError>
+        ensures delivered { IfOk result (λ answers.
+            N.delivers self.new.persisted book.old answers.items book.new) }
+        ensures same { OnErr result (book.new ≡ book.old) }
+        ensures rises { self.old.persisted ≤ self.new.persisted }
+        ensures once { self.new ≡ delivered_at self.new.persisted self.old }
+    {
+        let mark = self.mark();
+        self.delivered.note(&mark);
+        book.deliver_below(alloc, mark)
+    }
+
     /// Puts a notice in, to be called once the receipt's write is persistent. It takes the lock of the notices alone. Refused
     /// `Full` where the book has no room, and else `Taken` where a notice of the number is there: the notice comes back.
     pub fn notify<K: ChannelPort, D: SaveDevice, E: Energy, N: Notices>(

@@ -1,4 +1,4 @@
-use Rattle.std.proofs.Common.{◌≡◌, ◌≤◌, ◌∙◌, All, ap, subst, sym}
+use Rattle.std.proofs.Common.{◌≡◌, ◌≤◌, ◌∙◌, All, [], ap, subst, sym}
 use Rattle.atomic_table.specs.Seated.{TableId}
 use Rattle.mark_board.specs.SeenMarks.{AllHaveSeen, seen_marks}
 use Rattle.nv_workers.proofs.Common.{Client, IsBehind, SeenMarks, client}
@@ -14,7 +14,7 @@ publish-requires-clause-behind g c =
     (opened_behind g.K.ChannelPort g.D.SaveDevice it c.requires.kept inside.marks inside.mark least)
 
 pub returns-clause-hosts : goal.returns-clause-hosts
-returns-clause-hosts g c = subst (λ (o : OpeningView). All (λ (h : Client). h ≡ client o.mark o.mark 0) c.in-Ok-seated.hosts.items) c.opening.view_is c.in-Ok-seated.ensures.hosts
+returns-clause-hosts g c = subst (λ (o : OpeningView). All (λ (h : Client). h ≡ client o.mark o.mark 0 []) c.in-Ok-seated.hosts.items) c.opening.view_is c.in-Ok-seated.ensures.hosts
 
 pub seated-requires-clause-seats : goal.seated-requires-clause-seats
 seated-requires-clause-seats g c =

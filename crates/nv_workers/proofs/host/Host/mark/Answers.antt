@@ -8,4 +8,4 @@ returns-clause-rises g c = subst (λ (host : Client). host.persisted ≤ c.persi
 pub returns-clause-seen : goal.returns-clause-seen
 returns-clause-seen g c =
     let seat = c.persisted.new.self in
-    subst (λ (host : Client). client seat.accepted seat.persisted c.self.inside.share.amount ≡ client host.accepted c.persisted.result host.writes) c.self.view_is (rw c.persisted.ensures.seen refl)
+    subst (λ (host : Client). client seat.accepted seat.persisted c.self.inside.share.amount c.self.inside.delivered.items ≡ client host.accepted c.persisted.result host.writes host.delivered) c.self.view_is (rw c.persisted.ensures.seen refl)
