@@ -2,6 +2,7 @@
 ghost use Rattle.std.specs.Prelude.{◌≡◌, ◌+◌, ◌≤◌, ◌↔◌, All, Some, length, sum_by, IfOk, IfErr, IfSome, IfNone, IsTrue};
 ghost use Rattle.line_memory.specs.History.{Recorded};
 ghost use Rattle.line_memory.specs.declared.Write.{Write};
+ghost use Rattle.nv_workers.specs.declared.held.Held.{Held};
 ghost use Rattle.nv_workers.specs.Kept.{IsRecordKept};
 ghost use Rattle.nv_workers.specs.Lived.{HasSomeLife};
 ghost use Rattle.nv_workers.specs.Ending.{IsBorneOut, IsFirstNot, IsFirstStranger, StandsIn, receipted};
@@ -157,9 +158,43 @@ impl<K: ChannelPort, D: SaveDevice, E: Energy, B: BoardName> Held<K, D, E, B> {
     }
 }
 
-/// Ends a board once all its threads were joined, with all its hosts: the receipts and the answers are checked against the
-/// history, and the module with its record and the notices come back. A stranger among them gives the board and the hosts back.
-/// It takes no memory.
+impl<K: ChannelPort, D: SaveDevice, E: Energy, B: BoardName> Held<K, D, E, B> {
+    /// Ends a life once all hosts of its board are back: the receipts and the answers are checked against the history, and the module
+    /// comes back with its record, as it is. A stranger among them gives all back, as it was. It takes no memory.
+    pub fn end(
+        self,
+        hosts: Vec<Host<B>>,
+        receipts: &[Receipt],
+        answers: &[Seen],
+    ) -> Result<RecordedModule<K, D, E>, (Held<K, D, E, B>, Vec<Host<B>>, Stranger)>
+    where
+        K: Drop,
+        D: Drop,
+        E: Drop,
+        requires { length hosts.items ≡ B.parts }
+        ensures recorded { IfOk result (λ r. r ≡ self.recorded) }
+        ensures receipts { IfOk result (λ r. All (StandsIn r.history) receipts.now) }
+        ensures answers { IfOk result (λ r. All (IsBorneOut r.history) answers.now) }
+        ensures shares { IfOk result (λ r.
+            length r.history.writes ≡ B.before + sum_by (λ h. h.writes) hosts.items) }
+        ensures marks { IfOk result (λ r. All (λ h. h.persisted ≤ r.running.persisted) hosts.items) }
+        ensures kept { IfOk result (λ r. IsRecordKept K.ChannelPort D.SaveDevice r) }
+        ensures lived { IfOk result (λ r. HasSomeLife K.ChannelPort D.SaveDevice E.Energy r) }
+        ensures stranger { IfErr result (λ e.
+            IsFirstStranger self.recorded.history receipts.now answers.now e.2) }
+        ensures same { IfErr result (λ e. e.0 ≡ self) }
+        ensures hosts { IfErr result (λ e. e.1 ≡ hosts) }
+    {
+        match find_stranger(&self.recorded.history, receipts, answers) {
+            Some(stranger) => Err((self, hosts, stranger)),
+            None => Ok(self.conclude(hosts)),
+        }
+    }
+}
+
+/// Ends a board once all its threads were joined, with all its hosts, as `Held::end` what lay behind its lock: the receipts and the
+/// answers are checked against the history, and the module with its record and the notices come back. A stranger among them gives
+/// the board and the hosts back. It takes no memory.
 pub fn close<K, D, E, B, N>(
     board: Board<K, D, E, B, N>,
     hosts: Vec<Host<B>>,
@@ -182,19 +217,19 @@ where
     ensures kept { IfOk result (λ c. IsRecordKept K.ChannelPort D.SaveDevice c.recorded) }
     ensures lived { IfOk result (λ c. HasSomeLife K.ChannelPort D.SaveDevice E.Energy c.recorded) }
     ensures checked { IfOk result (λ c. c.checked ≡ length receipts.now + length answers.now) }
-    ensures err { IfErr result (λ e. e.1 ≡ hosts) }
+    ensures hosts { IfErr result (λ e. e.1 ≡ hosts) }
+    ensures stranger { IfErr result (λ e.
+        (held : Held K D E B K.ChannelPort D.SaveDevice E.Energy B.BoardName.own)
+        × IsFirstStranger held.recorded.history receipts.now answers.now e.2) }
 {
     let Board { held, notices } = board;
-    let held = held.into_inner();
     let notices = notices.into_inner();
-    if let Some(stranger) = find_stranger(&held.recorded.history, receipts, answers) {
-        return Err((Board::new(held, notices), hosts, stranger));
+    match held.into_inner().end(hosts, receipts, answers) {
+        Ok(recorded) => Ok(Closed {
+            recorded,
+            notices,
+            checked: receipts.len() as u64 + answers.len() as u64,
+        }),
+        Err((held, hosts, stranger)) => Err((Board::new(held, notices), hosts, stranger)),
     }
-    let recorded = held.conclude(hosts);
-    let checked = receipts.len() as u64 + answers.len() as u64;
-    Ok(Closed {
-        recorded,
-        notices,
-        checked,
-    })
 }

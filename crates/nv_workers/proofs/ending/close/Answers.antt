@@ -1,4 +1,4 @@
 use Rattle.nv_workers.proofs.ending.close.Goals as goal
 
-pub returns-clause-answers : goal.returns-clause-answers
-returns-clause-answers g c = rw c.conclude-recorded.ensures.same c.in_default.ensures.answers
+pub returns-in-Err-clause-stranger : goal.returns-in-Err-clause-stranger
+returns-in-Err-clause-stranger g c = (c.into_inner.result, c.in-Err.ensures.stranger)
