@@ -23,3 +23,4 @@ pub mod PendingPlaces
 pub mod ClocksRise
 pub mod DrainingChannel
 pub mod PaidDrain
+mod JoinedReports

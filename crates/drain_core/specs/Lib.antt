@@ -5,3 +5,5 @@ pub mod Standing
 pub mod Steps
 -- the drain whose actions are asked for one by one
 pub mod Paying
+-- drains side by side
+pub mod AtOnce

@@ -2,12 +2,15 @@
 //! (`specs/Steps.antt`), and what that comes to (`laws`).
 #![tactic(auto)]
 
+mod at_once;
 mod channel_drain;
 pub mod laws;
 mod payment;
 mod report;
 mod steps;
 
+pub use at_once::drain_all;
 pub use channel_drain::{drain, drain_paying};
 pub use report::DrainReport;
 pub use steps::{StepEnd, close_step, entry_step, self_refresh};
+pub use worker_gate::{Gate, Turn};

@@ -1,4 +1,4 @@
-// The workers, and the gate that they pass.
+// The workers, which pass a gate.
 ghost use Rattle.std.specs.Prelude.{◌≡◌, ◌<◌};
 
 use crate::board::Board;
@@ -13,14 +13,7 @@ use nv_machine::StepReply;
 use save_device::SaveDevice;
 use std::sync::Wait;
 use std::time::Clock;
-
-/// What a worker is told to do at its turn: one event, nothing, or to return.
-#[derive(Clone, Copy, Debug, PartialEq, Eq)]
-pub enum Turn {
-    Go,
-    Hold,
-    Stop,
-}
+use worker_gate::{Gate, Turn};
 
 /// What ended a worker.
 #[derive(Clone, Copy, Debug, PartialEq, Eq)]
@@ -29,13 +22,6 @@ pub enum Ended {
     Stopped,
     /// Mains were lost.
     Closed,
-}
-
-/// Asked before each turn of a worker, while no lock is held.
-pub trait Gate {
-    /// `worker` is the channel's number, and the number of channels for the saver; `turn` counts from 0 for each worker, one
-    /// more at each question.
-    fn pass(&self, worker: u64, turn: u64) -> Turn;
 }
 
 /// Issues one command of a channel at each `Go`, until the gate says stop or mains were lost. Behind a turn that was held

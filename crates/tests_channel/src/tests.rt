@@ -1,5 +1,6 @@
 // Channel 0 of a profile and its drains, worked by hand and busy for long, and its queue of writes alone.
 
+mod at_once;
 mod busy;
 mod check;
 mod fixture;

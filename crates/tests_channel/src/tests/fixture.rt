@@ -118,6 +118,11 @@ impl Fixture {
         &self.channel
     }
 
+    /// The channel alone.
+    pub(crate) fn into_channel(self) -> Channel {
+        self.channel
+    }
+
     pub(crate) fn hold_from(&mut self, number: u64) {
         self.channel.hold_from(number);
     }

@@ -4,6 +4,7 @@ use crate::tests::fixture::Fixture;
 use crate::tests::picks::Picks;
 use crate::tests::plain::{Plain, spent};
 use bench_load::Random;
+use chan_core::Channel;
 use channel_port::Served;
 use ddr4_timing::command::{Command, Stamped};
 use ddr4_timing::place::Place;
@@ -158,6 +159,11 @@ impl Run {
     fn plainly<R: Abort + AllocGlobal>(&self, rt: &R, places: &[Place]) -> Vec<Stamped> {
         let commands = self.commands.to_vec(rt.alloc()).expect(rt, "memory");
         Plain::new(&self.fixture.checked(), commands).drained(rt, places)
+    }
+
+    /// The channel alone.
+    pub(crate) fn into_channel(self) -> Channel {
+        self.fixture.into_channel()
     }
 
     /// Drains the channel, and checks what the drain issued, took and left.

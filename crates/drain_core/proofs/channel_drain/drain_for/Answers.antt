@@ -1,4 +1,4 @@
-use Rattle.std.proofs.Common.{◌≡◌, ◌∙◌, ap, length, refl, arith}
+use Rattle.std.proofs.Common.{◌∙◌, ap, length, refl, arith}
 use Rattle.drain_core.proofs.Common.{ChannelState, Result}
 use Rattle.energy_budget.specs.declared.energy.Dark.{Dark}
 use Rattle.drain_core.specs.declared.report.DrainReport.{DrainReport}
