@@ -4,4 +4,5 @@ pub mod IfOkGives
 pub mod Keeping
 pub mod Living
 pub mod Quiet
+pub mod ReadLent
 pub mod Ticketed

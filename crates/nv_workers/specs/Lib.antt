@@ -2,11 +2,14 @@ pub mod Boards
 pub mod Client
 pub mod Ending
 pub mod Kept
+pub mod Lent
 pub mod Lived
+pub mod Lookouts
 pub mod Marks
 pub mod Newest
 pub mod Opening
 pub mod Savers
 pub mod Serving
+pub mod Shifts
 pub mod Steps
 pub mod Turns

@@ -4,12 +4,15 @@ use Rattle.arm_state.specs.declared.mode.Mode.{Mode}
 use Rattle.arm_state.specs.declared.mode.Mode.TheVariants.{Disarmed, Armed, Stranded}
 use Rattle.arm_state.specs.declared.refusal.SaveState.{SaveState}
 use Rattle.arm_state.specs.Modes.{has_ended}
+use Rattle.nv_machine.specs.declared.events.StepReply.TheVariants as step
 use Rattle.nv_machine.specs.State.{Machine, all_of}
 use Rattle.nv_machine.specs.Refusals.{saves_of}
 use Rattle.nv_workers.specs.declared.saver.SaverTurn.{SaverTurn}
 use Rattle.nv_workers.specs.declared.saver.SaverTurn.TheVariants.{Begin, Step, Rest, End}
 use Rattle.nv_workers.specs.declared.saver.Saving.{Saving}
 use Rattle.nv_workers.specs.declared.saver.Saving.TheVariants as savings
+use Rattle.nv_workers.specs.declared.worker.Working.{Working}
+use Rattle.nv_workers.specs.declared.worker.Working.TheVariants as working
 
 -- where no save runs, one is to be begun: while stranded; and while writes are accepted where some were since the newest
 -- image, or where the device failed since a save last ended well
@@ -35,3 +38,11 @@ turn_taken (savings.Began result) = Begin
 turn_taken (savings.Stepped reply) = Step
 turn_taken savings.Rested = Rest
 turn_taken savings.Closed = End
+
+-- how a saver goes on behind its turn: it has worked, or had nothing to do or has to wait, or mains were lost
+abbrev pub working_of : Saving → Working
+working_of (savings.Began result) = working.Worked
+working_of (savings.Stepped step.Waiting) = working.Rested
+working_of (savings.Stepped reply) = working.Worked
+working_of savings.Rested = working.Rested
+working_of savings.Closed = working.Closed

@@ -3,6 +3,7 @@ ghost use Rattle.std.specs.Prelude.{◌≡◌, ◌+◌, ◌<◌, ◌≤◌, ◌+
 ghost use Rattle.std.specs.Arc.{arc_value};
 ghost use Rattle.module_core.specs.Stands.{setup_of};
 ghost use Rattle.nv_workers.specs.Client.{SeesNoLess, client};
+ghost use Rattle.nv_workers.specs.Lent.{LentLine, LentRead, LentRefusal, LentStep};
 ghost use Rattle.nv_workers.specs.Marks.{told_at};
 ghost use Rattle.nv_workers.specs.Serving.{IsOfChannels, ReadsServed, WritesServed};
 ghost use Rattle.nv_workers.specs.Steps.{Steps};
@@ -244,16 +245,20 @@ impl<B: BoardName> Host<B> {
     ) -> Result<Seen, ReadRefusal>
         ensures line { IfOk result (λ s. s.line ≡ line) }
         ensures at { IfOk result (λ s. s.at ≡ self.new.accepted) }
+        ensures read { IfOk result (λ s. LentLine K.ChannelPort D.SaveDevice E.Energy
+            B.BoardName.own line s.data s.at) }
+        ensures refused { IfErr result (LentRefusal K.ChannelPort D.SaveDevice E.Energy
+            B.BoardName.own line) }
         ensures rises { SeesNoLess self.old self.new }
         ensures writes { self.new.writes ≡ self.old.writes }
     {
         let (got, at) = self.ask_served(rt, board, line)?;
         match got {
             Got::Now(data) => Ok(Seen { line, data, at }),
-            Got::Later(ticket) => {
-                let data = board.await_line(rt, ticket)?;
-                Ok(Seen { line, data, at })
-            }
+            Got::Later(ticket) => match board.await_line(rt, ticket) {
+                Ok(data) => Ok(Seen { line, data, at }),
+                Err(refusal) => Err(refusal),
+            },
         }
     }
 
@@ -265,6 +270,10 @@ impl<B: BoardName> Host<B> {
         line: u64,
     ) -> Result<(Got, u64), ReadRefusal>
         ensures at { IfOk result (λ r. r.1 ≡ self.new.accepted) }
+        ensures asked { IfOk result (λ r. LentRead K.ChannelPort D.SaveDevice E.Energy
+            B.BoardName.own line r.0 r.1) }
+        ensures refused { IfErr result (λ refusal. LentStep K.ChannelPort D.SaveDevice E.Energy
+            B.BoardName.own (Event.Read line) (Reply.Read (Err refusal))) }
         ensures rises { SeesNoLess self.old self.new }
         ensures writes { self.new.writes ≡ self.old.writes }
     {

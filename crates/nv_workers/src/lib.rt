@@ -5,6 +5,7 @@
 //! and reads under the lock, and loads the marks without it.
 #![tactic(auto)]
 
+mod awaiting;
 mod board;
 mod board_name;
 mod ending;
@@ -13,15 +14,20 @@ mod held;
 mod host;
 mod idle;
 mod laws;
+mod lent;
+mod lookout;
 mod opening;
 mod recorded_module;
 mod saver;
 mod serving;
+mod shift;
 mod starting;
 mod tally;
 mod telling;
+mod turns;
 mod worker;
 
+pub use awaiting::await_bytes;
 pub use board::Board;
 pub use board_name::BoardName;
 pub use ending::{Closed, Stranger, close, find_stranger};
@@ -29,9 +35,12 @@ pub use gate::{Ended, channel_worker, saver_worker};
 pub use held::Held;
 pub use host::{Behind, Host, Receipt, Seen};
 pub use laws::boards_keep_lives;
+pub use lookout::Lookout;
 pub use opening::Opening;
 pub use recorded_module::RecordedModule;
 pub use saver::{SaverTurn, Saving};
+pub use shift::Shift;
 pub use starting::start;
+pub use turns::take_turns;
 pub use worker::Working;
 pub use worker_gate::{Gate, Turn};

@@ -3,10 +3,11 @@ ghost use Rattle.std.specs.Prelude.{◌≡◌};
 ghost use Rattle.arm_state.specs.Modes.{has_ended};
 ghost use Rattle.nv_machine.specs.State.{Machine};
 ghost use Rattle.module_core.specs.Stands.{setup_of};
-ghost use Rattle.nv_workers.specs.Savers.{needs_save, turn_at, turn_of, turn_taken};
+ghost use Rattle.nv_workers.specs.Savers.{needs_save, turn_at, turn_of, turn_taken, working_of};
 
 use crate::board_name::BoardName;
 use crate::held::Held;
+use crate::worker::Working;
 use arm_state::{ArmRefusal, Mode, SaveState};
 use channel_port::ChannelPort;
 use energy_budget::Energy;
@@ -61,6 +62,17 @@ fn turn_at(mode: Mode, saves: SaveState, saved: u64, accepted: u64) -> SaverTurn
         return SaverTurn::Begin;
     }
     SaverTurn::Rest
+}
+
+// How a saver goes on behind its turn.
+pub(crate) fn working_of(saving: Saving) -> Working
+    ensures { result ≡ working_of saving }
+{
+    match saving {
+        Saving::Rested | Saving::Stepped(StepReply::Waiting) => Working::Rested,
+        Saving::Began(_) | Saving::Stepped(_) => Working::Worked,
+        Saving::Closed => Working::Closed,
+    }
 }
 
 impl<K: ChannelPort, D: SaveDevice, E: Energy, B: BoardName> Held<K, D, E, B> {

@@ -8,12 +8,12 @@ use channel_port::ChannelPort;
 use energy_budget::Energy;
 use save_device::SaveDevice;
 
-/// What a channel's worker did.
+/// What a worker did at its turn.
 #[derive(Clone, Copy, Debug, PartialEq, Eq)]
 pub enum Working {
-    /// The channel issued a command.
-    Issued,
-    /// Nothing: the channel had no command to issue.
+    /// A channel issued a command, or a saver began a save or made a step.
+    Worked,
+    /// Nothing: there was nothing to do, or a step has to wait.
     Rested,
     /// Nothing any more: mains were lost.
     Closed,
@@ -36,7 +36,7 @@ impl<K: ChannelPort, D: SaveDevice, E: Energy, B: BoardName> Held<K, D, E, B> {
             return Working::Closed;
         }
         match done {
-            Some(_) => Working::Issued,
+            Some(_) => Working::Worked,
             None => Working::Rested,
         }
     }

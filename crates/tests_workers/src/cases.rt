@@ -63,7 +63,7 @@ where
     requires before { length ready.recorded.history.writes ≡ B.before }
     requires number { ready.channels ≡ B.channels }
     requires channels { CHANNELS ≡ B.channels }
-    requires hosts { B.parts ≡ 4 }
+    requires hosts { B.parts ≡ 12 }
 {
     let book = NoticeBook::with_room(alloc, 2).expect(rt, "memory");
     let Ok((board, mut hosts)) = ready.board::<B, NoticeBook>(alloc, book) else {
@@ -97,7 +97,7 @@ where
     requires before { length ready.recorded.history.writes ≡ B.before }
     requires number { ready.channels ≡ B.channels }
     requires channels { CHANNELS ≡ B.channels }
-    requires hosts { B.parts ≡ 4 }
+    requires hosts { B.parts ≡ 12 }
 {
     let Ok((board, mut hosts)) = ready.board::<B, Silent>(alloc, Silent) else {
         panic!(*rt; "memory");
@@ -123,7 +123,7 @@ where
     requires board { ready.opening.board ≡ B.board }
     requires before { length ready.recorded.history.writes ≡ B.before }
     requires number { ready.channels ≡ B.channels }
-    requires hosts { B.parts ≡ 4 }
+    requires hosts { B.parts ≡ 12 }
 {
     if ready.channels != CHANNELS {
         panic!(*rt; "two channels");
@@ -159,7 +159,7 @@ where
     let Ok(device) = formatted(alloc, &profile) else {
         panic!(*rt; "a device");
     };
-    let Ok(ready) = open(alloc, &map, &profile, device, Meter::with(AMPLE, 1), 4) else {
+    let Ok(ready) = open(alloc, &map, &profile, device, Meter::with(AMPLE, 1), 12) else {
         panic!(*rt; "a module");
     };
     try_board::<_, _, _, Brand, R>(rt, alloc, ready, case);

@@ -1,0 +1,53 @@
+-- The turns of a worker, by what it is lent.
+use Rattle.std.specs.Prelude.{◌≡◌, ◌⊎◌, ℕ, zero, suc, ◌+◌, ◌-◌, ◌^◌, min}
+use Rattle.nv_workers.specs.declared.gate.Ended.{Ended}
+use Rattle.nv_workers.specs.declared.gate.Ended.TheVariants as ended
+use Rattle.worker_gate.specs.declared.Turn.{Turn}
+use Rattle.worker_gate.specs.declared.Turn.TheVariants.{Go, Hold, Stop}
+use Rattle.nv_workers.specs.declared.shift.Shift.{Ghosts}
+use Rattle.nv_workers.specs.declared.worker.Working.{Working}
+use Rattle.nv_workers.specs.declared.worker.Working.TheVariants.{Worked, Rested, Closed}
+
+module _ {S : Type 0} (G : Ghosts S) where
+  -- it gave way behind so many idle turns in a row, which are one more now
+  pub record GivesWay (idle next : ℕ) (old new : S) : Type 0 where
+    pub rests : G.rests idle old new
+    pub more : next ≡ min (idle + 1) (2 ^ 64 - 1)
+
+  -- what it did behind a turn in which it did this, where it goes on
+  abbrev pub Follows : Working → ℕ → ℕ → S → S → Type 0
+  Follows Worked idle next old new = (next ≡ 0) × (new ≡ old)
+  Follows Rested idle next old new = GivesWay idle next old new
+  Follows Closed idle next old new = ⊥
+
+  -- what it did where the gate told it so and it goes on: one turn at Go, and none where it was held
+  abbrev pub Takes : ℕ → Turn → ℕ → ℕ → S → S → Type 0
+  Takes worker Go idle next asked new = (done : Working) × (worked : S) × G.works worker done asked worked × Follows done idle next worked new
+  Takes worker Hold idle next asked new = GivesWay idle next asked new
+  Takes worker Stop idle next asked new = ⊥
+
+  -- it asked the gate once, and goes on
+  pub record GoesOn (worker turn idle next : ℕ) (old new : S) : Type 0 where
+    pub told : Turn
+    pub asked : S
+    pub asks : G.asks worker turn told old asked
+    pub takes : Takes worker told idle next asked new
+
+  -- so many times, from turn 0 on; the last turns, so many, were idle
+  abbrev pub TakesTurns : ℕ → ℕ → ℕ → S → S → Type 0
+  TakesTurns worker zero idle old new = (idle ≡ 0) × (new ≡ old)
+  TakesTurns worker (suc turn) idle old new =
+      (before : ℕ) × (mid : S) × TakesTurns worker turn before old mid × GoesOn worker turn before idle mid new
+
+  -- the turn that ended it: the gate said stop, or mains were lost at a Go; else it has no turn left
+  abbrev pub EndsAt : ℕ → ℕ → Ended → S → S → Type 0
+  EndsAt worker turn ended.Stopped old new = G.asks worker turn Stop old new ⊎ ((turn ≡ 2 ^ 64 - 1) × (new ≡ old))
+  EndsAt worker turn ended.Closed old new = (asked : S) × G.asks worker turn Go old asked × G.works worker Closed asked new
+
+  -- A worker took turns until one ended it so.
+  pub record WorksUntil (worker : ℕ) (why : Ended) (old new : S) : Type 0 where
+    pub turns : ℕ
+    pub idle : ℕ
+    pub last : S
+    pub takes : TakesTurns worker turns idle old last
+    pub ends : EndsAt worker turns why last new
