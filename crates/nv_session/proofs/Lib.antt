@@ -10,3 +10,4 @@ pub mod Going
 pub mod Beginning
 pub mod Restoring
 pub mod SessionLives
+mod Faults

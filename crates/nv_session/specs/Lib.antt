@@ -9,3 +9,4 @@ pub mod Restoring
 pub mod SessionLives
 -- sessions as values
 pub mod Sessions
+pub mod Faults

@@ -7,10 +7,11 @@ ghost use Rattle.save_device.specs.Memory.{state_of, IsPicked};
 ghost use Rattle.slot_store.specs.Formatted.{first_head};
 ghost use Rattle.slot_store.specs.Outcomes.{first_image};
 ghost use Rattle.slot_store.specs.Rest.{IsAtRestOn};
-ghost use Rattle.slot_store.specs.Told.{Refuses, IsFailure, image_of_restored};
+ghost use Rattle.slot_store.specs.Told.{Refuses, IsFailure, image_of_restored, is_fault};
 ghost use Rattle.energy_budget.specs.Meter.{meter_gauge, lie_of};
 ghost use Rattle.module_core.specs.Opening.{opened_with};
 ghost use Rattle.module_core.specs.Stands.{ModuleStands, setup_of};
+ghost use Rattle.nv_session.specs.Faults.{CountsFault, is_format_fault};
 ghost use Rattle.nv_session.specs.Living.{HasLife, RunsWith, fuse_state};
 
 use crate::session::Session;
@@ -72,13 +73,16 @@ impl<K: ChannelPort + Drop, A: Wires<K> + Drop> Session<K, A> {
         self.life = Some(life);
     }
 
-    /// Makes the device a store of zero lines, and begins a life on it over the profile's map.
+    /// Makes the device a store of zero lines, and begins a life on it over the profile's map. `Device` comes only where a call of
+    /// the device failed.
     pub fn format(&mut self, alloc: Global) -> Result<(), FormatError>
         ensures begins { OnOk result (RunsWith K.ChannelPort
             (setup_over self.old self.old.profile.map)
             (λ life. ModuleStands K.ChannelPort life (fuse_state self.new.device)
             (opened_with first_head (first_image (line_count_in self.old)))) self.new.life) }
         ensures none { IfErr result (λ error. self.new.life ≡ None) }
+        ensures faults { CountsFault (is_format_fault result)
+            (fuse_state self.old.device) (fuse_state self.new.device) }
         ensures lie { lie_of self.new.gauge ≡ None }
         ensures gauge { meter_gauge self.new.gauge ≡ meter_gauge self.old.gauge }
         ensures profile { self.new.profile ≡ self.old.profile }
@@ -113,6 +117,8 @@ impl<K: ChannelPort + Drop, A: Wires<K> + Drop> Session<K, A> {
             life (fuse_state self.new.device)) self.new.life) }
         ensures refused { IfErr result (λ error. Refuses error (restored_in self.old)) }
         ensures none { IfErr result (λ error. self.new.life ≡ None) }
+        ensures faults { CountsFault (is_fault result)
+            (fuse_state self.old.device) (fuse_state self.new.device) }
         ensures same { (state_of self.new.device.device).bytes
             ≡ (state_of self.old.device.device).bytes }
         ensures any_moment { LeavesOnly (fuse_state self.old.device) (fuse_state self.new.device)
@@ -134,8 +140,8 @@ impl<K: ChannelPort + Drop, A: Wires<K> + Drop> Session<K, A> {
     /// A stop, which leaves of the unsettled bytes what the pick says, and a life on the newest image, over a map or the
     /// profile's: the memory after a prefix of the writes that the life before had accepted, and told Complete one that holds
     /// every write that was persistent. Where a life ran, nothing but a fault of the device or want of memory refuses it. A refused
-    /// restore leaves no life, and the next one finds such a prefix too. The device keeps the bytes that the stop left. It answers
-    /// the head of the newest image.
+    /// restore leaves no life, and the next one finds such a prefix too. The device keeps the bytes that the stop left. `Device` comes
+    /// only where a call of the device failed. It answers the head of the newest image.
     pub fn restore(
         &mut self,
         alloc: Global,
@@ -158,6 +164,8 @@ impl<K: ChannelPort + Drop, A: Wires<K> + Drop> Session<K, A> {
         ensures keeps { IfErr result (λ error. KeepsPrefixOf K.ChannelPort (line_count_in self.old)
             (moment_in self.old) error (moment_in self.new)) }
         ensures none { IfErr result (λ error. self.new.life ≡ None) }
+        ensures faults { CountsFault (is_fault result)
+            (fuse_state self.old.device) (fuse_state self.new.device) }
         ensures lie { lie_of self.new.gauge ≡ None }
         ensures gauge { meter_gauge self.new.gauge ≡ meter_gauge self.old.gauge }
         ensures profile { self.new.profile ≡ self.old.profile }

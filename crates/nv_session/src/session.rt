@@ -86,6 +86,8 @@ impl<K: ChannelPort + Drop, A: Wires<K> + Drop> Session<K, A> {
         ensures picked { IsPicked pick self.old.device.device
             (state_of self.new.device.device).bytes }
         ensures settled { IsSettled (state_of self.new.device.device) }
+        ensures calls { (fuse_state self.new.device).calls
+            ≡ (fuse_state self.old.device).calls }
         ensures profile { self.new.profile ≡ self.old.profile }
         ensures wires { self.new.wires ≡ self.old.wires }
     {

@@ -1,4 +1,4 @@
-use Rattle.std.proofs.Common.{◌≡◌, ◌<◌, ℕ, false, List, length, arith, rules}
+use Rattle.std.proofs.Common.{◌≡◌, ◌<◌, false, length, arith, rules}
 use Rattle.std.proofs.lemmas.List.{length-map}
 use Rattle.nv_script.specs.Texts.{is_skipped}
 use Rattle.nv_script.specs.Words.{texts_of, words_in}

@@ -1,9 +1,8 @@
-use Rattle.std.proofs.Common.{◌≡◌, ◌==◌, ◌∙◌, ◌+◌, ◌<◌, ◌≤◌, ℕ, List, [], ◌∷◌, ◌++◌, length, take, get_or, Option, Some, None, ap, arith, rules, subst, sym, tests}
+use Rattle.std.proofs.Common.{◌≡◌, ◌+◌, ℕ, List, [], ◌∷◌, ◌++◌, length, take, get_or, Some, None, arith, rules, subst, tests}
 use Rattle.std.proofs.lemmas.List.{append-nil, length_push, take_all}
 use Rattle.std.proofs.lemmas.List.Elements.{All-append, All-cons, All-nil}
 use Rattle.nv_script.specs.Line.{NamesChannelOf}
 use Rattle.nv_script.specs.Texts.{AreLinesOf, ComesTo, text_lines, without_last_newline}
-use Rattle.nv_script.specs.declared.line.ScriptLine.{ScriptLine}
 use Rattle.nv_script.proofs.Scripts.{IsTurn, first_bad, first_too_many, line_turn, lines_end, lines_more}
 use Rattle.nv_script.proofs.reading.read_script.Goals as goal
 

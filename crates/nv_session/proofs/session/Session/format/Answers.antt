@@ -1,12 +1,14 @@
-use Rattle.std.proofs.Common.{◌∙◌, ℕ, List, ap, sym, subst}
+use Rattle.std.proofs.Common.{◌∙◌, ℕ, List, true, false, ap, sym, subst}
 use Rattle.std.proofs.lemmas.Grind.{merely}
 use Rattle.nv_session.proofs.Common.{DeviceState, ModuleStands, Profile, assembly, first_image, fuse_state, life_begins}
 use Rattle.nv_session.proofs.Common.{lines_of, meter_gauge}
 use Rattle.line_memory.specs.Memory.{IsMemory, zero_lines}
 use Rattle.line_memory.proofs.MemoryLaws.{zero_lines-IsMemory}
 use Rattle.slot_store.specs.Formatted.{first_head}
+use Rattle.slot_store.specs.Steps.{format_calls}
 use Rattle.module_core.specs.Opening.{opened_with}
 use Rattle.nv_session.proofs.Beginning.{begins_formatted, is_capacity, same_setup}
+use Rattle.nv_session.proofs.Faults.{calls_count, counts_alike, counts_behind}
 use Rattle.nv_session.proofs.session.Session.format.Goals as goal
 use Rattle.nv_session.proofs.session.Session.format.Goals.{In-Ok-open}
 
@@ -44,3 +46,19 @@ returns-clause-begins g c =
           (subst (λ (n : ℕ). Stands n (fuse_state c.format.new.device)) (ap (λ (p : Profile). lines_of p.checked.geometry) c.stop.ensures.profile)
           (formatted_life g (goal.at.returns-clause-begins g c).In-Ok-open));
     }
+
+pub returns-in_default-format-clause-faults : goal.returns-in_default-format-clause-faults
+returns-in_default-format-clause-faults g c =
+    let stopped = fuse_state c.stop.new.self.device in
+    counts_behind true (fuse_state c.args.self.now.device) stopped (fuse_state c.format.new.device) c.stop.ensures.calls (calls_count (format_calls c.lines-lines.result) false stopped (fuse_state c.format.new.device) c.in_default-format.ensures.calls)
+
+pub returns-in_default-open-clause-faults : goal.returns-in_default-open-clause-faults
+returns-in_default-open-clause-faults g c =
+    let stopped = fuse_state c.stop.new.self.device in
+    counts_behind false (fuse_state c.args.self.now.device) stopped (fuse_state c.format.new.device) c.stop.ensures.calls (calls_count (format_calls c.lines-lines.result) true stopped (fuse_state c.format.new.device) c.in-Ok-format.ensures.calls)
+
+pub returns-clause-faults : goal.returns-clause-faults
+returns-clause-faults g c =
+    let stopped = fuse_state c.stop.new.self.device in let formatted = fuse_state c.format.new.device in
+    counts_alike false (fuse_state c.args.self.now.device) formatted (fuse_state c.begin.new.self.device) c.begin.ensures.device
+    (counts_behind false (fuse_state c.args.self.now.device) stopped formatted c.stop.ensures.calls (calls_count (format_calls c.lines-lines.result) true stopped formatted c.in-Ok-format.ensures.calls))

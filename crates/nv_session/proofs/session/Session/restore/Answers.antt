@@ -3,9 +3,10 @@ use Rattle.std.proofs.lemmas.Result.{IfOk-weaker, IfErr-weaker}
 use Rattle.nv_session.proofs.Common.{DeviceState, FindsPrefixOf, KeepsPrefixOf, MayLeave, Profile, Revives, RunsWith}
 use Rattle.nv_session.proofs.Common.{Setup, fuse_state, lines_of, present, restored}
 use Rattle.interleave_map.specs.declared.ready.Interleaving.{Interleaving}
-use Rattle.slot_store.specs.Told.{Refuses, IsFailure}
+use Rattle.slot_store.specs.Told.{Refuses, IsFailure, is_fault}
 use Rattle.nv_session.specs.Sessions.{moment_in, restored_in, setup_over}
 use Rattle.nv_session.proofs.Beginning.{revives_again, same_restored, same_setup}
+use Rattle.nv_session.proofs.Faults.{counts_behind}
 use Rattle.nv_session.proofs.Restoring.{session_finds, session_fails, session_keeps}
 use Rattle.nv_session.proofs.session.Session.restore.Goals as goal
 
@@ -53,3 +54,7 @@ returns-clause-keeps g c =
     session_keeps L old.profile (moment_in old) (moment_in new) stopped error old.living c.stop.ensures.left c.stop.ensures.settled c.revive.ensures.any_moment
     (subst (λ (p : Profile). Refuses error (restored (lines_of p.checked.geometry) stopped.bytes)) c.stop.ensures.profile refuses))
     c.revive.ensures.refused
+
+pub returns-clause-faults : goal.returns-clause-faults
+returns-clause-faults g c =
+    counts_behind (is_fault c.revive.result) (fuse_state c.args.self.now.device) (fuse_state c.stop.new.self.device) (fuse_state c.revive.new.self.device) c.stop.ensures.calls c.revive.ensures.faults

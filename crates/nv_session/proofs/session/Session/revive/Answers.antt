@@ -1,10 +1,11 @@
-use Rattle.std.proofs.Common.{ℕ, List, sym, subst}
+use Rattle.std.proofs.Common.{ℕ, List, false, Ok, Err, rules, sym, subst}
 use Rattle.std.proofs.lemmas.Grind.{merely}
 use Rattle.nv_session.proofs.Common.{DeviceState, Revives, assembly, fuse_state, life_begins, lines_of}
 use Rattle.nv_session.proofs.Common.{meter_gauge}
 use Rattle.slot_store.specs.declared.restoring.Restored.{Restored}
 use Rattle.nv_session.specs.Sessions.{restored_in}
 use Rattle.nv_session.proofs.Beginning.{FindsRestored, is_capacity, revives_restored}
+use Rattle.nv_session.proofs.Faults.{counts_alike, restore_counts}
 use Rattle.nv_session.proofs.session.Session.revive.Goals as goal
 use Rattle.nv_session.proofs.session.Session.revive.Goals.{In-Ok}
 
@@ -34,3 +35,17 @@ returns-clause-revives g c =
       over = c.in-Ok.ensures.setup;
       holds = subst (λ (d : DeviceState). Revives g.K.ChannelPort (restored_in c.args.self.now) c.in_ok-restored.restored.head c.in-Ok.life d) (sym c.begin.ensures.device) (revived g (goal.at.returns-clause-revives g c).In-Ok);
     }
+
+pub returns-clause-faults : goal.returns-clause-faults
+returns-clause-faults g c =
+    let old = fuse_state c.args.self.now.device in let read = fuse_state c.restore.new.device in
+    counts_alike false old read (fuse_state c.begin.new.self.device) c.begin.ensures.device (restore_counts c.lines-lines.result (Ok c.in_ok-restored.restored) old read c.in_ok-restored.ensures.calls)
+
+pub returns-in_default-clause-faults : goal.returns-in_default-clause-faults
+returns-in_default-clause-faults g c =
+    restore_counts c.lines-lines.result (Ok c.in_ok-restored.restored) (fuse_state c.args.self.now.device) (fuse_state c.restore.new.device) c.in_ok-restored.ensures.calls
+
+pub returns-in_err-restored-clause-faults : goal.returns-in_err-restored-clause-faults
+returns-in_err-restored-clause-faults g c =
+    let counts = restore_counts c.lines-lines.result (Err c.in_err-restored.field-0.0) (fuse_state c.args.self.now.device) (fuse_state c.restore.new.device) c.in_err-restored.ensures.calls in
+    search (rules, counts)
