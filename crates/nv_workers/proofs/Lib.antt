@@ -6,3 +6,4 @@ pub mod Living
 pub mod Quiet
 pub mod ReadLent
 pub mod Ticketed
+pub mod Written

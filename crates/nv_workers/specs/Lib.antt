@@ -13,3 +13,4 @@ pub mod Serving
 pub mod Shifts
 pub mod Steps
 pub mod Turns
+pub mod Writing

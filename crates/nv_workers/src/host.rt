@@ -1,12 +1,12 @@
 // Who writes and reads.
-ghost use Rattle.std.specs.Prelude.{◌≡◌, ◌+◌, ◌<◌, ◌≤◌, ◌++◌, [], ◌∷◌, IfOk, IfErr, Ok, Err};
+ghost use Rattle.std.specs.Prelude.{◌≡◌, ◌<◌, ◌≤◌, [], IfOk, IfErr, Ok, Err};
 ghost use Rattle.std.specs.Arc.{arc_value};
 ghost use Rattle.module_core.specs.Stands.{setup_of};
 ghost use Rattle.nv_workers.specs.Client.{SeesNoLess, client};
 ghost use Rattle.nv_workers.specs.Lent.{LentLine, LentRead, LentRefusal, LentStep};
-ghost use Rattle.nv_workers.specs.Marks.{told_at};
-ghost use Rattle.nv_workers.specs.Serving.{IsOfChannels, ReadsServed, WritesServed};
+ghost use Rattle.nv_workers.specs.Serving.{IsOfChannels, ReadsServed};
 ghost use Rattle.nv_workers.specs.Steps.{Steps};
+ghost use Rattle.nv_workers.specs.Writing.{HostWrites, HostWritesServed, KeepsRest, LentWrite};
 
 use crate::board::Board;
 use crate::board_name::BoardName;
@@ -95,28 +95,11 @@ impl<B: BoardName> Host<B> {
         held: &mut Held<K, D, E, B>,
         write: Write,
     ) -> Result<Receipt, WriteRefusal>
-        ensures ok { IfOk result (λ r. Steps K.ChannelPort D.SaveDevice E.Energy B.BoardName.own
-            (Event.Write write)
-            (Reply.Write (Ok (told_at r.number held.new.recorded.running.persisted)))
-            held.old held.new) }
-        ensures err { IfErr result (λ refusal.
-            Steps K.ChannelPort D.SaveDevice E.Energy B.BoardName.own
-            (Event.Write write) (Reply.Write (Err refusal)) held.old held.new) }
-        ensures number { IfOk result (λ r. r.number ≡ held.old.recorded.running.accepted) }
-        ensures line { IfOk result (λ r. r.line ≡ write.line) }
-        ensures data { IfOk result (λ r. r.data ≡ write.data) }
-        ensures seen { IfOk result (λ r. r.number < self.new.accepted) }
+        ensures writes { HostWrites K.ChannelPort D.SaveDevice E.Energy B.BoardName.own
+            write result self.old self.new held.old held.new }
         ensures rises { SeesNoLess self.old self.new }
-        ensures one { IfOk result (λ r. self.new.writes ≡ self.old.writes + 1) }
-        ensures none { IfErr result (λ e. self.new.writes ≡ self.old.writes) }
-        ensures adds { IfOk result (λ r.
-            held.new.recorded.history.writes ≡ held.old.recorded.history.writes ++ write ∷ []) }
-        ensures stays { IfErr result (λ e.
-            held.new.recorded.history.writes ≡ held.old.recorded.history.writes) }
-        ensures device { held.new.recorded.device ≡ held.old.recorded.device }
-        ensures energy { held.new.recorded.energy ≡ held.old.recorded.energy }
-        ensures setup { setup_of K.ChannelPort held.new.recorded.running
-            ≡ setup_of K.ChannelPort held.old.recorded.running }
+        ensures rest { KeepsRest K.ChannelPort D.SaveDevice E.Energy B.BoardName.own
+            held.old held.new }
     {
         let data = write.data;
         match held.write(&mut self.seat, &mut self.share, write) {
@@ -136,26 +119,11 @@ impl<B: BoardName> Host<B> {
         held: &mut Held<K, D, E, B>,
         write: Write,
     ) -> Result<Receipt, WriteRefusal>
-        ensures ok { IfOk result (λ r. WritesServed K.ChannelPort D.SaveDevice E.Energy
-            B.BoardName.own write (Ok (told_at r.number held.new.recorded.running.persisted))
-            held.old held.new) }
-        ensures err { IfErr result (λ refusal. WritesServed K.ChannelPort D.SaveDevice E.Energy
-            B.BoardName.own write (Err refusal) held.old held.new) }
-        ensures number { IfOk result (λ r. r.number ≡ held.old.recorded.running.accepted) }
-        ensures line { IfOk result (λ r. r.line ≡ write.line) }
-        ensures data { IfOk result (λ r. r.data ≡ write.data) }
-        ensures seen { IfOk result (λ r. r.number < self.new.accepted) }
+        ensures writes { HostWritesServed K.ChannelPort D.SaveDevice E.Energy B.BoardName.own
+            write result self.old self.new held.old held.new }
         ensures rises { SeesNoLess self.old self.new }
-        ensures one { IfOk result (λ r. self.new.writes ≡ self.old.writes + 1) }
-        ensures none { IfErr result (λ e. self.new.writes ≡ self.old.writes) }
-        ensures adds { IfOk result (λ r.
-            held.new.recorded.history.writes ≡ held.old.recorded.history.writes ++ write ∷ []) }
-        ensures stays { IfErr result (λ e.
-            held.new.recorded.history.writes ≡ held.old.recorded.history.writes) }
-        ensures device { held.new.recorded.device ≡ held.old.recorded.device }
-        ensures energy { held.new.recorded.energy ≡ held.old.recorded.energy }
-        ensures setup { setup_of K.ChannelPort held.new.recorded.running
-            ≡ setup_of K.ChannelPort held.old.recorded.running }
+        ensures rest { KeepsRest K.ChannelPort D.SaveDevice E.Energy B.BoardName.own
+            held.old held.new }
     {
         make_room(held, write.line);
         self.write_in(held, write)
@@ -168,12 +136,9 @@ impl<B: BoardName> Host<B> {
         board: &Board<K, D, E, B, N>,
         write: Write,
     ) -> Result<Receipt, WriteRefusal>
-        ensures line { IfOk result (λ r. r.line ≡ write.line) }
-        ensures data { IfOk result (λ r. r.data ≡ write.data) }
-        ensures seen { IfOk result (λ r. r.number < self.new.accepted) }
+        ensures writes { LentWrite K.ChannelPort D.SaveDevice E.Energy B.BoardName.own
+            write result self.old self.new }
         ensures rises { SeesNoLess self.old self.new }
-        ensures one { IfOk result (λ r. self.new.writes ≡ self.old.writes + 1) }
-        ensures none { IfErr result (λ e. self.new.writes ≡ self.old.writes) }
     {
         let mut held = board.held.lock(rt);
         self.write_served_in(&mut *held, write)

@@ -1,4 +1,4 @@
 use Rattle.nv_workers.proofs.host.Host.write.Goals as goal
 
-pub returns-clause-line : goal.returns-clause-line
-returns-clause-line g c = c.write_served_in.ensures.line
+pub returns-clause-writes : goal.returns-clause-writes
+returns-clause-writes g c = (c.deref_mut.result.now, c.write_served_in.new.held, c.write_served_in.ensures.writes)
