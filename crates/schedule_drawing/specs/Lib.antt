@@ -1,0 +1,6 @@
+pub mod Lanes
+pub mod Entries
+pub mod Drawing
+pub mod OpenRows
+pub mod Lives
+pub mod Schedules

@@ -1,0 +1,26 @@
+//! Schedules of DDR4 commands as pictures: SVG, with a lane a bank, and VCD, with the state of each bank.
+//!
+//! `shapes_of` says what is drawn of a list of commands; `write_svg` and `write_vcd` write it.
+#![tactic(auto)]
+
+mod axis;
+mod entries;
+mod fault;
+mod lanes;
+mod laws;
+mod layout;
+mod placing;
+mod schedule;
+mod shapes;
+mod svg;
+mod vcd;
+
+pub use entries::read_entries;
+pub use fault::DrawFault;
+pub use lanes::{Lane, LaneKind};
+pub use laws::bars_show_open_rows;
+pub use layout::Layout;
+pub use schedule::{Event, EventKind, Schedule};
+pub use shapes::{Shape, shapes_of};
+pub use svg::write_svg;
+pub use vcd::write_vcd;

@@ -1,0 +1,112 @@
+// A schedule to be drawn.
+ghost use Rattle.std.specs.Prelude.{◌≡◌, ◌≢◌, [], OnOk, ◌≤◌, fold, max};
+ghost use Rattle.schedule_drawing.specs.Lives.{EndBy, last_clock};
+
+use crate::shapes::{Shape, shapes_of};
+use command_trace::Entry;
+use ddr4_timing::timing::Timing;
+use std::alloc::{AllocError, Global};
+
+/// Clocks that are shown behind the last command of a life.
+const TAIL: u64 = 20;
+
+/// Clocks between two lives.
+const BETWEEN: u64 = 100;
+
+/// What a script does beside the commands of its channels.
+#[derive(Clone, Copy, Debug, PartialEq, Eq)]
+pub enum EventKind {
+    /// A call of the device, or several.
+    Device,
+    /// A mode begins.
+    Mode,
+}
+
+/// An event behind the commands up to a clock.
+#[derive(Drop)]
+pub struct Event {
+    pub clock: u64,
+    pub kind: EventKind,
+    pub text: String,
+}
+
+/// The shapes of commands, life by life, and what happens beside them. Each life's clocks begin with the one that stands in
+/// `begins`.
+#[derive(Drop)]
+pub struct Schedule {
+    pub shapes: Vec<Shape>,
+    pub begins: Vec<u64>,
+    pub events: Vec<Event>,
+    // no shape ends behind this clock
+    end: u64,
+    ghost ended: { EndBy end shapes.items },
+}
+
+// The last clock of a life that began with a clock.
+fn last_of(begin: u64, entries: &[Entry]) -> u64
+    ensures { result ≡ last_clock begin entries.now }
+{
+    entries
+        .iter()
+        .fold(begin, |last, entry| last.max(entry.command.clock))
+}
+
+// The last clock at which a shape ends, where that is behind this one.
+fn end_of(end: u64, shapes: &[Shape]) -> u64
+    ensures by { EndBy result shapes.now }
+    ensures least { end ≤ result }
+{
+    let mut last = end;
+    for shape in shapes {
+        last = last.max(shape.to());
+    }
+    last
+}
+
+impl Schedule {
+    ghost use Rattle.schedule_drawing.specs.Schedules.{HasLife};
+
+    /// With nothing in it.
+    pub fn new(alloc: Global) -> Schedule
+        ensures { result.shapes.items ≡ [] }
+    {
+        Schedule {
+            shapes: Vec::new(alloc),
+            begins: Vec::new(alloc),
+            events: Vec::new(alloc),
+            end: 0,
+        }
+    }
+
+    /// The clock at which a further life begins.
+    pub fn next_begin(&self) -> u64
+        ensures first { self.now.begins.items ≡ [] → result ≡ 0 }
+        ensures behind { self.now.begins.items ≢ [] →
+            EndBy result self.now.shapes.items }
+    {
+        if self.begins.is_empty() {
+            0
+        } else {
+            self.end.saturating_add(BETWEEN)
+        }
+    }
+
+    /// Takes in the commands of a life, whose clocks begin with this one.
+    pub fn add(
+        &mut self,
+        alloc: Global,
+        t: &Timing,
+        begin: u64,
+        entries: &[Entry],
+    ) -> Result<(), AllocError>
+        ensures { OnOk result (HasLife t.now begin entries.now self.old self.new) }
+    {
+        let open_until = last_of(begin, entries).saturating_add(TAIL);
+        let shapes = shapes_of(alloc, t, entries, open_until)?;
+        let end = end_of(self.end, &shapes);
+        self.end = end;
+        self.shapes.extend_from_slice(&shapes)?;
+        self.begins.push(begin)?;
+        Ok(())
+    }
+}
