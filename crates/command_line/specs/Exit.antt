@@ -1,7 +1,7 @@
 -- Why the program fails, and how it ends.
 use Rattle.std.specs.Prelude.{◌≡◌, ◌⊎◌, ℕ}
-use Rattle.command_line.specs.declared.command.Fault.{Fault}
-use Rattle.command_line.specs.declared.command.Fault.TheVariants.{Words, Profile, Memory}
+use Rattle.command_line.specs.declared.fault.Fault.{Fault}
+use Rattle.command_line.specs.declared.fault.Fault.TheVariants.{Words, Profile, Memory}
 
 -- 2 for a mistake in the program's words, and else 1
 abbrev pub status_of : Fault → ℕ

@@ -1,84 +1,29 @@
-// The command line: its words, the files that they name, and the exit status.
+// The command line: its words, and what each verb does.
 ghost use Rattle.std.specs.Prelude.{◌≡◌, IfErr, if◌then◌else◌};
 ghost use Rattle.std.specs.Process.{exit_status};
-ghost use Rattle.command_line.specs.declared.command.Fault.TheVariants.{Memory};
-ghost use Rattle.nv_profile.specs.Ready.{IsReadyWord};
-ghost use Rattle.command_line.specs.Exit.{IsOfWords, IsOfNoFile};
+ghost use Rattle.command_line.specs.Exit.{IsOfWords};
 
 use crate::crash::{write_crash, write_line};
+use crate::draw::{NoSchedule, Picture, schedule_of, write_picture};
+use crate::fault::Fault;
+use crate::files::{bytes_of, file_bytes, is_file, profile_of};
 use crate::maps::run_on_maps;
 use crate::store::{STORE_BYTES, show_store};
+use crate::words::program;
 use clap::error::ErrorKind;
-use clap::{Arg, ArgAction, ArgMatches, Command, Error as UsageError, value_parser};
+use clap::{ArgMatches, Error as UsageError};
 use command_trace::{Source, TraceFault};
-use nv_profile::{MOST_BYTES, Profile, ProfileFault, read_profile, ready_profile};
-use nv_script::{SCRIPT_BYTES, ScriptFault};
+use nv_profile::{MOST_BYTES, ProfileFault, read_profile, ready_profile};
+use nv_script::SCRIPT_BYTES;
 use profile_report::{Meaning, why_refused};
 use save_device::{MemoryDevice, SaveDevice};
 use std::alloc::{AllocError, Global};
 use std::env::{self, Env};
-use std::fs::{self, File};
-use std::io::{self, Eprint, Input, Print, Read, Write};
+use std::fs;
+use std::io::{self, Eprint, Input, Print, Write};
 use std::process::ExitCode;
 use std::rt::Files;
 use std::time::Clock;
-use thiserror::Error;
-
-/// The program's version.
-const VERSION: &str = "0.1.0";
-
-/// Why the program fails. Shown as the rest of its one line on standard error.
-#[derive(Debug, Drop, Error)]
-pub enum Fault<'a> {
-    #[error("a word is not UTF-8")]
-    Words,
-    #[error("profile")]
-    Profile,
-    /// The text is no profile for this reason.
-    #[error("profile: {0}")]
-    NoProfile(String),
-    /// The file can't be read or written. `-` is standard input or standard output.
-    #[error("file {0}")]
-    File(&'a str),
-    #[error("{0}")]
-    Script(ScriptFault),
-    /// The line of a trace is no command.
-    #[error("trace line {0}")]
-    Trace(u64),
-    /// The script runs no line of this number.
-    #[error("no line {0}")]
-    NoLine(u64),
-    #[error("memory")]
-    Memory,
-}
-
-impl Fault<'_> {
-    ghost use Rattle.command_line.specs.Exit.{status_of};
-
-    /// The exit status: 2 for a mistake in the program's words, and else 1.
-    pub fn exit_code(&self) -> ExitCode
-        ensures { exit_status result ≡ status_of self.now }
-    {
-        match self {
-            Fault::Words => ExitCode::from(2),
-            _ => ExitCode::FAILURE,
-        }
-    }
-}
-
-impl<'a> From<AllocError> for Fault<'a> {
-    ghost from_gives = { λ _ fault. fault ≡ Memory };
-
-    fn from(_: AllocError) -> Fault<'a> {
-        Fault::Memory
-    }
-}
-
-impl<'a> From<ScriptFault> for Fault<'a> {
-    fn from(fault: ScriptFault) -> Fault<'a> {
-        Fault::Script(fault)
-    }
-}
 
 /// The words that the program was called with, its name first. `Words` where one of them isn't UTF-8.
 pub fn words_of<R: Env + AllocGlobal>(rt: &R) -> Result<Vec<String>, Fault<'static>>
@@ -118,6 +63,9 @@ where
     }
     if let Some(matches) = matches.subcommand_matches("crash") {
         crash(rt, matches, is_watched, writer)?;
+    }
+    if let Some(matches) = matches.subcommand_matches("draw") {
+        draw(rt, matches)?;
     }
     if let Some(matches) = matches.subcommand_matches("profile") {
         explain(rt, matches.get_str("PROFILE").unwrap_or("tiny"), writer)?;
@@ -232,6 +180,32 @@ where
     flush(writer)
 }
 
+// Draws a trace or a script into a file.
+fn draw<'a, R>(rt: &R, matches: &ArgMatches<'a>) -> Result<(), Fault<'a>>
+where
+    R: Files + Input + AllocGlobal,
+{
+    let profile = profile_of(rt, matches.get_str("PROFILE").unwrap_or("tiny"))?;
+    let name = matches.get_str("SCHEDULE").unwrap_or("-");
+    let bytes = bytes_of(rt, name, u64::MAX)?;
+    let schedule = match schedule_of(rt.alloc(), &profile, &bytes) {
+        Ok(schedule) => schedule,
+        Err(NoSchedule::Script(fault)) => return Err(Fault::Script(fault)),
+        Err(NoSchedule::Trace(TraceFault::Line(line))) => return Err(Fault::Trace(line)),
+        // bytes in memory can be read
+        Err(NoSchedule::Trace(_)) | Err(NoSchedule::Memory) => return Err(Fault::Memory),
+    };
+    match matches.get_str("svg") {
+        Some(name) => write_picture(rt, &schedule, Picture::Svg, name),
+        None => write_picture(
+            rt,
+            &schedule,
+            Picture::Vcd,
+            matches.get_str("vcd").unwrap_or("-"),
+        ),
+    }
+}
+
 // Tells what the numbers of a profile come to, or why there is none.
 fn explain<'a, R, W>(rt: &R, word: &'a str, writer: &mut W) -> Result<(), Fault<'a>>
 where
@@ -272,105 +246,6 @@ fn status_by(test: bool) -> ExitCode
     }
 }
 
-// The words that the program takes.
-fn program<'a>(alloc: Global) -> Result<Command<'a>, AllocError> {
-    let run = run_command(alloc)?;
-    let show = show_command(alloc)?;
-    let check = check_command(alloc)?;
-    let profile = profile_command(alloc)?;
-    let crash = crash_command(alloc)?;
-    Command::new(alloc, "nvctl")
-        .about("Runs scripts on an NVDIMM-N controller")
-        .version(VERSION)
-        .subcommand_required(true)
-        .subcommand(run)?
-        .subcommand(show)?
-        .subcommand(crash)?
-        .subcommand(check)?
-        .subcommand(profile)
-}
-
-fn run_command<'a>(alloc: Global) -> Result<Command<'a>, AllocError> {
-    Command::new(alloc, "run")
-        .about("Runs a script and prints an answer to each line")
-        .arg(profile_word(alloc))?
-        .arg(script_word(alloc))?
-        .arg(out_word(alloc))
-}
-
-fn profile_word<'a>(alloc: Global) -> Arg<'a> {
-    Arg::new(alloc, "PROFILE").required(true).help(
-        "The word tiny or tiny2, a module of 128 lines, or the profile's TOML file",
-    )
-}
-
-fn script_word<'a>(alloc: Global) -> Arg<'a> {
-    Arg::new(alloc, "SCRIPT")
-        .required(true)
-        .help("The script's file, or - for standard input")
-}
-
-fn out_word<'a>(alloc: Global) -> Arg<'a> {
-    Arg::new(alloc, "STORE")
-        .long("out")
-        .help("A file for the device's bytes after the last line")
-}
-
-fn show_command<'a>(alloc: Global) -> Result<Command<'a>, AllocError> {
-    Command::new(alloc, "show")
-        .about("Shows what a store restores to")
-        .arg(store_word(alloc))
-}
-
-fn check_command<'a>(alloc: Global) -> Result<Command<'a>, AllocError> {
-    Command::new(alloc, "check")
-        .about("Tells whether the commands of a trace are lawful")
-        .arg(profile_word(alloc))?
-        .arg(trace_word(alloc))?
-        .arg(answers_word(alloc))
-}
-
-fn profile_command<'a>(alloc: Global) -> Result<Command<'a>, AllocError> {
-    Command::new(alloc, "profile")
-        .about("Tells what a profile means, or why a text is none")
-        .arg(profile_word(alloc))
-}
-
-fn crash_command<'a>(alloc: Global) -> Result<Command<'a>, AllocError> {
-    Command::new(alloc, "crash")
-        .about("Tells what a crash may leave of a script")
-        .arg(profile_word(alloc))?
-        .arg(script_word(alloc))?
-        .arg(line_word(alloc))
-}
-
-fn line_word<'a>(alloc: Global) -> Arg<'a> {
-    Arg::new(alloc, "line")
-        .long("line")
-        .value_name("N")
-        .value_parser(value_parser!(u64))
-        .help("Shows each stop within this line of the script alone")
-}
-
-fn trace_word<'a>(alloc: Global) -> Arg<'a> {
-    Arg::new(alloc, "TRACE").required(true).help(
-        "The trace's file, or - for standard input: lines as run prints commands, or comma separated values",
-    )
-}
-
-fn answers_word<'a>(alloc: Global) -> Arg<'a> {
-    Arg::new(alloc, "answers")
-        .long("answers")
-        .action(ArgAction::SetTrue)
-        .help("The trace is the output of run: passes over answers that are no commands")
-}
-
-fn store_word<'a>(alloc: Global) -> Arg<'a> {
-    Arg::new(alloc, "STORE")
-        .required(true)
-        .help("The store's file")
-}
-
 // Tells why the words were refused, or gives the help that they ask for.
 fn usage<'a, R: Print + Eprint>(rt: &R, error: &UsageError) -> Result<ExitCode, Fault<'a>> {
     if error.kind() == ErrorKind::OutOfMemory {
@@ -379,76 +254,5 @@ fn usage<'a, R: Print + Eprint>(rt: &R, error: &UsageError) -> Result<ExitCode, 
     match error.print(rt) {
         Ok(()) => Ok(ExitCode::from(error.exit_code() as u8)),
         Err(_) => Err(Fault::File("-")),
-    }
-}
-
-/// The profile of its word: `tiny`, `tiny2`, or a file of TOML.
-pub fn profile_of<'a, R: Files + AllocGlobal>(rt: &R, word: &'a str) -> Result<Profile, Fault<'a>>
-    ensures ready { IsReadyWord word.entry.now → IfErr result IsOfNoFile }
-{
-    let read = match ready_profile(word) {
-        Some(text) => read_profile(rt.alloc(), text.as_bytes()),
-        // one byte more than a profile may have
-        None => read_profile(rt.alloc(), &file_bytes(rt, word, MOST_BYTES as u64 + 1)?),
-    };
-    match read {
-        Ok(profile) => Ok(profile),
-        Err(ProfileFault::Refused) => Err(Fault::Profile),
-        Err(ProfileFault::Memory) => Err(Fault::Memory),
-    }
-}
-
-// The first bytes of a file, or for - of standard input.
-fn bytes_of<'a, R: Files + Input + AllocGlobal>(
-    rt: &R,
-    name: &'a str,
-    most: u64,
-) -> Result<Vec<u8>, Fault<'a>> {
-    if name == "-" {
-        all_of(rt.alloc(), rt.reader(), most, name)
-    } else {
-        file_bytes(rt, name, most)
-    }
-}
-
-// Is it a file that can be read again? A pipe can't.
-fn is_file<'a, R: Files>(rt: &R, name: &'a str) -> Result<bool, Fault<'a>> {
-    match fs::metadata(rt, name) {
-        Ok(found) => Ok(found.is_file()),
-        Err(error) => Err(unreadable(&error, name)),
-    }
-}
-
-// The first bytes of a file.
-fn file_bytes<'a, R: Files + AllocGlobal>(
-    rt: &R,
-    name: &'a str,
-    most: u64,
-) -> Result<Vec<u8>, Fault<'a>> {
-    match File::open(rt, name) {
-        Ok(file) => all_of(rt.alloc(), file, most, name),
-        Err(error) => Err(unreadable(&error, name)),
-    }
-}
-
-// What a reader gives, up to so many bytes.
-fn all_of<'a, S: Read + Drop>(
-    alloc: Global,
-    source: S,
-    most: u64,
-    name: &'a str,
-) -> Result<Vec<u8>, Fault<'a>> {
-    let mut bytes = Vec::new(alloc);
-    match source.take(most).read_to_end(&mut bytes) {
-        Ok(_) => Ok(bytes),
-        Err(error) => Err(unreadable(&error, name)),
-    }
-}
-
-fn unreadable<'a>(error: &io::Error, name: &'a str) -> Fault<'a> {
-    if error.kind() == io::ErrorKind::OutOfMemory {
-        Fault::Memory
-    } else {
-        Fault::File(name)
     }
 }

@@ -1,0 +1,134 @@
+// The words that the program takes.
+use clap::{Arg, ArgAction, ArgGroup, Command, value_parser};
+use std::alloc::{AllocError, Global};
+
+/// The program's version.
+const VERSION: &str = "0.1.0";
+
+/// The program's words.
+pub(crate) fn program<'a>(alloc: Global) -> Result<Command<'a>, AllocError> {
+    let run = run_command(alloc)?;
+    let show = show_command(alloc)?;
+    let check = check_command(alloc)?;
+    let profile = profile_command(alloc)?;
+    let crash = crash_command(alloc)?;
+    let draw = draw_command(alloc)?;
+    Command::new(alloc, "nvctl")
+        .about("Runs scripts on an NVDIMM-N controller")
+        .version(VERSION)
+        .subcommand_required(true)
+        .subcommand(run)?
+        .subcommand(show)?
+        .subcommand(crash)?
+        .subcommand(check)?
+        .subcommand(draw)?
+        .subcommand(profile)
+}
+
+fn run_command<'a>(alloc: Global) -> Result<Command<'a>, AllocError> {
+    Command::new(alloc, "run")
+        .about("Runs a script and prints an answer to each line")
+        .arg(profile_word(alloc))?
+        .arg(script_word(alloc))?
+        .arg(out_word(alloc))
+}
+
+fn profile_word<'a>(alloc: Global) -> Arg<'a> {
+    Arg::new(alloc, "PROFILE").required(true).help(
+        "The word tiny or tiny2, a module of 128 lines, or the profile's TOML file",
+    )
+}
+
+fn script_word<'a>(alloc: Global) -> Arg<'a> {
+    Arg::new(alloc, "SCRIPT")
+        .required(true)
+        .help("The script's file, or - for standard input")
+}
+
+fn out_word<'a>(alloc: Global) -> Arg<'a> {
+    Arg::new(alloc, "STORE")
+        .long("out")
+        .help("A file for the device's bytes after the last line")
+}
+
+fn show_command<'a>(alloc: Global) -> Result<Command<'a>, AllocError> {
+    Command::new(alloc, "show")
+        .about("Shows what a store restores to")
+        .arg(store_word(alloc))
+}
+
+fn check_command<'a>(alloc: Global) -> Result<Command<'a>, AllocError> {
+    Command::new(alloc, "check")
+        .about("Tells whether the commands of a trace are lawful")
+        .arg(profile_word(alloc))?
+        .arg(trace_word(alloc))?
+        .arg(answers_word(alloc))
+}
+
+fn profile_command<'a>(alloc: Global) -> Result<Command<'a>, AllocError> {
+    Command::new(alloc, "profile")
+        .about("Tells what a profile means, or why a text is none")
+        .arg(profile_word(alloc))
+}
+
+fn crash_command<'a>(alloc: Global) -> Result<Command<'a>, AllocError> {
+    Command::new(alloc, "crash")
+        .about("Tells what a crash may leave of a script")
+        .arg(profile_word(alloc))?
+        .arg(script_word(alloc))?
+        .arg(line_word(alloc))
+}
+
+fn draw_command<'a>(alloc: Global) -> Result<Command<'a>, AllocError> {
+    let picture = ArgGroup::new(alloc, "picture")
+        .arg("svg")?
+        .arg("vcd")?
+        .required(true);
+    Command::new(alloc, "draw")
+        .about("Draws the commands of a trace or a script")
+        .arg(profile_word(alloc))?
+        .arg(schedule_word(alloc))?
+        .arg(picture_word(alloc, "svg", "A file for the picture, as SVG"))?
+        .arg(picture_word(alloc, "vcd", "A file for the picture, as VCD"))?
+        .group(picture)
+}
+
+fn schedule_word<'a>(alloc: Global) -> Arg<'a> {
+    Arg::new(alloc, "SCHEDULE")
+        .required(true)
+        .help("The file of a script or a trace, or - for standard input")
+}
+
+fn picture_word<'a>(alloc: Global, name: &'a str, help: &'a str) -> Arg<'a> {
+    Arg::new(alloc, name)
+        .long(name)
+        .value_name("FILE")
+        .help(help)
+}
+
+fn line_word<'a>(alloc: Global) -> Arg<'a> {
+    Arg::new(alloc, "line")
+        .long("line")
+        .value_name("N")
+        .value_parser(value_parser!(u64))
+        .help("Shows each stop within this line of the script alone")
+}
+
+fn trace_word<'a>(alloc: Global) -> Arg<'a> {
+    Arg::new(alloc, "TRACE").required(true).help(
+        "The trace's file, or - for standard input: lines as run prints commands, or comma separated values",
+    )
+}
+
+fn answers_word<'a>(alloc: Global) -> Arg<'a> {
+    Arg::new(alloc, "answers")
+        .long("answers")
+        .action(ArgAction::SetTrue)
+        .help("The trace is the output of run: passes over answers that are no commands")
+}
+
+fn store_word<'a>(alloc: Global) -> Arg<'a> {
+    Arg::new(alloc, "STORE")
+        .required(true)
+        .help("The store's file")
+}
