@@ -1,5 +1,5 @@
 -- What each line of a script does at a session, and which answer tells of it.
-use Rattle.std.specs.Prelude.{◌≡◌, ℕ, ◌-◌, ◌^◌, List, [], ◌∷◌, Result, Option, Some, None, IfErr, IfOk, unwrap_or}
+use Rattle.std.specs.Prelude.{◌≡◌, ℕ, ◌-◌, ◌^◌, true, List, [], ◌∷◌, Result, Option, Some, None, IfErr, IfOk, unwrap_or}
 use Rattle.std.specs.Option.{option_map}
 use Rattle.ddr4_timing.specs.declared.command.Stamped.{Stamped}
 use Rattle.interleave_map.specs.declared.ready.Interleaving.{Interleaving}
@@ -10,7 +10,7 @@ use Rattle.slot_store.specs.declared.head.Head.{Head}
 use Rattle.slot_store.specs.declared.restoring.RestoreError.{RestoreError}
 use Rattle.slot_store.specs.Formatted.{first_head}
 use Rattle.slot_store.specs.Outcomes.{first_image}
-use Rattle.slot_store.specs.Told.{Refuses}
+use Rattle.slot_store.specs.Told.{Refuses, is_fault}
 use Rattle.arm_state.specs.declared.loss.Loss.{Loss}
 use Rattle.arm_state.specs.declared.loss.Loss.TheVariants as lost
 use Rattle.arm_state.specs.declared.mode.Mode.{Mode}
@@ -35,6 +35,7 @@ use Rattle.nv_session.specs.declared.session.Session.{Session}
 use Rattle.nv_session.specs.declared.turns.LineSeen.{LineSeen}
 use Rattle.nv_session.specs.declared.wires.Wires as wires
 use Rattle.nv_session.specs.Coming.{IsOneEvent}
+use Rattle.nv_session.specs.Faults.{CountsFault}
 use Rattle.nv_session.specs.Living.{GoesOnBy, IsWork, RunsWith, SessionAt, fuse_state, read_refusal_at_rest, set_to, write_refusal_at_rest}
 use Rattle.nv_session.specs.ReadTurns.{ReadsLine}
 use Rattle.nv_session.specs.Restoring.{Revives}
@@ -104,15 +105,15 @@ module _ {K A : Type 0} {L : Ghosts K} {W : wires.Ghosts A K} where
     pub lie : lie_of new.gauge ≡ None
     pub gauge : meter_gauge new.gauge ≡ meter_gauge old.gauge
 
-  -- a life begins on a store of zero lines, over the profile's map; or it is told that none does
+  -- a life begins on a store of zero lines, over the profile's map; or it is told that none does, and a call of the device failed
   abbrev pub Formats : Answer → Session K A L W → Session K A L W → Type 0
   Formats answer.Formatted old new =
       RunsWith L (setup_over old old.profile.map) (λ life. ModuleStands L life (fuse_state new.device) (opened_with first_head (first_image (line_count_in old)))) new.life
-  Formats answer.FormatFault old new = new.life ≡ None
+  Formats answer.FormatFault old new = (new.life ≡ None) × CountsFault true (fuse_state old.device) (fuse_state new.device)
   Formats given old new = ⊥
 
   -- A stop leaves what the pick says of the device, and a life begins over the map with the newest image that is left; or none
-  -- does, and the answer is the restore's error.
+  -- does, and the answer is the restore's error, a fault of the device exactly where a call of it failed.
   pub record Restores (pick : Pick) (map : Interleaving) (given : Answer) (old new : Session K A L W) : Type 0 where
     pub result : Result Head RestoreError
     pub told : given ≡ restore_told result
@@ -120,6 +121,7 @@ module _ {K A : Type 0} {L : Ghosts K} {W : wires.Ghosts A K} where
     pub revives : IfOk result (λ found. RunsWith L (setup_over old map) (λ life. Revives L (restored_in new) found life (fuse_state new.device)) new.life)
     pub refused : IfErr result (λ error. Refuses error (restored_in new))
     pub none : IfErr result (λ error. new.life ≡ None)
+    pub faults : CountsFault (is_fault result) (fuse_state old.device) (fuse_state new.device)
 
   -- from now on so many units can be paid on backup, and the gauge shows what it did
   pub record Lies (units : ℕ) (given : Answer) (old new : Session K A L W) : Type 0 where

@@ -4,7 +4,7 @@ use Rattle.ddr4_timing.specs.Limits.{lines_of}
 use Rattle.save_device.specs.Memory.{state_of}
 use Rattle.save_device.specs.declared.memory.MemoryDevice.{MemoryDevice}
 use Rattle.slot_store.specs.Slots.{device_size}
-use Rattle.energy_budget.specs.Meter.{level_of}
+use Rattle.energy_budget.specs.Meter.{leak_of, level_of}
 use Rattle.channel_port.specs.declared.port.ChannelPort.{Ghosts}
 use Rattle.nv_profile.specs.declared.profile.Profile.{Profile}
 use Rattle.nv_session.specs.declared.session.Session.{Session}
@@ -37,13 +37,14 @@ module _ {K A : Type 0} {L : Ghosts K} {W : wires.Ghosts A K} where
     pub all : AreAllAnswered lines asked before after
     pub does : DoesAll all.answered.story first last
 
-  -- a session before its first line: no life runs, the device has zero bytes and passes all calls, and the gauge shows 0
+  -- a session before its first line: no life runs, the device has zero bytes and passes all calls, and the gauge shows 0 and has no leak
   pub record IsNew (profile : Profile) (session : Session K A L W) : Type 0 where
     pub profile_is : session.profile ≡ profile
     pub life : session.life ≡ None
     pub bytes : (state_of session.device.device).bytes ≡ replicate (device_size (lines_of profile.checked.geometry)) 0
     pub passes : session.device.left ≡ 2 ^ 64 - 1
     pub level : level_of session.gauge ≡ 0
+    pub leak : leak_of session.gauge ≡ 0
 
 -- The lines of a script are done by a new session, in turn: their answers are those that were reported, and tell what each did.
 -- The device is the session's at the end.

@@ -25,7 +25,7 @@ returns-clause-runs g c =
     record {
       first = first;
       last = last;
-      begins = record { profile_is = made.profile; life = made.life; bytes = made.device; passes = made.passes; level = made.gauge };
+      begins = record { profile_is = made.profile; life = made.life; bytes = made.device; passes = made.passes; level = made.gauge; leak = made.leak };
       done = subst (λ (profile : Profile). AreAllDone (lines_of profile.checked.geometry) c.args.lines.now before after first last) made.profile c.in_ok-answer_lines.ensures.done;
-      device_is = c.into_device.ensures;
+      device_is = cc;
     }

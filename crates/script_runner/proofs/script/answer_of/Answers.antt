@@ -228,7 +228,7 @@ returns-in-Ok-clause-does g c =
 
 pub returns-in-Err-Device-clause-does : goal.returns-in-Err-Device-clause-does
 returns-in-Err-Device-clause-does g c =
-    does_as g.K.ChannelPort c.args.session.now c.format.new.self c.in-Format.is refl (c.in-Err-Device.ensures.none, record { lie = c.format.ensures.lie; gauge = c.format.ensures.gauge })
+    does_as g.K.ChannelPort c.args.session.now c.format.new.self c.in-Format.is refl ((c.in-Err-Device.ensures.none, rw c.in-Err-Device.field-0-is at c.in-Err-Device.ensures.faults), record { lie = c.format.ensures.lie; gauge = c.format.ensures.gauge })
 
 pub returns-in-Restore-clause-does : goal.returns-in-Restore-clause-does
 returns-in-Restore-clause-does g c =
@@ -241,6 +241,7 @@ returns-in-Restore-clause-does g c =
         revives = ensures.revives;
         refused = ensures.refused;
         none = ensures.none;
+        faults = ensures.faults;
       },
       record { lie = ensures.lie; gauge = ensures.gauge },
     )
