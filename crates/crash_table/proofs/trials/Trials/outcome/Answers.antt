@@ -17,5 +17,4 @@ returns-clause-found c =
     let answered : AreAllAnswered size (c.args.lines.now ++ restore ∷ []) [] c.in_ok-answers.answers.items =
     subst (λ (lines : List ScriptLine). AreAllAnswered size lines [] c.in_ok-answers.answers.items) whole c.in_ok-answers.ensures.answered in
     let split : c.in_ok-answers.answers.items ≡ c.in-Some.before.now ++ c.in-Some.restore.now ∷ [] = sym c.deref-2.ensures.value ∙ c.in-Some.ensures.cases.0 in
-    restored_by size c.args.lines.now c.args.pick c.in_ok-answers.answers.items answered c.in-Some.before.now c.in-Some.restore.now split
-    (record { found = c.by.result; told = c.unwrap_or.result }) c.by.ensures (c.unwrap_or.ensures ∙ ap (λ (told : Option ℕ). unwrap_or told 0) c.told_in.ensures)
+    restored_by size c.args.lines.now c.args.pick c.in_ok-answers.answers.items answered c.in-Some.before.now c.in-Some.restore.now split _ (cc) (cc)
