@@ -14,7 +14,7 @@ use Rattle.std.proofs.lemmas.List.FromFn.{get_or-enumerate_from, length-enumerat
 use Rattle.ddr4_timing.specs.declared.timing.Geometry.{Geometry}
 use Rattle.nv_profile.specs.Nothing.{HoldsOfNone}
 use Rattle.nv_script.specs.declared.line.ScriptLine.{ScriptLine}
-use Rattle.nv_script.specs.Texts.{AreLinesOf, ComesTo, IsFirstBadLine, text_lines}
+use Rattle.nv_script.specs.Texts.{AreLinesOf, ReadsAs, IsFirstBadLine, text_lines}
 
 -- a turn is at this line of the text
 pub record IsTurn (texts : List (List ℕ)) (n index : ℕ) (line : List ℕ) : Type 0 where
@@ -59,14 +59,14 @@ module _ {F : Type 0} (g : Mut F (Bor ℕ × Unit {0}) Bool) (s : _) (xs : List 
 
 -- one line more comes to this
 pub lines_more : (geometry : Geometry) (texts : List (List ℕ)) (n : ℕ) (lines : List ScriptLine) (value : Option ScriptLine) → AreLinesOf geometry (take n texts) lines → n < length texts → n + 1 ≤ 4096
-    → ComesTo geometry (get_or texts n []) value → AreLinesOf geometry (take (n + 1) texts) (lines ++ option_to_list value)
+    → ReadsAs geometry (get_or texts n []) value → AreLinesOf geometry (take (n + 1) texts) (lines ++ option_to_list value)
 lines_more geometry texts n lines value are below few comes =
     let more : take (n + 1) texts ≡ take n texts ++ get_or texts n [] ∷ [] = take_more texts n [] below in
     record {
       few = omega (arith, length-take (n + 1) texts);
       read = are.read ++ value ∷ [];
-      each = subst (λ (some : List (List ℕ)). AllZip (ComesTo geometry) some (are.read ++ value ∷ [])) (sym more)
-          (zip_push (ComesTo geometry) (take n texts) are.read (get_or texts n []) value are.each comes);
+      each = subst (λ (some : List (List ℕ)). AllZip (ReadsAs geometry) some (are.read ++ value ∷ [])) (sym more)
+          (zip_push (ReadsAs geometry) (take n texts) are.read (get_or texts n []) value are.each comes);
       are = ap (λ (some : List ScriptLine). some ++ option_to_list value) are.are
           ∙ ap (λ (some : List ScriptLine). filter_map (λ (line : Option ScriptLine). line) are.read ++ some) (sym (value_of_one value))
           ∙ sym (filter_map-append (λ (line : Option ScriptLine). line) are.read (value ∷ []));
@@ -74,14 +74,14 @@ lines_more geometry texts n lines value are below few comes =
 
 -- the first bad line is one that comes to none
 pub first_bad : (geometry : Geometry) (text : List ℕ) (n index : ℕ) (line : List ℕ) (lines : List ScriptLine) → IsTurn (text_lines text) n index line
-    → AreLinesOf geometry (take n (text_lines text)) lines → HoldsOfNone (ComesTo geometry line) → IsFirstBadLine geometry text (index + 1)
+    → AreLinesOf geometry (take n (text_lines text)) lines → HoldsOfNone (ReadsAs geometry line) → IsFirstBadLine geometry text (index + 1)
 first_bad geometry text n index line lines turn are none = record {
   place = n;
   numbered = ap (λ (k : ℕ). k + 1) turn.index_is;
   within = turn.below;
   lines = lines;
   before = are;
-  bad = inr (subst (λ (some : List ℕ). HoldsOfNone (ComesTo geometry some)) turn.line_is none);
+  bad = inr (subst (λ (some : List ℕ). HoldsOfNone (ReadsAs geometry some)) turn.line_is none);
 }
 
 -- or one too many

@@ -3,7 +3,7 @@ use Rattle.std.proofs.Common.{◌≡◌, ◌∙◌, ◌==◌, ◌||◌, ◌<◌,
 use Rattle.std.proofs.lemmas.Bool.Decides.{nat_tests}
 use Rattle.ddr4_timing.specs.declared.timing.Geometry.{Geometry}
 use Rattle.nv_profile.specs.Nothing.{HoldsOfNone}
-use Rattle.nv_script.specs.Texts.{ComesTo, is_skipped}
+use Rattle.nv_script.specs.Texts.{ReadsAs, is_skipped}
 use Rattle.nv_script.specs.Words.{SaysLine, words_in}
 
 or_true : (b : Bool) → (b || true) ≡ true
@@ -21,6 +21,6 @@ pub read_by_words : (text : List ℕ) (words : List (List ℕ)) → words ≡ wo
 read_by_words text words is begins some =
     ap (λ (some : List (List ℕ)). (slice_index text 0 == 35) || (length some == 0)) (sym is) ∙ ap (λ (b : Bool). b || (length words == 0)) begins ∙ is_some (length words) some
 
-pub comes_to_none : (geometry : Geometry) (text : List ℕ) (words : List (List ℕ)) → words ≡ words_in text → is_skipped text ≡ false → HoldsOfNone (SaysLine geometry words) → HoldsOfNone (ComesTo geometry text)
+pub comes_to_none : (geometry : Geometry) (text : List ℕ) (words : List (List ℕ)) → words ≡ words_in text → is_skipped text ≡ false → HoldsOfNone (SaysLine geometry words) → HoldsOfNone (ReadsAs geometry text)
 comes_to_none geometry text words is asks none None said = let skipped = said.1 in absurd cc
 comes_to_none geometry text words is asks none (Some line) said = none line (subst (λ (some : List (List ℕ)). SaysLine geometry some line) (sym is) said.2)

@@ -25,15 +25,15 @@ abbrev pub is_skipped : List ℕ → Bool
 is_skipped text = (slice_index text 0 == 35) || (length (words_in text) == 0)
 
 -- what it comes to: nothing where it is skipped, and else the line that its words say
-abbrev pub ComesTo : Geometry → List ℕ → Option ScriptLine → Type 0
-ComesTo geometry text None = IsLineText text × (is_skipped text ≡ true)
-ComesTo geometry text (Some line) = IsLineText text × (is_skipped text ≡ false) × SaysLine geometry (words_in text) line
+abbrev pub ReadsAs : Geometry → List ℕ → Option ScriptLine → Type 0
+ReadsAs geometry text None = IsLineText text × (is_skipped text ≡ true)
+ReadsAs geometry text (Some line) = IsLineText text × (is_skipped text ≡ false) × SaysLine geometry (words_in text) line
 
 -- these lines of a text, 4,096 at most, come to these lines of a script
 pub record AreLinesOf (geometry : Geometry) (texts : List (List ℕ)) (lines : List ScriptLine) : Type 0 where
   pub few : length texts ≤ 4096
   pub read : List (Option ScriptLine)
-  pub each : AllZip (ComesTo geometry) texts read
+  pub each : AllZip (ReadsAs geometry) texts read
   pub are : lines ≡ filter_map (λ line. line) read
 
 -- a text is a script of these lines
@@ -48,7 +48,7 @@ pub record IsFirstBadLine (geometry : Geometry) (text : List ℕ) (number : ℕ)
   pub within : place < length (text_lines text)
   pub lines : List ScriptLine
   pub before : AreLinesOf geometry (take place (text_lines text)) lines
-  pub bad : (place ≡ 4096) ⊎ HoldsOfNone (ComesTo geometry (get_or (text_lines text) place []))
+  pub bad : (place ≡ 4096) ⊎ HoldsOfNone (ReadsAs geometry (get_or (text_lines text) place []))
 
 -- why a text isn't read: its first bad line, or want of memory
 abbrev pub IsRefusedBy : Geometry → List ℕ → ScriptFault → Type 0

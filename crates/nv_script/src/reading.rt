@@ -6,7 +6,7 @@ ghost use Rattle.nv_script.specs.declared.reading.ScriptFault.TheVariants.{Memor
 ghost use Rattle.interleave_map.specs.Ready.{text_of};
 ghost use Rattle.nv_profile.specs.Nothing.{HoldsOfNone};
 ghost use Rattle.nv_script.specs.Line.{NamesChannelOf};
-ghost use Rattle.nv_script.specs.Texts.{ComesTo, IsRefusedBy, IsScript};
+ghost use Rattle.nv_script.specs.Texts.{ReadsAs, IsRefusedBy, IsScript};
 ghost use Rattle.nv_script.specs.Words.{IsNumber, SaysAlone, SaysLine, SaysWithOne, SaysWithTwo, texts_of, words_in};
 
 use crate::line::ScriptLine;
@@ -121,9 +121,9 @@ fn read_line(
     line: &[u8],
     geometry: &Geometry,
 ) -> Result<Option<ScriptLine>, LineFault>
-    ensures comes { IfOk result (ComesTo geometry.now line.now) }
+    ensures comes { IfOk result (ReadsAs geometry.now line.now) }
     ensures names { IfOk result (λ line. ForSome line (NamesChannelOf geometry.now)) }
-    ensures bad { result ≡ Err LineFault.Bad → HoldsOfNone (ComesTo geometry.now line.now) }
+    ensures bad { result ≡ Err LineFault.Bad → HoldsOfNone (ReadsAs geometry.now line.now) }
 {
     if line.len() > MOST_LINE_BYTES {
         return Err(LineFault::Bad);

@@ -21,4 +21,4 @@ pub use Rattle.nv_session.specs.Living.{GoesOnAlone, GoesOnBy, HasLife, IsLiving
 pub use Rattle.nv_session.specs.Restoring.{FindsPrefix, FindsPrefixOf, FindsSaved, GoesBackTo, IsLeftBy, KeepsPrefixOf, Revives, TellsImage, TellsPrefix}
 pub use Rattle.nv_session.specs.ReadTurns.{AwaitsLine, IsNothing, ReadsLine, TakesReadTurns}
 pub use Rattle.nv_session.specs.SaveTurns.{MakesSave, TakesSteps, WorksBehind, WorksEach, is_underway}
-pub use Rattle.nv_session.specs.Turns.{AwaitsRead, GoesOnSaving, HasSaved, IsPromised, IsSavedBy, MakesStep, SameButWaits, SameWrites, SeesLine, SeesPromised}
+pub use Rattle.nv_session.specs.Turns.{AwaitsRead, GoesOnSaving, HasSaved, IsPromised, IsSavedBy, MakesOneStep, SameButWaits, SameWrites, SeesLine, SeesPromised}

@@ -1,6 +1,6 @@
 -- One step of a save, which is begun where none runs.
 use Rattle.std.proofs.Common.{◌≡◌, inl, inr, List, [], ◌∷◌, ◌++◌, refl, ap, Ok, Err}
-use Rattle.nv_session.proofs.Common.{Answers, ArmRefusal, Assembly, Comes, Event, Ghosts, Machine, MakesStep, Reply}
+use Rattle.nv_session.proofs.Common.{Answers, ArmRefusal, Assembly, Comes, Event, Ghosts, Machine, MakesOneStep, Reply}
 use Rattle.nv_session.proofs.Common.{SameWrites, StepReply, World, setup_of, world_of}
 use Rattle.nv_machine.specs.declared.events.Event.TheVariants as events
 use Rattle.nv_machine.specs.declared.events.Reply.TheVariants as replies
@@ -60,25 +60,25 @@ module _ {K : Type 0} (L : Ghosts K) where
       (λ es rs m n l stands told happens. further asked_step told_none events.SaveBegin (replies.SaveBegin (Ok tt)) es rs m n l told (begin_keeps (Ok tt) n l happens.step.1))
 
   pub then_refused : (refusal : ArmRefusal) (old mid new : Assembly L) → setup_of L mid.it ≡ setup_of L old.it → Comes L (SoFar asked_step told_none) old mid
-      → Answers L events.SaveBegin (replies.SaveBegin (Err refusal)) mid new → Comes L (MakesStep (Err refusal)) old new
+      → Answers L events.SaveBegin (replies.SaveBegin (Err refusal)) mid new → Comes L (MakesOneStep (Err refusal)) old new
   then_refused refusal old mid new same before answers =
-      comes_further L (SoFar asked_step told_none) (MakesStep (Err refusal)) events.SaveBegin (replies.SaveBegin (Err refusal)) old mid new same before answers
+      comes_further L (SoFar asked_step told_none) (MakesOneStep (Err refusal)) events.SaveBegin (replies.SaveBegin (Err refusal)) old mid new same before answers
       (λ es rs m n l stands told happens.
       let all = further asked_step told_none events.SaveBegin (replies.SaveBegin (Err refusal)) es rs m n l told (begin_keeps (Err refusal) n l happens.step.1) in
       record { goes_on = record { same = all.same; last = (all.events_are, all.replies_are); ends = tt }; are = (all.events_are, all.replies_are) })
 
   pub then_stepped : (reply : StepReply) (old mid new : Assembly L) → setup_of L mid.it ≡ setup_of L old.it → Comes L (SoFar asked_begin told_begun) old mid
-      → Answers L events.SaveStep (replies.SaveStep reply) mid new → Comes L (MakesStep (Ok reply)) old new
+      → Answers L events.SaveStep (replies.SaveStep reply) mid new → Comes L (MakesOneStep (Ok reply)) old new
   then_stepped reply old mid new same before answers =
-      comes_further L (SoFar asked_begin told_begun) (MakesStep (Ok reply)) events.SaveStep (replies.SaveStep reply) old mid new same before answers
+      comes_further L (SoFar asked_begin told_begun) (MakesOneStep (Ok reply)) events.SaveStep (replies.SaveStep reply) old mid new same before answers
       (λ es rs m n l stands told happens.
       let from : World = world_of L mid n in let to : World = world_of L new l in
       let all = further asked_begin told_begun events.SaveStep (replies.SaveStep reply) es rs m n l told (step_keeps (setup_of L old.it) reply from to happens.step) in
       record { goes_on = record { same = all.same; last = (es, rs, refl, refl); ends = step_ends (setup_of L old.it) reply from to stands.guarded happens.step }; are = inr (all.events_are, all.replies_are) })
 
-  pub one_step : (reply : StepReply) (old new : Assembly L) → Answers L events.SaveStep (replies.SaveStep reply) old new → Comes L (MakesStep (Ok reply)) old new
+  pub one_step : (reply : StepReply) (old new : Assembly L) → Answers L events.SaveStep (replies.SaveStep reply) old new → Comes L (MakesOneStep (Ok reply)) old new
   one_step reply old new answers =
-      comes_further L (SoFar [] []) (MakesStep (Ok reply)) events.SaveStep (replies.SaveStep reply) old old new refl (so_far old) answers
+      comes_further L (SoFar [] []) (MakesOneStep (Ok reply)) events.SaveStep (replies.SaveStep reply) old old new refl (so_far old) answers
       (λ es rs m n l stands told happens.
       let from : World = world_of L old n in let to : World = world_of L new l in
       let all = further [] [] events.SaveStep (replies.SaveStep reply) es rs m n l told (step_keeps (setup_of L old.it) reply from to happens.step) in

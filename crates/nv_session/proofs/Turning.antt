@@ -1,7 +1,7 @@
 -- The turns of a save: steps, and works between them.
 use Rattle.std.proofs.Common.{◌≡◌, ℕ, suc, ◌≤◌, true, List, [], ◌∷◌, ◌++◌, refl, sym, ap, subst, arith, Option, Some, None, Ok, Err}
 use Rattle.nv_session.proofs.Common.{Answers, AnswersAlone, ArmRefusal, Assembly, Comes, ComesAlone, Event, Ghosts}
-use Rattle.nv_session.proofs.Common.{GoesOnSaving, Machine, MakesSave, MakesStep, Module, Reply, SameButWaits, SameWrites}
+use Rattle.nv_session.proofs.Common.{GoesOnSaving, Machine, MakesSave, MakesOneStep, Module, Reply, SameButWaits, SameWrites}
 use Rattle.nv_session.proofs.Common.{Setup, StepReply, TakesSteps, WorkStep, WorksBehind, WorksEach, World, assembly}
 use Rattle.nv_session.proofs.Common.{is_underway, setup_of, world_of}
 use Rattle.channel_port.specs.declared.answers.Done.{Done}
@@ -68,13 +68,13 @@ module _ {K : Type 0} (L : Ghosts K) where
   pub did_not_wait : (channels : ℕ) (reply : StepReply) (it : Module K L) → (reply ≡ step.Waiting → ⊥) → ComesAlone L (WorksBehind channels reply) it it
   did_not_wait channels reply it other device gauge = comes_to_itself L (WorksBehind channels reply) (assembly it device gauge) (λ m. record { same = refl; are = none_behind channels reply other })
 
-  pub made_one : (channels : ℕ) (reply : StepReply) (old new : Assembly L) → Comes L (MakesStep (Ok reply)) old new → Comes L (HasMade channels 1 reply) old new
+  pub made_one : (channels : ℕ) (reply : StepReply) (old new : Assembly L) → Comes L (MakesOneStep (Ok reply)) old new → Comes L (HasMade channels 1 reply) old new
   made_one channels reply old new comes =
-      comes_retold L (MakesStep (Ok reply)) (HasMade channels 1 reply) old new comes (λ es rs m n told. record { goes_on = told.goes_on; further = 0; steps_are = refl; takes = told.are })
+      comes_retold L (MakesOneStep (Ok reply)) (HasMade channels 1 reply) old new comes (λ es rs m n told. record { goes_on = told.goes_on; further = 0; steps_are = refl; takes = told.are })
 
-  pub made_none : (channels : ℕ) (refusal : ArmRefusal) (old new : Assembly L) → Comes L (MakesStep (Err refusal)) old new → Comes L (MakesSave channels (Err refusal)) old new
+  pub made_none : (channels : ℕ) (refusal : ArmRefusal) (old new : Assembly L) → Comes L (MakesOneStep (Err refusal)) old new → Comes L (MakesSave channels (Err refusal)) old new
   made_none channels refusal old new comes =
-      comes_retold L (MakesStep (Err refusal)) (MakesSave channels (Err refusal)) old new comes (λ es rs m n told. record { goes_on = told.goes_on; are = told.are })
+      comes_retold L (MakesOneStep (Err refusal)) (MakesSave channels (Err refusal)) old new comes (λ es rs m n told. record { goes_on = told.goes_on; are = told.are })
 
   pub then_works : (channels steps : ℕ) (was : StepReply) (old mid new : Assembly L) → setup_of L mid.it ≡ setup_of L old.it → Comes L (HasMade channels steps was) old mid
       → Comes L (WorksBehind channels was) mid new → Comes L (HasWorked channels steps was) old new

@@ -89,6 +89,6 @@ pub record GoesOnSaving (result : Result StepReply ArmRefusal) (events : List Ev
   pub ends : EndsSave result new
 
 -- one step: these are its events
-pub record MakesStep (result : Result StepReply ArmRefusal) (events : List Event) (replies : List Reply) (old new : Machine) : Type 0 where
+pub record MakesOneStep (result : Result StepReply ArmRefusal) (events : List Event) (replies : List Reply) (old new : Machine) : Type 0 where
   pub goes_on : GoesOnSaving result events replies old new
   pub are : AreOfStep result events replies

@@ -24,7 +24,7 @@ ghost use Rattle.nv_session.specs.Living.{GoesOnBy, HasLife, IsWork, SessionAt, 
 ghost use Rattle.nv_session.specs.SessionLives.{HasLived, HasLivedOn};
 ghost use Rattle.nv_session.specs.ReadTurns.{ReadsLine};
 ghost use Rattle.nv_session.specs.SaveTurns.{MakesSave};
-ghost use Rattle.nv_session.specs.Turns.{HasSaved, MakesStep};
+ghost use Rattle.nv_session.specs.Turns.{HasSaved, MakesOneStep};
 ghost use Rattle.nv_session.specs.Restoring.{Revives, FindsSaved, FindsPrefix};
 
 use crate::wires::Wires;
@@ -88,9 +88,9 @@ pub fn sessions_live<K: ChannelPort>()
     ensures step { (result : Result StepReply ArmRefusal) (found : Head) (image : Image)
         (events : List Event) (replies : List Reply) (first : Assembly K.ChannelPort)
         (old new : SessionAt K.ChannelPort)
-        → GoesOnBy K.ChannelPort (λ setup. MakesStep result) old new
+        → GoesOnBy K.ChannelPort (λ setup. MakesOneStep result) old new
         → HasLived K.ChannelPort found image events replies first old
-        → HasLivedOn K.ChannelPort (MakesStep result) found image events replies first new }
+        → HasLivedOn K.ChannelPort (MakesOneStep result) found image events replies first new }
     ensures save { (result : Result StepReply ArmRefusal) (found : Head) (image : Image)
         (events : List Event) (replies : List Reply) (first : Assembly K.ChannelPort)
         (old new : SessionAt K.ChannelPort)

@@ -1,7 +1,7 @@
 // The calls of a session that may call its device, and ask its gauge.
 ghost use Rattle.std.specs.Prelude.{◌≡◌, Err, None};
 ghost use Rattle.nv_session.specs.SaveTurns.{MakesSave};
-ghost use Rattle.nv_session.specs.Turns.{MakesStep};
+ghost use Rattle.nv_session.specs.Turns.{MakesOneStep};
 ghost use Rattle.nv_session.specs.Coming.{IsOneEvent};
 ghost use Rattle.nv_session.specs.Living.{GoesOnBy};
 
@@ -32,7 +32,7 @@ impl<K: ChannelPort + Drop, A: Wires<K> + Drop> Session<K, A> {
 
     /// One step of a save, which is begun where none runs.
     pub fn step(&mut self) -> Result<StepReply, ArmRefusal>
-        ensures comes { GoesOnBy K.ChannelPort (λ setup. MakesStep result)
+        ensures comes { GoesOnBy K.ChannelPort (λ setup. MakesOneStep result)
             (moment_in self.old) (moment_in self.new) }
         ensures none { self.old.life ≡ None → result ≡ Err ArmRefusal.Closed }
         ensures profile { self.new.profile ≡ self.old.profile }

@@ -4,7 +4,7 @@ ghost use Rattle.module_core.specs.Stands.{HasChannel, HasDevice, assembly, setu
 ghost use Rattle.nv_session.specs.Coming.{Comes, ComesAlone};
 ghost use Rattle.nv_session.specs.ReadTurns.{AwaitsLine, ReadsLine};
 ghost use Rattle.nv_session.specs.SaveTurns.{MakesSave, WorksBehind, WorksEach, is_underway};
-ghost use Rattle.nv_session.specs.Turns.{MakesStep};
+ghost use Rattle.nv_session.specs.Turns.{MakesOneStep};
 
 use arm_state::{ArmRefusal, ReadRefusal};
 use channel_port::{ChannelPort, Collected, Got, Ticket};
@@ -76,7 +76,7 @@ pub(crate) fn step<K: ChannelPort, D: SaveDevice, E: Energy>(
     energy: &mut E,
 ) -> Result<StepReply, ArmRefusal>
     requires size { HasDevice K.ChannelPort running.old (D.state device.old) }
-    ensures comes { Comes K.ChannelPort (MakesStep result)
+    ensures comes { Comes K.ChannelPort (MakesOneStep result)
         (assembly running.old (D.state device.old) (E.gauge energy.old))
         (assembly running.new (D.state device.new) (E.gauge energy.new)) }
     ensures setup { setup_of K.ChannelPort running.new ≡ setup_of K.ChannelPort running.old }

@@ -15,29 +15,29 @@ module _ {S : Type 0} (G : Ghosts S) where
     pub more : next ≡ min (idle + 1) (2 ^ 64 - 1)
 
   -- what it did behind a turn in which it did this, where it goes on
-  abbrev pub Follows : Working → ℕ → ℕ → S → S → Type 0
-  Follows Worked idle next old new = (next ≡ 0) × (new ≡ old)
-  Follows Rested idle next old new = GivesWay idle next old new
-  Follows Closed idle next old new = ⊥
+  abbrev pub RestsIfIdle : Working → ℕ → ℕ → S → S → Type 0
+  RestsIfIdle Worked idle next old new = (next ≡ 0) × (new ≡ old)
+  RestsIfIdle Rested idle next old new = GivesWay idle next old new
+  RestsIfIdle Closed idle next old new = ⊥
 
   -- what it did where the gate told it so and it goes on: one turn at Go, and none where it was held
-  abbrev pub Takes : ℕ → Turn → ℕ → ℕ → S → S → Type 0
-  Takes worker Go idle next asked new = (done : Working) × (worked : S) × G.works worker done asked worked × Follows done idle next worked new
-  Takes worker Hold idle next asked new = GivesWay idle next asked new
-  Takes worker Stop idle next asked new = ⊥
+  abbrev pub ObeysGate : ℕ → Turn → ℕ → ℕ → S → S → Type 0
+  ObeysGate worker Go idle next asked new = (done : Working) × (worked : S) × G.works worker done asked worked × RestsIfIdle done idle next worked new
+  ObeysGate worker Hold idle next asked new = GivesWay idle next asked new
+  ObeysGate worker Stop idle next asked new = ⊥
 
   -- it asked the gate once, and goes on
-  pub record GoesOn (worker turn idle next : ℕ) (old new : S) : Type 0 where
+  pub record AsksAndObeys (worker turn idle next : ℕ) (old new : S) : Type 0 where
     pub told : Turn
     pub asked : S
     pub asks : G.asks worker turn told old asked
-    pub takes : Takes worker told idle next asked new
+    pub takes : ObeysGate worker told idle next asked new
 
   -- so many times, from turn 0 on; the last turns, so many, were idle
-  abbrev pub TakesTurns : ℕ → ℕ → ℕ → S → S → Type 0
-  TakesTurns worker zero idle old new = (idle ≡ 0) × (new ≡ old)
-  TakesTurns worker (suc turn) idle old new =
-      (before : ℕ) × (mid : S) × TakesTurns worker turn before old mid × GoesOn worker turn before idle mid new
+  abbrev pub TurnByTurn : ℕ → ℕ → ℕ → S → S → Type 0
+  TurnByTurn worker zero idle old new = (idle ≡ 0) × (new ≡ old)
+  TurnByTurn worker (suc turn) idle old new =
+      (before : ℕ) × (mid : S) × TurnByTurn worker turn before old mid × AsksAndObeys worker turn before idle mid new
 
   -- the turn that ended it: the gate said stop, or mains were lost at a Go; else it has no turn left
   abbrev pub EndsAt : ℕ → ℕ → Ended → S → S → Type 0
@@ -49,5 +49,5 @@ module _ {S : Type 0} (G : Ghosts S) where
     pub turns : ℕ
     pub idle : ℕ
     pub last : S
-    pub takes : TakesTurns worker turns idle old last
+    pub takes : TurnByTurn worker turns idle old last
     pub ends : EndsAt worker turns why last new

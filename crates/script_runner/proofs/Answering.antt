@@ -31,7 +31,7 @@ use Rattle.nv_machine.specs.Survival.{told_mark}
 use Rattle.nv_machine.proofs.EachEvent.{event_adds}
 use Rattle.nv_session.specs.declared.turns.LineSeen.{LineSeen}
 use Rattle.nv_session.specs.declared.turns.LineSeen.TheVariants as seen
-use Rattle.nv_session.specs.Turns.{SeesLine, SameWrites, GoesOnSaving, MakesStep}
+use Rattle.nv_session.specs.Turns.{SeesLine, SameWrites, GoesOnSaving, MakesOneStep}
 use Rattle.nv_session.proofs.SaveSteps.{waits_keep}
 use Rattle.nv_script.specs.declared.line.ScriptLine.TheVariants as line
 use Rattle.nv_script.specs.declared.answer.Answer.TheVariants as answer
@@ -250,23 +250,23 @@ module _ {K : Type 0} (L : Ghosts K) where
   save_truly lines (Err refusal) old new rests goes =
       saves_plain lines line.Save (answer.SaveRefused refusal) (Err refusal) old new (λ setup. GoesOnSaving (Err refusal)) (λ setup es rs m n told. told) tt (λ known. refl) refl refl (λ lines ledger. tt) goes
 
-  pub step_truly : (lines : ℕ) (result : Result StepReply ArmRefusal) (old new : SessionAt L) → (old.life ≡ None → result ≡ Err refusals.Closed) → GoesOnBy L (λ setup. MakesStep result) old new
+  pub step_truly : (lines : ℕ) (result : Result StepReply ArmRefusal) (old new : SessionAt L) → (old.life ≡ None → result ≡ Err refusals.Closed) → GoesOnBy L (λ setup. MakesOneStep result) old new
       → AnswersTruly L lines line.Step (step_told result) old new
   step_truly lines (Ok (step.Saved generation count)) old new rests goes =
-      saves_truly lines line.Step (answer.Saved generation count) (Ok (step.Saved generation count)) old new (λ setup. MakesStep (Ok (step.Saved generation count))) (λ setup es rs m n told. told.goes_on)
+      saves_truly lines line.Step (answer.Saved generation count) (Ok (step.Saved generation count)) old new (λ setup. MakesOneStep (Ok (step.Saved generation count))) (λ setup es rs m n told. told.goes_on)
       tt (λ known. refl) refl (λ none. let e = rests none in absurd cc) (λ lines ledger. tt) (λ m n es rs saving mark. mark (replies.SaveStep (step.Saved generation count)) saving.last.1 saving.last.3) goes
   step_truly lines (Ok (step.Did made)) old new rests goes =
-      saves_plain lines line.Step (answer.Stepped made) (Ok (step.Did made)) old new (λ setup. MakesStep (Ok (step.Did made))) (λ setup es rs m n told. told.goes_on) tt (λ known. refl) refl refl (λ lines ledger. tt) goes
+      saves_plain lines line.Step (answer.Stepped made) (Ok (step.Did made)) old new (λ setup. MakesOneStep (Ok (step.Did made))) (λ setup es rs m n told. told.goes_on) tt (λ known. refl) refl refl (λ lines ledger. tt) goes
   step_truly lines (Ok step.Waiting) old new rests goes =
-      saves_plain lines line.Step answer.Waiting (Ok step.Waiting) old new (λ setup. MakesStep (Ok step.Waiting)) (λ setup es rs m n told. told.goes_on) tt (λ known. refl) refl refl (λ lines ledger. tt) goes
+      saves_plain lines line.Step answer.Waiting (Ok step.Waiting) old new (λ setup. MakesOneStep (Ok step.Waiting)) (λ setup es rs m n told. told.goes_on) tt (λ known. refl) refl refl (λ lines ledger. tt) goes
   step_truly lines (Ok step.NoSave) old new rests goes =
-      saves_plain lines line.Step answer.Waiting (Ok step.NoSave) old new (λ setup. MakesStep (Ok step.NoSave)) (λ setup es rs m n told. told.goes_on) tt (λ known. refl) refl refl (λ lines ledger. tt) goes
+      saves_plain lines line.Step answer.Waiting (Ok step.NoSave) old new (λ setup. MakesOneStep (Ok step.NoSave)) (λ setup es rs m n told. told.goes_on) tt (λ known. refl) refl refl (λ lines ledger. tt) goes
   step_truly lines (Ok step.Turned) old new rests goes =
-      saves_plain lines line.Step answer.StepDisarming (Ok step.Turned) old new (λ setup. MakesStep (Ok step.Turned)) (λ setup es rs m n told. told.goes_on) tt (λ known. refl) refl refl (λ lines ledger. tt) goes
+      saves_plain lines line.Step answer.StepDisarming (Ok step.Turned) old new (λ setup. MakesOneStep (Ok step.Turned)) (λ setup es rs m n told. told.goes_on) tt (λ known. refl) refl refl (λ lines ledger. tt) goes
   step_truly lines (Ok step.Fault) old new rests goes =
-      saves_plain lines line.Step answer.SaveFault (Ok step.Fault) old new (λ setup. MakesStep (Ok step.Fault)) (λ setup es rs m n told. told.goes_on) tt (λ known. refl) refl refl (λ lines ledger. tt) goes
+      saves_plain lines line.Step answer.SaveFault (Ok step.Fault) old new (λ setup. MakesOneStep (Ok step.Fault)) (λ setup es rs m n told. told.goes_on) tt (λ known. refl) refl refl (λ lines ledger. tt) goes
   step_truly lines (Err refusal) old new rests goes =
-      saves_plain lines line.Step (answer.SaveRefused refusal) (Err refusal) old new (λ setup. MakesStep (Err refusal)) (λ setup es rs m n told. told.goes_on) tt (λ known. refl) refl refl (λ lines ledger. tt) goes
+      saves_plain lines line.Step (answer.SaveRefused refusal) (Err refusal) old new (λ setup. MakesOneStep (Err refusal)) (λ setup es rs m n told. told.goes_on) tt (λ known. refl) refl refl (λ lines ledger. tt) goes
 
   lose_plain : (lines : ℕ) (result : Loss) (old new : SessionAt L) → told_by (answer.Lost result) ≤ told_mark (replies.Lose result) → (old.life ≡ None → told_by (answer.Lost result) ≡ 0)
       → GoesOnBy L (λ setup. IsOneEvent events.Lose (replies.Lose result)) old new → AnswersTruly L lines line.Lose (answer.Lost result) old new

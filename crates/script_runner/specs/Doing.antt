@@ -41,7 +41,7 @@ use Rattle.nv_session.specs.ReadTurns.{ReadsLine}
 use Rattle.nv_session.specs.Restoring.{Revives}
 use Rattle.nv_session.specs.SaveTurns.{MakesSave}
 use Rattle.nv_session.specs.Sessions.{line_count_in, moment_in, restored_in, setup_over}
-use Rattle.nv_session.specs.Turns.{MakesStep}
+use Rattle.nv_session.specs.Turns.{MakesOneStep}
 use Rattle.nv_script.specs.declared.line.ScriptLine.{ScriptLine}
 use Rattle.nv_script.specs.declared.line.ScriptLine.TheVariants as line
 use Rattle.nv_script.specs.declared.answer.Answer.{Answer}
@@ -60,7 +60,7 @@ AreEventsOf (line.Work channel most) given setup asked told old new =
 AreEventsOf line.Save given setup asked told old new =
     (result : Result StepReply ArmRefusal) × (given ≡ save_told result) × MakesSave setup.shape.channels result asked told old new
 AreEventsOf line.Step given setup asked told old new =
-    (result : Result StepReply ArmRefusal) × (given ≡ step_told result) × MakesStep result asked told old new
+    (result : Result StepReply ArmRefusal) × (given ≡ step_told result) × MakesOneStep result asked told old new
 AreEventsOf (line.Sense level) given setup asked told old new =
     (reading : ℕ) × (mode : Option Mode) × (given ≡ answer.Level reading mode) × IsOneEvent events.Sense (replies.Sense reading) asked told old new
 AreEventsOf line.Arm given setup asked told old new =

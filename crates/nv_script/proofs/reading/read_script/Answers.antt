@@ -2,7 +2,7 @@ use Rattle.std.proofs.Common.{◌≡◌, ◌+◌, ℕ, List, [], ◌∷◌, ◌+
 use Rattle.std.proofs.lemmas.List.{append-nil, length_push, take_all}
 use Rattle.std.proofs.lemmas.List.Elements.{All-append, All-cons, All-nil}
 use Rattle.nv_script.specs.Line.{NamesChannelOf}
-use Rattle.nv_script.specs.Texts.{AreLinesOf, ComesTo, text_lines, without_last_newline}
+use Rattle.nv_script.specs.Texts.{AreLinesOf, ReadsAs, text_lines, without_last_newline}
 use Rattle.nv_script.proofs.Scripts.{IsTurn, first_bad, first_too_many, line_turn, lines_end, lines_more}
 use Rattle.nv_script.proofs.reading.read_script.Goals as goal
 
@@ -24,8 +24,8 @@ loop-index-preserved-in-Ok c =
     let n : ℕ = length c.loop-index.yielded in
     let here : IsTurn (text_lines c.args.script.now) n c.in-Some.index c.in-Some.line.now =
     line_turn _ _ c.loop-index.yielded _ c.loop-index.yielded_by _ _ c.next.ensures.steps (without_last_newline c.args.script.now) (cc) (cc) c.split.ensures.closure (cc) (λ x b q k. search (rules, tests)) (c.in-Some.index, c.in-Some.line) c.in-Some.is in
-    let comes : ComesTo c.args.geometry.now (get_or (text_lines c.args.script.now) n []) (Some c.in-Ok-Some.line) =
-    subst (λ (text : List ℕ). ComesTo c.args.geometry.now text (Some c.in-Ok-Some.line)) here.line_is (rw c.in-Ok-Some.field-0-is at c.in-Ok-Some.ensures.comes) in
+    let comes : ReadsAs c.args.geometry.now (get_or (text_lines c.args.script.now) n []) (Some c.in-Ok-Some.line) =
+    subst (λ (text : List ℕ). ReadsAs c.args.geometry.now text (Some c.in-Ok-Some.line)) here.line_is (rw c.in-Ok-Some.field-0-is at c.in-Ok-Some.ensures.comes) in
     let more : AreLinesOf c.args.geometry.now (take (n + 1) (text_lines c.args.script.now)) (c.loop-index.lines.items ++ c.in-Ok-Some.line ∷ []) =
     lines_more c.args.geometry.now (text_lines c.args.script.now) n c.loop-index.lines.items (Some c.in-Ok-Some.line) c.loop-index.invariant.1 here.below (omega (arith, here.index_is)) comes in (
       rw c.in-Ok.ensures.items
@@ -38,8 +38,8 @@ loop-index-preserved c =
     let n : ℕ = length c.loop-index.yielded in
     let here : IsTurn (text_lines c.args.script.now) n c.in-Some.index c.in-Some.line.now =
     line_turn _ _ c.loop-index.yielded _ c.loop-index.yielded_by _ _ c.next.ensures.steps (without_last_newline c.args.script.now) (cc) (cc) c.split.ensures.closure (cc) (λ x b q k. search (rules, tests)) (c.in-Some.index, c.in-Some.line) c.in-Some.is in
-    let comes : ComesTo c.args.geometry.now (get_or (text_lines c.args.script.now) n []) None =
-    subst (λ (text : List ℕ). ComesTo c.args.geometry.now text None) here.line_is (rw c.in-Ok-None.field-0-is at c.in-Ok-None.ensures.comes) in
+    let comes : ReadsAs c.args.geometry.now (get_or (text_lines c.args.script.now) n []) None =
+    subst (λ (text : List ℕ). ReadsAs c.args.geometry.now text None) here.line_is (rw c.in-Ok-None.field-0-is at c.in-Ok-None.ensures.comes) in
     let more : AreLinesOf c.args.geometry.now (take (n + 1) (text_lines c.args.script.now)) (c.loop-index.lines.items ++ []) =
     lines_more c.args.geometry.now (text_lines c.args.script.now) n c.loop-index.lines.items None c.loop-index.invariant.1 here.below (omega (arith, here.index_is)) comes in
     (c.loop-index.invariant.0, rw (length_push c.loop-index.yielded (c.in-Some.index, c.in-Some.line)) (rw append-nil at more))

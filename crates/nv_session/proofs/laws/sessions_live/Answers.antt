@@ -1,5 +1,5 @@
 -- The life of a session as one of the headline.
-use Rattle.nv_session.proofs.Common.{IsOneEvent, IsWork, MakesSave, MakesStep, ReadsLine}
+use Rattle.nv_session.proofs.Common.{IsOneEvent, IsWork, MakesSave, MakesOneStep, ReadsLine}
 use Rattle.nv_session.proofs.SessionLives.{begins_life, lives_charged, lives_on, set_rises}
 use Rattle.nv_session.proofs.laws.sessions_live.Goals as goal
 
@@ -16,7 +16,7 @@ pub returns-clause-read : goal.returns-clause-read
 returns-clause-read g c = λ line result found image events replies first. lives_on g.K.ChannelPort found image events replies first (λ setup. ReadsLine setup line result)
 
 pub returns-clause-step : goal.returns-clause-step
-returns-clause-step g c = λ result found image events replies first. lives_on g.K.ChannelPort found image events replies first (λ setup. MakesStep result)
+returns-clause-step g c = λ result found image events replies first. lives_on g.K.ChannelPort found image events replies first (λ setup. MakesOneStep result)
 
 pub returns-clause-save : goal.returns-clause-save
 returns-clause-save g c = λ result found image events replies first. lives_on g.K.ChannelPort found image events replies first (λ setup. MakesSave setup.shape.channels result)

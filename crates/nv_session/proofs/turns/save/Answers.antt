@@ -1,5 +1,5 @@
 use Rattle.std.proofs.Common.{◌≡◌, ◌∙◌, ℕ, suc, ◌+◌, true, false, true≢false, arith, rules, sym, ap, subst, Result}
-use Rattle.nv_session.proofs.Common.{ArmRefusal, Assembly, Comes, MakesStep, Setup, StepReply, assembly, is_underway}
+use Rattle.nv_session.proofs.Common.{ArmRefusal, Assembly, Comes, MakesOneStep, Setup, StepReply, assembly, is_underway}
 use Rattle.slot_store.specs.Slots.{HasSize}
 use Rattle.module_core.proofs.Applying.{same_lines}
 use Rattle.nv_session.proofs.Turning.{HasMade, made_all, made_none, made_one, then_steps, then_works}
@@ -13,7 +13,7 @@ loop-turn-init g c =
     record {
       size = c.step.ensures.size;
       setup = c.step.ensures.setup;
-      comes = made_one L c.args.channels c.in-Ok.reply old new (subst (λ (result : Result StepReply ArmRefusal). Comes L (MakesStep result) old new) c.in-Ok.is c.step.ensures.comes);
+      comes = made_one L c.args.channels c.in-Ok.reply old new (subst (λ (result : Result StepReply ArmRefusal). Comes L (MakesOneStep result) old new) c.in-Ok.is c.step.ensures.comes);
     }
 
 pub work_where_waiting-requires : goal.work_where_waiting-requires
@@ -49,7 +49,7 @@ returns-in-Err-clause-comes g c =
     let L = g.K.ChannelPort in let S = g.D.SaveDevice in let E = g.E.Energy in
     let old : Assembly L = assembly c.args.running.now (S.state c.args.device.now) (E.gauge c.args.energy.now) in
     let new : Assembly L = assembly c.step.new.running (S.state c.step.new.device) (E.gauge c.step.new.energy) in
-    made_none L c.args.channels c.in-Err.refusal old new (subst (λ (result : Result StepReply ArmRefusal). Comes L (MakesStep result) old new) c.in-Err.is c.step.ensures.comes)
+    made_none L c.args.channels c.in-Err.refusal old new (subst (λ (result : Result StepReply ArmRefusal). Comes L (MakesOneStep result) old new) c.in-Err.is c.step.ensures.comes)
 
 pub returns-then-not-is_underway-clause-comes : goal.returns-then-not-is_underway-clause-comes
 returns-then-not-is_underway-clause-comes g c =

@@ -13,7 +13,7 @@ use Rattle.nv_machine.specs.declared.events.Event.TheVariants as events
 use Rattle.nv_machine.specs.declared.events.Reply.TheVariants as replies
 use Rattle.nv_session.specs.ReadTurns.{ReadsLine}
 use Rattle.nv_session.specs.SaveTurns.{MakesSave}
-use Rattle.nv_session.specs.Turns.{GoesOnSaving, MakesStep, SeesLine}
+use Rattle.nv_session.specs.Turns.{GoesOnSaving, MakesOneStep, SeesLine}
 use Rattle.nv_session.proofs.Going.{goes_retold}
 use Rattle.nv_script.specs.declared.line.ScriptLine.TheVariants as line
 use Rattle.nv_script.specs.declared.answer.Answer.TheVariants as answer
@@ -162,7 +162,7 @@ returns-in-Save-clause-does g c =
 pub returns-in-Step-clause-does : goal.returns-in-Step-clause-does
 returns-in-Step-clause-does g c =
     let L = g.K.ChannelPort in let it = c.args.session.now in let made = c.step.new.self in let ensures = c.step.ensures in
-    let Told : Setup → Tale = λ setup. MakesStep c.step.result in
+    let Told : Setup → Tale = λ setup. MakesOneStep c.step.result in
     does_as L {said = step_told c.step.result} it made c.in-Step.is c.step_answer.ensures
     (record {
       comes = goes_retold L Told (AreEventsOf line.Step (step_told c.step.result)) (moment_in it) (moment_in made)
