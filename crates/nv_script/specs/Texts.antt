@@ -1,5 +1,5 @@
 -- What a text says as a script.
-use Rattle.std.specs.Prelude.{◌≡◌, ◌⊎◌, ℕ, ◌+◌, ◌-◌, ◌<◌, ◌≤◌, ◌==◌, ◌||◌, Bool, true, false, List, [], length, take, slice_index, get_or, filter_map, if◌then◌else◌, Option, Some, None, IsUtf8}
+use Rattle.std.specs.Prelude.{◌≡◌, ◌⊎◌, ℕ, ◌+◌, ◌-◌, ◌<◌, ◌≤◌, ◌==◌, ◌||◌, Bool, true, false, List, [], ◌∷◌, length, take, slice_index, get_or, filter_map, if◌then◌else◌, Option, Some, None, IsUtf8}
 use Rattle.std.specs.List.{AllZip, slice_split}
 use Rattle.ddr4_timing.specs.declared.timing.Geometry.{Geometry}
 use Rattle.nv_profile.specs.Nothing.{HoldsOfNone}
@@ -21,13 +21,21 @@ pub record IsLineText (text : List ℕ) : Type 0 where
   pub utf8 : IsUtf8 text
 
 -- whether it asks for nothing: it begins with `#`, or has no word
+abbrev pub has_no_word : List ℕ → Bool
+has_no_word text = length (words_in text) == 0
+
 abbrev pub is_skipped : List ℕ → Bool
-is_skipped text = (slice_index text 0 == 35) || (length (words_in text) == 0)
+is_skipped text = (slice_index text 0 == 35) || has_no_word text
 
 -- what it comes to: nothing where it is skipped, and else the line that its words say
 abbrev pub ReadsAs : Geometry → List ℕ → Option ScriptLine → Type 0
 ReadsAs geometry text None = IsLineText text × (is_skipped text ≡ true)
 ReadsAs geometry text (Some line) = IsLineText text × (is_skipped text ≡ false) × SaysLine geometry (words_in text) line
+
+-- the numbers of those that ask for something, where the first has this one
+abbrev pub numbers_from : ℕ → List (List ℕ) → List ℕ
+numbers_from number [] = []
+numbers_from number (text ∷ texts) = if is_skipped text then numbers_from (number + 1) texts else number ∷ numbers_from (number + 1) texts
 
 -- these lines of a text, 4,096 at most, come to these lines of a script
 pub record AreLinesOf (geometry : Geometry) (texts : List (List ℕ)) (lines : List ScriptLine) : Type 0 where

@@ -6,9 +6,11 @@
 
 mod answer;
 mod line;
+mod numbering;
 mod reading;
 mod word;
 
 pub use answer::Answer;
 pub use line::ScriptLine;
+pub use numbering::line_numbers;
 pub use reading::{SCRIPT_BYTES, ScriptFault, read_script};

@@ -105,8 +105,8 @@ pub fn read_script(
     Ok(lines)
 }
 
-// The text but for a newline at its end.
-fn without_last_newline(script: &[u8]) -> &[u8]
+/// The text but for a newline at its end.
+pub(crate) fn without_last_newline(script: &[u8]) -> &[u8]
     ensures { result.now ≡ Rattle.nv_script.specs.Texts.without_last_newline script.now }
 {
     match script {
