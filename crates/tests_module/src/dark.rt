@@ -12,13 +12,15 @@ use ddr4_timing::place::BankAddress;
 use energy_budget::Meter;
 use interleave_map::{Interleaving, ReadyMap};
 use module_core::Module;
-use save_device::MemoryDevice;
+use save_device::{MemoryDevice, SaveDevice};
 use slot_store::Verdict;
 use std::alloc::Global;
 use std::process::Abort;
 
 /// What is enough to arm, and to accept a write.
 const ENOUGH: u64 = 9_000;
+
+const SECOND_SLOT: usize = 12_288;
 
 /// What a loss of mains has left of a channel.
 #[derive(Clone, Copy, Debug, PartialEq, Eq)]
@@ -56,15 +58,15 @@ fn left_on<R: Abort>(rt: &R, running: &Module<Ddr4Port<'_, ReadyMap>>, number: u
 }
 
 // An armed module loses mains with so many units, and goes dark. One write waits in channel 0, whose row is open, and behind it
-// those of further lines. The two channels are left so.
-fn goes_dark<R: Abort>(
+// those of further lines. The two channels are left so. The device, which restores to the image of before.
+fn device_in_the_dark<R: Abort>(
     rt: &R,
     alloc: Global,
     further: &[u64],
     units: u64,
     first: Left,
     second: Left,
-) {
+) -> MemoryDevice {
     let profile = tiny(rt, alloc);
     let map = ReadyMap {
         interleaving: Interleaving::Lines,
@@ -93,6 +95,20 @@ fn goes_dark<R: Abort>(
         last: 0,
     };
     restores_to(rt, alloc, &mut load.device, image);
+    let Load { device, .. } = load;
+    device
+}
+
+// The same, where what the device holds isn't asked for.
+fn goes_dark<R: Abort>(
+    rt: &R,
+    alloc: Global,
+    further: &[u64],
+    units: u64,
+    first: Left,
+    second: Left,
+) {
+    let _device = device_in_the_dark(rt, alloc, further, units, first, second);
 }
 
 const OPEN: Left = Left {
@@ -179,4 +195,29 @@ fn dark_behind_the_first_channel(rt: HostRuntime) {
 #[test]
 fn dark_behind_both_channels(rt: HostRuntime) {
     goes_dark(&rt, rt.alloc(), &[], 1_391, DRAINED, ASLEEP);
+}
+
+// Fails where the device has another byte at a place.
+fn has_byte<R: Abort>(rt: &R, device: &mut MemoryDevice, at: usize, byte: u8) {
+    let mut found = [0];
+    assert!(*rt; at < device.len());
+    device.read(at, &mut found).expect(rt, "a byte");
+    same(rt, (at, found), (at, [byte]));
+}
+
+// Behind both channels the save closes its gate, for 50 units, and syncs, for 100. Then it writes two pages, 1,000 each, and the
+// header, 50. What isn't paid for isn't written.
+#[test]
+fn dark_in_the_save(rt: HostRuntime) {
+    for (units, line, text) in [
+        (1_541, 0, 0),
+        (2_540, 0, 0),
+        (2_541, 0x44, 0),
+        (3_590, 0x44, 0),
+        (3_591, 0x44, 0x4e),
+    ] {
+        let mut device = device_in_the_dark(&rt, rt.alloc(), &[], units, DRAINED, ASLEEP);
+        has_byte(&rt, &mut device, SECOND_SLOT + 4_096, line);
+        has_byte(&rt, &mut device, SECOND_SLOT + 8, text);
+    }
 }
