@@ -5,10 +5,12 @@
 //!
 //! Lines are written and read in a pseudo-random order. A write that finds its channel full works the channel until it isn't, and
 //! a read that has to wait works its channel until it has its bytes. A save writes a whole image to a device in memory, and a
-//! restore begins a memory with it. An armed module writes as much again, and loses the mains with full queues.
+//! restore begins a memory with it; beside them stands what the digest of as many lines takes alone. An armed module writes as
+//! much again, and loses the mains with full queues.
 #![tactic(auto)]
 
 mod armed;
+mod digests;
 mod load;
 mod measured;
 mod opening;
@@ -17,6 +19,7 @@ mod plain;
 mod rounds;
 
 use crate::armed::{Armed, armed_life};
+use crate::digests::Digests;
 use crate::rounds::{Amount, Nanos, Tally, module_rounds, plain_rounds};
 use ddr4_timing::profiles::{SMALL, TINY, WIDEST};
 use ddr4_timing::timing::{Checked, Geometry};
@@ -108,6 +111,23 @@ fn show_armed(rt: &HostRuntime, trial: &Trial<'_>, armed: &Armed) -> anyhow::Res
     Ok(())
 }
 
+// How fast lines are digested alone, where that is wanted.
+fn show_digests(
+    rt: &HostRuntime,
+    trial: &Trial<'_>,
+    digests: Digests,
+    lines: u64,
+) -> anyhow::Result<()> {
+    if trial.timed {
+        let digested = rate(trial.amount.rounds.saturating_mul(lines), digests.nanos);
+        println!(rt;
+            "    {digested} lines digested a second, first byte {:02x}",
+            digests.first
+        )?;
+    }
+    Ok(())
+}
+
 // A module and a plain array of one geometry.
 fn compare(rt: &HostRuntime, trial: &Trial<'_>) -> anyhow::Result<()> {
     let checked = TINY.check(&trial.geometry)?;
@@ -115,8 +135,9 @@ fn compare(rt: &HostRuntime, trial: &Trial<'_>) -> anyhow::Result<()> {
     let (module, armed) = by_lines(rt, checked, trial.amount)?;
     show(rt, trial, "module", &module, lines)?;
     show_armed(rt, trial, &armed)?;
-    let plain = plain_rounds(rt, &checked, trial.amount)?;
-    show(rt, trial, "plain", &plain, lines)
+    let (plain, digests) = plain_rounds(rt, &checked, trial.amount)?;
+    show(rt, trial, "plain", &plain, lines)?;
+    show_digests(rt, trial, digests, lines)
 }
 
 fn trial_of(name: &str, geometry: Geometry, rounds: u64, each: u64, timed: bool) -> Trial<'_> {

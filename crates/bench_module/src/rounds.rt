@@ -1,4 +1,5 @@
 // Rounds of a restore, writes, reads and a save, each of them timed.
+use crate::digests::{Digests, digest_rounds};
 use crate::measured::Measured;
 use crate::opening::{capacity_of, open};
 use crate::picks::{Pick, Picks};
@@ -157,16 +158,17 @@ fn plain_round(
     Ok(plain.into_device())
 }
 
-/// The rounds of a plain array.
+/// The rounds of a plain array, and behind them as many digests of its last image's lines.
 pub(crate) fn plain_rounds(
     rt: &HostRuntime,
     checked: &Checked,
     amount: Amount,
-) -> anyhow::Result<Tally> {
+) -> anyhow::Result<(Tally, Digests)> {
     let mut tally = Tally::new(checked);
     let mut device = formatted(rt.alloc(), checked)?;
     for _ in 0..amount.rounds {
         device = plain_round(rt, checked, device, amount.each, &mut tally)?;
     }
-    Ok(tally)
+    let plain = Plain::open(rt.alloc(), device, capacity_of(checked)?)?;
+    Ok((tally, digest_rounds(rt, plain.lines(), amount.rounds)?))
 }
