@@ -1,5 +1,4 @@
-//! How long the parts of a channel take: its banks, the maps from lines to places, and a drain of 64 writes, of one channel and of
-//! eight, in turn and at once.
+//! How long the parts of a channel take: its banks, the maps from lines to places, and a drain of 64 writes.
 //!
 //!     bench_timing                what each part answers
 //!     bench_timing time COUNT     and nanoseconds, a drain's the mean of so many
@@ -9,7 +8,6 @@ mod banks;
 mod drains;
 mod load;
 mod maps;
-mod side_by_side;
 
 use std::env;
 
@@ -22,6 +20,5 @@ fn main(rt: HostRuntime) -> anyhow::Result<()> {
     };
     banks::show(&rt, count.is_some())?;
     maps::show(&rt, count.is_some())?;
-    drains::show(&rt, count)?;
-    side_by_side::show(&rt, count)
+    drains::show(&rt, count)
 }

@@ -1,5 +1,6 @@
 //! The command line: its words, the files that they name, the faults with their exit status, scripts over closures of both maps,
-//! stores shown as lines, traces that are checked, profiles that are explained, what a crash may leave of a script, and schedules that are drawn.
+//! stores shown as lines, traces that are checked, profiles that are explained, what a crash may leave of a script, and schedules
+//! that are drawn.
 #![tactic(auto)]
 
 mod command;

@@ -1,5 +1,5 @@
 -- Clocks behind which no shape ends.
-use Rattle.std.proofs.Common.{◌≡◌, ℕ, ◌+◌, ◌<◌, ◌≤◌, List, length, take, get_or, arith}
+use Rattle.std.proofs.Common.{ℕ, ◌+◌, ◌<◌, ◌≤◌, List, length, take, get_or, arith}
 use Rattle.std.proofs.lemmas.List.Elements.{All-more}
 use Rattle.schedule_drawing.specs.declared.shapes.Shape.{Shape}
 use Rattle.schedule_drawing.specs.Drawing.{shape_to}

@@ -1,5 +1,5 @@
 -- The marks that are drawn are those of the commands.
-use Rattle.std.proofs.Common.{◌≡◌, ℕ, Bool, true, false, List, [], ◌∷◌, ◌++◌, Option, Some, None, map, refl, ap, ◌∙◌}
+use Rattle.std.proofs.Common.{◌≡◌, ℕ, List, [], ◌∷◌, ◌++◌, Option, Some, None, map, refl, ap, ◌∙◌}
 use Rattle.std.specs.Prelude.{filter, find}
 use Rattle.std.specs.Option.{option_to_list}
 use Rattle.ddr4_timing.specs.declared.command.Command.{Command}
@@ -9,7 +9,7 @@ use Rattle.command_trace.specs.declared.entry.Entry.{Entry}
 use Rattle.schedule_drawing.specs.declared.lanes.Lane.{Lane}
 use Rattle.schedule_drawing.specs.declared.shapes.Shape.{Shape}
 use Rattle.schedule_drawing.specs.Lanes.{bank_lane}
-use Rattle.schedule_drawing.specs.Drawing.{closes, drawn, is_mark, mark_of, row_bar, span_for, span_of}
+use Rattle.schedule_drawing.specs.Drawing.{closes, drawn, is_mark, mark_of, row_bar, span_for}
 
 -- a bar is no mark
 bar-unmarked : (lane : Lane) (row from end : ℕ) (close : Option Entry) (rest : List Shape)

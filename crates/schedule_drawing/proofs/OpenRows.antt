@@ -1,6 +1,6 @@
 -- Rows stay open until a command closes their bank.
-use Rattle.std.proofs.Common.{◌≡◌, ℕ, Bool, true, false, cond, ◌&&◌, List, [], ◌∷◌, ◌++◌, Option, Some, None, IsTrue, map, refl, sym, ap, subst, eqb, ◌∙◌}
-use Rattle.std.specs.Prelude.{◌==◌, filter, find, fold}
+use Rattle.std.proofs.Common.{◌≡◌, ℕ, Bool, true, false, cond, ◌&&◌, List, [], ◌∷◌, ◌++◌, Option, Some, None, map, refl, sym, ap, subst, eqb, ◌∙◌}
+use Rattle.std.specs.Prelude.{◌==◌, find, fold}
 use Rattle.std.proofs.lemmas.List.{map-append}
 use Rattle.std.proofs.lemmas.List.Elements.{filter-append}
 use Rattle.std.proofs.lemmas.List.Sums.{fold-append}
@@ -14,15 +14,16 @@ use Rattle.ddr4_timing.specs.declared.command.Stamped.{Stamped}
 use Rattle.ddr4_timing.specs.declared.place.BankAddress.{BankAddress}
 use Rattle.command_trace.specs.declared.entry.Entry.{Entry}
 use Rattle.schedule_drawing.specs.Drawing.{closes, closes_bank}
-use Rattle.schedule_drawing.specs.OpenRows.{IsShutBy, StaysOpen, commands_to}
+use Rattle.schedule_drawing.specs.OpenRows.{IsShutBy, StaysOpen, commands_to, entries_to}
 
 eqb_self : (n : ℕ) → eqb n n ≡ true
 eqb_self n = eq-eqb n n refl
 
-commands_to-append : (channel : ℕ) (xs ys : List Entry) → commands_to channel (xs ++ ys) ≡ commands_to channel xs ++ commands_to channel ys
+commands_to-append : (channel : ℕ) (xs ys : List Entry)
+    → commands_to channel (xs ++ ys) ≡ commands_to channel xs ++ commands_to channel ys
 commands_to-append channel xs ys =
     ap (λ (l : List Entry). map (λ (entry : Entry). entry.command) l) (filter-append (λ (entry : Entry). entry.channel == channel) xs ys)
-    ∙ map-append (λ (entry : Entry). entry.command) (filter (λ entry. entry.channel == channel) xs) (filter (λ entry. entry.channel == channel) ys)
+    ∙ map-append (λ (entry : Entry). entry.command) (entries_to channel xs) (entries_to channel ys)
 
 -- a command that doesn't close a bank leaves its row open
 unclosed : (bank : BankAddress) (row : ℕ) (x : Command) → closes_bank bank x ≡ false → row_after bank (Some row) x ≡ Some row
@@ -35,7 +36,8 @@ unclosed bank row (Ref rank) other = refl
 unclosed bank row (Sre rank) other = refl
 
 -- a precharge that closes a bank leaves no row open there
-closed : (bank : BankAddress) (row : Option ℕ) (x : Command) → closes_bank bank x ≡ true → is_precharge x ≡ true → row_after bank row x ≡ None
+closed : (bank : BankAddress) (row : Option ℕ) (x : Command)
+    → closes_bank bank x ≡ true → is_precharge x ≡ true → row_after bank row x ≡ None
 closed bank row (Act at new) shut precharge = absurd (cc)
 closed bank row (Rd at column) shut precharge = absurd (cc)
 closed bank row (Wr at column) shut precharge = absurd (cc)
@@ -54,11 +56,12 @@ stays-step : (channel : ℕ) (bank : BankAddress) (row : ℕ) (x : Entry) (rest 
     → cond (here && shuts) (Some x) (find (closes channel bank) rest) ≡ None
     → (find (closes channel bank) rest ≡ None → row_behind bank (Some row) (commands_to channel rest) ≡ Some row)
     → row_behind bank (Some row)
-    (map (λ entry. entry.command) (cond here (x ∷ filter (λ entry. entry.channel == channel) rest) (filter (λ entry. entry.channel == channel) rest)))
+    (map (λ entry. entry.command) (cond here (x ∷ entries_to channel rest) (entries_to channel rest)))
     ≡ Some row
 unfolding row_behind
 stays-step channel bank row x rest true true kept none more = absurd (cc)
-stays-step channel bank row x rest true false kept none more = rw (kept refl) (more none)
+stays-step channel bank row x rest true false kept none more =
+    ap (λ (r : Option ℕ). row_behind bank r (commands_to channel rest)) (kept refl) ∙ more none
 stays-step channel bank row x rest false true kept none more = more none
 stays-step channel bank row x rest false false kept none more = more none
 
@@ -78,8 +81,8 @@ is_bank-self : (bank : BankAddress) → is_bank bank bank ≡ true
 is_bank-self bank = simp eqb_self refl
 
 -- what an ACT of the channel leaves
-act-opens : (channel : ℕ) (bank : BankAddress) (row : ℕ) (before : Option ℕ) (x : Command) → x ≡ Act bank row → row_after bank before x ≡ Some row
-act-opens channel bank row before x is = subst (λ (y : Command). row_after bank before y ≡ Some row) (sym is) (rw is_bank-self refl)
+act-opens : (bank : BankAddress) (row : ℕ) (before : Option ℕ) (x : Command) → x ≡ Act bank row → row_after bank before x ≡ Some row
+act-opens bank row before x is = subst (λ (y : Command). row_after bank before y ≡ Some row) (sym is) (rw is_bank-self refl)
 
 act-first : (channel : ℕ) (bank : BankAddress) (row : ℕ) (before : Option ℕ) (act : Entry) (between : List Entry)
     → act.channel ≡ channel → act.command.cmd ≡ Act bank row
@@ -87,8 +90,8 @@ act-first : (channel : ℕ) (bank : BankAddress) (row : ℕ) (before : Option �
 unfolding row_behind
 act-first channel bank row before act between here is =
     let own : (act.channel == channel) ≡ true = rw here (simp eqb_self refl) in
-    let opened : row_after bank before act.command.cmd ≡ Some row = act-opens channel bank row before act.command.cmd is in
-    rw (own, opened) refl
+    let opened : row_after bank before act.command.cmd ≡ Some row = act-opens bank row before act.command.cmd is in
+    rw own (ap (λ (r : Option ℕ). row_behind bank r (commands_to channel between)) opened)
 
 pub stays_open : (channel : ℕ) (bank : BankAddress) (row : ℕ) (before : List Entry) (act : Entry) (between : List Entry)
     → StaysOpen channel bank row before act between

@@ -1,5 +1,5 @@
 -- Lanes that show shapes.
-use Rattle.std.proofs.Common.{◌≡◌, ℕ, ◌+◌, ◌<◌, List, length, take, get_or, All, Contains}
+use Rattle.std.proofs.Common.{ℕ, ◌+◌, ◌<◌, List, length, take, get_or, Contains}
 use Rattle.std.proofs.lemmas.List.Elements.{All-more}
 use Rattle.std.proofs.lemmas.List.Sorted.{Contains-permutation}
 use Rattle.std.specs.List.Sorted.{IsPermutation}
@@ -13,7 +13,8 @@ pub shown-kept : (lanes more : List Lane) (shapes : List Shape) → ((other : La
 shown-kept lanes more shapes kept shown = λ k d below. kept (shape_lane (get_or shapes k d)) (shown k d below)
 
 -- lanes in another order show the same shapes
-pub shown-permuted : (lanes others : List Lane) (shapes : List Shape) → IsPermutation lanes others → AreShown lanes shapes → AreShown others shapes
+pub shown-permuted : (lanes others : List Lane) (shapes : List Shape)
+    → IsPermutation lanes others → AreShown lanes shapes → AreShown others shapes
 shown-permuted lanes others shapes permuted =
     shown-kept lanes others shapes (λ other held. Contains-permutation lanes others other permuted held)
 

@@ -8,9 +8,13 @@ use Rattle.ddr4_timing.specs.declared.place.BankAddress.{BankAddress}
 use Rattle.command_trace.specs.declared.entry.Entry.{Entry}
 use Rattle.schedule_drawing.specs.Drawing.{closes}
 
+-- what goes to a channel
+abbrev pub entries_to : ℕ → List Entry → List Entry
+entries_to channel entries = filter (λ entry. entry.channel == channel) entries
+
 -- the commands of a channel
 abbrev pub commands_to : ℕ → List Entry → List Stamped
-commands_to channel entries = map (λ entry. entry.command) (filter (λ entry. entry.channel == channel) entries)
+commands_to channel entries = map (λ entry. entry.command) (entries_to channel entries)
 
 -- from an ACT on, as long as no command closes its bank, its row is the one that is open there
 abbrev pub StaysOpen : ℕ → BankAddress → ℕ → List Entry → Entry → List Entry → Type 0

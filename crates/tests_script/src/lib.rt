@@ -7,6 +7,8 @@ mod check;
 #[cfg(test)]
 mod devices;
 #[cfg(test)]
+mod drawings;
+#[cfg(test)]
 mod program;
 #[cfg(test)]
 mod running;

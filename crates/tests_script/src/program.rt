@@ -34,7 +34,7 @@ fn shown<R: Abort + AllocGlobal>(rt: &R, fault: &Fault<'_>) -> String {
 
 // Fails where the words behind the program's name don't end with this status and line, and this text written. The words
 // begin the names of a test's own files by a %, which stands for their place.
-fn ends<R>(rt: &R, place: &str, words: &[&str], code: ExitCode, line: &str, text: &str)
+pub(crate) fn ends<R>(rt: &R, place: &str, words: &[&str], code: ExitCode, line: &str, text: &str)
 where
     R: Abort + Files + Input + Print + Eprint + Clock + AllocGlobal,
 {
@@ -45,25 +45,25 @@ where
 }
 
 // How the names of a test's own files begin.
-fn place<R: Abort + Env + AllocGlobal>(rt: &R, process: u32) -> String {
+pub(crate) fn place<R: Abort + Env + AllocGlobal>(rt: &R, process: u32) -> String {
     let folder = env::temp_dir(rt).expect(rt, "a folder");
     let place = format!(in rt.alloc(); "{}/nvctl-{process}-", folder.display());
     place.expect(rt, "memory")
 }
 
-fn named<R: Abort + AllocGlobal>(rt: &R, place: &str, word: &str) -> String {
+pub(crate) fn named<R: Abort + AllocGlobal>(rt: &R, place: &str, word: &str) -> String {
     word.replace(rt.alloc(), "%", place).expect(rt, "memory")
 }
 
-fn make<R: Abort + Files + AllocGlobal>(rt: &R, place: &str, name: &str, bytes: &[u8]) {
+pub(crate) fn make<R: Abort + Files + AllocGlobal>(rt: &R, place: &str, name: &str, bytes: &[u8]) {
     fs::write(rt, named(rt, place, name).as_str(), bytes).expect(rt, "a file");
 }
 
-fn remove<R: Abort + Files + AllocGlobal>(rt: &R, place: &str, name: &str) {
+pub(crate) fn remove<R: Abort + Files + AllocGlobal>(rt: &R, place: &str, name: &str) {
     fs::remove_file(rt, named(rt, place, name).as_str()).expect(rt, "a file");
 }
 
-const NO_USAGE: [&[&str]; 17] = [
+const NO_USAGE: [&[&str]; 20] = [
     &[],
     &["run"],
     &["run", "tiny"],
@@ -77,6 +77,9 @@ const NO_USAGE: [&[&str]; 17] = [
     &["crash", "tiny"],
     &["crash", "tiny", "-", "-"],
     &["crash", "tiny", "-", "--line", "first"],
+    &["draw", "tiny", "-"],
+    &["draw", "tiny", "--svg", "picture"],
+    &["draw", "tiny", "-", "--svg", "picture", "--vcd", "picture"],
     &["profile"],
     &["profile", "tiny", "tiny"],
     &["walk"],

@@ -1,6 +1,8 @@
-//! Tests of the tools: what is told of traces, in both forms, and what calls succeed.
+//! Tests of the tools: what is told and drawn of traces, in both forms, and what calls succeed.
 #![tactic(auto)]
 
+#[cfg(test)]
+mod drawings;
 #[cfg(test)]
 mod forms;
 #[cfg(test)]

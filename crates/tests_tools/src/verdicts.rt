@@ -15,7 +15,7 @@ const TWO_RANKS: Geometry = Geometry {
     columns: 4,
 };
 
-fn checked() -> Result<Checked, ProfileError> {
+pub(crate) fn checked() -> Result<Checked, ProfileError> {
     TINY.check(&TWO_RANKS)
 }
 

@@ -1,6 +1,8 @@
 // Channels that are drained at once, beside the same ones drained in turn.
 ghost use Rattle.std.specs.Prelude.{IsTrue};
-ghost use Rattle.drain_core.specs.AtOnce.{CanAllDrain, CanDrainAt};
+ghost use Rattle.energy_budget.specs.Costs.{AreReckonedFor};
+ghost use Rattle.drain_core.specs.AtOnce.{CanAllDrain};
+ghost use Rattle.drain_core.specs.Standing.{CanDrain};
 
 use crate::tests::check::same;
 use crate::tests::fixture::Fixture;
@@ -36,22 +38,39 @@ fn channels<R: Abort + AllocGlobal>(rt: &R, count: u64) -> Vec<Channel> {
     channels
 }
 
-fn can_drain(channel: &Channel, costs: &Costs) -> bool
-    ensures { IsTrue result → CanDrainAt costs.now channel.now }
+// The costs are reckoned for the channel.
+fn is_reckoned(channel: &Channel, costs: &Costs) -> bool
+    ensures { IsTrue result → AreReckonedFor channel.now.checked costs.now }
 {
+    if !TINY_COSTS.is_in_limits() {
+        return false;
+    }
+    let own = Costs::of(channel.checked(), &TINY_COSTS);
+    if own.channels != costs.channels || own.ranks != costs.ranks || own.pages != costs.pages {
+        return false;
+    }
+    if own.close != costs.close || own.entry != costs.entry {
+        return false;
+    }
+    true
+}
+
+fn can_drain(channel: &Channel) -> bool
+    ensures { IsTrue result → CanDrain channel.now.checked channel.now.commands }
+{
+    if !matches!(channel.phase(), Phase::Running) || channel.clock() >= 1 << 62 {
+        return false;
+    }
     channel.always();
     running_channel_may_drain();
-    TINY_COSTS.is_in_limits()
-        && Costs::of(channel.checked(), &TINY_COSTS) == *costs
-        && matches!(channel.phase(), Phase::Running)
-        && channel.clock() < 1 << 62
+    true
 }
 
 fn can_all_drain(channels: &[Channel], costs: &Costs) -> bool
     ensures { IsTrue result → CanAllDrain costs.now channels.now }
 {
     for channel in channels {
-        if !can_drain(channel, costs) {
+        if !is_reckoned(channel, costs) || !can_drain(channel) {
             return false;
         }
     }

@@ -1,6 +1,5 @@
 use Rattle.std.proofs.Common.{◌≡◌, ◌≤◌, take, arith}
 use Rattle.std.proofs.lemmas.List.{take_all}
-use Rattle.schedule_drawing.specs.Lives.{EndBy}
 use Rattle.schedule_drawing.proofs.Ends.{ended-later, ended-more}
 use Rattle.schedule_drawing.proofs.schedule.end_of.Goals as goal
 

@@ -1,6 +1,5 @@
-use Rattle.std.proofs.Common.{◌≡◌, ◌++◌, length, map}
-use Rattle.std.specs.Prelude.{filter}
-use Rattle.schedule_drawing.specs.Drawing.{drawn, is_mark, mark_of}
+use Rattle.std.proofs.Common.{◌≡◌, ◌++◌, length}
+use Rattle.schedule_drawing.specs.Drawing.{drawn}
 use Rattle.schedule_drawing.proofs.shapes.shapes_of.Given as goal
 
 abbrev pub invariant-loop-left : goal.invariant-loop-left

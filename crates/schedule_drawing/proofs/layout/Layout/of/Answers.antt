@@ -1,4 +1,4 @@
-use Rattle.std.proofs.Common.{◌≡◌, take, arith, length, ◌≤◌}
+use Rattle.std.proofs.Common.{◌≡◌, take, arith}
 use Rattle.std.proofs.lemmas.List.{take_all}
 use Rattle.schedule_drawing.specs.Drawing.{AreShown}
 use Rattle.schedule_drawing.proofs.Shown.{shown-kept, shown-more, shown-permuted}
