@@ -5,3 +5,4 @@ pub mod Story
 pub mod Keeping
 pub mod Doing
 pub mod Runs
+pub mod Scripts

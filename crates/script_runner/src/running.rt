@@ -1,9 +1,11 @@
 // Scripts over two maps of a profile.
-ghost use Rattle.std.specs.Prelude.{◌≡◌, IfErr, IfOk, OnOk, All};
+ghost use Rattle.std.specs.Prelude.{◌≡◌, List, [], IfErr, IfOk, OnOk, All};
 ghost use Rattle.ddr4_timing.specs.Limits.{lines_of};
+ghost use Rattle.nv_script.specs.declared.answer.Answer.{Answer};
 ghost use Rattle.nv_script.specs.Line.{NamesChannelOf};
 ghost use Rattle.script_runner.specs.Wiring.{IsMapOf};
 ghost use Rattle.script_runner.specs.Runs.{IsRun};
+ghost use Rattle.script_runner.specs.Scripts.{EndsScript, EndsScriptBy, IsBadText, RunsScript};
 ghost use Rattle.script_runner.specs.Story.{AreAllAnswered, AreCutShort, EndsBy};
 
 use crate::report::{Printer, Report};
@@ -77,20 +79,49 @@ pub fn do_lines<'m, M: LineMap, R: Report>(
     Ok(session.into_device())
 }
 
-/// Reads a script, runs it over two lawful maps of the profile's geometry as `run_lines` does, and writes each answer as a line.
-/// Answers the device as the script left it. A script with a bad line writes nothing.
-pub fn run_script<M: LineMap, W: Write>(
+/// Reads a script and runs its lines as `do_lines` does, and reports their answers. `Line` names the first line that is none, and
+/// comes before any line is run.
+pub fn answer_script<'m, M: LineMap, R: Report>(
     alloc: Global,
     profile: &Profile,
     script: &[u8],
-    lines_map: &M,
-    xor_map: &M,
+    lines_map: &'m M,
+    xor_map: &'m M,
+    report: &mut R,
+) -> Result<MemoryDevice, ScriptFault>
+    requires lines_map { IsMapOf M.LineMap profile.now.checked.geometry lines_map.now }
+    requires xor_map { IsMapOf M.LineMap profile.now.checked.geometry xor_map.now }
+    ensures runs { IfOk result (λ device. RunsScript ⟦<Ddr4Port<'m, M> as ChannelPort>⟧
+        ⟦<Wiring<'m, M> as Wires<Ddr4Port<'m, M>>>⟧ profile.now
+        script.now (R.answers report.old) (R.answers report.new) device) }
+    ensures ends { IfErr result (λ fault. EndsScript profile.now.checked.geometry script.now fault
+        (R.answers report.old) (R.answers report.new)) }
+    ensures unrefused { OnOk result (R.refusals report.new ≡ R.refusals report.old) }
+    ensures fault { IfErr result (λ fault. EndsScriptBy fault
+        (R.refusals report.old) (R.refusals report.new)) }
+{
+    let lines = read_script(alloc, script, &profile.checked.geometry)?;
+    do_lines(alloc, profile, &lines, lines_map, xor_map, report)
+}
+
+/// Reads a script, runs it over two lawful maps of the profile's geometry as `answer_script` does, and writes each answer as a
+/// line. Answers the device as the script left it. A script with a bad line writes nothing.
+pub fn run_script<'m, M: LineMap, W: Write>(
+    alloc: Global,
+    profile: &Profile,
+    script: &[u8],
+    lines_map: &'m M,
+    xor_map: &'m M,
     writer: &mut W,
 ) -> Result<MemoryDevice, ScriptFault>
     requires lines_map { IsMapOf M.LineMap profile.now.checked.geometry lines_map.now }
     requires xor_map { IsMapOf M.LineMap profile.now.checked.geometry xor_map.now }
+    ensures runs { IfOk result (λ device. (answers : List Answer)
+        × RunsScript ⟦<Ddr4Port<'m, M> as ChannelPort>⟧
+        ⟦<Wiring<'m, M> as Wires<Ddr4Port<'m, M>>>⟧ profile.now
+        script.now [] answers device) }
+    ensures bad { IfErr result (IsBadText profile.now.checked.geometry script.now) }
 {
-    let lines = read_script(alloc, script, &profile.checked.geometry)?;
     let mut printer = Printer::new(writer);
-    run_lines(alloc, profile, &lines, lines_map, xor_map, &mut printer)
+    answer_script(alloc, profile, script, lines_map, xor_map, &mut printer)
 }
