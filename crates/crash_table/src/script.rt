@@ -1,9 +1,10 @@
 // A script with the numbers of its lines.
-ghost use Rattle.std.specs.Prelude.{◌≡◌, ◌≢◌, ℕ, ◌<◌, length, get_or, IfOk, IfSome, None, All};
+ghost use Rattle.std.specs.Prelude.{◌≡◌, ◌≢◌, ℕ, ◌<◌, length, get_or, IfErr, IfOk, IfSome, None, All};
 ghost use Rattle.nv_script.specs.Line.{NamesChannelOf};
+ghost use Rattle.nv_script.specs.Texts.{IsRefusedBy, IsScript, numbers_from, text_lines};
 
 use ddr4_timing::timing::Geometry;
-use nv_script::{ScriptFault, ScriptLine, read_script};
+use nv_script::{ScriptFault, ScriptLine, line_numbers, read_script};
 use std::alloc::Global;
 
 /// The lines of a script that aren't skipped, and the number of each in its text.
@@ -13,27 +14,17 @@ pub struct Script {
     pub numbers: Vec<u64>,
 }
 
-// The numbers of the lines that aren't skipped.
-fn numbers_of(alloc: Global, text: &[u8], geometry: &Geometry) -> Result<Vec<u64>, ScriptFault> {
-    let mut numbers = Vec::new(alloc);
-    let mut number: u64 = 0;
-    for line in text.split(|byte| *byte == b'\n') {
-        number = number.saturating_add(1);
-        let is_run = !read_script(alloc, line, geometry)?.is_empty();
-        if is_run && numbers.push(number).is_err() {
-            return Err(ScriptFault::Memory);
-        }
-    }
-    Ok(numbers)
-}
-
 impl Script {
     /// Reads a script, as a run does. Refused as `read_script` refuses it.
     pub fn read(alloc: Global, script: &[u8], geometry: &Geometry) -> Result<Script, ScriptFault>
-        ensures { IfOk result (λ script. All (NamesChannelOf geometry.now) script.lines.items) }
+        ensures lines { IfOk result (λ read. IsScript geometry.now script.now read.lines.items) }
+        ensures numbers { IfOk result (λ read.
+            read.numbers.items ≡ numbers_from 1 (text_lines script.now)) }
+        ensures names { IfOk result (λ read. All (NamesChannelOf geometry.now) read.lines.items) }
+        ensures refused { IfErr result (IsRefusedBy geometry.now script.now) }
     {
         let lines = read_script(alloc, script, geometry)?;
-        let numbers = numbers_of(alloc, script, geometry)?;
+        let numbers = line_numbers(alloc, script)?;
         Ok(Script { lines, numbers })
     }
 
