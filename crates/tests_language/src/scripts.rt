@@ -3,7 +3,7 @@ use crate::check::same;
 use ddr4_timing::timing::Geometry;
 use interleave_map::Interleaving;
 use line_memory::Write;
-use nv_script::{SCRIPT_BYTES, ScriptFault, ScriptLine, read_script};
+use nv_script::{SCRIPT_BYTES, ScriptFault, ScriptLine, line_numbers, read_script};
 use save_device::Pick;
 use std::alloc::Global;
 use std::process::Abort;
@@ -116,6 +116,16 @@ fn spaces_and_numbers(rt: HostRuntime) {
         data: [0xab; 64],
     });
     is_just(&rt, "write 0 aB", capitals);
+}
+
+#[test]
+fn numbers_of_the_lines(rt: HostRuntime) {
+    let script = b"# a comment\nformat\n\n   \nread 7\n#\nmark";
+    let is_so = match line_numbers(rt.alloc(), script) {
+        Ok(numbers) => numbers.as_slice() == [2, 5, 7].as_slice(),
+        Err(_) => false,
+    };
+    assert!(rt; is_so, "numbers of the lines that aren't skipped");
 }
 
 const BAD_LINES: [&str; 44] = [
