@@ -9,4 +9,3 @@ pub mod Turns
 pub mod Stories
 pub mod Doing
 pub mod Runs
-pub mod Scripts
