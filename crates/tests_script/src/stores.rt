@@ -33,8 +33,8 @@ fn put(store: &mut Vec<u8>, at: usize, bytes: &[u8]) {
 
 // Makes the image in a slot one of version 1, which has no digest.
 fn drop_digest(store: &mut Vec<u8>, slot: usize) {
-    put(store, slot + 8, b"NVSAVE01");
-    put(store, slot + 40, &[0; 32]);
+    put(store, slot.saturating_add(8), b"NVSAVE01");
+    put(store, slot.saturating_add(40), &[0; 32]);
 }
 
 // Copies the first slot into the second one.
