@@ -24,7 +24,7 @@ pub const SCRIPTS: [Script; 10] = [
     },
     Script {
         name: "a write within a save",
-        text: "step\nstep\nstep\nstep\nwrite 127 33\nstep\nstep\nstep\nstep\n",
+        text: "step\nstep\nstep\nwrite 127 33\nstep\nstep\nstep\nstep\nstep\n",
     },
     Script {
         name: "a save that is made again",
@@ -36,7 +36,7 @@ pub const SCRIPTS: [Script; 10] = [
     },
     Script {
         name: "armed while a save runs",
-        text: "sense 9000\narm\nstep\nstep\nstep\nstep\nwrite 127 33\nstep\nstep\nstep\nstep\n",
+        text: "sense 9000\narm\nstep\nstep\nstep\nwrite 127 33\nstep\nstep\nstep\nstep\nstep\n",
     },
     Script {
         name: "a low reading",
