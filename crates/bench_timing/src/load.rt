@@ -5,6 +5,7 @@ use anyhow::Context;
 use bench_load::Random;
 use chan_core::{Channel, Phase};
 use channel_port::Served;
+use ddr4_timing::command::Stamped;
 use ddr4_timing::timing::Checked;
 use drain_core::laws::running_channel_may_drain;
 use drain_core::{DrainReport, drain};
@@ -90,6 +91,19 @@ impl<'m, M: LineMap> Load<'m, M> {
             }
         }
         anyhow::bail!("not there in time")
+    }
+
+    /// Issues so many commands, and replaces each write that was served.
+    pub(crate) fn commands(&mut self, alloc: Global, count: u64) -> anyhow::Result<Vec<Stamped>> {
+        let mut commands = Vec::new(alloc);
+        for _ in 0..count {
+            let done = self.channel.work().context("idle")?;
+            if let Some(Served::Write { .. }) = done.served {
+                self.put()?;
+            }
+            commands.push(done.command)?;
+        }
+        Ok(commands)
     }
 
     /// Drains the channel.

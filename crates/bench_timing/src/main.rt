@@ -1,4 +1,4 @@
-//! How long the parts of a channel take: its banks, the maps from lines to places, and a drain of 64 writes.
+//! How long the parts of a channel take: its banks, the maps from lines to places, a drain of 64 writes, and the check of a trace.
 //!
 //!     bench_timing                what each part answers
 //!     bench_timing time COUNT     and nanoseconds, a drain's the mean of so many
@@ -8,6 +8,7 @@ mod banks;
 mod drains;
 mod load;
 mod maps;
+mod traces;
 
 use std::env;
 
@@ -20,5 +21,6 @@ fn main(rt: HostRuntime) -> anyhow::Result<()> {
     };
     banks::show(&rt, count.is_some())?;
     maps::show(&rt, count.is_some())?;
-    drains::show(&rt, count)
+    drains::show(&rt, count)?;
+    traces::show(&rt, count.is_some())
 }
