@@ -3,7 +3,7 @@ use Rattle.std.proofs.Common.{◌≡◌, ℕ, ◌+◌, ◌*◌, ◌≤◌, arith
 use Rattle.std.proofs.Math.Nat.{mul-le-mul_left}
 use Rattle.energy_budget.specs.declared.costs.Costs.{Costs}
 use Rattle.energy_budget.specs.Costs.{entry_cost}
-use Rattle.energy_budget.specs.Sums.{reserve, steps, backing_level, floor_level, needed_level}
+use Rattle.energy_budget.specs.Sums.{reserve, steps, save_ticks, backing_level, floor_level, needed_level}
 use Rattle.energy_budget.proofs.Totals.{reserve-closed, steps-closed}
 
 module _ (costs : Costs) where
@@ -45,16 +45,14 @@ module _ (costs : Costs) where
   unfolding needed_level
   needed_level-le j k le = omega (arith, floor_level-le j k le)
 
-  pub floor_backs : (k : ℕ) → backing_level costs k (costs.pages + 6) ≤ floor_level costs k
+  pub floor_backs : (k : ℕ) → backing_level costs k (save_ticks costs) ≤ floor_level costs k
   unfolding floor_level
-  floor_backs k = backing_level-ticks k (costs.pages + 6) (steps costs k) (omega (arith, steps-closed costs k))
+  floor_backs k = backing_level-ticks k (save_ticks costs) (steps costs k) (omega (arith, steps-closed costs k))
 
   backing_level-next : (k ticks : ℕ) → backing_level costs k (ticks + 1) ≡ backing_level costs k ticks + costs.numbers.leak
   unfolding backing_level
   backing_level-next k ticks = omega arith
 
-  pub need_backs : (k : ℕ) → backing_level costs k (costs.pages + 7) ≤ needed_level costs k
+  pub need_backs : (k : ℕ) → backing_level costs k (save_ticks costs + 1) ≤ needed_level costs k
   unfolding needed_level
-  need_backs k =
-      let seven : costs.pages + 7 ≡ costs.pages + 6 + 1 = omega arith in
-      rw (seven, backing_level-next k (costs.pages + 6)) (omega (arith, floor_backs k))
+  need_backs k = rw (backing_level-next k (save_ticks costs)) (omega (arith, floor_backs k))

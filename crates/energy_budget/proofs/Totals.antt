@@ -1,16 +1,17 @@
 -- What lists of actions cost, and how many they are.
-use Rattle.std.proofs.Common.{◌≡◌, ℕ, ◌+◌, ◌*◌, List, [], ◌∷◌, ◌++◌, length, replicate, refl, ap, ◌∙◌, arith, length-append}
-use Rattle.std.specs.Prelude.{sum}
+use Rattle.std.proofs.Common.{◌≡◌, ℕ, ◌+◌, ◌*◌, ◌≤◌, List, [], ◌∷◌, ◌++◌, length, replicate, refl, ap, ◌∙◌, arith, length-append, rules}
+use Rattle.std.specs.Prelude.{sum, All}
 use Rattle.std.specs.List.{flat_map}
 use Rattle.std.proofs.lemmas.List.{length-replicate}
+use Rattle.std.proofs.lemmas.List.Elements.{All-append, All-cons, All-nil, All-replicate}
 use Rattle.std.proofs.lemmas.List.Folds.{sum_by-replicate}
 use Rattle.std.proofs.lemmas.List.Sums.{sum_by-append, sum_by-cons}
 use Rattle.energy_budget.specs.declared.action.Action.{Action}
-use Rattle.energy_budget.specs.declared.action.Action.TheVariants.{CloseStep, EntryStep}
+use Rattle.energy_budget.specs.declared.action.Action.TheVariants.{CloseStep, EntryStep, CloseGate, WriteHeader, WritePage, OpenGate, Sync}
 use Rattle.energy_budget.specs.declared.costs.Costs.{Costs}
-use Rattle.energy_budget.specs.CostNumbers.{page_cost_of, frame_cost_of}
+use Rattle.energy_budget.specs.CostNumbers.{page_cost_of, frame_cost_of, repeat_cost_of}
 use Rattle.energy_budget.specs.Costs.{close_cost, entry_cost}
-use Rattle.energy_budget.specs.Actions.{cost_of, total_cost, drain_actions, page_actions, save_actions, closing_actions, actions_for}
+use Rattle.energy_budget.specs.Actions.{cost_of, total_cost, dearest_of, drain_actions, page_actions, save_actions, closing_actions, actions_for}
 use Rattle.energy_budget.specs.Sums.{reserve, steps}
 
 module _ (costs : Costs) where
@@ -43,16 +44,37 @@ module _ (costs : Costs) where
   unfolding drain_actions
   cost-drain_actions k = total_cost-cons CloseStep (replicate k EntryStep) ∙ ap (λ (n : ℕ). close_cost costs + n) (total_cost-replicate k EntryStep)
 
-  pub reserve-closed : (k : ℕ) → reserve costs k ≡ costs.channels * close_cost costs + k * entry_cost costs + costs.pages * page_cost_of costs.numbers + frame_cost_of costs.numbers
+  -- the dearest step of a save, and any of them
+  pub cost-dearest : cost_of costs (dearest_of costs.numbers) ≡ repeat_cost_of costs.numbers
+  cost-dearest = search rules
+
+  pub repeats-cost : (pages : ℕ) → All (λ action. cost_of costs action ≤ repeat_cost_of costs.numbers) (save_actions pages)
+  unfolding save_actions page_actions
+  repeats-cost pages =
+      let P : Action → Type 0 = λ action. cost_of costs action ≤ repeat_cost_of costs.numbers in
+      let gate : P CloseGate = omega arith in
+      let header : P WriteHeader = omega arith in
+      let sync : P Sync = omega arith in
+      let page : P WritePage = omega arith in
+      let none : All P [] = All-nil P in
+      let last : List Action = Sync ∷ [] in
+      let opening : List Action = OpenGate ∷ last in
+      let body : List Action = Sync ∷ opening in
+      let end : All P (WriteHeader ∷ body) = All-cons P WriteHeader body header (All-cons P Sync opening sync (All-cons P OpenGate last gate (All-cons P Sync [] sync none))) in
+      let written : List Action = replicate pages WritePage ++ WriteHeader ∷ body in
+      let all : All P written = All-append P (replicate pages WritePage) (WriteHeader ∷ body) (All-replicate P pages WritePage page) end in
+      All-cons P CloseGate (Sync ∷ written) gate (All-cons P Sync written sync all)
+
+  pub reserve-closed : (k : ℕ) → reserve costs k ≡ costs.channels * close_cost costs + k * entry_cost costs + costs.pages * page_cost_of costs.numbers + frame_cost_of costs.numbers + costs.retries * repeat_cost_of costs.numbers
   unfolding reserve actions_for
   reserve-closed k =
-      simp (total_cost-append, total_cost-replicate, cost-save_actions) (omega arith)
+      simp (total_cost-append, total_cost-replicate, cost-save_actions, cost-dearest) (omega arith)
 
 count-save_actions : (pages : ℕ) → length (save_actions pages) ≡ pages + 6
 unfolding save_actions page_actions
 count-save_actions pages = simp (length-append, length-replicate) (omega arith)
 
-pub steps-closed : (costs : Costs) (k : ℕ) → steps costs k ≡ k + costs.channels + costs.pages + 6
+pub steps-closed : (costs : Costs) (k : ℕ) → steps costs k ≡ k + costs.channels + costs.pages + 6 + costs.retries
 unfolding steps actions_for
 steps-closed costs k = simp (length-append, length-replicate, count-save_actions) (omega arith)
 
@@ -75,13 +97,13 @@ count-drains [] = omega arith
 count-drains (k ∷ ks) =
     rw (length-append (drain_actions k) (flat_map drain_actions ks), count-drain_actions k, sum-cons k ks) (omega (arith, count-drains ks))
 
-pub closing-cost : (costs : Costs) (pending : List ℕ) → length pending ≡ costs.channels → total_cost costs (closing_actions costs.pages pending) ≡ reserve costs (sum pending)
+pub closing-cost : (costs : Costs) (pending : List ℕ) → length pending ≡ costs.channels → total_cost costs (closing_actions costs.pages pending) + costs.retries * repeat_cost_of costs.numbers ≡ reserve costs (sum pending)
 unfolding closing_actions
 closing-cost costs pending all =
     rw (total_cost-append costs (flat_map drain_actions pending) (save_actions costs.pages), cost-drains costs pending, cost-save_actions costs costs.pages, reserve-closed costs (sum pending), all)
     (omega arith)
 
-pub closing-steps : (costs : Costs) (pending : List ℕ) → length pending ≡ costs.channels → length (closing_actions costs.pages pending) ≡ steps costs (sum pending)
+pub closing-steps : (costs : Costs) (pending : List ℕ) → length pending ≡ costs.channels → length (closing_actions costs.pages pending) + costs.retries ≡ steps costs (sum pending)
 unfolding closing_actions
 closing-steps costs pending all =
     rw (length-append (flat_map drain_actions pending) (save_actions costs.pages), count-drains pending, count-save_actions costs.pages, steps-closed costs (sum pending), all)

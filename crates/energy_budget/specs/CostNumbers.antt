@@ -1,5 +1,5 @@
 -- What single commands and steps cost, in units of energy.
-use Rattle.std.specs.Prelude.{ℕ, ◌+◌, ◌*◌, ◌≤◌, List, if◌then◌else◌}
+use Rattle.std.specs.Prelude.{ℕ, ◌+◌, ◌*◌, ◌≤◌, max, List, if◌then◌else◌}
 use Rattle.std.specs.List.{sum_by}
 use Rattle.ddr4_timing.specs.declared.command.Command.{Command}
 use Rattle.ddr4_timing.specs.declared.command.Stamped.{Stamped}
@@ -46,3 +46,7 @@ page_cost_of n = n.e_page + n.e_digest
 -- all of a save but its pages: the gate is closed, the header written and the gate opened, with a sync after each
 abbrev pub frame_cost_of : CostNumbers → ℕ
 frame_cost_of n = 3 * n.e_mark + 3 * n.e_sync
+
+-- one step of a save that is made again: what the dearest of them costs
+abbrev pub repeat_cost_of : CostNumbers → ℕ
+repeat_cost_of n = max (max n.e_mark n.e_sync) (page_cost_of n)

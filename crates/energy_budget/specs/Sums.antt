@@ -15,6 +15,10 @@ steps costs k = length (actions_for costs k)
 unfoldable pub backing_level : Costs → ℕ → ℕ → ℕ
 backing_level costs k ticks = reserve costs k + costs.numbers.leak * (ticks + 1)
 
+-- how often the gauge is ticked at most in a save on mains that may make steps again
+abbrev pub save_ticks : Costs → ℕ
+save_ticks costs = costs.pages + 6 + costs.retries
+
 -- the least level for a closing save, and no more than a tick for each of its actions
 unfoldable pub floor_level : Costs → ℕ → ℕ
 floor_level costs k = backing_level costs k (steps costs k)

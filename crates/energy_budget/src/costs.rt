@@ -1,7 +1,7 @@
 // What the actions of a closing save may cost.
 ghost use Rattle.std.specs.Prelude.{◌≡◌, ◌≤◌, ◌<◌, ◌^◌, ◌*◌, ◌+◌, ◌↔◌, IsTrue};
 ghost use Rattle.ddr4_timing.specs.Limits.{IsSmall, lines_of};
-ghost use Rattle.energy_budget.specs.CostNumbers.{AreCostsInLimits, close_cost_of, entry_cost_of, page_cost_of, frame_cost_of};
+ghost use Rattle.energy_budget.specs.CostNumbers.{AreCostsInLimits, close_cost_of, entry_cost_of, page_cost_of, frame_cost_of, repeat_cost_of};
 
 use crate::Action;
 use ddr4_timing::command::Command;
@@ -62,18 +62,24 @@ pub struct Costs {
     pub close: u64,
     /// The most clocks that an entry step takes.
     pub entry: u64,
+    /// How many device calls that failed a closing save may make again.
+    pub retries: u64,
     // sums that are asked for at each write
     close_step: u64,
     entry_step: u64,
     without_entries: u64,
+    for_repeats: u64,
     ghost in_limits: { AreCostsInLimits numbers },
     ghost few: { (channels ≤ 8) × (ranks ≤ 4) × (pages ≤ 1024) },
     ghost short: { (close ≤ 1000000) × (entry ≤ 1000000) },
+    ghost few_repeats: { retries ≤ 16 },
     ghost fit: { (close_step ≤ 2 ^ 41) × (entry_step ≤ 2 ^ 41) × (without_entries ≤ 2 ^ 46) },
+    ghost fit_repeats: { for_repeats ≤ 2 ^ 25 },
     ghost is_close_step: { close_step ≡ close_cost_of numbers ranks close },
     ghost is_entry_step: { entry_step ≡ entry_cost_of numbers ranks entry },
     ghost is_without_entries: { without_entries
         ≡ channels * close_step + pages * page_cost_of numbers + frame_cost_of numbers },
+    ghost is_for_repeats: { for_repeats ≡ retries * repeat_cost_of numbers },
 }
 
 impl CostNumbers {
@@ -123,6 +129,15 @@ impl CostNumbers {
     {
         self.e_page + self.e_digest
     }
+
+    // A step of a save that is made again, at most.
+    fn repeat_cost(&self) -> u64
+        requires { AreCostsInLimits self.now }
+        ensures value { result ≡ repeat_cost_of self.now }
+        ensures fits { result ≤ 2000000 }
+    {
+        self.e_mark.max(self.e_sync).max(self.page_cost())
+    }
 }
 
 /// How many lines a geometry has.
@@ -151,11 +166,12 @@ impl Costs {
     ghost use Rattle.energy_budget.specs.Actions.{cost_of};
     ghost use Rattle.energy_budget.specs.Sums.{reserve, steps, floor_level, needed_level};
 
-    /// The costs of a closing save on this profile.
+    /// The costs of a closing save on this profile, which makes no device call again.
     pub fn of(checked: &Checked, numbers: &CostNumbers) -> Costs
         requires { AreCostsInLimits numbers.now }
         ensures profile { AreReckonedFor checked.now result }
         ensures numbers { result.numbers ≡ numbers.now }
+        ensures retries { result.retries ≡ 0 }
     {
         let geometry = checked.geometry;
         let ranks = geometry.ranks;
@@ -177,9 +193,34 @@ impl Costs {
             pages,
             close,
             entry,
+            retries: 0,
             close_step,
             entry_step: refreshes + numbers.e_act + numbers.e_col + numbers.e_pre,
             without_entries: geometry.channels * close_step + pages * numbers.page_cost() + frame,
+            for_repeats: 0,
+        }
+    }
+
+    /// The costs of one that may make so many of its device calls again.
+    pub fn with_retries(self, retries: u64) -> Costs
+        requires { retries ≤ 16 }
+        ensures profile { (checked : Checked) → AreReckonedFor checked self
+            → AreReckonedFor checked result }
+        ensures numbers { result.numbers ≡ self.numbers }
+        ensures retries { result.retries ≡ retries }
+    {
+        Costs {
+            retries,
+            for_repeats: retries * self.numbers.repeat_cost(),
+            numbers: self.numbers,
+            channels: self.channels,
+            ranks: self.ranks,
+            pages: self.pages,
+            close: self.close,
+            entry: self.entry,
+            close_step: self.close_step,
+            entry_step: self.entry_step,
+            without_entries: self.without_entries,
         }
     }
 
@@ -197,22 +238,23 @@ impl Costs {
         }
     }
 
-    /// The energy of a closing save of so many pending writes: the sum of its actions' costs.
+    /// The energy of a closing save of so many pending writes: the sum of its actions' costs, and of the dearest step's as often
+    /// as it may make one again.
     pub fn reserve(&self, pending: u64) -> u64
         requires { pending ≤ 1024 }
         ensures value { result ≡ reserve self.now pending }
         ensures fits { result ≤ 2 ^ 52 }
     {
-        self.without_entries + pending * self.entry_step
+        self.without_entries + pending * self.entry_step + self.for_repeats
     }
 
-    /// How many actions such a save has.
+    /// How many actions such a save has at most.
     pub fn steps(&self, pending: u64) -> u64
         requires { pending ≤ 1024 }
         ensures value { result ≡ steps self.now pending }
         ensures fits { result ≤ 4096 }
     {
-        pending + self.channels + self.pages + 6
+        pending + self.channels + self.pages + 6 + self.retries
     }
 
     /// The least level for such a save: its reserve, and the leak for one tick of the gauge more than it has actions.

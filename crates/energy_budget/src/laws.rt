@@ -1,22 +1,23 @@
 // What the sums say in other words.
-ghost use Rattle.std.specs.Prelude.{◌≡◌, ℕ, ◌≤◌, ◌+◌, ◌*◌, List, ◌∷◌, ◌++◌, length, sum, Result, IsOk};
+ghost use Rattle.std.specs.Prelude.{◌≡◌, ℕ, ◌≤◌, ◌+◌, ◌*◌, List, ◌∷◌, ◌++◌, length, sum, All, Result, IsOk};
 ghost use Rattle.energy_budget.specs.declared.energy.GaugeCall.{GaugeCall};
 ghost use Rattle.energy_budget.specs.Gauge.{Gauge, ReadsLevel, PaysCost, KeepsFaults, IsHonestThrough};
 ghost use Rattle.energy_budget.specs.declared.action.Action.{Action};
 ghost use Rattle.energy_budget.specs.declared.energy.Dark.{Dark};
 ghost use Rattle.energy_budget.specs.declared.costs.Costs.{Costs};
-ghost use Rattle.energy_budget.specs.CostNumbers.{page_cost_of, frame_cost_of};
+ghost use Rattle.energy_budget.specs.CostNumbers.{page_cost_of, frame_cost_of, repeat_cost_of};
 ghost use Rattle.energy_budget.specs.Costs.{close_cost, entry_cost};
-ghost use Rattle.energy_budget.specs.Actions.{cost_of, total_cost, drain_actions, page_actions, save_actions, closing_actions};
-ghost use Rattle.energy_budget.specs.Sums.{reserve, steps, backing_level, floor_level, needed_level};
+ghost use Rattle.energy_budget.specs.Actions.{cost_of, total_cost, dearest_of, drain_actions, page_actions, save_actions, closing_actions};
+ghost use Rattle.energy_budget.specs.Sums.{reserve, steps, save_ticks, backing_level, floor_level, needed_level};
 
 /// The sums in closed form. With one more pending write there is one more entry step to pay, and the leak of one more tick.
 pub fn sums_in_closed_form()
     ensures reserve { (costs : Costs) (k : ℕ)
         → reserve costs k ≡ costs.channels * close_cost costs + k * entry_cost costs
-        + costs.pages * page_cost_of costs.numbers + frame_cost_of costs.numbers }
+        + costs.pages * page_cost_of costs.numbers + frame_cost_of costs.numbers
+        + costs.retries * repeat_cost_of costs.numbers }
     ensures steps { (costs : Costs) (k : ℕ)
-        → steps costs k ≡ k + costs.channels + costs.pages + 6 }
+        → steps costs k ≡ k + costs.channels + costs.pages + 6 + costs.retries }
     ensures floor { (costs : Costs) (k : ℕ)
         → floor_level costs k ≡ reserve costs k + costs.numbers.leak * (steps costs k + 1) }
     ensures need { (costs : Costs) (k : ℕ)
@@ -32,7 +33,7 @@ pub fn sums_in_closed_form()
 {}
 
 /// With no fewer pending writes no sum is smaller, and with no fewer ticks no backing. The floor backs a disarming save, of
-/// which each step ticks once: a mark and a sync three times, and the pages (`floor_backs`). A reading that is enough to
+/// which each step ticks once: a mark and a sync three times, the pages, and those that are made again (`floor_backs`). A reading that is enough to
 /// acknowledge writes backs it after one more reading too (`need_backs`).
 pub fn sums_rise()
     ensures reserve { (costs : Costs) (j k : ℕ) → j ≤ k → reserve costs j ≤ reserve costs k }
@@ -43,18 +44,26 @@ pub fn sums_rise()
     ensures floor { (costs : Costs) (j k : ℕ) → j ≤ k → floor_level costs j ≤ floor_level costs k }
     ensures need { (costs : Costs) (j k : ℕ) → j ≤ k → needed_level costs j ≤ needed_level costs k }
     ensures floor_backs { (costs : Costs) (k : ℕ)
-        → backing_level costs k (costs.pages + 6) ≤ floor_level costs k }
+        → backing_level costs k (save_ticks costs) ≤ floor_level costs k }
     ensures need_backs { (costs : Costs) (k : ℕ)
-        → backing_level costs k (costs.pages + 7) ≤ needed_level costs k }
+        → backing_level costs k (save_ticks costs + 1) ≤ needed_level costs k }
 {}
 
-/// Whichever channels the writes are pending on, the reserve is the cost of the closing save's actions, and the steps are
-/// their number. Of those that are still to come each one that is paid for comes off.
+/// Whichever channels the writes are pending on, the reserve is the cost of the closing save's actions and of the steps that it
+/// may make again, none of which costs more than the dearest, and the steps are their number. Of those that are still to come
+/// each one that is paid for comes off.
 pub fn cost_of_a_closing_save()
     ensures reserve { (costs : Costs) (pending : List ℕ) → length pending ≡ costs.channels
-        → total_cost costs (closing_actions costs.pages pending) ≡ reserve costs (sum pending) }
+        → total_cost costs (closing_actions costs.pages pending)
+        + costs.retries * repeat_cost_of costs.numbers ≡ reserve costs (sum pending) }
     ensures steps { (costs : Costs) (pending : List ℕ) → length pending ≡ costs.channels
-        → length (closing_actions costs.pages pending) ≡ steps costs (sum pending) }
+        → length (closing_actions costs.pages pending) + costs.retries
+        ≡ steps costs (sum pending) }
+    ensures dearest { (costs : Costs)
+        → cost_of costs (dearest_of costs.numbers) ≡ repeat_cost_of costs.numbers }
+    ensures repeats { (costs : Costs) (pages : ℕ)
+        → All (λ action. cost_of costs action ≤ repeat_cost_of costs.numbers)
+        (save_actions pages) }
     ensures action { (costs : Costs) (action : Action) (rest : List Action)
         → total_cost costs (action ∷ rest) ≡ cost_of costs action + total_cost costs rest }
     ensures lists { (costs : Costs) (first rest : List Action)

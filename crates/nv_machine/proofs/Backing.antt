@@ -1,6 +1,7 @@
 -- What backs the acknowledged writes: nothing in some modes, a reading while armed, and the energy bound in the others.
 use Rattle.slot_store.specs.Steps.{reach_of}
 use Rattle.energy_budget.proofs.Rising.{backing_level-le, needed_level-le}
+use Rattle.energy_budget.specs.Sums.{save_ticks}
 use Rattle.channel_port.specs.Shape.{IsShape}
 use Rattle.nv_machine.proofs.Common.{arith, false, length, ℕ, ◌+◌, ◌≡◌, ◌≢◌, ◌≤◌, ForSome, Step, is_armed, is_backed, Mode, backing_level-ticks, need_backs, Gauge, GaugeCall, IsHonestThrough, ReadsLevel, backing_level, Costs, Waits, IsGuarded, IsBacked, ticks_left, armed, need_for, Machine, Setup, pending_of}
 
@@ -28,7 +29,7 @@ module _ (setup : Setup) where
   armed_backs m gauge armed shown read = record {
     bound = λ on.
         rw armed
-        (omega (arith, backing_level-ticks setup.shape.costs (pending_of m) (setup.shape.costs.pages + 6) (setup.shape.costs.pages + 7) (omega arith), need_backs setup.shape.costs (pending_of m), shown, read));
+        (omega (arith, backing_level-ticks setup.shape.costs (pending_of m) (save_ticks setup.shape.costs) (save_ticks setup.shape.costs + 1) (omega arith), need_backs setup.shape.costs (pending_of m), shown, read));
     shown = λ on. shown;
     read = λ on. read;
   }

@@ -7,6 +7,7 @@ use Rattle.slot_store.proofs.StepsLeft.{no_steps_left, steps_left-after}
 use Rattle.slot_store.specs.Steps.{steps_left}
 use Rattle.std.proofs.lemmas.List.Sums.{count_by-le-length}
 use Rattle.channel_port.specs.Waits.{is_write_up_to, writes_up_to}
+use Rattle.energy_budget.specs.Sums.{save_ticks}
 use Rattle.nv_machine.specs.Headline.{ticks_until_saved}
 use Rattle.nv_machine.proofs.Common.{Bool, [], ap, arith, false, length, refl, sym, true, ℕ, ◌+◌, ◌<◌, ◌∙◌, ◌∷◌, ◌≡◌, ◌≢◌, ◌≤◌, None, Ok, Some, is_some, length-append, Write, faults_more, DeviceState, step_after, Step, is_armed, is_backed, is_disarming, reads_gauge, mode_after, save_refusal, Mode, Move, backing_level-ticks, need_backs, Gauge, GaugeCall, IsHonestThrough, ReadsLevel, backing_level, IsBacked, IsHonest, SavesAllWritten, StaysBacked, MachineStep, WriteStep, advanced, armed, begun, disarming, finished, read_as, step_failed, stepped, written, is_low, lacks_energy, need_for, saves_of, Machine, RunningSave, Setup, Store, World, pending_of, Accepted, Event, Reply}
 use Rattle.nv_machine.proofs.ModeLaws.{is_armed_mode}
@@ -30,9 +31,10 @@ module _ (setup : Setup) (old new : World) (known : IsKnown setup old.machine) (
   level_for ticks = backing_level setup.shape.costs (pending_of m) ticks
 
   -- the disarming is begun
-  disarming_backs : (reading : ℕ) (gauge : Gauge) → level_for (setup.shape.costs.pages + 6) ≤ gauge.level → IsBacked setup (disarming (read_as reading m)) gauge
+  disarming_backs : (reading : ℕ) (gauge : Gauge) → level_for (save_ticks setup.shape.costs) ≤ gauge.level → IsBacked setup (disarming (read_as reading m)) gauge
   disarming_backs reading gauge enough =
-      let first : steps_left setup.shape.lines Step.Close ≡ setup.shape.costs.pages + 6 = omega (arith, known.shape.pages) in bound_backs setup _ gauge refl (rw first enough)
+      let first : steps_left setup.shape.lines Step.Close ≤ save_ticks setup.shape.costs = omega (arith, known.shape.pages) in
+      bound_backs setup _ gauge refl (omega (arith, backing_level-ticks setup.shape.costs (pending_of m) (steps_left setup.shape.lines Step.Close) (save_ticks setup.shape.costs) first, enough))
 
   -- a write is accepted
   accepted_backs : (write : Write) (accepted : Accepted) → WriteStep setup write (Ok accepted) m new.machine → IsBacked setup new.machine old.gauge
@@ -62,7 +64,7 @@ module _ (setup : Setup) (old new : World) (known : IsKnown setup old.machine) (
     low_backs low =
         let on : is_armed m.mode ≡ true = grind arith in
         disarming_backs reading new.gauge
-        (omega (arith, need_backs setup.shape.costs (pending_of m), one_tick setup.shape.costs (pending_of m) (setup.shape.costs.pages + 6) (setup.shape.costs.pages + 7) (omega arith), fell, backed.shown on, backed.read on))
+        (omega (arith, need_backs setup.shape.costs (pending_of m), one_tick setup.shape.costs (pending_of m) (save_ticks setup.shape.costs) (save_ticks setup.shape.costs + 1) (omega arith), fell, backed.shown on, backed.read on))
 
     -- It isn't too low.
     module _ (high : is_low setup (read_as reading m) ≡ false) where

@@ -1,5 +1,5 @@
 -- What a stop at each moment of an event leaves, and what an honest gauge is enough for.
-use Rattle.std.specs.Prelude.{◌≡◌, ◌≢◌, ◌⊎◌, ℕ, ◌+◌, ◌≤◌, Bool, true, false, List, [], ◌∷◌, Ok, Err, Option, Some, if◌then◌else◌}
+use Rattle.std.specs.Prelude.{◌≡◌, ◌≢◌, ◌⊎◌, ℕ, ◌≤◌, Bool, true, false, List, [], ◌∷◌, Ok, Err, Option, Some, if◌then◌else◌}
 use Rattle.save_image.specs.Image.{Image}
 use Rattle.save_device.specs.Device.{DeviceState, present, faults_of, StopsWithin, LeavesOnly}
 use Rattle.slot_store.specs.declared.slots.Slot.{Slot}
@@ -11,7 +11,7 @@ use Rattle.arm_state.specs.declared.mode.Mode.TheVariants as modes
 use Rattle.arm_state.specs.declared.refusal.ArmRefusal.TheVariants as refusals
 use Rattle.arm_state.specs.declared.refusal.ArmReply.TheVariants as arm
 use Rattle.arm_state.specs.Modes.{is_armed, is_backed}
-use Rattle.energy_budget.specs.Sums.{backing_level}
+use Rattle.energy_budget.specs.Sums.{backing_level, save_ticks}
 use Rattle.energy_budget.specs.Gauge.{Gauge, IsHonestThrough}
 use Rattle.energy_budget.specs.Charging.{RisesTo}
 use Rattle.arm_state.specs.declared.loss.Loss.TheVariants as loss
@@ -62,7 +62,7 @@ pub record RecoversAfterwards (new : Machine) (outcome : Outcome) : Type 0 where
 
 -- how often the gauge may still be ticked until the save of a disarming is done
 abbrev pub ticks_until_saved : Setup → Mode → Option RunningSave → ℕ
-ticks_until_saved setup modes.Armed saving = setup.shape.costs.pages + 6
+ticks_until_saved setup modes.Armed saving = save_ticks setup.shape.costs
 ticks_until_saved setup modes.Disarming (Some save) = steps_left setup.shape.lines save.next
 ticks_until_saved setup mode saving = 0
 

@@ -1,5 +1,5 @@
 use Rattle.std.proofs.Common.{◌+◌, arith}
-use Rattle.energy_budget.proofs.Totals.{closing-cost, closing-steps, total_cost-cons, total_cost-append, cost-drain_actions, cost-page_actions, cost-save_actions}
+use Rattle.energy_budget.proofs.Totals.{closing-cost, closing-steps, cost-dearest, repeats-cost, total_cost-cons, total_cost-append, cost-drain_actions, cost-page_actions, cost-save_actions}
 use Rattle.energy_budget.proofs.laws.cost_of_a_closing_save.Goals as goal
 
 pub returns-clause-reserve : goal.returns-clause-reserve
@@ -22,3 +22,9 @@ returns-clause-save c = cost-save_actions
 
 pub returns-clause-lists : goal.returns-clause-lists
 returns-clause-lists c = total_cost-append
+
+pub returns-clause-dearest : goal.returns-clause-dearest
+returns-clause-dearest c = cost-dearest
+
+pub returns-clause-repeats : goal.returns-clause-repeats
+returns-clause-repeats c = repeats-cost
