@@ -15,5 +15,6 @@ pub mod ImageBytes
 pub mod StepsLeft
 pub mod Rearmed
 pub mod StepsMade
+pub mod Repeated
 pub mod FirstSave
 pub mod WholeSaves

@@ -7,5 +7,7 @@ pub mod Rest
 pub mod Saving
 pub mod Runs
 pub mod Finishing
+pub mod Tries
+pub mod Repeating
 pub mod Formatted
 pub mod Whole

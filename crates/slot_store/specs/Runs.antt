@@ -1,5 +1,5 @@
 -- What a save that runs shows of itself.
-use Rattle.std.specs.Prelude.{◌≡◌, ℕ, Bool, not, if◌then◌else◌, List, length, take}
+use Rattle.std.specs.Prelude.{◌≡◌, ℕ, ◌+◌, ◌-◌, ◌^◌, min, Bool, not, if◌then◌else◌, List, length, take}
 use Rattle.sha2.specs.Hashers.{Holds256}
 use Rattle.save_device.specs.Changes.{Makes}
 use Rattle.save_device.specs.Device.{DeviceState}
@@ -29,6 +29,10 @@ next_of run = run.next
 abbrev pub tried_of : SaveRun → Bool
 tried_of run = run.tried
 
+-- how often the device failed in a step of it
+abbrev pub failures_of : SaveRun → ℕ
+failures_of run = run.failures
+
 -- the image of this plan, as the newest one
 abbrev pub newest_made : Plan → Newest
 newest_made plan = record { slot = plan.slot; generation = plan.generation }
@@ -38,6 +42,7 @@ pub record GoesOnFrom (good : Bool) (old new : SaveRun) : Type 0 where
   pub plan : plan_of new ≡ plan_of old
   pub next : next_of new ≡ (if good then step_after (plan_of old).lines (next_of old) else next_of old)
   pub tried : tried_of new ≡ not good
+  pub failures : failures_of new ≡ (if good then failures_of old else min (failures_of old + 1) (2 ^ 64 - 1))
 
 -- the pages of this memory that were written so far were digested, in their order
 abbrev pub HasDigested : List (List ℕ) → SaveRun → Type 0

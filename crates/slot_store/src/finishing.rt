@@ -26,6 +26,7 @@ pub fn page_for<'p, S: SaveSource>(
 impl SaveRun {
     ghost use Rattle.slot_store.specs.Runs.{plan_of};
     ghost use Rattle.slot_store.specs.Finishing.{Finishes, underway};
+    ghost use Rattle.slot_store.specs.Repeating.{FinishesRepeating};
 
     /// Makes all steps that are still to come, each one call of the device, and asks the source for each before it is made.
     /// It stops at the first that the source refuses, `Refused`, or in which the device fails, `Fault`: that step comes again,
@@ -53,5 +54,29 @@ impl SaveRun {
             };
         }
         Ok(())
+    }
+
+    /// The same, where a step in which the device failed is made again, so many times in all: it is asked for once more before
+    /// that. The next failure is told, `Fault`.
+    pub fn finish_repeating<S: SaveSource, D: SaveDevice>(
+        &mut self,
+        source: &mut S,
+        device: &mut D,
+        repeats: u64,
+    ) -> Result<(), BrokenOff>
+        requires lines { length (S.memory source.old) ≡ (plan_of self.old).lines }
+        requires size { HasSize (plan_of self.old).lines (D.state device.old) }
+        ensures { FinishesRepeating S.SaveSource repeats result
+            (underway source.old self.old (D.state device.old))
+            (underway source.new self.new (D.state device.new)) }
+    {
+        for _again in 0..repeats {
+            match self.finish(source, device) {
+                Ok(()) => return Ok(()),
+                Err(BrokenOff::Refused) => return Err(BrokenOff::Refused),
+                Err(BrokenOff::Fault) => {}
+            }
+        }
+        self.finish(source, device)
     }
 }

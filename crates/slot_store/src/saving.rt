@@ -30,6 +30,7 @@ pub struct SaveRun {
     plan: Plan,
     next: Step,
     tried: bool,
+    failures: u64,
     // It holds the pages that were written so far.
     hasher: Sha256,
     ghost place: { reach_of next ≤ plan.lines },
@@ -54,7 +55,7 @@ fn digest_written(hasher: &mut Sha256, step: Step, page: &[u8; 4096])
 }
 
 impl SaveRun {
-    ghost use Rattle.slot_store.specs.Runs.{plan_of, next_of, tried_of, newest_made, GoesOnFrom, HasDigested, HasSoFar, MakesStep, Saving};
+    ghost use Rattle.slot_store.specs.Runs.{plan_of, next_of, tried_of, failures_of, newest_made, GoesOnFrom, HasDigested, HasSoFar, MakesStep, Saving};
 
     /// A save of a memory after `count` writes over the newest image, in the other slot, with the next generation; its
     /// arm byte is 0x5A where it is `armed`. `closed` says that the other slot's gate is known closed and settled. It makes
@@ -71,6 +72,7 @@ impl SaveRun {
         ensures lines { (plan_of result).lines ≡ lines }
         ensures next { next_of result ≡ Step.Close }
         ensures untried { tried_of result ≡ false }
+        ensures unfailed { failures_of result ≡ 0 }
 
         // Over a device at rest it stands at its first step.
         ensures begun { (candidates : Candidates) (old : Image) (memory : List (List ℕ))
@@ -91,6 +93,7 @@ impl SaveRun {
             },
             next: Step::Close,
             tried: false,
+            failures: 0,
             hasher: Sha256::new(),
         }
     }
@@ -118,6 +121,7 @@ impl SaveRun {
             },
             next: Step::Page(0),
             tried: false,
+            failures: 0,
             hasher: Sha256::new(),
         }
     }
@@ -192,6 +196,13 @@ impl SaveRun {
         ensures { result ≡ tried_of self.now }
     {
         self.tried
+    }
+
+    /// How often the device failed in a step of it, or the largest number where it did more often.
+    pub fn failures(&self) -> u64
+        ensures { result ≡ failures_of self.now }
+    {
+        self.failures
     }
 
     // The step after the coming one.
@@ -304,6 +315,7 @@ impl SaveRun {
             }
             Err(fault) => {
                 self.tried = true;
+                self.failures = self.failures.saturating_add(1);
                 Err(fault)
             }
         }

@@ -15,7 +15,7 @@ pub returns-in-Err-clause-outside : goal.returns-in-Err-clause-outside
 returns-in-Err-clause-outside g c = let run = c.args.self.now in let made = c.call.ensures in in_slot run.plan made.digest run.next c.args.page.now made.size c.told-page run.place made.makes.outside
 
 pub returns-in-Err-clause-next : goal.returns-in-Err-clause-next
-returns-in-Err-clause-next g c = record { plan = refl; next = refl; tried = refl }
+returns-in-Err-clause-next g c = record { plan = refl; next = refl; tried = refl; failures = c.saturating_add-self.ensures }
 
 pub returns-in-Err-clause-has : goal.returns-in-Err-clause-has
 returns-in-Err-clause-has g c = λ memory lines gives has.
@@ -42,7 +42,7 @@ pub returns-in-Ok-clause-outside : goal.returns-in-Ok-clause-outside
 returns-in-Ok-clause-outside g c = let run = c.args.self.now in let made = c.call.ensures in in_slot run.plan made.digest run.next c.args.page.now made.size c.told-page run.place made.makes.outside
 
 pub returns-in-Ok-clause-next : goal.returns-in-Ok-clause-next
-returns-in-Ok-clause-next g c = record { plan = refl; next = c.after-self.ensures.after; tried = refl }
+returns-in-Ok-clause-next g c = record { plan = refl; next = c.after-self.ensures.after; tried = refl; failures = refl }
 
 pub returns-in-Ok-clause-has : goal.returns-in-Ok-clause-has
 returns-in-Ok-clause-has g c = λ memory lines gives has.
