@@ -42,6 +42,11 @@ reads_gauge Disarmed = true
 reads_gauge Armed = true
 reads_gauge _ = false
 
+-- how many device calls a save on mains may make again, of those that a closing save may: only the save of a disarming is one
+abbrev pub repeats_in : Mode → ℕ → ℕ
+repeats_in Disarming retries = retries
+repeats_in _ retries = 0
+
 -- a reading is under what is needed, where the mode needs it
 abbrev pub is_short : Mode → ℕ → ℕ → Bool
 is_short mode reading need = is_armed mode && nat_lt reading need

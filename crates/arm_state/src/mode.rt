@@ -1,6 +1,6 @@
 // The modes.
 ghost use Rattle.std.specs.Prelude.{◌≡◌};
-ghost use Rattle.arm_state.specs.Modes.{is_armed, is_disarming, has_ended, is_backed, accepts_writes, reads_gauge, is_short};
+ghost use Rattle.arm_state.specs.Modes.{is_armed, is_disarming, has_ended, is_backed, accepts_writes, reads_gauge, repeats_in, is_short};
 
 use std::fmt;
 
@@ -75,6 +75,17 @@ impl Mode {
         ensures { result ≡ reads_gauge self }
     {
         !self.is_disarming() && !self.has_ended()
+    }
+
+    /// How many device calls a save on mains may make again, of those that a closing save may: only the save of a disarming is
+    /// one.
+    pub fn repeats(self, retries: u64) -> u64
+        ensures { result ≡ repeats_in self retries }
+    {
+        match self {
+            Mode::Disarming => retries,
+            _ => 0,
+        }
     }
 
     /// Is a reading under what is needed? Only writes that are persistent at once need energy.

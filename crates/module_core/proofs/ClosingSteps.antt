@@ -1,21 +1,21 @@
 -- The steps of a closing save, as the gauge is asked for them: which actions are paid for.
-use Rattle.std.proofs.Common.{◌*◌, ◌++◌, Err, zero}
-use Rattle.std.proofs.lemmas.List.{take-append-drop}
+use Rattle.std.proofs.Common.{◌*◌, Err}
 use Rattle.std.specs.Prelude.{MatchResult}
 use Rattle.channel_port.specs.Draining.{PaysInTurn}
 use Rattle.energy_budget.specs.Actions.{page_actions, save_actions}
 use Rattle.energy_budget.specs.Gauge.{PaysCost}
 use Rattle.module_core.specs.Closing.{ArraysAt, PaysUntil, payments}
-use Rattle.nv_machine.proofs.Payments.{pays_append}
 use Rattle.slot_store.proofs.Standing.{below_or_not}
-use Rattle.slot_store.proofs.StepsLeft.{ComesAt, comes_at, drop_later, left_later, no_steps_left, reach_later}
-use Rattle.slot_store.specs.Finishing.{AsksFor, Finish, GrantsFirst}
+use Rattle.slot_store.proofs.StepsLeft.{ComesAt, comes_at, drop_later, left_later, reach_later}
+use Rattle.slot_store.specs.Finishing.{Finish}
+use Rattle.slot_store.specs.Repeating.{AsksForTries, GrantsTries}
+use Rattle.slot_store.specs.Tries.{StepsBelow, goods, tried}
 use Rattle.slot_store.specs.Slots.{IsCapacity}
 use Rattle.slot_store.specs.Steps.{reach_of, step_later, steps_left}
 use Rattle.slot_store.specs.declared.plan.Step.TheVariants.{Header, Open, SyncBody}
 use Rattle.energy_budget.specs.declared.action.Action.TheVariants as actions
 use Rattle.slot_store.specs.declared.source.BrokenOff.TheVariants as broken
-use Rattle.module_core.proofs.Common.{[], if◌then◌else◌, ℕ, ◌+◌, ◌-◌, ◌<◌, ◌∙◌, ◌∷◌, ◌≡◌, ◌≤◌, Action, Bool, ChannelsView, Close, Costs, Done, List, Ok, Page, Step, SyncClosed, SyncOpen, action_of, ap, append-nil, arith, cost_of, drop, inl, inr, refl, step_after, subst, suc, sym, take}
+use Rattle.module_core.proofs.Common.{[], if◌then◌else◌, ℕ, ◌+◌, ◌-◌, ◌<◌, ◌∙◌, ◌∷◌, ◌≡◌, ◌≤◌, Action, Bool, ChannelsView, Close, Costs, Done, List, Ok, Page, Step, SyncClosed, SyncOpen, action_of, ap, arith, cost_of, drop, false, inl, inr, refl, step_after, subst, suc, sym, true}
 
 -- the actions of the steps that are still to come, of so many pages
 abbrev pub actions_left : ℕ → Step → List Action
@@ -27,10 +27,6 @@ actions_left n SyncBody = actions.Sync ∷ actions.OpenGate ∷ actions.Sync ∷
 actions_left n Open = actions.OpenGate ∷ actions.Sync ∷ []
 actions_left n SyncOpen = actions.Sync ∷ []
 actions_left n Done = []
-
--- where nothing is left behind the first ones, they are all
-take_all : {X : Type 0} (xs : List X) (k : ℕ) → drop k xs ≡ [] → take k xs ≡ xs
-take_all {X} xs k none = sym (append-nil (take k xs)) ∙ ap (λ (ys : List X). take k xs ++ ys) (sym none) ∙ take-append-drop k xs
 
 -- from this step on
 module _ (costs : Costs) (lines : ℕ) (capacity : IsCapacity lines) (is : lines ≡ 64 * costs.pages) (first : Step) (reach : reach_of first ≤ lines) where
@@ -67,39 +63,47 @@ module _ (costs : Costs) (lines : ℕ) (capacity : IsCapacity lines) (is : lines
       comes_at actions_to_come n (action_of (step n)) (actions_left pages (step (suc n)))
       (actions_behind n (omega (arith, more)) ∙ actions_left-after (step n) (reach_later lines capacity first reach n) (omega (arith, left, more)))
 
-  -- the first steps that are granted are paid for
-  paid_once : (old new : ArraysAt) (next : Step) → old.channels.shape.costs ≡ costs → payments.asks old next (Ok tt) new → PaysInTurn costs (action_of next ∷ []) old.gauge (Ok tt) new.gauge
-  paid_once old new next same asked = (new.gauge, subst (λ (c : Costs). PaysCost old.gauge (cost_of c (action_of next)) (Ok tt) new.gauge) same asked.0, refl)
+  -- the actions from a later step on
+  action_here : (n : ℕ) → n < steps_left lines first → actions_left pages (step n) ≡ action_of (step n) ∷ actions_left pages (step (suc n))
+  action_here n more =
+      let left : steps_left lines (step n) + n ≡ steps_left lines first = left_later lines capacity first reach n (omega (arith, more)) in
+      actions_left-after (step n) (reach_later lines capacity first reach n) (omega (arith, left, more))
 
-  pub paid_first : (n : ℕ) (old new : ArraysAt) → n ≤ steps_left lines first → old.channels.shape.costs ≡ costs → GrantsFirst payments.asks step n old new
-      → PaysInTurn costs (take n actions_to_come) old.gauge (Ok tt) new.gauge × (new.channels ≡ old.channels)
-  paid_first zero old new most same granted = (ap (λ (a : ArraysAt). a.gauge) granted, ap (λ (a : ArraysAt). a.channels) granted)
-  paid_first (suc n) old new most same granted =
-      let before = paid_first n old granted.0 (omega (arith, most)) same granted.1 in let asked = granted.2 in (
-        subst (λ (xs : List Action). PaysInTurn costs xs old.gauge (Ok tt) new.gauge) (sym (action_comes n (omega (arith, most))).taken)
-            (pays_append costs (take n actions_to_come) (action_of (step n) ∷ []) old.gauge granted.0.gauge (Ok tt) new.gauge before.0
-            (paid_once granted.0 new (step n) (ap (λ (v : ChannelsView). v.shape.costs) before.1 ∙ same) asked)),
-        asked.1 ∙ before.1,
+  -- each try is paid for
+  paid_one : (old mid : ArraysAt) (next : Step) → old.channels.shape.costs ≡ costs → payments.asks old next (Ok tt) mid → PaysCost old.gauge (cost_of costs (action_of next)) (Ok tt) mid.gauge
+  paid_one old mid next same asked = subst (λ (c : Costs). PaysCost old.gauge (cost_of c (action_of next)) (Ok tt) mid.gauge) same asked.0
+
+  pub paid_tried : (tries : List Bool) (n : ℕ) (old new : ArraysAt) → StepsBelow (steps_left lines first) tries n → old.channels.shape.costs ≡ costs → GrantsTries payments.asks step tries n old new
+      → PaysInTurn costs (tried (actions_left pages (step n)) tries) old.gauge (Ok tt) new.gauge × (new.channels ≡ old.channels)
+  paid_tried [] n old new below same granted = (ap (λ (a : ArraysAt). a.gauge) granted, ap (λ (a : ArraysAt). a.channels) granted)
+  paid_tried (true ∷ tries) n old new below same granted =
+      let mid : ArraysAt = granted.0 in let asked = granted.1 in
+      let rest = paid_tried tries (suc n) mid new below.1 (ap (λ (v : ChannelsView). v.shape.costs) asked.1 ∙ same) granted.2 in (
+        subst (λ (xs : List Action). PaysInTurn costs (tried xs (true ∷ tries)) old.gauge (Ok tt) new.gauge) (sym (action_here n below.0)) (mid.gauge, paid_one old mid (step n) same asked, rest.0),
+        rest.1 ∙ asked.1,
+      )
+  paid_tried (false ∷ tries) n old new below same granted =
+      let mid : ArraysAt = granted.0 in let asked = granted.1 in
+      let rest = paid_tried tries n mid new below.1 (ap (λ (v : ChannelsView). v.shape.costs) asked.1 ∙ same) granted.2 in
+      let again : PaysInTurn costs (tried (action_of (step n) ∷ actions_left pages (step (suc n))) tries) mid.gauge (Ok tt) new.gauge =
+      subst (λ (xs : List Action). PaysInTurn costs (tried xs tries) mid.gauge (Ok tt) new.gauge) (action_here n below.0) rest.0 in (
+        subst (λ (xs : List Action). PaysInTurn costs (tried xs (false ∷ tries)) old.gauge (Ok tt) new.gauge) (sym (action_here n below.0)) (mid.gauge, paid_one old mid (step n) same asked, again),
+        rest.1 ∙ asked.1,
       )
 
   -- and so is all that was asked for
-  pub paid_until : (finish : Finish) (n : ℕ) (old new : ArraysAt) → MatchResult finish (λ done. n ≡ steps_left lines first) (λ why. n < steps_left lines first) → old.channels.shape.costs ≡ costs
-      → AsksFor payments.asks step finish n old new → PaysUntil costs actions_to_come finish n old.gauge new.gauge
-  paid_until (Ok done) n old new all same asked =
-      let none : steps_left lines (step n) ≡ 0 = omega (arith, left_later lines capacity first reach n (omega (arith, all)), all) in
-      let ended : step n ≡ Done = no_steps_left lines (step n) (reach_later lines capacity first reach n) none in
-      subst (λ (xs : List Action). PaysInTurn costs xs old.gauge (Ok tt) new.gauge) (take_all actions_to_come n (actions_behind n (omega (arith, all)) ∙ ap (actions_left pages) ended))
-      (paid_first n old new (omega (arith, all)) same asked).0
-  paid_until (Err broken.Refused) n old new less same asked =
-      let first = paid_first n old asked.0 (omega (arith, less)) same asked.2 in let refused = asked.3.0 in
-      record {
-        mid = asked.0.gauge;
-        pays = first.0;
-        coming = action_of (step n);
-        comes = (action_comes n less).here;
-        answer = refused.0;
-        refused = subst (λ (c : Costs). PaysCost asked.0.gauge (cost_of c (action_of (step n))) (Err refused.0) new.gauge) (ap (λ (v : ChannelsView). v.shape.costs) first.1 ∙ same) refused.1;
-      }
-  paid_until (Err broken.Fault) n old new less same asked =
-      let one : suc n ≡ n + 1 = omega arith in
-      subst (λ (k : ℕ). PaysInTurn costs (take k actions_to_come) old.gauge (Ok tt) new.gauge) one (paid_first (suc n) old new (omega (arith, less)) same asked).0
+  pub paid_until : (finish : Finish) (tries : List Bool) (old new : ArraysAt) → MatchResult finish (λ done. goods tries ≡ steps_left lines first) (λ why. goods tries < steps_left lines first)
+      → StepsBelow (steps_left lines first) tries 0 → old.channels.shape.costs ≡ costs → AsksForTries payments.asks step finish tries old new → PaysUntil costs actions_to_come finish tries old.gauge new.gauge
+  paid_until (Ok done) tries old new all below same asked = (paid_tried tries 0 old new below same asked).0
+  paid_until (Err broken.Refused) tries old new less below same asked =
+      let first = paid_tried tries 0 old asked.0 below same asked.2 in let refused = asked.3.0 in let coming : Action = action_of (step (goods tries)) in (
+        coming,
+        (action_comes (goods tries) less).here,
+        record {
+          mid = asked.0.gauge;
+          pays = first.0;
+          answer = refused.0;
+          refused = subst (λ (c : Costs). PaysCost asked.0.gauge (cost_of c coming) (Err refused.0) new.gauge) (ap (λ (v : ChannelsView). v.shape.costs) first.1 ∙ same) refused.1;
+        },
+      )
+  paid_until (Err broken.Fault) tries old new less below same asked = (paid_tried tries 0 old new below same asked).0

@@ -1,14 +1,14 @@
 -- The store between the steps of a closing save.
 use Rattle.std.proofs.Common.{◌*◌, ◌||◌, zero, ⊎_elim}
 use Rattle.module_core.specs.Device.{AreAmong, FindsNewest, IsPlanFor}
-use Rattle.nv_machine.specs.Moves.{SaveProgress}
+use Rattle.nv_machine.specs.Moves.{SaveProgress, broken_off}
 use Rattle.slot_store.proofs.Standing.{below_or_not}
 use Rattle.slot_store.specs.Outcomes.{Found}
 use Rattle.slot_store.specs.Rest.{Candidates}
 use Rattle.slot_store.specs.Saving.{FindsNew, FindsOld, Leaves, image_of, old_and_new, only_old}
 use Rattle.slot_store.specs.Steps.{reach_of, step_later, steps_left}
 use Rattle.slot_store.specs.declared.plan.Step.TheVariants.{Header, Open}
-use Rattle.module_core.proofs.Common.{if◌then◌else◌, ℕ, ◌+◌, ◌<◌, ◌∙◌, ◌≡◌, ◌≢◌, ◌≤◌, ◌⊎◌, Bool, Close, DeviceState, Done, HoldsWhile, Image, IsAmong, Knows, List, Newest, None, Outcome, Page, Plan, SavingAt, Some, Step, Store, SyncClosed, SyncOpen, after_steps, ap, arith, closed_before, false, inl, inr, other, refl, restored, rules, step_after, step_failed, stepped, subst, suc, sym, true}
+use Rattle.module_core.proofs.Common.{if◌then◌else◌, ℕ, ◌+◌, ◌<◌, ◌∙◌, ◌≡◌, ◌≢◌, ◌≤◌, ◌⊎◌, Bool, Close, DeviceState, Done, HoldsWhile, Image, IsAmong, Knows, List, Newest, None, Outcome, Page, Plan, SavingAt, Some, Step, Store, SyncClosed, SyncOpen, after_steps, ap, arith, closed_before, false, inl, inr, other, refl, restored, rules, step_after, stepped, subst, suc, sym, true}
 use Rattle.module_core.proofs.StoreSteps.{alone_in, both_in, here, old_in, rests_in}
 
 -- the store before a step of a save of this image, as this store began it
@@ -36,8 +36,7 @@ progress lines s made (suc n) =
 
 -- the store where the save is given up before a step, which failed or wasn't tried
 abbrev pub store_given_up : Store → Image → Step → Bool → Store
-store_given_up s made step false = record (store_before s made step) { saving = None }
-store_given_up s made step true = step_failed (store_before s made step) made step
+store_given_up s made step tried = broken_off (store_before s made step) made step tried
 
 -- behind the opening of the gate, or where that failed, the new image may be found
 pub new_given_up : (lines : ℕ) (s : Store) (made : Image) (step : Step) (tried : Bool) → reach_of step ≤ lines → steps_left lines step < (if tried then 3 else 2)

@@ -112,7 +112,7 @@ module _ {K : Type 0} (L : Ghosts K) where
       let before : Counts first middle = run_counts setup events replies first middle run in
       let behind : Counts middle last = event_counts (setup_of L mid.it) event.Lose (reply.Lose lost) middle last next.2.happens.step in
       let same : new.gauge.faults ≡ old.gauge.faults = faultless.gauge.faultless in
-      let spared : faults_of new.device ≡ faults_of mid.device = omega (arith, before.device, behind.device, faultless.device) in
+      let spared : faults_of new.device ≤ faults_of mid.device + (setup_of L mid.it).shape.costs.retries = omega (arith, before.device, behind.device, faultless.device) in
       let honest = along found image events replies old middle run
       (record { bounded = faultless.gauge.bounded; faultless = omega (arith, before.gauge, behind.gauge, same) }) (omega (arith, before.device, behind.device, faultless.device)) in
       let backed : IsBacked setup r.last mid.gauge = backed_along setup events replies first middle run honest (not_backed setup m old.gauge refl) in

@@ -4,22 +4,28 @@ use Rattle.module_core.specs.Device.{IsPlanFor}
 use Rattle.save_image.specs.Header.{arm_byte}
 use Rattle.slot_store.specs.Rest.{IsAtRest}
 use Rattle.slot_store.specs.Runs.{newest_made}
+use Rattle.nv_machine.specs.Moves.{repeated, torn}
+use Rattle.slot_store.specs.declared.plan.Step.TheVariants.{Close}
 use Rattle.module_core.proofs.Common.{ℕ, ◌+◌, ◌∙◌, ◌≡◌, ◌≢◌, BeginsSave, Bool, DeviceState, Done, HoldsWhile, Image, IsMemory, IsResting, IsSaving, Knows, Newest, Option, Plan, SaveRun, Saves, Slot, Some, Step, Store, SyncOpen, after_step, ap, armed, begun_save, closed_before, false, inl, inr, other, plan_of, refl, rules, saved_in, step_failed, subst, sym, true}
 use Rattle.module_core.proofs.StoreSteps.{at_rest}
 
 module _ (lines : ℕ) (s : Store) (made : Image) (rises : made.generation ≡ s.maybe.newest.generation + 1) (newest : Newest) (closed unsettled : Bool) (knows : Knows newest closed unsettled s) where
   -- the module knows the store after a step that went well and wasn't the last one
-  pub knows_next : (next : Step) → next ≢ SyncOpen → (closed' : Bool) → closed' ≡ (after_step lines s (record { made = made; next = next }) next).closed
-      → Knows newest closed' unsettled (after_step lines s (record { made = made; next = next }) next)
-  knows_next next going closed' shut = search rules
+  pub knows_next : (next : Step) (repeats : ℕ) → next ≢ SyncOpen → (closed' : Bool) → closed' ≡ (after_step lines s (record { made = made; next = next; repeats = repeats }) next).closed
+      → Knows newest closed' unsettled (after_step lines s (record { made = made; next = next; repeats = repeats }) next)
+  knows_next next repeats going closed' shut = search rules
+
+  -- after one that failed and is made again
+  pub knows_torn : (next : Step) (repeats : ℕ) (closed' : Bool) → closed' ≡ (torn s made next).closed → Knows newest closed' unsettled (repeated (record { made = made; next = next; repeats = repeats }) (torn s made next))
+  knows_torn next repeats closed' shut = search rules
 
   -- after the last one
   pub knows_saved : (newest' : Newest) (plan : Plan) → newest' ≡ newest_made plan → IsPlanFor lines s made plan → Knows newest' false false (saved_in s made)
   knows_saved newest' plan is p = record { slot = ap (λ (x : Newest). x.slot) is ∙ p.slot; generation = ap (λ (x : Newest). x.generation) is ∙ p.generation; shut = refl; open_end = refl }
 
   -- and after one that failed
-  pub knows_failed : (plan : Plan) (next : Step) → next ≢ Done → s.closed ≡ closed_before plan next false → Knows newest (closed_before plan next true) true (step_failed s made next)
-  knows_failed plan next going shut = search rules
+  pub knows_failed : (plan : Plan) (next : Step) (tried : Bool) → next ≢ Done → s.closed ≡ closed_before plan next tried → Knows newest (closed_before plan next true) true (step_failed s made next)
+  knows_failed plan next tried going shut = search rules
 
 module _ (lines : ℕ) (s : Store) (state : DeviceState) where
   -- a save is begun over it
@@ -42,12 +48,12 @@ module _ (lines : ℕ) (s : Store) (state : DeviceState) where
         newest = rest.newest;
         plan = record { slot = p.slot; generation = p.generation; count = p.count; arm = p.arm; lines_are = p.lines_are; rises = p.rises };
         next = begun.next;
-        untried = begun.untried;
+        again = begun.unfailed;
         saving = begun.saving rest.candidates rest.image made.memory state
             (subst (λ (at : Slot). IsAtRest rest.candidates rest.image at lines old.closed state) (sym knows.slot)
             (subst (λ (c : Bool). IsAtRest rest.candidates rest.image s.maybe.slot lines c state) (sym knows.shut) rest.rest))
             (ap (λ (i : Image). i.generation) rest.newest.is ∙ sym knows.generation) memory;
-        shut = sym (begun.shut ∙ knows.shut);
+        shut = sym (ap (closed_before plan Close) begun.untried ∙ begun.shut ∙ knows.shut);
         among = rest.among;
         going = λ is. cc;
       } in

@@ -7,7 +7,9 @@ use Rattle.module_core.specs.Closing.{ClosesChannels, ClosingAt, closing_at}
 use Rattle.module_core.specs.Stands.{EndsMains, EndsHoldAndReads, SameNumbers}
 use Rattle.slot_store.specs.Finishing.{Finish}
 use Rattle.slot_store.specs.declared.source.BrokenOff.{BrokenOff}
-use Rattle.nv_machine.proofs.GuardLaws.{for_none}
+use Rattle.nv_machine.proofs.GuardLaws.{for_none, for_one}
+use Rattle.slot_store.specs.Runs.{tried_of}
+use Rattle.std.specs.Option.{ForSome}
 use Rattle.nv_machine.proofs.Leaving.{left_within}
 use Rattle.nv_machine.specs.Losses.{LoseStep}
 use Rattle.arm_state.specs.declared.loss.Loss.TheVariants as loss
@@ -61,6 +63,7 @@ module _ {K : Type 0} (L : Ghosts K) where
           };
           holds = subst (λ (k : ℕ). HoldsWhile (Some (begun_save made)) begun.saves.saving k (record s { saving = Some (begun_save made) }) old.device) (sym same)
               (holds_begun lines s old.device old.it.saves.saving old.it.saves begun.saves made false stands.holds h.knows all refl refl h.memory);
+          untried = subst (λ (o : Option SaveRun). ForSome o (λ run. tried_of run ≡ false)) (sym all.runs) (for_one all.run (λ run. tried_of run ≡ false) all.begun.untried);
         }
 
     here : StopsWithin (λ bytes. IsAmong m.store.maybe (restored (lines_of_module L old.it) bytes)) (present old.device)

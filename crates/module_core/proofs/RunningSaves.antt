@@ -1,12 +1,17 @@
 -- What the channels carry, and which save runs, while the store goes on.
 use Rattle.module_core.specs.Saving.{count_in}
 use Rattle.module_core.specs.Stands.{hold_behind}
-use Rattle.nv_machine.specs.Moves.{advanced}
+use Rattle.std.proofs.Common.{Bool, false, true}
+use Rattle.nv_machine.specs.Moves.{advanced, broken_off}
 use Rattle.module_core.proofs.Common.{ℕ, ◌∙◌, ◌≡◌, ◌≢◌, DeviceState, ForSome, HoldsWhile, Image, IsSaving, None, Option, RunningSave, AreSameSave, SaveRun, Some, Step, Store, SyncOpen, after_step, ap, hold_at, more, next_of, option_map, other, plan_of, refl, rules, step_after, step_failed, stepped, subst, sym}
 
 -- after a fault no save runs
 pub failed_none : (s : Store) (made : Image) (next : Step) → (step_failed s made next).saving ≡ None
 failed_none s made next = search rules
+
+pub broken_none : (s : Store) (made : Image) (next : Step) (failed : Bool) → (broken_off s made next failed).saving ≡ None
+broken_none s made next true = failed_none s made next
+broken_none s made next false = refl
 
 -- the save that the device has is the one that the module makes
 pub holds_runs : (lines : ℕ) (s : Store) (state : DeviceState) (o : Option RunningSave) (r : Option SaveRun) → HoldsWhile o r lines s state → AreSameSave o r

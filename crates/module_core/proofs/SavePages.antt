@@ -6,7 +6,7 @@ use Rattle.module_core.proofs.Common.{[], ℕ, ◌∙◌, ◌∷◌, ◌≡◌, 
 
 -- the machine's step, of what the module did after the reading
 pub whole_step : (setup : Setup) (old new : World) (save : RunningSave) (reading : ℕ) (reply : StepReply) → MayStep old.machine save → ReadsLevel GaugeCall.Tick old.gauge reading new.gauge → is_low setup (read_as reading old.machine) ≡ false
-    → Calls (step_call old.machine.store.closed save.next ∷ []) (is_made reply) old new → MadeStep setup.shape.lines save reply (read_as reading old.machine) new.machine → SaveStepStep setup reply old new
+    → Calls (step_call old.machine.store.closed save.next ∷ []) (is_made reply) old new → MadeStep setup save reply (read_as reading old.machine) new.machine → SaveStepStep setup reply old new
 whole_step setup old new save reading reply ready reads enough calls did = search rules
 
 -- A page of the arrays is that page of the image, where nothing that the page is to have waits and all else is held.
@@ -16,5 +16,5 @@ gives array memory m count end (Page k) page given none held is = given ∙ ap (
 gives array memory m count end next page given none held is = tt
 
 -- the call of a step, by what the plan and the machine know of the gate
-pub same_call : (plan : Plan) (closed : Bool) (next : Step) → closed ≡ closed_before plan next false → step_call plan.closed next ≡ step_call closed next
-same_call plan closed next shut = search rules
+pub same_call : (plan : Plan) (closed : Bool) (next : Step) (tried : Bool) → closed ≡ closed_before plan next tried → step_call plan.closed next ≡ step_call closed next
+same_call plan closed next tried shut = search rules

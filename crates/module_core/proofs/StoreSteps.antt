@@ -6,10 +6,11 @@ use Rattle.slot_store.proofs.GivenUp.{given_up, save_done}
 use Rattle.slot_store.proofs.Resting.{other_other}
 use Rattle.slot_store.specs.Outcomes.{Found}
 use Rattle.slot_store.specs.Rest.{Candidates, IsAtRest, only}
-use Rattle.slot_store.specs.Runs.{Saving}
+use Rattle.slot_store.specs.Runs.{Saving, failures_of}
 use Rattle.slot_store.specs.Saving.{Leaves, candidates_before, image_of, old_and_new, only_old}
 use Rattle.slot_store.specs.declared.plan.Step.TheVariants.{Header, Open}
 use Rattle.module_core.proofs.Common.{if◌then◌else◌, ℕ, ◌+◌, ◌∙◌, ◌≡◌, ◌≢◌, ◌⊎◌, Bool, DeviceState, Done, HoldsWhile, Image, IsAmong, IsResting, IsSaving, List, None, Option, Outcome, Page, Plan, RunningSave, SaveRun, SavingAt, Slot, Some, Step, Store, SyncClosed, SyncOpen, after_step, ap, closed_before, false, more, next_of, other, plan_of, present, rearmed, refl, restored, rules, saved_in, step_after, step_failed, subst, sym, tried_of, true}
+use Rattle.nv_machine.specs.Moves.{repeated, torn}
 
 -- a save by its plan, its coming step, and whether that failed
 module _ (later : SaveRun) (plan : Plan) (next : Step) (tried : Bool) (plan_is : plan_of later ≡ plan) (next_is : next_of later ≡ next) (tried_is : tried_of later ≡ tried) where
@@ -47,41 +48,76 @@ module _ (lines : ℕ) (s : Store) (candidates : Candidates) (image made : Image
   both_in m slot newest any_arm saved = search rules
 
   -- what a stop in a step leaves, where the store after it is known to have the new image from the opening on
-  left : (next : Step) (later : Store) (c : List ℕ) → (next ≡ Open → later.maybe ≡ record s.maybe { saved = Some made }) → AreAmong (candidates_before candidates image plan made.memory next false) s.maybe
+  left : (next : Step) (tried : Bool) (later : Store) (c : List ℕ) → (next ≡ Open → later.maybe ≡ record s.maybe { saved = Some made }) → AreAmong (candidates_before candidates image plan made.memory next tried) s.maybe
       → Leaves candidates image plan made.memory next c → IsAmong s.maybe (restored lines c) ⊎ IsAmong later.maybe (restored lines c)
-  left next later c opens among leaves = search (rules, old_in, here, new_in, other_other)
+  left next tried later c opens among leaves = search (rules, old_in, here, new_in, other_other)
 
-  pub left_stepped : (next : Step) (c : List ℕ) → AreAmong (candidates_before candidates image plan made.memory next false) s.maybe → Leaves candidates image plan made.memory next c
-      → IsAmong s.maybe (restored lines c) ⊎ IsAmong (after_step lines s (record { made = made; next = next }) next).maybe (restored lines c)
-  left_stepped next c among leaves = left next (after_step lines s (record { made = made; next = next }) next) c (λ is. ap (λ (x : Step). (after_step lines s (record { made = made; next = next }) x).maybe) is) among leaves
+  pub left_stepped : (next : Step) (repeats : ℕ) (tried : Bool) (c : List ℕ) → AreAmong (candidates_before candidates image plan made.memory next tried) s.maybe → Leaves candidates image plan made.memory next c
+      → IsAmong s.maybe (restored lines c) ⊎ IsAmong (after_step lines s (record { made = made; next = next; repeats = repeats }) next).maybe (restored lines c)
+  left_stepped next repeats tried c among leaves =
+      left next tried (after_step lines s (record { made = made; next = next; repeats = repeats }) next) c
+      (λ is. ap (λ (x : Step). (after_step lines s (record { made = made; next = next; repeats = repeats }) x).maybe) is) among leaves
 
-  pub left_failed : (next : Step) (c : List ℕ) → AreAmong (candidates_before candidates image plan made.memory next false) s.maybe → Leaves candidates image plan made.memory next c
+  pub left_failed : (next : Step) (tried : Bool) (c : List ℕ) → AreAmong (candidates_before candidates image plan made.memory next tried) s.maybe → Leaves candidates image plan made.memory next c
       → IsAmong s.maybe (restored lines c) ⊎ IsAmong (step_failed s made next).maybe (restored lines c)
-  left_failed next c among leaves = left next (step_failed s made next) c (λ is. ap (λ (x : Step). (step_failed s made x).maybe) is) among leaves
+  left_failed next tried c among leaves = left next tried (step_failed s made next) c (λ is. ap (λ (x : Step). (step_failed s made x).maybe) is) among leaves
+
+  pub left_torn : (next : Step) (tried : Bool) (c : List ℕ) → AreAmong (candidates_before candidates image plan made.memory next tried) s.maybe → Leaves candidates image plan made.memory next c
+      → IsAmong s.maybe (restored lines c) ⊎ IsAmong (torn s made next).maybe (restored lines c)
+  left_torn next tried c among leaves = left next tried (torn s made next) c (λ is. ap (λ (x : Step). (torn s made x).maybe) is) among leaves
 
   module _ (state : DeviceState) where
-    goes_on : (later : Store) → later.maybe.slot ≡ s.maybe.slot → later.maybe.newest ≡ s.maybe.newest → later.maybe.any_arm ≡ s.maybe.any_arm → (next : Step) (run : SaveRun) → plan_of run ≡ plan → next_of run ≡ next → tried_of run ≡ false
-        → later.closed ≡ closed_before plan next false → AreAmong (candidates_before candidates image plan made.memory next false) later.maybe → next ≢ Done → Saving candidates image made.memory run state
-        → IsSaving lines later (record { made = made; next = next }) run state
-    goes_on later slot newest any_arm next run same next_is untried shut among going saving = search rules
+    goes_on : (later : Store) → later.maybe.slot ≡ s.maybe.slot → later.maybe.newest ≡ s.maybe.newest → later.maybe.any_arm ≡ s.maybe.any_arm → (next : Step) (tried : Bool) (repeats : ℕ) (run : SaveRun) → plan_of run ≡ plan → next_of run ≡ next → tried_of run ≡ tried
+        → failures_of run ≡ repeats → later.closed ≡ closed_before plan next tried → AreAmong (candidates_before candidates image plan made.memory next tried) later.maybe → next ≢ Done → Saving candidates image made.memory run state
+        → IsSaving lines later (record { made = made; next = next; repeats = repeats }) run state
+    goes_on later slot newest any_arm next tried repeats run same next_is tried_is failures shut among going saving = record {
+      candidates = candidates;
+      image = image;
+      newest = record { own = λ none. n.own (sym any_arm ∙ none) ∙ ap (λ (i : Image). i.arm) (sym newest); is = n.is ∙ ap (λ (i : Image). rearmed i image.arm) (sym newest) };
+      plan = subst (λ (x : Plan). IsPlanFor lines later made x) (sym same) (record {
+        slot = p.slot ∙ ap other (sym slot);
+        generation = p.generation;
+        count = p.count;
+        arm = p.arm;
+        lines_are = p.lines_are;
+        rises = p.rises ∙ ap (λ (i : Image). i.generation + 1) (sym newest);
+      });
+      next = next_is;
+      again = failures;
+      saving = saving;
+      shut = shut ∙ ap (closed_before plan next) (sym tried_is) ∙ ap (λ (x : Plan). closed_before x next (tried_of run)) (sym same);
+      among = subst (λ (x : Plan). AreAmong (candidates_before candidates image x made.memory next (tried_of run)) later.maybe) (sym same)
+          (subst (λ (t : Bool). AreAmong (candidates_before candidates image plan made.memory next t) later.maybe) (sym tried_is) among);
+      going = going;
+    }
 
     -- the store after a step that went well and wasn't the last one
-    pub holds_next : (next : Step) (run : SaveRun) → plan_of run ≡ plan → next_of run ≡ step_after lines next → tried_of run ≡ false
-        → s.closed ≡ closed_before plan next false → AreAmong (candidates_before candidates image plan made.memory next false) s.maybe → step_after lines next ≢ Done → Saving candidates image made.memory run state
-        → IsSaving lines (after_step lines s (record { made = made; next = next }) next) (record { made = made; next = step_after lines next }) run state
-    holds_next SyncClosed run same next_is untried shut among going saving =
-        goes_on (after_step lines s (record { made = made; next = SyncClosed }) SyncClosed) refl refl refl (Page 0) run same next_is untried refl (alone_in (record s.maybe { saved = None }) refl refl refl) going saving
-    holds_next (Page k) run same next_is untried shut among going saving =
+    pub holds_next : (next : Step) (tried : Bool) (repeats : ℕ) (run : SaveRun) → plan_of run ≡ plan → next_of run ≡ step_after lines next → tried_of run ≡ false → failures_of run ≡ repeats
+        → s.closed ≡ closed_before plan next tried → AreAmong (candidates_before candidates image plan made.memory next tried) s.maybe → step_after lines next ≢ Done → Saving candidates image made.memory run state
+        → IsSaving lines (after_step lines s (record { made = made; next = next; repeats = repeats }) next) (record { made = made; next = step_after lines next; repeats = repeats }) run state
+    holds_next SyncClosed tried repeats run same next_is untried failures shut among going saving =
+        goes_on (after_step lines s (record { made = made; next = SyncClosed; repeats = repeats }) SyncClosed) refl refl refl (Page 0) false repeats run same next_is untried failures refl (alone_in (record s.maybe { saved = None }) refl refl refl) going saving
+    holds_next (Page k) tried repeats run same next_is untried failures shut among going saving =
         let by_size : (b : Bool) → closed_before plan (if b then Header else Page (k + 1)) false ≡ true = elim [ true ↦ refl | false ↦ refl ] in
         let candidates_by : (b : Bool) → candidates_before candidates image plan made.memory (if b then Header else Page (k + 1)) false ≡ only_old image plan = elim [ true ↦ refl | false ↦ refl ] in
-        goes_on (after_step lines s (record { made = made; next = Page k }) (Page k)) refl refl refl (step_after lines (Page k)) run same next_is untried
+        goes_on (after_step lines s (record { made = made; next = Page k; repeats = repeats }) (Page k)) refl refl refl (step_after lines (Page k)) false repeats run same next_is untried failures
         (shut ∙ sym (by_size (nat_lt lines (64 * (k + 2))))) (subst (λ (c : Candidates). AreAmong c s.maybe) (sym (candidates_by (nat_lt lines (64 * (k + 2))))) among) going saving
-    holds_next Open run same next_is untried shut among going saving =
-        goes_on (after_step lines s (record { made = made; next = Open }) Open) refl refl refl SyncOpen run same next_is untried refl (both_in (record s.maybe { saved = Some made }) refl refl refl refl) going saving
-    holds_next SyncOpen run same next_is untried shut among going saving = absurd (going refl)
-    holds_next Done run same next_is untried shut among going saving = absurd (going refl)
-    holds_next next run same next_is untried shut among going saving =
-        goes_on (after_step lines s (record { made = made; next = next }) next) refl refl refl (step_after lines next) run same next_is untried shut among going saving
+    holds_next Open tried repeats run same next_is untried failures shut among going saving =
+        goes_on (after_step lines s (record { made = made; next = Open; repeats = repeats }) Open) refl refl refl SyncOpen false repeats run same next_is untried failures refl (both_in (record s.maybe { saved = Some made }) refl refl refl refl) going saving
+    holds_next SyncOpen tried repeats run same next_is untried failures shut among going saving = absurd (going refl)
+    holds_next Done tried repeats run same next_is untried failures shut among going saving = absurd (going refl)
+    holds_next next tried repeats run same next_is untried failures shut among going saving =
+        goes_on (after_step lines s (record { made = made; next = next; repeats = repeats }) next) refl refl refl (step_after lines next) false repeats run same next_is untried failures shut among going saving
+
+    -- the store after one that failed and is made again
+    pub holds_torn : (next : Step) (tried : Bool) (repeats : ℕ) (run : SaveRun) → plan_of run ≡ plan → next_of run ≡ next → tried_of run ≡ true → failures_of run ≡ repeats + 1
+        → s.closed ≡ closed_before plan next tried → AreAmong (candidates_before candidates image plan made.memory next tried) s.maybe → next ≢ Done → Saving candidates image made.memory run state
+        → IsSaving lines (repeated (record { made = made; next = next; repeats = repeats }) (torn s made next)) (record { made = made; next = next; repeats = repeats + 1 }) run state
+    holds_torn Open tried repeats run same next_is tried_is failures shut among going saving =
+        goes_on (repeated (record { made = made; next = Open; repeats = repeats }) (torn s made Open)) refl refl refl Open true (repeats + 1) run same next_is tried_is failures refl (both_in (record s.maybe { saved = Some made }) refl refl refl refl) going saving
+    holds_torn Done tried repeats run same next_is tried_is failures shut among going saving = absurd (going refl)
+    holds_torn next tried repeats run same next_is tried_is failures shut among going saving =
+        goes_on (repeated (record { made = made; next = next; repeats = repeats }) (torn s made next)) refl refl refl next true (repeats + 1) run same next_is tried_is failures shut among going saving
 
     -- and after the last one
     pub holds_saved : (tried : Bool) → SavingAt candidates image plan made.memory Done tried state → IsResting lines (saved_in s made) state
@@ -111,11 +147,11 @@ module _ (lines : ℕ) (s : Store) (candidates : Candidates) (image made : Image
     }
 
     -- the store after a step that failed
-    pub holds_failed : (next : Step) → next ≢ Done → s.closed ≡ closed_before plan next false → AreAmong (candidates_before candidates image plan made.memory next false) s.maybe
+    pub holds_failed : (next : Step) (tried : Bool) → next ≢ Done → s.closed ≡ closed_before plan next tried → AreAmong (candidates_before candidates image plan made.memory next tried) s.maybe
         → SavingAt candidates image plan made.memory next true state → HoldsWhile (step_failed s made next).saving None lines (step_failed s made next) state
-    holds_failed Open going shut among saving = rests_in (step_failed s made Open) refl refl refl Open true going refl (both_in (record s.maybe { saved = Some made }) refl refl refl refl) saving
-    holds_failed Done going shut among saving = absurd (going refl)
-    holds_failed next going shut among saving = rests_in (step_failed s made next) refl refl refl next true going shut among saving
+    holds_failed Open tried going shut among saving = rests_in (step_failed s made Open) refl refl refl Open true going refl (both_in (record s.maybe { saved = Some made }) refl refl refl refl) saving
+    holds_failed Done tried going shut among saving = absurd (going refl)
+    holds_failed next tried going shut among saving = rests_in (step_failed s made next) refl refl refl next true going shut among saving
 
 -- what is known while a save runs
 pub is_saving : (lines : ℕ) (s : Store) (save : RunningSave) (run : SaveRun) (state : DeviceState) (o : Option RunningSave) (r : Option SaveRun) → o ≡ Some save → r ≡ Some run
@@ -126,9 +162,8 @@ is_saving lines s save run state o r saves runs holds = search rules
 pub at_rest : (lines : ℕ) (s : Store) (state : DeviceState) (o : Option RunningSave) (r : Option SaveRun) → HoldsWhile o r lines s state → IsResting lines s state
 at_rest lines s state None None rest = rest
 at_rest lines s state (Some save) (Some run) v =
-    rests_in lines s v.candidates v.image save.made (plan_of run) v.plan v.newest state s refl refl refl save.next false v.going v.shut v.among
-    (subst (λ (b : Bool). SavingAt v.candidates v.image (plan_of run) save.made.memory save.next b state) v.untried
-    (subst (λ (x : Step). SavingAt v.candidates v.image (plan_of run) save.made.memory x (tried_of run) state) v.next v.saving.0))
+    rests_in lines s v.candidates v.image save.made (plan_of run) v.plan v.newest state s refl refl refl save.next (tried_of run) v.going v.shut v.among
+    (subst (λ (x : Step). SavingAt v.candidates v.image (plan_of run) save.made.memory x (tried_of run) state) v.next v.saving.0)
 at_rest lines s state o r none = absurd none
 
 -- what a stop now leaves of the device is among the images that the machine says

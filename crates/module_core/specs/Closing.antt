@@ -1,12 +1,16 @@
 -- The parts of a closing save: the drains, and the save that follows, each action of it paid for first.
-use Rattle.std.specs.Prelude.{◌≡◌, ◌⊎◌, ℕ, ◌+◌, List, take, slice_get, Result, Ok, Err, Some, None}
+use Rattle.std.specs.Prelude.{◌≡◌, ◌⊎◌, ℕ, ◌<◌, Bool, false, List, ◌++◌, length, slice_get, Result, Ok, Err, Some, None, MatchResult}
+use Rattle.std.specs.Option.{ForSome}
 use Rattle.save_device.specs.declared.calls.CallKind.{CallKind}
 use Rattle.save_device.specs.Device.{DeviceState}
 use Rattle.save_image.specs.Image.{Image}
 use Rattle.slot_store.specs.declared.plan.Step.{Step}
 use Rattle.slot_store.specs.declared.plan.Step.TheVariants.{Close, Header, Page, Open}
 use Rattle.slot_store.specs.Steps.{calls_left}
-use Rattle.slot_store.specs.Finishing.{CallsFor, Finish}
+use Rattle.slot_store.specs.Finishing.{Finish}
+use Rattle.slot_store.specs.Repeating.{FailsWithin}
+use Rattle.slot_store.specs.Runs.{tried_of}
+use Rattle.slot_store.specs.Tries.{goods, is_failed, tried, calls_tried}
 use Rattle.energy_budget.specs.declared.action.Action.{Action}
 use Rattle.energy_budget.specs.declared.action.Action.TheVariants as actions
 use Rattle.energy_budget.specs.declared.costs.Costs.{Costs}
@@ -27,7 +31,7 @@ use Rattle.slot_store.specs.declared.source.SaveSource
 use Rattle.module_core.specs.declared.closing.PaidArrays.{PaidArrays}
 use Rattle.module_core.specs.declared.saves.Saves.{Saves}
 use Rattle.nv_machine.specs.State.{Store, begun_save}
-use Rattle.nv_machine.specs.Moves.{step_failed, saved_in, after_steps}
+use Rattle.nv_machine.specs.Moves.{broken_off, saved_in, after_steps}
 use Rattle.module_core.specs.Device.{Holds}
 use Rattle.module_core.specs.Saving.{Knows}
 use Rattle.module_core.specs.Saves.{ReachesStore}
@@ -85,35 +89,39 @@ calls_in lines s = calls_left s.closed lines Close
 pub record IsReadyToClose (lines : ℕ) (s : Store) (made : Image) (saves : Saves) (state : DeviceState) : Type 0 where
   pub knows : Knows saves.newest saves.closed saves.unsettled s
   pub holds : Holds lines (record s { saving = Some (begun_save made) }) saves.saving state
+  pub untried : ForSome saves.saving (λ run. tried_of run ≡ false)
 
--- the store where a save of this image ends so, after so many of its steps
-abbrev pub store_at_end : ℕ → Store → Image → Finish → ℕ → Store
-store_at_end lines s made (Ok done) steps = saved_in s made
-store_at_end lines s made (Err broken.Refused) steps = record (after_steps lines s made steps).store { saving = None }
-store_at_end lines s made (Err broken.Fault) steps = let at = after_steps lines s made steps in step_failed at.store made at.next
+-- the store where a save of this image ends so, after these tries of its steps
+abbrev pub store_at_end : ℕ → Store → Image → Finish → List Bool → Store
+store_at_end lines s made (Ok done) tries = saved_in s made
+store_at_end lines s made (Err why) tries =
+    let at = after_steps lines s made (goods tries) in broken_off at.store made at.next (is_failed false tries)
 
--- so many of these were paid for, and the payment of the next one was refused
-pub record RefusedAfter (costs : Costs) (actions : List Action) (paid : ℕ) (old new : Gauge) : Type 0 where
+-- these were paid for, and the payment of the next one was refused
+pub record RefusedAfter (costs : Costs) (paid : List Action) (coming : Action) (old new : Gauge) : Type 0 where
   pub mid : Gauge
-  pub pays : PaysInTurn costs (take paid actions) old (Ok tt) mid
-  pub coming : Action
-  pub comes : slice_get actions paid ≡ Some coming
+  pub pays : PaysInTurn costs paid old (Ok tt) mid
   pub answer : Dark
   pub refused : PaysCost mid (cost_of costs coming) (Err answer) new
 
--- The payments of a save that ends so, after so many steps: all, those before one that was refused, or those up to the step in
--- which the device failed.
-abbrev pub PaysUntil : Costs → List Action → Finish → ℕ → Gauge → Gauge → Type 0
-PaysUntil costs actions (Ok done) steps old new = PaysInTurn costs actions old (Ok tt) new
-PaysUntil costs actions (Err broken.Refused) steps old new = RefusedAfter costs actions steps old new
-PaysUntil costs actions (Err broken.Fault) steps old new = PaysInTurn costs (take (steps + 1) actions) old (Ok tt) new
+-- The payments of a save that ends so, after these tries of its steps: each try was paid for, and one more where that was refused.
+abbrev pub PaysUntil : Costs → List Action → Finish → List Bool → Gauge → Gauge → Type 0
+PaysUntil costs actions (Err broken.Refused) tries old new =
+    (coming : Action) × (slice_get actions (goods tries) ≡ Some coming) × RefusedAfter costs (tried actions tries) coming old new
+PaysUntil costs actions finish tries old new = PaysInTurn costs (tried actions tries) old (Ok tt) new
 
--- The save that runs, of this image, was made until its end, each step paid for first.
+-- all calls were made, or not all where it was broken off
+abbrev pub IsWhole : List CallKind → Finish → List Bool → Type 0
+IsWhole kinds finish tries = MatchResult finish (λ done. goods tries ≡ length kinds) (λ why. goods tries < length kinds)
+
+-- The save that runs, of this image, was made until its end, each step paid for first, also one that was made again.
 pub record SavesClosing (shape : Shape) (s : Store) (made : Image) (finish : Finish) (old new : SavesAt) : Type 0 where
-  pub steps : ℕ
-  pub makes : ReachesStore shape.lines s (store_at_end shape.lines s made finish steps) old.device new.saves new.device
-  pub calls : CallsFor (calls_in shape.lines s) finish steps old.device.calls new.device.calls
-  pub pays : PaysUntil shape.costs (save_actions shape.costs.pages) finish steps old.gauge new.gauge
+  pub tries : List Bool
+  pub few : FailsWithin shape.costs.retries finish tries
+  pub whole : IsWhole (calls_in shape.lines s) finish tries
+  pub makes : ReachesStore shape.lines s (store_at_end shape.lines s made finish tries) old.device new.saves new.device
+  pub calls : new.device.calls ≡ old.device.calls ++ calls_tried (calls_in shape.lines s) tries
+  pub pays : PaysUntil shape.costs (save_actions shape.costs.pages) finish tries old.gauge new.gauge
 
 -- whichever store the device held, where a save of the arrays was begun over it
 abbrev pub ClosesSave : ChannelsView → Finish → SavesAt → SavesAt → Type 0

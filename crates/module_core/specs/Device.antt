@@ -11,7 +11,7 @@ use Rattle.slot_store.specs.Outcomes.{Outcome}
 use Rattle.slot_store.specs.Rest.{Candidates, rearmed, IsAmong, IsAtRest}
 use Rattle.slot_store.specs.Changes.{closed_before}
 use Rattle.slot_store.specs.Saving.{candidates_before}
-use Rattle.slot_store.specs.Runs.{plan_of, next_of, tried_of, Saving}
+use Rattle.slot_store.specs.Runs.{plan_of, next_of, tried_of, failures_of, Saving}
 use Rattle.nv_machine.specs.State.{RunningSave, Store}
 
 -- a read finds the newest image, with some arm byte, which is its own where only that one may stand
@@ -48,10 +48,10 @@ pub record IsSaving (lines : ℕ) (s : Store) (save : RunningSave) (run : SaveRu
   pub newest : FindsNewest s.maybe image
   pub plan : IsPlanFor lines s save.made (plan_of run)
   pub next : next_of run ≡ save.next
-  pub untried : tried_of run ≡ false
+  pub again : failures_of run ≡ save.repeats
   pub saving : Saving candidates image save.made.memory run state
-  pub shut : s.closed ≡ closed_before (plan_of run) save.next false
-  pub among : AreAmong (candidates_before candidates image (plan_of run) save.made.memory save.next false) s.maybe
+  pub shut : s.closed ≡ closed_before (plan_of run) save.next (tried_of run)
+  pub among : AreAmong (candidates_before candidates image (plan_of run) save.made.memory save.next (tried_of run)) s.maybe
   pub going : save.next ≢ Done
 
 abbrev pub HoldsWhile : Option RunningSave → Option SaveRun → ℕ → Store → DeviceState → Type 0

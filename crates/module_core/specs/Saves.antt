@@ -1,5 +1,5 @@
 -- What calls make of a module's saves: one is begun, makes a step, or ends, and what it says of the device is kept.
-use Rattle.std.specs.Prelude.{◌≡◌, ◌≢◌, ◌⊎◌, ℕ, ◌+◌, Bool, false, ◌||◌, List, Result, Ok, Err, Option, Some, None}
+use Rattle.std.specs.Prelude.{◌≡◌, ◌≢◌, ◌⊎◌, ℕ, ◌+◌, Bool, true, false, ◌||◌, List, Result, Ok, Err, Option, Some, None}
 use Rattle.line_memory.specs.Memory.{IsMemory}
 use Rattle.save_device.specs.Device.{DeviceState, LeavesOnly}
 use Rattle.save_image.specs.Image.{Image}
@@ -11,6 +11,8 @@ use Rattle.slot_store.specs.Slots.{other}
 use Rattle.slot_store.specs.Changes.{GivesPage, closed_before}
 use Rattle.slot_store.specs.Runs.{plan_of, next_of, tried_of, newest_made}
 use Rattle.module_core.specs.declared.saves.Saves.{Saves}
+use Rattle.module_core.specs.declared.saves.StepFault.{StepFault}
+use Rattle.module_core.specs.declared.saves.StepFault.TheVariants as fault
 use Rattle.nv_machine.specs.State.{RunningSave, Store, begun_save}
 use Rattle.module_core.specs.Device.{Holds}
 use Rattle.module_core.specs.Saving.{IsBegun, Knows, IsAmongEither}
@@ -50,9 +52,21 @@ pub record Learns (run : SaveRun) (old new : Saves) : Type 0 where
   pub done : next_of run ≡ Done → (new.newest ≡ newest_made (plan_of run)) × (new.unsettled ≡ false)
   pub going : next_of run ≢ Done → (new.newest ≡ old.newest) × (new.unsettled ≡ (old.unsettled || tried_of run))
 
+-- A step of this save failed, and it is kept, to make that step again.
+pub record KeepsFailed (run : SaveRun) (old new : Saves) : Type 0 where
+  pub saving : new.saving ≡ Some run
+  pub closed : new.closed ≡ closed_of run
+  pub newest : new.newest ≡ old.newest
+  pub unsettled : new.unsettled ≡ old.unsettled
+
+-- the same, or the save has ended, and what it says was kept
+abbrev pub FailsIn : SaveRun → Bool → StepFault → Saves → Saves → Type 0
+FailsIn run again fault.Again old new = (again ≡ true) × KeepsFailed run old new
+FailsIn run again fault.Ended old new = (again ≡ false) × Learns run old new
+
 -- what is known of the save and of the newest image after a step
-abbrev pub StepTold : {E : Type 0} → Result (Option Step) E → Saves → Saves → Type 0
-StepTold (Err fault) old new = (new.saving ≡ None) × (new.newest ≡ old.newest)
+abbrev pub StepTold : Result (Option Step) StepFault → Saves → Saves → Type 0
+StepTold (Err why) old new = new.newest ≡ old.newest
 StepTold (Ok None) old new = (new.saving ≡ None) × (new.newest.generation ≡ old.newest.generation + 1) × (new.newest.slot ≡ other old.newest.slot)
 StepTold (Ok (Some step)) old new = new.newest ≡ old.newest
 

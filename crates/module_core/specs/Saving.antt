@@ -1,5 +1,5 @@
 -- What the module knows of its device and of a save, and what a step of the save makes of it.
-use Rattle.std.specs.Prelude.{◌≡◌, ◌≢◌, ◌⊎◌, ℕ, ◌+◌, ◌≤◌, Bool, false, List, Result, Ok, Err, Option, Some, None, IfOk}
+use Rattle.std.specs.Prelude.{◌≡◌, ◌≢◌, ◌⊎◌, ℕ, ◌+◌, ◌≤◌, Bool, true, false, nat_lt, List, Result, Ok, Err, Option, Some, None, IfOk, IfErr}
 use Rattle.std.specs.Option.{ForSome}
 use Rattle.save_device.specs.Device.{DeviceState}
 use Rattle.line_memory.specs.Memory.{IsMemory}
@@ -11,18 +11,31 @@ use Rattle.slot_store.specs.declared.saving.SaveRun.{SaveRun}
 use Rattle.slot_store.specs.Slots.{other, HasSize}
 use Rattle.slot_store.specs.Outcomes.{restored}
 use Rattle.slot_store.specs.Rest.{Candidates, IsAmong, IsAtRest}
-use Rattle.slot_store.specs.Runs.{Saving, plan_of, next_of, tried_of}
+use Rattle.slot_store.specs.Runs.{Saving, plan_of, next_of, tried_of, failures_of}
 use Rattle.nv_machine.specs.State.{RunningSave, Store}
-use Rattle.nv_machine.specs.Moves.{stepped, step_failed, saved_in, advanced}
+use Rattle.module_core.specs.declared.saves.StepFault.{StepFault}
+use Rattle.module_core.specs.declared.saves.StepFault.TheVariants as fault
+use Rattle.nv_machine.specs.Moves.{stepped, step_failed, torn, repeated, saved_in, advanced}
 
 -- the store after a step that went well
 abbrev pub after_step : ℕ → Store → RunningSave → Step → Store
 after_step lines s save SyncOpen = saved_in s save.made
 after_step lines s save step = advanced lines save (stepped s save.made step)
 
-abbrev pub store_after : {T E : Type 0} → ℕ → Store → RunningSave → Result T E → Store
+-- and after any step: one that failed is made again, or has ended the save
+abbrev pub store_after : {T : Type 0} → ℕ → Store → RunningSave → Result T StepFault → Store
 store_after lines s save (Ok done) = after_step lines s save save.next
-store_after lines s save (Err fault) = step_failed s save.made save.next
+store_after lines s save (Err fault.Again) = repeated save (torn s save.made save.next)
+store_after lines s save (Err fault.Ended) = step_failed s save.made save.next
+
+-- whether a step that failed is made again
+abbrev pub IsFaultOf : Bool → StepFault → Type 0
+IsFaultOf again fault.Again = again ≡ true
+IsFaultOf again fault.Ended = again ≡ false
+
+-- it is where the save that runs has failed less often than so
+abbrev pub TellsFault : {T : Type 0} → ℕ → Option SaveRun → Result T StepFault → Type 0
+TellsFault repeats saving result = ForSome saving (λ run. IfErr result (IsFaultOf (nat_lt (failures_of run) repeats)))
 
 -- the newest image and what is known of the other slot, as the module keeps them
 pub record Knows (newest : Newest) (closed unsettled : Bool) (s : Store) : Type 0 where
@@ -53,10 +66,11 @@ MakesAtMost most saving = ForSome saving (λ run. (plan_of run).generation ≤ m
 abbrev pub IsSizedFor : Option SaveRun → DeviceState → Type 0
 IsSizedFor saving device = ForSome saving (λ run. HasSize (plan_of run).lines device)
 
--- the machine's save and the module's are one, with the same coming step and as many writes; or neither runs
+-- the machine's save and the module's are one, with the same coming step, as many writes and as many failures; or neither runs
 abbrev pub AreSameSave : Option RunningSave → Option SaveRun → Type 0
 AreSameSave None None = Unit {0}
-AreSameSave (Some save) (Some run) = (next_of run ≡ save.next) × ((plan_of run).count ≡ save.made.count)
+AreSameSave (Some save) (Some run) =
+    (next_of run ≡ save.next) × ((plan_of run).count ≡ save.made.count) × (failures_of run ≡ save.repeats)
 AreSameSave None (Some run) = ⊥
 AreSameSave (Some save) None = ⊥
 
@@ -70,6 +84,7 @@ pub record IsBegun (newest : Newest) (closed : Bool) (count : ℕ) (armed : Bool
   pub lines_are : (plan_of run).lines ≡ lines
   pub next : next_of run ≡ Close
   pub untried : tried_of run ≡ false
+  pub unfailed : failures_of run ≡ 0
   pub saving : (candidates : Candidates) (image : Image) (memory : List (List ℕ)) (state : DeviceState)
       → IsAtRest candidates image newest.slot lines closed state
       → image.generation ≡ newest.generation → IsMemory lines memory

@@ -4,7 +4,8 @@ ghost use Rattle.std.specs.Option.{ForSome};
 ghost use Rattle.slot_store.specs.Slots.{HasSize};
 ghost use Rattle.slot_store.specs.Runs.{plan_of};
 ghost use Rattle.channel_set.specs.Set.{shape_of, view_of};
-ghost use Rattle.slot_store.specs.Finishing.{Finishes, underway};
+ghost use Rattle.slot_store.specs.Finishing.{underway};
+ghost use Rattle.slot_store.specs.Repeating.{FinishesRepeating};
 ghost use Rattle.module_core.specs.Closing.{action_of, arrays_at, payments, saves_at};
 ghost use Rattle.module_core.specs.Saving.{IsOfLines};
 
@@ -56,22 +57,30 @@ impl<K: ChannelPort, E: Energy> SaveSource for PaidArrays<'_, K, E> {
     }
 }
 
-// All steps of a save of the arrays, each paid for first.
+// How many steps a closing save of these channels may make again.
+fn repeats_of<K: ChannelPort>(channels: &ChannelSet<K>) -> u64
+    ensures { result ≡ (shape_of K.ChannelPort channels.now).costs.retries }
+{
+    channels.costs().retries
+}
+
+// All steps of a save of the arrays, each paid for first, also one that is made again.
 fn pay_and_finish<K: ChannelPort, D: SaveDevice, E: Energy>(
     run: &mut SaveRun,
     channels: &ChannelSet<K>,
     device: &mut D,
     energy: &mut E,
+    repeats: u64,
 ) -> Result<(), BrokenOff>
     requires lines { (plan_of run.old).lines ≡ (shape_of K.ChannelPort channels.now).lines }
     requires size { HasSize (plan_of run.old).lines (D.state device.old) }
-    ensures { Finishes payments result
+    ensures { FinishesRepeating payments repeats result
         (underway (arrays_at (view_of K.ChannelPort channels.now) (E.gauge energy.old))
         run.old (D.state device.old))
         (underway (arrays_at (view_of K.ChannelPort channels.now) (E.gauge energy.new))
         run.new (D.state device.new)) }
 {
-    run.finish(&mut PaidArrays { channels, energy }, device)
+    run.finish_repeating(&mut PaidArrays { channels, energy }, device, repeats)
 }
 
 impl Saves {
@@ -95,7 +104,8 @@ impl Saves {
         let Some(mut run) = self.saving.take() else {
             return Ok(());
         };
-        let finished = pay_and_finish(&mut run, channels, device, energy);
+        let repeats = repeats_of(channels);
+        let finished = pay_and_finish(&mut run, channels, device, energy, repeats);
         self.learn(&run);
         finished
     }

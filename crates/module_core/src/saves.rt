@@ -8,10 +8,19 @@ ghost use Rattle.slot_store.specs.Steps.{reach_of};
 ghost use Rattle.slot_store.specs.Runs.{plan_of, next_of};
 ghost use Rattle.nv_machine.specs.State.{RunningSave, Store};
 ghost use Rattle.nv_machine.specs.Machine.{step_call};
-ghost use Rattle.module_core.specs.Saving.{count_in, IsOfLines, IsSizedFor, MakesAtMost, TellsStep, store_after, IsSaveOver};
+ghost use Rattle.module_core.specs.Saving.{count_in, IsFaultOf, IsOfLines, IsSizedFor, MakesAtMost, TellsFault, TellsStep, store_after, IsSaveOver};
 
-use save_device::{DeviceFault, SaveDevice};
+use save_device::SaveDevice;
 use slot_store::{Newest, SaveRun, Step};
+
+/// What becomes of a save in whose step the device failed.
+#[derive(Clone, Copy, Debug, PartialEq, Eq)]
+pub enum StepFault {
+    /// The step is made again.
+    Again,
+    /// The save has ended.
+    Ended,
+}
 
 /// What the module knows of its device.
 #[derive(Drop)]
@@ -27,7 +36,7 @@ pub struct Saves {
 }
 
 impl Saves {
-    ghost use Rattle.module_core.specs.Saves.{BeginsSave, IsReadyFor, Learns, ReachesStore, StepTold};
+    ghost use Rattle.module_core.specs.Saves.{BeginsSave, FailsIn, IsReadyFor, Learns, ReachesStore, StepTold};
 
     /// The coming step of the save that runs, if one does.
     pub(crate) fn next(&self) -> Option<Step>
@@ -63,15 +72,18 @@ impl Saves {
     }
 
     /// Makes the coming step of the save that runs, one call of the device, and says which it was, or none where it was the
-    /// last one. A fault ends the save.
+    /// last one. After a fault the step is made again where the device has failed in the save less often than so, and else the
+    /// save has ended.
     pub(crate) fn step<D: SaveDevice>(
         &mut self,
         device: &mut D,
         page: &[u8; 4096],
-    ) -> Result<Option<Step>, DeviceFault>
+        repeats: u64,
+    ) -> Result<Option<Step>, StepFault>
         requires runs { IsSome self.old.saving }
         requires size { IsSizedFor self.old.saving (D.state device.old) }
         ensures step { TellsStep self.old.saving result }
+        ensures fault { TellsFault repeats self.old.saving result }
         ensures call { (run : SaveRun) → self.old.saving ≡ Some run
             → MakesCalls (step_call (plan_of run).closed (next_of run) ∷ []) (is_ok result)
             (D.state device.old).calls (D.state device.new).calls }
@@ -93,14 +105,37 @@ impl Saves {
         let Some(mut run) = self.saving.take() else {
             unreachable!();
         };
-        let made = run.step(device, page);
+        let again = run.failures() < repeats;
+        let Ok(step) = run.step(device, page) else {
+            return Err(self.fail(run, again));
+        };
         self.learn(&run);
-        let step = made?;
         if run.newest().is_some() {
             return Ok(None);
         }
         self.saving = Some(run);
         Ok(Some(step))
+    }
+
+    // Keeps a save in whose step the device failed, where that is made again; else it has ended.
+    fn fail(&mut self, run: SaveRun, again: bool) -> StepFault
+        requires none { self.old.saving ≡ None }
+        requires over { IsSaveOver self.old.newest run }
+        ensures told { IsFaultOf again result }
+        ensures newest { self.new.newest ≡ self.old.newest }
+        ensures lines { (lines : ℕ) → (plan_of run).lines ≡ lines
+            → IsOfLines lines self.new.saving }
+        ensures most { (most : ℕ) → (plan_of run).generation ≤ most
+            → MakesAtMost most self.new.saving }
+        ensures fails { FailsIn run again result self.old self.new }
+    {
+        if !again {
+            self.learn(&run);
+            return StepFault::Ended;
+        }
+        self.closed = run.is_closed();
+        self.saving = Some(run);
+        StepFault::Again
     }
 
     // Keeps what a save says of the device, where it stands so: the image that it made, if it is done; whether the gate of its

@@ -4,11 +4,13 @@ ghost use Rattle.save_device.specs.Calls.{MakesCalls};
 ghost use Rattle.slot_store.specs.declared.saving.SaveRun.{SaveRun};
 ghost use Rattle.slot_store.specs.Runs.{plan_of, next_of};
 ghost use Rattle.channel_set.specs.Set.{view_of};
+ghost use Rattle.arm_state.specs.Modes.{repeats_in};
 ghost use Rattle.nv_machine.specs.State.{Machine, RunningSave};
 ghost use Rattle.nv_machine.specs.Moves.{persisted_at_end};
 ghost use Rattle.nv_machine.specs.Machine.{must_wait, step_call, is_made};
 
 use crate::Module;
+use crate::saves::StepFault;
 use arm_state::{Mode, Move};
 use channel_port::ChannelPort;
 use channel_set::ChannelSet;
@@ -77,6 +79,14 @@ impl<K: ChannelPort> Module<K> {
         }
     }
 
+    // How many steps in which the device fails the save that runs may make again.
+    fn repeats(&self) -> u64
+        ensures { result
+            ≡ repeats_in self.now.mode (setup_of K.ChannelPort self.now).shape.costs.retries }
+    {
+        self.mode.repeats(self.channels.costs().retries)
+    }
+
     // Makes the coming step of the save that runs.
     fn make_step<D: SaveDevice>(&mut self, device: &mut D, page: &[u8; 4096]) -> StepReply
         requires runs { IsSome self.old.saves.saving }
@@ -92,8 +102,10 @@ impl<K: ChannelPort> Module<K> {
         let Some(count) = self.saves.count() else {
             unreachable!();
         };
-        match self.saves.step(device, page) {
-            Err(_) => {
+        let repeats = self.repeats();
+        match self.saves.step(device, page, repeats) {
+            Err(StepFault::Again) => StepReply::Retry,
+            Err(StepFault::Ended) => {
                 self.channels.hold(None);
                 self.mode = self.mode.after(Move::FailSave);
                 StepReply::Fault

@@ -1,7 +1,7 @@
 -- In any event the gauge keeps its leak, and neither its count of faults nor the device's falls.
 use Rattle.std.specs.Prelude.{Result, cond, not}
 use Rattle.std.proofs.lemmas.List.Sums.{sum_by-append}
-use Rattle.save_device.specs.Calls.{MakesCalls, StopAtFault, all_good, faults_in}
+use Rattle.save_device.specs.Calls.{MakesCalls, all_good, faults_in}
 use Rattle.save_device.specs.Device.{faults_of}
 use Rattle.save_device.specs.declared.calls.Call.{Call}
 use Rattle.save_device.specs.declared.calls.CallKind.{CallKind}
@@ -9,11 +9,11 @@ use Rattle.arm_state.specs.declared.refusal.ArmRefusal.{ArmRefusal}
 use Rattle.arm_state.specs.declared.refusal.ArmReply.{ArmReply}
 use Rattle.nv_machine.specs.Headline.{given}
 use Rattle.nv_machine.specs.Honesty.{IsHonestAlong, IsSparedAlong}
-use Rattle.nv_machine.specs.Losses.{PaysFirst, closing_of, save_calls}
+use Rattle.nv_machine.specs.Losses.{PaysFirst}
 use Rattle.nv_machine.specs.Machine.{ArmStep, SaveStepStep, arm_calls, step_call}
 use Rattle.nv_machine.specs.declared.events.StepReply.{StepReply}
-use Rattle.nv_machine.proofs.Common.{Bool, List, [], ap, arith, false, refl, take, true, ℕ, ◌++◌, ◌∙◌, ◌∷◌, ◌≡◌, ◌≤◌, Err, Ok, faults_more, DeviceState, Loss, Gauge, GaugeCall, IsHonestThrough, ReadsLevel, LoseStep, MachineStep, Run, Setup, World, Event, Reply}
-use Rattle.nv_machine.proofs.Effects.{Effect, rests, shows, runs_low, disarms, accepts, begins, arms, fails_to_arm, steps, ends, fails, closes, effect}
+use Rattle.nv_machine.proofs.Common.{Bool, List, [], ap, arith, false, refl, true, ℕ, ◌++◌, ◌∙◌, ◌∷◌, ◌≡◌, ◌≤◌, Err, Ok, faults_more, DeviceState, Loss, Gauge, GaugeCall, IsHonestThrough, ReadsLevel, Action, LoseStep, MachineStep, Run, Setup, World, Event, Reply}
+use Rattle.nv_machine.proofs.Effects.{Effect, rests, shows, runs_low, disarms, accepts, begins, arms, fails_to_arm, steps, ends, repeats, fails, closes, effect}
 use Rattle.nv_machine.proofs.Payments.{IsPaid, paid_of}
 
 -- the gauge keeps its leak, and its count of faults
@@ -33,9 +33,9 @@ asked : {kind : GaugeCall} (answer : ℕ) (old new : Gauge) → ReadsLevel kind 
 asked answer old new reads = record { counted = reads.counted; same_leak = reads.same_leak }
 
 -- it was read once, and then paid from
-paid_first : (setup : Setup) (old : World) (reading paid : ℕ) (gauge : Gauge) → PaysFirst setup old reading paid gauge → GaugeCounts old.gauge gauge
+paid_first : (setup : Setup) (old : World) (reading : ℕ) (paid : List Action) (gauge : Gauge) → PaysFirst setup old reading paid gauge → GaugeCounts old.gauge gauge
 paid_first setup old reading paid gauge p =
-    let rest : IsPaid setup.shape.costs (take paid (closing_of setup old.machine)) p.ticked gauge = paid_of setup.shape.costs (take paid (closing_of setup old.machine)) p.ticked gauge p.pays in
+    let rest : IsPaid setup.shape.costs paid p.ticked gauge = paid_of setup.shape.costs paid p.ticked gauge p.pays in
     record { counted = omega (arith, p.reads.counted, rest.counted); same_leak = rest.same_leak ∙ p.reads.same_leak }
 
 gauge_in_loss : (setup : Setup) (old new : World) (loss : Loss) → LoseStep setup loss old new → GaugeCounts old.gauge new.gauge
@@ -57,6 +57,7 @@ gauge_counts setup old new event reply (arms done) = asked _ old.gauge new.gauge
 gauge_counts setup old new event reply (fails_to_arm done) = asked _ old.gauge new.gauge done.0.reads
 gauge_counts setup old new event reply (steps made done) = asked done.2 old.gauge new.gauge done.3
 gauge_counts setup old new event reply (ends generation count done) = asked done.2 old.gauge new.gauge done.3
+gauge_counts setup old new event reply (repeats done) = asked done.2 old.gauge new.gauge done.3
 gauge_counts setup old new event reply (fails done) = asked done.2 old.gauge new.gauge done.3
 gauge_counts setup old new event reply (closes loss done) = gauge_in_loss setup old new loss done
 
@@ -64,6 +65,9 @@ gauge_counts setup old new event reply (closes loss done) = gauge_in_loss setup 
 calls_more : (kinds : List CallKind) (good : Bool) (old new : List Call) → MakesCalls kinds good old new → faults_in old ≤ faults_in new
 calls_more kinds true old new made = omega (arith, ap faults_in made, sum_by-append (λ (call : Call). cond (not call.is_good) 1 0) old (all_good kinds))
 calls_more kinds false old new made = omega (arith, faults_more kinds old new made)
+
+further_calls : (old new more : List Call) → new ≡ old ++ more → faults_in old ≤ faults_in new
+further_calls old new more is = omega (arith, ap faults_in is, sum_by-append (λ (call : Call). cond (not call.is_good) 1 0) old more)
 
 -- the device is as it was
 uncalled : (old new : DeviceState) → new ≡ old → faults_of old ≤ faults_of new
@@ -88,16 +92,15 @@ device_in_step setup old new StepReply.Waiting done = same_device old new done.3
 device_in_step setup old new StepReply.Turned done = uncalled old.device new.device (ap (λ (w : World). w.device) done.5)
 device_in_step setup old new (StepReply.Did made) done = calls_more (step_call old.machine.store.closed done.0.next ∷ []) true old.device.calls new.device.calls done.5
 device_in_step setup old new (StepReply.Saved generation count) done = calls_more (step_call old.machine.store.closed done.0.next ∷ []) true old.device.calls new.device.calls done.5
+device_in_step setup old new StepReply.Retry done = calls_more (step_call old.machine.store.closed done.0.next ∷ []) false old.device.calls new.device.calls done.5
 device_in_step setup old new StepReply.Fault done = calls_more (step_call old.machine.store.closed done.0.next ∷ []) false old.device.calls new.device.calls done.5
 
 device_in_loss : (setup : Setup) (old new : World) (loss : Loss) → LoseStep setup loss old new → faults_of old.device ≤ faults_of new.device
 device_in_loss setup old new Loss.Closed done = same_device old new done.1
 device_in_loss setup old new Loss.Unsaved done = uncalled old.device new.device (ap (λ (w : World). w.device) done.1)
-device_in_loss setup old new (Loss.Saved generation count) done = calls_more (save_calls setup old.machine) true old.device.calls new.device.calls done.calls
-device_in_loss setup old new Loss.Dark done = calls_more (take done.steps (save_calls setup old.machine)) true old.device.calls new.device.calls done.calls
-device_in_loss setup old new Loss.Fault done =
-    let stop : StopAtFault (take done.steps (save_calls setup old.machine) ++ done.failed ∷ []) old.device.calls new.device.calls = record { done = _; fails = done.failed; rest = []; in_order = refl; made = done.calls } in
-    calls_more _ false old.device.calls new.device.calls stop
+device_in_loss setup old new (Loss.Saved generation count) done = further_calls old.device.calls new.device.calls _ done.calls
+device_in_loss setup old new Loss.Dark done = further_calls old.device.calls new.device.calls _ done.calls
+device_in_loss setup old new Loss.Fault done = further_calls old.device.calls new.device.calls _ done.calls
 
 device_counts : (setup : Setup) (event : Event) (reply : Reply) (old new : World) → MachineStep setup event reply old new → faults_of old.device ≤ faults_of new.device
 device_counts setup (Event.Write write) (Reply.Write result) old new done = uncalled old.device new.device (ap (λ (w : World). w.device) done.0)

@@ -1,8 +1,8 @@
 -- What the machine keeps in any event, and what becomes of its life.
-use Rattle.nv_machine.proofs.Common.{List, [], ap, arith, false, refl, sym, ℕ, ◌++◌, ◌∙◌, ◌≡◌, ◌≤◌, None, Some, append-nil, Write, has_ended, is_armed, is_backed, is_disarming, Loss, Mode, Guards, IsGuarded, is_broken_off, may_lack, SavesAllWritten, marks, LoseStep, MachineStep, persisted_at_end, read_as, written, added, Machine, RunningSave, Setup, World, all_of, newest_of, told_mark, Event, Reply}
+use Rattle.nv_machine.proofs.Common.{List, [], ap, arith, false, refl, sym, ℕ, ◌++◌, ◌+◌, ◌∙◌, ◌≡◌, ◌≤◌, None, Some, append-nil, Write, step_after, has_ended, is_armed, is_backed, is_disarming, Loss, Mode, Guards, IsGuarded, is_broken_off, may_lack, SavesAllWritten, marks, LoseStep, MachineStep, persisted_at_end, read_as, written, added, Machine, RunningSave, Setup, World, all_of, newest_of, told_mark, Event, Reply}
 use Rattle.nv_machine.proofs.Refusing.{arms_where, accepted_where, begins_where}
-use Rattle.nv_machine.proofs.Effects.{KeepsNewest, Effect, rests, shows, runs_low, disarms, accepts, begins, arms, fails_to_arm, steps, ends, fails, closes, effect}
-use Rattle.nv_machine.proofs.Proceeding.{stepped_goes, failed_goes, failed_ends, newest_stays, dark_goes, fault_goes, after_loss}
+use Rattle.nv_machine.proofs.Effects.{KeepsNewest, Effect, rests, shows, runs_low, disarms, accepts, begins, arms, fails_to_arm, steps, ends, repeats, fails, closes, effect}
+use Rattle.nv_machine.proofs.Proceeding.{stepped_goes, torn_goes, failed_goes, failed_ends, newest_stays, dark_goes, fault_goes, after_loss}
 use Rattle.nv_machine.proofs.GuardMoves.{guarded_same, guarded_begun, guarded_disarming, guarded_armed, guarded_arm_failed, guarded_unsaved, guarded_written, guarded_did, guarded_failed, guarded_broken, guarded_saved, guarded_finished}
 
 -- a module that has ended runs no save
@@ -69,10 +69,12 @@ module _ (setup : Setup) (old new : World) (guarded : Guards old.machine) where
       let a = arms_where m done.0.unarmed done.0.unrefused in
       rw done.2 (guarded_arm_failed (read_as new.machine.reading m) a.idle a.disarmed (guarded.mains_last (ap has_ended a.disarmed)) (read new.machine.reading))
   guarded_by event reply (steps made done) =
-      rw done.6.2 (guarded_did (read_as done.2 m) (read done.2) done.0 done.1.runs _ (stepped_goes done.0.made m.store made) setup.shape.lines (active m done.0 guarded done.1.runs))
+      rw done.6.2 (guarded_did (read_as done.2 m) (read done.2) done.0 done.1.runs _ (stepped_goes done.0.made m.store made) (step_after setup.shape.lines done.0.next) done.0.repeats (active m done.0 guarded done.1.runs))
   guarded_by event reply (ends generation count done) = rw done.6.3 (guarded_finished (read_as done.2 m) done.0 (read done.2) done.1.runs (active m done.0 guarded done.1.runs))
+  guarded_by event reply (repeats done) =
+      rw done.6.1 (guarded_did (read_as done.2 m) (read done.2) done.0 done.1.runs _ (torn_goes done.0.made m.store done.0.next) done.0.next (done.0.repeats + 1) (active m done.0 guarded done.1.runs))
   guarded_by event reply (fails done) =
-      let ended = failed_ends done.0.made m.store done.0.next in rw done.6 (guarded_failed (read_as done.2 m) (read done.2) done.0 done.1.runs _ (failed_goes done.0.made m.store done.0.next) ended.0 ended.1)
+      let ended = failed_ends done.0.made m.store done.0.next in rw done.6.1 (guarded_failed (read_as done.2 m) (read done.2) done.0 done.1.runs _ (failed_goes done.0.made m.store done.0.next) ended.0 ended.1)
   guarded_by event reply (closes loss done) = guarded_loss loss done
 
   -- a loss of mains, and any event: what becomes of the life
@@ -103,8 +105,10 @@ module _ (setup : Setup) (old new : World) (guarded : Guards old.machine) where
       let newest = newest_stays done.0.made m.store _ (stepped_goes done.0.made m.store made) in rw done.6.2 (search (arith, no_more, newest))
   kept_by event reply (ends generation count done) =
       let kept = at_end m done.0 guarded done.1.runs in rw done.6.3 (search (arith, no_more, kept, done.6.2))
+  kept_by event reply (repeats done) =
+      let newest = newest_stays done.0.made m.store _ (torn_goes done.0.made m.store done.0.next) in rw done.6.1 (search (arith, no_more, newest))
   kept_by event reply (fails done) =
-      let newest = newest_stays done.0.made m.store _ (failed_goes done.0.made m.store done.0.next) in rw done.6 (search (arith, no_more, newest))
+      let newest = newest_stays done.0.made m.store _ (failed_goes done.0.made m.store done.0.next) in rw done.6.1 (search (arith, no_more, newest))
   kept_by event reply (closes loss done) = loss_keeps loss done
 
 pub guarded_event : (setup : Setup) (event : Event) (reply : Reply) (old new : World) → MachineStep setup event reply old new → IsGuarded old.machine → IsGuarded new.machine

@@ -48,6 +48,7 @@ pub data Effect (setup : Setup) (old new : World) : Event → Reply → Type 0 w
   fails_to_arm : ArmStep setup (Err ArmRefusal.Device) old new → Effect setup old new Event.Arm (Reply.Arm (Err ArmRefusal.Device))
   steps : (made : Step) → SaveStepStep setup (StepReply.Did made) old new → Effect setup old new Event.SaveStep (Reply.SaveStep (StepReply.Did made))
   ends : (generation count : ℕ) → SaveStepStep setup (StepReply.Saved generation count) old new → Effect setup old new Event.SaveStep (Reply.SaveStep (StepReply.Saved generation count))
+  repeats : SaveStepStep setup StepReply.Retry old new → Effect setup old new Event.SaveStep (Reply.SaveStep StepReply.Retry)
   fails : SaveStepStep setup StepReply.Fault old new → Effect setup old new Event.SaveStep (Reply.SaveStep StepReply.Fault)
   closes : (loss : Loss) → LoseStep setup loss old new → Effect setup old new Event.Lose (Reply.Lose loss)
 
@@ -129,6 +130,7 @@ module _ (setup : Setup) (old new : World) where
   effect Event.SaveStep (Reply.SaveStep StepReply.Turned) done = runs_low (search) done.2 (ap (λ (w : World). w.machine) done.5) done.3 done.4
   effect Event.SaveStep (Reply.SaveStep (StepReply.Did made)) done = steps made done
   effect Event.SaveStep (Reply.SaveStep (StepReply.Saved generation count)) done = ends generation count done
+  effect Event.SaveStep (Reply.SaveStep StepReply.Retry) done = repeats done
   effect Event.SaveStep (Reply.SaveStep StepReply.Fault) done = fails done
   effect Event.Lose (Reply.Lose loss) done = closes loss done
   effect event reply none = absurd none

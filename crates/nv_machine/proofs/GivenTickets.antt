@@ -121,7 +121,8 @@ module _ (setup : Setup) (old new : World) where
   event_goes Event.SaveStep (Reply.SaveStep StepReply.Turned) done = same_given _ m.waits new.machine.waits refl (world_moved _ done.5 refl)
   event_goes Event.SaveStep (Reply.SaveStep (StepReply.Did made)) done = same_given _ m.waits new.machine.waits refl (moved _ done.6.2 refl)
   event_goes Event.SaveStep (Reply.SaveStep (StepReply.Saved generation count)) done = same_given _ m.waits new.machine.waits refl (moved _ done.6.3 refl)
-  event_goes Event.SaveStep (Reply.SaveStep StepReply.Fault) done = same_given _ m.waits new.machine.waits refl (moved _ done.6 refl)
+  event_goes Event.SaveStep (Reply.SaveStep StepReply.Retry) done = same_given _ m.waits new.machine.waits refl (moved _ done.6.1 refl)
+  event_goes Event.SaveStep (Reply.SaveStep StepReply.Fault) done = same_given _ m.waits new.machine.waits refl (moved _ done.6.1 refl)
   event_goes Event.Lose (Reply.Lose loss) done = same_given _ m.waits new.machine.waits refl (lost_given loss done)
   event_goes event reply none = absurd none
 

@@ -1,7 +1,7 @@
 -- What the machine keeps in each of its moves.
 use Rattle.nv_machine.specs.Moves.{arm_failed, closed_unsaved, saved_in}
 use Rattle.nv_machine.specs.State.{begun_save}
-use Rattle.nv_machine.proofs.Common.{Bool, [], ap, arith, false, inl, inr, length, refl, sym, true, ℕ, ⊎_elim, ◌++◌, ◌+◌, ◌-◌, ◌∙◌, ◌∷◌, ◌≡◌, ◌≢◌, ◌≤◌, None, Some, if◌then◌else◌, is_some, length-append, take-append-le, ForSome, after, Write, arm_byte, Image, step_after, has_ended, is_armed, is_backed, is_disarming, mode_after, Loss, Mode, Move, Waits, HasCause, IsGood, Guards, IsPrefix, is_broken_off, may_lack, advanced, armed, begun, disarming, finished, persisted_at_end, written, Machine, RunningSave, Store, all_of, base_of_life, made_of, newest_of, start_of_life}
+use Rattle.nv_machine.proofs.Common.{Bool, [], ap, arith, false, inl, inr, length, refl, sym, true, ℕ, ⊎_elim, ◌++◌, ◌+◌, ◌-◌, ◌∙◌, ◌∷◌, ◌≡◌, ◌≢◌, ◌≤◌, None, Some, if◌then◌else◌, is_some, length-append, take-append-le, ForSome, after, Write, arm_byte, Image, Step, has_ended, is_armed, is_backed, is_disarming, mode_after, Loss, Mode, Move, Waits, HasCause, IsGood, Guards, IsPrefix, is_broken_off, may_lack, armed, begun, disarming, finished, persisted_at_end, written, Machine, RunningSave, Store, all_of, base_of_life, made_of, newest_of, start_of_life}
 use Rattle.nv_machine.proofs.GuardLaws.{for_none, for_one, never, carry, made_good, armed_set}
 use Rattle.nv_machine.proofs.Proceeding.{with_saved, Proceeds}
 
@@ -109,10 +109,10 @@ module _ (m : Machine) (guarded : Guards m) (save : RunningSave) (runs : m.store
   refuses : m.store.maybe.any_arm ≡ true → s.unsettled ≡ true
   refuses any = goes.unsettled (guarded.failed_arm_unsettled any)
 
-  -- the save that runs has made a step
-  pub guarded_did : (lines : ℕ) → has_ended m.mode ≡ false → Guards (record m { store = advanced lines save s })
-  guarded_did lines active =
-      let next : RunningSave = record save { next = step_after lines save.next } in let n : Machine = record m { store = record (with_saved m.store s goes.saved) { saving = Some next } } in
+  -- the save that runs has made a step, or is to make it again
+  pub guarded_did : (step : Step) (repeats : ℕ) → has_ended m.mode ≡ false → Guards (record m { store = record s { saving = Some (record save { next = step; repeats = repeats }) } })
+  guarded_did step repeats active =
+      let next : RunningSave = record save { next = step; repeats = repeats } in let n : Machine = record m { store = record (with_saved m.store s goes.saved) { saving = Some next } } in
       let keeps : (image : Image) → IsGood m image → IsGood n image = carry m n (λ i x. x) (λ x. x) in
       let armed : is_armed m.mode ≡ true → ForSome (Some next) (λ save. save.made.arm ≢ 0) = λ on. for_one _ _ (guarded.armed_made on save runs) in
       let again : Guards n = search (never, keeps, good, saved, refuses, armed_saved, guarded.disarming_holds_all, guarded.unarmed_made) in

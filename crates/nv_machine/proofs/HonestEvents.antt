@@ -8,12 +8,15 @@ use Rattle.slot_store.specs.Steps.{steps_left}
 use Rattle.std.proofs.lemmas.List.Sums.{count_by-le-length}
 use Rattle.channel_port.specs.Waits.{is_write_up_to, writes_up_to}
 use Rattle.energy_budget.specs.Sums.{save_ticks}
+use Rattle.std.specs.Prelude.{nat_lt}
+use Rattle.std.proofs.Common.{◌-◌}
+use Rattle.nv_machine.specs.Moves.{may_repeat, repeated, torn}
 use Rattle.nv_machine.specs.Headline.{ticks_until_saved}
 use Rattle.nv_machine.proofs.Common.{Bool, [], ap, arith, false, length, refl, sym, true, ℕ, ◌+◌, ◌<◌, ◌∙◌, ◌∷◌, ◌≡◌, ◌≢◌, ◌≤◌, None, Ok, Some, is_some, length-append, Write, faults_more, DeviceState, step_after, Step, is_armed, is_backed, is_disarming, reads_gauge, mode_after, save_refusal, Mode, Move, backing_level-ticks, need_backs, Gauge, GaugeCall, IsHonestThrough, ReadsLevel, backing_level, IsBacked, IsHonest, SavesAllWritten, StaysBacked, MachineStep, WriteStep, advanced, armed, begun, disarming, finished, read_as, step_failed, stepped, written, is_low, lacks_energy, need_for, saves_of, Machine, RunningSave, Setup, Store, World, pending_of, Accepted, Event, Reply}
 use Rattle.nv_machine.proofs.ModeLaws.{is_armed_mode}
 use Rattle.nv_machine.proofs.Guarded.{disarming_saves}
 use Rattle.nv_machine.proofs.Refusing.{arms_where, accepted_where, begins_where}
-use Rattle.nv_machine.proofs.Effects.{Effect, rests, shows, runs_low, disarms, accepts, begins, arms, fails_to_arm, steps, ends, fails, closes, effect}
+use Rattle.nv_machine.proofs.Effects.{Effect, rests, shows, runs_low, disarms, accepts, begins, arms, fails_to_arm, steps, ends, repeats, fails, closes, effect}
 use Rattle.nv_machine.proofs.Backing.{IsKnown, one_tick, falls, not_backed, armed_backs, bound_backs, fewer_backs}
 use Rattle.nv_machine.proofs.HonestLosses.{backs_lose}
 
@@ -33,8 +36,9 @@ module _ (setup : Setup) (old new : World) (known : IsKnown setup old.machine) (
   -- the disarming is begun
   disarming_backs : (reading : ℕ) (gauge : Gauge) → level_for (save_ticks setup.shape.costs) ≤ gauge.level → IsBacked setup (disarming (read_as reading m)) gauge
   disarming_backs reading gauge enough =
-      let first : steps_left setup.shape.lines Step.Close ≤ save_ticks setup.shape.costs = omega (arith, known.shape.pages) in
-      bound_backs setup _ gauge refl (omega (arith, backing_level-ticks setup.shape.costs (pending_of m) (steps_left setup.shape.lines Step.Close) (save_ticks setup.shape.costs) first, enough))
+      let ticks : ℕ = steps_left setup.shape.lines Step.Close + (setup.shape.costs.retries - 0) in
+      let first : ticks ≤ save_ticks setup.shape.costs = omega (arith, known.shape.pages) in
+      bound_backs setup _ gauge refl (omega (arith, backing_level-ticks setup.shape.costs (pending_of m) ticks (save_ticks setup.shape.costs) first, enough))
 
   -- a write is accepted
   accepted_backs : (write : Write) (accepted : Accepted) → WriteStep setup write (Ok accepted) m new.machine → IsBacked setup new.machine old.gauge
@@ -80,11 +84,18 @@ module _ (setup : Setup) (old new : World) (known : IsKnown setup old.machine) (
 
       -- A save made a step, which leaves fewer ticks.
       module _ (save : RunningSave) (runs : m.store.saving ≡ Some save) (spared : m.mode ≡ Mode.Stranded → ⊥) where
-        abbrev left : ℕ
-        left = steps_left setup.shape.lines save.next
+        -- the steps that are left, and those that may be made again
+        abbrev steps_behind : ℕ
+        steps_behind = steps_left setup.shape.lines save.next
 
-        some : 0 < left
-        some = let going : left ≢ 0 = λ none. known.going save runs (no_steps_left setup.shape.lines save.next (known.place save runs) none) in omega (arith, going)
+        abbrev again : ℕ
+        again = setup.shape.costs.retries - save.repeats
+
+        abbrev left : ℕ
+        left = steps_behind + again
+
+        some : 0 < steps_behind
+        some = let going : steps_behind ≢ 0 = λ none. known.going save runs (no_steps_left setup.shape.lines save.next (known.place save runs) none) in omega (arith, going)
 
         -- while disarming the bound has one tick more than after the step
         more_ticks : m.mode ≡ Mode.Disarming → level_for left ≤ old.gauge.level
@@ -96,9 +107,26 @@ module _ (setup : Setup) (old new : World) (known : IsKnown setup old.machine) (
             by_mode : (mode : Mode) → m.mode ≡ mode → IsBacked setup (record (read_as reading m) { store = advanced setup.shape.lines save s }) new.gauge
             by_mode Mode.Armed is = high_backs _ is is refl refl
             by_mode Mode.Disarming is =
-                let fewer : ℕ = steps_left setup.shape.lines (step_after setup.shape.lines save.next) in
-                let next : fewer + 1 ≡ left = steps_left-after setup.shape.lines save.next (record { some = known.shape.some; most = known.shape.most; whole = known.shape.whole }) (known.place save runs) some in
+                let later : ℕ = steps_left setup.shape.lines (step_after setup.shape.lines save.next) in
+                let one : later + 1 ≡ steps_behind = steps_left-after setup.shape.lines save.next (record { some = known.shape.some; most = known.shape.most; whole = known.shape.whole }) (known.place save runs) some in
+                let fewer : ℕ = later + again in let next : fewer + 1 ≡ left = omega (arith, one) in
                 bound_backs setup _ new.gauge (ap is_armed is) (rw is (omega (arith, more_ticks is, fell, one_tick setup.shape.costs (pending_of m) fewer left (sym next))))
+            by_mode Mode.Stranded is = absurd (spared is)
+            by_mode _ is = not_backed setup _ new.gauge (ap is_backed is)
+
+        -- it is to be made again, which leaves fewer too
+        repeated_backs : (s : Store) → may_repeat setup m.mode save ≡ true → IsBacked setup (record (read_as reading m) { store = repeated save s }) new.gauge
+        repeated_backs s may = by_mode m.mode refl
+          where
+            by_mode : (mode : Mode) → m.mode ≡ mode → IsBacked setup (record (read_as reading m) { store = repeated save s }) new.gauge
+            by_mode Mode.Armed is = high_backs _ is is refl refl
+            by_mode Mode.Disarming is =
+                let below : save.repeats < setup.shape.costs.retries = within (ap (λ (mode : Mode). may_repeat setup mode save) (sym is) ∙ may) in
+                let fewer : ℕ = steps_behind + (setup.shape.costs.retries - (save.repeats + 1)) in let next : fewer + 1 ≡ left = omega (arith, below) in
+                bound_backs setup _ new.gauge (ap is_armed is) (rw is (omega (arith, more_ticks is, fell, one_tick setup.shape.costs (pending_of m) fewer left (sym next))))
+              where
+                within : nat_lt save.repeats setup.shape.costs.retries ≡ true → save.repeats < setup.shape.costs.retries
+                within is = grind arith
             by_mode Mode.Stranded is = absurd (spared is)
             by_mode _ is = not_backed setup _ new.gauge (ap is_backed is)
 
@@ -108,7 +136,7 @@ module _ (setup : Setup) (old new : World) (known : IsKnown setup old.machine) (
             by_mode : (mode : Mode) → m.mode ≡ mode → IsBacked setup (record (read_as reading m) { mode = mode_after Move.FailSave m.mode; store = s }) new.gauge
             by_mode Mode.Armed is = high_backs _ is (ap (mode_after Move.FailSave) is) refl refl
             by_mode Mode.Disarming is =
-                bound_backs setup _ new.gauge (grind arith) (rw is (omega (arith, more_ticks is, fell, one_tick setup.shape.costs (pending_of m) 0 1 refl, backing_level-ticks setup.shape.costs (pending_of m) 1 left some)))
+                bound_backs setup _ new.gauge (grind arith) (rw is (omega (arith, more_ticks is, fell, one_tick setup.shape.costs (pending_of m) 0 1 refl, backing_level-ticks setup.shape.costs (pending_of m) 1 left (omega (arith, some)))))
             by_mode Mode.Stranded is = absurd (spared is)
             by_mode _ is = not_backed setup _ new.gauge (grind arith)
 
@@ -132,8 +160,11 @@ module _ (setup : Setup) (old new : World) (known : IsKnown setup old.machine) (
   backs event reply (steps made done) honest =
       rw done.6.2 (stepped_backs done.2 done.3 honest.gauge done.4 done.0 done.1.runs (λ is. called_differs _ true old.device new.device done.5 (rw is at honest.spared)) (stepped m.store done.0.made made))
   backs event reply (ends generation count done) honest = rw done.6.3 (ended_backs done.2 done.3 honest.gauge done.4 done.0)
+  backs event reply (repeats done) honest =
+      rw done.6.1
+      (repeated_backs done.2 done.3 honest.gauge done.4 done.0 done.1.runs (λ is. called_differs _ false old.device new.device done.5 (rw is at honest.spared)) (torn m.store done.0.made done.0.next) done.6.0)
   backs event reply (fails done) honest =
-      rw done.6 (failed_backs done.2 done.3 honest.gauge done.4 done.0 done.1.runs (λ is. called_differs _ false old.device new.device done.5 (rw is at honest.spared)) (step_failed m.store done.0.made done.0.next))
+      rw done.6.1 (failed_backs done.2 done.3 honest.gauge done.4 done.0 done.1.runs (λ is. called_differs _ false old.device new.device done.5 (rw is at honest.spared)) (step_failed m.store done.0.made done.0.next))
   backs event reply (closes loss done) honest = (backs_lose setup old new known backed loss done honest).backed
 
   saves : (event : Event) (reply : Reply) → Effect setup old new event reply → IsHonest setup old reply new → SavesAllWritten m reply

@@ -1,17 +1,67 @@
 -- An honest gauge that backs the writes is enough for a closing save.
-use Rattle.save_device.specs.Calls.{StopAtFault}
+use Rattle.std.specs.List.{flat_map}
+use Rattle.std.specs.Prelude.{cond, not}
+use Rattle.std.proofs.Math.Nat.{mul-le-mul_left}
+use Rattle.std.proofs.lemmas.List.Sums.{sum_by-append, sum_by-cons}
+use Rattle.std.proofs.lemmas.Option.{get_or_from_slice_get}
+use Rattle.save_device.specs.Calls.{called, faults_in}
+use Rattle.save_device.specs.declared.calls.Call.{Call}
+use Rattle.save_device.specs.declared.calls.CallKind.{CallKind}
+use Rattle.slot_store.specs.Tries.{calls_tried, fails, goods, tried}
 use Rattle.energy_budget.proofs.Rising.{reserve-le}
-use Rattle.energy_budget.proofs.Totals.{closing-cost}
+use Rattle.energy_budget.proofs.Totals.{closing-cost, repeats-cost, total_cost-append, total_cost-cons, total_cost-nil}
+use Rattle.energy_budget.specs.Actions.{closing_actions, drain_actions, save_actions}
+use Rattle.energy_budget.specs.CostNumbers.{repeat_cost_of}
 use Rattle.energy_budget.specs.Sums.{reserve}
-use Rattle.nv_machine.specs.Losses.{closing_of, save_calls}
-use Rattle.nv_machine.proofs.Common.{List, [], ap, arith, false, length, refl, take, ℕ, ◌++◌, ◌+◌, ◌<◌, ◌∙◌, ◌∷◌, ◌≡◌, ◌≤◌, sum, faults_more, is_backed, Loss, cost_of, total_cost, backing_level, Action, Costs, pending_each, IsBacked, IsHonest, StaysBacked, ticks_left, EndsDark, EndsInFault, LoseStep, Machine, Setup, World, pending_of, Reply}
+use Rattle.nv_machine.specs.Losses.{ComesNext, drains_of, save_calls, steps_of}
+use Rattle.std.proofs.Common.{◌*◌}
+use Rattle.nv_machine.proofs.Common.{Bool, List, [], ap, arith, false, inl, inr, length, refl, suc, take, true, ℕ, ◌++◌, ◌+◌, ◌<◌, ◌∙◌, ◌∷◌, ◌≡◌, ◌≤◌, Some, slice_get, slice_get_within, sum, is_backed, Loss, cost_of, total_cost, backing_level, Action, Costs, pending_each, IsBacked, IsHonest, StaysBacked, ticks_left, EndsDark, EndsInFault, LoseStep, Machine, Setup, World, pending_of, Reply}
 use Rattle.nv_machine.proofs.Backing.{IsKnown, falls, not_backed}
 use Rattle.nv_machine.proofs.Payments.{IsPaid, paid_of, cost_until, length-pending_each, sum_pending_each}
+
+-- the actions of a closing save: its drains and its steps
+closing-parts : (costs : Costs) (pending : List ℕ) → total_cost costs (closing_actions costs.pages pending) ≡ total_cost costs (flat_map drain_actions pending) + total_cost costs (save_actions costs.pages)
+unfolding closing_actions
+closing-parts costs pending = total_cost-append costs (flat_map drain_actions pending) (save_actions costs.pages)
 
 -- a backing has the reserve, and one leak
 has_reserve : (costs : Costs) (k ticks : ℕ) → reserve costs k + costs.numbers.leak ≤ backing_level costs k ticks
 unfolding backing_level
 has_reserve costs k ticks = omega arith
+
+-- Steps as often as they were tried, and the next one: they cost no more than all steps and the dearest one for each that failed.
+module _ (costs : Costs) where
+  abbrev most : ℕ
+  most = repeat_cost_of costs.numbers
+
+  abbrev AreNoDearer : List Action → Type 0
+  AreNoDearer actions = (k : ℕ) (a : Action) → slice_get actions k ≡ Some a → cost_of costs a ≤ most
+
+  cost_tried : (actions : List Action) (tries : List Bool) (coming : Action) → AreNoDearer actions → slice_get actions (goods tries) ≡ Some coming
+      → total_cost costs (tried actions tries) + cost_of costs coming ≤ total_cost costs actions + fails tries * most
+  cost_tried actions [] coming each is =
+      let nothing : total_cost costs (take 0 actions) ≡ 0 = total_cost-nil costs in let none : total_cost costs (tried actions []) ≡ 0 = total_cost-nil costs in
+      omega (arith, cost_until costs actions 0 coming is, nothing, none)
+  cost_tried [] (good ∷ tries) coming each is = absurd (let inside : goods (good ∷ tries) < 0 = slice_get_within [] (goods (good ∷ tries)) coming is in omega (arith, inside))
+  cost_tried (a ∷ actions) (true ∷ tries) coming each is =
+      let rest = cost_tried actions tries coming (λ k b at. each (suc k) b at) is in omega (arith, rest, total_cost-cons costs a actions, total_cost-cons costs a (tried actions tries))
+  cost_tried (a ∷ actions) (false ∷ tries) coming each is =
+      let rest = cost_tried (a ∷ actions) tries coming each is in let first : cost_of costs a ≤ most = each 0 a refl in
+      omega (arith, rest, first, total_cost-cons costs a (tried (a ∷ actions) tries))
+
+  no_dearer : (pages : ℕ) → AreNoDearer (save_actions pages)
+  no_dearer pages k a is =
+      let inside : k < length (save_actions pages) = slice_get_within (save_actions pages) k a is in
+      rw (get_or_from_slice_get (save_actions pages) k a a is) at (repeats-cost costs pages k a inside)
+
+-- how many of the calls failed, where each try made one
+faults_tried : (kinds : List CallKind) (tries : List Bool) → goods tries < length kinds → faults_in (calls_tried kinds tries) ≡ fails tries
+faults_tried kinds [] more = refl
+faults_tried [] (good ∷ tries) more = absurd (omega (arith, more))
+faults_tried (kind ∷ kinds) (true ∷ tries) more =
+    let rest = faults_tried kinds tries (omega (arith, more)) in omega (arith, rest, sum_by-cons (λ (call : Call). cond (not call.is_good) 1 0) (called kind true) (calls_tried kinds tries))
+faults_tried (kind ∷ kinds) (false ∷ tries) more =
+    let rest = faults_tried (kind ∷ kinds) tries more in omega (arith, rest, sum_by-cons (λ (call : Call). cond (not call.is_good) 1 0) (called kind false) (calls_tried (kind ∷ kinds) tries))
 
 module _ (setup : Setup) (old new : World) (known : IsKnown setup old.machine) (backed : IsBacked setup old.machine old.gauge) where
   abbrev m : Machine
@@ -20,29 +70,47 @@ module _ (setup : Setup) (old new : World) (known : IsKnown setup old.machine) (
   abbrev costs : Costs
   costs = setup.shape.costs
 
-  abbrev actions : List Action
-  actions = closing_of setup m
+  abbrev drains : List Action
+  drains = drains_of setup m
 
-  -- the actions of the closing save cost no more than the reserve
-  closing_fits : total_cost costs actions ≤ reserve costs (pending_of m)
+  abbrev steps : List Action
+  steps = steps_of setup
+
+  abbrev dearest : ℕ
+  dearest = repeat_cost_of costs.numbers
+
+  -- the actions of the closing save cost no more than the reserve, with the steps that may be made again
+  closing_fits : total_cost costs drains + total_cost costs steps + costs.retries * dearest ≤ reserve costs (pending_of m)
   closing_fits =
       let each = pending_each setup.shape.channels m.waits.writes in let size : length each ≡ costs.channels = length-pending_each setup.shape.channels m.waits.writes ∙ known.shape.channels in
-      omega (arith, closing-cost costs each size, reserve-le costs (sum each) (pending_of m) (sum_pending_each setup.shape.channels m.waits.writes))
+      omega (arith, closing-parts costs each, closing-cost costs each size, reserve-le costs (sum each) (pending_of m) (sum_pending_each setup.shape.channels m.waits.writes))
+
+  -- what was paid for and the next action cost no more
+  paid_fits : (tries : List Bool) (paid : List Action) (coming : Action) → fails tries ≤ costs.retries → ComesNext setup m tries paid coming
+      → total_cost costs paid + cost_of costs coming ≤ reserve costs (pending_of m)
+  paid_fits tries paid coming few (inl in_drains) =
+      omega (arith, ap (total_cost costs) in_drains.1.1, cost_until costs drains in_drains.1.0 coming in_drains.1.2, closing_fits)
+  paid_fits tries paid coming few (inr behind) =
+      let more : dearest * fails tries ≤ dearest * costs.retries = mul-le-mul_left dearest few in
+      omega (arith, ap (total_cost costs) behind.0, total_cost-append costs drains (tried steps tries), cost_tried costs steps tries coming (no_dearer costs costs.pages) behind.1, more, closing_fits)
 
   -- no payment is refused
   never_dark : EndsDark setup old new → IsHonest setup old (Reply.Lose Loss.Dark) new → ⊥
   never_dark d honest =
-      let ticked = d.pays.ticked in let paid : IsPaid costs (take d.paid actions) ticked d.mid = paid_of costs (take d.paid actions) ticked d.mid d.pays.pays in
+      let ticked = d.pays.ticked in let paid : IsPaid costs d.paid ticked d.mid = paid_of costs d.paid ticked d.mid d.pays.pays in
       let faults : (ticked.faults ≡ old.gauge.faults) × (d.mid.faults ≡ ticked.faults) × (new.gauge.faults ≡ d.mid.faults) = omega (arith, d.pays.reads.counted, paid.counted, d.refused.counted, honest.gauge.faultless) in
       let fell = falls costs.numbers.leak old.gauge new.machine.reading ticked d.pays.reads (record { bounded = honest.gauge.bounded; faultless = faults.0 }) in
       let short : d.mid.level < cost_of costs d.coming = (d.refused.breach.0 faults.2).refused refl in
-      omega (arith, backed.bound d.closes.backed, has_reserve costs (pending_of m) (ticks_left setup m), fell, short, paid.fell faults.1, cost_until costs actions d.paid d.coming d.comes, closing_fits)
+      omega (arith, backed.bound d.closes.backed, has_reserve costs (pending_of m) (ticks_left setup m), fell, short, paid.fell faults.1, paid_fits d.tries d.paid d.coming d.few d.comes)
 
-  -- the device doesn't fail
+  -- the device doesn't fail that often
   never_fault : EndsInFault setup old new → IsHonest setup old (Reply.Lose Loss.Fault) new → ⊥
   never_fault d honest =
-      let stop : StopAtFault (take d.steps (save_calls setup m) ++ d.failed ∷ []) old.device.calls new.device.calls = record { done = _; fails = d.failed; rest = []; in_order = refl; made = d.calls } in
-      omega (arith, faults_more _ old.device.calls new.device.calls stop, honest.spared)
+      let kinds : List CallKind = save_calls setup m in
+      let inside : goods d.tries < length kinds = slice_get_within kinds (goods d.tries) d.failed d.comes in
+      let counted : faults_in (old.device.calls ++ calls_tried kinds d.tries) ≡ faults_in old.device.calls + faults_in (calls_tried kinds d.tries) =
+      sum_by-append (λ (call : Call). cond (not call.is_good) 1 0) old.device.calls (calls_tried kinds d.tries) in
+      omega (arith, ap faults_in d.calls, counted, faults_tried kinds d.tries inside, d.few, honest.spared)
 
   pub backs_lose : (reply : Loss) → LoseStep setup reply old new → IsHonest setup old (Reply.Lose reply) new → StaysBacked setup old (Reply.Lose reply) new
   backs_lose Loss.Closed done honest = let off : is_backed m.mode ≡ false = grind arith in record { backed = rw done.1 backed; saves = λ on. cc }

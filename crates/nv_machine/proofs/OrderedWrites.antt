@@ -224,7 +224,8 @@ module _ (setup : Setup) (old new : World) (o : IsInOrder old.machine) where
   event_order Event.SaveStep (Reply.SaveStep StepReply.Turned) done = world_moved _ done.5 o
   event_order Event.SaveStep (Reply.SaveStep (StepReply.Did made)) done = moved _ done.6.2 o
   event_order Event.SaveStep (Reply.SaveStep (StepReply.Saved generation count)) done = moved _ done.6.3 o
-  event_order Event.SaveStep (Reply.SaveStep StepReply.Fault) done = moved _ done.6 o
+  event_order Event.SaveStep (Reply.SaveStep StepReply.Retry) done = moved _ done.6.1 o
+  event_order Event.SaveStep (Reply.SaveStep StepReply.Fault) done = moved _ done.6.1 o
   event_order Event.Lose (Reply.Lose loss) done = lost_order loss done
   event_order event reply none = absurd none
 

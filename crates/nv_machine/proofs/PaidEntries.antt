@@ -7,13 +7,14 @@ use Rattle.std.proofs.lemmas.Grind.{flat_map-append}
 use Rattle.std.proofs.lemmas.List.{length-drop}
 use Rattle.std.proofs.lemmas.List.Sums.{count_by-le-length, sum_by-cons, sum_by-take-le}
 use Rattle.energy_budget.specs.declared.action.Action.TheVariants.{CloseGate, OpenGate, Sync, WriteHeader, WritePage}
-use Rattle.energy_budget.specs.Actions.{closing_actions, drain_actions, page_actions, save_actions}
+use Rattle.energy_budget.specs.Actions.{drain_actions, page_actions, save_actions}
 use Rattle.channel_port.proofs.Entries.{entries-both, entries-whole}
 use Rattle.channel_port.specs.Draining.{entries_in, is_entry}
 use Rattle.channel_port.specs.Waits.{is_write_on, writes_on}
 use Rattle.channel_port.specs.declared.waiting.Waiting.{Waiting}
-use Rattle.nv_machine.specs.Losses.{closing_of}
-use Rattle.nv_machine.proofs.Common.{Action, Bool, EndsDark, List, Setup, World, [], ap, append-nil, arith, inl, inr, length, refl, suc, take, zero, ℕ, ◌++◌, ◌+◌, ◌∙◌, ◌∷◌, ◌≡◌, ◌≤◌, pending_each}
+use Rattle.slot_store.specs.Tries.{tried}
+use Rattle.nv_machine.specs.Losses.{ComesNext, drains_of, steps_of}
+use Rattle.nv_machine.proofs.Common.{Action, Bool, EndsDark, List, Machine, Setup, World, [], ap, append-nil, arith, false, inl, inr, length, refl, suc, true, zero, ℕ, ◌++◌, ◌+◌, ◌∙◌, ◌∷◌, ◌≡◌, ◌≤◌, pending_each}
 
 abbrev one_if : Bool → ℕ
 one_if b = cond b 1 0
@@ -70,15 +71,28 @@ save_entries pages =
     entries-both (CloseGate ∷ Sync ∷ []) (replicate pages WritePage ++ WriteHeader ∷ Sync ∷ OpenGate ∷ Sync ∷ [])
     ∙ omega (arith, page_entries pages (WriteHeader ∷ Sync ∷ OpenGate ∷ Sync ∷ []))
 
-closing_entries : (pages n : ℕ) (ws : List Waiting) → entries_in (closing_actions pages (pending_each n ws)) ≤ length ws
-unfolding closing_actions
-closing_entries pages n ws =
-    omega (arith, entries-both (flat_map drain_actions (pending_each n ws)) (save_actions pages), save_entries pages, drain_entries n ws)
+-- nor has it where steps are made again
+tried_entries : (xs : List Action) (tries : List Bool) → entries_in xs ≡ 0 → entries_in (tried xs tries) ≡ 0
+tried_entries xs [] none = refl
+tried_entries [] (good ∷ tries) none = refl
+tried_entries (x ∷ xs) (true ∷ tries) none =
+    let all : entries_in (x ∷ xs) ≡ one_if (is_entry x) + entries_in xs = sum_by-cons (λ a. cond (is_entry a) 1 0) x xs in
+    omega (arith, all, none, sum_by-cons (λ a. cond (is_entry a) 1 0) x (tried xs tries), tried_entries xs tries (omega (arith, all, none)))
+tried_entries (x ∷ xs) (false ∷ tries) none =
+    let all : entries_in (x ∷ xs) ≡ one_if (is_entry x) + entries_in xs = sum_by-cons (λ a. cond (is_entry a) 1 0) x xs in
+    omega (arith, all, none, sum_by-cons (λ a. cond (is_entry a) 1 0) x (tried (x ∷ xs) tries), tried_entries (x ∷ xs) tries none)
+
+drains_entries : (setup : Setup) (m : Machine) → entries_in (drains_of setup m) ≤ length m.waits.writes
+drains_entries setup m = omega (arith, drain_entries setup.shape.channels m.waits.writes)
+
+paid_entries : (setup : Setup) (m : Machine) (tries : List Bool) (paid : List Action) (coming : Action) → ComesNext setup m tries paid coming → entries_in paid ≤ length m.waits.writes
+paid_entries setup m tries paid coming (inl in_drains) =
+    let k : ℕ = in_drains.1.0 in
+    omega (arith, ap entries_in in_drains.1.1, sum_by-take-le (λ a. cond (is_entry a) 1 0) (drains_of setup m) k, drains_entries setup m)
+paid_entries setup m tries paid coming (inr behind) =
+    omega (arith, ap entries_in behind.0, entries-both (drains_of setup m) (tried (steps_of setup) tries), tried_entries (steps_of setup) tries (save_entries setup.shape.costs.pages), drains_entries setup m)
 
 pub dark_count : (setup : Setup) (old new : World) (dark : EndsDark setup old new)
-    → length new.machine.waits.writes + entries_in (take dark.paid (closing_of setup old.machine)) ≡ length old.machine.waits.writes
+    → length new.machine.waits.writes + entries_in dark.paid ≡ length old.machine.waits.writes
 dark_count setup old new dark =
-    let closing : List Action = closing_of setup old.machine in
-    let writes : List Waiting = old.machine.waits.writes in
-    let some : entries_in (take dark.paid closing) ≤ entries_in closing = sum_by-take-le (λ a. cond (is_entry a) 1 0) closing dark.paid in
-    omega (arith, some, closing_entries setup.shape.costs.pages setup.shape.channels writes, ap length dark.left, length-drop (entries_in (take dark.paid closing)) writes)
+    omega (arith, paid_entries setup old.machine dark.tries dark.paid dark.coming dark.comes, ap length dark.left, length-drop (entries_in dark.paid) old.machine.waits.writes)

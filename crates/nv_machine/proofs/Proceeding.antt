@@ -1,7 +1,8 @@
 -- The store while a save makes its steps.
 use Rattle.nv_machine.specs.Losses.{LosesMains}
-use Rattle.nv_machine.specs.Moves.{after_steps}
-use Rattle.nv_machine.proofs.Common.{ap, false, refl, suc, true, zero, ℕ, ◌∙◌, ◌≡◌, None, Option, Some, ForSome, Image, Step, Loss, Mode, EndsDark, EndsInFault, step_failed, stepped, Machine, Setup, Store, World, made_of}
+use Rattle.slot_store.specs.Tries.{goods, is_failed}
+use Rattle.nv_machine.specs.Moves.{after_steps, broken_off, torn}
+use Rattle.nv_machine.proofs.Common.{Bool, ap, false, refl, suc, true, zero, ℕ, ◌∙◌, ◌≡◌, None, Option, Some, ForSome, Image, Step, Loss, Mode, EndsDark, EndsInFault, step_failed, stepped, Machine, Setup, Store, World, made_of}
 use Rattle.nv_machine.proofs.GuardLaws.{for_none, for_one}
 
 -- the new store, but for the candidates: those of the old one, with this image in the other slot
@@ -24,6 +25,14 @@ stepped_goes made s step = record { saved = s.maybe.saved; is = refl; may = λ P
 pub failed_goes : (made : Image) (s : Store) (step : Step) → Proceeds made s (step_failed s made step)
 failed_goes made s Step.Open = record { saved = Some made; is = refl; may = λ P was new. for_one made P new; unsettled = λ x. refl }
 failed_goes made s step = record { saved = s.maybe.saved; is = refl; may = λ P was new. was; unsettled = λ x. refl }
+
+pub torn_goes : (made : Image) (s : Store) (step : Step) → Proceeds made s (torn s made step)
+torn_goes made s Step.Open = record { saved = Some made; is = refl; may = λ P was new. for_one made P new; unsettled = λ x. x }
+torn_goes made s step = record { saved = s.maybe.saved; is = refl; may = λ P was new. was; unsettled = λ x. x }
+
+broken_goes : (made : Image) (s : Store) (step : Step) (failed : Bool) → Proceeds made s (broken_off s made step failed)
+broken_goes made s step true = failed_goes made s step
+broken_goes made s step false = record { saved = s.maybe.saved; is = refl; may = λ P was new. was; unsettled = λ x. x }
 
 -- a failed step ends the save, and the device is unsettled
 pub failed_ends : (made : Image) (s : Store) (step : Step) → ((step_failed s made step).saving ≡ None) × ((step_failed s made step).unsettled ≡ true)
@@ -50,13 +59,14 @@ newest_stays made old new goes = ap (λ (s : Store). s.maybe.newest.count) goes.
 -- a closing save that ran out of energy, and one in which the device failed
 pub dark_goes : (setup : Setup) (old new : World) (done : EndsDark setup old new) → Proceeds (made_of false old.machine) old.machine.store new.machine.store
 dark_goes setup old new done =
-    let goes = steps_go setup.shape.lines (made_of false old.machine) old.machine.store done.steps in
-    rw done.saved (record { saved = goes.saved; is = ap (λ (s : Store). record s { saving = None }) goes.is; may = goes.may; unsettled = goes.unsettled })
+    let made = made_of false old.machine in let before = after_steps setup.shape.lines old.machine.store made (goods done.tries) in
+    rw done.saved
+    (goes_further made old.machine.store before.store _ (steps_go setup.shape.lines made old.machine.store (goods done.tries)) (broken_goes made before.store before.next (is_failed false done.tries)))
 
 pub fault_goes : (setup : Setup) (old new : World) (done : EndsInFault setup old new) → Proceeds (made_of false old.machine) old.machine.store new.machine.store
 fault_goes setup old new done =
-    let made = made_of false old.machine in let before = after_steps setup.shape.lines old.machine.store made done.steps in
-    rw done.saved (goes_further made old.machine.store before.store _ (steps_go setup.shape.lines made old.machine.store done.steps) (failed_goes made before.store before.next))
+    let made = made_of false old.machine in let before = after_steps setup.shape.lines old.machine.store made (goods done.tries) in
+    rw done.saved (goes_further made old.machine.store before.store _ (steps_go setup.shape.lines made old.machine.store (goods done.tries)) (failed_goes made before.store before.next))
 
 -- the machine after a loss of mains
 pub after_loss : (reply : Loss) (m n : Machine) (mode : Mode) (s : Store) → LosesMains reply m n → n.mode ≡ mode → n.store ≡ s

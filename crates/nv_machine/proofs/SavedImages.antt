@@ -8,10 +8,10 @@ use Rattle.slot_store.specs.Slots.{other}
 use Rattle.nv_machine.specs.Headline.{HappensNext, MayFindMeanwhile, given}
 use Rattle.nv_machine.specs.SavedImages.{DisturbNoSave, DisturbsNoSave, IsOldOrNew, IsUnsaving}
 use Rattle.nv_machine.specs.declared.events.StepReply.{StepReply}
-use Rattle.nv_machine.proofs.Common.{List, [], ap, false, inl, inr, refl, subst, sym, ⊎_elim, ◌∙◌, ◌∷◌, ◌≡◌, Err, Found, ForSome, Image, IsGuarded, MachineStep, None, Ok, Option, Outcome, Run, RunningSave, Setup, Slot, Some, Step, Store, World, is_armed, made_of, marks, newest_of, stepped, Machine, Event, Reply}
+use Rattle.nv_machine.proofs.Common.{List, [], ap, false, inl, inr, refl, subst, sym, ⊎_elim, ◌∙◌, ◌∷◌, ◌≡◌, Err, Found, ForSome, Image, IsGuarded, MachineStep, None, Ok, Option, Outcome, Run, RunningSave, Setup, Slot, Some, Step, Store, World, is_armed, made_of, marks, newest_of, Machine, Event, Reply}
 use Rattle.std.specs.Prelude.{◌⊎◌}
 use Rattle.nv_machine.proofs.Guarded.{newest_alone}
-use Rattle.nv_machine.proofs.Proceeding.{stepped_goes}
+use Rattle.nv_machine.proofs.Proceeding.{Proceeds, stepped_goes, torn_goes}
 use Rattle.nv_machine.proofs.StoppedLives.{StopsRecover, left_along}
 
 module _ (slot : Slot) (newest made : Image) where
@@ -52,10 +52,10 @@ module _ (slot : Slot) (newest made : Image) where
   same_store m n same stage = subst Stage (sym same) stage
 
   -- a step of the save
-  did : (lines : Setup) (old new : Store) (save : RunningSave) (step : Step) (later : RunningSave) → later.made ≡ save.made → old.saving ≡ Some save
-      → new ≡ record (stepped old save.made step) { saving = Some later } → Stage old → Stage new
-  did setup old new save step later same runs is (inl r) =
-      let goes = stepped_goes save.made old step in let one : Some r.save ≡ Some save = sym r.runs ∙ runs in let makes : save.made ≡ made = cc (one, r.makes) in
+  did : (old on new : Store) (save later : RunningSave) → Proceeds save.made old on → later.made ≡ save.made → old.saving ≡ Some save
+      → new ≡ record on { saving = Some later } → Stage old → Stage new
+  did old on new save later goes same runs is (inl r) =
+      let one : Some r.save ≡ Some save = sym r.runs ∙ runs in let makes : save.made ≡ made = cc (one, r.makes) in
       inl (record {
         saved = goes.saved;
         is = ap (λ (s : Store). s.maybe) is ∙ ap (λ (s : Store). s.maybe) goes.is ∙ ap (λ (c : Candidates). record c { saved = goes.saved }) r.is;
@@ -64,7 +64,7 @@ module _ (slot : Slot) (newest made : Image) where
         runs = ap (λ (s : Store). s.saving) is;
         makes = same ∙ makes;
       })
-  did setup old new save step later same runs is (inr e) = absurd (let bad : ⊥ = cc (e.idle, runs) in bad)
+  did old on new save later goes same runs is (inr e) = absurd (let bad : ⊥ = cc (e.idle, runs) in bad)
 
   -- and its last one
   ended : (old new : Store) (save : RunningSave) → old.saving ≡ Some save → new.maybe ≡ only (other old.maybe.slot) save.made → new.saving ≡ None → Stage old → Stage new
@@ -84,7 +84,9 @@ module _ (slot : Slot) (newest made : Image) where
   goes_on setup Event.SaveStep (Reply.SaveStep StepReply.NoSave) old new done calm stage = same_store old.machine new.machine (ap (λ (w : World). w.machine.store) done.1) stage
   goes_on setup Event.SaveStep (Reply.SaveStep StepReply.Waiting) old new done calm stage = same_store old.machine new.machine (ap (λ (w : World). w.machine.store) done.3) stage
   goes_on setup Event.SaveStep (Reply.SaveStep (StepReply.Did step)) old new done calm stage =
-      did setup old.machine.store new.machine.store done.0 step _ refl done.1.runs (ap (λ (m : Machine). m.store) done.6.2) stage
+      did old.machine.store _ new.machine.store done.0 _ (stepped_goes done.0.made old.machine.store step) refl done.1.runs (ap (λ (m : Machine). m.store) done.6.2) stage
+  goes_on setup Event.SaveStep (Reply.SaveStep StepReply.Retry) old new done calm stage =
+      did old.machine.store _ new.machine.store done.0 _ (torn_goes done.0.made old.machine.store done.0.next) refl done.1.runs (ap (λ (m : Machine). m.store) done.6.1) stage
   goes_on setup Event.SaveStep (Reply.SaveStep (StepReply.Saved generation count)) old new done calm stage =
       ended old.machine.store new.machine.store done.0 done.1.runs (ap (λ (m : Machine). m.store.maybe) done.6.3) (ap (λ (m : Machine). m.store.saving) done.6.3) stage
   goes_on setup Event.SaveStep (Reply.SaveStep StepReply.Turned) old new done none stage = absurd none
@@ -117,14 +119,14 @@ unmarked setup Event.Lose reply old new done none = absurd none
 unmarked setup event reply old new none calm = absurd none
 
 -- a save begins
-begins : (m n : Machine) → IsGuarded m → IsUnsaving m → n.store ≡ record m.store { saving = Some (record { made = made_of (is_armed m.mode) m; next = Step.Close }) }
+begins : (m n : Machine) → IsGuarded m → IsUnsaving m → n.store ≡ record m.store { saving = Some (record { made = made_of (is_armed m.mode) m; next = Step.Close; repeats = 0 }) }
     → Stage m.store.maybe.slot (newest_of m) (made_of (is_armed m.mode) m) n.store
 begins m n guarded clean is =
     inl (record {
       saved = None;
       is = ap (λ (s : Store). s.maybe) is ∙ newest_alone m guarded clean;
       may = λ image none. let bad : ⊥ = cc in absurd bad;
-      save = record { made = made_of (is_armed m.mode) m; next = Step.Close };
+      save = record { made = made_of (is_armed m.mode) m; next = Step.Close; repeats = 0 };
       runs = ap (λ (s : Store). s.saving) is;
       makes = refl;
     })

@@ -4,8 +4,8 @@ use Rattle.arm_state.specs.Modes.{is_stranded}
 use Rattle.nv_machine.specs.Headline.{IsSpared, given}
 use Rattle.nv_machine.specs.Honesty.{IsSparedAlong}
 use Rattle.nv_machine.specs.Machine.{step_call}
-use Rattle.nv_machine.proofs.Common.{Bool, List, [], ap, arith, false, ◌∙◌, ◌∷◌, ◌≡◌, faults_more, DeviceState, mode_after, Loss, Mode, Move, LoseStep, MachineStep, Machine, Run, Setup, World, Event, Reply}
-use Rattle.nv_machine.proofs.Effects.{Effect, rests, shows, runs_low, disarms, accepts, begins, arms, fails_to_arm, steps, ends, fails, closes, effect}
+use Rattle.nv_machine.proofs.Common.{Bool, List, [], ap, arith, false, ℕ, ◌∙◌, ◌∷◌, ◌≡◌, faults_more, DeviceState, mode_after, Loss, Mode, Move, LoseStep, MachineStep, Machine, Run, Setup, World, Event, Reply}
+use Rattle.nv_machine.proofs.Effects.{Effect, rests, shows, runs_low, disarms, accepts, begins, arms, fails_to_arm, steps, ends, repeats, fails, closes, effect}
 use Rattle.nv_machine.proofs.CountedFaults.{Counts, event_counts, run_counts}
 
 abbrev off : Machine → Bool
@@ -33,6 +33,7 @@ effect_off setup old new event reply (arms done) was same = ap off done.2
 effect_off setup old new event reply (fails_to_arm done) was same = ap off done.2 ∙ was
 effect_off setup old new event reply (steps made done) was same = ap off done.6.2 ∙ was
 effect_off setup old new event reply (ends generation count done) was same = ap off done.6.3 ∙ ended_off old.machine.mode was
+effect_off setup old new event reply (repeats done) was same = ap off done.6.1 ∙ was
 effect_off setup old new event reply (fails done) was same =
     let one = faults_more (step_call old.machine.store.closed done.0.next ∷ []) old.device.calls new.device.calls done.5 in absurd (let bad : ⊥ = omega (arith, one, same) in bad)
 effect_off setup old new event reply (closes loss done) was same = loss_off setup old new loss done was
@@ -40,10 +41,10 @@ effect_off setup old new event reply (closes loss done) was same = loss_off setu
 event_off : (setup : Setup) (event : Event) (reply : Reply) (old new : World) → MachineStep setup event reply old new → off old.machine ≡ false → faults_of new.device ≡ faults_of old.device → off new.machine ≡ false
 event_off setup event reply old new done = effect_off setup old new event reply (effect setup old new event reply done)
 
-spared_where : (mode : Mode) (reply : Reply) (old new : DeviceState) → is_stranded mode ≡ false → faults_of new ≡ faults_of old → IsSpared mode reply old new
-spared_where mode (Reply.Lose loss) old new was same = same
-spared_where Mode.Stranded (Reply.SaveStep reply) old new was same = absurd (let bad : ⊥ = cc in bad)
-spared_where mode reply old new was same = tt
+spared_where : (retries : ℕ) (mode : Mode) (reply : Reply) (old new : DeviceState) → is_stranded mode ≡ false → faults_of new ≡ faults_of old → IsSpared retries mode reply old new
+spared_where retries mode (Reply.Lose loss) old new was same = omega (arith, same)
+spared_where retries Mode.Stranded (Reply.SaveStep reply) old new was same = absurd (let bad : ⊥ = cc in bad)
+spared_where retries mode reply old new was same = tt
 
 module _ (setup : Setup) where
   -- A device that has counted no fault from the beginning of a run to its end was spared in each event.
@@ -55,7 +56,7 @@ module _ (setup : Setup) where
       let here : Counts from run.0 = event_counts setup event reply from run.0 run.1.happens.step in let rest : Counts run.0 new = run_counts setup events replies run.0 new run.2 in
       let first : faults_of run.0.device ≡ faults_of old.device = omega (arith, here.device, rest.device, same) in
       let next : faults_of new.device ≡ faults_of run.0.device = omega (arith, here.device, rest.device, same) in (
-        spared_where old.machine.mode reply old.device run.0.device was first,
+        spared_where setup.shape.costs.retries old.machine.mode reply old.device run.0.device was first,
         spared_ends events replies run.0 new run.2 (event_off setup event reply from run.0 run.1.happens.step was first) next,
       )
   spared_ends _ _ old new none was same = absurd none

@@ -1,5 +1,5 @@
 -- What a stop at each moment of an event leaves, and what an honest gauge is enough for.
-use Rattle.std.specs.Prelude.{◌≡◌, ◌≢◌, ◌⊎◌, ℕ, ◌≤◌, Bool, true, false, List, [], ◌∷◌, Ok, Err, Option, Some, if◌then◌else◌}
+use Rattle.std.specs.Prelude.{◌≡◌, ◌≢◌, ◌⊎◌, ℕ, ◌+◌, ◌-◌, ◌≤◌, Bool, true, false, List, [], ◌∷◌, Ok, Err, Option, Some, if◌then◌else◌}
 use Rattle.save_image.specs.Image.{Image}
 use Rattle.save_device.specs.Device.{DeviceState, present, faults_of, StopsWithin, LeavesOnly}
 use Rattle.slot_store.specs.declared.slots.Slot.{Slot}
@@ -63,7 +63,7 @@ pub record RecoversAfterwards (new : Machine) (outcome : Outcome) : Type 0 where
 -- how often the gauge may still be ticked until the save of a disarming is done
 abbrev pub ticks_until_saved : Setup → Mode → Option RunningSave → ℕ
 ticks_until_saved setup modes.Armed saving = save_ticks setup.shape.costs
-ticks_until_saved setup modes.Disarming (Some save) = steps_left setup.shape.lines save.next
+ticks_until_saved setup modes.Disarming (Some save) = steps_left setup.shape.lines save.next + (setup.shape.costs.retries - save.repeats)
 ticks_until_saved setup mode saving = 0
 
 abbrev pub ticks_left : Setup → Machine → ℕ
@@ -76,16 +76,17 @@ pub record IsBacked (setup : Setup) (m : Machine) (gauge : Gauge) : Type 0 where
   pub shown : is_armed m.mode ≡ true → need_for setup (pending_of m) ≤ m.reading
   pub read : is_armed m.mode ≡ true → m.reading ≤ gauge.level
 
--- The device doesn't fail in a closing save, and once a disarming is stranded no further call of it is made.
-abbrev pub IsSpared : Mode → Reply → DeviceState → DeviceState → Type 0
-IsSpared mode (replies.Lose lost) old new = faults_of new ≡ faults_of old
-IsSpared modes.Stranded (replies.SaveStep reply) old new = new ≡ old
-IsSpared mode reply old new = Unit {0}
+-- The device fails no more often in a closing save than its calls may be made again, and once a disarming is stranded no
+-- further call of it is made.
+abbrev pub IsSpared : ℕ → Mode → Reply → DeviceState → DeviceState → Type 0
+IsSpared retries mode (replies.Lose lost) old new = faults_of new ≤ faults_of old + retries
+IsSpared retries modes.Stranded (replies.SaveStep reply) old new = new ≡ old
+IsSpared retries mode reply old new = Unit {0}
 
 -- in this event the gauge was honest, and the device spared
 pub record IsHonest (setup : Setup) (old : World) (reply : Reply) (new : World) : Type 0 where
   pub gauge : IsHonestThrough setup.shape.costs.numbers.leak old.gauge new.gauge
-  pub spared : IsSpared old.machine.mode reply old.device new.device
+  pub spared : IsSpared setup.shape.costs.retries old.machine.mode reply old.device new.device
 
 -- a loss of mains while acknowledged writes are to be saved saves all that were accepted
 abbrev pub SavesAllWritten : Machine → Reply → Type 0

@@ -21,7 +21,7 @@ module _ (setup : Setup) where
   abbrev pub IsSparedAlong : (events : List Event) (replies : List Reply) (old new : World) → Run setup events replies old new → Type 0
   IsSparedAlong [] [] old new run = Unit {0}
   IsSparedAlong (event ∷ events) (reply ∷ replies) old new run =
-      IsSpared old.machine.mode reply old.device run.0.device × IsSparedAlong events replies run.0 new run.2
+      IsSpared setup.shape.costs.retries old.machine.mode reply old.device run.0.device × IsSparedAlong events replies run.0 new run.2
   IsSparedAlong [] (reply ∷ replies) old new none = ⊥
   IsSparedAlong (event ∷ events) [] old new none = ⊥
 

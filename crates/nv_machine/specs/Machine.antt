@@ -37,7 +37,7 @@ use Rattle.nv_machine.specs.declared.events.Reply.{Reply}
 use Rattle.nv_machine.specs.declared.events.Reply.TheVariants as replies
 use Rattle.nv_machine.specs.State.{Setup, RunningSave, Machine, World, all_of, memory_of, pending_of, hold_of}
 use Rattle.nv_machine.specs.Refusals.{need_for, is_low, saves_of, write_refusal, read_refusal}
-use Rattle.nv_machine.specs.Moves.{begun, disarming, read_as, sensed, written, armed, arm_failed, stepped, step_failed, advanced, finished}
+use Rattle.nv_machine.specs.Moves.{begun, disarming, read_as, sensed, written, armed, arm_failed, stepped, step_failed, torn, repeated, may_repeat, advanced, finished}
 use Rattle.nv_machine.specs.Losses.{LoseStep}
 
 -- Steps of the machine, one definition an event.
@@ -131,15 +131,19 @@ waits_at m count step = false
 abbrev pub must_wait : Machine → RunningSave → Bool
 must_wait m save = waits_at m save.made.count save.next
 
--- a step of the save, after the reading: it went well, it was the last one, or the device failed in it
-abbrev pub MadeStep : ℕ → RunningSave → StepReply → Machine → Machine → Type 0
-MadeStep lines save (step.Did made) old new =
-    (made ≡ save.next) × (made ≢ SyncOpen) × (new ≡ record old { store = advanced lines save (stepped old.store save.made made) })
-MadeStep lines save (step.Saved generation count) old new =
+-- a step of the save, after the reading: it went well, it was the last one, or the device failed in it, so that it is made again
+-- or the save ends
+abbrev pub MadeStep : Setup → RunningSave → StepReply → Machine → Machine → Type 0
+MadeStep setup save (step.Did made) old new =
+    (made ≡ save.next) × (made ≢ SyncOpen) × (new ≡ record old { store = advanced setup.shape.lines save (stepped old.store save.made made) })
+MadeStep setup save (step.Saved generation count) old new =
     (save.next ≡ SyncOpen) × (generation ≡ save.made.generation) × (count ≡ save.made.count) × (new ≡ finished save old)
-MadeStep lines save step.Fault old new =
-    new ≡ record old { mode = mode_after FailSave old.mode; store = step_failed old.store save.made save.next }
-MadeStep lines save reply old new = ⊥
+MadeStep setup save step.Retry old new =
+    (may_repeat setup old.mode save ≡ true) × (new ≡ record old { store = repeated save (torn old.store save.made save.next) })
+MadeStep setup save step.Fault old new =
+    (may_repeat setup old.mode save ≡ false)
+    × (new ≡ record old { mode = mode_after FailSave old.mode; store = step_failed old.store save.made save.next })
+MadeStep setup save reply old new = ⊥
 
 -- the device call of a step: where the gate is known closed the first one is a sync
 abbrev pub step_call : Bool → Step → CallKind
@@ -152,6 +156,7 @@ step_call closed step = Sync
 -- whether a step went well
 abbrev pub is_made : StepReply → Bool
 is_made step.Fault = false
+is_made step.Retry = false
 is_made reply = true
 
 -- a save runs, and nothing that its coming step is to have waits
@@ -172,7 +177,7 @@ SaveStepStep setup reply old new =
     (save : RunningSave) × MayStep old.machine save × (reading : ℕ) × ReadsLevel Tick old.gauge reading new.gauge
     × (is_low setup (read_as reading old.machine) ≡ false)
     × Calls (step_call old.machine.store.closed save.next ∷ []) (is_made reply) old new
-    × MadeStep setup.shape.lines save reply (read_as reading old.machine) new.machine
+    × MadeStep setup save reply (read_as reading old.machine) new.machine
 
 -- neither the device nor the gauge is asked
 abbrev pub MovesAlone : (Machine → Machine → Type 0) → World → World → Type 0

@@ -1,5 +1,5 @@
 -- The moves of the machine: what becomes of its state.
-use Rattle.std.specs.Prelude.{ℕ, ◌+◌, zero, suc, true, false, [], ◌∷◌, ◌++◌, length, Some, None, if◌then◌else◌}
+use Rattle.std.specs.Prelude.{ℕ, ◌+◌, zero, suc, Bool, true, false, [], ◌∷◌, ◌++◌, length, nat_lt, Some, None, if◌then◌else◌}
 use Rattle.line_memory.specs.declared.Write.{Write}
 use Rattle.save_image.specs.Image.{Image}
 use Rattle.slot_store.specs.declared.plan.Step.{Step}
@@ -10,7 +10,7 @@ use Rattle.slot_store.specs.Rest.{only}
 use Rattle.arm_state.specs.declared.mode.Mode.{Mode}
 use Rattle.arm_state.specs.declared.mode.Mode.TheVariants as modes
 use Rattle.arm_state.specs.declared.moves.Move.TheVariants.{EndSave}
-use Rattle.arm_state.specs.Modes.{is_armed}
+use Rattle.arm_state.specs.Modes.{is_armed, repeats_in}
 use Rattle.arm_state.specs.Moves.{mode_after}
 use Rattle.arm_state.specs.declared.loss.Loss.TheVariants as loss
 use Rattle.nv_machine.specs.State.{Setup, Life, RunningSave, Store, Machine, start_of_life, all_of, newest_of, made_of, begun_save}
@@ -62,6 +62,24 @@ stepped s made step = s
 abbrev pub step_failed : Store → Image → Step → Store
 step_failed s made Open = record s { maybe = record s.maybe { saved = Some made }; closed = false; unsettled = true; saving = None }
 step_failed s made step = record s { unsettled = true; saving = None }
+
+-- the store where a closing save was broken off before this step, which was tried and failed or wasn't
+abbrev pub broken_off : Store → Image → Step → Bool → Store
+broken_off s made step true = step_failed s made step
+broken_off s made step false = record s { saving = None }
+
+-- the store after its step failed and is to be made again: the save goes on, and from the first try to open the gate the new
+-- image may be found too
+abbrev pub torn : Store → Image → Step → Store
+torn s made Open = record s { maybe = record s.maybe { saved = Some made }; closed = false }
+torn s made step = s
+
+abbrev pub repeated : RunningSave → Store → Store
+repeated save s = record s { saving = Some (record save { repeats = save.repeats + 1 }) }
+
+-- whether the save may make a step again that failed
+abbrev pub may_repeat : Setup → Mode → RunningSave → Bool
+may_repeat setup mode save = nat_lt save.repeats (repeats_in mode setup.shape.costs.retries)
 
 -- the save has ended well
 abbrev pub saved_in : Store → Image → Store

@@ -10,7 +10,7 @@ use Rattle.nv_machine.specs.declared.events.Reply.{Reply}
 use Rattle.nv_machine.specs.declared.events.Reply.TheVariants as replies
 use Rattle.nv_machine.specs.State.{Machine, newest_of, made_of}
 
--- an event that disturbs no save: a write, a read, a command, or a step that went well or has to wait
+-- an event that disturbs no save: a write, a read, a command, or a step that went well, is made again or has to wait
 abbrev pub DisturbsNoSave : Event → Reply → Type 0
 DisturbsNoSave (events.Write write) reply = Unit {0}
 DisturbsNoSave (events.Read line) reply = Unit {0}

@@ -32,10 +32,11 @@ start_of_life life = life.opened.count
 abbrev pub base_of_life : Life → List (List ℕ)
 base_of_life life = life.opened.memory
 
--- a save that runs: the image that it makes, and the coming step
+-- a save that runs: the image that it makes, the coming step, and how often a step of it has failed and was to be made again
 pub record RunningSave : Type 0 where
   pub made : Image
   pub next : Step
+  pub repeats : ℕ
 
 -- What a restore would find: the images that a stop may make the newest, of which `maybe.newest` is the one known settled;
 -- whether the other slot's gate is known closed and settled; whether a call of the device failed since the last save; and a
@@ -86,7 +87,7 @@ made_of armed m = record { generation = (newest_of m).generation + 1; count = al
 
 -- a save of this image, before its first step
 abbrev pub begun_save : Image → RunningSave
-begun_save made = record { made = made; next = Close }
+begun_save made = record { made = made; next = Close; repeats = 0 }
 
 -- the writes from this number on stay out of the arrays, until a save has written its last page
 abbrev pub hold_at : ℕ → Step → Option ℕ

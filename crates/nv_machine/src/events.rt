@@ -24,6 +24,8 @@ pub enum StepReply {
     Turned,
     /// No save runs.
     NoSave,
+    /// The device failed, and the step is to be made again.
+    Retry,
     /// The device failed, which ends the save.
     Fault,
 }

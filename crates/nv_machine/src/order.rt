@@ -1,5 +1,5 @@
 // In which order writes wait.
-ghost use Rattle.std.specs.Prelude.{◌≡◌, ◌+◌, Bool, List, length, take};
+ghost use Rattle.std.specs.Prelude.{◌≡◌, ◌+◌, Bool, List, length};
 ghost use Rattle.save_image.specs.Image.{Image};
 ghost use Rattle.slot_store.specs.declared.slots.Slot.{Slot};
 ghost use Rattle.channel_port.specs.declared.waiting.Waiting.{Waiting};
@@ -9,7 +9,7 @@ ghost use Rattle.nv_machine.specs.declared.events.Event.{Event};
 ghost use Rattle.nv_machine.specs.declared.events.Reply.{Reply};
 ghost use Rattle.nv_machine.specs.State.{Setup, World};
 ghost use Rattle.nv_machine.specs.Headline.{Run};
-ghost use Rattle.nv_machine.specs.Losses.{EndsDark, closing_of};
+ghost use Rattle.nv_machine.specs.Losses.{EndsDark};
 ghost use Rattle.nv_machine.specs.Opening.{new_life};
 ghost use Rattle.nv_machine.specs.WaitingOrder.{GoesBefore, IsInOrder, WaitsNoMore};
 
@@ -26,7 +26,6 @@ pub fn oldest_go_first()
         → Has gone old.machine.waits.writes → WaitsNoMore gone new.machine.waits.writes
         → Has left new.machine.waits.writes → GoesBefore gone left }
     ensures count { (setup : Setup) (old new : World) (dark : EndsDark setup old new)
-        → length new.machine.waits.writes
-        + entries_in (take dark.paid (closing_of setup old.machine))
+        → length new.machine.waits.writes + entries_in dark.paid
         ≡ length old.machine.waits.writes }
 {}

@@ -47,6 +47,8 @@ pub enum Answer {
     Waiting,
     /// A step that made no call of the device and began to disarm instead.
     StepDisarming,
+    /// A step in which the device failed, and which is to be made again.
+    StepRetry,
     Stepped(Step),
     Lost(Loss),
     Lie {
@@ -97,6 +99,7 @@ impl fmt::Display for Answer {
             Answer::Saved { generation, count } => write!(f, "saved {generation} {count}"),
             Answer::Waiting => f.write_str("waiting"),
             Answer::StepDisarming => f.write_str("step disarming"),
+            Answer::StepRetry => f.write_str("step retry"),
             Answer::Stepped(step) => write!(f, "step {step}"),
             Answer::Lost(loss) => write_lost(f, loss),
             Answer::Lie { units } => write!(f, "lie {units}"),

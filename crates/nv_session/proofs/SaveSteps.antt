@@ -28,8 +28,10 @@ step_keeps setup (step.Did made) old new told =
     record { opened = ap (λ (m : Machine). m.life.opened) told.6.2; writes = ap (λ (m : Machine). m.life.writes) told.6.2 }
 step_keeps setup (step.Saved generation count) old new told =
     record { opened = ap (λ (m : Machine). m.life.opened) told.6.3; writes = ap (λ (m : Machine). m.life.writes) told.6.3 }
+step_keeps setup step.Retry old new told =
+    record { opened = ap (λ (m : Machine). m.life.opened) told.6.1; writes = ap (λ (m : Machine). m.life.writes) told.6.1 }
 step_keeps setup step.Fault old new told =
-    record { opened = ap (λ (m : Machine). m.life.opened) told.6; writes = ap (λ (m : Machine). m.life.writes) told.6 }
+    record { opened = ap (λ (m : Machine). m.life.opened) told.6.1; writes = ap (λ (m : Machine). m.life.writes) told.6.1 }
 
 step_saves : (setup : Setup) (generation count : ℕ) (old new : World) → IsGuarded old.machine → SaveStepStep setup (step.Saved generation count) old new → HasSaved generation count new.machine
 step_saves setup generation count old new guarded told =
@@ -52,6 +54,7 @@ step_ends setup step.Waiting old new guarded told = tt
 step_ends setup step.Turned old new guarded told = tt
 step_ends setup (step.Did made) old new guarded told = tt
 step_ends setup (step.Saved generation count) old new guarded told = step_saves setup generation count old new guarded told
+step_ends setup step.Retry old new guarded told = tt
 step_ends setup step.Fault old new guarded told = tt
 
 pub begin_keeps : (result : Result (Unit {0}) ArmRefusal) (old new : Machine) → SaveBeginStep result old new → SameWrites old new

@@ -11,9 +11,11 @@ use Rattle.nv_machine.specs.declared.events.StepReply.TheVariants as step
 use Rattle.nv_machine.specs.State.{Machine}
 use Rattle.nv_session.specs.Turns.{AreOfStep, GoesOnSaving, SameButWaits}
 
--- a save is underway behind a step that was made, but for its last one, and behind one that had to wait
+-- a save is underway behind a step that was made, but for its last one, behind one that is made again and behind one that had to
+-- wait
 abbrev pub is_underway : StepReply → Bool
 is_underway (step.Did made) = true
+is_underway step.Retry = true
 is_underway step.Waiting = true
 is_underway step.NoSave = false
 is_underway step.Turned = false

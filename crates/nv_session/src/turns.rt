@@ -107,7 +107,10 @@ fn work_each<K: ChannelPort>(running: &mut Module<K>, channels: u64)
 fn is_underway(reply: StepReply) -> bool
     ensures { result ≡ is_underway reply }
 {
-    matches!(reply, StepReply::Did(_) | StepReply::Waiting)
+    matches!(
+        reply,
+        StepReply::Did(_) | StepReply::Retry | StepReply::Waiting
+    )
 }
 
 // Works each channel where a step had to wait.

@@ -245,6 +245,8 @@ module _ {K : Type 0} (L : Ghosts K) where
       saves_plain lines line.Save answer.Waiting (Ok step.NoSave) old new (λ setup. GoesOnSaving (Ok step.NoSave)) (λ setup es rs m n told. told) tt (λ known. refl) refl refl (λ lines ledger. tt) goes
   save_truly lines (Ok step.Turned) old new rests goes =
       saves_plain lines line.Save answer.StepDisarming (Ok step.Turned) old new (λ setup. GoesOnSaving (Ok step.Turned)) (λ setup es rs m n told. told) tt (λ known. refl) refl refl (λ lines ledger. tt) goes
+  save_truly lines (Ok step.Retry) old new rests goes =
+      saves_plain lines line.Save answer.Waiting (Ok step.Retry) old new (λ setup. GoesOnSaving (Ok step.Retry)) (λ setup es rs m n told. told) tt (λ known. refl) refl refl (λ lines ledger. tt) goes
   save_truly lines (Ok step.Fault) old new rests goes =
       saves_plain lines line.Save answer.SaveFault (Ok step.Fault) old new (λ setup. GoesOnSaving (Ok step.Fault)) (λ setup es rs m n told. told) tt (λ known. refl) refl refl (λ lines ledger. tt) goes
   save_truly lines (Err refusal) old new rests goes =
@@ -263,6 +265,8 @@ module _ {K : Type 0} (L : Ghosts K) where
       saves_plain lines line.Step answer.Waiting (Ok step.NoSave) old new (λ setup. MakesOneStep (Ok step.NoSave)) (λ setup es rs m n told. told.goes_on) tt (λ known. refl) refl refl (λ lines ledger. tt) goes
   step_truly lines (Ok step.Turned) old new rests goes =
       saves_plain lines line.Step answer.StepDisarming (Ok step.Turned) old new (λ setup. MakesOneStep (Ok step.Turned)) (λ setup es rs m n told. told.goes_on) tt (λ known. refl) refl refl (λ lines ledger. tt) goes
+  step_truly lines (Ok step.Retry) old new rests goes =
+      saves_plain lines line.Step answer.StepRetry (Ok step.Retry) old new (λ setup. MakesOneStep (Ok step.Retry)) (λ setup es rs m n told. told.goes_on) tt (λ known. refl) refl refl (λ lines ledger. tt) goes
   step_truly lines (Ok step.Fault) old new rests goes =
       saves_plain lines line.Step answer.SaveFault (Ok step.Fault) old new (λ setup. MakesOneStep (Ok step.Fault)) (λ setup es rs m n told. told.goes_on) tt (λ known. refl) refl refl (λ lines ledger. tt) goes
   step_truly lines (Err refusal) old new rests goes =

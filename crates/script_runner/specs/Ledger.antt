@@ -97,6 +97,7 @@ IsOfLine line.Step (answer.Stepped made) = Unit {0}
 IsOfLine line.Step (answer.Saved generation count) = Unit {0}
 IsOfLine line.Step answer.Waiting = Unit {0}
 IsOfLine line.Step answer.StepDisarming = Unit {0}
+IsOfLine line.Step answer.StepRetry = Unit {0}
 IsOfLine line.Step answer.SaveFault = Unit {0}
 IsOfLine line.Step (answer.SaveRefused refusal) = Unit {0}
 IsOfLine line.Lose (answer.Lost loss) = Unit {0}

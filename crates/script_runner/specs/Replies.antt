@@ -41,11 +41,13 @@ step_told (Ok (step.Saved generation count)) = answer.Saved generation count
 step_told (Ok step.Waiting) = answer.Waiting
 step_told (Ok step.NoSave) = answer.Waiting
 step_told (Ok step.Turned) = answer.StepDisarming
+step_told (Ok step.Retry) = answer.StepRetry
 step_told (Ok step.Fault) = answer.SaveFault
 step_told (Err refusal) = answer.SaveRefused refusal
 
 abbrev pub save_told : Result StepReply ArmRefusal → Answer
 save_told (Ok (step.Did made)) = answer.Waiting
+save_told (Ok step.Retry) = answer.Waiting
 save_told reply = step_told reply
 
 -- the answers to arming and to disarming

@@ -49,6 +49,7 @@ pub(crate) fn step_answer(reply: Result<StepReply, ArmRefusal>) -> Answer
         Ok(StepReply::Saved { generation, count }) => Answer::Saved { generation, count },
         Ok(StepReply::Waiting | StepReply::NoSave) => Answer::Waiting,
         Ok(StepReply::Turned) => Answer::StepDisarming,
+        Ok(StepReply::Retry) => Answer::StepRetry,
         Ok(StepReply::Fault) => Answer::SaveFault,
         Err(refusal) => Answer::SaveRefused(refusal),
     }
@@ -59,7 +60,7 @@ pub(crate) fn save_answer(reply: Result<StepReply, ArmRefusal>) -> Answer
     ensures { result ≡ save_told reply }
 {
     match reply {
-        Ok(StepReply::Did(_)) => Answer::Waiting,
+        Ok(StepReply::Did(_) | StepReply::Retry) => Answer::Waiting,
         _ => step_answer(reply),
     }
 }

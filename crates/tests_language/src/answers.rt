@@ -99,6 +99,7 @@ fn of_saves(rt: HostRuntime) {
     );
     is_shown(&rt, Answer::Waiting, "waiting");
     is_shown(&rt, Answer::StepDisarming, "step disarming");
+    is_shown(&rt, Answer::StepRetry, "step retry");
     is_shown(&rt, Answer::Stepped(Step::Close), "step close");
     is_shown(&rt, Answer::Stepped(Step::SyncClosed), "step sync");
     is_shown(&rt, Answer::Stepped(Step::Header), "step header");

@@ -12,7 +12,7 @@ returns-clause-step g c = λ m h.
     let begins : BeginsSave old.saves (all_of m) armed lines saves =
     subst (λ (x : Bool). BeginsSave old.saves (all_of m) x lines saves) same (subst (λ (k : ℕ). BeginsSave old.saves k c.is_armed.result lines saves) h.accepted
     (subst (λ (k : ℕ). BeginsSave old.saves old.accepted c.is_armed.result k saves) c.lines.ensures b)) in
-    let saving : AreSameSave (Some save) saves.saving = subst (λ (x : Option SaveRun). AreSameSave (Some save) x) (sym b.runs) (b.begun.next, b.begun.count_is ∙ h.accepted) in
+    let saving : AreSameSave (Some save) saves.saving = subst (λ (x : Option SaveRun). AreSameSave (Some save) x) (sym b.runs) (b.begun.next, b.begun.count_is ∙ h.accepted, b.begun.unfailed) in
     let memory : IsMemory (shape_of L c.hold.new.self).lines (memory_of m) = subst (λ (v : ChannelsView). IsMemory v.shape.lines (memory_of m)) (sym held) h.memory in
     let carried : IsCarried L c.hold.new.self (begun m) = record {
       carries = c.hold.ensures.keeps (base_of_life m.life) (start_of_life m.life) m.life.writes h.carried.carries;

@@ -1,6 +1,7 @@
 use Rattle.std.proofs.Common.{Option}
 use Rattle.std.proofs.lemmas.List.FromFn.{length-map-range_with_len}
 use Rattle.channel_set.proofs.Settling.{settled}
+use Rattle.slot_store.specs.Runs.{tried_of}
 use Rattle.slot_store.specs.Steps.{reach_of}
 use Rattle.module_core.specs.Saves.{IsReadyFor, StoreMoves}
 use Rattle.nv_machine.proofs.Guarded.{memory_made}
@@ -75,11 +76,11 @@ returns-clause-answers g c = λ m stands.
     let made = c.make_step.ensures.made read save ready' h' in let n : Machine = made.later in
     let the = the_run (lines_of_module L now) m.store device save m.store.saving now.saves.saving s.1 ready'.holds in let run : SaveRun = the.0 in
     let call_is : step_call (plan_of run).closed (next_of run) ≡ step_call m.store.closed save.next =
-    ap (step_call (plan_of run).closed) the.2.next ∙ same_call (plan_of run) m.store.closed save.next the.2.shut in
+    ap (step_call (plan_of run).closed) the.2.next ∙ same_call (plan_of run) m.store.closed save.next (tried_of run) the.2.shut in
     let oldw : World = record { machine = m; device = device; gauge = before } in let neww : World = record { machine = n; device = device'; gauge = later } in
     let step : SaveStepStep setup c.make_step.result oldw neww = whole_step setup oldw neww save reading c.make_step.result (record { runs = s.1; ready = ready }) c.tick-reading.ensures high
     (subst (λ (k : CallKind). MakesCalls (k ∷ []) (is_made c.make_step.result) device.calls device'.calls) call_is (c.make_step.ensures.call run the.1))
-    (subst (λ (k : ℕ). MadeStep k save c.make_step.result read n) same made.step) in
+    (subst (λ (x : Setup). MadeStep x save c.make_step.result read n) c.take_reading.ensures.setup made.step) in
     asked L events.SaveStep (replies.SaveStep c.make_step.result) (assembly old device before) (assembly c.make_step.new.self device' later) (c.make_step.ensures.setup ∙ c.take_reading.ensures.setup) m stands n step made.matches
     (subst (λ (k : ℕ). Holds k n.store c.make_step.new.self.saves.saving device') same made.reaches.holds) tt
     (weaker device device' (λ image either guarded.

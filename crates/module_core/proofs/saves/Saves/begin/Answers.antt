@@ -6,7 +6,7 @@ returns c =
     let e = c.begin-run.ensures in
     record {
       run = c.begin-run.result;
-      begun = record { slot = e.slot; generation = e.generation; count_is = e.count; arm = e.armed; shut = e.closed; lines_are = e.lines; next = e.next; untried = e.untried; saving = e.begun };
+      begun = record { slot = e.slot; generation = e.generation; count_is = e.count; arm = e.armed; shut = e.closed; lines_are = e.lines; next = e.next; untried = e.untried; unfailed = e.unfailed; saving = e.begun };
       runs = refl;
       newest = refl;
       closed = refl;
