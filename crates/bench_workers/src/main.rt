@@ -46,6 +46,7 @@ const SIZES: ModuleSizes = ModuleSizes {
     reads: 8,
     trail: 40_000,
     notices: 64,
+    retries: 0,
 };
 
 // A life over the map `lines`.

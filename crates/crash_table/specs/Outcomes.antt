@@ -54,10 +54,11 @@ told_behind (answer.Restored generation count verdict) told = option_map (λ _. 
 told_behind (answer.RestoreRefused error) told = told
 told_behind given told = option_map (λ n. max n (told_by given)) told
 
--- whether an answer tells a fault of the device
+-- whether an answer tells a fault of the device, also one after which the call is made again
 abbrev pub tells_fault : Answer → Bool
 tells_fault answer.FormatFault = true
 tells_fault answer.ArmFault = true
+tells_fault answer.StepRetry = true
 tells_fault answer.SaveFault = true
 tells_fault (answer.Lost lost.Fault) = true
 tells_fault other = false

@@ -90,7 +90,11 @@ fn tells_fault(answer: &Answer) -> bool
 {
     matches!(
         *answer,
-        Answer::FormatFault | Answer::ArmFault | Answer::SaveFault | Answer::Lost(Loss::Fault)
+        Answer::FormatFault
+            | Answer::ArmFault
+            | Answer::StepRetry
+            | Answer::SaveFault
+            | Answer::Lost(Loss::Fault)
     )
 }
 

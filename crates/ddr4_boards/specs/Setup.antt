@@ -14,4 +14,5 @@ pub record IsSetupOf (place_of : ℕ → Place) (profile : Profile) (setup : Set
     trail = profile.sizes.trail;
   }
   pub numbers : setup.shape.costs.numbers ≡ profile.costs
+  pub retries : setup.shape.costs.retries ≡ profile.sizes.retries
   pub reckoned : AreReckonedFor profile.checked setup.shape.costs

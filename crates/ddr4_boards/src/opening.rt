@@ -112,7 +112,7 @@ fn begin<'m, M: LineMap>(
     ensures history { IfOk result (λ begun. begun.history
         ≡ recorded restored.lines.items restored.head.count [] profile.now.sizes.trail) }
 {
-    let costs = Costs::of(&profile.checked, &profile.costs);
+    let costs = Costs::of(&profile.checked, &profile.costs).with_retries(profile.sizes.retries);
     let sizes = Sizes {
         depth: profile.sizes.depth,
         reads: profile.sizes.reads,

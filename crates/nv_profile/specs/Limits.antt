@@ -7,3 +7,4 @@ pub record AreSizes (sizes : ModuleSizes) : Type 0 where
   pub reads : (1 ≤ sizes.reads) × (sizes.reads ≤ 64)
   pub trail : (1 ≤ sizes.trail) × (sizes.trail ≤ 65536)
   pub notices : (1 ≤ sizes.notices) × (sizes.notices ≤ 4096)
+  pub retries : sizes.retries ≤ 16

@@ -63,12 +63,14 @@ pub record SaysCosts (table : Members) (costs : CostNumbers) : Type 0 where
   pub leak : number_at (codes "leak") table ≡ Some costs.leak
   pub within : AreCostsInLimits costs
 
+-- of these keys `retries` may be missing; each size is within its limits
 pub record SaysModule (table : Members) (sizes : ModuleSizes) (word : Interleaving) : Type 0 where
-  pub size : size_of table ≡ 5
+  pub size : size_of table ≡ (if has_key (codes "retries") table then 6 else 5)
   pub depth : number_at (codes "depth") table ≡ Some sizes.depth
   pub reads : number_at (codes "reads") table ≡ Some sizes.reads
   pub trail : number_at (codes "trail") table ≡ Some sizes.trail
   pub notices : number_at (codes "notices") table ≡ Some sizes.notices
+  pub retries : number_or_zero (codes "retries") table ≡ Some sizes.retries
   pub map : word_at (codes "map") table ≡ Some (text_of word)
   pub within : AreSizes sizes
 

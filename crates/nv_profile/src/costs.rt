@@ -5,7 +5,7 @@ ghost use Rattle.nv_profile.specs.Nothing.{HoldsOfNone};
 ghost use Rattle.nv_profile.specs.Tables.{HasNumber, HasNoNumber, HasNumberIfAny};
 ghost use Rattle.nv_profile.specs.Profile.{SaysCosts};
 
-use crate::table::{has, number_within, size};
+use crate::table::{has, number_if_any, number_within, size};
 use energy_budget::CostNumbers;
 use toml::Table;
 
@@ -26,11 +26,7 @@ fn cost_if_any(table: &Table, key: &str) -> Option<u64>
     ensures none { IsNone result
         → HoldsOfNone (HasNumberIfAny key.now (table_view table.now) MOST_COST) }
 {
-    if has(table, key) {
-        cost(table, key)
-    } else {
-        Some(0)
-    }
+    number_if_any(table, key, MOST_COST)
 }
 
 /// The costs that a table says: exactly these keys, of which `e_digest` may be missing, each with a number within its limits.

@@ -3,7 +3,7 @@ ghost use Rattle.std.specs.Prelude.{◌≡◌, option_map, IfSome, IsNone};
 ghost use Rattle.toml.specs.Data.{get_member};
 ghost use Rattle.toml.specs.View.{view, table_view};
 ghost use Rattle.nv_profile.specs.Nothing.{HoldsOfNone};
-ghost use Rattle.nv_profile.specs.Tables.{size_of, has_key, number_at, HasNumber, HasNoNumber, HasNumbers, word_at, table_at};
+ghost use Rattle.nv_profile.specs.Tables.{size_of, has_key, number_at, HasNumber, HasNoNumber, HasNumberIfAny, HasNumbers, word_at, table_at};
 
 use toml::{Table, Value};
 
@@ -56,6 +56,19 @@ pub(crate) fn number_within(table: &Table, key: &str, least: u64, most: u64) -> 
     match number(table, key) {
         Some(number) if least <= number && number <= most => Some(number),
         _ => None,
+    }
+}
+
+/// The number under a key that may be missing, and is 0 then; else a whole number up to `most` that stands there.
+pub(crate) fn number_if_any(table: &Table, key: &str, most: u64) -> Option<u64>
+    ensures some { IfSome result (HasNumberIfAny key.now (table_view table.now) most) }
+    ensures none { IsNone result
+        → HoldsOfNone (HasNumberIfAny key.now (table_view table.now) most) }
+{
+    if has(table, key) {
+        number_within(table, key, 0, most)
+    } else {
+        Some(0)
     }
 }
 

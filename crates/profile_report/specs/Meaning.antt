@@ -14,3 +14,4 @@ pub record IsMeaningOf (profile : Profile) (m : Meaning) : Type 0 where
   pub close : m.close ≡ close_of profile.checked.timing profile.checked.geometry
   pub costs : AreReckonedFor profile.checked m.costs
   pub numbers : m.costs.numbers ≡ profile.costs
+  pub retries : m.costs.retries ≡ profile.sizes.retries

@@ -36,7 +36,7 @@ impl Meaning {
             device_bytes: device_size(lines as usize) as u64,
             entry: timing.entry(geometry),
             close: timing.close(geometry),
-            costs: Costs::of(&profile.checked, &profile.costs),
+            costs: Costs::of(&profile.checked, &profile.costs).with_retries(profile.sizes.retries),
         }
     }
 

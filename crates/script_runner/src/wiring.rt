@@ -53,6 +53,7 @@ impl<'m, M: LineMap> Wiring<'m, M> {
             → IsShapeFor profile.now (wired_shape M.LineMap result map) }
         ensures profile { result.profile ≡ profile.now }
         ensures costs { result.costs.numbers ≡ profile.now.costs }
+        ensures retries { result.costs.retries ≡ profile.now.sizes.retries }
         ensures lines_map { result.lines_map ≡ lines_map.now }
         ensures xor_map { result.xor_map ≡ xor_map.now }
     {
@@ -62,7 +63,7 @@ impl<'m, M: LineMap> Wiring<'m, M> {
             lines_map,
             xor_map,
             profile: *profile,
-            costs: Costs::of(&profile.checked, &profile.costs),
+            costs: Costs::of(&profile.checked, &profile.costs).with_retries(profile.sizes.retries),
         }
     }
 

@@ -80,6 +80,7 @@ fn costs_and_sizes_of_tiny(rt: HostRuntime) {
         reads: 8,
         trail: 1024,
         notices: 64,
+        retries: 0,
     };
     let profile = tiny(&rt);
     same(&rt, profile.costs, TINY_COSTS);
@@ -129,6 +130,26 @@ fn costs_of_digests(rt: HostRuntime) {
         "0\ne_digest = 0",
     ] {
         let text = with_digests(&rt, value);
+        assert!(rt; is_refused(rt.alloc(), text.as_bytes()), "{value}");
+    }
+}
+
+// The text of the word `tiny` with a number of device calls that may be made again.
+fn with_retries<R: Abort + AllocGlobal>(rt: &R, value: &str) -> String {
+    let line = format!(in rt.alloc(); "notices = 64\nretries = {value}\n").expect(rt, "memory");
+    without(rt, "notices = 64\n", line.as_str())
+}
+
+#[test]
+fn calls_that_may_be_made_again(rt: HostRuntime) {
+    same(&rt, tiny(&rt).sizes.retries, 0);
+    for (value, retries) in [("0", 0), ("2", 2), ("16", 16)] {
+        let text = with_retries(&rt, value);
+        let profile = read_profile(rt.alloc(), text.as_bytes()).expect(&rt, "a profile");
+        same(&rt, profile.sizes.retries, retries);
+    }
+    for value in ["17", "-1", "1.0", "\"1\"", "true", "{}", "0\nretries = 0"] {
+        let text = with_retries(&rt, value);
         assert!(rt; is_refused(rt.alloc(), text.as_bytes()), "{value}");
     }
 }

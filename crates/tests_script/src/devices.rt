@@ -48,6 +48,40 @@ fn a_save_that_is_made_again(rt: HostRuntime) {
     }
 }
 
+// With two calls that may be made again: the energy for them; a device that fails for ever in a loss of mains and in the save of a
+// disarming; one that fails once there; and the saves that make no call again.
+#[test]
+fn calls_that_are_made_again(rt: HostRuntime) {
+    let profile = TINY
+        .replace(rt.alloc(), "notices = 64\n", "notices = 64\nretries = 2\n")
+        .expect(&rt, "memory");
+    for (script, wanted) in [
+        (
+            "format/sense 5341/arm/sense 5342/arm",
+            "formatted/level 5341 disarmed/refused arm 1 NeedEnergy 5342 5341/level 5342 disarmed/armed",
+        ),
+        (
+            "format/sense 9000/arm/write 0 11/fuse 0/lose/restore",
+            "formatted/level 9000 disarmed/armed/accepted 0 mark 1/fuse 0/lost fault/restored 1 0 PossibleLoss",
+        ),
+        (
+            "format/sense 9000/arm/write 0 11/disarm/fuse 0/step/step/step/sense 9000/write 0 22/fuse off/save/mark/restore",
+            "formatted/level 9000 disarmed/armed/accepted 0 mark 1/disarming/fuse 0/step retry/step retry/fault save/level 9000 stranded/refused write 3 Disarming/fuse off/saved 2 1/mark 1/restored 2 1 Complete",
+        ),
+        (
+            "format/sense 9000/arm/write 0 11/disarm/fuse 1/step/step/fuse off/save/mark/restore",
+            "formatted/level 9000 disarmed/armed/accepted 0 mark 1/disarming/fuse 1/step close/step retry/fuse off/saved 2 1/mark 1/restored 2 1 Complete",
+        ),
+        (
+            "format/write 0 11/fuse 0/step/fuse off/save/sense 9000/arm/fuse 0/step",
+            "formatted/accepted 0 mark 0/fuse 0/fault save/fuse off/saved 2 1/level 9000 disarmed/armed/fuse 0/fault save",
+        ),
+    ] {
+        let answers = answers_on(rt.alloc(), profile.as_str(), script);
+        assert_eq!(rt; answers.as_deref(), Some(wanted), "{script}");
+    }
+}
+
 // Whether two saves fail, after so many calls each, and what is restored after them is the old image, or where it may be, the
 // new one.
 fn leaves_an_image(

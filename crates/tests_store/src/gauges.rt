@@ -75,6 +75,21 @@ fn worked_sums_with_digests(rt: HostRuntime) {
 }
 
 #[test]
+fn worked_sums_with_retries(rt: HostRuntime) {
+    let costs = Costs::of(&tiny(&rt), &TINY_COSTS).with_retries(2);
+    same(&rt, (costs.reserve(0), costs.reserve(1)), (5328, 5841));
+    same(&rt, (costs.steps(0), costs.steps(1)), (12, 13));
+    same(&rt, (costs.floor(0), costs.floor(1)), (5341, 5855));
+    same(&rt, (costs.need(0), costs.need(1)), (5342, 5856));
+    let marks = CostNumbers {
+        e_mark: 2000,
+        ..TINY_COSTS
+    };
+    let costs = Costs::of(&tiny(&rt), &marks).with_retries(16);
+    same(&rt, costs.reserve(0), 9178 + 16 * 2000);
+}
+
+#[test]
 fn least_and_largest_costs(rt: HostRuntime) {
     let checked = tiny(&rt);
     let none = Costs::of(&checked, &alike(0));

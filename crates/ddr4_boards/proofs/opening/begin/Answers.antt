@@ -10,7 +10,12 @@ returns-clause-mark g c = c.in_ok-opening.ensures.mark ∙ c.mark.ensures
 pub returns-clause-setup : goal.returns-clause-setup
 returns-clause-setup g c =
     subst (λ (s : Setup). IsSetupOf (g.M.LineMap.place_of c.args.map.now) c.args.profile.now s) (sym c.in-Ok.ensures.setup)
-    (record { is = refl; numbers = c.of-costs.ensures.numbers; reckoned = c.of-costs.ensures.profile })
+    (record {
+      is = refl;
+      numbers = c.with_retries-costs.ensures.numbers ∙ c.of.ensures.numbers;
+      retries = c.with_retries-costs.ensures.retries;
+      reckoned = c.with_retries-costs.ensures.profile c.args.profile.now.checked c.of.ensures.profile;
+    })
 
 pub returns-clause-history : goal.returns-clause-history
 returns-clause-history g c =

@@ -16,12 +16,12 @@ each-interleaves L wired g lines xor Xor = xor
 pub returns-clause-fits : goal.returns-clause-fits
 returns-clause-fits g c = λ map.
     let profile = c.args.profile.now in
-    let wired : WiredMaps _ = record { lines_map = c.args.lines_map.now; xor_map = c.args.xor_map.now; profile = profile; costs = c.of.result } in
+    let wired : WiredMaps _ = record { lines_map = c.args.lines_map.now; xor_map = c.args.xor_map.now; profile = profile; costs = c.with_retries.result } in
     let L = g.M.LineMap in
     let lines = subst (λ q. IsInterleaving q (L.place_of c.args.lines_map.now)) c.requires.lines_map.geometry c.interleaves.ensures in
     let xor = subst (λ q. IsInterleaving q (L.place_of c.args.xor_map.now)) c.requires.xor_map.geometry c.interleaves-2.ensures in
     record {
-      shaped = is-shape (L.place_of (map_in wired map)) profile.checked profile.sizes.depth profile.sizes.reads c.of.result c.of.ensures.profile
+      shaped = is-shape (L.place_of (map_in wired map)) profile.checked profile.sizes.depth profile.sizes.reads c.with_retries.result (c.with_retries.ensures.profile profile.checked c.of.ensures.profile)
           (each-interleaves L wired profile.checked.geometry lines xor map);
       lines = refl;
       channels = refl;
