@@ -45,6 +45,7 @@ none_behind channels step.Waiting other = absurd (other refl)
 none_behind channels (step.Did made) other = (refl, refl)
 none_behind channels step.NoSave other = (refl, refl)
 none_behind channels step.Turned other = (refl, refl)
+none_behind channels step.Retry other = (refl, refl)
 none_behind channels (step.Saved generation count) other = (refl, refl)
 none_behind channels step.Fault other = (refl, refl)
 
