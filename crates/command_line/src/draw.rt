@@ -96,6 +96,8 @@ struct Story {
     alloc: Global,
     timing: Timing,
     schedule: Schedule,
+    // has a life begun?
+    is_begun: bool,
     // the commands of the life that runs, the clock that its clocks begin with, and the last one that was told
     entries: Vec<Entry>,
     begin: u64,
@@ -108,6 +110,7 @@ impl Story {
             alloc,
             timing,
             schedule: Schedule::new(alloc),
+            is_begun: false,
             entries: Vec::new(alloc),
             begin: 0,
             now: 0,
@@ -133,9 +136,10 @@ impl Story {
                 Ok(())
             }
             Answer::Formatted | Answer::Restored { .. } => {
-                if !self.entries.is_empty() || !self.schedule.events.is_empty() {
+                if self.is_begun {
                     self.end_life()?;
                 }
+                self.is_begun = true;
                 self.tell_answer(EventKind::Device, answer)?;
                 self.tell_mode("disarmed")
             }

@@ -62,6 +62,11 @@ impl<'a> Placing<'a> {
         Ok(())
     }
 
+    /// Where the last text ends.
+    pub(crate) fn end(&self) -> u64 {
+        self.free.iter().copied().max().unwrap_or(0)
+    }
+
     /// How many lines it takes.
     pub(crate) fn lines(&self) -> u64 {
         self.free.len() as u64

@@ -46,6 +46,8 @@ const STYLE: &str = "text { font: 10px sans-serif; fill: #111 }
 struct Picture<'a, W> {
     axis: &'a Axis,
     layout: &'a Layout,
+    // its right edge
+    right: u64,
     writer: &'a mut W,
 }
 
@@ -61,9 +63,15 @@ pub fn write_svg<W: Write>(
     let layout = Layout::of(alloc, &schedule.shapes)?;
     let device = Placing::of(alloc, &axis, &schedule.events, EventKind::Device)?;
     let modes = Placing::of(alloc, &axis, &schedule.events, EventKind::Mode)?;
+    let texts = device.end().max(modes.end());
     let mut picture = Picture {
         axis: &axis,
         layout: &layout,
+        right: axis
+            .width()
+            .saturating_add(MARGIN)
+            .max(texts)
+            .saturating_add(LEFT),
         writer,
     };
     picture.begin(device.lines().saturating_add(modes.lines()))?;
@@ -97,13 +105,6 @@ impl<W: Write> Picture<'_, W> {
         self.y(self.layout.place(lane))
     }
 
-    fn right(&self) -> u64 {
-        self.axis
-            .width()
-            .saturating_add(LEFT)
-            .saturating_add(MARGIN)
-    }
-
     fn bottom(&self) -> u64 {
         self.y(self.layout.lanes.len())
     }
@@ -117,7 +118,7 @@ impl<W: Write> Picture<'_, W> {
 
     // Begins a picture with so many lines of events below its lanes.
     fn begin(&mut self, lines: u64) -> Result<(), DrawFault> {
-        let width = self.right();
+        let width = self.right;
         let height = self.event_y(lines).saturating_add(10);
         writeln!(
             self.writer,
@@ -152,7 +153,7 @@ impl<W: Write> Picture<'_, W> {
     }
 
     fn write_lanes(&mut self) -> Result<(), DrawFault> {
-        let right = self.right();
+        let right = self.right;
         for (place, lane) in self.layout.lanes.iter().enumerate() {
             let y = self.y(place);
             let under = y.saturating_add(LANE);
