@@ -23,6 +23,9 @@ use sha2::{Digest, Sha256};
 /// A gate that is open; any other byte is closed, and closing writes 0x00.
 const OPEN: u8 = 0xA5;
 
+/// How often the device has failed in a save that begins.
+const NO_FAILURES: u64 = 0;
+
 /// A save that runs: what is saved where, the coming step, and whether that was tried and failed. Between its steps the
 /// caller may do as it likes, and it may give the save up.
 #[derive(Drop)]
@@ -93,7 +96,7 @@ impl SaveRun {
             },
             next: Step::Close,
             tried: false,
-            failures: 0,
+            failures: NO_FAILURES,
             hasher: Sha256::new(),
         }
     }
@@ -121,7 +124,7 @@ impl SaveRun {
             },
             next: Step::Page(0),
             tried: false,
-            failures: 0,
+            failures: NO_FAILURES,
             hasher: Sha256::new(),
         }
     }
