@@ -115,6 +115,12 @@ pub(crate) const TABLES: [KnownTable; 4] = [
                 most: 4_096,
                 optional: false,
             },
+            Limits {
+                keys: &["retries"],
+                least: 0,
+                most: 16,
+                optional: true,
+            },
         ],
     },
 ];

@@ -84,6 +84,13 @@ fn keys_and_values(rt: HostRuntime) -> anyhow::Result<()> {
     )?;
     refused(
         &rt,
+        "notices = 64",
+        "notices = 64\nretries = 17",
+        "module.retries = 17, and 0 to 16 are allowed",
+    )?;
+    refused(&rt, "notices = 64", "retries = 2", "no key module.notices")?;
+    refused(
+        &rt,
         "map = \"lines\"",
         "map = \"line\"",
         "module.map is neither lines nor xor",
