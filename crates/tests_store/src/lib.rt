@@ -10,6 +10,8 @@ mod gauges;
 #[cfg(test)]
 mod images;
 #[cfg(test)]
+mod repeats;
+#[cfg(test)]
 mod slots;
 #[cfg(test)]
 mod versions;

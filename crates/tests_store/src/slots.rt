@@ -59,7 +59,7 @@ fn save_in_part(
 }
 
 // Power is lost: the generation that is restored then, and the first byte; generation 0 where nothing is.
-fn after_a_stop(alloc: Global, fuse: Fuse<MemoryDevice>, pick: Pick) -> (u64, u8) {
+pub(crate) fn after_a_stop(alloc: Global, fuse: Fuse<MemoryDevice>, pick: Pick) -> (u64, u8) {
     let mut device = fuse.device;
     device.stop(pick);
     match restore(alloc, &mut device, LINES) {
@@ -273,58 +273,6 @@ fn a_save_that_is_broken_off(rt: HostRuntime) {
             same(&rt, run.newest(), Some(CLOSED_FIRST.next()));
             same(&rt, after_a_stop(rt.alloc(), device, Pick::Old), (2, 0x11));
         }
-    }
-}
-
-// A save of a memory of this byte over a device that fails at one call, where a step may be made again so often: the answer, and
-// how often the device has failed in it.
-fn finish_over_a_fault(
-    device: &mut OneFault<MemoryDevice>,
-    repeats: u64,
-) -> (Result<(), BrokenOff>, u64) {
-    let lines = memory(0x11);
-    let mut source = Rationed {
-        lines: &lines,
-        left: 9,
-    };
-    let mut run = SaveRun::begin(CLOSED_FIRST, true, 1, false, LINES);
-    if !run.fits(device) {
-        return (Ok(()), 0);
-    }
-    let ended = run.finish_repeating(&mut source, device, repeats);
-    (ended, run.failures())
-}
-
-#[test]
-fn a_failed_call_is_made_again(rt: HostRuntime) {
-    for before in 0..8 {
-        let mut device = OneFault::new(formatted(&rt), before);
-        let broken = (Err(BrokenOff::Fault), 1);
-        same(&rt, finish_over_a_fault(&mut device, 0), broken);
-        let mut device = OneFault::new(formatted(&rt), before);
-        same(&rt, finish_over_a_fault(&mut device, 1), (Ok(()), 1));
-        let found = after_a_stop(rt.alloc(), Fuse::new(device.device, 0), Pick::Old);
-        same(&rt, found, (2, 0x11));
-    }
-}
-
-// A device that fails for ever is given up once it has failed once more than it may.
-#[test]
-fn a_device_that_fails_for_ever(rt: HostRuntime) {
-    for repeats in [0, 1, 2, 16] {
-        let mut device = Fuse::new(formatted(&rt), 0);
-        let mut run = SaveRun::begin(CLOSED_FIRST, true, 1, false, LINES);
-        let lines = memory(0x11);
-        let mut source = lines.as_slice();
-        assert!(rt; run.fits(&device));
-        let ended = run.finish_repeating(&mut source, &mut device, repeats);
-        same(&rt, ended, Err(BrokenOff::Fault));
-        same(
-            &rt,
-            (run.failures(), device.faults()),
-            (repeats + 1, repeats + 1),
-        );
-        same(&rt, run.next(), Step::Close);
     }
 }
 
