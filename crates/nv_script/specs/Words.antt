@@ -26,6 +26,10 @@ pub record IsNumber (word : List ℕ) (number : ℕ) : Type 0 where
   pub value : number ≡ digits_value 10 word
   pub fits : number < 2 ^ 64
 
+-- one from 1 on
+abbrev pub IsOrdinal : List ℕ → ℕ → Type 0
+IsOrdinal word number = IsNumber word number × (0 < number)
+
 -- a byte: two hexadecimal digits, the higher one first
 pub record IsByte (word : List ℕ) (byte : ℕ) : Type 0 where
   pub high : ℕ
@@ -66,6 +70,7 @@ SaysWithOne verb word (line.Read at) = (verb ≡ codes "read") × IsNumber word 
 SaysWithOne verb word (line.Sense level) = (verb ≡ codes "sense") × IsNumber word level
 SaysWithOne verb word (line.Lie units) = (verb ≡ codes "lie") × IsNumber word units
 SaysWithOne verb word (line.Fuse calls) = (verb ≡ codes "fuse") × IsFuse word calls
+SaysWithOne verb word (line.OneFault call) = (verb ≡ codes "onefault") × IsOrdinal word call
 SaysWithOne verb word (line.Restore (Some pick) None) = (verb ≡ codes "restore") × IsPick word pick
 SaysWithOne verb word other = ⊥
 

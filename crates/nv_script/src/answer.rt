@@ -58,6 +58,10 @@ pub enum Answer {
     Fuse {
         calls: Option<u64>,
     },
+    /// The device's call with this number, counted from 1 on from here, fails alone.
+    OneFault {
+        call: u64,
+    },
     Restored {
         generation: u64,
         count: u64,
@@ -104,6 +108,7 @@ impl fmt::Display for Answer {
             Answer::Lost(loss) => write_lost(f, loss),
             Answer::Lie { units } => write!(f, "lie {units}"),
             Answer::Fuse { calls } => write_fuse(f, calls),
+            Answer::OneFault { call } => write!(f, "onefault {call}"),
             Answer::Restored {
                 generation,
                 count,

@@ -41,6 +41,10 @@ pub enum ScriptLine {
     Fuse {
         calls: Option<u64>,
     },
+    /// `onefault K`: the K-th coming call of the device fails alone. `read_script` gives no `call` below 1.
+    OneFault {
+        call: u64,
+    },
     /// `restore [PICK [MAP]]`: a stop with this pick, or with the old bytes, and a life with this map, or the profile's.
     Restore {
         pick: Option<Pick>,

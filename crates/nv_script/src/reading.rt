@@ -10,7 +10,7 @@ ghost use Rattle.nv_script.specs.Texts.{ReadsAs, IsRefusedBy, IsScript};
 ghost use Rattle.nv_script.specs.Words.{IsNumber, SaysAlone, SaysLine, SaysWithOne, SaysWithTwo, texts_of, words_in};
 
 use crate::line::ScriptLine;
-use crate::word::{BadWord, byte, fuse, number, pick};
+use crate::word::{BadWord, byte, fuse, number, ordinal, pick};
 use ddr4_timing::timing::Geometry;
 use interleave_map::Interleaving;
 use line_memory::Write;
@@ -200,6 +200,9 @@ fn line_with_one(verb: &str, word: &str) -> Result<ScriptLine, BadWord>
             units: number(word)?,
         }),
         "fuse" => Ok(ScriptLine::Fuse { calls: fuse(word)? }),
+        "onefault" => Ok(ScriptLine::OneFault {
+            call: ordinal(word)?,
+        }),
         "restore" => Ok(ScriptLine::Restore {
             pick: Some(pick(word)?),
             map: None,

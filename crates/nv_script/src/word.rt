@@ -1,7 +1,7 @@
 // The words of a line.
 ghost use Rattle.std.specs.Prelude.{IfOk, IfErr};
 ghost use Rattle.nv_profile.specs.Nothing.{HoldsOfNone};
-ghost use Rattle.nv_script.specs.Words.{IsNumber, IsByte, IsPick, IsFuse};
+ghost use Rattle.nv_script.specs.Words.{IsNumber, IsOrdinal, IsByte, IsPick, IsFuse};
 
 use hex::FromHex;
 use save_device::Pick;
@@ -22,6 +22,15 @@ pub(crate) fn number(word: &str) -> Result<u64, BadWord>
         Ok(number) => Ok(number),
         Err(_) => Err(BadWord),
     }
+}
+
+/// A number from 1 on.
+pub(crate) fn ordinal(word: &str) -> Result<u64, BadWord>
+    ensures ordinal { IfOk result (IsOrdinal word.now) }
+    ensures none { IfErr result (λ bad. HoldsOfNone (IsOrdinal word.now)) }
+{
+    let number = number(word)?;
+    if number > 0 { Ok(number) } else { Err(BadWord) }
 }
 
 /// A byte: two hexadecimal digits.
