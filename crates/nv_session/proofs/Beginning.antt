@@ -1,7 +1,7 @@
 -- How a life begins after a format, and after a restore.
 use Rattle.std.proofs.Common.{◌≡◌, ◌∙◌, ℕ, List, refl, sym, ap, subst, true, Option}
 use Rattle.nv_session.proofs.Common.{DeviceState, Ghosts, Head, IsShapeFor, Module, ModuleStands, Outcome, Profile}
-use Rattle.nv_session.proofs.Common.{Revives, RunsWith, Setup, first_image, fuse_state, lines_of, restored}
+use Rattle.nv_session.proofs.Common.{Revives, RunsWith, Setup, first_image, device_state, lines_of, restored}
 use Rattle.interleave_map.specs.declared.ready.Interleaving.{Interleaving}
 use Rattle.line_memory.specs.Memory.{zero_lines}
 use Rattle.save_image.specs.Image.{Image}
@@ -69,5 +69,5 @@ same_setup {W = W} old new map map' profile wires same = cc
 
 -- what the bytes restore to is told by them and the profile
 pub same_restored : {K A : Type 0} {L : Ghosts K} {W : wires.Ghosts A K} (old new : Session K A L W)
-    → new.profile ≡ old.profile → (fuse_state new.device).bytes ≡ (fuse_state old.device).bytes → restored_in new ≡ restored_in old
+    → new.profile ≡ old.profile → (device_state new.device).bytes ≡ (device_state old.device).bytes → restored_in new ≡ restored_in old
 same_restored {W = W} old new profile bytes = cc

@@ -1,10 +1,11 @@
 -- The life of a session, and how it goes on.
-use Rattle.std.specs.Prelude.{◌≡◌, ℕ, ◌+◌, List, Option, Some, MatchOption, nat_lt, if◌then◌else◌}
+use Rattle.std.specs.Prelude.{◌≡◌, ℕ, ◌+◌, ◌-◌, ◌^◌, List, Option, Some, None, MatchOption, nat_lt, if◌then◌else◌}
 use Rattle.std.specs.Option.{option_map}
 use Rattle.ddr4_timing.specs.declared.command.Stamped.{Stamped}
 use Rattle.ddr4_timing.specs.Limits.{lines_of}
 use Rattle.save_device.specs.declared.fuse.Fuse.{Fuse}
 use Rattle.save_device.specs.declared.memory.MemoryDevice.{MemoryDevice}
+use Rattle.save_device.specs.declared.one_fault.OneFault.{OneFault}
 use Rattle.save_device.specs.Device.{DeviceState, with_calls}
 use Rattle.save_device.specs.Memory.{state_of}
 use Rattle.slot_store.specs.Slots.{HasSize}
@@ -50,9 +51,18 @@ pub record IsShapeFor (profile : Profile) (shape : Shape) : Type 0 where
   pub lines : shape.lines ≡ lines_of profile.checked.geometry
   pub channels : shape.channels ≡ profile.checked.geometry.channels
 
--- the device as the life sees it, through its fuse
-abbrev pub fuse_state : Fuse MemoryDevice → DeviceState
-fuse_state fuse = with_calls (state_of fuse.device) fuse.calls
+-- the device in memory that the others stand around
+abbrev pub innermost : OneFault (Fuse MemoryDevice) → MemoryDevice
+innermost device = device.device.device
+
+-- the device as the life sees it: a call that fails within, at a fuse or alone, is one of its calls
+abbrev pub device_state : OneFault (Fuse MemoryDevice) → DeviceState
+device_state device = with_calls (state_of (innermost device)) device.calls
+
+-- no call of it is to fail
+pub record PassesAll (device : OneFault (Fuse MemoryDevice)) : Type 0 where
+  pub fault : device.before ≡ None
+  pub fuse : device.device.left ≡ 2 ^ 64 - 1
 
 -- a session at a moment: the life that runs, if one does, with the device and the gauge
 pub record SessionAt {K : Type 0} (L : Ghosts K) : Type 0 where

@@ -5,7 +5,7 @@ ghost use Rattle.save_device.specs.Device.{DeviceState};
 ghost use Rattle.energy_budget.specs.Meter.{meter_gauge, lie_of};
 ghost use Rattle.nv_session.specs.ReadTurns.{ReadsLine};
 ghost use Rattle.nv_session.specs.Coming.{IsOneEvent};
-ghost use Rattle.nv_session.specs.Living.{GoesOnBy, GoesOnAlone, IsWork, fuse_state, session_at, set_to, read_refusal_at_rest, write_refusal_at_rest};
+ghost use Rattle.nv_session.specs.Living.{GoesOnBy, GoesOnAlone, IsWork, device_state, innermost, session_at, set_to, read_refusal_at_rest, write_refusal_at_rest};
 
 use crate::session::{ALL_CALLS, Session};
 use crate::turns::{LineSeen, read};
@@ -152,15 +152,30 @@ impl<K: ChannelPort + Drop, A: Wires<K> + Drop> Session<K, A> {
 
     /// From now on the device passes so many calls, or all.
     pub fn fuse(&mut self, calls: Option<u64>)
-        ensures passes { self.new.device.left ≡ unwrap_or calls ALL_CALLS }
-        ensures device { self.new.device.device ≡ self.old.device.device }
-        ensures state { fuse_state self.new.device ≡ fuse_state self.old.device }
+        ensures passes { self.new.device.device.left ≡ unwrap_or calls ALL_CALLS }
+        ensures fault { self.new.device.before ≡ self.old.device.before }
+        ensures device { innermost self.new.device ≡ innermost self.old.device }
+        ensures state { device_state self.new.device ≡ device_state self.old.device }
         ensures gauge { self.new.gauge ≡ self.old.gauge }
         ensures life { self.new.life ≡ self.old.life }
         ensures profile { self.new.profile ≡ self.old.profile }
         ensures wires { self.new.wires ≡ self.old.wires }
     {
-        self.device.left = calls.unwrap_or(ALL_CALLS);
+        self.device.device.left = calls.unwrap_or(ALL_CALLS);
+    }
+
+    /// From now on the device's call behind so many others fails alone, in place of any other that was to. A call that a fuse
+    /// fails is one of them.
+    pub fn fail_one(&mut self, before: u64)
+        ensures fault { self.new.device.before ≡ Some before }
+        ensures device { self.new.device.device ≡ self.old.device.device }
+        ensures state { device_state self.new.device ≡ device_state self.old.device }
+        ensures gauge { self.new.gauge ≡ self.old.gauge }
+        ensures life { self.new.life ≡ self.old.life }
+        ensures profile { self.new.profile ≡ self.old.profile }
+        ensures wires { self.new.wires ≡ self.old.wires }
+    {
+        self.device.before = Some(before);
     }
 
     /// The number of writes that are persistent; 0 where no life runs.

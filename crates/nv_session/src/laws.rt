@@ -20,7 +20,7 @@ ghost use Rattle.module_core.specs.Stands.{Assembly, ModuleStands, assembly, lin
 ghost use Rattle.nv_session.specs.declared.turns.LineSeen.{LineSeen};
 ghost use Rattle.nv_session.specs.Coming.{IsOneEvent};
 ghost use Rattle.nv_session.specs.declared.session.Session.{Session};
-ghost use Rattle.nv_session.specs.Living.{GoesOnBy, HasLife, IsWork, SessionAt, fuse_state, session_at, set_to};
+ghost use Rattle.nv_session.specs.Living.{GoesOnBy, HasLife, IsWork, SessionAt, device_state, session_at, set_to};
 ghost use Rattle.nv_session.specs.SessionLives.{HasLived, HasLivedOn};
 ghost use Rattle.nv_session.specs.ReadTurns.{ReadsLine};
 ghost use Rattle.nv_session.specs.SaveTurns.{MakesSave};
@@ -112,5 +112,5 @@ pub fn sessions_live<K: ChannelPort>()
 pub fn sessions_keep_lives<K: ChannelPort, A: Wires<K>>()
     ensures { (session : Session K A K.ChannelPort A.Wires) (it : Module K K.ChannelPort)
         → session.life ≡ Some it
-        → HasLife K.ChannelPort it (fuse_state session.device) (meter_gauge session.gauge) }
+        → HasLife K.ChannelPort it (device_state session.device) (meter_gauge session.gauge) }
 {}

@@ -12,7 +12,7 @@ ghost use Rattle.energy_budget.specs.Meter.{meter_gauge, lie_of};
 ghost use Rattle.module_core.specs.Opening.{opened_with};
 ghost use Rattle.module_core.specs.Stands.{ModuleStands, setup_of};
 ghost use Rattle.nv_session.specs.Faults.{CountsFault, is_format_fault};
-ghost use Rattle.nv_session.specs.Living.{HasLife, RunsWith, fuse_state};
+ghost use Rattle.nv_session.specs.Living.{HasLife, PassesAll, RunsWith, device_state, innermost};
 
 use crate::session::Session;
 use crate::wires::Wires;
@@ -62,10 +62,10 @@ impl<K: ChannelPort + Drop, A: Wires<K> + Drop> Session<K, A> {
     // From now on this life runs, over a map.
     fn begin(&mut self, life: Module<K>, map: Interleaving)
         requires over { setup_of K.ChannelPort life ≡ setup_over self.old map }
-        requires lives { HasLife K.ChannelPort life (fuse_state self.old.device)
+        requires lives { HasLife K.ChannelPort life (device_state self.old.device)
             (meter_gauge self.old.gauge) }
         ensures life { self.new.life ≡ Some life }
-        ensures device { fuse_state self.new.device ≡ fuse_state self.old.device }
+        ensures device { device_state self.new.device ≡ device_state self.old.device }
         ensures gauge { self.new.gauge ≡ self.old.gauge }
         ensures profile { self.new.profile ≡ self.old.profile }
         ensures wires { self.new.wires ≡ self.old.wires }
@@ -73,22 +73,21 @@ impl<K: ChannelPort + Drop, A: Wires<K> + Drop> Session<K, A> {
         self.life = Some(life);
     }
 
-    /// Makes the device a store of zero lines, and begins a life on it over the profile's map. `Device` comes only where a call of
-    /// the device failed.
-    pub fn format(&mut self, alloc: Global) -> Result<(), FormatError>
+    // Makes the device, which passes all calls, a store of zero lines, and begins a life on it over the profile's map.
+    fn create(&mut self, alloc: Global) -> Result<(), FormatError>
+        requires none { self.old.life ≡ None }
+        requires passes { PassesAll self.old.device }
         ensures begins { OnOk result (RunsWith K.ChannelPort
             (setup_over self.old self.old.profile.map)
-            (λ life. ModuleStands K.ChannelPort life (fuse_state self.new.device)
+            (λ life. ModuleStands K.ChannelPort life (device_state self.new.device)
             (opened_with first_head (first_image (line_count_in self.old)))) self.new.life) }
         ensures none { IfErr result (λ error. self.new.life ≡ None) }
         ensures faults { CountsFault (is_format_fault result)
-            (fuse_state self.old.device) (fuse_state self.new.device) }
-        ensures lie { lie_of self.new.gauge ≡ None }
-        ensures gauge { meter_gauge self.new.gauge ≡ meter_gauge self.old.gauge }
+            (device_state self.old.device) (device_state self.new.device) }
+        ensures gauge { self.new.gauge ≡ self.old.gauge }
         ensures profile { self.new.profile ≡ self.old.profile }
         ensures wires { self.new.wires ≡ self.old.wires }
     {
-        self.stop(Pick::Old);
         let lines = self.lines() as usize;
         let Ok(memory) = zero_memory(alloc, lines) else {
             return Err(FormatError::Memory);
@@ -109,20 +108,42 @@ impl<K: ChannelPort + Drop, A: Wires<K> + Drop> Session<K, A> {
         Ok(())
     }
 
-    // Begins a life with the newest image of the device, over a map, and answers its head. `Memory` comes also where there is none for the channels.
+    /// Makes the device a store of zero lines, and begins a life on it over the profile's map. First it ends what runs, any lie,
+    /// and what was to fail of the device. `Device` comes only where a call of the device failed.
+    pub fn format(&mut self, alloc: Global) -> Result<(), FormatError>
+        ensures begins { OnOk result (RunsWith K.ChannelPort
+            (setup_over self.old self.old.profile.map)
+            (λ life. ModuleStands K.ChannelPort life (device_state self.new.device)
+            (opened_with first_head (first_image (line_count_in self.old)))) self.new.life) }
+        ensures none { IfErr result (λ error. self.new.life ≡ None) }
+        ensures faults { CountsFault (is_format_fault result)
+            (device_state self.old.device) (device_state self.new.device) }
+        ensures lie { lie_of self.new.gauge ≡ None }
+        ensures gauge { meter_gauge self.new.gauge ≡ meter_gauge self.old.gauge }
+        ensures profile { self.new.profile ≡ self.old.profile }
+        ensures wires { self.new.wires ≡ self.old.wires }
+    {
+        self.stop(Pick::Old);
+        self.create(alloc)
+    }
+
+    // Begins a life with the newest image of the device, which passes all calls, over a map, and answers its head. `Memory` comes
+    // also where there is none for the channels.
     fn revive(&mut self, alloc: Global, map: Interleaving) -> Result<Head, RestoreError>
-        requires { self.old.life ≡ None }
+        requires none { self.old.life ≡ None }
+        requires passes { PassesAll self.old.device }
         ensures revives { IfOk result (λ found. RunsWith K.ChannelPort (setup_over self.old map)
             (λ life. Revives K.ChannelPort (restored_in self.old) found
-            life (fuse_state self.new.device)) self.new.life) }
+            life (device_state self.new.device)) self.new.life) }
         ensures refused { IfErr result (λ error. Refuses error (restored_in self.old)) }
         ensures none { IfErr result (λ error. self.new.life ≡ None) }
         ensures faults { CountsFault (is_fault result)
-            (fuse_state self.old.device) (fuse_state self.new.device) }
-        ensures same { (state_of self.new.device.device).bytes
-            ≡ (state_of self.old.device.device).bytes }
-        ensures any_moment { LeavesOnly (fuse_state self.old.device) (fuse_state self.new.device)
-            (MayLeave (present (state_of self.old.device.device))) }
+            (device_state self.old.device) (device_state self.new.device) }
+        ensures same { (state_of (innermost self.new.device)).bytes
+            ≡ (state_of (innermost self.old.device)).bytes }
+        ensures any_moment { LeavesOnly
+            (device_state self.old.device) (device_state self.new.device)
+            (MayLeave (present (state_of (innermost self.old.device)))) }
         ensures gauge { self.new.gauge ≡ self.old.gauge }
         ensures profile { self.new.profile ≡ self.old.profile }
         ensures wires { self.new.wires ≡ self.old.wires }
@@ -137,25 +158,25 @@ impl<K: ChannelPort + Drop, A: Wires<K> + Drop> Session<K, A> {
         Ok(head)
     }
 
-    /// A stop, which leaves of the unsettled bytes what the pick says, and a life on the newest image, over a map or the
-    /// profile's: the memory after a prefix of the writes that the life before had accepted, and told Complete one that holds
-    /// every write that was persistent. Where a life ran, nothing but a fault of the device or want of memory refuses it. A refused
-    /// restore leaves no life, and the next one finds such a prefix too. The device keeps the bytes that the stop left. `Device` comes
-    /// only where a call of the device failed. It answers the head of the newest image.
+    /// A stop, which leaves of the unsettled bytes what the pick says and ends any lie and what was to fail of the device; and a
+    /// life on the newest image, over a map or the profile's: the memory after a prefix of the writes that the life before had
+    /// accepted, and told Complete one that holds every write that was persistent. Where a life ran, nothing but a fault of the
+    /// device or want of memory refuses it. A refused restore leaves no life, and the next one finds such a prefix too. The device
+    /// keeps the bytes that the stop left. `Device` comes only where a call of the device failed. It answers the newest image's head.
     pub fn restore(
         &mut self,
         alloc: Global,
         pick: Pick,
         map: Option<Interleaving>,
     ) -> Result<Head, RestoreError>
-        ensures left { MayLeave (present (state_of self.old.device.device))
-            (state_of self.new.device.device).bytes }
-        ensures picked { IsPicked pick self.old.device.device
-            (state_of self.new.device.device).bytes }
+        ensures left { MayLeave (present (state_of (innermost self.old.device)))
+            (state_of (innermost self.new.device)).bytes }
+        ensures picked { IsPicked pick (innermost self.old.device)
+            (state_of (innermost self.new.device)).bytes }
         ensures revives { IfOk result (λ found. RunsWith K.ChannelPort
             (setup_over self.old (unwrap_or map self.old.profile.map))
             (λ life. Revives K.ChannelPort (restored_in self.new) found
-            life (fuse_state self.new.device)) self.new.life) }
+            life (device_state self.new.device)) self.new.life) }
         ensures finds { IfOk result (λ found. FindsPrefixOf K.ChannelPort (line_count_in self.old)
             (setup_over self.old (unwrap_or map self.old.profile.map))
             (moment_in self.old) found (moment_in self.new)) }
@@ -165,7 +186,7 @@ impl<K: ChannelPort + Drop, A: Wires<K> + Drop> Session<K, A> {
             (moment_in self.old) error (moment_in self.new)) }
         ensures none { IfErr result (λ error. self.new.life ≡ None) }
         ensures faults { CountsFault (is_fault result)
-            (fuse_state self.old.device) (fuse_state self.new.device) }
+            (device_state self.old.device) (device_state self.new.device) }
         ensures lie { lie_of self.new.gauge ≡ None }
         ensures gauge { meter_gauge self.new.gauge ≡ meter_gauge self.old.gauge }
         ensures profile { self.new.profile ≡ self.old.profile }

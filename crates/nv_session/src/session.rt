@@ -6,7 +6,7 @@ ghost use Rattle.save_device.specs.Device.{IsSettled, MayLeave, present};
 ghost use Rattle.save_device.specs.Memory.{state_of, IsPicked};
 ghost use Rattle.slot_store.specs.Slots.{device_size};
 ghost use Rattle.energy_budget.specs.Meter.{meter_gauge, level_of, leak_of, lie_of};
-ghost use Rattle.nv_session.specs.Living.{IsShapeFor, IsLiving, fuse_state};
+ghost use Rattle.nv_session.specs.Living.{IsShapeFor, IsLiving, PassesAll, device_state, innermost};
 
 use crate::wires::Wires;
 use channel_port::ChannelPort;
@@ -15,24 +15,34 @@ use interleave_map::Interleaving;
 use interleave_map::cells::line_count;
 use module_core::Module;
 use nv_profile::Profile;
-use save_device::{Fuse, MemoryDevice, Pick, SaveDevice};
+use save_device::{Fuse, MemoryDevice, OneFault, Pick, SaveDevice};
 use slot_store::device_size;
 use std::alloc::{AllocError, Global};
 
 /// A device in memory, a gauge, and the life that runs, if one does: `wires` opened its module.
 #[derive(Drop)]
 pub struct Session<K: ChannelPort, A: Wires<K>> {
-    pub(crate) device: Fuse<MemoryDevice>,
+    pub(crate) device: OneFault<Fuse<MemoryDevice>>,
     pub(crate) gauge: Meter,
     pub(crate) profile: Profile,
     pub(crate) wires: A,
     pub(crate) life: Option<Module<K>>,
     ghost fits: { (map : Interleaving) → IsShapeFor profile (A.shape wires map) },
-    ghost living: { IsLiving K.ChannelPort profile life (fuse_state device) (meter_gauge gauge) },
+    ghost living: { IsLiving K.ChannelPort profile life (device_state device) (meter_gauge gauge) },
 }
 
 /// The calls that a device passes where it passes all.
 pub(crate) const ALL_CALLS: u64 = u64::MAX;
+
+// A device around this one, of which no call is to fail.
+fn passing(device: MemoryDevice) -> OneFault<Fuse<MemoryDevice>>
+    ensures device { innermost result ≡ device }
+    ensures passes { PassesAll result }
+{
+    let mut passing = OneFault::new(Fuse::new(device, ALL_CALLS), 0);
+    passing.before = None;
+    passing
+}
 
 impl<K: ChannelPort + Drop, A: Wires<K> + Drop> Session<K, A> {
     /// A session with no life, on a device of zero bytes, with a gauge that shows 0. It refuses only where there is no memory
@@ -42,16 +52,16 @@ impl<K: ChannelPort + Drop, A: Wires<K> + Drop> Session<K, A> {
         ensures profile { IfOk result (λ session. session.profile ≡ profile.now) }
         ensures wires { IfOk result (λ session. session.wires ≡ wires) }
         ensures life { IfOk result (λ session. session.life ≡ None) }
-        ensures device { IfOk result (λ session. (state_of session.device.device).bytes
+        ensures device { IfOk result (λ session. (state_of (innermost session.device)).bytes
             ≡ replicate (device_size (lines_of profile.now.checked.geometry)) 0) }
-        ensures passes { IfOk result (λ session. session.device.left ≡ ALL_CALLS) }
+        ensures passes { IfOk result (λ session. PassesAll session.device) }
         ensures gauge { IfOk result (λ session. level_of session.gauge ≡ 0) }
         ensures leak { IfOk result (λ session. leak_of session.gauge ≡ 0) }
     {
         let size = device_size(line_count(&profile.checked) as usize);
         let bytes = Vec::from_elem(alloc, 0, size)?;
         Ok(Session {
-            device: Fuse::new(MemoryDevice::new(alloc, bytes)?, ALL_CALLS),
+            device: passing(MemoryDevice::new(alloc, bytes)?),
             gauge: Meter::with(0, 0),
             profile: *profile,
             wires,
@@ -61,9 +71,9 @@ impl<K: ChannelPort + Drop, A: Wires<K> + Drop> Session<K, A> {
 
     /// The device, at the end of the session.
     pub fn into_device(self) -> MemoryDevice
-        ensures { result ≡ self.device.device }
+        ensures { result ≡ innermost self.device }
     {
-        let fuse = self.device;
+        let fuse = self.device.device;
         fuse.device
     }
 
@@ -75,25 +85,26 @@ impl<K: ChannelPort + Drop, A: Wires<K> + Drop> Session<K, A> {
         line_count(&self.profile.checked)
     }
 
-    /// Ends the life that runs, as a loss of power does, and any lie and fuse.
+    /// Ends the life that runs, as a loss of power does, any lie, and what was to fail of the device.
     pub(crate) fn stop(&mut self, pick: Pick)
         ensures life { self.new.life ≡ None }
-        ensures passes { self.new.device.left ≡ ALL_CALLS }
+        ensures passes { PassesAll self.new.device }
         ensures lie { lie_of self.new.gauge ≡ None }
         ensures gauge { meter_gauge self.new.gauge ≡ meter_gauge self.old.gauge }
-        ensures left { MayLeave (present (state_of self.old.device.device))
-            (state_of self.new.device.device).bytes }
-        ensures picked { IsPicked pick self.old.device.device
-            (state_of self.new.device.device).bytes }
-        ensures settled { IsSettled (state_of self.new.device.device) }
-        ensures calls { (fuse_state self.new.device).calls
-            ≡ (fuse_state self.old.device).calls }
+        ensures left { MayLeave (present (state_of (innermost self.old.device)))
+            (state_of (innermost self.new.device)).bytes }
+        ensures picked { IsPicked pick (innermost self.old.device)
+            (state_of (innermost self.new.device)).bytes }
+        ensures settled { IsSettled (state_of (innermost self.new.device)) }
+        ensures calls { (device_state self.new.device).calls
+            ≡ (device_state self.old.device).calls }
         ensures profile { self.new.profile ≡ self.old.profile }
         ensures wires { self.new.wires ≡ self.old.wires }
     {
         self.life = None;
-        self.device.left = ALL_CALLS;
+        self.device.before = None;
+        self.device.device.left = ALL_CALLS;
         self.gauge.end_lie();
-        self.device.device.stop(pick);
+        self.device.device.device.stop(pick);
     }
 }

@@ -1,5 +1,5 @@
 use Rattle.std.proofs.Common.{refl}
-use Rattle.nv_session.proofs.Common.{IsOneEvent, assembly, fuse_state, meter_gauge}
+use Rattle.nv_session.proofs.Common.{IsOneEvent, assembly, device_state, meter_gauge}
 use Rattle.nv_machine.specs.declared.events.Event.TheVariants as events
 use Rattle.nv_machine.specs.declared.events.Reply.TheVariants as replies
 use Rattle.nv_session.proofs.Coming.{one_event_alone}
@@ -15,6 +15,6 @@ returns-in-Some-clause-comes g c =
 pub invariant_of-self-clause-living : goal.invariant_of-self-clause-living
 invariant_of-self-clause-living g c =
     let L = g.K.ChannelPort in let it = c.args.self.now in let reply = replies.Disarm c.disarm.result in
-    let device = fuse_state it.device in let gauge = meter_gauge it.gauge in
+    let device = device_state it.device in let gauge = meter_gauge it.gauge in
     lives_on_alone L (IsOneEvent events.Disarm reply) it.profile it.life (assembly c.in-Some.life device gauge) (assembly c.disarm.new.self device gauge) c.in-Some.is refl it.living
     (one_event_alone L events.Disarm reply c.in-Some.life c.disarm.new.self c.disarm.ensures.answers device gauge) c.disarm.ensures.setup

@@ -1,7 +1,7 @@
 use Rattle.std.proofs.Common.{◌∙◌, ◌≢◌, ℕ, List, ap, sym, subst, unwrap_or, None}
 use Rattle.std.proofs.lemmas.Result.{IfOk-weaker, IfErr-weaker}
 use Rattle.nv_session.proofs.Common.{DeviceState, FindsPrefixOf, KeepsPrefixOf, MayLeave, Profile, Revives, RunsWith}
-use Rattle.nv_session.proofs.Common.{Setup, fuse_state, lines_of, present, restored}
+use Rattle.nv_session.proofs.Common.{Setup, device_state, lines_of, present, restored}
 use Rattle.interleave_map.specs.declared.ready.Interleaving.{Interleaving}
 use Rattle.slot_store.specs.Told.{Refuses, IsFailure, is_fault}
 use Rattle.nv_session.specs.Sessions.{moment_in, restored_in, setup_over}
@@ -14,7 +14,7 @@ pub returns-clause-revives : goal.returns-clause-revives
 returns-clause-revives g c =
     let L = g.K.ChannelPort in let old = c.args.self.now in let stopped = c.stop.new.self in let new = c.revive.new.self in
     let map : Interleaving = unwrap_or c.args.map old.profile.map in
-    let device : DeviceState = fuse_state new.device in
+    let device : DeviceState = device_state new.device in
     IfOk-weaker c.revive.result
     (λ found. RunsWith L (setup_over stopped c.unwrap_or.result) (λ it. Revives L (restored_in stopped) found it device) new.life)
     (λ found. RunsWith L (setup_over old map) (λ it. Revives L (restored_in new) found it device) new.life)
@@ -28,17 +28,17 @@ pub returns-clause-finds : goal.returns-clause-finds
 returns-clause-finds g c =
     let L = g.K.ChannelPort in let old = c.args.self.now in let new = c.revive.new.self in
     let setup : Setup = setup_over old (unwrap_or c.args.map old.profile.map) in
-    let device : DeviceState = fuse_state new.device in let lines : ℕ = lines_of old.profile.checked.geometry in
+    let device : DeviceState = device_state new.device in let lines : ℕ = lines_of old.profile.checked.geometry in
     IfOk-weaker c.revive.result (λ found. RunsWith L setup (λ it. Revives L (restored_in new) found it device) new.life) (λ found. FindsPrefixOf L lines setup (moment_in old) found (moment_in new))
     (λ found runs.
     session_finds L old.profile setup (moment_in old) (moment_in new) device.bytes found old.living
-    (subst (λ (bytes : List ℕ). MayLeave (present (fuse_state old.device)) bytes) (sym c.revive.ensures.same) c.stop.ensures.left)
+    (subst (λ (bytes : List ℕ). MayLeave (present (device_state old.device)) bytes) (sym c.revive.ensures.same) c.stop.ensures.left)
     (subst (λ (p : Profile). RunsWith L setup (λ it. Revives L (restored (lines_of p.checked.geometry) device.bytes) found it device) new.life) (c.revive.ensures.profile ∙ c.stop.ensures.profile) runs))
     (returns-clause-revives g c)
 
 pub returns-clause-fails : goal.returns-clause-fails
 returns-clause-fails g c =
-    let old = c.args.self.now in let lines : ℕ = lines_of old.profile.checked.geometry in let bytes : List ℕ = (fuse_state c.stop.new.self.device).bytes in
+    let old = c.args.self.now in let lines : ℕ = lines_of old.profile.checked.geometry in let bytes : List ℕ = (device_state c.stop.new.self.device).bytes in
     IfErr-weaker c.revive.result (λ error. Refuses error (restored (lines_of c.stop.new.self.profile.checked.geometry) bytes)) (λ error. old.life ≢ None → IsFailure error)
     (λ error refuses.
     session_fails g.K.ChannelPort old.profile old.life (moment_in old) bytes error old.living c.stop.ensures.left
@@ -48,7 +48,7 @@ returns-clause-fails g c =
 pub returns-clause-keeps : goal.returns-clause-keeps
 returns-clause-keeps g c =
     let L = g.K.ChannelPort in let old = c.args.self.now in let new = c.revive.new.self in
-    let stopped : DeviceState = fuse_state c.stop.new.self.device in let lines : ℕ = lines_of old.profile.checked.geometry in
+    let stopped : DeviceState = device_state c.stop.new.self.device in let lines : ℕ = lines_of old.profile.checked.geometry in
     IfErr-weaker c.revive.result (λ error. Refuses error (restored (lines_of c.stop.new.self.profile.checked.geometry) stopped.bytes)) (λ error. KeepsPrefixOf L lines (moment_in old) error (moment_in new))
     (λ error refuses.
     session_keeps L old.profile (moment_in old) (moment_in new) stopped error old.living c.stop.ensures.left c.stop.ensures.settled c.revive.ensures.any_moment
@@ -57,4 +57,4 @@ returns-clause-keeps g c =
 
 pub returns-clause-faults : goal.returns-clause-faults
 returns-clause-faults g c =
-    counts_behind (is_fault c.revive.result) (fuse_state c.args.self.now.device) (fuse_state c.stop.new.self.device) (fuse_state c.revive.new.self.device) c.stop.ensures.calls c.revive.ensures.faults
+    counts_behind (is_fault c.revive.result) (device_state c.args.self.now.device) (device_state c.stop.new.self.device) (device_state c.revive.new.self.device) c.stop.ensures.calls c.revive.ensures.faults

@@ -1,6 +1,6 @@
 use Rattle.std.proofs.Common.{ℕ, List, false, Ok, Err, rules, sym, subst}
 use Rattle.std.proofs.lemmas.Grind.{merely}
-use Rattle.nv_session.proofs.Common.{DeviceState, Revives, assembly, fuse_state, life_begins, lines_of}
+use Rattle.nv_session.proofs.Common.{DeviceState, Revives, assembly, device_state, life_begins, lines_of}
 use Rattle.nv_session.proofs.Common.{meter_gauge}
 use Rattle.slot_store.specs.declared.restoring.Restored.{Restored}
 use Rattle.nv_session.specs.Sessions.{restored_in}
@@ -15,17 +15,17 @@ restore-requires g c = let it = c.args.self.now in is_capacity it.profile (g.A.W
 -- the life that was opened is one with the newest image
 revived : (g : _) (c : In-Ok g)
     → Revives g.K.ChannelPort (restored_in c.args.self.now)
-    c.in_ok-restored.restored.head c.in-Ok.life (fuse_state c.restore.new.device)
+    c.in_ok-restored.restored.head c.in-Ok.life (device_state c.restore.new.device)
 revived g c =
     let it : Restored = c.in_ok-restored.restored in
-    let lines : ℕ = lines_of c.args.self.now.profile.checked.geometry in let bytes : List ℕ = (fuse_state c.args.self.now.device).bytes in let device : DeviceState = fuse_state c.restore.new.device in
+    let lines : ℕ = lines_of c.args.self.now.profile.checked.geometry in let bytes : List ℕ = (device_state c.args.self.now.device).bytes in let device : DeviceState = device_state c.restore.new.device in
     let finds : FindsRestored c.lines-lines.result it bytes device = record { restored_is = c.in_ok-restored.ensures.found; rests = c.in_ok-restored.ensures.at_rest } in
     revives_restored g.K.ChannelPort lines it bytes c.in-Ok.life device (subst (λ (n : ℕ). FindsRestored n it bytes device) c.lines-lines.ensures.is finds) c.in-Ok.ensures.begins
 
 pub begin-requires-clause-lives : goal.begin-requires-clause-lives
 begin-requires-clause-lives g c =
     let r = revived g (goal.at.begin-requires-clause-lives g c).In-Ok in
-    merely (life_begins g.K.ChannelPort c.in_ok-restored.restored.head r.image (assembly c.in-Ok.life (fuse_state c.restore.new.device) (meter_gauge c.args.self.now.gauge)) r.stands)
+    merely (life_begins g.K.ChannelPort c.in_ok-restored.restored.head r.image (assembly c.in-Ok.life (device_state c.restore.new.device) (meter_gauge c.args.self.now.gauge)) r.stands)
 
 pub returns-clause-revives : goal.returns-clause-revives
 returns-clause-revives g c =
@@ -38,14 +38,14 @@ returns-clause-revives g c =
 
 pub returns-clause-faults : goal.returns-clause-faults
 returns-clause-faults g c =
-    let old = fuse_state c.args.self.now.device in let read = fuse_state c.restore.new.device in
-    counts_alike false old read (fuse_state c.begin.new.self.device) c.begin.ensures.device (restore_counts c.lines-lines.result (Ok c.in_ok-restored.restored) old read c.in_ok-restored.ensures.calls)
+    let old = device_state c.args.self.now.device in let read = device_state c.restore.new.device in
+    counts_alike false old read (device_state c.begin.new.self.device) c.begin.ensures.device (restore_counts c.lines-lines.result (Ok c.in_ok-restored.restored) old read c.in_ok-restored.ensures.calls)
 
 pub returns-in_default-clause-faults : goal.returns-in_default-clause-faults
 returns-in_default-clause-faults g c =
-    restore_counts c.lines-lines.result (Ok c.in_ok-restored.restored) (fuse_state c.args.self.now.device) (fuse_state c.restore.new.device) c.in_ok-restored.ensures.calls
+    restore_counts c.lines-lines.result (Ok c.in_ok-restored.restored) (device_state c.args.self.now.device) (device_state c.restore.new.device) c.in_ok-restored.ensures.calls
 
 pub returns-in_err-restored-clause-faults : goal.returns-in_err-restored-clause-faults
 returns-in_err-restored-clause-faults g c =
-    let counts = restore_counts c.lines-lines.result (Err c.in_err-restored.field-0.0) (fuse_state c.args.self.now.device) (fuse_state c.restore.new.device) c.in_err-restored.ensures.calls in
+    let counts = restore_counts c.lines-lines.result (Err c.in_err-restored.field-0.0) (device_state c.args.self.now.device) (device_state c.restore.new.device) c.in_err-restored.ensures.calls in
     search (rules, counts)

@@ -1,5 +1,5 @@
 use Rattle.std.proofs.Common.{refl}
-use Rattle.nv_session.proofs.Common.{Event, IsOneEvent, Reply, assembly, fuse_state, meter_gauge}
+use Rattle.nv_session.proofs.Common.{Event, IsOneEvent, Reply, assembly, device_state, meter_gauge}
 use Rattle.nv_machine.specs.declared.events.Event.TheVariants as events
 use Rattle.nv_machine.specs.declared.events.Reply.TheVariants as replies
 use Rattle.nv_session.proofs.Coming.{one_event_alone}
@@ -15,6 +15,6 @@ returns-in-Some-clause-comes g c =
 pub invariant_of-self-clause-living : goal.invariant_of-self-clause-living
 invariant_of-self-clause-living g c =
     let L = g.K.ChannelPort in let it = c.args.self.now in let event : Event = events.Write c.args.write in let reply : Reply = replies.Write c.write.result in
-    let device = fuse_state it.device in let gauge = meter_gauge it.gauge in
+    let device = device_state it.device in let gauge = meter_gauge it.gauge in
     lives_on_alone L (IsOneEvent event reply) it.profile it.life (assembly c.in-Some.life device gauge) (assembly c.write.new.self device gauge) c.in-Some.is refl it.living
     (one_event_alone L event reply c.in-Some.life c.write.new.self c.write.ensures.answers device gauge) c.write.ensures.setup
