@@ -101,6 +101,8 @@ impl<K: ChannelPort + Drop, A: Wires<K> + Drop> Session<K, A> {
             (session_at self.new.life device (meter_gauge self.new.gauge)) }
         ensures mode { result.mode ≡ option_map (λ life. life.mode) self.new.life }
         ensures none { self.old.life ≡ None → result.reading ≡ level }
+        ensures lie { self.old.life ≡ None
+            → lie_of self.new.gauge ≡ lie_of self.old.gauge }
         ensures device { self.new.device ≡ self.old.device }
         ensures profile { self.new.profile ≡ self.old.profile }
         ensures wires { self.new.wires ≡ self.old.wires }

@@ -20,6 +20,8 @@ impl<K: ChannelPort + Drop, A: Wires<K> + Drop> Session<K, A> {
         ensures comes { GoesOnBy K.ChannelPort (λ setup. MakesSave setup.shape.channels result)
             (moment_in self.old) (moment_in self.new) }
         ensures none { self.old.life ≡ None → result ≡ Err ArmRefusal.Closed }
+        ensures rests { self.old.life ≡ None
+            → (self.new.device ≡ self.old.device) × (self.new.gauge ≡ self.old.gauge) }
         ensures profile { self.new.profile ≡ self.old.profile }
         ensures wires { self.new.wires ≡ self.old.wires }
     {
@@ -35,6 +37,8 @@ impl<K: ChannelPort + Drop, A: Wires<K> + Drop> Session<K, A> {
         ensures comes { GoesOnBy K.ChannelPort (λ setup. MakesOneStep result)
             (moment_in self.old) (moment_in self.new) }
         ensures none { self.old.life ≡ None → result ≡ Err ArmRefusal.Closed }
+        ensures rests { self.old.life ≡ None
+            → (self.new.device ≡ self.old.device) × (self.new.gauge ≡ self.old.gauge) }
         ensures profile { self.new.profile ≡ self.old.profile }
         ensures wires { self.new.wires ≡ self.old.wires }
     {
@@ -50,6 +54,8 @@ impl<K: ChannelPort + Drop, A: Wires<K> + Drop> Session<K, A> {
             (λ setup. IsOneEvent Event.Arm (Reply.Arm result))
             (moment_in self.old) (moment_in self.new) }
         ensures none { self.old.life ≡ None → result ≡ Err ArmRefusal.Closed }
+        ensures rests { self.old.life ≡ None
+            → (self.new.device ≡ self.old.device) × (self.new.gauge ≡ self.old.gauge) }
         ensures profile { self.new.profile ≡ self.old.profile }
         ensures wires { self.new.wires ≡ self.old.wires }
     {
@@ -66,6 +72,8 @@ impl<K: ChannelPort + Drop, A: Wires<K> + Drop> Session<K, A> {
             (λ setup. IsOneEvent Event.Lose (Reply.Lose result))
             (moment_in self.old) (moment_in self.new) }
         ensures none { self.old.life ≡ None → result ≡ Loss.Closed }
+        ensures rests { self.old.life ≡ None
+            → (self.new.device ≡ self.old.device) × (self.new.gauge ≡ self.old.gauge) }
         ensures profile { self.new.profile ≡ self.old.profile }
         ensures wires { self.new.wires ≡ self.old.wires }
     {
