@@ -1,0 +1,70 @@
+-- A life with a device that fails at will and a gauge that answers at will, and what a restore finds after a stop at any moment of it.
+use Rattle.std.specs.Prelude.{◌≡◌, ◌<◌, ℕ, List, [], ◌++◌}
+use Rattle.energy_budget.specs.Gauge.{Gauge}
+use Rattle.save_device.specs.declared.fuse.Fuse.{Fuse}
+use Rattle.save_device.specs.declared.memory.MemoryDevice.{MemoryDevice}
+use Rattle.save_device.specs.declared.one_fault.OneFault.{OneFault}
+use Rattle.save_device.specs.Device.{DeviceState, LeavesOnly, MayLeave, present, with_calls}
+use Rattle.save_device.specs.Memory.{state_of}
+use Rattle.save_image.specs.Image.{Image}
+use Rattle.slot_store.specs.declared.slots.Slot.{Slot}
+use Rattle.slot_store.specs.Outcomes.{Found, restored}
+use Rattle.nv_machine.specs.declared.events.Event.{Event}
+use Rattle.nv_machine.specs.declared.events.Event.TheVariants as events
+use Rattle.nv_machine.specs.declared.events.Reply.{Reply}
+use Rattle.nv_machine.specs.State.{Setup}
+use Rattle.nv_machine.specs.Lives.{Lived, IsLived, IsLeftAt, moments_since}
+use Rattle.nv_machine.specs.Survival.{IsSurvived}
+use Rattle.module_core.specs.ModuleLives.{unanswered_event}
+
+-- a device in memory behind a fuse, and that behind a fault of one call
+abbrev pub frail_state : OneFault (Fuse MemoryDevice) → DeviceState
+frail_state frail = with_calls (state_of frail.device.device) frail.calls
+
+-- a work names one of so many channels
+abbrev pub WorksWithin : ℕ → Event → Type 0
+WorksWithin channels (events.Work channel) = channel < channels
+WorksWithin channels event = Unit {0}
+
+-- what a life began with: what doesn't change in it, the image that a restore found, the device as that left it, and the gauge
+pub record Beginning : Type 0 where
+  pub setup : Setup
+  pub slot : Slot
+  pub image : Image
+  pub device : DeviceState
+  pub gauge : Gauge
+
+-- the life began so
+pub record BeganWith (from : Beginning) (life : Lived) : Type 0 where
+  pub setup : life.setup ≡ from.setup
+  pub slot : life.slot ≡ from.slot
+  pub image : life.image ≡ from.image
+  pub device : life.first.device ≡ from.device
+  pub gauge : life.first.gauge ≡ from.gauge
+
+-- its events are the first of these, behind which may come the one that the stop left unanswered, and its replies the first of these
+pub record IsFrontOf (events : List Event) (replies : List Reply) (life : Lived) : Type 0 where
+  pub rest : List Event
+  pub untold : List Reply
+  pub parts : events ≡ life.events ++ unanswered_event life.unanswered ++ rest
+  pub told : replies ≡ life.replies ++ untold
+
+-- A stop among these events left these bytes. They end a life that began so, and a restore of them finds what survives of it.
+pub record SurvivesStop (from : Beginning) (events : List Event) (replies : List Reply) (bytes : List ℕ) : Type 0 where
+  pub life : Lived
+  pub began : BeganWith from life
+  pub front : IsFrontOf events replies life
+  pub left : life.bytes ≡ bytes
+  pub lived : IsLived life
+  pub survived : IsSurvived life []
+
+-- A restore of the device found an image and changed no byte, and a life began with that. Each stop since, at whichever moment, even
+-- within a device write, leaves what survives.
+pub record SurvivesEachStop (setup : Setup) (gauge : Gauge) (events : List Event) (replies : List Reply) (old new : DeviceState) : Type 0 where
+  pub from : Beginning
+  pub over : from.setup ≡ setup
+  pub with : from.gauge ≡ gauge
+  pub found : restored setup.shape.lines old.bytes ≡ Found from.slot from.image
+  pub same : from.device.bytes ≡ old.bytes
+  pub restoring : LeavesOnly old from.device (MayLeave (present old))
+  pub survives : (bytes : List ℕ) → IsLeftAt (moments_since from.device new) bytes → SurvivesStop from events replies bytes
