@@ -6,8 +6,8 @@ use Rattle.command_trace.specs.declared.entry.Entry.{Entry}
 use Rattle.command_trace.specs.declared.entry.Located.{Located}
 
 -- each command that was found, in its order
-abbrev pub entries_in : List Located → List Entry
-entries_in found = map (λ l. l.entry) found
+abbrev pub entries_found : List Located → List Entry
+entries_found found = map (λ l. l.entry) found
 
 -- the geometry has the place of each command
 abbrev pub LieIn : Geometry → List Entry → Type 0

@@ -5,8 +5,8 @@ use Rattle.schedule_drawing.specs.declared.shapes.Shape.{Shape}
 use Rattle.schedule_drawing.specs.Drawing.{shape_to}
 
 -- the last clock of a life that began with a clock
-abbrev pub last_clock : ℕ → List Entry → ℕ
-last_clock begin entries = fold (λ last entry. max last entry.command.clock) begin entries
+abbrev pub latest_clock : ℕ → List Entry → ℕ
+latest_clock begin entries = fold (λ last entry. max last entry.command.clock) begin entries
 
 -- no shape ends behind the clock
 abbrev pub EndBy : ℕ → List Shape → Type 0

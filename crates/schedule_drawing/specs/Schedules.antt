@@ -4,9 +4,9 @@ use Rattle.ddr4_timing.specs.declared.timing.Timing.{Timing}
 use Rattle.command_trace.specs.declared.entry.Entry.{Entry}
 use Rattle.schedule_drawing.specs.declared.schedule.Schedule.{Schedule}
 use Rattle.schedule_drawing.specs.Drawing.{drawn, later}
-use Rattle.schedule_drawing.specs.Lives.{last_clock}
+use Rattle.schedule_drawing.specs.Lives.{latest_clock}
 
 -- A life with these commands is behind the others. A row that nothing closes stays open for 20 clocks behind the last command.
-pub record HasLife (t : Timing) (begin : ℕ) (entries : List Entry) (old new : Schedule) : Type 0 where
-  pub shapes : new.shapes.items ≡ old.shapes.items ++ drawn t (later (last_clock begin entries) 20) entries
+pub record AddsLife (t : Timing) (begin : ℕ) (entries : List Entry) (old new : Schedule) : Type 0 where
+  pub shapes : new.shapes.items ≡ old.shapes.items ++ drawn t (later (latest_clock begin entries) 20) entries
   pub begins : new.begins.items ≡ old.begins.items ++ begin ∷ []

@@ -1,7 +1,7 @@
 // The commands of a trace that can be drawn.
 ghost use Rattle.std.specs.Prelude.{◌≡◌, ◌↔◌, [], All, IfOk, IsTrue, map};
 ghost use Rattle.ddr4_timing.specs.Lawful.{IsInGeometry};
-ghost use Rattle.schedule_drawing.specs.Entries.{LieIn, entries_in};
+ghost use Rattle.schedule_drawing.specs.Entries.{LieIn, entries_found};
 
 use command_trace::{Entry, TraceFault, TraceReader};
 use ddr4_timing::command::Command;
@@ -48,7 +48,7 @@ pub fn read_entries<R: Read + Drop>(
     g: &Geometry,
 ) -> Result<Vec<Entry>, TraceFault>
     requires { reader.old.given.items ≡ [] }
-    ensures whole { IfOk result (λ entries. entries.items ≡ entries_in reader.new.given.items) }
+    ensures whole { IfOk result (λ entries. entries.items ≡ entries_found reader.new.given.items) }
     ensures lie { IfOk result (λ entries. LieIn g.now entries.items) }
 {
     let mut entries = Vec::new(alloc);

@@ -1,6 +1,6 @@
 // A schedule to be drawn.
 ghost use Rattle.std.specs.Prelude.{◌≡◌, ◌≢◌, [], OnOk, ◌≤◌, fold, max};
-ghost use Rattle.schedule_drawing.specs.Lives.{EndBy, last_clock};
+ghost use Rattle.schedule_drawing.specs.Lives.{EndBy, latest_clock};
 
 use crate::shapes::{Shape, shapes_of};
 use command_trace::Entry;
@@ -44,7 +44,7 @@ pub struct Schedule {
 
 // The last clock of a life that began with a clock.
 fn last_of(begin: u64, entries: &[Entry]) -> u64
-    ensures { result ≡ last_clock begin entries.now }
+    ensures { result ≡ latest_clock begin entries.now }
 {
     entries
         .iter()
@@ -64,11 +64,12 @@ fn end_of(end: u64, shapes: &[Shape]) -> u64
 }
 
 impl Schedule {
-    ghost use Rattle.schedule_drawing.specs.Schedules.{HasLife};
+    ghost use Rattle.schedule_drawing.specs.Schedules.{AddsLife};
 
     /// With nothing in it.
     pub fn new(alloc: Global) -> Schedule
-        ensures { result.shapes.items ≡ [] }
+        ensures shapes { result.shapes.items ≡ [] }
+        ensures begins { result.begins.items ≡ [] }
     {
         Schedule {
             shapes: Vec::new(alloc),
@@ -99,7 +100,7 @@ impl Schedule {
         begin: u64,
         entries: &[Entry],
     ) -> Result<(), AllocError>
-        ensures { OnOk result (HasLife t.now begin entries.now self.old self.new) }
+        ensures { OnOk result (AddsLife t.now begin entries.now self.old self.new) }
     {
         let open_until = last_of(begin, entries).saturating_add(TAIL);
         let shapes = shapes_of(alloc, t, entries, open_until)?;
