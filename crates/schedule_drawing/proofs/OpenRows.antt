@@ -1,6 +1,6 @@
 -- Rows stay open until a command closes their bank.
-use Rattle.std.proofs.Common.{◌≡◌, ℕ, Bool, true, false, cond, ◌&&◌, List, [], ◌∷◌, ◌++◌, Option, Some, None, map, refl, sym, ap, subst, eqb, ◌∙◌}
-use Rattle.std.specs.Prelude.{◌==◌, find, fold}
+use Rattle.std.proofs.Common.{◌≡◌, ℕ, zero, suc, Bool, true, false, cond, ◌&&◌, List, [], ◌∷◌, ◌++◌, Option, Some, None, map, take, refl, sym, ap, subst, eqb, ◌∙◌}
+use Rattle.std.specs.Prelude.{◌==◌, IfSome, find, fold}
 use Rattle.std.proofs.lemmas.List.{map-append}
 use Rattle.std.proofs.lemmas.List.Elements.{filter-append}
 use Rattle.std.proofs.lemmas.List.Sums.{fold-append}
@@ -13,8 +13,11 @@ use Rattle.ddr4_timing.specs.declared.command.Command.TheVariants.{Act, Rd, Wr, 
 use Rattle.ddr4_timing.specs.declared.command.Stamped.{Stamped}
 use Rattle.ddr4_timing.specs.declared.place.BankAddress.{BankAddress}
 use Rattle.command_trace.specs.declared.entry.Entry.{Entry}
-use Rattle.schedule_drawing.specs.Drawing.{closes, closes_bank}
-use Rattle.schedule_drawing.specs.OpenRows.{IsShutBy, StaysOpen, commands_to, entries_to}
+use Rattle.schedule_drawing.specs.declared.lanes.Lane.{Lane}
+use Rattle.schedule_drawing.specs.declared.shapes.Shape.{Shape}
+use Rattle.schedule_drawing.specs.Drawing.{closes, closes_bank, row_bar}
+use Rattle.schedule_drawing.specs.Lanes.{bank_lane}
+use Rattle.schedule_drawing.specs.OpenRows.{IsOpenUntil, IsShutBy, ShowsRow, StaysOpen, commands_to, entries_to}
 
 eqb_self : (n : ℕ) → eqb n n ≡ true
 eqb_self n = eq-eqb n n refl
@@ -93,13 +96,57 @@ act-first channel bank row before act between here is =
     let opened : row_after bank before act.command.cmd ≡ Some row = act-opens bank row before act.command.cmd is in
     rw own (ap (λ (r : Option ℕ). row_behind bank r (commands_to channel between)) opened)
 
-pub stays_open : (channel : ℕ) (bank : BankAddress) (row : ℕ) (before : List Entry) (act : Entry) (between : List Entry)
-    → StaysOpen channel bank row before act between
-stays_open channel bank row before act between = λ here is none.
-    ap (λ (l : List Stamped). open_row bank l) (commands_to-append channel before (act ∷ between))
-    ∙ open_row-append bank (commands_to channel before) (commands_to channel (act ∷ between))
-    ∙ act-first channel bank row (open_row bank (commands_to channel before)) act between here is
-    ∙ stays channel bank row between none
+-- none of a front closes it, where none of all does
+front-step : (b : Bool) (x : Entry) (rest front : Option Entry) → (rest ≡ None → front ≡ None)
+    → cond b (Some x) rest ≡ None → cond b (Some x) front ≡ None
+front-step true x rest front more none = absurd (cc)
+front-step false x rest front more none = more none
+
+find-front : (p : Entry → Bool) (xs : List Entry) (n : ℕ) → find p xs ≡ None → find p (take n xs) ≡ None
+find-front p xs zero none = refl
+find-front p [] (suc n) none = refl
+find-front p (x ∷ xs) (suc n) none = front-step (p x) x (find p xs) (find p (take n xs)) (find-front p xs n) none
+
+stays-open : (channel : ℕ) (bank : BankAddress) (between : List Entry)
+    → find (closes channel bank) between ≡ None → StaysOpen channel bank between
+stays-open channel bank between none = λ n row before act here is.
+    ap (λ (l : List Stamped). open_row bank l) (commands_to-append channel before (act ∷ take n between))
+    ∙ open_row-append bank (commands_to channel before) (commands_to channel (act ∷ take n between))
+    ∙ act-first channel bank row (open_row bank (commands_to channel before)) act (take n between) here is
+    ∙ stays channel bank row (take n between) (find-front (closes channel bank) between n none)
+
+-- what stands before the first that passes, and behind it
+Parts : (Entry → Bool) → List Entry → Entry → Type 0
+Parts p xs close =
+    (between : List Entry) × (after : List Entry) × (xs ≡ between ++ close ∷ after) × (find p between ≡ None) × (p close ≡ true)
+
+parts-later : (p : Entry → Bool) (x : Entry) (xs : List Entry) (close : Entry) → p x ≡ false → Parts p xs close → Parts p (x ∷ xs) close
+unfolding Parts
+parts-later p x xs close fails (between, after, is, none, passes) =
+    (x ∷ between, after, ap (λ l. x ∷ l) is, rw fails none, passes)
+
+parts-step : (p : Entry → Bool) (x : Entry) (xs : List Entry) (close : Entry) (b : Bool) → p x ≡ b
+    → cond b (Some x) (find p xs) ≡ Some close → (find p xs ≡ Some close → Parts p xs close) → Parts p (x ∷ xs) close
+unfolding Parts
+parts-step p x xs close true passes found more =
+    let same : x ≡ close = cc in
+    ([], xs, ap (λ y. y ∷ xs) same, refl, subst (λ y. p y ≡ true) same passes)
+parts-step p x xs close false fails found more = parts-later p x xs close fails (more found)
+
+find-parts : (p : Entry → Bool) (xs : List Entry) (close : Entry) → find p xs ≡ Some close → Parts p xs close
+find-parts p [] close found = absurd (cc)
+find-parts p (x ∷ xs) close found = parts-step p x xs close (p x) refl found (find-parts p xs close)
+
+until-parts : (channel : ℕ) (bank : BankAddress) (behind : List Entry) (close : Entry)
+    → Parts (closes channel bank) behind close → IsOpenUntil channel bank behind (Some close)
+unfolding Parts
+until-parts channel bank behind close (between, after, is, none, passes) = (between, after, is, stays-open channel bank between none)
+
+open-until : (channel : ℕ) (bank : BankAddress) (behind : List Entry) (close : Option Entry)
+    → close ≡ find (closes channel bank) behind → IsOpenUntil channel bank behind close
+open-until channel bank behind None is = stays-open channel bank behind (sym is)
+open-until channel bank behind (Some close) is =
+    until-parts channel bank behind close (find-parts (closes channel bank) behind close (sym is))
 
 -- both of two tests that hold together
 both-left : (a b : Bool) → (a && b) ≡ true → a ≡ true
@@ -118,11 +165,32 @@ close-last channel bank before close here shut precharge =
     let none : row_after bank before close.command.cmd ≡ None = closed bank before close.command.cmd shut precharge in
     rw here none
 
-pub shut_by : (channel : ℕ) (bank : BankAddress) (before : List Entry) (close : Entry) → IsShutBy channel bank before close
-shut_by channel bank before close = λ shut precharge.
+shut-by : (channel : ℕ) (bank : BankAddress) (close : Entry) → closes channel bank close ≡ true → IsShutBy channel bank close
+shut-by channel bank close shut = λ precharge before.
     ap (λ (l : List Stamped). open_row bank l) (commands_to-append channel before (close ∷ []))
     ∙ open_row-append bank (commands_to channel before) (commands_to channel (close ∷ []))
     ∙ close-last channel bank (open_row bank (commands_to channel before)) close
     (both-left (close.channel == channel) (closes_bank bank close.command.cmd) shut)
     (both-right (close.channel == channel) (closes_bank bank close.command.cmd) shut)
     precharge
+
+shut-parts : (channel : ℕ) (bank : BankAddress) (behind : List Entry) (close : Entry)
+    → Parts (closes channel bank) behind close → IsShutBy channel bank close
+unfolding Parts
+shut-parts channel bank behind close (between, after, is, none, passes) = shut-by channel bank close passes
+
+shut-until : (channel : ℕ) (bank : BankAddress) (behind : List Entry) (close : Option Entry)
+    → close ≡ find (closes channel bank) behind → IfSome close (λ c. IsShutBy channel bank c)
+shut-until channel bank behind None is = tt
+shut-until channel bank behind (Some close) is =
+    shut-parts channel bank behind close (find-parts (closes channel bank) behind close (sym is))
+
+pub shows_row : (channel : ℕ) (bank : BankAddress) (row from end : ℕ) (behind : List Entry) (lane : Lane) (close : Option Entry) (bar : Shape)
+    → lane ≡ bank_lane channel bank → close ≡ find (closes channel bank) behind → bar ≡ row_bar lane row from end close
+    → ShowsRow channel bank row from end behind bar
+shows_row channel bank row from end behind lane close bar lane_is close_is bar_is = record {
+  close = close;
+  bar_is = bar_is ∙ ap (λ l. row_bar l row from end close) lane_is;
+  stays = open-until channel bank behind close close_is;
+  shut = shut-until channel bank behind close close_is;
+}

@@ -4,6 +4,7 @@ ghost use Rattle.std.specs.Option.{option_copied, option_to_list};
 ghost use Rattle.ddr4_timing.specs.Places.{is_bank};
 ghost use Rattle.schedule_drawing.specs.Drawing.{burst, closes, drawn, is_mark, mark_of, row_bar, shape_from, shape_lane, shape_to, span_of};
 ghost use Rattle.schedule_drawing.specs.Lanes.{bank_lane};
+ghost use Rattle.schedule_drawing.specs.OpenRows.{ShowsRow};
 
 use crate::lanes::Lane;
 use command_trace::Entry;
@@ -139,6 +140,29 @@ fn bar_of(lane: Lane, row: u64, from: u64, end: u64, close: Option<Entry>) -> Sh
     }
 }
 
+/// The bar of a row from its ACT on. It ends with the first of the commands behind that closes the bank, or with the end where
+/// none does: up to there the row is the one that is open by the timing rules, and behind a precharge none is (`shows`).
+pub fn bar_of_row(
+    channel: u64,
+    bank: BankAddress,
+    row: u64,
+    from: u64,
+    end: u64,
+    behind: &[Entry],
+) -> Shape
+    ensures first { result ≡ row_bar (bank_lane channel bank) row from end
+        (find (closes channel bank) behind.now) }
+    ensures shows { ShowsRow channel bank row from end behind.now result }
+{
+    bar_of(
+        Lane::of_bank(channel, bank),
+        row,
+        from,
+        end,
+        closing(channel, bank, behind),
+    )
+}
+
 // The data of a command on the bus.
 fn data_of(channel: u64, from: u64, command: Command) -> Shape
     ensures { result ≡ burst channel from command }
@@ -159,11 +183,7 @@ fn span_from(t: &Timing, end: u64, entry: &Entry, behind: &[Entry]) -> Option<Sh
     let clock = entry.command.clock;
     let command = entry.command.cmd;
     match command {
-        Command::Act { at, row } => {
-            let lane = Lane::of_bank(channel, at);
-            let close = closing(channel, at, behind);
-            Some(bar_of(lane, row, clock, end, close))
-        }
+        Command::Act { at, row } => Some(bar_of_row(channel, at, row, clock, end, behind)),
         Command::Rd { .. } => Some(data_of(channel, clock.saturating_add(t.cl), command)),
         Command::Wr { .. } => Some(data_of(channel, clock.saturating_add(t.cwl), command)),
         Command::Ref { rank } => Some(Shape::Refresh {
