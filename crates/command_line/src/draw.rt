@@ -1,12 +1,10 @@
 // A schedule drawn: of a trace, or of the commands that a script's work prints.
 use crate::fault::Fault;
-use arm_state::Loss;
-use command_trace::{Entry, TraceFault, TraceReader, form_of};
+use command_trace::{TraceFault, TraceReader, form_of};
 use crash_table::Trials;
-use ddr4_timing::timing::Timing;
 use nv_profile::Profile;
-use nv_script::{Answer, ScriptFault, read_script};
-use schedule_drawing::{DrawFault, Event, EventKind, Schedule, read_entries, write_svg, write_vcd};
+use nv_script::{ScriptFault, read_script};
+use schedule_drawing::{DrawFault, Schedule, read_entries, told_schedule, write_svg, write_vcd};
 use std::alloc::{AllocError, Global};
 use std::fs::File;
 use std::io::{BufWriter, Write};
@@ -82,105 +80,7 @@ fn trace_schedule(alloc: Global, profile: &Profile, bytes: &[u8]) -> Result<Sche
 fn script_schedule(alloc: Global, profile: &Profile, bytes: &[u8]) -> Result<Schedule, NoSchedule> {
     let lines = read_script(alloc, bytes, &profile.checked.geometry)?;
     let answers = Trials::new(alloc, profile).answers(&lines)?;
-    let mut story = Story::new(alloc, profile.checked.timing);
-    for answer in &answers {
-        story.take(answer)?;
-    }
-    story.end_life()?;
-    Ok(story.schedule)
-}
-
-/// The schedule of a script as far as its answers tell it.
-#[derive(Drop)]
-struct Story {
-    alloc: Global,
-    timing: Timing,
-    schedule: Schedule,
-    // has a life begun?
-    is_begun: bool,
-    // the commands of the life that runs, the clock that its clocks begin with, and the last one that was told
-    entries: Vec<Entry>,
-    begin: u64,
-    now: u64,
-}
-
-impl Story {
-    fn new(alloc: Global, timing: Timing) -> Story {
-        Story {
-            alloc,
-            timing,
-            schedule: Schedule::new(alloc),
-            is_begun: false,
-            entries: Vec::new(alloc),
-            begin: 0,
-            now: 0,
-        }
-    }
-
-    fn end_life(&mut self) -> Result<(), AllocError> {
-        self.schedule
-            .add(self.alloc, &self.timing, self.begin, &self.entries)?;
-        self.entries.clear();
-        self.begin = self.schedule.next_begin();
-        self.now = self.begin;
-        Ok(())
-    }
-
-    fn take(&mut self, answer: &Answer) -> Result<(), AllocError> {
-        match *answer {
-            Answer::Issued { channel, command } => {
-                let mut command = command;
-                command.clock = self.begin.saturating_add(command.clock);
-                self.now = self.now.max(command.clock);
-                self.entries.push(Entry { channel, command })?;
-                Ok(())
-            }
-            Answer::Formatted | Answer::Restored { .. } => {
-                if self.is_begun {
-                    self.end_life()?;
-                }
-                self.is_begun = true;
-                self.tell_answer(EventKind::Device, answer)?;
-                self.tell_mode("disarmed")
-            }
-            Answer::Lost(Loss::Saved { .. } | Loss::Fault) => {
-                self.tell_answer(EventKind::Device, answer)?;
-                self.tell_mode("mains lost")
-            }
-            _ => match kind_of(answer) {
-                Some(kind) => self.tell_answer(kind, answer),
-                None => Ok(()),
-            },
-        }
-    }
-
-    fn tell_answer(&mut self, kind: EventKind, answer: &Answer) -> Result<(), AllocError> {
-        let text = format!(in self.alloc; "{answer}")?;
-        self.tell(kind, text)
-    }
-
-    fn tell_mode(&mut self, mode: &str) -> Result<(), AllocError> {
-        let text = mode.to_string(self.alloc)?;
-        self.tell(EventKind::Mode, text)
-    }
-
-    fn tell(&mut self, kind: EventKind, text: String) -> Result<(), AllocError> {
-        let clock = self.now;
-        self.schedule.events.push(Event { clock, kind, text })?;
-        Ok(())
-    }
-}
-
-// The lane of events in which an answer stands, where it stands in one.
-fn kind_of(answer: &Answer) -> Option<EventKind> {
-    match answer {
-        Answer::Saved { .. } | Answer::Stepped(_) => Some(EventKind::Device),
-        Answer::RestoreRefused(_) => Some(EventKind::Device),
-        Answer::SaveFault | Answer::ArmFault | Answer::FormatFault => Some(EventKind::Device),
-        Answer::Lost(_) | Answer::Level { .. } | Answer::Armed => Some(EventKind::Mode),
-        Answer::Disarming | Answer::StepDisarming => Some(EventKind::Mode),
-        _ => None,
-    }
+    Ok(told_schedule(alloc, &profile.checked.timing, &answers)?)
 }
 
 /// Writes a schedule to a file as a picture.

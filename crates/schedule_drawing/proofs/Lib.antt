@@ -2,3 +2,4 @@ pub mod Marks
 pub mod Shown
 pub mod Ends
 pub mod OpenRows
+pub mod ToldLives

@@ -4,3 +4,4 @@ pub mod Drawing
 pub mod OpenRows
 pub mod Lives
 pub mod Schedules
+pub mod Telling

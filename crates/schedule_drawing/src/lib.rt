@@ -1,6 +1,6 @@
 //! Schedules of DDR4 commands as pictures: SVG, with a lane a bank, and VCD, with the state of each bank.
 //!
-//! `shapes_of` says what is drawn of a list of commands; `write_svg` and `write_vcd` write it.
+//! `shapes_of` says what is drawn of a list of commands, `told_schedule` of a script; `write_svg` and `write_vcd` write it.
 #![tactic(auto)]
 
 mod axis;
@@ -12,6 +12,7 @@ mod placing;
 mod schedule;
 mod shapes;
 mod svg;
+mod telling;
 mod vcd;
 
 pub use entries::read_entries;
@@ -21,4 +22,5 @@ pub use layout::Layout;
 pub use schedule::{Event, EventKind, Schedule};
 pub use shapes::{Shape, bar_of_row, shapes_of};
 pub use svg::write_svg;
+pub use telling::told_schedule;
 pub use vcd::write_vcd;

@@ -1,8 +1,13 @@
 // What is drawn of traces, as text.
 use crate::verdicts::checked;
 use command_trace::{TraceReader, form_of};
-use schedule_drawing::{Event, EventKind, Schedule, read_entries, write_svg, write_vcd};
+use ddr4_timing::command::{Command, Stamped};
+use nv_script::Answer;
+use schedule_drawing::{
+    Event, EventKind, Schedule, read_entries, told_schedule, write_svg, write_vcd,
+};
 use std::alloc::Global;
+use std::fmt::Write;
 use std::process::Abort;
 use std::test::Fail;
 
@@ -159,6 +164,51 @@ fn lives_and_events(rt: HostRuntime) -> Result<(), Fail> {
             (">mode</text>", 1),
             (">armed</text>", 1),
             (">device</text>", 0),
+        ],
+    )
+}
+
+// A refresh that ends at 425, and 100 clocks between two lives.
+const TOLD: [Answer; 6] = [
+    Answer::Formatted,
+    Answer::Idle { channel: 1 },
+    Answer::Issued {
+        channel: 0,
+        command: Stamped {
+            clock: 5,
+            cmd: Command::Ref { rank: 0 },
+        },
+    },
+    Answer::Armed,
+    Answer::Formatted,
+    Answer::Issued {
+        channel: 0,
+        command: Stamped {
+            clock: 7,
+            cmd: Command::Sre { rank: 0 },
+        },
+    },
+];
+
+#[test]
+fn a_script(rt: HostRuntime) -> Result<(), Fail> {
+    let schedule = told_schedule(rt.alloc(), &checked()?.timing, &TOLD)?;
+    assert_eq!(rt; schedule.begins.as_slice(), [0, 525].as_slice());
+    let mut told = format!(in rt.alloc(); "")?;
+    for event in &schedule.events {
+        write!(told, "{} {}; ", event.clock, event.text)?;
+    }
+    assert_eq!(rt;
+        told.as_str(),
+        "0 formatted; 0 disarmed; 5 armed; 525 formatted; 525 disarmed; "
+    );
+    has(
+        &rt,
+        &schedule,
+        &[
+            (">REF</text>", 1),
+            (">SRE</text>", 1),
+            ("<line class=\"life\"", 1),
         ],
     )
 }

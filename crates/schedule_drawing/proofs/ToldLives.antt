@@ -1,0 +1,108 @@
+-- Lives of a script that are drawn one behind another.
+use Rattle.std.proofs.Common.{◌≡◌, ◌⊎◌, inl, inr, ℕ, zero, suc, ◌+◌, ◌-◌, ◌<◌, Bool, true, false, List, [], ◌∷◌, ◌++◌, append_assoc, append-nil, length, take, drop, map, arith, refl, sym, ap, subst, ◌∙◌}
+use Rattle.std.specs.Prelude.{filter_map, All}
+use Rattle.std.specs.List.{flat_map}
+use Rattle.std.proofs.lemmas.Grind.{flat_map-append}
+use Rattle.std.proofs.lemmas.List.{drop-drop, drop-take, length-drop, map-append, take-append-drop, take_all}
+use Rattle.std.proofs.lemmas.List.Elements.{All-append, All-cons, All-nil}
+use Rattle.ddr4_timing.specs.declared.timing.Timing.{Timing}
+use Rattle.nv_script.specs.declared.answer.Answer.{Answer}
+use Rattle.schedule_drawing.specs.declared.schedule.Schedule.{Schedule}
+use Rattle.schedule_drawing.specs.declared.shapes.Shape.{Shape}
+use Rattle.schedule_drawing.specs.Schedules.{AddsLife}
+use Rattle.schedule_drawing.specs.Telling.{IsOneLife, StartsLife, TellsAll, ToldLife, begins_life, entry_told, life_drawn}
+
+-- the schedule tells the answers that stand before those that are left
+abbrev pub TellsBefore : Timing → List Answer → List Answer → Schedule → Type 0
+TellsBefore t answers left schedule =
+    (done : List Answer) × (tells : TellsAll t done schedule)
+    × (done ++ left ≡ answers) × ((tells.lives ≡ []) ⊎ StartsLife left)
+
+pub tells-none : (t : Timing) (answers : List Answer) (schedule : Schedule)
+    → schedule.shapes.items ≡ [] → schedule.begins.items ≡ [] → TellsBefore t answers answers schedule
+tells-none t answers schedule shapes begins = (
+  [],
+  record {
+    lives = [];
+    answers_are = refl;
+    one = All-nil (λ (life : ToldLife). IsOneLife life.answers);
+    started = All-nil (λ (life : ToldLife). StartsLife life.answers);
+    begins = begins;
+    shapes = shapes;
+  },
+  refl,
+  inl refl,
+)
+
+starts-front : (n : ℕ) (left : List Answer) → 0 < n → StartsLife left → StartsLife (take n left)
+starts-front zero left some starts = absurd (omega (arith, some))
+starts-front (suc m) [] some starts = tt
+starts-front (suc m) (first ∷ others) some starts = starts
+
+first-front : (lives : List ToldLife) (n : ℕ) (left life : List Answer) → 0 < n → life ≡ take n left
+    → ((lives ≡ []) ⊎ StartsLife left) → ((lives ≡ []) ⊎ StartsLife life)
+first-front lives n left life some is (inl none) = inl none
+first-front lives n left life some is (inr starts) = inr (rw is (starts-front n left some starts))
+
+started-more : (lives : List ToldLife) (next : ToldLife) → ((lives ≡ []) ⊎ StartsLife next.answers)
+    → All (λ (life : ToldLife). StartsLife life.answers) (drop 1 lives)
+    → All (λ (life : ToldLife). StartsLife life.answers) (drop 1 (lives ++ next ∷ []))
+started-more [] next first old = All-nil (λ (life : ToldLife). StartsLife life.answers)
+started-more (life ∷ more) next (inl none) old = absurd (cc)
+started-more (life ∷ more) next (inr starts) old =
+    All-append (λ (life : ToldLife). StartsLife life.answers) more (next ∷ []) old
+    (All-cons (λ (life : ToldLife). StartsLife life.answers) next [] starts (All-nil (λ (life : ToldLife). StartsLife life.answers)))
+
+-- what lives have, and one more
+one-more : {A : Type 0} (f : ToldLife → List A) (lives : List ToldLife) (next : ToldLife)
+    → flat_map f lives ++ f next ≡ flat_map f (lives ++ next ∷ [])
+one-more f lives next =
+    ap (λ l. flat_map f lives ++ l) (sym (append-nil (f next))) ∙ sym (flat_map-append f lives (next ∷ []))
+
+-- a life more is told
+told-more : (t : Timing) (done : List Answer) (old new : Schedule) (next : ToldLife) (tells : TellsAll t done old)
+    → ((tells.lives ≡ []) ⊎ StartsLife next.answers) → IsOneLife next.answers
+    → AddsLife t next.begin (filter_map (entry_told next.begin) next.answers) old new
+    → TellsAll t (done ++ next.answers) new
+told-more t done old new next tells first one adds = record {
+  lives = tells.lives ++ next ∷ [];
+  answers_are =
+      ap (λ l. l ++ next.answers) tells.answers_are ∙ one-more (λ (life : ToldLife). life.answers) tells.lives next;
+  one =
+      All-append (λ (life : ToldLife). IsOneLife life.answers) tells.lives (next ∷ []) tells.one
+      (All-cons (λ (life : ToldLife). IsOneLife life.answers) next [] one (All-nil (λ (life : ToldLife). IsOneLife life.answers)));
+  started = started-more tells.lives next first tells.started;
+  begins =
+      adds.begins ∙ ap (λ l. l ++ next.begin ∷ []) tells.begins
+      ∙ sym (map-append (λ (life : ToldLife). life.begin) tells.lives (next ∷ []));
+  shapes = adds.shapes ∙ ap (λ l. l ++ life_drawn t next) tells.shapes ∙ one-more (life_drawn t) tells.lives next;
+}
+
+-- the life and the rest are the first answers of those that are left, and those behind them
+pub tells-more : (t : Timing) (answers left life rest : List Answer) (n begin : ℕ) (old new : Schedule)
+    → TellsBefore t answers left old → 0 < n → life ≡ take n left → rest ≡ drop n left
+    → IsOneLife (take n left) → StartsLife (drop n left)
+    → AddsLife t begin (filter_map (entry_told begin) life) old new → TellsBefore t answers rest new
+tells-more t answers left life rest n begin old new (done, tells, whole, first) some life_is rest_is one next adds =
+    let joined : life ++ rest ≡ left = rw life_is (rw rest_is (take-append-drop n left)) in (
+      done ++ life,
+      told-more t done old new (record { begin = begin; answers = life }) tells (first-front tells.lives n left life some life_is first)
+          (rw life_is one) adds,
+      append_assoc done life rest ∙ ap (λ l. done ++ l) joined ∙ whole,
+      inr (rw rest_is next),
+    )
+
+-- all but the first
+behind-first : (answers : List Answer) → take (length answers - 1) (drop 1 answers) ≡ drop 1 answers
+behind-first answers = take_all _ _ (simp length-drop (omega arith))
+
+-- the first answer, and those of its life behind it
+pub life-front : (answers : List Answer) (m : ℕ)
+    → All (λ (answer : Answer). begins_life answer ≡ false) (take m (take (length answers - 1) (drop 1 answers)))
+    → IsOneLife (take (1 + m) answers)
+life-front answers m others = rw (drop-take 1 m answers) (rw (behind-first answers) at others)
+
+pub life-next : (answers : List Answer) (m : ℕ) → StartsLife (drop m (take (length answers - 1) (drop 1 answers))) → StartsLife (drop (1 + m) answers)
+life-next answers m starts =
+    let next : StartsLife (drop m (drop 1 answers)) = rw (behind-first answers) at starts in
+    subst (λ (l : List Answer). StartsLife l) (drop-drop m 1 answers) next

@@ -1,0 +1,153 @@
+// The schedule that the answers of a script tell.
+ghost use Rattle.std.specs.Prelude.{◌≡◌, ◌<◌, ◌≤◌, false, length, take, drop, filter_map, All, IfOk, OnOk};
+ghost use Rattle.schedule_drawing.specs.Schedules.{AddsLife};
+ghost use Rattle.schedule_drawing.specs.Telling.{IsOneLife, StartsLife, TellsAll, begins_life};
+
+use crate::schedule::{Event, EventKind, Schedule};
+use arm_state::Loss;
+use command_trace::Entry;
+use ddr4_timing::command::Stamped;
+use ddr4_timing::timing::Timing;
+use nv_script::Answer;
+use std::alloc::{AllocError, Global};
+
+// Does a life begin with the answer?
+fn is_beginning(answer: &Answer) -> bool
+    ensures { result ≡ begins_life answer.now }
+{
+    matches!(*answer, Answer::Formatted | Answer::Restored { .. })
+}
+
+// The command that an answer tells, of a life whose clocks begin with this one.
+fn entry_told(begin: u64, answer: &Answer) -> Option<Entry>
+    ensures { result ≡ Rattle.schedule_drawing.specs.Telling.entry_told begin answer.now }
+{
+    match *answer {
+        Answer::Issued { channel, command } => Some(Entry {
+            channel,
+            command: Stamped {
+                clock: begin.saturating_add(command.clock),
+                cmd: command.cmd,
+            },
+        }),
+        _ => None,
+    }
+}
+
+// The commands that answers tell, of a life whose clocks begin with this one.
+fn entries_told(alloc: Global, begin: u64, answers: &[Answer]) -> Result<Vec<Entry>, AllocError>
+    ensures { IfOk result (λ entries. entries.items
+        ≡ filter_map (Rattle.schedule_drawing.specs.Telling.entry_told begin) answers.now) }
+{
+    let mut entries = Vec::new(alloc);
+    let mut left = answers;
+    while let [answer, behind @ ..] = left {
+        if let Some(entry) = entry_told(begin, answer) {
+            entries.push(entry)?;
+        }
+        left = behind;
+    }
+    Ok(entries)
+}
+
+// How many answers stand before the next one that begins a life.
+fn others_of_life(behind: &[Answer]) -> usize
+    ensures within { result ≤ length behind.now }
+    ensures others { All (λ answer. begins_life answer ≡ false) (take result behind.now) }
+    ensures next { StartsLife (drop result behind.now) }
+{
+    behind.iter().position(is_beginning).unwrap_or(behind.len())
+}
+
+// How many of the answers tell the first life.
+fn life_length(answers: &[Answer]) -> usize
+    requires some { 0 < length answers.now }
+    ensures some { 0 < result }
+    ensures within { result ≤ length answers.now }
+    ensures one { IsOneLife (take result answers.now) }
+    ensures next { StartsLife (drop result answers.now) }
+{
+    1 + others_of_life(&answers[1..])
+}
+
+// The lane of events in which an answer stands, where it stands in one.
+fn kind_of(answer: &Answer) -> Option<EventKind> {
+    match answer {
+        Answer::Formatted | Answer::Restored { .. } => Some(EventKind::Device),
+        Answer::Lost(Loss::Saved { .. } | Loss::Fault) => Some(EventKind::Device),
+        Answer::Saved { .. } | Answer::Stepped(_) | Answer::StepRetry => Some(EventKind::Device),
+        Answer::RestoreRefused(_) => Some(EventKind::Device),
+        Answer::SaveFault | Answer::ArmFault | Answer::FormatFault => Some(EventKind::Device),
+        Answer::Lost(_) | Answer::Level { .. } | Answer::Armed => Some(EventKind::Mode),
+        Answer::Disarming | Answer::StepDisarming => Some(EventKind::Mode),
+        _ => None,
+    }
+}
+
+// The mode that begins with an answer of the device.
+fn mode_of(answer: &Answer) -> Option<&'static str> {
+    match answer {
+        Answer::Formatted | Answer::Restored { .. } => Some("disarmed"),
+        Answer::Lost(Loss::Saved { .. } | Loss::Fault) => Some("mains lost"),
+        _ => None,
+    }
+}
+
+// The events that answers of a life tell: each behind the commands that were told before it.
+fn tell_events(
+    alloc: Global,
+    events: &mut Vec<Event>,
+    begin: u64,
+    answers: &[Answer],
+) -> Result<(), AllocError> {
+    let mut clock = begin;
+    for answer in answers {
+        if let Some(entry) = entry_told(begin, answer) {
+            clock = clock.max(entry.command.clock);
+        }
+        if let Some(kind) = kind_of(answer) {
+            let text = format!(in alloc; "{answer}")?;
+            events.push(Event { clock, kind, text })?;
+        }
+        if let Some(mode) = mode_of(answer) {
+            let text = mode.to_string(alloc)?;
+            let kind = EventKind::Mode;
+            events.push(Event { clock, kind, text })?;
+        }
+    }
+    Ok(())
+}
+
+// Takes in a life, whose clocks begin with this one.
+fn tell_life(
+    alloc: Global,
+    schedule: &mut Schedule,
+    t: &Timing,
+    begin: u64,
+    answers: &[Answer],
+) -> Result<(), AllocError>
+    ensures { OnOk result (AddsLife t.now begin
+        (filter_map (Rattle.schedule_drawing.specs.Telling.entry_told begin) answers.now)
+        schedule.old schedule.new) }
+{
+    let entries = entries_told(alloc, begin, answers)?;
+    schedule.add(alloc, t, begin, &entries)?;
+    tell_events(alloc, &mut schedule.events, begin, answers)
+}
+
+/// The schedule of a script as far as its answers tell it: life by life, each command that they tell, in its turn, and the calls
+/// of the device and modes beside them. A life begins with a formatting or a restore; what stands before the first one is drawn
+/// as a life too.
+pub fn told_schedule(alloc: Global, t: &Timing, answers: &[Answer]) -> Result<Schedule, AllocError>
+    ensures { IfOk result (λ schedule. TellsAll t.now answers.now schedule) }
+{
+    let mut schedule = Schedule::new(alloc);
+    let mut left = answers;
+    while !left.is_empty() {
+        let (life, rest) = left.split_at(life_length(left));
+        let begin = schedule.next_begin();
+        tell_life(alloc, &mut schedule, t, begin, life)?;
+        left = rest;
+    }
+    Ok(schedule)
+}
