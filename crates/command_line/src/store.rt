@@ -1,5 +1,5 @@
 // A store, the bytes of a device, shown as lines.
-ghost use Rattle.std.specs.Prelude.{◌≡◌, true, length, Ok, IfSome, IsNone};
+ghost use Rattle.std.specs.Prelude.{◌↔◌, length, IfOk, IfSome, IsNone, IsTrue};
 ghost use Rattle.slot_store.specs.Slots.{IsCapacity, device_size};
 ghost use Rattle.command_line.specs.Store.{IsStoreOf, HasNoLines, HoldsImage};
 
@@ -29,13 +29,13 @@ fn say<W: io::Write>(writer: &mut W, answer: &Answer) -> Result<(), ScriptFault>
 }
 
 /// Writes what a restore of a store would answer, and each line of memory that isn't all zero; a size that no store has is
-/// `WrongSize`. Answers whether an image was restored; false where the refusal was written.
+/// `WrongSize`. Answers whether the store holds an image; false where the refusal was written. Want of memory is an `Err`.
 pub fn show_store<W: io::Write>(
     alloc: Global,
     store: Vec<u8>,
     writer: &mut W,
 ) -> Result<bool, ScriptFault>
-    ensures { result ≡ Ok true → HoldsImage store.items }
+    ensures { IfOk result (λ shown. IsTrue shown ↔ HoldsImage store.items) }
 {
     let Some(lines) = lines_of(store.len()) else {
         say(writer, &Answer::RestoreRefused(RestoreError::WrongSize))?;
@@ -44,6 +44,8 @@ pub fn show_store<W: io::Write>(
     let mut device = MemoryDevice::new(alloc, store)?;
     let restored = match restore(alloc, &mut device, lines) {
         Ok(restored) => restored,
+        // a device in memory doesn't fail
+        Err(RestoreError::Device | RestoreError::Memory) => return Err(ScriptFault::Memory),
         Err(error) => {
             say(writer, &Answer::RestoreRefused(error))?;
             return Ok(false);
