@@ -1,9 +1,17 @@
--- Stores, by their size and by what they restore to.
-use Rattle.std.specs.Prelude.{◌≡◌, ℕ, List, length}
+-- Stores, by their size and by what they restore to, and how they are shown.
+use Rattle.std.specs.Prelude.{◌≡◌, ◌⊎◌, ℕ, Bool, true, false, List, [], ◌∷◌, length, replicate, if◌then◌else◌}
+use Rattle.std.specs.List.{flat_map, range_with_len}
+use Rattle.std.specs.Str.{bytes_eq}
+use Rattle.line_memory.specs.Memory.{line_of}
 use Rattle.save_image.specs.Image.{Image}
+use Rattle.slot_store.specs.declared.restoring.RestoreError.{RestoreError}
+use Rattle.slot_store.specs.declared.restoring.RestoreError.TheVariants as errors
 use Rattle.slot_store.specs.declared.slots.Slot.{Slot}
 use Rattle.slot_store.specs.Slots.{IsCapacity, device_size}
-use Rattle.slot_store.specs.Outcomes.{restored, Found}
+use Rattle.slot_store.specs.Outcomes.{restored, verdict_of, Found}
+use Rattle.slot_store.specs.Told.{NamesOutcome}
+use Rattle.nv_script.specs.declared.answer.Answer.{Answer}
+use Rattle.nv_script.specs.declared.answer.Answer.TheVariants as answer
 
 -- a store of so many bytes holds images of so many lines
 abbrev pub IsStoreOf : ℕ → ℕ → Type 0
@@ -17,3 +25,30 @@ HasNoLines size = (lines : ℕ) → ¬ IsStoreOf size lines
 abbrev pub HoldsImage : List ℕ → Type 0
 HoldsImage bytes = (lines : ℕ) × (slot : Slot) × (image : Image)
     × IsStoreOf (length bytes) lines × (restored lines bytes ≡ Found slot image)
+
+-- a line is shown by its bytes, unless they are all zero
+abbrev pub content_of : ℕ → List ℕ → List Answer
+content_of line bytes = if bytes_eq bytes (replicate 64 0) then [] else answer.Content line bytes ∷ []
+
+-- what is shown of the first lines of a memory, so many
+abbrev pub contents : List (List ℕ) → ℕ → List Answer
+contents memory lines = flat_map (λ line. content_of line (line_of memory line)) (range_with_len 0 lines)
+
+-- The image that is restored from a store is told, and each of its lines that isn't all zero.
+pub record ShowsImage (bytes : List ℕ) (answers : List Answer) : Type 0 where
+  pub lines : ℕ
+  pub size : IsStoreOf (length bytes) lines
+  pub slot : Slot
+  pub image : Image
+  pub finds : restored lines bytes ≡ Found slot image
+  pub told : answers ≡ answer.Restored image.generation image.count (verdict_of image.arm image.count) ∷ contents image.memory lines
+
+-- why no image is restored from a store: no store has its size, or what is restored from one of so many lines
+abbrev pub IsRefusalOf : List ℕ → RestoreError → Type 0
+IsRefusalOf bytes error =
+    (HasNoLines (length bytes) × (error ≡ errors.WrongSize)) ⊎ ((lines : ℕ) × IsStoreOf (length bytes) lines × NamesOutcome error (restored lines bytes))
+
+-- this is told of a store: an image that it holds, or why there is none
+abbrev pub TellsStore : List ℕ → Bool → List Answer → Type 0
+TellsStore bytes true answers = ShowsImage bytes answers
+TellsStore bytes false answers = (error : RestoreError) × IsRefusalOf bytes error × (answers ≡ answer.RestoreRefused error ∷ [])

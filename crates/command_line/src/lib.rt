@@ -16,4 +16,4 @@ pub use command::{run, words_of};
 pub use fault::Fault;
 pub use files::profile_of;
 pub use maps::run_on_maps;
-pub use store::{STORE_BYTES, show_store};
+pub use store::{STORE_BYTES, answer_store, show_store};

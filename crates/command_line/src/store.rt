@@ -1,10 +1,13 @@
-// A store, the bytes of a device, shown as lines.
-ghost use Rattle.std.specs.Prelude.{◌↔◌, length, IfOk, IfSome, IsNone, IsTrue};
+// A store, the bytes of a device, and how it is shown.
+ghost use Rattle.std.specs.Prelude.{◌≡◌, ◌↔◌, ◌++◌, List, length, IfOk, IfSome, IsNone, IsTrue, OnOk};
+ghost use Rattle.nv_script.specs.declared.answer.Answer.{Answer};
 ghost use Rattle.slot_store.specs.Slots.{IsCapacity, device_size};
-ghost use Rattle.command_line.specs.Store.{IsStoreOf, HasNoLines, HoldsImage};
+ghost use Rattle.command_line.specs.Store.{IsStoreOf, HasNoLines, HoldsImage, TellsStore, content_of, contents};
 
+use line_memory::Line;
 use nv_script::{Answer, ScriptFault};
 use save_device::MemoryDevice;
+use script_runner::{Printer, Report};
 use slot_store::{RestoreError, device_size, restore};
 use std::alloc::Global;
 use std::io;
@@ -24,21 +27,46 @@ fn lines_of(size: usize) -> Option<usize>
     Some(lines)
 }
 
-fn say<W: io::Write>(writer: &mut W, answer: &Answer) -> Result<(), ScriptFault> {
-    writeln!(writer, "{answer}").map_err(|_| ScriptFault::Writer)
+// Reports a line, unless it is all zero.
+fn answer_content<R: Report>(line: u64, bytes: &Line, report: &mut R) -> Result<(), ScriptFault>
+    ensures { OnOk result
+        (R.answers report.new ≡ R.answers report.old ++ content_of line bytes.now) }
+{
+    if *bytes == [0; 64] {
+        return Ok(());
+    }
+    report.answer(Answer::Content {
+        line,
+        bytes: *bytes,
+    })
 }
 
-/// Writes what a restore of a store would answer, and each line of memory that isn't all zero; a size that no store has is
-/// `WrongSize`. Answers whether the store holds an image; false where the refusal was written. Want of memory is an `Err`.
-pub fn show_store<W: io::Write>(
+// Reports each line of a memory that isn't all zero.
+fn answer_contents<R: Report>(memory: &[Line], report: &mut R) -> Result<(), ScriptFault>
+    ensures { OnOk result (R.answers report.new
+        ≡ R.answers report.old ++ contents memory.now (length memory.now)) }
+{
+    for (line, bytes) in memory.iter().enumerate() {
+        answer_content(line as u64, bytes, report)?;
+    }
+    Ok(())
+}
+
+#[tactic(auto, using(crate::proofs::Stores::tells_refusal))]
+/// Reports what a restore of a store would answer, and each line of memory that isn't all zero; a size that no store has is
+/// `WrongSize`. Answers whether the store holds an image; false where the refusal was reported. Want of memory is an `Err`.
+pub fn answer_store<R: Report>(
     alloc: Global,
     store: Vec<u8>,
-    writer: &mut W,
+    report: &mut R,
 ) -> Result<bool, ScriptFault>
-    ensures { IfOk result (λ shown. IsTrue shown ↔ HoldsImage store.items) }
+    ensures holds { IfOk result (λ shown. IsTrue shown ↔ HoldsImage store.items) }
+    ensures tells { IfOk result (λ shown. (answers : List Answer)
+        × TellsStore store.items shown answers
+        × (R.answers report.new ≡ R.answers report.old ++ answers)) }
 {
     let Some(lines) = lines_of(store.len()) else {
-        say(writer, &Answer::RestoreRefused(RestoreError::WrongSize))?;
+        report.answer(Answer::RestoreRefused(RestoreError::WrongSize))?;
         return Ok(false);
     };
     let mut device = MemoryDevice::new(alloc, store)?;
@@ -47,24 +75,28 @@ pub fn show_store<W: io::Write>(
         // a device in memory doesn't fail
         Err(RestoreError::Device | RestoreError::Memory) => return Err(ScriptFault::Memory),
         Err(error) => {
-            say(writer, &Answer::RestoreRefused(error))?;
+            report.answer(Answer::RestoreRefused(error))?;
             return Ok(false);
         }
     };
-    let answer = Answer::Restored {
+    report.answer(Answer::Restored {
         generation: restored.head.newest.generation,
         count: restored.head.count,
         verdict: restored.head.verdict,
-    };
-    say(writer, &answer)?;
-    for (line, bytes) in restored.lines.iter().enumerate() {
-        if *bytes != [0; 64] {
-            let content = Answer::Content {
-                line: line as u64,
-                bytes: *bytes,
-            };
-            say(writer, &content)?;
-        }
-    }
+    })?;
+    answer_contents(&restored.lines, report)?;
     Ok(true)
+}
+
+/// Writes what `answer_store` reports, each answer as a line.
+pub fn show_store<W: io::Write>(
+    alloc: Global,
+    store: Vec<u8>,
+    writer: &mut W,
+) -> Result<bool, ScriptFault>
+    ensures holds { IfOk result (λ shown. IsTrue shown ↔ HoldsImage store.items) }
+    ensures tells { IfOk result (λ shown. (answers : List Answer)
+        × TellsStore store.items shown answers) }
+{
+    answer_store(alloc, store, &mut Printer::new(writer))
 }
