@@ -13,7 +13,7 @@ use Rattle.slot_store.specs.declared.restoring.Verdict.{Verdict}
 use Rattle.slot_store.specs.Told.{IsRestored, image_of_restored}
 use Rattle.nv_script.specs.declared.answer.Answer.{Answer}
 use Rattle.nv_script.specs.declared.answer.Answer.TheVariants as answer
-use Rattle.command_line.specs.Store.{IsStoreOf, IsRefusalOf, ShowsImage, TellsStore, content_of, contents}
+use Rattle.command_line.specs.Store.{IsStoreOf, IsRefusalOf, ShowsImage, TellsStore, content_of, shown_lines}
 
 -- a line that is all zero isn't shown, and any other is
 abbrev shown_if : ℕ → List ℕ → Bool → List Answer
@@ -25,22 +25,22 @@ zero_unshown line bytes zero = ap (shown_if line bytes) zero
 pub other_shown : (line : ℕ) (bytes : List ℕ) → bytes_eq bytes (replicate 64 0) ≡ false → content_of line bytes ≡ answer.Content line bytes ∷ []
 other_shown line bytes other = ap (shown_if line bytes) other
 
-contents_grow : (memory : List (List ℕ)) (line : ℕ) → contents memory (line + 1) ≡ contents memory line ++ content_of line (line_of memory line)
-contents_grow memory line =
+shown_lines_grow : (memory : List (List ℕ)) (line : ℕ) → shown_lines memory (line + 1) ≡ shown_lines memory line ++ content_of line (line_of memory line)
+shown_lines_grow memory line =
     let content : ℕ → List Answer = λ line. content_of line (line_of memory line) in
     let same : List Answer → List Answer = λ shown. shown in
     sym (flat_map-map same content (range_with_len 0 (line + 1)))
     ∙ ap (flat_map same) (map-range_with_len_more content 0 line line (omega arith))
     ∙ flat_map-append same (map content (range_with_len 0 line)) (content line ∷ [])
     ∙ ap (λ (front : List Answer). front ++ (content line ++ [])) (flat_map-map same content (range_with_len 0 line))
-    ∙ ap (λ (last : List Answer). contents memory line ++ last) (append-nil (content line))
+    ∙ ap (λ (last : List Answer). shown_lines memory line ++ last) (append-nil (content line))
 
-pub one_more : (memory : List (List ℕ)) (line : ℕ) (first before after : List Answer) → before ≡ first ++ contents memory line
-    → after ≡ before ++ content_of line (line_of memory line) → after ≡ first ++ contents memory (line + 1)
+pub one_more : (memory : List (List ℕ)) (line : ℕ) (first before after : List Answer) → before ≡ first ++ shown_lines memory line
+    → after ≡ before ++ content_of line (line_of memory line) → after ≡ first ++ shown_lines memory (line + 1)
 one_more memory line first before after so_far told =
     told ∙ ap (λ (front : List Answer). front ++ content_of line (line_of memory line)) so_far
-    ∙ append_assoc first (contents memory line) (content_of line (line_of memory line))
-    ∙ ap (λ (answers : List Answer). first ++ answers) (sym (contents_grow memory line))
+    ∙ append_assoc first (shown_lines memory line) (content_of line (line_of memory line))
+    ∙ ap (λ (answers : List Answer). first ++ answers) (sym (shown_lines_grow memory line))
 
 -- this was told of a store
 abbrev pub Tells : List ℕ → Bool → List Answer → List Answer → Type 0
@@ -55,24 +55,24 @@ abbrev head_told : Restored → Answer
 head_told it = answer.Restored it.head.newest.generation it.head.count it.head.verdict
 
 image_shown : (bytes : List ℕ) (lines : ℕ) (it : Restored) → IsStoreOf (length bytes) lines → IsRestored it lines bytes
-    → ShowsImage bytes (head_told it ∷ contents it.lines.items lines)
+    → ShowsImage bytes (head_told it ∷ shown_lines it.lines.items lines)
 image_shown bytes lines it size found = record {
   lines = lines;
   size = size;
   slot = it.head.newest.slot;
   image = image_of_restored it found.arm;
   finds = found.newest;
-  told = ap (λ (verdict : Verdict). answer.Restored it.head.newest.generation it.head.count verdict ∷ contents it.lines.items lines) found.judged;
+  told = ap (λ (verdict : Verdict). answer.Restored it.head.newest.generation it.head.count verdict ∷ shown_lines it.lines.items lines) found.judged;
 }
 
 pub shows_image : (bytes : List ℕ) (lines : ℕ) (it : Restored) (before first after : List Answer) → IsStoreOf (length bytes) lines
     → IsRestored it lines bytes → IsMemory lines it.lines.items → first ≡ before ++ head_told it ∷ []
-    → after ≡ first ++ contents it.lines.items (length it.lines.items) → Tells bytes true before after
+    → after ≡ first ++ shown_lines it.lines.items (length it.lines.items) → Tells bytes true before after
 shows_image bytes lines it before first after size found whole head rest =
     let memory = it.lines.items in (
-      head_told it ∷ contents memory lines,
+      head_told it ∷ shown_lines memory lines,
       image_shown bytes lines it size found,
-      rest ∙ ap (λ (front : List Answer). front ++ contents memory (length memory)) head
-          ∙ ap (λ (n : ℕ). before ++ head_told it ∷ [] ++ contents memory n) whole.size
-          ∙ append_assoc before (head_told it ∷ []) (contents memory lines),
+      rest ∙ ap (λ (front : List Answer). front ++ shown_lines memory (length memory)) head
+          ∙ ap (λ (n : ℕ). before ++ head_told it ∷ [] ++ shown_lines memory n) whole.size
+          ∙ append_assoc before (head_told it ∷ []) (shown_lines memory lines),
     )

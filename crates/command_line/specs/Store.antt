@@ -31,8 +31,8 @@ abbrev pub content_of : ℕ → List ℕ → List Answer
 content_of line bytes = if bytes_eq bytes (replicate 64 0) then [] else answer.Content line bytes ∷ []
 
 -- what is shown of the first lines of a memory, so many
-abbrev pub contents : List (List ℕ) → ℕ → List Answer
-contents memory lines = flat_map (λ line. content_of line (line_of memory line)) (range_with_len 0 lines)
+abbrev pub shown_lines : List (List ℕ) → ℕ → List Answer
+shown_lines memory lines = flat_map (λ line. content_of line (line_of memory line)) (range_with_len 0 lines)
 
 -- The image that is restored from a store is told, and each of its lines that isn't all zero.
 pub record ShowsImage (bytes : List ℕ) (answers : List Answer) : Type 0 where
@@ -41,7 +41,7 @@ pub record ShowsImage (bytes : List ℕ) (answers : List Answer) : Type 0 where
   pub slot : Slot
   pub image : Image
   pub finds : restored lines bytes ≡ Found slot image
-  pub told : answers ≡ answer.Restored image.generation image.count (verdict_of image.arm image.count) ∷ contents image.memory lines
+  pub told : answers ≡ answer.Restored image.generation image.count (verdict_of image.arm image.count) ∷ shown_lines image.memory lines
 
 -- why no image is restored from a store: no store has its size, or what is restored from one of so many lines
 abbrev pub IsRefusalOf : List ℕ → RestoreError → Type 0

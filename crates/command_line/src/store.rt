@@ -2,7 +2,7 @@
 ghost use Rattle.std.specs.Prelude.{◌≡◌, ◌↔◌, ◌++◌, List, length, IfOk, IfSome, IsNone, IsTrue, OnOk};
 ghost use Rattle.nv_script.specs.declared.answer.Answer.{Answer};
 ghost use Rattle.slot_store.specs.Slots.{IsCapacity, device_size};
-ghost use Rattle.command_line.specs.Store.{IsStoreOf, HasNoLines, HoldsImage, TellsStore, content_of, contents};
+ghost use Rattle.command_line.specs.Store.{IsStoreOf, HasNoLines, HoldsImage, TellsStore, content_of, shown_lines};
 
 use line_memory::Line;
 use nv_script::{Answer, ScriptFault};
@@ -44,7 +44,7 @@ fn answer_content<R: Report>(line: u64, bytes: &Line, report: &mut R) -> Result<
 // Reports each line of a memory that isn't all zero.
 fn answer_contents<R: Report>(memory: &[Line], report: &mut R) -> Result<(), ScriptFault>
     ensures { OnOk result (R.answers report.new
-        ≡ R.answers report.old ++ contents memory.now (length memory.now)) }
+        ≡ R.answers report.old ++ shown_lines memory.now (length memory.now)) }
 {
     for (line, bytes) in memory.iter().enumerate() {
         answer_content(line as u64, bytes, report)?;
