@@ -52,9 +52,9 @@ fn answer_contents<R: Report>(memory: &[Line], report: &mut R) -> Result<(), Scr
     Ok(())
 }
 
-#[tactic(auto, using(crate::proofs::Stores::tells_refusal))]
 /// Reports what a restore of a store would answer, and each line of memory that isn't all zero; a size that no store has is
 /// `WrongSize`. Answers whether the store holds an image; false where the refusal was reported. Want of memory is an `Err`.
+#[tactic(auto, using(crate::proofs::Stores::tells_refusal))]
 pub fn answer_store<R: Report>(
     alloc: Global,
     store: Vec<u8>,
