@@ -26,10 +26,10 @@ enum Case {
 }
 
 /// The module of two channels that is ready, with its device and its gauge.
-pub(crate) fn load_of<K: ChannelPort + Drop, R: Abort>(
+pub(crate) fn load_of<K: ChannelPort + Drop, D: SaveDevice + Drop, R: Abort>(
     rt: &R,
-    ready: Ready<K, MemoryDevice, Meter>,
-) -> Load<K, MemoryDevice> {
+    ready: Ready<K, D, Meter>,
+) -> Load<K, D> {
     let Ready {
         recorded,
         channels,

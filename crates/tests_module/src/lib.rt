@@ -13,4 +13,6 @@ mod load;
 #[cfg(test)]
 mod notices;
 #[cfg(test)]
+mod repeats;
+#[cfg(test)]
 mod runs;
