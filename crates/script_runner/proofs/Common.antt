@@ -9,7 +9,7 @@ pub use Rattle.module_core.specs.declared.module.Module.{Module}
 pub use Rattle.nv_script.specs.declared.answer.Answer.{Answer}
 pub use Rattle.nv_script.specs.declared.line.ScriptLine.{ScriptLine}
 pub use Rattle.nv_session.specs.Coming.{ComesTo, IsOneEvent, Tale}
-pub use Rattle.nv_session.specs.Living.{GoesOnAlone, GoesOnBy, IsWork, LivesOn, RunsWith, SessionAt, fuse_state, session_at, set_to}
+pub use Rattle.nv_session.specs.Living.{GoesOnAlone, GoesOnBy, IsWork, LivesOn, RunsWith, SessionAt, device_state, session_at, set_to}
 pub use Rattle.nv_session.specs.Sessions.{line_count_in, moment_in}
 pub use Rattle.script_runner.specs.Keeping.{AnswersLine, AnswersPart, AnswersTruly, AnswersTurns, AnswersWhole, Bears, BearsOut, GoesThrough, IsKeptBy, TellsTruly}
 pub use Rattle.script_runner.specs.Ledger.{IsOfLine, IsTrueBy, IsTrueOf, Ledger, accepted_by, at_rest, blank, first_of, grown, known_behind, memory_by, told_by}

@@ -58,6 +58,12 @@ module _ {K : Type 0} (L : Ghosts K) where
       (λ it m runs stands. still (line.Fuse calls) (answer.Fuse calls) it m old new runs stands refl (omega arith) (λ lines ledger kept. tt) same same_device)
       (stays_quiet L (line.Fuse calls) (answer.Fuse calls) old new (λ none. (same ∙ none, same_device)) refl (λ none. refl) (λ lines ledger. tt))
 
+  pub one_fault_truly : (lines call : ℕ) (old new : SessionAt L) → new.life ≡ old.life → new.device ≡ old.device → AnswersTruly L lines (line.OneFault call) (answer.OneFault call) old new
+  one_fault_truly lines call old new same same_device =
+      goes_truly L lines (line.OneFault call) (answer.OneFault call) old new refl (λ known. refl)
+      (λ it m runs stands. still (line.OneFault call) (answer.OneFault call) it m old new runs stands refl (omega arith) (λ lines ledger kept. tt) same same_device)
+      (stays_quiet L (line.OneFault call) (answer.OneFault call) old new (λ none. (same ∙ none, same_device)) refl (λ none. refl) (λ lines ledger. tt))
+
   -- how many writes are persistent, as a session tells it
   abbrev mark_of : Option (Module K L) → ℕ
   mark_of life = unwrap_or (option_map (λ it. it.persisted) life) 0

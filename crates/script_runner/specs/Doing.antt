@@ -36,7 +36,7 @@ use Rattle.nv_session.specs.declared.turns.LineSeen.{LineSeen}
 use Rattle.nv_session.specs.declared.wires.Wires as wires
 use Rattle.nv_session.specs.Coming.{IsOneEvent}
 use Rattle.nv_session.specs.Faults.{CountsFault}
-use Rattle.nv_session.specs.Living.{GoesOnBy, IsWork, RunsWith, SessionAt, fuse_state, read_refusal_at_rest, set_to, write_refusal_at_rest}
+use Rattle.nv_session.specs.Living.{GoesOnBy, IsWork, RunsWith, SessionAt, device_state, innermost, read_refusal_at_rest, set_to, write_refusal_at_rest}
 use Rattle.nv_session.specs.ReadTurns.{ReadsLine}
 use Rattle.nv_session.specs.Restoring.{Revives}
 use Rattle.nv_session.specs.SaveTurns.{MakesSave}
@@ -108,8 +108,8 @@ module _ {K A : Type 0} {L : Ghosts K} {W : wires.Ghosts A K} where
   -- a life begins on a store of zero lines, over the profile's map; or it is told that none does, and a call of the device failed
   abbrev pub Formats : Answer → Session K A L W → Session K A L W → Type 0
   Formats answer.Formatted old new =
-      RunsWith L (setup_over old old.profile.map) (λ life. ModuleStands L life (fuse_state new.device) (opened_with first_head (first_image (line_count_in old)))) new.life
-  Formats answer.FormatFault old new = (new.life ≡ None) × CountsFault true (fuse_state old.device) (fuse_state new.device)
+      RunsWith L (setup_over old old.profile.map) (λ life. ModuleStands L life (device_state new.device) (opened_with first_head (first_image (line_count_in old)))) new.life
+  Formats answer.FormatFault old new = (new.life ≡ None) × CountsFault true (device_state old.device) (device_state new.device)
   Formats given old new = ⊥
 
   -- A stop leaves what the pick says of the device, and a life begins over the map with the newest image that is left; or none
@@ -117,11 +117,11 @@ module _ {K A : Type 0} {L : Ghosts K} {W : wires.Ghosts A K} where
   pub record Restores (pick : Pick) (map : Interleaving) (given : Answer) (old new : Session K A L W) : Type 0 where
     pub result : Result Head RestoreError
     pub told : given ≡ restore_told result
-    pub picked : IsPicked pick old.device.device (state_of new.device.device).bytes
-    pub revives : IfOk result (λ found. RunsWith L (setup_over old map) (λ life. Revives L (restored_in new) found life (fuse_state new.device)) new.life)
+    pub picked : IsPicked pick (innermost old.device) (state_of (innermost new.device)).bytes
+    pub revives : IfOk result (λ found. RunsWith L (setup_over old map) (λ life. Revives L (restored_in new) found life (device_state new.device)) new.life)
     pub refused : IfErr result (λ error. Refuses error (restored_in new))
     pub none : IfErr result (λ error. new.life ≡ None)
-    pub faults : CountsFault (is_fault result) (fuse_state old.device) (fuse_state new.device)
+    pub faults : CountsFault (is_fault result) (device_state old.device) (device_state new.device)
 
   -- from now on so many units can be paid on backup, and the gauge shows what it did
   pub record Lies (units : ℕ) (given : Answer) (old new : Session K A L W) : Type 0 where
@@ -134,8 +134,18 @@ module _ {K A : Type 0} {L : Ghosts K} {W : wires.Ghosts A K} where
   -- from now on the device passes so many calls, or all
   pub record Fuses (calls : Option ℕ) (given : Answer) (old new : Session K A L W) : Type 0 where
     pub told : given ≡ answer.Fuse calls
-    pub passes : new.device.left ≡ unwrap_or calls (2 ^ 64 - 1)
-    pub device : fuse_state new.device ≡ fuse_state old.device
+    pub passes : new.device.device.left ≡ unwrap_or calls (2 ^ 64 - 1)
+    pub fault : new.device.before ≡ old.device.before
+    pub device : device_state new.device ≡ device_state old.device
+    pub gauge : new.gauge ≡ old.gauge
+    pub life : new.life ≡ old.life
+
+  -- from now on the device's call with this number, the next one being the first, fails alone
+  pub record FailsOne (call : ℕ) (given : Answer) (old new : Session K A L W) : Type 0 where
+    pub told : given ≡ answer.OneFault call
+    pub fault : new.device.before ≡ Some (call - 1)
+    pub within : new.device.device ≡ old.device.device
+    pub device : device_state new.device ≡ device_state old.device
     pub gauge : new.gauge ≡ old.gauge
     pub life : new.life ≡ old.life
 
@@ -151,6 +161,7 @@ module _ {K A : Type 0} {L : Ghosts K} {W : wires.Ghosts A K} where
   Does (line.Sense level) given old new = GoesOnBehind (line.Sense level) given old new × TellsMode given new
   Does (line.Lie units) given old new = Lies units given old new
   Does (line.Fuse calls) given old new = Fuses calls given old new
+  Does (line.OneFault call) given old new = FailsOne call given old new
   Does line.Mark given old new = Marks given old new
   Does asked given old new = GoesOnBehind asked given old new
 

@@ -103,6 +103,7 @@ IsOfLine line.Step (answer.SaveRefused refusal) = Unit {0}
 IsOfLine line.Lose (answer.Lost loss) = Unit {0}
 IsOfLine (line.Lie units) (answer.Lie which) = which ≡ units
 IsOfLine (line.Fuse calls) (answer.Fuse which) = which ≡ calls
+IsOfLine (line.OneFault call) (answer.OneFault which) = which ≡ call
 IsOfLine (line.Restore pick map) (answer.Restored generation count verdict) = Unit {0}
 IsOfLine (line.Restore pick map) (answer.RestoreRefused error) = Unit {0}
 IsOfLine line.Mark (answer.Mark mark) = Unit {0}

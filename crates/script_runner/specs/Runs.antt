@@ -1,5 +1,5 @@
 -- What a session does at the lines of a script, with answers that are true of it.
-use Rattle.std.specs.Prelude.{◌≡◌, ℕ, ◌-◌, ◌^◌, List, None, replicate}
+use Rattle.std.specs.Prelude.{◌≡◌, ℕ, List, None, replicate}
 use Rattle.ddr4_timing.specs.Limits.{lines_of}
 use Rattle.save_device.specs.Memory.{state_of}
 use Rattle.save_device.specs.declared.memory.MemoryDevice.{MemoryDevice}
@@ -9,6 +9,7 @@ use Rattle.channel_port.specs.declared.port.ChannelPort.{Ghosts}
 use Rattle.nv_profile.specs.declared.profile.Profile.{Profile}
 use Rattle.nv_session.specs.declared.session.Session.{Session}
 use Rattle.nv_session.specs.declared.wires.Wires as wires
+use Rattle.nv_session.specs.Living.{PassesAll, innermost}
 use Rattle.nv_session.specs.Sessions.{moment_in}
 use Rattle.nv_script.specs.declared.line.ScriptLine.{ScriptLine}
 use Rattle.nv_script.specs.declared.answer.Answer.{Answer}
@@ -41,8 +42,8 @@ module _ {K A : Type 0} {L : Ghosts K} {W : wires.Ghosts A K} where
   pub record IsNew (profile : Profile) (session : Session K A L W) : Type 0 where
     pub profile_is : session.profile ≡ profile
     pub life : session.life ≡ None
-    pub bytes : (state_of session.device.device).bytes ≡ replicate (device_size (lines_of profile.checked.geometry)) 0
-    pub passes : session.device.left ≡ 2 ^ 64 - 1
+    pub bytes : (state_of (innermost session.device)).bytes ≡ replicate (device_size (lines_of profile.checked.geometry)) 0
+    pub passes : PassesAll session.device
     pub level : level_of session.gauge ≡ 0
     pub leak : leak_of session.gauge ≡ 0
 
@@ -53,4 +54,4 @@ pub record IsRun {K A : Type 0} (L : Ghosts K) (W : wires.Ghosts A K) (profile :
   pub last : Session K A L W
   pub begins : IsNew profile first
   pub done : AreAllDone (lines_of profile.checked.geometry) asked before after first last
-  pub device_is : device ≡ last.device.device
+  pub device_is : device ≡ innermost last.device

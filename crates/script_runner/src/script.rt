@@ -137,6 +137,10 @@ where
             session.fuse(calls);
             Answer::Fuse { calls }
         }
+        ScriptLine::OneFault { call } => {
+            session.fail_one(call.saturating_sub(1));
+            Answer::OneFault { call }
+        }
         ScriptLine::Mark => Answer::Mark {
             mark: session.mark(),
         },

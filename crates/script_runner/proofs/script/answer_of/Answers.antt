@@ -1,16 +1,18 @@
-use Rattle.std.proofs.Common.{◌∙◌, ℕ, Option, refl, ap, sym, subst}
+use Rattle.std.proofs.Common.{◌∙◌, ℕ, Option, Some, refl, ap, sym, subst}
 use Rattle.std.specs.Option.{option_map}
-use Rattle.script_runner.proofs.Common.{Gauge, GoesOnBy, IsOneEvent, IsWork, SessionAt, Setup, Tale, fuse_state}
+use Rattle.script_runner.proofs.Common.{Gauge, GoesOnBy, IsOneEvent, IsWork, SessionAt, Setup, Tale, device_state}
 use Rattle.script_runner.proofs.Common.{line_count_in, moment_in, session_at, set_to}
 use Rattle.save_device.specs.Memory.{state_of, IsPicked}
 use Rattle.save_device.specs.declared.fuse.Fuse.{Fuse}
 use Rattle.save_device.specs.declared.memory.MemoryDevice.{MemoryDevice}
+use Rattle.save_device.specs.declared.one_fault.OneFault.{OneFault}
 use Rattle.save_device.specs.declared.memory.Pick.{Pick}
 use Rattle.energy_budget.specs.Meter.{meter_gauge}
 use Rattle.arm_state.specs.declared.loss.Loss.{Loss}
 use Rattle.arm_state.specs.declared.mode.Mode.{Mode}
 use Rattle.nv_machine.specs.declared.events.Event.TheVariants as events
 use Rattle.nv_machine.specs.declared.events.Reply.TheVariants as replies
+use Rattle.nv_session.specs.Living.{innermost}
 use Rattle.nv_session.specs.ReadTurns.{ReadsLine}
 use Rattle.nv_session.specs.SaveTurns.{MakesSave}
 use Rattle.nv_session.specs.Turns.{GoesOnSaving, MakesOneStep, SeesLine}
@@ -20,7 +22,7 @@ use Rattle.nv_script.specs.declared.answer.Answer.TheVariants as answer
 use Rattle.script_runner.specs.Doing.{AreEventsOf}
 use Rattle.script_runner.specs.Replies.{write_told, read_told, work_told, step_told, save_told, arm_told, disarm_told, restore_told}
 use Rattle.script_runner.proofs.Answering.{write_truly, read_truly, work_truly, sense_truly, arm_truly, disarm_truly, save_truly, step_truly, lose_truly, regauged}
-use Rattle.script_runner.proofs.Telling.{truly_as, lie_truly, fuse_truly, mark_truly, format_truly, fault_truly, restored_truly}
+use Rattle.script_runner.proofs.Telling.{truly_as, lie_truly, fuse_truly, one_fault_truly, mark_truly, format_truly, fault_truly, restored_truly}
 use Rattle.script_runner.proofs.Alone.{goes_alone}
 use Rattle.script_runner.proofs.Doing.{does_as, none_begins}
 use Rattle.script_runner.proofs.script.answer_of.Goals as goal
@@ -87,12 +89,17 @@ returns-in-Lose-clause-truly g c =
 pub returns-in-Lie-clause-truly : goal.returns-in-Lie-clause-truly
 returns-in-Lie-clause-truly g c =
     let L = g.K.ChannelPort in let it = c.args.session.now in let lines = line_count_in it in let old = moment_in it in
-    truly_as L c.in-Lie.is refl (lie_truly L lines c.in-Lie.units old (moment_in c.lie.new.self) c.lie.ensures.life (ap fuse_state c.lie.ensures.device))
+    truly_as L c.in-Lie.is refl (lie_truly L lines c.in-Lie.units old (moment_in c.lie.new.self) c.lie.ensures.life (ap device_state c.lie.ensures.device))
 
 pub returns-in-Fuse-clause-truly : goal.returns-in-Fuse-clause-truly
 returns-in-Fuse-clause-truly g c =
     let L = g.K.ChannelPort in let it = c.args.session.now in let lines = line_count_in it in let old = moment_in it in
     truly_as L c.in-Fuse.is refl (fuse_truly L lines c.in-Fuse.calls old (moment_in c.fuse.new.self) c.fuse.ensures.life c.fuse.ensures.state)
+
+pub returns-in-OneFault-clause-truly : goal.returns-in-OneFault-clause-truly
+returns-in-OneFault-clause-truly g c =
+    let L = g.K.ChannelPort in let it = c.args.session.now in let lines = line_count_in it in let old = moment_in it in
+    truly_as L c.in-OneFault.is refl (one_fault_truly L lines c.in-OneFault.call old (moment_in c.fail_one.new.self) c.fail_one.ensures.life c.fail_one.ensures.state)
 
 pub returns-in-Mark-clause-truly : goal.returns-in-Mark-clause-truly
 returns-in-Mark-clause-truly g c =
@@ -106,9 +113,9 @@ returns-in-Sense-clause-truly g c =
     let set : Gauge = set_to level (meter_gauge it.gauge) in
     truly_as L c.in-Sense.is refl
     (regauged L lines (line.Sense level) (answer.Level told.reading told.mode) (moment_in it) (moment_in made) set
-    (sense_truly L lines level told.reading told.mode (session_at it.life (fuse_state it.device) set) (moment_in made)
-    (subst (λ (d : Fuse MemoryDevice). GoesOnBy L (λ setup. IsOneEvent events.Sense (replies.Sense told.reading)) (session_at it.life (fuse_state it.device) set) (session_at made.life (fuse_state d) (meter_gauge made.gauge)))
-    (sym ensures.device) (ensures.comes (fuse_state it.device)))))
+    (sense_truly L lines level told.reading told.mode (session_at it.life (device_state it.device) set) (moment_in made)
+    (subst (λ (d : OneFault (Fuse MemoryDevice)). GoesOnBy L (λ setup. IsOneEvent events.Sense (replies.Sense told.reading)) (session_at it.life (device_state it.device) set) (session_at made.life (device_state d) (meter_gauge made.gauge)))
+    (sym ensures.device) (ensures.comes (device_state it.device)))))
 
 pub returns-in-Restore-clause-truly : goal.returns-in-Restore-clause-truly
 returns-in-Restore-clause-truly g c =
@@ -208,9 +215,9 @@ returns-in-Sense-clause-does g c =
     let L = g.K.ChannelPort in let it = c.args.session.now in let level = c.in-Sense.level in
     let made = c.sense-reading.new.self in let told = c.sense-reading.result in let ensures = c.sense-reading.ensures in
     let Told : Setup → Tale = λ setup. IsOneEvent events.Sense (replies.Sense told.reading) in
-    let set : SessionAt L = session_at it.life (fuse_state it.device) (set_to level (meter_gauge it.gauge)) in
+    let set : SessionAt L = session_at it.life (device_state it.device) (set_to level (meter_gauge it.gauge)) in
     let goes : GoesOnBy L Told set (moment_in made) =
-    subst (λ (d : Fuse MemoryDevice). GoesOnBy L Told set (session_at made.life (fuse_state d) (meter_gauge made.gauge))) (sym ensures.device) (ensures.comes (fuse_state it.device)) in
+    subst (λ (d : OneFault (Fuse MemoryDevice)). GoesOnBy L Told set (session_at made.life (device_state d) (meter_gauge made.gauge))) (sym ensures.device) (ensures.comes (device_state it.device)) in
     does_as L {said = answer.Level told.reading told.mode} it made c.in-Sense.is refl (
       record {
         comes = goes_retold L Told (AreEventsOf (line.Sense level) (answer.Level told.reading told.mode)) set (moment_in made)
@@ -237,7 +244,7 @@ returns-in-Restore-clause-does g c =
       record {
         result = c.restore.result;
         told = refl;
-        picked = subst (λ (pick : Pick). IsPicked pick it.device.device (state_of made.device.device).bytes) c.unwrap_or.ensures ensures.picked;
+        picked = subst (λ (pick : Pick). IsPicked pick (innermost it.device) (state_of (innermost made.device)).bytes) c.unwrap_or.ensures ensures.picked;
         revives = ensures.revives;
         refused = ensures.refused;
         none = ensures.none;
@@ -256,7 +263,20 @@ pub returns-in-Fuse-clause-does : goal.returns-in-Fuse-clause-does
 returns-in-Fuse-clause-does g c =
     let ensures = c.fuse.ensures in
     does_as g.K.ChannelPort c.args.session.now c.fuse.new.self c.in-Fuse.is refl
-    (record { told = refl; passes = ensures.passes; device = ensures.state; gauge = ensures.gauge; life = ensures.life })
+    (record { told = refl; passes = ensures.passes; fault = ensures.fault; device = ensures.state; gauge = ensures.gauge; life = ensures.life })
+
+pub returns-in-OneFault-clause-does : goal.returns-in-OneFault-clause-does
+returns-in-OneFault-clause-does g c =
+    let ensures = c.fail_one.ensures in
+    does_as g.K.ChannelPort c.args.session.now c.fail_one.new.self c.in-OneFault.is refl
+    (record {
+      told = refl;
+      fault = ensures.fault ∙ ap (λ (n : ℕ). Some n) c.saturating_sub.ensures;
+      within = ensures.device;
+      device = ensures.state;
+      gauge = ensures.gauge;
+      life = ensures.life;
+    })
 
 pub returns-in-Mark-clause-does : goal.returns-in-Mark-clause-does
 returns-in-Mark-clause-does g c =
