@@ -144,6 +144,7 @@ fn of_gauges_and_fuses(rt: HostRuntime) {
     is_shown(&rt, Answer::Lie { units: 2000 }, "lie 2000");
     is_shown(&rt, Answer::Fuse { calls: Some(7) }, "fuse 7");
     is_shown(&rt, Answer::Fuse { calls: None }, "fuse off");
+    is_shown(&rt, Answer::OneFault { call: 8 }, "onefault 8");
     is_shown(&rt, Answer::FormatFault, "fault format");
     is_shown(&rt, Answer::ArmFault, "fault arm");
     is_shown(&rt, Answer::SaveFault, "fault save");

@@ -67,6 +67,12 @@ fn each_verb(rt: HostRuntime) {
     is_just(&rt, "lie 2000", ScriptLine::Lie { units: 2000 });
     is_just(&rt, "fuse 0", ScriptLine::Fuse { calls: Some(0) });
     is_just(&rt, "fuse off", ScriptLine::Fuse { calls: None });
+    is_just(&rt, "onefault 1", ScriptLine::OneFault { call: 1 });
+    is_just(
+        &rt,
+        "onefault 18446744073709551615",
+        ScriptLine::OneFault { call: u64::MAX },
+    );
     is_just(&rt, "mark", ScriptLine::Mark);
 }
 
@@ -128,7 +134,7 @@ fn numbers_of_the_lines(rt: HostRuntime) {
     assert!(rt; is_so, "numbers of the lines that aren't skipped");
 }
 
-const BAD_LINES: [&str; 44] = [
+const BAD_LINES: [&str; 51] = [
     "wirte 0 11",
     "Format",
     "format now",
@@ -172,7 +178,14 @@ const BAD_LINES: [&str; 44] = [
     "restore old row",
     "restore old xor xor",
     "mark 1",
-    "onefault 1",
+    "onefault",
+    "onefault 0",
+    "onefault 00",
+    "onefault -1",
+    "onefault 1 2",
+    "onefault off",
+    "onefault 18446744073709551616",
+    "one fault 1",
 ];
 
 #[test]

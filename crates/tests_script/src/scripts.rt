@@ -20,7 +20,10 @@ const AT_REST: [(&str, &str); 6] = [
         "work 0 1/save/step/mark",
         "0 idle/refused save 5 Closed/refused save 5 Closed/mark 0",
     ),
-    ("lie 3/fuse 2/fuse off", "lie 3/fuse 2/fuse off"),
+    (
+        "lie 3/fuse 2/fuse off/onefault 1",
+        "lie 3/fuse 2/fuse off/onefault 1",
+    ),
     (
         "restore/restore new/restore torn00 xor",
         "refused restore 1 NoImage/refused restore 1 NoImage/refused restore 1 NoImage",
