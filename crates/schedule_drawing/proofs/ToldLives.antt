@@ -1,5 +1,5 @@
 -- Lives of a script that are drawn one behind another.
-use Rattle.std.proofs.Common.{◌≡◌, ◌⊎◌, inl, inr, ℕ, zero, suc, ◌+◌, ◌-◌, ◌<◌, Bool, true, false, List, [], ◌∷◌, ◌++◌, append_assoc, append-nil, length, take, drop, map, arith, refl, sym, ap, subst, ◌∙◌}
+use Rattle.std.proofs.Common.{◌≡◌, ◌⊎◌, inl, inr, ℕ, zero, suc, ◌+◌, ◌-◌, ◌<◌, false, List, [], ◌∷◌, ◌++◌, append_assoc, append-nil, length, take, drop, arith, refl, sym, ap, subst, ◌∙◌}
 use Rattle.std.specs.Prelude.{filter_map, All}
 use Rattle.std.specs.List.{flat_map}
 use Rattle.std.proofs.lemmas.Grind.{flat_map-append}
@@ -8,7 +8,6 @@ use Rattle.std.proofs.lemmas.List.Elements.{All-append, All-cons, All-nil}
 use Rattle.ddr4_timing.specs.declared.timing.Timing.{Timing}
 use Rattle.nv_script.specs.declared.answer.Answer.{Answer}
 use Rattle.schedule_drawing.specs.declared.schedule.Schedule.{Schedule}
-use Rattle.schedule_drawing.specs.declared.shapes.Shape.{Shape}
 use Rattle.schedule_drawing.specs.Schedules.{AddsLife}
 use Rattle.schedule_drawing.specs.Telling.{IsOneLife, StartsLife, TellsAll, ToldLife, begins_life, entry_told, life_drawn}
 

@@ -1,7 +1,6 @@
 -- The schedule that the answers of a script tell.
 use Rattle.std.specs.Prelude.{◌≡◌, ℕ, Bool, true, false, List, [], ◌∷◌, map, drop, filter_map, All, Option, Some, None}
 use Rattle.std.specs.List.{flat_map}
-use Rattle.ddr4_timing.specs.declared.command.Stamped.{Stamped}
 use Rattle.ddr4_timing.specs.declared.timing.Timing.{Timing}
 use Rattle.command_trace.specs.declared.entry.Entry.{Entry}
 use Rattle.nv_script.specs.declared.answer.Answer.{Answer}
