@@ -76,10 +76,10 @@ module _ {K : Type 0} (L : Ghosts K) where
       let all = further asked_begin told_begun events.SaveStep (replies.SaveStep reply) es rs m n l told (step_keeps (setup_of L old.it) reply from to happens.step) in
       record { goes_on = record { same = all.same; last = (es, rs, refl, refl); ends = step_ends (setup_of L old.it) reply from to stands.guarded happens.step }; are = inr (all.events_are, all.replies_are) })
 
-  pub one_step : (reply : StepReply) (old new : Assembly L) → Answers L events.SaveStep (replies.SaveStep reply) old new → Comes L (MakesOneStep (Ok reply)) old new
-  one_step reply old new answers =
+  pub one_step : (reply : StepReply) (old new : Assembly L) → (reply ≡ step.NoSave → ⊥) → Answers L events.SaveStep (replies.SaveStep reply) old new → Comes L (MakesOneStep (Ok reply)) old new
+  one_step reply old new ran answers =
       comes_further L (SoFar [] []) (MakesOneStep (Ok reply)) events.SaveStep (replies.SaveStep reply) old old new refl (so_far old) answers
       (λ es rs m n l stands told happens.
       let from : World = world_of L old n in let to : World = world_of L new l in
       let all = further [] [] events.SaveStep (replies.SaveStep reply) es rs m n l told (step_keeps (setup_of L old.it) reply from to happens.step) in
-      record { goes_on = record { same = all.same; last = (es, rs, refl, refl); ends = step_ends (setup_of L old.it) reply from to stands.guarded happens.step }; are = inl (all.events_are, all.replies_are) })
+      record { goes_on = record { same = all.same; last = (es, rs, refl, refl); ends = step_ends (setup_of L old.it) reply from to stands.guarded happens.step }; are = inl (ran, all.events_are, all.replies_are) })

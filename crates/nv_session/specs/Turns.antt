@@ -1,5 +1,5 @@
 -- What is told of a read that is awaited, and of the steps of a save.
-use Rattle.std.specs.Prelude.{◌≡◌, ◌⊎◌, ℕ, List, [], ◌∷◌, ◌++◌, All, false, Result, Ok, Err, Some, None}
+use Rattle.std.specs.Prelude.{◌≡◌, ◌≢◌, ◌⊎◌, ℕ, List, [], ◌∷◌, ◌++◌, All, false, Result, Ok, Err, Some, None}
 use Rattle.slot_store.specs.Rest.{only}
 use Rattle.arm_state.specs.declared.refusal.ArmRefusal.{ArmRefusal}
 use Rattle.arm_state.specs.Modes.{is_armed}
@@ -48,7 +48,7 @@ SeesLine setup line (Err refusal) events replies old new = (read_refusal setup o
 -- a step of the save that runs, or the first one of a save that is begun
 abbrev pub AreOfStep : Result StepReply ArmRefusal → List Event → List Reply → Type 0
 AreOfStep (Ok reply) asked told =
-    ((asked ≡ events.SaveStep ∷ []) × (told ≡ replies.SaveStep reply ∷ []))
+    ((reply ≢ step.NoSave) × (asked ≡ events.SaveStep ∷ []) × (told ≡ replies.SaveStep reply ∷ []))
     ⊎ ((asked ≡ events.SaveStep ∷ events.SaveBegin ∷ events.SaveStep ∷ []) × (told ≡ replies.SaveStep step.NoSave ∷ replies.SaveBegin (Ok tt) ∷ replies.SaveStep reply ∷ []))
 AreOfStep (Err refusal) asked told = (asked ≡ events.SaveStep ∷ events.SaveBegin ∷ []) × (told ≡ replies.SaveStep step.NoSave ∷ replies.SaveBegin (Err refusal) ∷ [])
 

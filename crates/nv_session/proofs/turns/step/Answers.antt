@@ -33,7 +33,7 @@ returns-in_default g c =
     let L = g.K.ChannelPort in let S = g.D.SaveDevice in let E = g.E.Energy in
     record {
       comes = one_step L c.save_step.result (assembly c.args.running.now (S.state c.args.device.now) (E.gauge c.args.energy.now))
-          (assembly c.save_step.new.self (S.state c.save_step.new.device) (E.gauge c.save_step.new.energy)) c.save_step.ensures.answers;
+          (assembly c.save_step.new.self (S.state c.save_step.new.device) (E.gauge c.save_step.new.energy)) c.in_default.not-NoSave c.save_step.ensures.answers;
       setup = c.save_step.ensures.setup;
       size = c.save_step.ensures.size;
     }
