@@ -54,6 +54,8 @@ impl<K: ChannelPort + Drop, A: Wires<K> + Drop> Session<K, A> {
         ensures life { IfOk result (λ session. session.life ≡ None) }
         ensures device { IfOk result (λ session. (state_of (innermost session.device)).bytes
             ≡ replicate (device_size (lines_of profile.now.checked.geometry)) 0) }
+        ensures settled { IfOk result
+            (λ session. IsSettled (state_of (innermost session.device))) }
         ensures passes { IfOk result (λ session. PassesAll session.device) }
         ensures gauge { IfOk result (λ session. level_of session.gauge ≡ 0) }
         ensures leak { IfOk result (λ session. leak_of session.gauge ≡ 0) }
