@@ -8,7 +8,10 @@ use Rattle.nv_session.proofs.Common.{none_answered_on, runs_on, session_at, set_
 use Rattle.save_image.specs.Image.{Image}
 use Rattle.energy_budget.specs.Gauge.{Gauge}
 use Rattle.energy_budget.specs.Charging.{RisesTo}
-use Rattle.nv_session.specs.SessionLives.{HasLived, HasLivedOn}
+use Rattle.nv_machine.proofs.SurvivedLives.{survived}
+use Rattle.module_core.proofs.ModulesLive.{lives_anywhere}
+use Rattle.module_core.specs.ModuleLives.{EndsAmongEvents, module_life}
+use Rattle.nv_session.specs.SessionLives.{HasLived, HasLivedOn, SurvivesAnyStop}
 
 pub set_rises : (level : ℕ) (gauge : Gauge) → RisesTo gauge (set_to level gauge)
 set_rises level gauge = record { rises = by_test (nat_lt level gauge.level) refl; counted = omega arith; same_leak = refl; unasked = refl }
@@ -55,3 +58,10 @@ module _ {K : Type 0} (L : Ghosts K) where
       runs = lived.runs;
       answered = none_answered_on L found image events replies first (assembly lived.it at.device at.gauge) (set_to level at.gauge) (set_rises level at.gauge) lived.answered;
     }
+
+    -- and a stop at any of its moments ends a life of the headline
+    pub survives : (at : SessionAt L) → SurvivesAnyStop L found image events replies first at
+    survives at lived bytes left =
+        let now : Assembly L = assembly lived.it at.device at.gauge in
+        let ends : EndsAmongEvents L found image events replies first now bytes = lives_anywhere L found image events replies first now lived.answered bytes left in
+        record { ends = ends; survived = survived (module_life L found image ends.front ends.told first ends.last ends.unanswered bytes) [] ends.lived }

@@ -1,5 +1,5 @@
 -- The life of a session as one of the headline.
-use Rattle.std.specs.Prelude.{◌≡◌, List, ◌++◌, Some}
+use Rattle.std.specs.Prelude.{◌≡◌, ℕ, List, [], ◌++◌, Some}
 use Rattle.save_image.specs.Image.{Image}
 use Rattle.channel_port.specs.declared.port.ChannelPort.{Ghosts}
 use Rattle.nv_machine.specs.declared.events.Event.{Event}
@@ -8,7 +8,9 @@ use Rattle.nv_machine.specs.State.{Machine}
 use Rattle.module_core.specs.declared.module.Module.{Module}
 use Rattle.slot_store.specs.declared.head.Head.{Head}
 use Rattle.module_core.specs.Stands.{Assembly, assembly}
-use Rattle.module_core.specs.ModuleLives.{HasAnswered}
+use Rattle.nv_machine.specs.Lives.{moments_since, IsLeftAt}
+use Rattle.nv_machine.specs.Survival.{IsSurvived}
+use Rattle.module_core.specs.ModuleLives.{EndsAmongEvents, HasAnswered, module_life}
 use Rattle.nv_session.specs.Coming.{Tale}
 use Rattle.nv_session.specs.Living.{SessionAt}
 
@@ -27,3 +29,14 @@ module _ {K : Type 0} (L : Ghosts K) where
     pub after : Machine
     pub told : Told more others before after
     pub lived : HasLived found image (events ++ more) (replies ++ others) first at
+
+  -- A stop left these bytes at some moment since the life began, within a call too. It ended a life, which a restore survives.
+  pub record SurvivesStop (found : Head) (image : Image) (events : List Event) (replies : List Reply) (first now : Assembly L) (bytes : List ℕ) : Type 0 where
+    pub ends : EndsAmongEvents L found image events replies first now bytes
+    pub survived : IsSurvived (module_life L found image ends.front ends.told first ends.last ends.unanswered bytes) []
+
+  -- whatever a stop at one of these moments leaves
+  abbrev pub SurvivesAnyStop : Head → Image → List Event → List Reply → Assembly L → SessionAt L → Type 0
+  SurvivesAnyStop found image events replies first at =
+      (lived : HasLived found image events replies first at) (bytes : List ℕ) → IsLeftAt (moments_since first.device at.device) bytes
+      → SurvivesStop found image events replies first (assembly lived.it at.device at.gauge) bytes

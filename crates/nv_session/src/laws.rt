@@ -21,7 +21,7 @@ ghost use Rattle.nv_session.specs.declared.turns.LineSeen.{LineSeen};
 ghost use Rattle.nv_session.specs.Coming.{IsOneEvent};
 ghost use Rattle.nv_session.specs.declared.session.Session.{Session};
 ghost use Rattle.nv_session.specs.Living.{GoesOnBy, HasLife, IsWork, SessionAt, device_state, session_at, set_to};
-ghost use Rattle.nv_session.specs.SessionLives.{HasLived, HasLivedOn};
+ghost use Rattle.nv_session.specs.SessionLives.{HasLived, HasLivedOn, SurvivesAnyStop};
 ghost use Rattle.nv_session.specs.ReadTurns.{ReadsLine};
 ghost use Rattle.nv_session.specs.SaveTurns.{MakesSave};
 ghost use Rattle.nv_session.specs.Turns.{HasSaved, MakesOneStep};
@@ -113,4 +113,14 @@ pub fn sessions_keep_lives<K: ChannelPort, A: Wires<K>>()
     ensures { (session : Session K A K.ChannelPort A.Wires) (it : Module K K.ChannelPort)
         → session.life ≡ Some it
         → HasLife K.ChannelPort it (device_state session.device) (meter_gauge session.gauge) }
+{}
+
+/// **Stopped at any moment since its life began, within a call or a device write too, a session's restore is that of the theorem
+/// `survives_any_stop`**, both halves of it: the memory after a prefix of the accepted writes, told Complete one that holds every
+/// acknowledged write, and after an honest life one that holds them whatever is told. The life has the events that were answered
+/// by then, and the one within which the stop came.
+pub fn sessions_survive<K: ChannelPort>()
+    ensures { (found : Head) (image : Image) (events : List Event) (replies : List Reply)
+        (first : Assembly K.ChannelPort) (at : SessionAt K.ChannelPort)
+        → SurvivesAnyStop K.ChannelPort found image events replies first at }
 {}
