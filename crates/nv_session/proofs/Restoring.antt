@@ -2,7 +2,7 @@
 use Rattle.std.proofs.Common.{◌≡◌, ◌≢◌, ◌∙◌, ℕ, ◌≤◌, List, false, inl, inr, refl, sym, ap, subst, arith, Option, Some, None}
 use Rattle.std.proofs.Math.Logic.{∥∥₁_map, ∥∥₁_elim}
 use Rattle.std.proofs.lemmas.Grind.{merely}
-use Rattle.nv_session.proofs.Common.{Assembly, DeviceState, FindsPrefix, FindsPrefixOf, FindsSaved, Ghosts, GoesBackTo}
+use Rattle.nv_session.proofs.Common.{Assembly, DeviceState, FindsPrefix, FindsPrefixOf, FindsSaved, Ghosts, GoesBackTo, StopsWithin}
 use Rattle.nv_session.proofs.Common.{HasSaved, Head, IsLeftBy, IsLiving, IsSettled, IsShapeFor, KeepsPrefixOf}
 use Rattle.nv_session.proofs.Common.{LeavesOnly, Machine, MayLeave, Module, ModuleStands, Outcome, Profile, Revives}
 use Rattle.nv_session.proofs.Common.{RunsWith, SessionAt, Setup, TellsImage, TellsPrefix, assembly, lines_of}
@@ -55,6 +55,11 @@ tells_prefix m found image what slot tells is left =
 -- a stop of a settled device leaves its bytes
 settled_bytes : (device : DeviceState) (bytes : List ℕ) → IsSettled device → MayLeave (present device) bytes → bytes ≡ device.bytes
 settled_bytes device bytes settled left = same_rows device.bytes bytes (record { size = left.size; outside = λ place here. left.outside place (settled place) })
+
+-- a stop behind calls at which one leaves but the bytes of a settled device leaves these again
+pub left_again : (stopped new : DeviceState) → IsSettled stopped → LeavesOnly stopped new (MayLeave (present stopped)) → new.bytes ≡ stopped.bytes
+    → StopsWithin (λ bytes. bytes ≡ new.bytes) (present new)
+left_again stopped new settled within same bytes left = settled_bytes stopped bytes settled (last_within stopped new within bytes left) ∙ sym same
 
 -- no image was found
 abbrev IsNotFound : Outcome → Type 0

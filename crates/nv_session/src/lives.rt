@@ -2,7 +2,7 @@
 ghost use Rattle.std.specs.Prelude.{◌≡◌, ◌≢◌, ℕ, unwrap_or, None, Some, IfErr, IfOk, OnOk};
 ghost use Rattle.line_memory.specs.Memory.{IsMemory};
 ghost use Rattle.save_image.specs.Header.{Fits};
-ghost use Rattle.save_device.specs.Device.{DeviceState, LeavesOnly, MayLeave, present};
+ghost use Rattle.save_device.specs.Device.{DeviceState, LeavesOnly, MayLeave, StopsWithin, present};
 ghost use Rattle.save_device.specs.Memory.{state_of, IsPicked};
 ghost use Rattle.slot_store.specs.Formatted.{first_head};
 ghost use Rattle.slot_store.specs.Outcomes.{first_image};
@@ -162,7 +162,8 @@ impl<K: ChannelPort + Drop, A: Wires<K> + Drop> Session<K, A> {
     /// life on the newest image, over a map or the profile's: the memory after a prefix of the writes that the life before had
     /// accepted, and told Complete one that holds every write that was persistent. Where a life ran, nothing but a fault of the
     /// device or want of memory refuses it. A refused restore leaves no life, and the next one finds such a prefix too. The device
-    /// keeps the bytes that the stop left. `Device` comes only where a call of the device failed. It answers the newest image's head.
+    /// keeps the bytes that the stop left, and a stop right behind leaves the same. `Device` comes only where a call of the device
+    /// failed. It answers the newest image's head.
     pub fn restore(
         &mut self,
         alloc: Global,
@@ -185,6 +186,8 @@ impl<K: ChannelPort + Drop, A: Wires<K> + Drop> Session<K, A> {
         ensures keeps { IfErr result (λ error. KeepsPrefixOf K.ChannelPort (line_count_in self.old)
             (moment_in self.old) error (moment_in self.new)) }
         ensures none { IfErr result (λ error. self.new.life ≡ None) }
+        ensures again { StopsWithin (λ bytes. bytes ≡ (state_of (innermost self.new.device)).bytes)
+            (present (state_of (innermost self.new.device))) }
         ensures faults { CountsFault (is_fault result)
             (device_state self.old.device) (device_state self.new.device) }
         ensures lie { lie_of self.new.gauge ≡ None }

@@ -7,7 +7,7 @@ use Rattle.slot_store.specs.Told.{Refuses, IsFailure, is_fault}
 use Rattle.nv_session.specs.Sessions.{moment_in, restored_in, setup_over}
 use Rattle.nv_session.proofs.Beginning.{revives_again, same_restored, same_setup}
 use Rattle.nv_session.proofs.Faults.{counts_behind}
-use Rattle.nv_session.proofs.Restoring.{session_finds, session_fails, session_keeps}
+use Rattle.nv_session.proofs.Restoring.{left_again, session_finds, session_fails, session_keeps}
 use Rattle.nv_session.proofs.session.Session.restore.Goals as goal
 
 pub returns-clause-revives : goal.returns-clause-revives
@@ -58,3 +58,7 @@ returns-clause-keeps g c =
 pub returns-clause-faults : goal.returns-clause-faults
 returns-clause-faults g c =
     counts_behind (is_fault c.revive.result) (device_state c.args.self.now.device) (device_state c.stop.new.self.device) (device_state c.revive.new.self.device) c.stop.ensures.calls c.revive.ensures.faults
+
+pub returns-clause-again : goal.returns-clause-again
+returns-clause-again g c =
+    left_again (device_state c.stop.new.self.device) (device_state c.revive.new.self.device) c.stop.ensures.settled c.revive.ensures.any_moment c.revive.ensures.same
