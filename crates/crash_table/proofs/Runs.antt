@@ -1,5 +1,5 @@
 -- Runs of lines: of which the last is a restore, and which end with a fault.
-use Rattle.std.proofs.Common.{◌≡◌, ◌∙◌, inl, inr, ℕ, ◌-◌, Bool, true, List, [], ◌∷◌, ◌++◌, length, map, All, Option, Some, None, refl, sym, ap, subst, arith}
+use Rattle.std.proofs.Common.{◌≡◌, ◌∙◌, inl, inr, ℕ, ◌-◌, ◌^◌, Bool, true, List, [], ◌∷◌, ◌++◌, length, map, All, Option, Some, None, refl, sym, ap, subst, arith}
 use Rattle.std.specs.Option.{unwrap_or}
 use Rattle.std.proofs.lemmas.List.{append-nil, get_or_append_left, get_or_at, length-append, same_from_push}
 use Rattle.std.proofs.lemmas.List.Elements.{All-append, All-cons, All-nil, All-from_get_or}
@@ -141,7 +141,8 @@ pub names_stopped : (geometry : Geometry) (before : List ScriptLine) (last : Scr
     → All (NamesChannelOf geometry) (stopped_lines before last stop)
 names_stopped geometry before last (Dark calls) names name =
     let P : ScriptLine → Type 0 = NamesChannelOf geometry in
-    All-append P before (line.Fuse (Some calls) ∷ last ∷ []) names (All-cons P (line.Fuse (Some calls)) (last ∷ []) tt (All-cons P last [] name (All-nil P)))
+    All-append P before (line.OneFault (2 ^ 64 - 1) ∷ line.Fuse (Some calls) ∷ last ∷ []) names
+    (All-cons P (line.OneFault (2 ^ 64 - 1)) (line.Fuse (Some calls) ∷ last ∷ []) tt (All-cons P (line.Fuse (Some calls)) (last ∷ []) tt (All-cons P last [] name (All-nil P))))
 names_stopped geometry before last Loss names name =
     let P : ScriptLine → Type 0 = NamesChannelOf geometry in
     All-append P before (last ∷ line.Lose ∷ []) names (All-cons P last (line.Lose ∷ []) name (All-cons P line.Lose [] tt (All-nil P)))

@@ -1,5 +1,5 @@
 -- The stops of a line of a script, and the lines that are run for each.
-use Rattle.std.specs.Prelude.{ℕ, zero, suc, List, [], ◌∷◌, ◌++◌, map, Some}
+use Rattle.std.specs.Prelude.{ℕ, zero, suc, ◌-◌, ◌^◌, List, [], ◌∷◌, ◌++◌, map, Some}
 use Rattle.std.specs.List.{flat_map}
 use Rattle.save_device.specs.declared.memory.Pick.{Pick}
 use Rattle.save_device.specs.declared.memory.Pick.TheVariants.{Old, New, Torn}
@@ -8,9 +8,10 @@ use Rattle.nv_script.specs.declared.line.ScriptLine.TheVariants as line
 use Rattle.crash_table.specs.declared.stop.Stop.{Stop}
 use Rattle.crash_table.specs.declared.stop.Stop.TheVariants.{Dark, Loss}
 
--- the lines up to one that is stopped: a fuse goes before it, or a loss of mains behind it
+-- The lines up to one that is stopped: a fuse goes before it, in place of any call that was to fail, or a loss of mains behind
+-- it. No line makes 2^64 - 1 calls.
 abbrev pub stopped_lines : List ScriptLine → ScriptLine → Stop → List ScriptLine
-stopped_lines before last (Dark calls) = before ++ line.Fuse (Some calls) ∷ last ∷ []
+stopped_lines before last (Dark calls) = before ++ line.OneFault (2 ^ 64 - 1) ∷ line.Fuse (Some calls) ∷ last ∷ []
 stopped_lines before last Loss = before ++ last ∷ line.Lose ∷ []
 
 -- what may become of unsettled bytes: the old ones, the new ones, and sixteen kinds of torn ones

@@ -32,7 +32,8 @@ pub const PICKS: [Pick; 18] = [
 /// A stop within a line of a script, or behind it.
 #[derive(Clone, Copy, Debug, PartialEq, Eq)]
 pub enum Stop {
-    /// Everything is dark behind so many device calls of the line. Where it makes no more, the stop is behind the line.
+    /// Everything is dark behind so many device calls of the line. Where it makes no more, the stop is behind the line. No other
+    /// call of it fails.
     Dark { calls: u64 },
     /// Mains are lost behind the line, and everything is dark once that is answered.
     Loss,
@@ -49,11 +50,15 @@ impl Stop {
         ensures { IfOk result (λ lines. lines.items ≡ stopped_lines before.now line self) }
     {
         let mut lines = before.to_vec(alloc)?;
-        let last = match self {
-            Stop::Dark { calls } => [ScriptLine::Fuse { calls: Some(calls) }, line],
-            Stop::Loss => [line, ScriptLine::Lose],
-        };
-        lines.extend_from_slice(&last)?;
+        match self {
+            Stop::Dark { calls } => lines.extend_from_slice(&[
+                // no line makes as many calls, so it ends what was to fail
+                ScriptLine::OneFault { call: u64::MAX },
+                ScriptLine::Fuse { calls: Some(calls) },
+                line,
+            ])?,
+            Stop::Loss => lines.extend_from_slice(&[line, ScriptLine::Lose])?,
+        }
         Ok(lines)
     }
 }
