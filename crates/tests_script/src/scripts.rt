@@ -158,7 +158,7 @@ fn is_bad(alloc: Global, script: &[u8]) -> bool {
 #[test]
 fn a_script_with_a_bad_line(rt: HostRuntime) {
     assert!(rt; is_bad(rt.alloc(), b"work 2 1\nformat\n"));
-    assert!(rt; is_bad(rt.alloc(), b"onefault 1\nformat\n"));
+    assert!(rt; is_bad(rt.alloc(), b"onefault 0\nformat\n"));
 }
 
 // Whether a script is broken off because its writer takes no more, with these bytes written.
