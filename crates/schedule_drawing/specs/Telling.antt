@@ -1,5 +1,5 @@
 -- The schedule that the answers of a script tell.
-use Rattle.std.specs.Prelude.{◌≡◌, ℕ, Bool, true, false, List, [], ◌∷◌, map, drop, filter_map, All, Option, Some, None}
+use Rattle.std.specs.Prelude.{◌≡◌, ℕ, Bool, true, false, List, [], ◌∷◌, map, take, drop, filter_map, All, AllPairs, Option, Some, None}
 use Rattle.std.specs.List.{flat_map}
 use Rattle.ddr4_timing.specs.declared.timing.Timing.{Timing}
 use Rattle.command_trace.specs.declared.entry.Entry.{Entry}
@@ -8,7 +8,7 @@ use Rattle.nv_script.specs.declared.answer.Answer.TheVariants as answer
 use Rattle.schedule_drawing.specs.declared.schedule.Schedule.{Schedule}
 use Rattle.schedule_drawing.specs.declared.shapes.Shape.{Shape}
 use Rattle.schedule_drawing.specs.Drawing.{drawn, later}
-use Rattle.schedule_drawing.specs.Lives.{latest_clock}
+use Rattle.schedule_drawing.specs.Lives.{EndBy, latest_clock}
 
 -- the command that an answer tells, of a life whose clocks begin with this one
 abbrev pub entry_told : ℕ → Answer → Option Entry
@@ -43,12 +43,18 @@ entries_told life = filter_map (entry_told life.begin) life.answers
 abbrev pub life_drawn : Timing → ToldLife → List Shape
 life_drawn t life = drawn t (later (latest_clock life.begin (entries_told life)) 20) (entries_told life)
 
--- Of answers each life is drawn, one behind another: each command that they tell, and what is drawn from it on. What stands
--- before the first formatting is drawn as a life too.
+-- no shape of a life ends behind the begin of another
+abbrev pub BeginsBehind : Timing → ToldLife → ToldLife → Type 0
+BeginsBehind t life next = EndBy next.begin (life_drawn t life)
+
+-- Of answers each life is drawn, from clock 0 on, each behind all that is drawn of those before it: each command that they
+-- tell, and what is drawn from it on. What stands before the first formatting is drawn as a life too.
 pub record TellsAll (t : Timing) (answers : List Answer) (schedule : Schedule) : Type 0 where
   pub lives : List ToldLife
   pub answers_are : answers ≡ flat_map (λ life. life.answers) lives
   pub one : All (λ life. IsOneLife life.answers) lives
   pub started : All (λ life. StartsLife life.answers) (drop 1 lives)
+  pub first : All (λ life. life.begin ≡ 0) (take 1 lives)
+  pub behind : AllPairs (BeginsBehind t) lives
   pub begins : schedule.begins.items ≡ map (λ life. life.begin) lives
   pub shapes : schedule.shapes.items ≡ flat_map (life_drawn t) lives

@@ -7,6 +7,7 @@ loop-left-init c = tells-none c.args.t.now c.args.answers.now c.new-schedule.res
 pub loop-left-preserved : goal.loop-left-preserved
 loop-left-preserved c =
     tells-more c.args.t.now c.args.answers.now c.loop-left.left.now c.split_at.result.0.now c.split_at.result.1.now
-    c.life_length.result c.next_begin-begin.result c.loop-left.schedule c.tell_life.new.schedule
+    c.life_length.result _ c.loop-left.schedule c.tell_life.new.schedule
     c.loop-left.invariant c.life_length.ensures.some c.split_at.ensures.front c.split_at.ensures.back
     c.life_length.ensures.one c.life_length.ensures.next c.in_ok-tell_life.ensures
+    c.next_begin-begin.ensures.first c.next_begin-begin.ensures.behind
