@@ -3,6 +3,7 @@ use Rattle.std.specs.Prelude.{◌≡◌, ℕ, ◌-◌, ◌^◌, true, List, [], 
 use Rattle.std.specs.Option.{option_map}
 use Rattle.ddr4_timing.specs.declared.command.Stamped.{Stamped}
 use Rattle.interleave_map.specs.declared.ready.Interleaving.{Interleaving}
+use Rattle.save_device.specs.Device.{StopsWithin, present}
 use Rattle.save_device.specs.Memory.{state_of, IsPicked}
 use Rattle.save_device.specs.declared.memory.Pick.{Pick}
 use Rattle.save_device.specs.declared.memory.Pick.TheVariants.{Old}
@@ -95,6 +96,16 @@ module _ {K A : Type 0} {L : Ghosts K} {W : wires.Ghosts A K} where
     pub comes : GoesOnBy L (AreEventsOf asked given) (set_by asked (moment_in old)) (moment_in new)
     pub none : old.life ≡ None → IsAnswerAtRest (line_count_in old) asked given
 
+  -- a line that asks neither the device nor the gauge leaves both as they are, with what is to fail and the lie
+  pub record LeavesAlone (old new : Session K A L W) : Type 0 where
+    pub device : new.device ≡ old.device
+    pub gauge : new.gauge ≡ old.gauge
+
+  -- a level that is set touches no device, and where no life runs no lie
+  pub record LeavesDevice (old new : Session K A L W) : Type 0 where
+    pub device : new.device ≡ old.device
+    pub lie : old.life ≡ None → lie_of new.gauge ≡ lie_of old.gauge
+
   -- a level is told with the mode of the life that runs
   abbrev pub TellsMode : Answer → Session K A L W → Type 0
   TellsMode (answer.Level reading mode) new = mode ≡ option_map (λ life. life.mode) new.life
@@ -113,7 +124,8 @@ module _ {K A : Type 0} {L : Ghosts K} {W : wires.Ghosts A K} where
   Formats given old new = ⊥
 
   -- A stop leaves what the pick says of the device, and a life begins over the map with the newest image that is left; or none
-  -- does, and the answer is the restore's error, a fault of the device exactly where a call of it failed.
+  -- does, and the answer is the restore's error, a fault of the device exactly where a call of it failed. A stop right behind leaves
+  -- the same bytes.
   pub record Restores (pick : Pick) (map : Interleaving) (given : Answer) (old new : Session K A L W) : Type 0 where
     pub result : Result Head RestoreError
     pub told : given ≡ restore_told result
@@ -121,6 +133,7 @@ module _ {K A : Type 0} {L : Ghosts K} {W : wires.Ghosts A K} where
     pub revives : IfOk result (λ found. RunsWith L (setup_over old map) (λ life. Revives L (restored_in new) found life (device_state new.device)) new.life)
     pub refused : IfErr result (λ error. Refuses error (restored_in new))
     pub none : IfErr result (λ error. new.life ≡ None)
+    pub again : StopsWithin (λ bytes. bytes ≡ (state_of (innermost new.device)).bytes) (present (state_of (innermost new.device)))
     pub faults : CountsFault (is_fault result) (device_state old.device) (device_state new.device)
 
   -- from now on so many units can be paid on backup, and the gauge shows what it did
@@ -158,17 +171,26 @@ module _ {K A : Type 0} {L : Ghosts K} {W : wires.Ghosts A K} where
   abbrev pub Does : ScriptLine → Answer → Session K A L W → Session K A L W → Type 0
   Does line.Format given old new = Formats given old new × EndsLie old new
   Does (line.Restore pick map) given old new = Restores (unwrap_or pick Old) (unwrap_or map old.profile.map) given old new × EndsLie old new
-  Does (line.Sense level) given old new = GoesOnBehind (line.Sense level) given old new × TellsMode given new
+  Does (line.Sense level) given old new = GoesOnBehind (line.Sense level) given old new × TellsMode given new × LeavesDevice old new
   Does (line.Lie units) given old new = Lies units given old new
   Does (line.Fuse calls) given old new = Fuses calls given old new
   Does (line.OneFault call) given old new = FailsOne call given old new
   Does line.Mark given old new = Marks given old new
-  Does asked given old new = GoesOnBehind asked given old new
+  Does (line.Write write) given old new = GoesOnBehind (line.Write write) given old new × LeavesAlone old new
+  Does (line.Read at) given old new = GoesOnBehind (line.Read at) given old new × LeavesAlone old new
+  Does (line.Work channel most) given old new = GoesOnBehind (line.Work channel most) given old new × LeavesAlone old new
+  Does line.Disarm given old new = GoesOnBehind line.Disarm given old new × LeavesAlone old new
+  Does asked given old new = GoesOnBehind asked given old new × (old.life ≡ None → LeavesAlone old new)
+
+  -- the session is the same profile's, over the same wires
+  pub record KeepsTerms (old new : Session K A L W) : Type 0 where
+    pub profile : new.profile ≡ old.profile
+    pub wires : new.wires ≡ old.wires
 
   -- it is done once for each of these answers, in turn
   abbrev pub DoesEach : ScriptLine → List Answer → Session K A L W → Session K A L W → Type 0
   DoesEach asked [] old new = new ≡ old
-  DoesEach asked (given ∷ later) old new = (mid : Session K A L W) × Does asked given old mid × DoesEach asked later mid new
+  DoesEach asked (given ∷ later) old new = (mid : Session K A L W) × Does asked given old mid × KeepsTerms old mid × DoesEach asked later mid new
 
   -- lines are done, in turn, each with its answers
   abbrev pub DoesAll : List Exchange → Session K A L W → Session K A L W → Type 0

@@ -1,6 +1,7 @@
 -- What a session does at the lines of a script, with answers that are true of it.
 use Rattle.std.specs.Prelude.{◌≡◌, ℕ, List, None, replicate}
 use Rattle.ddr4_timing.specs.Limits.{lines_of}
+use Rattle.save_device.specs.Device.{IsSettled}
 use Rattle.save_device.specs.Memory.{state_of}
 use Rattle.save_device.specs.declared.memory.MemoryDevice.{MemoryDevice}
 use Rattle.slot_store.specs.Slots.{device_size}
@@ -38,20 +39,23 @@ module _ {K A : Type 0} {L : Ghosts K} {W : wires.Ghosts A K} where
     pub all : AreAllAnswered lines asked before after
     pub does : DoesAll all.answered.story first last
 
-  -- a session before its first line: no life runs, the device has zero bytes and passes all calls, and the gauge shows 0 and has no leak
-  pub record IsNew (profile : Profile) (session : Session K A L W) : Type 0 where
+  -- a session before its first line: no life runs, the device has zero bytes, which a stop leaves, and passes all calls, and the
+  -- gauge shows 0 and has no leak
+  pub record IsNew (Wired : A → Type 0) (profile : Profile) (session : Session K A L W) : Type 0 where
     pub profile_is : session.profile ≡ profile
+    pub wired : Wired session.wires
     pub life : session.life ≡ None
     pub bytes : (state_of (innermost session.device)).bytes ≡ replicate (device_size (lines_of profile.checked.geometry)) 0
+    pub settled : IsSettled (state_of (innermost session.device))
     pub passes : PassesAll session.device
     pub level : level_of session.gauge ≡ 0
     pub leak : leak_of session.gauge ≡ 0
 
--- The lines of a script are done by a new session, in turn: their answers are those that were reported, and tell what each did.
--- The device is the session's at the end.
-pub record IsRun {K A : Type 0} (L : Ghosts K) (W : wires.Ghosts A K) (profile : Profile) (asked : List ScriptLine) (before after : List Answer) (device : MemoryDevice) : Type 0 where
+-- The lines of a script are done by a new session with such wires, in turn: their answers are those that were reported, and tell
+-- what each did. The device is the session's at the end.
+pub record IsRun {K A : Type 0} (L : Ghosts K) (W : wires.Ghosts A K) (Wired : A → Type 0) (profile : Profile) (asked : List ScriptLine) (before after : List Answer) (device : MemoryDevice) : Type 0 where
   pub first : Session K A L W
   pub last : Session K A L W
-  pub begins : IsNew profile first
+  pub begins : IsNew Wired profile first
   pub done : AreAllDone (lines_of profile.checked.geometry) asked before after first last
   pub device_is : device ≡ innermost last.device

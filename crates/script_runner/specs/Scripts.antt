@@ -15,10 +15,10 @@ use Rattle.script_runner.specs.Runs.{IsRun}
 use Rattle.script_runner.specs.Story.{AreCutShort, EndsBy}
 
 -- the text is a script, and its lines were run
-pub record RunsScript {K A : Type 0} (L : Ghosts K) (W : wires.Ghosts A K) (profile : Profile) (text : List ℕ) (before after : List Answer) (device : MemoryDevice) : Type 0 where
+pub record RunsScript {K A : Type 0} (L : Ghosts K) (W : wires.Ghosts A K) (Wired : A → Type 0) (profile : Profile) (text : List ℕ) (before after : List Answer) (device : MemoryDevice) : Type 0 where
   pub lines : List ScriptLine
   pub script : IsScript profile.checked.geometry text lines
-  pub runs : IsRun L W profile lines before after device
+  pub runs : IsRun L W Wired profile lines before after device
 
 -- it is a script, and the first of its lines were run, of which the last may lack answers
 pub record CutsScript (geometry : Geometry) (text : List ℕ) (before after : List Answer) : Type 0 where

@@ -1,4 +1,5 @@
 -- What opens the modules of a profile.
+use Rattle.std.specs.Prelude.{◌≡◌}
 use Rattle.ddr4_timing.specs.declared.timing.Geometry.{Geometry}
 use Rattle.energy_budget.specs.declared.costs.Costs.{Costs}
 use Rattle.interleave_map.specs.declared.ready.Interleaving.{Interleaving}
@@ -19,6 +20,14 @@ pub record WiredMaps (M : Type 0) : Type 0 where
   pub xor_map : M
   pub profile : Profile
   pub costs : Costs
+
+-- they were made of this profile, over these maps
+pub record IsWiredFor {M : Type 0} (lines_map xor_map : M) (profile : Profile) (w : WiredMaps M) : Type 0 where
+  pub lines_map_is : w.lines_map ≡ lines_map
+  pub xor_map_is : w.xor_map ≡ xor_map
+  pub profile_is : w.profile ≡ profile
+  pub numbers : w.costs.numbers ≡ profile.costs
+  pub retries : w.costs.retries ≡ profile.sizes.retries
 
 -- the map of an interleaving
 abbrev pub map_in : {M : Type 0} → WiredMaps M → Interleaving → M

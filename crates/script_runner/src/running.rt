@@ -3,7 +3,7 @@ ghost use Rattle.std.specs.Prelude.{◌≡◌, List, [], IfErr, IfOk, OnOk, All}
 ghost use Rattle.ddr4_timing.specs.Limits.{lines_of};
 ghost use Rattle.nv_script.specs.declared.answer.Answer.{Answer};
 ghost use Rattle.nv_script.specs.Line.{NamesChannelOf};
-ghost use Rattle.script_runner.specs.Wiring.{IsMapOf};
+ghost use Rattle.script_runner.specs.Wiring.{IsMapOf, IsWiredFor};
 ghost use Rattle.script_runner.specs.Runs.{IsRun};
 ghost use Rattle.script_runner.specs.Scripts.{EndsScript, EndsScriptBy, IsBadText, RunsScript};
 ghost use Rattle.script_runner.specs.Story.{AreAllAnswered, AreCutShort, EndsBy};
@@ -65,7 +65,8 @@ pub fn do_lines<'m, M: LineMap, R: Report>(
     ensures answered { OnOk result (AreAllAnswered (lines_of profile.now.checked.geometry)
         lines.now (R.answers report.old) (R.answers report.new)) }
     ensures runs { IfOk result (λ device. IsRun ⟦<Ddr4Port<'m, M> as ChannelPort>⟧
-        ⟦<Wiring<'m, M> as Wires<Ddr4Port<'m, M>>>⟧ profile.now
+        ⟦<Wiring<'m, M> as Wires<Ddr4Port<'m, M>>>⟧
+        (IsWiredFor lines_map.now xor_map.now profile.now) profile.now
         lines.now (R.answers report.old) (R.answers report.new) device) }
     ensures cut { IfErr result (λ fault. AreCutShort (lines_of profile.now.checked.geometry)
         lines.now (R.answers report.old) (R.answers report.new)) }
@@ -92,7 +93,8 @@ pub fn answer_script<'m, M: LineMap, R: Report>(
     requires lines_map { IsMapOf M.LineMap profile.now.checked.geometry lines_map.now }
     requires xor_map { IsMapOf M.LineMap profile.now.checked.geometry xor_map.now }
     ensures runs { IfOk result (λ device. RunsScript ⟦<Ddr4Port<'m, M> as ChannelPort>⟧
-        ⟦<Wiring<'m, M> as Wires<Ddr4Port<'m, M>>>⟧ profile.now
+        ⟦<Wiring<'m, M> as Wires<Ddr4Port<'m, M>>>⟧
+        (IsWiredFor lines_map.now xor_map.now profile.now) profile.now
         script.now (R.answers report.old) (R.answers report.new) device) }
     ensures ends { IfErr result (λ fault. EndsScript profile.now.checked.geometry script.now fault
         (R.answers report.old) (R.answers report.new)) }
@@ -118,7 +120,8 @@ pub fn run_script<'m, M: LineMap, W: Write>(
     requires xor_map { IsMapOf M.LineMap profile.now.checked.geometry xor_map.now }
     ensures runs { IfOk result (λ device. (answers : List Answer)
         × RunsScript ⟦<Ddr4Port<'m, M> as ChannelPort>⟧
-        ⟦<Wiring<'m, M> as Wires<Ddr4Port<'m, M>>>⟧ profile.now
+        ⟦<Wiring<'m, M> as Wires<Ddr4Port<'m, M>>>⟧
+        (IsWiredFor lines_map.now xor_map.now profile.now) profile.now
         script.now [] answers device) }
     ensures bad { IfErr result (IsBadText profile.now.checked.geometry script.now) }
 {

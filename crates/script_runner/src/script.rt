@@ -107,6 +107,7 @@ where
     ensures does { IfOk result (λ answer. Does line answer session.old session.new) }
     ensures fault { IfErr result (λ fault. fault ≡ ScriptFault.Memory) }
     ensures profile { session.new.profile ≡ session.old.profile }
+    ensures wires { session.new.wires ≡ session.old.wires }
 {
     Ok(match line {
         ScriptLine::Format => match session.format(alloc) {

@@ -17,7 +17,7 @@ returns-then-not-is_busy-clause-done g c =
     let answers = g.R.Report.answers in let old = c.args.session.now in let mid = c.loop-turn.session in
     does_idle (line_count_in old) c.args.line (line_count_in mid) (ap (λ (profile : Profile). lines_of profile.checked.geometry) c.loop-turn.invariant.profile) c.loop-turn._turn
     c.in_ok-answer.answer (answers c.args.report.now) (answers c.loop-turn.report) (answers c.answer.new.self) old mid c.answer_of.new.session
-    c.loop-turn.invariant.turns c.in_ok-answer.ensures.truly c.in_ok-answer.ensures.does c.in_ok-answer-2.ensures.taken
+    c.loop-turn.invariant.turns c.in_ok-answer.ensures.truly c.in_ok-answer.ensures.does (record { profile = c.answer_of.ensures.profile; wires = c.answer_of.ensures.wires }) c.in_ok-answer-2.ensures.taken
     (sym c.is_busy.ensures ∙ c.if-not-is_busy.true) (subst (λ (n : ℕ). c.loop-turn._turn < n) c.turns_of-turn-end.ensures c.loop-turn-test.true)
 
 pub loop-turn-preserved : goal.loop-turn-preserved
@@ -28,7 +28,7 @@ loop-turn-preserved g c =
       unrefused = c.in_ok-answer-2.ensures.unrefused ∙ c.loop-turn.invariant.unrefused;
       turns = does_grow (line_count_in old) c.args.line (line_count_in mid) (ap (λ (profile : Profile). lines_of profile.checked.geometry) c.loop-turn.invariant.profile) c.loop-turn._turn
           c.in_ok-answer.answer (answers c.args.report.now) (answers c.loop-turn.report) (answers c.answer.new.self) old mid c.answer_of.new.session
-          c.loop-turn.invariant.turns c.in_ok-answer.ensures.truly c.in_ok-answer.ensures.does c.in_ok-answer-2.ensures.taken (sym c.is_busy.ensures ∙ c.if-not-is_busy.false);
+          c.loop-turn.invariant.turns c.in_ok-answer.ensures.truly c.in_ok-answer.ensures.does (record { profile = c.answer_of.ensures.profile; wires = c.answer_of.ensures.wires }) c.in_ok-answer-2.ensures.taken (sym c.is_busy.ensures ∙ c.if-not-is_busy.false);
     }
 
 pub returns-clause-done : goal.returns-clause-done

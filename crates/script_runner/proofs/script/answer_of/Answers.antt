@@ -126,89 +126,105 @@ pub returns-in-Write-clause-does : goal.returns-in-Write-clause-does
 returns-in-Write-clause-does g c =
     let L = g.K.ChannelPort in let it = c.args.session.now in let made = c.write.new.self in let ensures = c.write.ensures in
     let Told : Setup → Tale = λ setup. IsOneEvent (events.Write c.in-Write.write) (replies.Write c.write.result) in
-    does_as L {said = write_told c.write.result} it made c.in-Write.is c.write_answer.ensures
-    (record {
-      comes = goes_retold L Told (AreEventsOf (line.Write c.in-Write.write) (write_told c.write.result)) (moment_in it) (moment_in made)
-          (λ setup es rs m n told. (c.write.result, refl, told)) (goes_alone L Told it made ensures.device ensures.gauge ensures.comes);
-      none = λ none. ap write_told (ensures.none none);
-    })
+    does_as L {said = write_told c.write.result} it made c.in-Write.is c.write_answer.ensures (
+      record {
+        comes = goes_retold L Told (AreEventsOf (line.Write c.in-Write.write) (write_told c.write.result)) (moment_in it) (moment_in made)
+            (λ setup es rs m n told. (c.write.result, refl, told)) (goes_alone L Told it made ensures.device ensures.gauge ensures.comes);
+        none = λ none. ap write_told (ensures.none none);
+      },
+      record { device = ensures.device; gauge = ensures.gauge },
+    )
 
 pub returns-in-Read-clause-does : goal.returns-in-Read-clause-does
 returns-in-Read-clause-does g c =
     let L = g.K.ChannelPort in let it = c.args.session.now in let made = c.read.new.self in let ensures = c.read.ensures in
     let Told : Setup → Tale = λ setup. ReadsLine setup c.in-Read.line c.read.result in
-    does_as L {said = read_told c.in-Read.line c.read.result} it made c.in-Read.is c.read_answer.ensures
-    (record {
-      comes = goes_retold L Told (AreEventsOf (line.Read c.in-Read.line) (read_told c.in-Read.line c.read.result)) (moment_in it) (moment_in made)
-          (λ setup es rs m n told. (c.read.result, refl, told)) (goes_alone L Told it made ensures.device ensures.gauge ensures.comes);
-      none = λ none. ap (read_told c.in-Read.line) (ensures.none none);
-    })
+    does_as L {said = read_told c.in-Read.line c.read.result} it made c.in-Read.is c.read_answer.ensures (
+      record {
+        comes = goes_retold L Told (AreEventsOf (line.Read c.in-Read.line) (read_told c.in-Read.line c.read.result)) (moment_in it) (moment_in made)
+            (λ setup es rs m n told. (c.read.result, refl, told)) (goes_alone L Told it made ensures.device ensures.gauge ensures.comes);
+        none = λ none. ap (read_told c.in-Read.line) (ensures.none none);
+      },
+      record { device = ensures.device; gauge = ensures.gauge },
+    )
 
 pub returns-in-Work-clause-does : goal.returns-in-Work-clause-does
 returns-in-Work-clause-does g c =
     let L = g.K.ChannelPort in let it = c.args.session.now in let made = c.work.new.self in let ensures = c.work.ensures in
     let Told : Setup → Tale = λ setup. IsWork c.in-Work.channel c.work.result in
-    does_as L {said = work_told c.in-Work.channel c.work.result} it made c.in-Work.is c.work_answer.ensures
-    (record {
-      comes = goes_retold L Told (AreEventsOf (line.Work c.in-Work.channel c.in-Work.most) (work_told c.in-Work.channel c.work.result)) (moment_in it) (moment_in made)
-          (λ setup es rs m n told. (c.work.result, refl, told)) (goes_alone L Told it made ensures.device ensures.gauge ensures.comes);
-      none = λ none. ap (work_told c.in-Work.channel) (ensures.none none);
-    })
+    does_as L {said = work_told c.in-Work.channel c.work.result} it made c.in-Work.is c.work_answer.ensures (
+      record {
+        comes = goes_retold L Told (AreEventsOf (line.Work c.in-Work.channel c.in-Work.most) (work_told c.in-Work.channel c.work.result)) (moment_in it) (moment_in made)
+            (λ setup es rs m n told. (c.work.result, refl, told)) (goes_alone L Told it made ensures.device ensures.gauge ensures.comes);
+        none = λ none. ap (work_told c.in-Work.channel) (ensures.none none);
+      },
+      record { device = ensures.device; gauge = ensures.gauge },
+    )
 
 pub returns-in-Save-clause-does : goal.returns-in-Save-clause-does
 returns-in-Save-clause-does g c =
     let L = g.K.ChannelPort in let it = c.args.session.now in let made = c.save.new.self in let ensures = c.save.ensures in
     let Told : Setup → Tale = λ setup. MakesSave setup.shape.channels c.save.result in
-    does_as L {said = save_told c.save.result} it made c.in-Save.is c.save_answer.ensures
-    (record {
-      comes = goes_retold L Told (AreEventsOf line.Save (save_told c.save.result)) (moment_in it) (moment_in made)
-          (λ setup es rs m n told. (c.save.result, refl, told)) ensures.comes;
-      none = λ none. ap save_told (ensures.none none);
-    })
+    does_as L {said = save_told c.save.result} it made c.in-Save.is c.save_answer.ensures (
+      record {
+        comes = goes_retold L Told (AreEventsOf line.Save (save_told c.save.result)) (moment_in it) (moment_in made)
+            (λ setup es rs m n told. (c.save.result, refl, told)) ensures.comes;
+        none = λ none. ap save_told (ensures.none none);
+      },
+      λ none. record { device = (ensures.rests none).0; gauge = (ensures.rests none).1 },
+    )
 
 pub returns-in-Step-clause-does : goal.returns-in-Step-clause-does
 returns-in-Step-clause-does g c =
     let L = g.K.ChannelPort in let it = c.args.session.now in let made = c.step.new.self in let ensures = c.step.ensures in
     let Told : Setup → Tale = λ setup. MakesOneStep c.step.result in
-    does_as L {said = step_told c.step.result} it made c.in-Step.is c.step_answer.ensures
-    (record {
-      comes = goes_retold L Told (AreEventsOf line.Step (step_told c.step.result)) (moment_in it) (moment_in made)
-          (λ setup es rs m n told. (c.step.result, refl, told)) ensures.comes;
-      none = λ none. ap step_told (ensures.none none);
-    })
+    does_as L {said = step_told c.step.result} it made c.in-Step.is c.step_answer.ensures (
+      record {
+        comes = goes_retold L Told (AreEventsOf line.Step (step_told c.step.result)) (moment_in it) (moment_in made)
+            (λ setup es rs m n told. (c.step.result, refl, told)) ensures.comes;
+        none = λ none. ap step_told (ensures.none none);
+      },
+      λ none. record { device = (ensures.rests none).0; gauge = (ensures.rests none).1 },
+    )
 
 pub returns-in-Arm-clause-does : goal.returns-in-Arm-clause-does
 returns-in-Arm-clause-does g c =
     let L = g.K.ChannelPort in let it = c.args.session.now in let made = c.arm.new.self in let ensures = c.arm.ensures in
     let Told : Setup → Tale = λ setup. IsOneEvent events.Arm (replies.Arm c.arm.result) in
-    does_as L {said = arm_told c.arm.result} it made c.in-Arm.is c.arm_answer.ensures
-    (record {
-      comes = goes_retold L Told (AreEventsOf line.Arm (arm_told c.arm.result)) (moment_in it) (moment_in made)
-          (λ setup es rs m n told. (c.arm.result, refl, told)) ensures.comes;
-      none = λ none. ap arm_told (ensures.none none);
-    })
+    does_as L {said = arm_told c.arm.result} it made c.in-Arm.is c.arm_answer.ensures (
+      record {
+        comes = goes_retold L Told (AreEventsOf line.Arm (arm_told c.arm.result)) (moment_in it) (moment_in made)
+            (λ setup es rs m n told. (c.arm.result, refl, told)) ensures.comes;
+        none = λ none. ap arm_told (ensures.none none);
+      },
+      λ none. record { device = (ensures.rests none).0; gauge = (ensures.rests none).1 },
+    )
 
 pub returns-in-Disarm-clause-does : goal.returns-in-Disarm-clause-does
 returns-in-Disarm-clause-does g c =
     let L = g.K.ChannelPort in let it = c.args.session.now in let made = c.disarm.new.self in let ensures = c.disarm.ensures in
     let Told : Setup → Tale = λ setup. IsOneEvent events.Disarm (replies.Disarm c.disarm.result) in
-    does_as L {said = disarm_told c.disarm.result} it made c.in-Disarm.is c.disarm_answer.ensures
-    (record {
-      comes = goes_retold L Told (AreEventsOf line.Disarm (disarm_told c.disarm.result)) (moment_in it) (moment_in made)
-          (λ setup es rs m n told. (c.disarm.result, refl, told)) (goes_alone L Told it made ensures.device ensures.gauge ensures.comes);
-      none = λ none. ap disarm_told (ensures.none none);
-    })
+    does_as L {said = disarm_told c.disarm.result} it made c.in-Disarm.is c.disarm_answer.ensures (
+      record {
+        comes = goes_retold L Told (AreEventsOf line.Disarm (disarm_told c.disarm.result)) (moment_in it) (moment_in made)
+            (λ setup es rs m n told. (c.disarm.result, refl, told)) (goes_alone L Told it made ensures.device ensures.gauge ensures.comes);
+        none = λ none. ap disarm_told (ensures.none none);
+      },
+      record { device = ensures.device; gauge = ensures.gauge },
+    )
 
 pub returns-in-Lose-clause-does : goal.returns-in-Lose-clause-does
 returns-in-Lose-clause-does g c =
     let L = g.K.ChannelPort in let it = c.args.session.now in let made = c.lose.new.self in let ensures = c.lose.ensures in
     let Told : Setup → Tale = λ setup. IsOneEvent events.Lose (replies.Lose c.lose.result) in
-    does_as L {said = answer.Lost c.lose.result} it made c.in-Lose.is refl
-    (record {
-      comes = goes_retold L Told (AreEventsOf line.Lose (answer.Lost c.lose.result)) (moment_in it) (moment_in made)
-          (λ setup es rs m n told. (c.lose.result, refl, told)) ensures.comes;
-      none = λ none. ap (λ (loss : Loss). answer.Lost loss) (ensures.none none);
-    })
+    does_as L {said = answer.Lost c.lose.result} it made c.in-Lose.is refl (
+      record {
+        comes = goes_retold L Told (AreEventsOf line.Lose (answer.Lost c.lose.result)) (moment_in it) (moment_in made)
+            (λ setup es rs m n told. (c.lose.result, refl, told)) ensures.comes;
+        none = λ none. ap (λ (loss : Loss). answer.Lost loss) (ensures.none none);
+      },
+      λ none. record { device = (ensures.rests none).0; gauge = (ensures.rests none).1 },
+    )
 
 pub returns-in-Sense-clause-does : goal.returns-in-Sense-clause-does
 returns-in-Sense-clause-does g c =
@@ -227,6 +243,7 @@ returns-in-Sense-clause-does g c =
             ∙ ap (λ (mode : Option Mode). answer.Level level mode) (ensures.mode ∙ ap (option_map (λ life. life.mode)) (none_begins L Told set (moment_in made) goes none));
       },
       ensures.mode,
+      record { device = ensures.device; lie = ensures.lie },
     )
 
 pub returns-in-Ok-clause-does : goal.returns-in-Ok-clause-does
@@ -248,6 +265,7 @@ returns-in-Restore-clause-does g c =
         revives = ensures.revives;
         refused = ensures.refused;
         none = ensures.none;
+        again = ensures.again;
         faults = ensures.faults;
       },
       record { lie = ensures.lie; gauge = ensures.gauge },
