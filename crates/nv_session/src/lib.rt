@@ -11,7 +11,10 @@ mod turns;
 mod wires;
 
 pub use calls::Level;
-pub use laws::{restore_after_any_stop, restore_after_save, sessions_keep_lives, sessions_live};
+pub use laws::{
+    restore_after_any_stop, restore_after_save, sessions_keep_lives, sessions_live,
+    sessions_survive,
+};
 pub use lives::FormatError;
 pub use session::Session;
 pub use turns::LineSeen;
