@@ -191,7 +191,7 @@ fn a_save_after_a_failed_one(rt: HostRuntime) {
     }
 }
 
-const ENDED_FUSES: [(&str, &str); 2] = [
+const ENDED_FUSES: [(&str, &str); 3] = [
     (
         "format/fuse 0/save/format/save",
         "formatted/fuse 0/fault save/formatted/saved 2 0",
@@ -199,6 +199,10 @@ const ENDED_FUSES: [(&str, &str); 2] = [
     (
         "format/fuse 0/save/restore/save",
         "formatted/fuse 0/fault save/restored 1 0 Complete/saved 2 0",
+    ),
+    (
+        "format/write 0 11/fuse 7/write 1 22/read 0/mark/work 0 1/sense 0/save",
+        "formatted/accepted 0 mark 0/fuse 7/accepted 1 mark 0/line 0 = 11/mark 0/0 0 ACT 0 0 0 0/level 0 disarmed/fault save",
     ),
 ];
 
