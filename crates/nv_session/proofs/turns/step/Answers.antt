@@ -1,7 +1,8 @@
-use Rattle.std.proofs.Common.{◌∙◌, subst, Result}
+use Rattle.std.proofs.Common.{◌∙◌, ◌≡◌, subst, Result}
 use Rattle.nv_session.proofs.Common.{Answers, ArmRefusal, Assembly, StepReply, assembly}
 use Rattle.nv_machine.specs.declared.events.Event.TheVariants as events
 use Rattle.nv_machine.specs.declared.events.Reply.TheVariants as replies
+use Rattle.nv_machine.specs.declared.events.StepReply.TheVariants as step
 use Rattle.nv_session.proofs.Stepping.{none_ran, then_begun, then_refused, then_stepped, one_step}
 use Rattle.nv_session.proofs.turns.step.Goals as goal
 
@@ -31,9 +32,10 @@ returns-in-Err-clause-comes g c =
 pub returns-in_default : goal.returns-in_default
 returns-in_default g c =
     let L = g.K.ChannelPort in let S = g.D.SaveDevice in let E = g.E.Energy in
+    let ran : (c.save_step.result ≡ step.NoSave → ⊥) = search c.in_default in
     record {
       comes = one_step L c.save_step.result (assembly c.args.running.now (S.state c.args.device.now) (E.gauge c.args.energy.now))
-          (assembly c.save_step.new.self (S.state c.save_step.new.device) (E.gauge c.save_step.new.energy)) c.in_default.not-NoSave c.save_step.ensures.answers;
+          (assembly c.save_step.new.self (S.state c.save_step.new.device) (E.gauge c.save_step.new.energy)) ran c.save_step.ensures.answers;
       setup = c.save_step.ensures.setup;
       size = c.save_step.ensures.size;
     }
