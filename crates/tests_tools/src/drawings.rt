@@ -169,7 +169,7 @@ fn lives_and_events(rt: HostRuntime) -> Result<(), Fail> {
 }
 
 // A refresh that ends at 425, and 100 clocks between two lives.
-const TOLD: [Answer; 6] = [
+const TOLD: [Answer; 7] = [
     Answer::Formatted,
     Answer::Idle { channel: 1 },
     Answer::Issued {
@@ -180,6 +180,7 @@ const TOLD: [Answer; 6] = [
         },
     },
     Answer::Armed,
+    Answer::StepRetry,
     Answer::Formatted,
     Answer::Issued {
         channel: 0,
@@ -200,7 +201,7 @@ fn a_script(rt: HostRuntime) -> Result<(), Fail> {
     }
     assert_eq!(rt;
         told.as_str(),
-        "0 formatted; 0 disarmed; 5 armed; 525 formatted; 525 disarmed; "
+        "0 formatted; 0 disarmed; 5 armed; 5 step retry; 525 formatted; 525 disarmed; "
     );
     has(
         &rt,
@@ -208,9 +209,19 @@ fn a_script(rt: HostRuntime) -> Result<(), Fail> {
         &[
             (">REF</text>", 1),
             (">SRE</text>", 1),
+            (">step retry</text>", 1),
             ("<line class=\"life\"", 1),
         ],
     )
+}
+
+#[test]
+fn a_script_without_answers(rt: HostRuntime) -> Result<(), Fail> {
+    let schedule = told_schedule(rt.alloc(), &checked()?.timing, &[])?;
+    assert!(rt; schedule.begins.is_empty());
+    assert!(rt; schedule.shapes.is_empty());
+    assert!(rt; schedule.events.is_empty());
+    Ok(())
 }
 
 // The trace isn't drawn.
