@@ -9,3 +9,4 @@ pub mod Turns
 pub mod Stories
 pub mod Doing
 pub mod Runs
+pub mod Chains

@@ -3,7 +3,7 @@ use Rattle.std.specs.Prelude.{◌≡◌, ℕ, ◌-◌, ◌^◌, true, List, [], 
 use Rattle.std.specs.Option.{option_map}
 use Rattle.ddr4_timing.specs.declared.command.Stamped.{Stamped}
 use Rattle.interleave_map.specs.declared.ready.Interleaving.{Interleaving}
-use Rattle.save_device.specs.Device.{StopsWithin, present}
+use Rattle.save_device.specs.Device.{MayLeave, StopsWithin, present}
 use Rattle.save_device.specs.Memory.{state_of, IsPicked}
 use Rattle.save_device.specs.declared.memory.Pick.{Pick}
 use Rattle.save_device.specs.declared.memory.Pick.TheVariants.{Old}
@@ -129,6 +129,7 @@ module _ {K A : Type 0} {L : Ghosts K} {W : wires.Ghosts A K} where
   pub record Restores (pick : Pick) (map : Interleaving) (given : Answer) (old new : Session K A L W) : Type 0 where
     pub result : Result Head RestoreError
     pub told : given ≡ restore_told result
+    pub left : MayLeave (present (state_of (innermost old.device))) (state_of (innermost new.device)).bytes
     pub picked : IsPicked pick (innermost old.device) (state_of (innermost new.device)).bytes
     pub revives : IfOk result (λ found. RunsWith L (setup_over old map) (λ life. Revives L (restored_in new) found life (device_state new.device)) new.life)
     pub refused : IfErr result (λ error. Refuses error (restored_in new))

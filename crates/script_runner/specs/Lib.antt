@@ -5,4 +5,5 @@ pub mod Story
 pub mod Keeping
 pub mod Doing
 pub mod Runs
+pub mod Chains
 pub mod Scripts

@@ -2,11 +2,13 @@
 #![tactic(auto)]
 
 mod answers;
+mod laws;
 mod report;
 mod running;
 mod script;
 mod wiring;
 
+pub use laws::scripts_survive;
 pub use report::{Printer, Report};
 pub use running::{do_lines, run_lines, run_script};
 pub use wiring::Wiring;

@@ -261,6 +261,7 @@ returns-in-Restore-clause-does g c =
       record {
         result = c.restore.result;
         told = refl;
+        left = ensures.left;
         picked = subst (λ (pick : Pick). IsPicked pick (innermost it.device) (state_of (innermost made.device)).bytes) c.unwrap_or.ensures ensures.picked;
         revives = ensures.revives;
         refused = ensures.refused;
