@@ -287,6 +287,50 @@ where
     ends(rt, board, hosts, &receipts[..1], &answers[..1], (2, 1));
 }
 
+/// Arms, and writes line 0.
+pub(crate) fn write_armed<K, D, E, B, N, R>(
+    rt: &R,
+    board: &Board<K, D, E, B, N>,
+    host: &mut Host<B>,
+)
+where
+    K: ChannelPort,
+    D: SaveDevice,
+    E: Energy,
+    B: BoardName,
+    N: Notices,
+    R: Wait + Abort,
+{
+    same(rt, board.arm(rt), Ok(ArmReply::Armed));
+    let receipt = first_receipt(0);
+    same(rt, host.write(rt, board, write_of(0, 11)), Ok(receipt));
+}
+
+/// Ends an armed board whose one write is that of line 0. A stranger leaves it armed, and a loss of mains saves the write.
+pub(crate) fn end_armed<K, D, E, B, N, R>(rt: &R, board: Board<K, D, E, B, N>, hosts: Vec<Host<B>>)
+where
+    K: ChannelPort + Drop,
+    D: SaveDevice + Drop,
+    E: Energy + Drop,
+    B: BoardName,
+    N: Notices + Drop,
+    R: Wait + Abort,
+    requires { length hosts.items ≡ B.parts }
+{
+    let strange = Stranger {
+        answer: false,
+        index: 0,
+    };
+    let (board, hosts) = is_strange(rt, board, hosts, &[first_receipt(1)], &[], strange);
+    same(rt, board.arm(rt), Ok(ArmReply::AlreadyArmed));
+    let saved = Loss::Saved {
+        generation: 2,
+        count: 1,
+    };
+    same(rt, board.power_loss(rt), saved);
+    ends(rt, board, hosts, &[first_receipt(0)], &[], (1, 1));
+}
+
 // Line 0 as its first write left it, seen after so many writes.
 fn answer_at(at: u64) -> Seen {
     Seen {

@@ -2,7 +2,8 @@
 ghost use Rattle.std.specs.Prelude.{◌≡◌, length};
 
 use crate::alone::{
-    end_with_strangers, end_workers, lose_armed, save_by_hand, work_by_turns, write_disarmed,
+    end_armed, end_with_strangers, end_workers, lose_armed, save_by_hand, work_by_turns,
+    write_armed, write_disarmed,
 };
 use crate::silent::Silent;
 use crate::together::{lose_threads, read_beside_held, work_apart};
@@ -35,6 +36,7 @@ enum Case {
     Armed,
     Modes,
     Ends,
+    Strange,
     Apart,
     Parted,
     Held,
@@ -78,9 +80,14 @@ where
         Case::Armed => lose_armed(rt, &board, &mut first[0]),
         Case::Modes => save_by_hand(rt, &board, &mut first[0]),
         Case::Goes => work_by_turns(rt, &board, &mut first[0]),
+        Case::Strange => write_armed(rt, &board, &mut first[0]),
         _ => end_workers(rt, &board, &mut first[0]),
     }
-    end_with_strangers(rt, board, hosts);
+    if case == Case::Strange {
+        end_armed(rt, board, hosts);
+    } else {
+        end_with_strangers(rt, board, hosts);
+    }
 }
 
 // Tries a case of several threads.
@@ -130,7 +137,7 @@ where
     }
     if matches!(
         case,
-        Case::Disarmed | Case::Armed | Case::Modes | Case::Ends | Case::Goes
+        Case::Disarmed | Case::Armed | Case::Modes | Case::Ends | Case::Strange | Case::Goes
     ) {
         try_alone::<K, D, E, B, R>(rt, alloc, ready, case);
     } else {
@@ -183,6 +190,11 @@ fn saves_by_hand_and_by_the_saver(rt: HostRuntime) {
 #[test]
 fn workers_end(rt: HostRuntime) {
     try_case(&rt, rt.alloc(), Case::Ends);
+}
+
+#[test]
+fn a_stranger_leaves_the_board(rt: HostRuntime) {
+    try_case(&rt, rt.alloc(), Case::Strange);
 }
 
 #[test]
