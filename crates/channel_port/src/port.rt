@@ -39,6 +39,9 @@ pub trait ChannelPort {
     /// What its drain costs by these numbers: its commands, and the clocks up to its last one.
     ghost drain_cost: { Self → CostNumbers → ℕ };
 
+    /// What its drain makes of it, once all of it was paid for.
+    ghost drained: { Self → Self };
+
     /// Where a line lies.
     fn place(&self, line: u64) -> Place
         requires { line < (view self.now).lines }
@@ -144,6 +147,24 @@ pub trait ChannelPort {
             → drain_cost self.old costs.now.numbers
             ≤ total_cost costs.now (drain_actions (length (view self.old).waits.writes)) }
         ensures dry { OnOk result ((view self.new).waits ≡ emptied (view self.old).waits) }
+        ensures drained { OnOk result (self.new ≡ drained self.old) }
+        ensures rest { view self.new ≡ record (view self.old) {
+          waits = (view self.new).waits;
+          stage = (view self.new).stage;
+          stored = (view self.new).stored;
+        } }
+        ensures keeps { KeepsCarried (carries self.old) (carries self.new) };
+
+    /// The same drain on backup, where all of it was paid for before: what it leaves is what `drain` leaves. By these costs, which
+    /// are reckoned for its profile, the payments of its actions are no less than what it costs.
+    fn drain_paid(&mut self, costs: &Costs)
+        requires backup { (view self.old).stage ≡ OnBackup }
+        requires lost { (view self.old).waits.reads ≡ [] }
+        requires reckoned { AreReckonedFor (view self.old).checked costs.now }
+        ensures drained { self.new ≡ drained self.old }
+        ensures dry { (view self.new).waits ≡ emptied (view self.old).waits }
+        ensures covers { drain_cost self.old costs.now.numbers
+            ≤ total_cost costs.now (drain_actions (length (view self.old).waits.writes)) }
         ensures rest { view self.new ≡ record (view self.old) {
           waits = (view self.new).waits;
           stage = (view self.new).stage;

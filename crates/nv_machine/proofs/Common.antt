@@ -29,7 +29,7 @@ pub use Rattle.energy_budget.specs.Gauge.{Gauge, IsHonestThrough, ReadsLevel}
 unfoldable pub use Rattle.energy_budget.specs.Sums.{backing_level}
 pub use Rattle.energy_budget.specs.declared.action.Action.{Action}
 pub use Rattle.energy_budget.specs.declared.costs.Costs.{Costs}
-pub use Rattle.channel_port.specs.Draining.{pending_each}
+pub use Rattle.channel_port.specs.Draining.{DrainOrder, pending_each}
 pub use Rattle.channel_port.specs.Waits.{Waits}
 pub use Rattle.nv_machine.specs.Guard.{Guards, HasCause, IsGood, IsPrefix, is_broken_off, may_lack}
 unfoldable pub use Rattle.nv_machine.specs.Guard.{IsGuarded}

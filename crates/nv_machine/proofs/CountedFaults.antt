@@ -1,5 +1,5 @@
 -- In any event the gauge keeps its leak, and neither its count of faults nor the device's falls.
-use Rattle.std.specs.Prelude.{Result, cond, not}
+use Rattle.std.specs.Prelude.{Result, cond, map, not}
 use Rattle.std.proofs.lemmas.List.Sums.{sum_by-append}
 use Rattle.save_device.specs.Calls.{MakesCalls, all_good, faults_in}
 use Rattle.save_device.specs.Device.{faults_of}
@@ -12,7 +12,7 @@ use Rattle.nv_machine.specs.Honesty.{IsHonestAlong, IsSparedAlong}
 use Rattle.nv_machine.specs.Losses.{PaysFirst}
 use Rattle.nv_machine.specs.Machine.{ArmStep, SaveStepStep, arm_calls, step_call}
 use Rattle.nv_machine.specs.declared.events.StepReply.{StepReply}
-use Rattle.nv_machine.proofs.Common.{Bool, List, [], ap, arith, false, refl, true, ℕ, ◌++◌, ◌∙◌, ◌∷◌, ◌≡◌, ◌≤◌, Err, Ok, faults_more, DeviceState, Loss, Gauge, GaugeCall, IsHonestThrough, ReadsLevel, Action, LoseStep, MachineStep, Run, Setup, World, Event, Reply}
+use Rattle.nv_machine.proofs.Common.{Bool, List, [], ap, arith, false, refl, true, ℕ, ◌++◌, ◌∙◌, ◌∷◌, ◌≡◌, ◌≤◌, Err, Ok, faults_more, DeviceState, DrainOrder, Loss, Gauge, GaugeCall, total_cost, IsHonestThrough, ReadsLevel, Action, LoseStep, MachineStep, Run, Setup, World, Event, Reply}
 use Rattle.nv_machine.proofs.Effects.{Effect, rests, shows, runs_low, disarms, accepts, begins, arms, fails_to_arm, steps, ends, repeats, fails, closes, effect}
 use Rattle.nv_machine.proofs.Payments.{IsPaid, paid_of}
 
@@ -33,18 +33,18 @@ asked : {kind : GaugeCall} (answer : ℕ) (old new : Gauge) → ReadsLevel kind 
 asked answer old new reads = record { counted = reads.counted; same_leak = reads.same_leak }
 
 -- it was read once, and then paid from
-paid_first : (setup : Setup) (old : World) (reading : ℕ) (paid : List Action) (gauge : Gauge) → PaysFirst setup old reading paid gauge → GaugeCounts old.gauge gauge
+paid_first : (setup : Setup) (old : World) (reading : ℕ) (paid : List (List Action)) (gauge : Gauge) → PaysFirst setup old reading paid gauge → GaugeCounts old.gauge gauge
 paid_first setup old reading paid gauge p =
-    let rest : IsPaid setup.shape.costs paid p.ticked gauge = paid_of setup.shape.costs paid p.ticked gauge p.pays in
+    let rest : IsPaid (map (total_cost setup.shape.costs) paid) p.ticked gauge = paid_of (map (total_cost setup.shape.costs) paid) p.ticked gauge p.pays in
     record { counted = omega (arith, p.reads.counted, rest.counted); same_leak = rest.same_leak ∙ p.reads.same_leak }
 
-gauge_in_loss : (setup : Setup) (old new : World) (loss : Loss) → LoseStep setup loss old new → GaugeCounts old.gauge new.gauge
-gauge_in_loss setup old new Loss.Closed done = unasked old.gauge new.gauge (ap (λ (w : World). w.gauge) done.1)
-gauge_in_loss setup old new Loss.Unsaved done = unasked old.gauge new.gauge (ap (λ (w : World). w.gauge) done.1)
-gauge_in_loss setup old new (Loss.Saved generation count) done = paid_first setup old _ _ new.gauge done.pays
-gauge_in_loss setup old new Loss.Dark done =
+gauge_in_loss : (order : DrainOrder) (setup : Setup) (old new : World) (loss : Loss) → LoseStep order setup loss old new → GaugeCounts old.gauge new.gauge
+gauge_in_loss order setup old new Loss.Closed done = unasked old.gauge new.gauge (ap (λ (w : World). w.gauge) done.1)
+gauge_in_loss order setup old new Loss.Unsaved done = unasked old.gauge new.gauge (ap (λ (w : World). w.gauge) done.1)
+gauge_in_loss order setup old new (Loss.Saved generation count) done = paid_first setup old _ _ new.gauge done.pays
+gauge_in_loss order setup old new Loss.Dark done =
     let first = paid_first setup old _ _ done.mid done.pays in record { counted = omega (arith, first.counted, done.refused.counted); same_leak = done.refused.same_leak ∙ first.same_leak }
-gauge_in_loss setup old new Loss.Fault done = paid_first setup old _ _ new.gauge done.pays
+gauge_in_loss order setup old new Loss.Fault done = paid_first setup old _ _ new.gauge done.pays
 
 gauge_counts : (setup : Setup) (old new : World) (event : Event) (reply : Reply) → Effect setup old new event reply → GaugeCounts old.gauge new.gauge
 gauge_counts setup old new event reply (rests silent waits is fewer gauge) = unasked old.gauge new.gauge gauge
@@ -59,7 +59,7 @@ gauge_counts setup old new event reply (steps made done) = asked done.2 old.gaug
 gauge_counts setup old new event reply (ends generation count done) = asked done.2 old.gauge new.gauge done.3
 gauge_counts setup old new event reply (repeats done) = asked done.2 old.gauge new.gauge done.3
 gauge_counts setup old new event reply (fails done) = asked done.2 old.gauge new.gauge done.3
-gauge_counts setup old new event reply (closes loss done) = gauge_in_loss setup old new loss done
+gauge_counts setup old new event reply (closes order loss done) = gauge_in_loss order setup old new loss done
 
 -- calls of the device: of these one may have failed
 calls_more : (kinds : List CallKind) (good : Bool) (old new : List Call) → MakesCalls kinds good old new → faults_in old ≤ faults_in new
@@ -95,12 +95,12 @@ device_in_step setup old new (StepReply.Saved generation count) done = calls_mor
 device_in_step setup old new StepReply.Retry done = calls_more (step_call old.machine.store.closed done.0.next ∷ []) false old.device.calls new.device.calls done.5
 device_in_step setup old new StepReply.Fault done = calls_more (step_call old.machine.store.closed done.0.next ∷ []) false old.device.calls new.device.calls done.5
 
-device_in_loss : (setup : Setup) (old new : World) (loss : Loss) → LoseStep setup loss old new → faults_of old.device ≤ faults_of new.device
-device_in_loss setup old new Loss.Closed done = same_device old new done.1
-device_in_loss setup old new Loss.Unsaved done = uncalled old.device new.device (ap (λ (w : World). w.device) done.1)
-device_in_loss setup old new (Loss.Saved generation count) done = further_calls old.device.calls new.device.calls _ done.calls
-device_in_loss setup old new Loss.Dark done = further_calls old.device.calls new.device.calls _ done.calls
-device_in_loss setup old new Loss.Fault done = further_calls old.device.calls new.device.calls _ done.calls
+device_in_loss : (order : DrainOrder) (setup : Setup) (old new : World) (loss : Loss) → LoseStep order setup loss old new → faults_of old.device ≤ faults_of new.device
+device_in_loss order setup old new Loss.Closed done = same_device old new done.1
+device_in_loss order setup old new Loss.Unsaved done = uncalled old.device new.device (ap (λ (w : World). w.device) done.1)
+device_in_loss order setup old new (Loss.Saved generation count) done = further_calls old.device.calls new.device.calls _ done.calls
+device_in_loss order setup old new Loss.Dark done = further_calls old.device.calls new.device.calls _ done.calls
+device_in_loss order setup old new Loss.Fault done = further_calls old.device.calls new.device.calls _ done.calls
 
 device_counts : (setup : Setup) (event : Event) (reply : Reply) (old new : World) → MachineStep setup event reply old new → faults_of old.device ≤ faults_of new.device
 device_counts setup (Event.Write write) (Reply.Write result) old new done = uncalled old.device new.device (ap (λ (w : World). w.device) done.0)
@@ -112,7 +112,7 @@ device_counts setup Event.Arm (Reply.Arm result) old new done = device_in_arming
 device_counts setup Event.Disarm (Reply.Disarm result) old new done = uncalled old.device new.device (ap (λ (w : World). w.device) done.0)
 device_counts setup Event.SaveBegin (Reply.SaveBegin result) old new done = uncalled old.device new.device (ap (λ (w : World). w.device) done.0)
 device_counts setup Event.SaveStep (Reply.SaveStep reply) old new done = device_in_step setup old new reply done
-device_counts setup Event.Lose (Reply.Lose loss) old new done = device_in_loss setup old new loss done
+device_counts setup Event.Lose (Reply.Lose loss) old new done = device_in_loss done.0 setup old new loss done.1
 device_counts setup event reply old new none = absurd none
 
 pub event_counts : (setup : Setup) (event : Event) (reply : Reply) (old new : World) → MachineStep setup event reply old new → Counts old new

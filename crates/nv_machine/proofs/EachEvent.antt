@@ -1,5 +1,5 @@
 -- What the machine keeps in any event, and what becomes of its life.
-use Rattle.nv_machine.proofs.Common.{List, [], ap, arith, false, refl, sym, ℕ, ◌++◌, ◌+◌, ◌∙◌, ◌≡◌, ◌≤◌, None, Some, append-nil, Write, step_after, has_ended, is_armed, is_backed, is_disarming, Loss, Mode, Guards, IsGuarded, is_broken_off, may_lack, SavesAllWritten, marks, LoseStep, MachineStep, persisted_at_end, read_as, written, added, Machine, RunningSave, Setup, World, all_of, newest_of, told_mark, Event, Reply}
+use Rattle.nv_machine.proofs.Common.{List, [], ap, arith, false, refl, sym, ℕ, ◌++◌, ◌+◌, ◌∙◌, ◌≡◌, ◌≤◌, None, Some, append-nil, Write, step_after, has_ended, is_armed, is_backed, is_disarming, DrainOrder, Loss, Mode, Guards, IsGuarded, is_broken_off, may_lack, SavesAllWritten, marks, LoseStep, MachineStep, persisted_at_end, read_as, written, added, Machine, RunningSave, Setup, World, all_of, newest_of, told_mark, Event, Reply}
 use Rattle.nv_machine.proofs.Refusing.{arms_where, accepted_where, begins_where}
 use Rattle.nv_machine.proofs.Effects.{KeepsNewest, Effect, rests, shows, runs_low, disarms, accepts, begins, arms, fails_to_arm, steps, ends, repeats, fails, closes, effect}
 use Rattle.nv_machine.proofs.Proceeding.{stepped_goes, torn_goes, failed_goes, failed_ends, newest_stays, dark_goes, fault_goes, after_loss}
@@ -48,13 +48,13 @@ module _ (setup : Setup) (old new : World) (guarded : Guards old.machine) where
   read reading = guarded_same m reading m.waits guarded
 
   -- a loss of mains, and any event: what the machine keeps
-  guarded_loss : (loss : Loss) → LoseStep setup loss old new → Guards new.machine
-  guarded_loss Loss.Closed done = rw done.1 guarded
-  guarded_loss Loss.Unsaved done = rw done.1 (guarded_unsaved m done.0 (guarded.mains_last (ap has_ended done.0)) guarded)
-  guarded_loss (Loss.Saved generation count) done =
+  guarded_loss : (order : DrainOrder) (loss : Loss) → LoseStep order setup loss old new → Guards new.machine
+  guarded_loss order Loss.Closed done = rw done.1 guarded
+  guarded_loss order Loss.Unsaved done = rw done.1 (guarded_unsaved m done.0 (guarded.mains_last (ap has_ended done.0)) guarded)
+  guarded_loss order (Loss.Saved generation count) done =
       rw (after_loss (Loss.Saved generation count) m new.machine Mode.Saved _ done.closes done.mode done.saved) (guarded_saved m new.machine.reading generation count new.machine.waits guarded)
-  guarded_loss Loss.Dark done = rw (after_loss Loss.Dark m new.machine Mode.Closing _ done.closes done.mode refl) (guarded_broken m _ Loss.Dark _ _ guarded refl (dark_goes setup old new done) done.closes.ended)
-  guarded_loss Loss.Fault done = rw (after_loss Loss.Fault m new.machine Mode.Closing _ done.closes done.mode refl) (guarded_broken m _ Loss.Fault _ _ guarded refl (fault_goes setup old new done) done.closes.ended)
+  guarded_loss order Loss.Dark done = rw (after_loss Loss.Dark m new.machine Mode.Closing _ done.closes done.mode refl) (guarded_broken m _ Loss.Dark _ _ guarded refl (dark_goes order setup old new done) done.closes.ended)
+  guarded_loss order Loss.Fault done = rw (after_loss Loss.Fault m new.machine Mode.Closing _ done.closes done.mode refl) (guarded_broken m _ Loss.Fault _ _ guarded refl (fault_goes order setup old new done) done.closes.ended)
 
   guarded_by : (event : Event) (reply : Reply) → Effect setup old new event reply → Guards new.machine
   guarded_by event reply (rests silent waits is fewer gauge) = rw is (guarded_same m m.reading waits guarded)
@@ -75,20 +75,20 @@ module _ (setup : Setup) (old new : World) (guarded : Guards old.machine) where
       rw done.6.1 (guarded_did (read_as done.2 m) (read done.2) done.0 done.1.runs _ (torn_goes done.0.made m.store done.0.next) done.0.next (done.0.repeats + 1) (active m done.0 guarded done.1.runs))
   guarded_by event reply (fails done) =
       let ended = failed_ends done.0.made m.store done.0.next in rw done.6.1 (guarded_failed (read_as done.2 m) (read done.2) done.0 done.1.runs _ (failed_goes done.0.made m.store done.0.next) ended.0 ended.1)
-  guarded_by event reply (closes loss done) = guarded_loss loss done
+  guarded_by event reply (closes order loss done) = guarded_loss order loss done
 
   -- a loss of mains, and any event: what becomes of the life
-  loss_keeps : (loss : Loss) → LoseStep setup loss old new → KeepsLife Event.Lose (Reply.Lose loss) m new.machine
-  loss_keeps Loss.Closed done = rw done.1 (search (arith, no_more))
-  loss_keeps Loss.Unsaved done = rw done.1 (search (arith, no_more))
-  loss_keeps (Loss.Saved generation count) done =
+  loss_keeps : (order : DrainOrder) (loss : Loss) → LoseStep order setup loss old new → KeepsLife Event.Lose (Reply.Lose loss) m new.machine
+  loss_keeps order Loss.Closed done = rw done.1 (search (arith, no_more))
+  loss_keeps order Loss.Unsaved done = rw done.1 (search (arith, no_more))
+  loss_keeps order (Loss.Saved generation count) done =
       let all : m.life.persisted ≡ all_of m = guarded.backed_persisted done.closes.backed in
       rw (after_loss (Loss.Saved generation count) m new.machine Mode.Saved _ done.closes done.mode done.saved) (search (arith, no_more, all, done.count_is, done.closes.backed))
-  loss_keeps Loss.Dark done =
-      let newest = newest_stays _ m.store _ (dark_goes setup old new done) in
+  loss_keeps order Loss.Dark done =
+      let newest = newest_stays _ m.store _ (dark_goes order setup old new done) in
       rw (after_loss Loss.Dark m new.machine Mode.Closing _ done.closes done.mode refl) (search (arith, no_more, newest, done.closes.backed))
-  loss_keeps Loss.Fault done =
-      let newest = newest_stays _ m.store _ (fault_goes setup old new done) in
+  loss_keeps order Loss.Fault done =
+      let newest = newest_stays _ m.store _ (fault_goes order setup old new done) in
       rw (after_loss Loss.Fault m new.machine Mode.Closing _ done.closes done.mode refl) (search (arith, no_more, newest, done.closes.backed))
 
   kept_by : (event : Event) (reply : Reply) → Effect setup old new event reply → KeepsLife event reply m new.machine
@@ -109,7 +109,7 @@ module _ (setup : Setup) (old new : World) (guarded : Guards old.machine) where
       let newest = newest_stays done.0.made m.store _ (torn_goes done.0.made m.store done.0.next) in rw done.6.1 (search (arith, no_more, newest))
   kept_by event reply (fails done) =
       let newest = newest_stays done.0.made m.store _ (failed_goes done.0.made m.store done.0.next) in rw done.6.1 (search (arith, no_more, newest))
-  kept_by event reply (closes loss done) = loss_keeps loss done
+  kept_by event reply (closes order loss done) = loss_keeps order loss done
 
 pub guarded_event : (setup : Setup) (event : Event) (reply : Reply) (old new : World) → MachineStep setup event reply old new → IsGuarded old.machine → IsGuarded new.machine
 unfolding IsGuarded

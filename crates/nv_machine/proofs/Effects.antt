@@ -13,7 +13,7 @@ use Rattle.channel_port.specs.declared.answers.Ticket.{Ticket}
 use Rattle.nv_machine.specs.Machine.{ArmStep, DisarmStep, SaveBeginStep, SaveStepStep, SenseStep}
 use Rattle.nv_machine.specs.Moves.{sensed}
 use Rattle.nv_machine.specs.declared.events.StepReply.{StepReply}
-use Rattle.nv_machine.proofs.Common.{Bool, List, [], ap, arith, false, length, refl, true, ℕ, ◌≡◌, ◌≤◌, Err, None, Ok, Option, Some, if◌then◌else◌, slice_get_within, after, Write, Step, reads_gauge, Loss, Mode, ReadsLevel, Waits, SavesAllWritten, marks, LoseStep, MachineStep, WriteStep, begun, disarming, read_as, is_low, added, Machine, Setup, World, pending_of, told_mark, Accepted, Event, Reply, GaugeCall}
+use Rattle.nv_machine.proofs.Common.{Bool, List, [], ap, arith, false, length, refl, true, ℕ, ◌≡◌, ◌≤◌, Err, None, Ok, Option, Some, if◌then◌else◌, slice_get_within, after, Write, Step, reads_gauge, DrainOrder, Loss, Mode, ReadsLevel, Waits, SavesAllWritten, marks, LoseStep, MachineStep, WriteStep, begun, disarming, read_as, is_low, added, Machine, Setup, World, pending_of, told_mark, Accepted, Event, Reply, GaugeCall}
 use Rattle.nv_machine.proofs.Refusing.{arms_where}
 
 -- how many writes the newest image has after a reply: as many as the save of which it tells, or as before
@@ -50,7 +50,7 @@ pub data Effect (setup : Setup) (old new : World) : Event → Reply → Type 0 w
   ends : (generation count : ℕ) → SaveStepStep setup (StepReply.Saved generation count) old new → Effect setup old new Event.SaveStep (Reply.SaveStep (StepReply.Saved generation count))
   repeats : SaveStepStep setup StepReply.Retry old new → Effect setup old new Event.SaveStep (Reply.SaveStep StepReply.Retry)
   fails : SaveStepStep setup StepReply.Fault old new → Effect setup old new Event.SaveStep (Reply.SaveStep StepReply.Fault)
-  closes : (loss : Loss) → LoseStep setup loss old new → Effect setup old new Event.Lose (Reply.Lose loss)
+  closes : (order : DrainOrder) (loss : Loss) → LoseStep order setup loss old new → Effect setup old new Event.Lose (Reply.Lose loss)
 
 -- what goes leaves one less
 goes_less : {X : Type 0} (x : X) (old new : List X) → Goes x old new → length new ≤ length old
@@ -132,5 +132,5 @@ module _ (setup : Setup) (old new : World) where
   effect Event.SaveStep (Reply.SaveStep (StepReply.Saved generation count)) done = ends generation count done
   effect Event.SaveStep (Reply.SaveStep StepReply.Retry) done = repeats done
   effect Event.SaveStep (Reply.SaveStep StepReply.Fault) done = fails done
-  effect Event.Lose (Reply.Lose loss) done = closes loss done
+  effect Event.Lose (Reply.Lose loss) done = closes done.0 loss done.1
   effect event reply none = absurd none

@@ -17,7 +17,7 @@ use Rattle.nv_machine.specs.Machine.{SenseStep}
 use Rattle.nv_machine.specs.Moves.{sensed}
 use Rattle.nv_machine.specs.Tickets.{GivesAnother, given_ticket}
 use Rattle.nv_machine.specs.declared.events.StepReply.{StepReply}
-use Rattle.nv_machine.proofs.Common.{All, All-cons, All-nil, Bool, arith, Err, Event, ForSome, GaugeCall, List, LoseStep, Loss, Machine, MachineStep, None, Ok, Option, ReadsLevel, Reply, Run, Setup, Some, Waits, World, [], ap, disarming, false, if◌then◌else◌, is_low, reads_gauge, read_as, refl, slice_get_within, subst, suc, sym, take, true, zero, ℕ, ◌++◌, ◌∙◌, ◌∷◌, ◌≡◌, ◌≢◌}
+use Rattle.nv_machine.proofs.Common.{All, All-cons, All-nil, Bool, DrainOrder, arith, Err, Event, ForSome, GaugeCall, List, LoseStep, Loss, Machine, MachineStep, None, Ok, Option, ReadsLevel, Reply, Run, Setup, Some, Waits, World, [], ap, disarming, false, if◌then◌else◌, is_low, reads_gauge, read_as, refl, slice_get_within, subst, suc, sym, take, true, zero, ℕ, ◌++◌, ◌∙◌, ◌∷◌, ◌≡◌, ◌≢◌}
 
 -- what stands in a list stands there still once a ticket has joined it, and the ticket does
 joined_keeps : (place : ℕ) (ticket other : Ticket) (given : List Ticket) → Has other given → Has other (take place given ++ ticket ∷ drop place given)
@@ -89,12 +89,12 @@ module _ (setup : Setup) (old new : World) where
       by_mode true done = moved (sensed setup (read_as level m)) done.1 (low (is_low setup (read_as level m)))
       by_mode false done = moved m done.1 refl
 
-  lost_given : (loss : Loss) → LoseStep setup loss old new → new.machine.waits.given ≡ m.waits.given
-  lost_given Loss.Closed done = world_moved old done.1 refl
-  lost_given Loss.Unsaved done = world_moved _ done.1 refl
-  lost_given (Loss.Saved generation count) done = done.closes.given
-  lost_given Loss.Dark done = done.closes.given
-  lost_given Loss.Fault done = done.closes.given
+  lost_given : (order : DrainOrder) (loss : Loss) → LoseStep order setup loss old new → new.machine.waits.given ≡ m.waits.given
+  lost_given order Loss.Closed done = world_moved old done.1 refl
+  lost_given order Loss.Unsaved done = world_moved _ done.1 refl
+  lost_given order (Loss.Saved generation count) done = done.closes.given
+  lost_given order Loss.Dark done = done.closes.given
+  lost_given order Loss.Fault done = done.closes.given
 
   event_goes : (event : Event) (reply : Reply) → MachineStep setup event reply old new → GoesOn reply m.waits new.machine.waits
   event_goes (Event.Write write) (Reply.Write (Ok accepted)) done = same_given _ m.waits new.machine.waits refl done.1.1.puts.given
@@ -123,7 +123,7 @@ module _ (setup : Setup) (old new : World) where
   event_goes Event.SaveStep (Reply.SaveStep (StepReply.Saved generation count)) done = same_given _ m.waits new.machine.waits refl (moved _ done.6.3 refl)
   event_goes Event.SaveStep (Reply.SaveStep StepReply.Retry) done = same_given _ m.waits new.machine.waits refl (moved _ done.6.1 refl)
   event_goes Event.SaveStep (Reply.SaveStep StepReply.Fault) done = same_given _ m.waits new.machine.waits refl (moved _ done.6.1 refl)
-  event_goes Event.Lose (Reply.Lose loss) done = same_given _ m.waits new.machine.waits refl (lost_given loss done)
+  event_goes Event.Lose (Reply.Lose loss) done = same_given _ m.waits new.machine.waits refl (lost_given done.0 loss done.1)
   event_goes event reply none = absurd none
 
 module _ (setup : Setup) where

@@ -165,13 +165,13 @@ module _ (setup : Setup) (old new : World) (known : IsKnown setup old.machine) (
       (repeated_backs done.2 done.3 honest.gauge done.4 done.0 done.1.runs (λ is. called_differs _ false old.device new.device done.5 (rw is at honest.spared)) (torn m.store done.0.made done.0.next) done.6.0)
   backs event reply (fails done) honest =
       rw done.6.1 (failed_backs done.2 done.3 honest.gauge done.4 done.0 done.1.runs (λ is. called_differs _ false old.device new.device done.5 (rw is at honest.spared)) (step_failed m.store done.0.made done.0.next))
-  backs event reply (closes loss done) honest = (backs_lose setup old new known backed loss done honest).backed
+  backs event reply (closes order loss done) honest = (backs_lose setup old new known backed order loss done honest).backed
 
   saves : (event : Event) (reply : Reply) → Effect setup old new event reply → IsHonest setup old reply new → SavesAllWritten m reply
   saves event reply (rests silent waits is fewer gauge) honest = silent.saves m
   saves event reply (shows silent reading is reads asks high) honest = silent.saves m
   saves event reply (runs_low silent reading is reads low) honest = silent.saves m
-  saves event reply (closes loss done) honest = (backs_lose setup old new known backed loss done honest).saves
+  saves event reply (closes order loss done) honest = (backs_lose setup old new known backed order loss done honest).saves
   saves event reply _ honest = tt
 
 pub honest_event : (setup : Setup) (event : Event) (reply : Reply) (old new : World) → MachineStep setup event reply old new → IsKnown setup old.machine → IsHonest setup old reply new → IsBacked setup old.machine old.gauge

@@ -20,7 +20,7 @@ use Rattle.nv_machine.specs.Machine.{SenseStep}
 use Rattle.nv_machine.specs.Moves.{sensed}
 use Rattle.nv_machine.specs.WaitingOrder.{WaitInOrder, GoesBefore, IsInOrder}
 use Rattle.nv_machine.specs.declared.events.StepReply.{StepReply}
-use Rattle.nv_machine.proofs.Common.{All, All-cons, All-nil, Bool, EndsDark, Err, Event, GaugeCall, List, LoseStep, Loss, Machine, MachineStep, None, Ok, Option, ReadsLevel, Reply, Run, Setup, Some, Waits, World, [], all_of, ap, arith, disarming, false, if◌then◌else◌, inl, inr, is_low, length, length-append, read_as, reads_gauge, refl, slice_get_within, subst, suc, sym, take, true, zero, ℕ, ◌++◌, ◌+◌, ◌<◌, ◌∙◌, ◌∷◌, ◌≡◌, ◌≤◌}
+use Rattle.nv_machine.proofs.Common.{All, All-cons, All-nil, Bool, DrainOrder, EndsDark, Err, Event, GaugeCall, List, LoseStep, Loss, Machine, MachineStep, None, Ok, Option, ReadsLevel, Reply, Run, Setup, Some, Waits, World, [], all_of, ap, arith, disarming, false, if◌then◌else◌, inl, inr, is_low, length, length-append, read_as, reads_gauge, refl, slice_get_within, subst, suc, sym, take, true, zero, ℕ, ◌++◌, ◌+◌, ◌<◌, ◌∙◌, ◌∷◌, ◌≡◌, ◌≤◌}
 use Rattle.nv_machine.proofs.Effects.{collected_writes}
 
 -- the first of a list and each later one, and the later ones among themselves
@@ -145,9 +145,9 @@ first_gone (suc n) (w ∷ ws) gone left pairs (zero, at) lacks has =
     subst (λ v. GoesBefore v left) (same_Some w gone at) (all_at (GoesBefore w) ws left (head_pairs w ws pairs) (has_dropped n ws left has))
 first_gone (suc n) (w ∷ ws) gone left pairs (suc k, at) lacks has = first_gone n ws gone left (tail_pairs w ws pairs) (k, at) lacks has
 
-pub dark_order : (setup : Setup) (old new : World) (gone left : Waiting) → EndsDark setup old new → IsInOrder old.machine → Has gone old.machine.waits.writes → (Has gone new.machine.waits.writes → ⊥) → Has left new.machine.waits.writes
+pub dark_order : (order : DrainOrder) (setup : Setup) (old new : World) (gone left : Waiting) → EndsDark order setup old new → IsInOrder old.machine → Has gone old.machine.waits.writes → (Has gone new.machine.waits.writes → ⊥) → Has left new.machine.waits.writes
     → GoesBefore gone left
-dark_order setup old new gone left done o had lacks has =
+dark_order order setup old new gone left done o had lacks has =
     first_gone _ old.machine.waits.writes gone left o.order had (λ again. lacks (subst (Has gone) (sym done.left) again)) (subst (Has left) done.left has)
 
 -- of reads nothing changes
@@ -189,12 +189,12 @@ module _ (setup : Setup) (old new : World) (o : IsInOrder old.machine) where
       by_mode true done = moved (sensed setup (read_as level m)) done.1 (low (is_low setup (read_as level m)))
       by_mode false done = moved m done.1 o
 
-  lost_order : (loss : Loss) → LoseStep setup loss old new → IsInOrder new.machine
-  lost_order Loss.Closed done = world_moved old done.1 o
-  lost_order Loss.Unsaved done = world_moved _ done.1 o
-  lost_order (Loss.Saved generation count) done = so_many (ap all_of done.closes.rest) (subst (λ (w : Waits). WaitInOrder (all_of m) w.writes) (sym done.drained) (none_order (all_of m)))
-  lost_order Loss.Dark done = so_many (ap all_of done.closes.rest) (subst (WaitInOrder (all_of m)) (sym done.left) (drop_order (all_of m) _ m.waits.writes o))
-  lost_order Loss.Fault done = so_many (ap all_of done.closes.rest) (subst (λ (w : Waits). WaitInOrder (all_of m) w.writes) (sym done.drained) (none_order (all_of m)))
+  lost_order : (order : DrainOrder) (loss : Loss) → LoseStep order setup loss old new → IsInOrder new.machine
+  lost_order order Loss.Closed done = world_moved old done.1 o
+  lost_order order Loss.Unsaved done = world_moved _ done.1 o
+  lost_order order (Loss.Saved generation count) done = so_many (ap all_of done.closes.rest) (subst (λ (w : Waits). WaitInOrder (all_of m) w.writes) (sym done.drained) (none_order (all_of m)))
+  lost_order order Loss.Dark done = so_many (ap all_of done.closes.rest) (subst (WaitInOrder (all_of m)) (sym done.left) (drop_order (all_of m) _ m.waits.writes o))
+  lost_order order Loss.Fault done = so_many (ap all_of done.closes.rest) (subst (λ (w : Waits). WaitInOrder (all_of m) w.writes) (sym done.drained) (none_order (all_of m)))
 
   event_order : (event : Event) (reply : Reply) → MachineStep setup event reply old new → IsInOrder new.machine
   event_order (Event.Write write) (Reply.Write (Ok accepted)) done =
@@ -226,7 +226,7 @@ module _ (setup : Setup) (old new : World) (o : IsInOrder old.machine) where
   event_order Event.SaveStep (Reply.SaveStep (StepReply.Saved generation count)) done = moved _ done.6.3 o
   event_order Event.SaveStep (Reply.SaveStep StepReply.Retry) done = moved _ done.6.1 o
   event_order Event.SaveStep (Reply.SaveStep StepReply.Fault) done = moved _ done.6.1 o
-  event_order Event.Lose (Reply.Lose loss) done = lost_order loss done
+  event_order Event.Lose (Reply.Lose loss) done = lost_order done.0 loss done.1
   event_order event reply none = absurd none
 
 module _ (setup : Setup) where

@@ -1,20 +1,20 @@
 -- As many writes wait no more as entries were paid for.
 use Rattle.std.specs.List.{flat_map}
-use Rattle.std.specs.Prelude.{count_by, nat_le, replicate}
+use Rattle.std.specs.Prelude.{count_by, nat_le, replicate, sum_by}
 use Rattle.std.proofs.Common.{cond, eqb}
 use Rattle.std.proofs.lemmas.Bool.{cases_order, eq-eqb, le-leb, lt-leb, ne_eqb}
 use Rattle.std.proofs.lemmas.Grind.{flat_map-append}
 use Rattle.std.proofs.lemmas.List.{length-drop}
-use Rattle.std.proofs.lemmas.List.Sums.{count_by-le-length, sum_by-cons, sum_by-take-le}
+use Rattle.std.proofs.lemmas.List.Sums.{count_by-le-length, sum_by-append, sum_by-cons, sum_by-take-le}
 use Rattle.energy_budget.specs.declared.action.Action.TheVariants.{CloseGate, OpenGate, Sync, WriteHeader, WritePage}
 use Rattle.energy_budget.specs.Actions.{drain_actions, page_actions, save_actions}
-use Rattle.channel_port.proofs.Entries.{entries-both, entries-whole}
-use Rattle.channel_port.specs.Draining.{entries_in, is_entry}
+use Rattle.channel_port.proofs.Entries.{alone-entries, entries-both, entries-whole, order-entries}
+use Rattle.channel_port.specs.Draining.{each_alone, entries_in, is_entry, payments_in}
 use Rattle.channel_port.specs.Waits.{is_write_on, writes_on}
 use Rattle.channel_port.specs.declared.waiting.Waiting.{Waiting}
 use Rattle.slot_store.specs.Tries.{tried}
 use Rattle.nv_machine.specs.Losses.{ComesNext, drains_of, steps_of}
-use Rattle.nv_machine.proofs.Common.{Action, Bool, EndsDark, List, Machine, Setup, World, [], ap, append-nil, arith, false, inl, inr, length, refl, suc, true, zero, ℕ, ◌++◌, ◌+◌, ◌∙◌, ◌∷◌, ◌≡◌, ◌≤◌, pending_each}
+use Rattle.nv_machine.proofs.Common.{Action, Bool, DrainOrder, EndsDark, List, Machine, Setup, World, [], ap, append-nil, arith, false, inl, inr, length, refl, suc, true, zero, ℕ, ◌++◌, ◌+◌, ◌∙◌, ◌∷◌, ◌≡◌, ◌≤◌, pending_each}
 
 abbrev one_if : Bool → ℕ
 one_if b = cond b 1 0
@@ -85,14 +85,26 @@ tried_entries (x ∷ xs) (false ∷ tries) none =
 drains_entries : (setup : Setup) (m : Machine) → entries_in (drains_of setup m) ≤ length m.waits.writes
 drains_entries setup m = omega (arith, drain_entries setup.shape.channels m.waits.writes)
 
-paid_entries : (setup : Setup) (m : Machine) (tries : List Bool) (paid : List Action) (coming : Action) → ComesNext setup m tries paid coming → entries_in paid ≤ length m.waits.writes
-paid_entries setup m tries paid coming (inl in_drains) =
-    let k : ℕ = in_drains.1.0 in
-    omega (arith, ap entries_in in_drains.1.1, sum_by-take-le (λ a. cond (is_entry a) 1 0) (drains_of setup m) k, drains_entries setup m)
-paid_entries setup m tries paid coming (inr behind) =
-    omega (arith, ap entries_in behind.0, entries-both (drains_of setup m) (tried (steps_of setup) tries), tried_entries (steps_of setup) tries (save_entries setup.shape.costs.pages), drains_entries setup m)
+abbrev sum_entries : List (List Action) → ℕ
+sum_entries paid = sum_by entries_in paid
 
-pub dark_count : (setup : Setup) (old new : World) (dark : EndsDark setup old new)
-    → length new.machine.waits.writes + entries_in dark.paid ≡ length old.machine.waits.writes
-dark_count setup old new dark =
-    omega (arith, paid_entries setup old.machine dark.tries dark.paid dark.coming dark.comes, ap length dark.left, length-drop (entries_in dark.paid) old.machine.waits.writes)
+paid_entries : (order : DrainOrder) (setup : Setup) (m : Machine) (tries : List Bool) (paid : List (List Action)) (coming : List Action) → ComesNext order setup m tries paid coming → sum_entries paid ≤ length m.waits.writes
+paid_entries order setup m tries paid coming (inl in_drains) =
+    let drains = payments_in order (drains_of setup m) in
+    omega (arith, ap sum_entries in_drains.1.1, sum_by-take-le entries_in drains in_drains.1.0, order-entries order (drains_of setup m), drains_entries setup m)
+paid_entries order setup m tries paid coming (inr behind) =
+    let steps = tried (steps_of setup) tries in
+    omega (
+      arith,
+      ap sum_entries behind.0,
+      sum_by-append entries_in (payments_in order (drains_of setup m)) (each_alone steps),
+      order-entries order (drains_of setup m),
+      alone-entries steps,
+      tried_entries (steps_of setup) tries (save_entries setup.shape.costs.pages),
+      drains_entries setup m,
+    )
+
+pub dark_count : (order : DrainOrder) (setup : Setup) (old new : World) (dark : EndsDark order setup old new)
+    → length new.machine.waits.writes + sum_entries dark.paid ≡ length old.machine.waits.writes
+dark_count order setup old new dark =
+    omega (arith, paid_entries order setup old.machine dark.tries dark.paid dark.coming dark.comes, ap length dark.left, length-drop (sum_entries dark.paid) old.machine.waits.writes)

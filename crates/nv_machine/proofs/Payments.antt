@@ -1,44 +1,42 @@
 -- Payments in turn, and what they come to.
 use Rattle.std.proofs.Common.{cond}
-use Rattle.std.specs.Prelude.{count_by, nat_lt, ◌==◌}
+use Rattle.std.specs.Prelude.{count_by, nat_lt, sum_by, ◌==◌}
 use Rattle.std.proofs.lemmas.Bool.Decides.{nat_tests}
 use Rattle.std.proofs.lemmas.List.Sums.{count_by-le-length, sum_by-append, sum_by-cons, sum_by_more_le}
 use Rattle.std.proofs.lemmas.Option.{get_or_from_slice_get}
-use Rattle.energy_budget.proofs.Totals.{total_cost-cons}
-use Rattle.channel_port.specs.Draining.{Paid, PaysInTurn}
+use Rattle.channel_port.specs.Draining.{Paid, PaysCosts}
 use Rattle.channel_port.specs.Waits.{writes_on}
 use Rattle.channel_port.specs.declared.waiting.Waiting.{Waiting}
-use Rattle.nv_machine.proofs.Common.{List, [], arith, inr, length, refl, subst, suc, take, zero, ℕ, ◌++◌, ◌+◌, ◌∙◌, ◌∷◌, ◌≡◌, ◌≤◌, Err, Ok, Some, slice_get, sum, length-append, slice_get_within, cost_of, total_cost, Gauge, Action, Costs, pending_each}
+use Rattle.nv_machine.proofs.Common.{List, [], arith, inr, length, refl, subst, suc, take, zero, ℕ, ◌++◌, ◌+◌, ◌∙◌, ◌∷◌, ◌≡◌, ◌≤◌, Err, Ok, Some, slice_get, sum, length-append, slice_get_within, Gauge, pending_each}
 
 -- The leak stays and faults are counted, and where none is, the level has fallen by what was paid.
-pub record IsPaid (costs : Costs) (actions : List Action) (old new : Gauge) : Type 0 where
+pub record IsPaid (costs : List ℕ) (old new : Gauge) : Type 0 where
   pub counted : old.faults ≤ new.faults
   pub same_leak : new.leak ≡ old.leak
-  pub fell : new.faults ≡ old.faults → old.level ≤ new.level + total_cost costs actions
+  pub fell : new.faults ≡ old.faults → old.level ≤ new.level + sum costs
 
-pub paid_of : (costs : Costs) (actions : List Action) (old new : Gauge) → PaysInTurn costs actions old (Ok tt) new → IsPaid costs actions old new
-paid_of costs [] old new pays = rw pays (record { counted = omega arith; same_leak = refl; fell = λ same. omega arith })
-paid_of costs (a ∷ rest) old new pays =
-    let then_paid : IsPaid costs rest pays.0 new = paid_of costs rest pays.0 new pays.2 in
+pub paid_of : (costs : List ℕ) (old new : Gauge) → PaysCosts costs old (Ok tt) new → IsPaid costs old new
+paid_of [] old new pays = rw pays (record { counted = omega arith; same_leak = refl; fell = λ same. omega arith })
+paid_of (c ∷ rest) old new pays =
+    let then_paid : IsPaid rest pays.0 new = paid_of rest pays.0 new pays.2 in
     record {
       counted = omega (arith, pays.1.counted, then_paid.counted);
       same_leak = then_paid.same_leak ∙ pays.1.same_leak;
       fell = λ same.
           let kept = pays.1.breach.0 (omega (arith, pays.1.counted, then_paid.counted, same)) in
-          omega (arith, kept.falls, then_paid.fell (omega (arith, pays.1.counted, then_paid.counted, same)), total_cost-cons costs a rest);
+          omega (arith, kept.falls, then_paid.fell (omega (arith, pays.1.counted, then_paid.counted, same)), sum_by-cons (λ x. x) c rest);
     }
 
--- the actions before one of a list, and that one, cost no more than all
-pub cost_until : (costs : Costs) (actions : List Action) (place : ℕ) (action : Action) → slice_get actions place ≡ Some action → total_cost costs (take place actions) + cost_of costs action ≤ total_cost costs actions
-unfolding total_cost
-cost_until costs actions place action is =
-    rw (get_or_from_slice_get actions place action action is) at (sum_by_more_le (cost_of costs) actions place action (slice_get_within actions place action is))
+-- those of a list before one of it, and that one, cost no more than all
+pub cost_until : {X : Type 0} (f : X → ℕ) (xs : List X) (place : ℕ) (x : X) → slice_get xs place ≡ Some x → sum_by f (take place xs) + f x ≤ sum_by f xs
+cost_until f xs place x is =
+    rw (get_or_from_slice_get xs place x x is) at (sum_by_more_le f xs place x (slice_get_within xs place x is))
 
 -- payments of two lists
-pub pays_append : (costs : Costs) (xs ys : List Action) (old mid : Gauge) (result : Paid) (new : Gauge) → PaysInTurn costs xs old (Ok tt) mid → PaysInTurn costs ys mid result new → PaysInTurn costs (xs ++ ys) old result new
-pays_append costs [] ys old mid result new one two = subst (λ (g : Gauge). PaysInTurn costs ys g result new) one two
-pays_append costs (a ∷ xs) ys old mid (Ok done) new one two = (one.0, one.1, pays_append costs xs ys one.0 mid (Ok done) new one.2 two)
-pays_append costs (a ∷ xs) ys old mid (Err dark) new one two = inr (one.0, one.1, pays_append costs xs ys one.0 mid (Err dark) new one.2 two)
+pub pays_append : (xs ys : List ℕ) (old mid : Gauge) (result : Paid) (new : Gauge) → PaysCosts xs old (Ok tt) mid → PaysCosts ys mid result new → PaysCosts (xs ++ ys) old result new
+pays_append [] ys old mid result new one two = subst (λ (g : Gauge). PaysCosts ys g result new) one two
+pays_append (c ∷ xs) ys old mid (Ok done) new one two = (one.0, one.1, pays_append xs ys one.0 mid (Ok done) new one.2 two)
+pays_append (c ∷ xs) ys old mid (Err dark) new one two = inr (one.0, one.1, pays_append xs ys one.0 mid (Err dark) new one.2 two)
 
 -- how many writes wait in the first channels
 pub length-pending_each : (n : ℕ) (writes : List Waiting) → length (pending_each n writes) ≡ n

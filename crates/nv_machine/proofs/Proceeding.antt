@@ -2,7 +2,7 @@
 use Rattle.nv_machine.specs.Losses.{LosesMains}
 use Rattle.slot_store.specs.Tries.{goods, is_failed}
 use Rattle.nv_machine.specs.Moves.{after_steps, broken_off, torn}
-use Rattle.nv_machine.proofs.Common.{Bool, ap, false, refl, suc, true, zero, ℕ, ◌∙◌, ◌≡◌, None, Option, Some, ForSome, Image, Step, Loss, Mode, EndsDark, EndsInFault, step_failed, stepped, Machine, Setup, Store, World, made_of}
+use Rattle.nv_machine.proofs.Common.{Bool, ap, false, refl, suc, true, zero, ℕ, ◌∙◌, ◌≡◌, None, Option, Some, ForSome, Image, Step, Loss, Mode, DrainOrder, EndsDark, EndsInFault, step_failed, stepped, Machine, Setup, Store, World, made_of}
 use Rattle.nv_machine.proofs.GuardLaws.{for_none, for_one}
 
 -- the new store, but for the candidates: those of the old one, with this image in the other slot
@@ -57,14 +57,14 @@ pub newest_stays : (made : Image) (old new : Store) → Proceeds made old new �
 newest_stays made old new goes = ap (λ (s : Store). s.maybe.newest.count) goes.is
 
 -- a closing save that ran out of energy, and one in which the device failed
-pub dark_goes : (setup : Setup) (old new : World) (done : EndsDark setup old new) → Proceeds (made_of false old.machine) old.machine.store new.machine.store
-dark_goes setup old new done =
+pub dark_goes : (order : DrainOrder) (setup : Setup) (old new : World) (done : EndsDark order setup old new) → Proceeds (made_of false old.machine) old.machine.store new.machine.store
+dark_goes order setup old new done =
     let made = made_of false old.machine in let before = after_steps setup.shape.lines old.machine.store made (goods done.tries) in
     rw done.saved
     (goes_further made old.machine.store before.store _ (steps_go setup.shape.lines made old.machine.store (goods done.tries)) (broken_goes made before.store before.next (is_failed false done.tries)))
 
-pub fault_goes : (setup : Setup) (old new : World) (done : EndsInFault setup old new) → Proceeds (made_of false old.machine) old.machine.store new.machine.store
-fault_goes setup old new done =
+pub fault_goes : (order : DrainOrder) (setup : Setup) (old new : World) (done : EndsInFault order setup old new) → Proceeds (made_of false old.machine) old.machine.store new.machine.store
+fault_goes order setup old new done =
     let made = made_of false old.machine in let before = after_steps setup.shape.lines old.machine.store made (goods done.tries) in
     rw done.saved (goes_further made old.machine.store before.store _ (steps_go setup.shape.lines made old.machine.store (goods done.tries)) (failed_goes made before.store before.next))
 

@@ -4,7 +4,7 @@ use Rattle.arm_state.specs.Modes.{is_stranded}
 use Rattle.nv_machine.specs.Headline.{IsSpared, given}
 use Rattle.nv_machine.specs.Honesty.{IsSparedAlong}
 use Rattle.nv_machine.specs.Machine.{step_call}
-use Rattle.nv_machine.proofs.Common.{Bool, List, [], ap, arith, false, ℕ, ◌∙◌, ◌∷◌, ◌≡◌, faults_more, DeviceState, mode_after, Loss, Mode, Move, LoseStep, MachineStep, Machine, Run, Setup, World, Event, Reply}
+use Rattle.nv_machine.proofs.Common.{Bool, List, [], ap, arith, false, ℕ, ◌∙◌, ◌∷◌, ◌≡◌, faults_more, DeviceState, mode_after, DrainOrder, Loss, Mode, Move, LoseStep, MachineStep, Machine, Run, Setup, World, Event, Reply}
 use Rattle.nv_machine.proofs.Effects.{Effect, rests, shows, runs_low, disarms, accepts, begins, arms, fails_to_arm, steps, ends, repeats, fails, closes, effect}
 use Rattle.nv_machine.proofs.CountedFaults.{Counts, event_counts, run_counts}
 
@@ -15,12 +15,12 @@ off m = is_stranded m.mode
 ended_off : (mode : Mode) → is_stranded mode ≡ false → is_stranded (mode_after Move.EndSave mode) ≡ false
 ended_off mode was = grind arith
 
-loss_off : (setup : Setup) (old new : World) (loss : Loss) → LoseStep setup loss old new → off old.machine ≡ false → off new.machine ≡ false
-loss_off setup old new Loss.Closed done was = ap (λ (w : World). off w.machine) done.1 ∙ was
-loss_off setup old new Loss.Unsaved done was = ap (λ (w : World). off w.machine) done.1
-loss_off setup old new (Loss.Saved generation count) done was = ap is_stranded done.mode
-loss_off setup old new Loss.Dark done was = ap is_stranded done.mode
-loss_off setup old new Loss.Fault done was = ap is_stranded done.mode
+loss_off : (order : DrainOrder) (setup : Setup) (old new : World) (loss : Loss) → LoseStep order setup loss old new → off old.machine ≡ false → off new.machine ≡ false
+loss_off order setup old new Loss.Closed done was = ap (λ (w : World). off w.machine) done.1 ∙ was
+loss_off order setup old new Loss.Unsaved done was = ap (λ (w : World). off w.machine) done.1
+loss_off order setup old new (Loss.Saved generation count) done was = ap is_stranded done.mode
+loss_off order setup old new Loss.Dark done was = ap is_stranded done.mode
+loss_off order setup old new Loss.Fault done was = ap is_stranded done.mode
 
 effect_off : (setup : Setup) (old new : World) (event : Event) (reply : Reply) → Effect setup old new event reply → off old.machine ≡ false → faults_of new.device ≡ faults_of old.device → off new.machine ≡ false
 effect_off setup old new event reply (rests silent waits is fewer gauge) was same = ap off is ∙ was
@@ -36,7 +36,7 @@ effect_off setup old new event reply (ends generation count done) was same = ap 
 effect_off setup old new event reply (repeats done) was same = ap off done.6.1 ∙ was
 effect_off setup old new event reply (fails done) was same =
     let one = faults_more (step_call old.machine.store.closed done.0.next ∷ []) old.device.calls new.device.calls done.5 in absurd (let bad : ⊥ = omega (arith, one, same) in bad)
-effect_off setup old new event reply (closes loss done) was same = loss_off setup old new loss done was
+effect_off setup old new event reply (closes order loss done) was same = loss_off order setup old new loss done was
 
 event_off : (setup : Setup) (event : Event) (reply : Reply) (old new : World) → MachineStep setup event reply old new → off old.machine ≡ false → faults_of new.device ≡ faults_of old.device → off new.machine ≡ false
 event_off setup event reply old new done = effect_off setup old new event reply (effect setup old new event reply done)

@@ -8,12 +8,12 @@ use Rattle.arm_state.specs.declared.mode.Mode.TheVariants as modes
 use Rattle.arm_state.specs.Modes.{is_backed, has_ended}
 use Rattle.energy_budget.specs.declared.action.Action.{Action}
 use Rattle.energy_budget.specs.declared.energy.Dark.{Dark}
-use Rattle.std.specs.List.{flat_map}
-use Rattle.energy_budget.specs.Actions.{cost_of, drain_actions, save_actions}
+use Rattle.std.specs.List.{flat_map, sum_by}
+use Rattle.energy_budget.specs.Actions.{drain_actions, save_actions, total_cost}
 use Rattle.energy_budget.specs.declared.energy.GaugeCall.TheVariants.{Tick}
 use Rattle.energy_budget.specs.Gauge.{Gauge, ReadsLevel, PaysCost}
 use Rattle.channel_port.specs.Waits.{Remain, emptied}
-use Rattle.channel_port.specs.Draining.{PaysInTurn, entries_in, pending_each}
+use Rattle.channel_port.specs.Draining.{DrainOrder, PaysTogether, each_alone, entries_in, payments_in, pending_each}
 use Rattle.arm_state.specs.declared.loss.Loss.{Loss}
 use Rattle.arm_state.specs.declared.loss.Loss.TheVariants as loss
 use Rattle.nv_machine.specs.State.{Setup, Machine, World, made_of}
@@ -31,10 +31,10 @@ drains_of setup m = flat_map drain_actions (pending_in setup m)
 abbrev pub steps_of : Setup → List Action
 steps_of setup = save_actions setup.shape.costs.pages
 
--- The actions of the closing save, where the tries of its steps ended so: the drains, and then each step as often as it was
--- tried.
-abbrev pub closing_of : Setup → Machine → List Bool → List Action
-closing_of setup m tries = drains_of setup m ++ tried (steps_of setup) tries
+-- The payments of the closing save, where the tries of its steps ended so: those of the drains, and then one for each try of a
+-- step.
+abbrev pub payments_of : DrainOrder → Setup → Machine → List Bool → List (List Action)
+payments_of order setup m tries = payments_in order (drains_of setup m) ++ each_alone (tried (steps_of setup) tries)
 
 -- the device calls of its save
 abbrev pub save_calls : Setup → Machine → List CallKind
@@ -51,14 +51,14 @@ pub record LosesMains (loss : Loss) (old new : Machine) : Type 0 where
   pub writes : Remain old.waits.writes new.waits.writes
   pub ended : new.store.saving ≡ None
 
--- The gauge was read once, and these actions of the closing save were paid for in turn.
-pub record PaysFirst (setup : Setup) (old : World) (reading : ℕ) (paid : List Action) (gauge : Gauge) : Type 0 where
+-- The gauge was read once, and these payments of the closing save were made in turn.
+pub record PaysFirst (setup : Setup) (old : World) (reading : ℕ) (paid : List (List Action)) (gauge : Gauge) : Type 0 where
   pub ticked : Gauge
   pub reads : ReadsLevel Tick old.gauge reading ticked
-  pub pays : PaysInTurn setup.shape.costs paid ticked (Ok tt) gauge
+  pub pays : PaysTogether setup.shape.costs paid ticked (Ok tt) gauge
 
 -- All was saved, each action paid for first, also a step that was made again.
-pub record SavesAll (setup : Setup) (generation count : ℕ) (old new : World) : Type 0 where
+pub record SavesAll (order : DrainOrder) (setup : Setup) (generation count : ℕ) (old new : World) : Type 0 where
   pub closes : LosesMains (loss.Saved generation count) old.machine new.machine
   pub mode : new.machine.mode ≡ modes.Saved
   pub generation_is : generation ≡ (made_of false old.machine).generation
@@ -68,53 +68,55 @@ pub record SavesAll (setup : Setup) (generation count : ℕ) (old new : World) :
   pub tries : List Bool
   pub few : fails tries ≤ setup.shape.costs.retries
   pub whole : goods tries ≡ length (save_calls setup old.machine)
-  pub pays : PaysFirst setup old new.machine.reading (closing_of setup old.machine tries) new.gauge
+  pub pays : PaysFirst setup old new.machine.reading (payments_of order setup old.machine tries) new.gauge
   pub calls : new.device.calls ≡ old.device.calls ++ calls_tried (save_calls setup old.machine) tries
 
--- These actions were paid for, and this one comes next: none of the save's before the drains are done.
-abbrev pub ComesNext : Setup → Machine → List Bool → List Action → Action → Type 0
-ComesNext setup m tries paid coming =
-    ((tries ≡ []) × ((k : ℕ) × (paid ≡ take k (drains_of setup m)) × (slice_get (drains_of setup m) k ≡ Some coming)))
-    ⊎ ((paid ≡ closing_of setup m tries) × (slice_get (steps_of setup) (goods tries) ≡ Some coming))
+-- These payments were made, and this one comes next: none of the save's before the drains are done.
+abbrev pub ComesNext : DrainOrder → Setup → Machine → List Bool → List (List Action) → List Action → Type 0
+ComesNext order setup m tries paid coming =
+    let drains = payments_in order (drains_of setup m) in
+    ((tries ≡ []) × ((k : ℕ) × (paid ≡ take k drains) × (slice_get drains k ≡ Some coming)))
+    ⊎ ((paid ≡ payments_of order setup m tries) × (slice_get (each_alone (steps_of setup)) (goods tries) ≡ Some coming))
 
--- A payment was refused, and nothing ran after it: each action before it was paid for and made, but for a step in which the device
+-- A payment was refused, and nothing ran after it: each action that was paid for was made, but for a step in which the device
 -- failed. For each entry among them one write waits no more, from the first channel on, and in each the oldest first.
-pub record EndsDark (setup : Setup) (old new : World) : Type 0 where
+pub record EndsDark (order : DrainOrder) (setup : Setup) (old new : World) : Type 0 where
   pub closes : LosesMains loss.Dark old.machine new.machine
   pub mode : new.machine.mode ≡ modes.Closing
   pub tries : List Bool
   pub few : fails tries ≤ setup.shape.costs.retries
-  pub paid : List Action
-  pub coming : Action
-  pub comes : ComesNext setup old.machine tries paid coming
+  pub paid : List (List Action)
+  pub coming : List Action
+  pub comes : ComesNext order setup old.machine tries paid coming
   pub mid : Gauge
   pub pays : PaysFirst setup old new.machine.reading paid mid
   pub answer : Dark
-  pub refused : PaysCost mid (cost_of setup.shape.costs coming) (Err answer) new.gauge
-  pub left : new.machine.waits.writes ≡ drop (entries_in paid) old.machine.waits.writes
+  pub refused : PaysCost mid (total_cost setup.shape.costs coming) (Err answer) new.gauge
+  pub left : new.machine.waits.writes ≡ drop (sum_by entries_in paid) old.machine.waits.writes
   pub saved : let before = after_steps setup.shape.lines old.machine.store (made_of false old.machine) (goods tries) in
       new.machine.store ≡ broken_off before.store (made_of false old.machine) before.next (is_failed false tries)
   pub calls : new.device.calls ≡ old.device.calls ++ calls_tried (save_calls setup old.machine) tries
 
 -- The device failed in a step of the save, once more than steps may be made again, and nothing ran after it: each action so far
 -- was paid for. The channels were drained before, so no write waits.
-pub record EndsInFault (setup : Setup) (old new : World) : Type 0 where
+pub record EndsInFault (order : DrainOrder) (setup : Setup) (old new : World) : Type 0 where
   pub closes : LosesMains loss.Fault old.machine new.machine
   pub mode : new.machine.mode ≡ modes.Closing
   pub drained : new.machine.waits ≡ emptied old.machine.waits
   pub tries : List Bool
   pub few : fails tries ≡ setup.shape.costs.retries + 1
   pub last : is_failed false tries ≡ true
-  pub pays : PaysFirst setup old new.machine.reading (closing_of setup old.machine tries) new.gauge
+  pub pays : PaysFirst setup old new.machine.reading (payments_of order setup old.machine tries) new.gauge
   pub saved : let before = after_steps setup.shape.lines old.machine.store (made_of false old.machine) (goods tries) in
       new.machine.store ≡ step_failed before.store (made_of false old.machine) before.next
   pub failed : CallKind
   pub comes : slice_get (save_calls setup old.machine) (goods tries) ≡ Some failed
   pub calls : new.device.calls ≡ old.device.calls ++ calls_tried (save_calls setup old.machine) tries
 
-abbrev pub LoseStep : Setup → Loss → World → World → Type 0
-LoseStep setup loss.Closed old new = (has_ended old.machine.mode ≡ true) × (new ≡ old)
-LoseStep setup loss.Unsaved old new = (old.machine.mode ≡ modes.Disarmed) × (new ≡ record old { machine = closed_unsaved old.machine })
-LoseStep setup (loss.Saved generation count) old new = SavesAll setup generation count old new
-LoseStep setup loss.Dark old new = EndsDark setup old new
-LoseStep setup loss.Fault old new = EndsInFault setup old new
+-- a loss whose channels are drained in this order
+abbrev pub LoseStep : DrainOrder → Setup → Loss → World → World → Type 0
+LoseStep order setup loss.Closed old new = (has_ended old.machine.mode ≡ true) × (new ≡ old)
+LoseStep order setup loss.Unsaved old new = (old.machine.mode ≡ modes.Disarmed) × (new ≡ record old { machine = closed_unsaved old.machine })
+LoseStep order setup (loss.Saved generation count) old new = SavesAll order setup generation count old new
+LoseStep order setup loss.Dark old new = EndsDark order setup old new
+LoseStep order setup loss.Fault old new = EndsInFault order setup old new

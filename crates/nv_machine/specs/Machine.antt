@@ -25,6 +25,7 @@ use Rattle.channel_port.specs.declared.answers.Got.{Got}
 use Rattle.channel_port.specs.declared.answers.Collected.{Collected}
 use Rattle.channel_port.specs.declared.answers.Done.{Done}
 use Rattle.channel_port.specs.Answers.{Puts, IsGot, IsCollected, IsServed}
+use Rattle.channel_port.specs.Draining.{DrainOrder}
 use Rattle.line_memory.specs.Memory.{line_of}
 use Rattle.nv_machine.specs.declared.events.Accepted.{Accepted}
 use Rattle.arm_state.specs.declared.refusal.WriteRefusal.{WriteRefusal}
@@ -195,5 +196,5 @@ MachineStep setup events.Arm (replies.Arm result) old new = ArmStep setup result
 MachineStep setup events.Disarm (replies.Disarm result) old new = MovesAlone (DisarmStep result) old new
 MachineStep setup events.SaveBegin (replies.SaveBegin result) old new = MovesAlone (SaveBeginStep result) old new
 MachineStep setup events.SaveStep (replies.SaveStep reply) old new = SaveStepStep setup reply old new
-MachineStep setup events.Lose (replies.Lose loss) old new = LoseStep setup loss old new
+MachineStep setup events.Lose (replies.Lose loss) old new = (order : DrainOrder) × LoseStep order setup loss old new
 MachineStep setup event reply old new = ⊥

@@ -1,9 +1,9 @@
 // In which order writes wait.
-ghost use Rattle.std.specs.Prelude.{◌≡◌, ◌+◌, Bool, List, length};
+ghost use Rattle.std.specs.Prelude.{◌≡◌, ◌+◌, Bool, List, length, sum_by};
 ghost use Rattle.save_image.specs.Image.{Image};
 ghost use Rattle.slot_store.specs.declared.slots.Slot.{Slot};
 ghost use Rattle.channel_port.specs.declared.waiting.Waiting.{Waiting};
-ghost use Rattle.channel_port.specs.Draining.{entries_in};
+ghost use Rattle.channel_port.specs.Draining.{DrainOrder, entries_in};
 ghost use Rattle.channel_port.specs.Waits.{Has};
 ghost use Rattle.nv_machine.specs.declared.events.Event.{Event};
 ghost use Rattle.nv_machine.specs.declared.events.Reply.{Reply};
@@ -21,11 +21,12 @@ pub fn oldest_go_first()
         → IsInOrder (new_life slot closed image) }
     ensures keeps { (setup : Setup) (events : List Event) (replies : List Reply) (old new : World)
         → Run setup events replies old new → IsInOrder old.machine → IsInOrder new.machine }
-    ensures dark { (setup : Setup) (old new : World) (gone left : Waiting)
-        → EndsDark setup old new → IsInOrder old.machine
+    ensures dark { (order : DrainOrder) (setup : Setup) (old new : World) (gone left : Waiting)
+        → EndsDark order setup old new → IsInOrder old.machine
         → Has gone old.machine.waits.writes → WaitsNoMore gone new.machine.waits.writes
         → Has left new.machine.waits.writes → GoesBefore gone left }
-    ensures count { (setup : Setup) (old new : World) (dark : EndsDark setup old new)
-        → length new.machine.waits.writes + entries_in dark.paid
+    ensures count { (order : DrainOrder) (setup : Setup) (old new : World)
+        (dark : EndsDark order setup old new)
+        → length new.machine.waits.writes + sum_by entries_in dark.paid
         ≡ length old.machine.waits.writes }
 {}
