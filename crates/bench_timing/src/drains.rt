@@ -22,7 +22,7 @@ fn drain_once<M: LineMap>(
     requires lawful { M.is_lawful map.now }
     requires geometry { M.geometry_of map.now ≡ checked.now.geometry }
 {
-    let mut load = Load::new(rt.alloc(), map, checked)?;
+    let mut load = Load::new(rt.alloc(), map, checked, 0)?;
     if busy {
         let lead = checked.timing.t_refi.saturating_mul(8);
         load.work_until(lead.saturating_sub(60))?;

@@ -18,7 +18,7 @@ use std::marker::Model;
 /// How many writes are pending.
 pub(crate) const DEPTH: usize = 64;
 
-/// Channel 0 of a profile, with the number of its next write and the stream that its writes come from.
+/// One channel of a profile, with the number of its next write and the stream that its writes come from.
 #[derive(Drop)]
 pub struct Load<'m, M: LineMap> {
     map: &'m M,
@@ -43,8 +43,13 @@ impl<'m, M: LineMap> Model for Load<'m, M> {
 }
 
 impl<'m, M: LineMap> Load<'m, M> {
-    /// A channel with a full write queue, and no command so far.
-    pub(crate) fn new(alloc: Global, map: &'m M, checked: &Checked) -> anyhow::Result<Load<'m, M>>
+    /// The channel of this number with a full write queue, and no command so far.
+    pub(crate) fn new(
+        alloc: Global,
+        map: &'m M,
+        checked: &Checked,
+        channel: u64,
+    ) -> anyhow::Result<Load<'m, M>>
         requires lawful { M.is_lawful map.now }
         requires geometry { M.geometry_of map.now ≡ checked.now.geometry }
     {
@@ -54,10 +59,10 @@ impl<'m, M: LineMap> Load<'m, M> {
         let mut load = Load {
             map,
             checked: *checked,
-            channel: Channel::new(alloc, checked, 0, DEPTH, 1)?,
+            channel: Channel::new(alloc, checked, channel, DEPTH, 1)?,
             costs: Costs::of(checked, &TINY_COSTS),
             number: 0,
-            random: Random::with_seed(7),
+            random: Random::with_seed(channel.wrapping_add(7)),
         };
         for _ in 0..DEPTH {
             load.put()?;
@@ -68,8 +73,8 @@ impl<'m, M: LineMap> Load<'m, M> {
     // Writes the stream's next line.
     fn put(&mut self) -> anyhow::Result<()> {
         let random = self.random.next();
-        let cell = random.wrapping_mul(self.checked.geometry.channels);
-        let line = cell % line_count(&self.checked);
+        let first = random.wrapping_mul(self.checked.geometry.channels);
+        let line = first.wrapping_add(self.channel.number()) % line_count(&self.checked);
         if !self.channel.has_line(self.map, line) || !self.channel.may_take(self.number) {
             anyhow::bail!("no such write");
         }
@@ -114,5 +119,10 @@ impl<'m, M: LineMap> Load<'m, M> {
         self.channel.always();
         running_channel_may_drain();
         Ok(drain(&mut self.channel, &self.costs))
+    }
+
+    /// The channel as it is.
+    pub(crate) fn into_channel(self) -> Channel {
+        self.channel
     }
 }

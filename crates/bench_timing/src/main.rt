@@ -1,4 +1,5 @@
-//! How long the parts of a channel take: its banks, the maps from lines to places, a drain of 64 writes, and the check of a trace.
+//! How long the parts of a channel take: its banks, the maps from lines to places, a drain of 64 writes, and the check of a trace;
+//! and drains of eight channels, in turn and at once.
 //!
 //!     bench_timing                what each part answers
 //!     bench_timing time COUNT     and nanoseconds, a drain's the mean of so many
@@ -8,6 +9,7 @@ mod banks;
 mod drains;
 mod load;
 mod maps;
+mod side_by_side;
 mod traces;
 
 use std::env;
@@ -22,5 +24,6 @@ fn main(rt: HostRuntime) -> anyhow::Result<()> {
     banks::show(&rt, count.is_some())?;
     maps::show(&rt, count.is_some())?;
     drains::show(&rt, count)?;
-    traces::show(&rt, count.is_some())
+    traces::show(&rt, count.is_some())?;
+    side_by_side::show(&rt, count)
 }

@@ -18,7 +18,7 @@ fn commands(alloc: Global, checked: Checked, count: u64) -> anyhow::Result<Vec<S
         interleaving: Interleaving::Lines,
         checked,
     };
-    let mut load = Load::new(alloc, &map, &checked)?;
+    let mut load = Load::new(alloc, &map, &checked, 0)?;
     load.commands(alloc, count)
 }
 

@@ -9,8 +9,8 @@ use energy_budget::Meter;
 use line_memory::Write;
 use notice_book::{NoticeBook, Notices};
 use nv_workers::{
-    Board, BoardName, Closed, Ended, Host, Receipt, RecordedModule, Seen, channel_worker, close,
-    saver_worker,
+    Board, BoardName, Closed, Ended, Host, Open, Receipt, RecordedModule, Seen, channel_worker,
+    close, saver_worker,
 };
 use save_device::SaveDevice;
 use std::alloc::{AllocError, Global};
@@ -87,11 +87,11 @@ fn write_all<K, D, B, N, R>(
     plan: &Plan,
 ) -> Result<Vec<Receipt>, AllocError>
 where
-    K: ChannelPort,
+    K: ChannelPort + Send,
     D: SaveDevice,
     B: BoardName,
     N: Notices,
-    R: Wait,
+    R: Threads + Wait + Sync,
 {
     let mut receipts = Vec::new(alloc);
     for turn in 0..TRIES {
@@ -106,7 +106,7 @@ where
             Ok(receipt) => {
                 receipts.push(receipt)?;
                 if plan.lost_at == Some(receipt.number) {
-                    board.power_loss(rt);
+                    board.power_loss(rt, &Open);
                 }
             }
             Err(WriteRefusal::Full) => thread::yield_now(),
@@ -154,11 +154,11 @@ fn busy<K, D, B, N, R>(
     plan: &Plan,
 ) -> Result<Told<B>, AllocError>
 where
-    K: ChannelPort,
+    K: ChannelPort + Send,
     D: SaveDevice,
     B: BoardName,
     N: Notices,
-    R: Wait + Clock,
+    R: Threads + Wait + Clock + Sync,
 {
     thread::sleep(rt, plan.rest);
     let receipts = write_all(rt, alloc, board, &mut host, plan)?;

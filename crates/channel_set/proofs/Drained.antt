@@ -6,19 +6,18 @@ use Rattle.std.proofs.lemmas.List.{with_items_is}
 use Rattle.energy_budget.specs.declared.energy.Dark.{Dark}
 use Rattle.energy_budget.specs.Actions.{drain_actions, total_cost}
 use Rattle.energy_budget.specs.Gauge.{Gauge}
-use Rattle.channel_port.specs.Draining.{Paid, PaysInTurn, TakesPaid, TakesWrites, entries_in, pending_each}
+use Rattle.channel_port.specs.Draining.{DrainOrder, Paid, PaysInTurn, PaysTogether, TakesPaid, TakesTogether, TakesWrites, entries_in, in_turn, payments_in, pending_each}
 use Rattle.ddr4_timing.specs.declared.timing.Checked.{Checked}
 use Rattle.energy_budget.specs.Costs.{AreReckonedFor}
-use Rattle.channel_set.specs.Draining.{DrainsAll, drains_cost}
-use Rattle.channel_set.proofs.Common.{◌+◌, length-set, arith, ◌≡◌, ◌<◌, ◌≤◌, inl, inr, ℕ, suc, refl, sym, ap, subst, ◌∙◌, List, [], drop, take, flat_map, length, slice_get, slice_set, same_Some, slice_get_within, Some, AllZip, Err, Ok, OnOk, Costs, Ghosts, KeepsCarried, Waits, emptied, PortTerms, ArePorts, ChannelSet, IsShape, places_of, shape_with, view_of, waits_in}
+use Rattle.channel_set.specs.Draining.{DrainsAll, drains_cost, drains_in}
+use Rattle.channel_set.proofs.Common.{◌+◌, length-set, arith, ◌≡◌, ◌<◌, ◌≤◌, inl, inr, ℕ, suc, refl, sym, ap, subst, ◌∙◌, List, [], drop, take, flat_map, length, slice_get, slice_set, same_Some, slice_get_within, Some, AllZip, map, Err, Ok, OnOk, Costs, Ghosts, KeepsCarried, Waits, emptied, PortTerms, ArePorts, ChannelSet, IsShape, places_of, shape_with, view_of, waits_in}
 use Rattle.channel_set.proofs.Alike.{Alike, alike-from, places-again, ports-alike, seen, seen-again, shaped-again}
 use Rattle.channel_set.proofs.Carried.{Kept}
 use Rattle.channel_set.proofs.Counted.{OwnWrites, given_in, reads_in, same-waits, writes-there, writes_in}
-use Rattle.channel_set.proofs.Lists.{AreTaken, Moved, at-within, moved-more, moved-none, get-set_other, get-set_same, moved-all, moved-last, piles-none, piles-same, piles-taken, taken-count, set-cases, zip-size, zip-weaker}
-use Rattle.channel_port.proofs.Entries.{paid-calls, refused-calls}
+use Rattle.channel_set.proofs.Lists.{AreTaken, Moved, at-within, moved-more, moved-none, get-set_other, get-set_same, moved-all, moved-last, piles-none, piles-same, piles-taken, taken-count, set-cases, zip-map, zip-size, zip-weaker}
 use Rattle.channel_set.proofs.Entries.{entries-each, entries-first}
 use Rattle.channel_set.proofs.Costing.{cost-more, paid-more}
-use Rattle.channel_set.proofs.Paying.{pays-more, pays-refused}
+use Rattle.channel_set.proofs.Paying.{actions-calls, pays-alone, pays-more, pays-refused, refused-actions, takes-alone}
 use Rattle.channel_set.proofs.Piles.{remain-dropped}
 
 module _ {K : Type 0} (L : Ghosts K) where
@@ -32,6 +31,7 @@ module _ {K : Type 0} (L : Ghosts K) where
   pub record DrainsDry (old new : K) : Type 0 where
     pub drains : Drains old new
     pub dry : (L.view new).waits ≡ emptied (L.view old).waits
+    pub left : new ≡ L.drained old
 
   pub drains-none : (port : K) → Drains port port
   drains-none port = record { takes = (0, record { writes = refl; reads = refl; given = refl }); rest = refl; keeps = λ base mine carried. carried }
@@ -77,7 +77,7 @@ module _ {K : Type 0} (L : Ghosts K) where
   }
 
   module _ (k gone : ℕ) (old new : List K) (drained : DrainedTo k gone old new) where
-    drained-size : length new ≡ length old
+    pub drained-size : length new ≡ length old
     drained-size = zip-size Drains old new drained.each
 
     pub drained-are : (terms : PortTerms) → ArePorts L terms old → ArePorts L terms new
@@ -105,14 +105,14 @@ module _ {K : Type 0} (L : Ghosts K) where
     drained-given : (waits_in L new).given ≡ (waits_in L old).given
     drained-given = piles-same (given_in L) old new (zip-weaker Drains (λ p q. given_in L q ≡ given_in L p) old new (λ j p q at d. d.takes.1.given) drained.each)
 
-    drained-takes : TakesWrites (taken-count (writes_in L) k gone old) (waits_in L old) (waits_in L new)
+    pub drained-takes : TakesWrites (taken-count (writes_in L) k gone old) (waits_in L old) (waits_in L new)
     drained-takes = record {
       writes = piles-taken (writes_in L) k gone old new are-taken;
       reads = piles-same (reads_in L) old new (zip-weaker Drains (λ p q. reads_in L q ≡ reads_in L p) old new (λ j p q at d. d.takes.1.reads) drained.each);
       given = drained-given;
     }
 
-    drained-empty : length old ≤ k → waits_in L new ≡ emptied (waits_in L old)
+    pub drained-empty : length old ≤ k → waits_in L new ≡ emptied (waits_in L old)
     drained-empty all =
         let dry = λ (j : ℕ) (q : K) (at : slice_get new j ≡ Some q). drained.dry j q (omega (arith, all, drained-size, slice_get_within new j q at)) at in
         same-waits (piles-none (writes_in L) new (λ j q at. (dry j q at).writes)) (piles-none (reads_in L) new (λ j q at. (dry j q at).reads)) drained-given
@@ -171,10 +171,10 @@ module _ {K : Type 0} (L : Ghosts K) where
         let ports = channels.ports.items in
         let actions = drain_actions (length (writes_in L p)) in
         let first = flat_map drain_actions (pending_each i (waits_in L ports).writes) in
-        let within : did.paid ≤ length actions = omega (arith, did.counts, refused-calls channels.costs actions mid dark later pays) in
+        let within : did.paid ≤ length actions = omega (arith, did.counts, refused-actions channels.costs actions mid dark later pays) in
         record {
           paid = length first + did.paid;
-          counts = omega (arith, did.counts, paid-calls channels.costs first before mid draining.pays);
+          counts = omega (arith, did.counts, actions-calls channels.costs first before mid draining.pays);
           takes = subst (λ n. TakesWrites n (waits_in L ports) (waits_in L new)) (sym (entries-first L channels.terms ports channels.are own i did.paid p stood within))
               (drained-takes i (entries_in (take did.paid actions)) ports new drained);
         }
@@ -191,11 +191,19 @@ module _ {K : Type 0} (L : Ghosts K) where
       subst (DrainedTo i 0 channels.ports.items) (sym (with_items_is channels.ports now (draining.moved.size ∙ ap length (sym is) ∙ len)))
       (drained-dry i channels.ports.items now (omega (arith, all, ap length is)) draining.moved)
 
+  -- each is as its drain leaves it
+  pub drained-each : (channels : ChannelSet K L) (before : Gauge) (i : ℕ) (now : List K) (gauge : Gauge) (was : List K) → Draining channels before i now gauge → was ≡ channels.ports.items → length was ≡ vec_len channels.ports → length was ≤ i
+      → (with_items channels.ports now).items ≡ map L.drained channels.ports.items
+  drained-each channels before i now gauge was draining is len all =
+      let old = channels.ports.items in
+      with_items_is channels.ports now (draining.moved.size ∙ ap length (sym is) ∙ len)
+      ∙ zip-map L.drained old now (zip-weaker DrainsDry (λ p q. q ≡ L.drained p) old now (λ j p q at d. d.left) (moved-all DrainsDry i old now (omega (arith, all, ap length is)) draining.moved))
+
   module _ (channels : ChannelSet K L) (k gone : ℕ) (new : List K) (drained : DrainedTo k gone channels.ports.items new) where
-    pub drains-all : (before : Gauge) (result : Paid) (later : Gauge) → PaysInTurn channels.costs (flat_map drain_actions (pending_each (length channels.ports.items) (waits_in L channels.ports.items).writes)) before result later
-        → TakesPaid (flat_map drain_actions (pending_each (length channels.ports.items) (waits_in L channels.ports.items).writes)) (waits_in L channels.ports.items) before result (waits_in L new) later
-        → OnOk result (length channels.ports.items ≤ k) → DrainsAll (view_of L channels) before result (seen L channels.terms channels.costs new) later
-    drains-all before result later pays takes all =
+    pub drains-all : (order : DrainOrder) (before : Gauge) (result : Paid) (later : Gauge) → PaysTogether channels.costs (payments_in order (drains_in (view_of L channels))) before result later
+        → TakesTogether (payments_in order (drains_in (view_of L channels))) (waits_in L channels.ports.items) before result (waits_in L new) later
+        → OnOk result (length channels.ports.items ≤ k) → DrainsAll order (view_of L channels) before result (seen L channels.terms channels.costs new) later
+    drains-all order before result later pays takes all =
         let old = channels.ports.items in
         record {
           pays = pays;
@@ -205,14 +213,23 @@ module _ {K : Type 0} (L : Ghosts K) where
           dry = dry-where-ok k gone old new drained result all;
         }
 
+    -- one after another
+    drains-in-turn : (before : Gauge) (result : Paid) (later : Gauge) → PaysInTurn channels.costs (drains_in (view_of L channels)) before result later
+        → TakesPaid (drains_in (view_of L channels)) (waits_in L channels.ports.items) before result (waits_in L new) later
+        → OnOk result (length channels.ports.items ≤ k) → DrainsAll in_turn (view_of L channels) before result (seen L channels.terms channels.costs new) later
+    drains-in-turn before result later pays takes all =
+        let actions = drains_in (view_of L channels) in
+        drains-all in_turn before result later (pays-alone channels.costs actions before result later pays)
+        (takes-alone channels.costs actions before result later (waits_in L channels.ports.items) (waits_in L new) takes) all
+
     -- all were paid for
     pub drains-whole : OwnWrites L → (before later : Gauge) → PaysInTurn channels.costs (flat_map drain_actions (pending_each (length channels.ports.items) (waits_in L channels.ports.items).writes)) before (Ok tt) later
-        → length channels.ports.items ≤ k → DrainsAll (view_of L channels) before (Ok tt) (seen L channels.terms channels.costs new) later
+        → length channels.ports.items ≤ k → DrainsAll in_turn (view_of L channels) before (Ok tt) (seen L channels.terms channels.costs new) later
     drains-whole own before later pays all =
         let old = channels.ports.items in
         let actions = flat_map drain_actions (pending_each (length old) (waits_in L old).writes) in
         let none : (waits_in L new).writes ≡ [] = ap (λ (w : Waits). w.writes) (drained-empty k gone old new drained all) in
-        drains-all before (Ok tt) later pays
+        drains-in-turn before (Ok tt) later pays
         (record {
           paid = length actions;
           counts = refl;
@@ -228,6 +245,6 @@ module _ {K : Type 0} (L : Ghosts K) where
     pub drains-refused : (before : Gauge) (result : Paid) (dark : Dark) (later : Gauge) → IsErr result
         → PaysInTurn channels.costs (flat_map drain_actions (pending_each (length channels.ports.items) (waits_in L channels.ports.items).writes)) before (Err dark) later
         → TakesPaid (flat_map drain_actions (pending_each (length channels.ports.items) (waits_in L channels.ports.items).writes)) (waits_in L channels.ports.items) before (Err dark) (waits_in L new) later
-        → DrainsAll (view_of L channels) before result (seen L channels.terms channels.costs new) later
+        → DrainsAll in_turn (view_of L channels) before result (seen L channels.terms channels.costs new) later
     drains-refused before (Ok done) dark later is pays takes = absurd (let bad : ⊥ = cc in bad)
-    drains-refused before (Err other) dark later is pays takes = drains-all before (Err other) later pays (record { paid = takes.paid; counts = takes.counts; takes = takes.takes }) tt
+    drains-refused before (Err other) dark later is pays takes = drains-in-turn before (Err other) later pays (record { paid = takes.paid; counts = takes.counts; takes = takes.takes }) tt

@@ -50,7 +50,7 @@ module _ {K : Type 0} (L : Ghosts K) (terms : PortTerms) (ports : List K) (are :
       ∙ ap (λ n. take m ns ++ n ∷ []) (writes-there L terms ports are own m p.it p.stands ∙ sym value)
       ∙ sym (take-suc ns m 0 within)
 
-  all-lengths : pending_each (length ports) (waits_in L ports).writes ≡ lengths (writes_in L) ports
+  pub all-lengths : pending_each (length ports) (waits_in L ports).writes ≡ lengths (writes_in L) ports
   all-lengths =
       let count : length ports ≡ length (lengths (writes_in L) ports) = sym (length-map ports (λ x. length (writes_in L x))) in
       pending-lengths (length ports) (omega arith) ∙ ap (λ n. take n (lengths (writes_in L) ports)) count ∙ take-length (lengths (writes_in L) ports)

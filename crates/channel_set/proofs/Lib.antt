@@ -13,4 +13,5 @@ pub mod Turned
 pub mod Costing
 pub mod Paying
 pub mod Drained
+pub mod AtOnce
 pub mod Entries

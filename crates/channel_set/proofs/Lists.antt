@@ -104,6 +104,13 @@ zip-weaker R S [] (b ∷ ys) weaker zip = zip
 zip-weaker R S (a ∷ xs) [] weaker zip = zip
 zip-weaker R S (a ∷ xs) (b ∷ ys) weaker zip = (weaker zero a b refl zip.0, zip-weaker R S xs ys (λ j x y at. weaker (suc j) x y at) zip.1)
 
+-- each element is what a function makes of it
+pub zip-map : {X : Type 0} (f : X → X) (xs ys : List X) → AllZip (λ x y. y ≡ f x) xs ys → ys ≡ map f xs
+zip-map f [] [] zip = refl
+zip-map f [] (b ∷ ys) zip = absurd zip
+zip-map f (a ∷ xs) [] zip = absurd zip
+zip-map {X} f (a ∷ xs) (b ∷ ys) zip = ap (λ (x : X). x ∷ ys) zip.0 ∙ ap (λ (zs : List X). f a ∷ zs) (zip-map f xs ys zip.1)
+
 -- what a loop made of the slice of a vector is what the vector has then
 pub moved-vec : {X Z : Type 0} (R : X → X → Type 0) (v : Vec X Z) (was now : List X) (i : ℕ) → was ≡ v.items → length was ≡ vec_len v → length was ≤ i → Moved R i was now → AllZip R v.items (with_items v now).items
 moved-vec R v was now i is len all moved =

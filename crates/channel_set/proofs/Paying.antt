@@ -1,12 +1,36 @@
 -- Payments in turn, one list of actions behind another.
-use Rattle.std.proofs.lemmas.List.{append-nil, append_assoc}
+use Rattle.std.proofs.lemmas.List.{append-nil, append_assoc, length-map}
 use Rattle.std.proofs.lemmas.Grind.{flat_map-append}
 use Rattle.energy_budget.specs.declared.action.Action.{Action}
 use Rattle.energy_budget.specs.declared.energy.Dark.{Dark}
-use Rattle.energy_budget.specs.Actions.{drain_actions}
+use Rattle.energy_budget.specs.Actions.{cost_of, drain_actions}
 use Rattle.energy_budget.specs.Gauge.{Gauge}
-use Rattle.channel_port.specs.Draining.{Paid, PaysInTurn, pending_each}
-use Rattle.channel_set.proofs.Common.{arith, ◌≡◌, ◌≤◌, inl, inr, ℕ, zero, suc, refl, sym, ap, subst, ◌∙◌, List, [], ◌∷◌, ◌++◌, flat_map, Err, Ok, Costs, Waiting, cases_eq, writes_on}
+use Rattle.channel_port.specs.Draining.{HasPaid, Paid, PaysCosts, PaysInTurn, PaysTogether, TakesPaid, TakesTogether, TakesWrites, each_alone, pending_each}
+use Rattle.channel_port.proofs.Entries.{alone-costs, alone-first, alone-length, paid-calls, refused-calls}
+use Rattle.channel_set.proofs.Common.{arith, ◌≡◌, ◌+◌, ◌≤◌, length, map, Waits, inl, inr, ℕ, zero, suc, refl, sym, ap, subst, ◌∙◌, List, [], ◌∷◌, ◌++◌, flat_map, Err, Ok, Costs, Waiting, cases_eq, writes_on}
+
+-- the calls of a gauge that the payments of actions are
+pub actions-calls : (costs : Costs) (actions : List Action) (old new : Gauge) → PaysInTurn costs actions old (Ok tt) new → length new.calls ≡ length old.calls + length actions
+actions-calls costs actions old new pays = omega (arith, paid-calls (map (cost_of costs) actions) old new pays, length-map actions (cost_of costs))
+
+pub refused-actions : (costs : Costs) (actions : List Action) (old : Gauge) (dark : Dark) (new : Gauge) → PaysInTurn costs actions old (Err dark) new → length new.calls ≤ length old.calls + length actions
+refused-actions costs actions old dark new pays = omega (arith, refused-calls (map (cost_of costs) actions) old dark new pays, length-map actions (cost_of costs))
+
+-- a payment for each action
+module _ (costs : Costs) (actions : List Action) (before : Gauge) (result : Paid) (later : Gauge) where
+  pub pays-alone : PaysInTurn costs actions before result later → PaysTogether costs (each_alone actions) before result later
+  pays-alone pays = subst (λ (cs : List ℕ). PaysCosts cs before result later) (sym (alone-costs costs actions)) pays
+
+  pub takes-alone : (old new : Waits) → TakesPaid actions old before result new later → TakesTogether (each_alone actions) old before result new later
+  takes-alone old new did = record {
+    paid = did.paid;
+    counts = counts result did.counts;
+    takes = subst (λ n. TakesWrites n old new) (sym (alone-first did.paid actions)) did.takes;
+  }
+    where
+      counts : (r : Paid) → HasPaid did.paid actions before r later → HasPaid did.paid (each_alone actions) before r later
+      counts (Ok done) all = all ∙ sym (alone-length actions)
+      counts (Err dark) some = some
 
 pays-then : (costs : Costs) (xs ys : List Action) (before mid : Gauge) (result : Paid) (later : Gauge) → PaysInTurn costs xs before (Ok tt) mid → PaysInTurn costs ys mid result later → PaysInTurn costs (xs ++ ys) before result later
 pays-then costs [] ys before mid result later first then = subst (λ g. PaysInTurn costs ys g result later) first then

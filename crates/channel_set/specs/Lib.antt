@@ -2,3 +2,4 @@ pub mod Ports
 pub mod Set
 pub mod Carrying
 pub mod Draining
+pub mod Paid

@@ -2,6 +2,7 @@
 ghost use Rattle.std.specs.Prelude.{◌≡◌, ◌≤◌, ℕ, [], OnOk};
 ghost use Rattle.energy_budget.specs.declared.costs.CostNumbers.{CostNumbers};
 ghost use Rattle.channel_port.specs.declared.stage.Stage.TheVariants.{OnBackup, OnMains};
+ghost use Rattle.channel_port.specs.Draining.{in_turn};
 
 use crate::ChannelSet;
 use channel_port::ChannelPort;
@@ -10,7 +11,7 @@ use energy_budget::{Dark, Energy};
 impl<K: ChannelPort> ChannelSet<K> {
     ghost use Rattle.channel_set.specs.Set.{AreAt, view_of};
     ghost use Rattle.channel_set.specs.Carrying.{KeepsAll};
-    ghost use Rattle.channel_set.specs.Draining.{DrainsAll, cost_of_drains, paid_for_drains};
+    ghost use Rattle.channel_set.specs.Draining.{DrainsAll, DrainsEach, cost_of_drains, paid_for_drains};
 
     /// Ends the work on mains, as backup begins: all reads are lost, and their tickets are unknown from now on.
     pub fn lose_mains(&mut self)
@@ -36,8 +37,9 @@ impl<K: ChannelPort> ChannelSet<K> {
     pub fn drain<E: Energy>(&mut self, energy: &mut E) -> Result<(), Dark>
         requires backup { AreAt K.ChannelPort OnBackup self.old }
         requires lost { (view_of K.ChannelPort self.old).waits.reads ≡ [] }
-        ensures drains { DrainsAll (view_of K.ChannelPort self.old) (E.gauge energy.old) result
-            (view_of K.ChannelPort self.new) (E.gauge energy.new) }
+        ensures drains { DrainsAll in_turn (view_of K.ChannelPort self.old) (E.gauge energy.old)
+            result (view_of K.ChannelPort self.new) (E.gauge energy.new) }
+        ensures each { OnOk result (DrainsEach K.ChannelPort self.old self.new) }
         ensures covers { OnOk result (cost_of_drains K.ChannelPort self.old self.old.costs.numbers
             ≤ paid_for_drains (view_of K.ChannelPort self.old)) }
         ensures keeps { KeepsAll K.ChannelPort self.old self.new }

@@ -5,6 +5,7 @@
 #![tactic(auto)]
 
 mod asking;
+mod at_once;
 mod draining;
 mod laws;
 mod set;

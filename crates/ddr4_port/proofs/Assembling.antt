@@ -2,7 +2,7 @@
 use Rattle.std.proofs.Common.{All, ◌≡◌, ◌<◌, ℕ, zero, suc, List, [], ◌∷◌, ◌++◌, length, slice_get, slice_index_or, Some, None, inl, inr, refl, sym, ap, subst, ◌∙◌, arith}
 use Rattle.std.specs.List.{flat_map}
 use Rattle.ddr4_port.proofs.Common.{BeginsWith, Carries, ChannelState, Checked, Costs, IsInterleaving, Place}
-use Rattle.ddr4_port.proofs.Common.{PortState, SendsOnly, appended, lines_of, listed_place, nothing, places_by}
+use Rattle.ddr4_port.proofs.Common.{PortState, SendsOnly, drained_port, appended, lines_of, listed_place, nothing, places_by}
 use Rattle.ddr4_port.proofs.Common.{port_view, shape_over, waits_of}
 use Rattle.drain_core.specs.Steps.{spent_by}
 use Rattle.channel_port.specs.declared.port.ChannelPort.{Ghosts}
@@ -12,7 +12,13 @@ use Rattle.channel_set.proofs.Counted.{same-waits}
 
 -- what contracts see of a port
 abbrev pub over : Ghosts PortState
-over = record { view = port_view; carries = λ port. Carries (listed_place port.places) port.channel; next_command = λ port. SendsOnly port.channel; drain_cost = λ port numbers. spent_by numbers port.channel }
+over = record {
+  view = port_view;
+  carries = λ port. Carries (listed_place port.places) port.channel;
+  next_command = λ port. SendsOnly port.channel;
+  drain_cost = λ port numbers. spent_by numbers port.channel;
+  drained = drained_port;
+}
 
 pub whole-lines : (memory : List (List ℕ)) → ((i : ℕ) → i < length memory → length (slice_index_or memory i []) ≡ 64) → All (λ line. length line ≡ 64) memory
 whole-lines [] told k d less = absurd (omega (arith, less))

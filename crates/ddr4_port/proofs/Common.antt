@@ -1,5 +1,5 @@
 -- The words that most proofs of this crate cite, passed on from one place.
-pub use Rattle.std.specs.Prelude.{Err, IfNone, IfSome, None, Ok, Option, Result, Some, length, replicate, slice_get, ℕ, ◌≡◌, ◌≤◌}
+pub use Rattle.std.specs.Prelude.{Err, IfNone, IfSome, None, Ok, OnOk, Option, Result, Some, length, replicate, slice_get, ℕ, ◌≡◌, ◌≤◌}
 pub use Rattle.std.proofs.lemmas.Bool.{cases_order, eqb-true, le-ltb, lt-ltb}
 pub use Rattle.std.proofs.lemmas.List.{append-nil, drop-map, length-append, length-map, map-append}
 pub use Rattle.line_memory.specs.declared.parts.Numbered.{Numbered}
@@ -22,4 +22,4 @@ pub use Rattle.chan_core.specs.State.{ChannelState, cell_in, channel_memory, clo
 pub use Rattle.chan_core.proofs.Taken.{appended, before_removal, map-remove}
 pub use Rattle.ddr4_port.specs.Carrying.{Carries, line_below}
 pub use Rattle.ddr4_port.specs.Memory.{AreUnused, BeginsWith, HoldsFirst, IsFresh, IsUnused, shape_over}
-pub use Rattle.ddr4_port.specs.Port.{HasMap, IsAtStage, IsRightPort, PortState, RunsEarly, Sends, SendsOnly, listed_place, open_on, places_by, port_state, port_view, ticket_on, waiting_on, waits_of}
+pub use Rattle.ddr4_port.specs.Port.{HasMap, IsAtStage, IsRightPort, PortState, RunsEarly, Sends, SendsOnly, drained_port, listed_place, open_on, places_by, port_state, port_view, ticket_on, waiting_on, waits_of}

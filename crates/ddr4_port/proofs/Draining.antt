@@ -3,13 +3,15 @@ use Rattle.std.proofs.Common.{◌≡◌, ◌+◌, ℕ, zero, suc, List, [], ◌�
 use Rattle.std.proofs.Math.Numerals.{add-one}
 use Rattle.std.proofs.Math.Seq.{drop-length, take-length}
 use Rattle.ddr4_port.proofs.Common.{Carries, ChannelState, Costs, Err, HasRightContents, KeepsCarried, Ok, PendingWrite}
-use Rattle.ddr4_port.proofs.Common.{Place, Result, drop-map, length-append, length-map, waiting_on, waits_of}
+use Rattle.ddr4_port.proofs.Common.{OnOk, Place, Result, drained_port, port_state, drop-map, length-append, length-map, waiting_on, waits_of}
 use Rattle.energy_budget.specs.declared.energy.Dark.{Dark}
 use Rattle.energy_budget.specs.declared.energy.GaugeCall.TheVariants.{Pay}
 use Rattle.energy_budget.specs.Actions.{drain_actions}
 use Rattle.energy_budget.specs.Gauge.{Gauge}
 use Rattle.wpq_core.specs.PendingMemory.{after_pending}
 use Rattle.channel_port.specs.Draining.{HasPaid, Paid, PaysInTurn, TakesPaid, TakesWrites, entries_in}
+use Rattle.channel_port.specs.declared.stage.Stage.{Stage}
+use Rattle.channel_port.specs.declared.stage.Stage.TheVariants.{Drained}
 use Rattle.channel_port.proofs.Entries.{drain-length, entries-paid}
 use Rattle.drain_core.specs.declared.report.DrainReport.{DrainReport}
 use Rattle.drain_core.specs.Paying.{AsksForActions, DrainsAsGranted, DrainsForPayment, GrantsActions, PaysAction}
@@ -90,5 +92,23 @@ module _ (costs : Costs) (result : Result DrainReport Dark) (s t : ChannelState)
         takes = subst (λ n. TakesWrites n (waits_of s) (waits_of t)) (sym some.entries) (takes-oldest none);
       }))
 
+  -- where all was paid for it is as its drain leaves it
+  pub drain-left : (f : ℕ → Place) (stage : Stage) (paid : Paid) → paid ≡ paid_by result → OnOk paid (port_state f Drained t ≡ drained_port (port_state f stage s))
+  drain-left f stage paid is = subst (λ p. OnOk p (port_state f Drained t ≡ drained_port (port_state f stage s))) (sym is) (by_result result did.drains)
+    where
+      by_result : (r : Result DrainReport Dark) → DrainsAsGranted did.granted r s t → OnOk (paid_by r) (port_state f Drained t ≡ drained_port (port_state f stage s))
+      by_result (Ok report) left = ap (port_state f Drained) left
+      by_result (Err dark) left = tt
+
   pub drain-keeps : (f : ℕ → Place) → HasRightContents s → KeepsCarried (Carries (places_of f s) s) (Carries (places_of f t) t)
   drain-keeps f contents = carries-seen f s t drain-checked (drains (places_of f s) s t some.gone contents some.same)
+
+-- A drain that was paid for before.
+module _ (s t : ChannelState) (left : t ≡ drained s) where
+  pub paid-checked : t.checked ≡ s.checked
+  paid-checked = ap (λ (x : ChannelState). x.checked) left
+
+  pub paid-keeps : (f : ℕ → Place) → HasRightContents s → KeepsCarried (Carries (places_of f s) s) (Carries (places_of f t) t)
+  paid-keeps f contents =
+      carries-seen f s t paid-checked
+      (drains (places_of f s) s t (length s.writes) contents (left ∙ drained-took s ∙ ap (took (length s.writes) s) (sym left)))

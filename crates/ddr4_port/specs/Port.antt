@@ -14,8 +14,9 @@ use Rattle.chan_core.specs.Calls.{HasNothingToSend}
 use Rattle.chan_core.specs.Reads.{OpenTicket}
 use Rattle.chan_core.specs.State.{ChannelState, clock_of, stored_at}
 use Rattle.drain_core.specs.Standing.{CanDrain}
+use Rattle.drain_core.specs.Steps.{drained}
 use Rattle.channel_port.specs.declared.stage.Stage.{Stage}
-use Rattle.channel_port.specs.declared.stage.Stage.TheVariants.{OnBackup, OnMains}
+use Rattle.channel_port.specs.declared.stage.Stage.TheVariants.{Drained, OnBackup, OnMains}
 use Rattle.channel_port.specs.declared.answers.Ticket.{Ticket}
 use Rattle.channel_port.specs.declared.waiting.Waiting.{Waiting}
 use Rattle.channel_port.specs.View.{PortView}
@@ -71,6 +72,10 @@ port_view p = record {
   stage = p.stage;
   stored = λ line. stored_at p.channel (listed_place p.places line);
 }
+
+-- as its drain leaves it
+abbrev pub drained_port : PortState → PortState
+drained_port p = record p { stage = Drained; channel = drained p.channel }
 
 -- a lawful map of this geometry
 pub record HasMap (is_lawful : Type 0) (of_map g : Geometry) : Type 0 where

@@ -4,7 +4,7 @@ ghost use Rattle.std.specs.Prelude.{◌≡◌, refl};
 use chan_core::Channel;
 use channel_port::{ChannelPort, Collected, Done, Got, Stage, Ticket};
 use ddr4_timing::place::Place;
-use drain_core::drain_paying;
+use drain_core::{drain, drain_paying};
 use energy_budget::{Costs, Dark, Energy};
 use interleave_map::line_map::LineMap;
 use line_memory::{Line, Write};
@@ -45,7 +45,7 @@ impl<'m, M: LineMap> ChannelPort for Ddr4Port<'m, M> {
     ghost use Rattle.std.specs.List.{range_with_len};
     ghost use Rattle.drain_core.specs.Steps.{spent_by};
     ghost use Rattle.ddr4_port.specs.Carrying.{Carries};
-    ghost use Rattle.ddr4_port.specs.Port.{SendsOnly, open_on, listed_place, port_view, ticket_on, waiting_on};
+    ghost use Rattle.ddr4_port.specs.Port.{SendsOnly, drained_port, open_on, listed_place, port_view, ticket_on, waiting_on};
 
     ghost view = { port_view };
 
@@ -54,6 +54,8 @@ impl<'m, M: LineMap> ChannelPort for Ddr4Port<'m, M> {
     ghost next_command = { λ port. SendsOnly port.channel };
 
     ghost drain_cost = { λ port numbers. spent_by numbers port.channel };
+
+    ghost drained = { drained_port };
 
     fn place(&self, line: u64) -> Place {
         self.map.place(line)
@@ -128,6 +130,12 @@ impl<'m, M: LineMap> ChannelPort for Ddr4Port<'m, M> {
             Ok(_) => Ok(()),
             Err(dark) => Err(dark),
         }
+    }
+
+    fn drain_paid(&mut self, costs: &Costs) {
+        self.stage = Stage::Drained;
+        drain(&mut self.channel, costs);
+        self.channel.always();
     }
 
     ghost own_writes = { λ port. All-map (λ w. w.channel ≡ port.channel.channel)

@@ -9,16 +9,7 @@ use crate::report::DrainReport;
 use chan_core::Channel;
 use energy_budget::Costs;
 use std::thread::{Threads, join_mut};
-use worker_gate::{Gate, Turn};
-
-// Asks the gate for a channel until it says Go or Stop.
-fn await_turn<G: Gate>(gate: &G, channel: u64) {
-    for turn in 0..u64::MAX {
-        if gate.pass(channel, turn) != Turn::Hold {
-            return;
-        }
-    }
-}
+use worker_gate::{Gate, await_turn};
 
 // The first reports of one, and then those of the other.
 fn joined(

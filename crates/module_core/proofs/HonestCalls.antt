@@ -8,6 +8,7 @@ use Rattle.slot_store.proofs.Resting.{found_only}
 use Rattle.arm_state.specs.declared.loss.Loss.{Loss}
 use Rattle.arm_state.specs.declared.loss.Loss.TheVariants as loss
 use Rattle.energy_budget.specs.Gauge.{IsHonestThrough}
+use Rattle.channel_port.specs.Draining.{DrainOrder}
 use Rattle.nv_machine.specs.declared.events.Event.TheVariants as event
 use Rattle.nv_machine.specs.declared.events.Reply.TheVariants as reply
 use Rattle.nv_machine.specs.Losses.{LoseStep, SavesAll}
@@ -30,15 +31,15 @@ use Rattle.module_core.proofs.Applying.{same_setup}
 use Rattle.module_core.proofs.CallsInTurn.{answered_on}
 use Rattle.module_core.proofs.RunsOn.{run_worlds}
 
-lose_of : (setup : Setup) (event : Event) (lost : Loss) (old new : World) → MachineStep setup event (reply.Lose lost) old new → LoseStep setup lost old new
+lose_of : (setup : Setup) (event : Event) (lost : Loss) (old new : World) → MachineStep setup event (reply.Lose lost) old new → (order : DrainOrder) × LoseStep order setup lost old new
 lose_of setup event.Lose lost old new done = done
 lose_of setup event lost old new none = absurd none
 
 whole_loss : (setup : Setup) (event : Event) (reply : Reply) (old new : World) → MachineStep setup event reply old new → SavesAllWritten old.machine reply → IsWholeLoss reply
 whole_loss setup event (reply.Lose loss.Dark) old new done saves =
-    let all = saves (lose_of setup event loss.Dark old new done).closes.backed in let bad : ⊥ = cc in bad
+    let all = saves (lose_of setup event loss.Dark old new done).1.closes.backed in let bad : ⊥ = cc in bad
 whole_loss setup event (reply.Lose loss.Fault) old new done saves =
-    let all = saves (lose_of setup event loss.Fault old new done).closes.backed in let bad : ⊥ = cc in bad
+    let all = saves (lose_of setup event loss.Fault old new done).1.closes.backed in let bad : ⊥ = cc in bad
 whole_loss setup event reply old new done saves = tt
 
 whole_along : (setup : Setup) (events : List Event) (replies : List Reply) (old new : World) (run : Run setup events replies old new) → SavesAllAlong setup events replies old new run
@@ -96,9 +97,9 @@ module _ {K : Type 0} (L : Ghosts K) where
       (answered_on L found image before events told replies first old new answered calls) faultless
 
   -- what a save of all accepted writes leaves
-  finds_all : (setup : Setup) (generation count accepted : ℕ) (old new : World) → SavesAll setup generation count old new → accepted ≡ (made_of false old.machine).count
+  finds_all : (order : DrainOrder) (setup : Setup) (generation count accepted : ℕ) (old new : World) → SavesAll order setup generation count old new → accepted ≡ (made_of false old.machine).count
       → (outcome : Outcome) → IsAmong new.machine.store.maybe outcome → HoldsAll accepted outcome
-  finds_all setup generation count accepted old new saves all outcome among =
+  finds_all order setup generation count accepted old new saves all outcome among =
       let made : Image = made_of false old.machine in let slot = other old.machine.store.maybe.slot in
       let alone : IsAmong (only slot made) outcome = subst (λ (s : Store). IsAmong s.maybe outcome) saves.saved among in
       record { slot = slot; image = made; found = found_only slot made outcome alone; count_is = sym all; complete = refl }
@@ -123,13 +124,14 @@ module _ {K : Type 0} (L : Ghosts K) where
       } in
       let stays = next.2.happens.honest now (subst (λ (s : Setup). IsBacked s r.last mid.gauge) (sym answered.setup) backed) in
       let is : lost ≡ loss.Saved (made_of false r.last).generation (made_of false r.last).count = stays.saves (ap is_backed (sym r.stands.matches.mode) ∙ on) in
-      let step : SavesAll (setup_of L mid.it) (made_of false r.last).generation (made_of false r.last).count middle last =
-      subst (λ (l : Loss). LoseStep (setup_of L mid.it) l middle last) is next.2.happens.step in
+      let order : DrainOrder = next.2.happens.step.0 in
+      let step : SavesAll order (setup_of L mid.it) (made_of false r.last).generation (made_of false r.last).count middle last =
+      subst (λ (l : Loss). LoseStep order (setup_of L mid.it) l middle last) is next.2.happens.step.1 in
       let generation : (made_of false r.last).generation ≡ mid.it.saves.newest.generation + 1 = ap (λ (g : ℕ). g + 1) (sym r.stands.matches.knows.generation) in
       record {
         answered = is ∙ ap (λ (g : ℕ). loss.Saved g (made_of false r.last).count) generation ∙ ap (loss.Saved (mid.it.saves.newest.generation + 1)) (sym r.stands.matches.accepted);
         restores = λ bytes left.
             subst (λ (s : Setup). HoldsAll mid.it.accepted (restored s.shape.lines bytes)) (sym call.setup)
-            (finds_all (setup_of L mid.it) (made_of false r.last).generation (made_of false r.last).count mid.it.accepted middle last step r.stands.matches.accepted
+            (finds_all order (setup_of L mid.it) (made_of false r.last).generation (made_of false r.last).count mid.it.accepted middle last step r.stands.matches.accepted
             (restored (setup_of L mid.it).shape.lines bytes) (next.2.happens.at_end bytes left).among);
       }

@@ -19,3 +19,5 @@ pub mod RunsOn
 pub mod CallsInTurn
 pub mod ModulesLive
 pub mod HonestCalls
+pub mod DrainedModules
+pub mod ConcludedLosses

@@ -10,15 +10,19 @@ use Rattle.slot_store.specs.declared.source.BrokenOff.{BrokenOff}
 use Rattle.nv_machine.proofs.GuardLaws.{for_none, for_one}
 use Rattle.slot_store.specs.Runs.{tried_of}
 use Rattle.std.specs.Option.{ForSome}
+use Rattle.channel_port.specs.Draining.{DrainOrder}
+use Rattle.nv_machine.proofs.EachEvent.{guarded_event}
 use Rattle.nv_machine.proofs.Leaving.{left_within}
+use Rattle.nv_machine.specs.Guard.{IsGuarded}
 use Rattle.nv_machine.specs.Losses.{LoseStep}
 use Rattle.arm_state.specs.declared.loss.Loss.TheVariants as loss
 use Rattle.arm_state.specs.declared.mode.Mode.TheVariants as modes
 use Rattle.slot_store.specs.declared.source.BrokenOff.TheVariants as broken
 use Rattle.nv_machine.specs.declared.events.Event.TheVariants as events
 use Rattle.nv_machine.specs.declared.events.Reply.TheVariants as replies
-use Rattle.module_core.proofs.Common.{[], ℕ, ◌∙◌, ◌≡◌, Assembly, BeginsSave, ChannelsView, Err, Gauge, GaugeCall, Ghosts, HappensAt, HoldsWhile, Image, IsAmong, IsMemory, IsReadyToClose, IsResting, List, Machine, Matches, Mode, Module, ModuleStands, Newest, None, Ok, Option, ReachesStore, ReadsLevel, SaveRun, Shape, Some, StopsWithin, Store, Waits, after, ap, assembly, base_of_life, begun, begun_save, false, has_ended, hold_of, inl, is_backed, lines_of_module, made_of, memory_of, point_of, present, refl, restored, rules, saved_in, saves_at, setup_of, shape_of, start_of_life, started, subst, sym, true, view_of, weaker, world_of}
-use Rattle.module_core.proofs.Applying.{asked, same_setup}
+use Rattle.module_core.proofs.Common.{[], ℕ, ◌∙◌, ◌≡◌, Assembly, BeginsSave, ChannelsView, DeviceState, Err, Gauge, GaugeCall, Ghosts, HappensAt, Holds, HoldsWhile, Image, IsAmong, IsMemory, IsReadyToClose, IsResting, List, Machine, Matches, Mode, Module, ModuleStands, Newest, None, Ok, Option, ReachesStore, ReadsLevel, SaveRun, Shape, Some, StopsWithin, Store, Waits, after, ap, assembly, base_of_life, begun, begun_save, false, has_ended, hold_of, inl, is_backed, lines_of_module, made_of, memory_of, point_of, present, refl, restored, rules, saved_in, saves_at, setup_of, shape_of, start_of_life, started, subst, sym, true, view_of, weaker, world_of}
+use Rattle.module_core.specs.Losing.{AnswersLoss}
+use Rattle.module_core.proofs.Applying.{asked, same_lines, same_setup, unmoved}
 use Rattle.module_core.proofs.Knowing.{holds_begun}
 use Rattle.module_core.proofs.LossSteps.{all_saved, dark, fault, saved_on}
 use Rattle.module_core.proofs.RunningSaves.{holds_runs}
@@ -27,6 +31,15 @@ use Rattle.module_core.proofs.StoreSteps.{at_rest, stop_now}
 -- neither ended nor backed
 disarmed_mode : (mode : Mode) → has_ended mode ≡ false → is_backed mode ≡ false → mode ≡ modes.Disarmed
 disarmed_mode mode on calm = search rules
+
+-- ended, and backed
+pub ended_unbacked : (mode : Mode) → has_ended mode ≡ true → is_backed mode ≡ true → ⊥
+ended_unbacked modes.Disarmed ended backed = cc
+ended_unbacked modes.Armed ended backed = cc
+ended_unbacked modes.Disarming ended backed = cc
+ended_unbacked modes.Stranded ended backed = cc
+ended_unbacked modes.Closing ended backed = cc
+ended_unbacked modes.Saved ended backed = cc
 
 module _ {K : Type 0} (L : Ghosts K) where
   -- Mains were lost after this reading; the life goes no further.
@@ -44,6 +57,14 @@ module _ {K : Type 0} (L : Ghosts K) where
   loses_reads old mid new held reads rest first second = record {
     is = rest ∙ ap (λ (w : Waits). record (view_of L mid) { waits = w }) reads ∙ ap (λ (v : ChannelsView). record v { waits = record v.waits { reads = [] } }) held;
     keeps = λ base start writes carries. second base start writes (first base start writes carries);
+  }
+
+  -- where mains were lost before
+  pub answers_closed : (order : DrainOrder) (it : Module K L) (device : DeviceState) (gauge : Gauge) → has_ended it.mode ≡ true → (m : Machine) → ModuleStands L it device m
+      → AnswersLoss L order loss.Closed (assembly it device gauge) (assembly it device gauge) m
+  answers_closed order it device gauge ended m stands = record {
+    answers = unmoved L events.Lose (replies.Lose loss.Closed) it device gauge (λ n h. (order, (ap has_ended (sym h.mode) ∙ ended, refl))) refl (λ n h. tt) m stands;
+    loses = (m, stands, (ap has_ended (sym stands.matches.mode) ∙ ended, refl));
   }
 
   module _ (old : Assembly L) (m : Machine) (stands : ModuleStands L old.it old.device m) where
@@ -95,19 +116,27 @@ module _ {K : Type 0} (L : Ghosts K) where
             };
           }
 
-      answers_loss : LoseStep (setup_of L old.it) reply (world_of L old m) (world_of L new after_loss)
-          → (n : Machine) × ModuleStands L new.it new.device n × HappensAt L (setup_of L old.it) events.Lose (replies.Lose reply) (point_of L old m) (point_of L new n)
-      answers_loss step =
-          asked L events.Lose (replies.Lose reply) old new (same_setup L old.it.channels new.it.channels old.it.terms new.it.terms lost.shape lost.numbers.terms) m stands after_loss step matches makes.holds tt
-          (weaker old.device new.device (λ bytes either guarded.
-          left_within (setup_of L old.it) events.Lose (replies.Lose reply) (world_of L old m) (world_of L new after_loss) step stands.guarded refl refl (restored (lines_of_module L old.it) bytes) either)
-          makes.moments)
+      answers_loss : (order : DrainOrder) → LoseStep order (setup_of L old.it) reply (world_of L old m) (world_of L new after_loss) → AnswersLoss L order reply old new m
+      answers_loss order step =
+          let same = same_setup L old.it.channels new.it.channels old.it.terms new.it.terms lost.shape lost.numbers.terms in
+          let guarded : IsGuarded after_loss = guarded_event (setup_of L old.it) events.Lose (replies.Lose reply) (world_of L old m) (world_of L new after_loss) (order, step) stands.guarded in
+          record {
+            answers =
+                asked L events.Lose (replies.Lose reply) old new same m stands after_loss (order, step) matches makes.holds tt
+                (weaker old.device new.device (λ bytes either guarded.
+                left_within (setup_of L old.it) events.Lose (replies.Lose reply) (world_of L old m) (world_of L new after_loss) (order, step) stands.guarded refl refl (restored (lines_of_module L old.it) bytes) either)
+                makes.moments);
+            loses = (
+              after_loss,
+              record { matches = matches; holds = subst (λ (k : ℕ). Holds k store new.it.saves.saving new.device) (sym (same_lines L old.it new.it same)) makes.holds; guarded = guarded },
+              step,
+            );
+          }
 
     -- where nothing is backed nothing is saved
-    pub answers_unsaved : (new : Module K L) → EndsMains L old.it.reading old.it new → new.saves.saving ≡ None → new.saves.newest ≡ old.it.saves.newest → new.saves.closed ≡ old.it.saves.closed → new.saves.unsettled ≡ old.it.saves.unsettled
-        → has_ended m.mode ≡ false → is_backed m.mode ≡ false
-        → (n : Machine) × ModuleStands L new old.device n × HappensAt L (setup_of L old.it) events.Lose (replies.Lose loss.Unsaved) (point_of L old m) (point_of L (assembly new old.device old.gauge) n)
-    answers_unsaved new ends none newest closed unsettled on calm =
+    pub answers_unsaved : (order : DrainOrder) (new : Module K L) → EndsMains L old.it.reading old.it new → new.saves.saving ≡ None → new.saves.newest ≡ old.it.saves.newest → new.saves.closed ≡ old.it.saves.closed → new.saves.unsettled ≡ old.it.saves.unsettled
+        → has_ended m.mode ≡ false → is_backed m.mode ≡ false → AnswersLoss L order loss.Unsaved old (assembly new old.device old.gauge) m
+    answers_unsaved order new ends none newest closed unsettled on calm =
         let h = stands.matches in let lines : ℕ = lines_of_module L old.it in let store : Store = record m.store { saving = None } in
         let lost : IsLost old.it new m.reading modes.Closing = record {
           numbers = ends.numbers;
@@ -130,13 +159,13 @@ module _ {K : Type 0} (L : Ghosts K) where
           moments = started old.device (λ bytes left. inl (here bytes left));
         } in
         let waits : (view_of L new.channels).waits ≡ record m.waits { reads = [] } = ap (λ (v : ChannelsView). v.waits) ends.channels.is ∙ ap (λ (w : Waits). record w { reads = [] }) h.carried.waits in
-        answers_loss (assembly new old.device old.gauge) m.reading modes.Closing refl lost loss.Unsaved store refl makes (
+        answers_loss (assembly new old.device old.gauge) m.reading modes.Closing refl lost loss.Unsaved store refl makes order (
           disarmed_mode m.mode on calm,
           ap (λ (w : Waits). record { machine = record { mode = modes.Closing; reading = m.reading; lost = Some loss.Unsaved; life = m.life; waits = w; store = store }; device = old.device; gauge = old.gauge }) waits,
         )
 
     -- After a tick a save of all was begun; then the channels were drained and the save was made, or both were broken off.
-    module _ (on : is_backed old.it.mode ≡ true) (reading : ℕ) (ticked : Gauge) (reads : ReadsLevel GaugeCall.Tick old.gauge reading ticked) (begun : Module K L) (ends : EndsMains L reading old.it begun)
+    module _ (order : DrainOrder) (on : is_backed old.it.mode ≡ true) (reading : ℕ) (ticked : Gauge) (reads : ReadsLevel GaugeCall.Tick old.gauge reading ticked) (begun : Module K L) (ends : EndsMains L reading old.it begun)
         (begins : BeginsSave old.it.saves old.it.accepted false (lines_of_module L old.it) begun.saves)
         (new : Assembly L) (numbers : SameNumbers L begun new.it) (shown : new.it.reading ≡ begun.reading) (keeps : KeepsAll L begun.channels new.it.channels) where
       abbrev emptied : ChannelsView
@@ -149,14 +178,14 @@ module _ {K : Type 0} (L : Ghosts K) where
       abbrev Closes : Finish → Type 0
       Closes result =
           (s : Store) (made : Image) (base : List (List ℕ)) (start : ℕ) (writes : List Write) → IsReadyToClose (lines_of_module L begun) s made begun.saves old.device → CarriesAll L begun.channels base start writes
-          → after base writes ≡ made.memory → ClosesChannels s made result (closing_at (assembly begun old.device ticked)) (closing_at new)
+          → after base writes ≡ made.memory → ClosesChannels order s made result (closing_at (assembly begun old.device ticked)) (closing_at new)
 
-      abbrev IsAnswered : Loss → Type 0
-      IsAnswered reply = (n : Machine) × ModuleStands L new.it new.device n × HappensAt L (setup_of L old.it) events.Lose (replies.Lose reply) (point_of L old m) (point_of L new n)
+      abbrev Answered : Loss → Type 0
+      Answered reply = AnswersLoss L order reply old new m
 
-      closed : (result : Finish) → Closes result → ClosesChannels m.store (made_of false m) result first (closing_at new)
+      closed : (result : Finish) → Closes result → ClosesChannels order m.store (made_of false m) result first (closing_at new)
       closed result closes =
-          subst (λ (v : ChannelsView). ClosesChannels m.store (made_of false m) result (record { channels = v; at = saves_at begun.saves old.device ticked }) (closing_at new)) ends.channels.is
+          subst (λ (v : ChannelsView). ClosesChannels order m.store (made_of false m) result (record { channels = v; at = saves_at begun.saves old.device ticked }) (closing_at new)) ends.channels.is
           (closes m.store (made_of false m) (base_of_life m.life) (start_of_life m.life) m.life.writes (ready begun reading ends begins)
           (ends.channels.keeps (base_of_life m.life) (start_of_life m.life) m.life.writes stands.matches.carried.carries) refl)
 
@@ -179,19 +208,19 @@ module _ {K : Type 0} (L : Ghosts K) where
         hold = ap (λ (v : ChannelsView). v.hold) rest;
       }
 
-      pub answers_saved : new.it.mode ≡ modes.Saved → Closes (Ok tt) → IsAnswered (loss.Saved new.it.saves.newest.generation new.it.accepted)
+      pub answers_saved : new.it.mode ≡ modes.Saved → Closes (Ok tt) → Answered (loss.Saved new.it.saves.newest.generation new.it.accepted)
       answers_saved is closes =
-          let on = saved_on old.it.terms.trail m old.gauge reading first (closing_at new) reads backed writes refl tickets (closed (Ok tt) closes) in let reply : Loss = loss.Saved new.it.saves.newest.generation new.it.accepted in
-          answers_loss new reading modes.Saved refl (lost modes.Saved is on.1.rest) reply (saved_in m.store (made_of false m)) refl on.2.makes
-          (all_saved old.it.terms.trail m old.gauge reading first (closing_at new) reads backed writes refl tickets new.it.saves.newest.generation new.it.accepted on.2.makes.knows.generation
+          let on = saved_on order old.it.terms.trail m old.gauge reading first (closing_at new) reads backed writes refl tickets (closed (Ok tt) closes) in let reply : Loss = loss.Saved new.it.saves.newest.generation new.it.accepted in
+          answers_loss new reading modes.Saved refl (lost modes.Saved is on.1.rest) reply (saved_in m.store (made_of false m)) refl on.2.makes order
+          (all_saved order old.it.terms.trail m old.gauge reading first (closing_at new) reads backed writes refl tickets new.it.saves.newest.generation new.it.accepted on.2.makes.knows.generation
           (numbers.accepted ∙ ends.numbers.accepted ∙ stands.matches.accepted) on.0 on.1 on.2)
 
-      pub answers_dark : new.it.mode ≡ begun.mode → (cause : BrokenOff) → cause ≡ broken.Refused → Closes (Err cause) → IsAnswered loss.Dark
+      pub answers_dark : new.it.mode ≡ begun.mode → (cause : BrokenOff) → cause ≡ broken.Refused → Closes (Err cause) → Answered loss.Dark
       answers_dark is cause why closes =
-          let short = dark old.it.terms.trail m old.gauge reading first (closing_at new) reads backed writes refl tickets here (closed (Err broken.Refused) (subst (λ (x : BrokenOff). Closes (Err x)) why closes)) in
-          answers_loss new reading modes.Closing refl (lost modes.Closing (is ∙ ends.mode) short.rest) loss.Dark short.store short.none short.makes short.step
+          let short = dark order old.it.terms.trail m old.gauge reading first (closing_at new) reads backed writes refl tickets here (closed (Err broken.Refused) (subst (λ (x : BrokenOff). Closes (Err x)) why closes)) in
+          answers_loss new reading modes.Closing refl (lost modes.Closing (is ∙ ends.mode) short.rest) loss.Dark short.store short.none short.makes order short.step
 
-      pub answers_fault : new.it.mode ≡ begun.mode → (cause : BrokenOff) → cause ≡ broken.Fault → Closes (Err cause) → IsAnswered loss.Fault
+      pub answers_fault : new.it.mode ≡ begun.mode → (cause : BrokenOff) → cause ≡ broken.Fault → Closes (Err cause) → Answered loss.Fault
       answers_fault is cause why closes =
-          let short = fault old.it.terms.trail m old.gauge reading first (closing_at new) reads backed writes refl tickets (closed (Err broken.Fault) (subst (λ (x : BrokenOff). Closes (Err x)) why closes)) in
-          answers_loss new reading modes.Closing refl (lost modes.Closing (is ∙ ends.mode) short.rest) loss.Fault short.store short.none short.makes short.step
+          let short = fault order old.it.terms.trail m old.gauge reading first (closing_at new) reads backed writes refl tickets (closed (Err broken.Fault) (subst (λ (x : BrokenOff). Closes (Err x)) why closes)) in
+          answers_loss new reading modes.Closing refl (lost modes.Closing (is ∙ ends.mode) short.rest) loss.Fault short.store short.none short.makes order short.step

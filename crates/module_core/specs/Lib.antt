@@ -12,4 +12,5 @@ pub mod Covering
 pub mod InTurn
 pub mod ModuleLives
 pub mod HonestCalls
+pub mod Losing
 pub mod Rising

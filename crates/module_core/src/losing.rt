@@ -1,18 +1,22 @@
 // The loss of mains.
-ghost use Rattle.std.specs.Prelude.{◌≡◌, ◌+◌, ◌≤◌, ◌^◌, ℕ, List, [], length, true, false, None, Some, OnOk};
+ghost use Rattle.std.specs.Prelude.{◌≡◌, ◌≤◌, ◌^◌, [], false, true, None, Ok, IfNone, IfSome, OnOk};
 ghost use Rattle.energy_budget.specs.declared.costs.CostNumbers.{CostNumbers};
-ghost use Rattle.channel_set.specs.Draining.{cost_of_drains, paid_for_drains};
+ghost use Rattle.channel_set.specs.Draining.{cost_of_drains};
 ghost use Rattle.arm_state.specs.Modes.{has_ended};
+ghost use Rattle.save_device.specs.Device.{DeviceState};
 ghost use Rattle.channel_set.specs.Set.{AreAt, shape_of, view_of};
 ghost use Rattle.channel_port.specs.declared.stage.Stage.TheVariants.{OnBackup, OnMains};
+ghost use Rattle.channel_port.specs.Draining.{at_once, in_turn};
 
 use crate::Module;
 use arm_state::{Loss, Mode};
 use channel_port::ChannelPort;
-use energy_budget::Energy;
+use energy_budget::{Dark, Energy};
 use nv_machine::{Event, Reply};
 use save_device::SaveDevice;
 use slot_store::BrokenOff;
+use std::thread::Threads;
+use worker_gate::Gate;
 
 impl<K: ChannelPort> Module<K> {
     ghost use Rattle.module_core.specs.Saves.{BeginsSave};
@@ -55,66 +59,72 @@ impl<K: ChannelPort> Module<K> {
 }
 
 impl<K: ChannelPort> Module<K> {
-    ghost use Rattle.module_core.specs.Closing.{ClosesModule};
-    ghost use Rattle.module_core.specs.Covering.{IsCovered};
-    ghost use Rattle.module_core.specs.HonestCalls.{SavesWhereHonest};
-    ghost use Rattle.module_core.specs.Stands.{Answers, HasDevice, SameButSaves, setup_of, assembly};
+    ghost use Rattle.module_core.specs.Closing.{ClosesDrained};
+    ghost use Rattle.module_core.specs.Losing.{BeginsLoss, ConcludesLoss, LosesAlone};
+    ghost use Rattle.module_core.specs.Stands.{HasDevice, SameButSaves, setup_of, assembly};
 
-    // Drains the channels, and makes the save that was begun.
+    // The beginning of a loss of mains: what it comes to where nothing is to be saved; else a save of all accepted writes is begun.
+    fn begin_loss<E: Energy>(&mut self, energy: &mut E) -> Option<Loss>
+        ensures over { IfSome result (λ lost. LosesAlone K.ChannelPort lost
+            self.old (E.gauge energy.old) self.new (E.gauge energy.new)) }
+        ensures begins { IfNone result ((device : DeviceState) → BeginsLoss K.ChannelPort
+            (assembly self.old device (E.gauge energy.old))
+            (assembly self.new device (E.gauge energy.new))) }
+        ensures ended { IfNone result (has_ended self.new.mode ≡ true) }
+        ensures backup { IfNone result (AreAt K.ChannelPort OnBackup self.new.channels) }
+        ensures lost { IfNone result ((view_of K.ChannelPort self.new.channels).waits.reads ≡ []) }
+        ensures setup { setup_of K.ChannelPort self.new ≡ setup_of K.ChannelPort self.old }
+    {
+        if self.mode.has_ended() {
+            return Some(Loss::Closed);
+        }
+        if !self.mode.is_backed() {
+            self.end_mains();
+            return Some(Loss::Unsaved);
+        }
+        self.begin_closing(energy.tick());
+        None
+    }
+
+    // Makes the save that was begun, or gives it up where a payment for the drains was refused.
     fn close<D: SaveDevice, E: Energy>(
         &mut self,
+        drained: Result<(), Dark>,
         device: &mut D,
         energy: &mut E,
     ) -> Result<(), BrokenOff>
         requires ended { has_ended self.old.mode ≡ true }
-        requires backup { AreAt K.ChannelPort OnBackup self.old.channels }
-        requires lost { (view_of K.ChannelPort self.old.channels).waits.reads ≡ [] }
         requires size { HasDevice K.ChannelPort self.old (D.state device.old) }
-        ensures closes { ClosesModule result
+        ensures closes { ClosesDrained drained result
             (assembly self.old (D.state device.old) (E.gauge energy.old))
             (assembly self.new (D.state device.new) (E.gauge energy.new)) }
-        ensures covers { OnOk result (cost_of_drains K.ChannelPort self.old.channels
-            (shape_of K.ChannelPort self.old.channels).costs.numbers
-            ≤ paid_for_drains (view_of K.ChannelPort self.old.channels)) }
+        ensures paid { OnOk result (drained ≡ Ok tt) }
         ensures same { SameButSaves K.ChannelPort self.old self.new }
         ensures setup { setup_of K.ChannelPort self.new ≡ setup_of K.ChannelPort self.old }
         ensures size { HasDevice K.ChannelPort self.new (D.state device.new) }
     {
-        let Ok(()) = self.channels.drain(energy) else {
+        if drained.is_err() {
             self.saves.saving = None;
             return Err(BrokenOff::Refused);
-        };
+        }
         self.saves.finish(&self.channels, device, energy)
     }
 
-    /// Mains were lost. Where acknowledged writes are to be saved, the channels are drained and all accepted writes are
-    /// saved, each action paid for first; a payment that is refused or a fault of the device breaks it off. Disarmed, nothing
-    /// is written. Where all is saved, the energy that is kept for a closing save is no less than what the commands and the
-    /// clocks of its drains and the steps of its save cost.
-    ///
-    /// **With an honest gauge and a device that has counted no fault since the life began, the answer is `Saved` with all
-    /// accepted writes, and a restore finds them all, complete.**
-    pub fn power_loss<D: SaveDevice, E: Energy>(&mut self, device: &mut D, energy: &mut E) -> Loss
+    // What a loss that was begun comes to, behind the drains of its channels.
+    fn conclude<D: SaveDevice, E: Energy>(
+        &mut self,
+        drained: Result<(), Dark>,
+        device: &mut D,
+        energy: &mut E,
+    ) -> Loss
+        requires ended { has_ended self.old.mode ≡ true }
         requires size { HasDevice K.ChannelPort self.old (D.state device.old) }
-        ensures answers { Answers K.ChannelPort Event.Lose (Reply.Lose result)
+        ensures concludes { ConcludesLoss K.ChannelPort drained result
             (assembly self.old (D.state device.old) (E.gauge energy.old))
             (assembly self.new (D.state device.new) (E.gauge energy.new)) }
-        ensures covered { IsCovered K.ChannelPort result self.old.channels }
-        ensures honest { SavesWhereHonest K.ChannelPort result
-            (assembly self.old (D.state device.old) (E.gauge energy.old))
-            (assembly self.new (D.state device.new) (E.gauge energy.new)) }
-        ensures setup { setup_of K.ChannelPort self.new ≡ setup_of K.ChannelPort self.old }
         ensures size { HasDevice K.ChannelPort self.new (D.state device.new) }
     {
-        if self.mode.has_ended() {
-            return Loss::Closed;
-        }
-        if !self.mode.is_backed() {
-            self.end_mains();
-            return Loss::Unsaved;
-        }
-        self.begin_closing(energy.tick());
-        match self.close(device, energy) {
+        match self.close(drained, device, energy) {
             Ok(()) => {
                 self.mode = Mode::Saved;
                 Loss::Saved {
@@ -125,5 +135,81 @@ impl<K: ChannelPort> Module<K> {
             Err(BrokenOff::Refused) => Loss::Dark,
             Err(BrokenOff::Fault) => Loss::Fault,
         }
+    }
+}
+
+impl<K: ChannelPort> Module<K> {
+    ghost use Rattle.module_core.specs.Covering.{IsCovered};
+    ghost use Rattle.module_core.specs.HonestCalls.{SavesWhereHonest};
+    ghost use Rattle.module_core.specs.Losing.{LosesBy};
+    ghost use Rattle.module_core.specs.Stands.{Answers, HasDevice, setup_of, assembly};
+
+    /// Mains were lost. Where acknowledged writes are to be saved, the channels are drained one after another and all accepted
+    /// writes are saved, each action paid for first; a payment that is refused or a fault of the device breaks it off. Disarmed,
+    /// nothing is written. Where all is saved, the energy that is kept for a closing save is no less than what the commands and
+    /// the clocks of its drains and the steps of its save cost.
+    ///
+    /// **With an honest gauge and a device that has counted no fault since the life began, the answer is `Saved` with all
+    /// accepted writes, and a restore finds them all, complete.**
+    pub fn power_loss<D: SaveDevice, E: Energy>(&mut self, device: &mut D, energy: &mut E) -> Loss
+        requires size { HasDevice K.ChannelPort self.old (D.state device.old) }
+        ensures answers { Answers K.ChannelPort Event.Lose (Reply.Lose result)
+            (assembly self.old (D.state device.old) (E.gauge energy.old))
+            (assembly self.new (D.state device.new) (E.gauge energy.new)) }
+        ensures loses { LosesBy K.ChannelPort in_turn result
+            (assembly self.old (D.state device.old) (E.gauge energy.old))
+            (assembly self.new (D.state device.new) (E.gauge energy.new)) }
+        ensures covered { IsCovered K.ChannelPort result self.old.channels }
+        ensures honest { SavesWhereHonest K.ChannelPort result
+            (assembly self.old (D.state device.old) (E.gauge energy.old))
+            (assembly self.new (D.state device.new) (E.gauge energy.new)) }
+        ensures setup { setup_of K.ChannelPort self.new ≡ setup_of K.ChannelPort self.old }
+        ensures size { HasDevice K.ChannelPort self.new (D.state device.new) }
+    {
+        if let Some(lost) = self.begin_loss(energy) {
+            return lost;
+        }
+        let drained = self.channels.drain(energy);
+        self.conclude(drained, device, energy)
+    }
+
+    /// Mains were lost, as at `power_loss`. All drains are paid for at once before the first of them, and then the channels are
+    /// drained at once, each in a thread of its own where one is to be had; the steps of the save are paid for one by one. The
+    /// gate is asked before each drain, by the channel's number, and again while it says Hold; Stop counts as Go. Where the
+    /// payment of the drains is refused no command is issued.
+    ///
+    /// **An honest gauge and a device without a fault are enough for the same as at `power_loss`.**
+    pub fn power_loss_with<D, E, G, R>(
+        &mut self,
+        rt: &R,
+        device: &mut D,
+        energy: &mut E,
+        gate: &G,
+    ) -> Loss
+    where
+        K: Send,
+        D: SaveDevice,
+        E: Energy,
+        G: Gate + Sync,
+        R: Threads + Sync,
+        requires size { HasDevice K.ChannelPort self.old (D.state device.old) }
+        ensures answers { Answers K.ChannelPort Event.Lose (Reply.Lose result)
+            (assembly self.old (D.state device.old) (E.gauge energy.old))
+            (assembly self.new (D.state device.new) (E.gauge energy.new)) }
+        ensures loses { LosesBy K.ChannelPort at_once result
+            (assembly self.old (D.state device.old) (E.gauge energy.old))
+            (assembly self.new (D.state device.new) (E.gauge energy.new)) }
+        ensures covered { IsCovered K.ChannelPort result self.old.channels }
+        ensures honest { SavesWhereHonest K.ChannelPort result
+            (assembly self.old (D.state device.old) (E.gauge energy.old))
+            (assembly self.new (D.state device.new) (E.gauge energy.new)) }
+        ensures setup { setup_of K.ChannelPort self.new ≡ setup_of K.ChannelPort self.old }
+        ensures size { HasDevice K.ChannelPort self.new (D.state device.new) }
+    {
+        if let Some(lost) = self.begin_loss(energy) {
+            return lost;
+        }
+        let drained = self.channels.drain_at_once(rt, energy, gate);
+        self.conclude(drained, device, energy)
     }
 }

@@ -15,6 +15,8 @@ use notice_book::Notices;
 use nv_machine::{Event, Reply, StepReply};
 use save_device::SaveDevice;
 use std::sync::{Mutex, Wait};
+use std::thread::Threads;
+use worker_gate::Gate;
 
 /// A module that threads share, and a book of notices behind a lock of its own. No call takes both locks.
 #[derive(Drop)]
@@ -74,12 +76,16 @@ impl<K: ChannelPort, D: SaveDevice, E: Energy, B: BoardName, N: Notices> Board<K
         self.held.lock(rt).save_step()
     }
 
-    /// Mains were lost: where acknowledged writes are to be saved, all accepted ones are.
-    pub fn power_loss(&self, rt: &impl Wait) -> Loss
+    /// Mains were lost: where acknowledged writes are to be saved, the channels are drained at once, each when the gate lets it go,
+    /// and all accepted writes are saved. The lock is held meanwhile, so that a gate which waits for another call of the board
+    /// waits for ever.
+    pub fn power_loss<G: Gate + Sync, R: Threads + Wait + Sync>(&self, rt: &R, gate: &G) -> Loss
+    where
+        K: Send,
         ensures { LentStep K.ChannelPort D.SaveDevice E.Energy B.BoardName.own
             Event.Lose (Reply.Lose result) }
     {
-        self.held.lock(rt).power_loss()
+        self.held.lock(rt).power_loss(rt, gate)
     }
 
     /// Waits for the bytes of a read that was answered by a ticket. A loss of mains ends it.

@@ -23,6 +23,8 @@ use save_device::SaveDevice;
 use std::alloc::Global;
 use std::sync::Arc;
 use std::sync::ledger::Share;
+use std::thread::Threads;
+use worker_gate::Gate;
 
 /// A module with its record, the words and the seat that moves them, which show the module's two numbers, and how many of the
 /// recorded writes are the hosts'. It keeps that some life so far leads to where module, device and gauge stand.
@@ -253,17 +255,22 @@ impl<K: ChannelPort, D: SaveDevice, E: Energy, B: BoardName> Held<K, D, E, B> {
 impl<K: ChannelPort, D: SaveDevice, E: Energy, B: BoardName> Held<K, D, E, B> {
     ghost use Rattle.nv_workers.specs.Steps.{Steps};
 
-    /// Mains were lost: where acknowledged writes are to be saved, all accepted ones are.
-    pub fn power_loss(&mut self) -> Loss
+    /// Mains were lost: where acknowledged writes are to be saved, the channels are drained at once and all accepted writes
+    /// saved, as `Module::power_loss_with`.
+    pub fn power_loss<G: Gate + Sync, R: Threads + Sync>(&mut self, rt: &R, gate: &G) -> Loss
+    where
+        K: Send,
         ensures steps { Steps K.ChannelPort D.SaveDevice E.Energy B.BoardName.own
             Event.Lose (Reply.Lose result) self.old self.new }
         ensures setup { setup_of K.ChannelPort self.new.recorded.running
             ≡ setup_of K.ChannelPort self.old.recorded.running }
     {
-        let reply = self
-            .recorded
-            .running
-            .power_loss(&mut self.recorded.device, &mut self.recorded.energy);
+        let reply = self.recorded.running.power_loss_with(
+            rt,
+            &mut self.recorded.device,
+            &mut self.recorded.energy,
+            gate,
+        );
         self.recorded.saved = saved_after(Reply::Lose(reply), self.recorded.saved);
         publish(&self.marks, &mut self.seat, &self.recorded.running);
         reply

@@ -12,6 +12,7 @@ use ddr4_timing::place::BankAddress;
 use energy_budget::Meter;
 use interleave_map::{Interleaving, ReadyMap};
 use module_core::Module;
+use nv_profile::Profile;
 use save_device::{MemoryDevice, SaveDevice};
 use slot_store::Verdict;
 use std::alloc::Global;
@@ -22,9 +23,9 @@ const ENOUGH: u64 = 9_000;
 
 const SECOND_SLOT: usize = 12_288;
 
-/// What a loss of mains has left of a channel.
+//// What a loss of mains has left of a channel.
 #[derive(Clone, Copy, Debug, PartialEq, Eq)]
-struct Left {
+pub struct Left {
     /// How many commands it has issued, and the last one.
     commands: u64,
     last: Option<Command>,
@@ -57,6 +58,62 @@ fn left_on<R: Abort>(rt: &R, running: &Module<Ddr4Port<'_, ReadyMap>>, number: u
     }
 }
 
+/// The two channels are left so.
+pub(crate) fn are_left<R: Abort>(
+    rt: &R,
+    running: &Module<Ddr4Port<'_, ReadyMap>>,
+    first: Left,
+    second: Left,
+) {
+    same(rt, left_on(rt, running, 0), first);
+    same(rt, left_on(rt, running, 1), second);
+}
+
+/// The map that lays lines side by side.
+pub(crate) fn map_of(profile: &Profile) -> ReadyMap {
+    ReadyMap {
+        interleaving: Interleaving::Lines,
+        checked: profile.checked,
+    }
+}
+
+/// An armed module whose gauge shows so many units. One write waits in channel 0, whose row is open, and behind it those of
+/// further lines.
+pub(crate) fn armed_with<'m, R: Abort>(
+    rt: &R,
+    alloc: Global,
+    profile: &Profile,
+    map: &'m ReadyMap,
+    further: &[u64],
+    units: u64,
+) -> Load<Ddr4Port<'m, ReadyMap>, MemoryDevice> {
+    let Ok(device) = formatted(alloc, profile) else {
+        panic!(*rt; "a device");
+    };
+    let Ok(ready) = open(alloc, map, profile, device, Meter::with(ENOUGH, 0), 1) else {
+        panic!(*rt; "a module");
+    };
+    let mut load = load_of(rt, ready);
+    load.arm_with_a_write(rt);
+    for line in further.iter() {
+        load.write(rt, *line);
+    }
+    load.gauge.set(units);
+    load
+}
+
+/// The device restores to the image of before, and a loss may have happened since.
+pub(crate) fn restores_to_the_old<R: Abort>(rt: &R, alloc: Global, device: &mut MemoryDevice) {
+    let image = Image {
+        generation: 1,
+        count: 0,
+        verdict: Verdict::PossibleLoss { after: 0 },
+        first: 0,
+        last: 0,
+    };
+    restores_to(rt, alloc, device, image);
+}
+
 // An armed module loses mains with so many units, and goes dark. One write waits in channel 0, whose row is open, and behind it
 // those of further lines. The two channels are left so. The device, which restores to the image of before.
 fn device_in_the_dark<R: Abort>(
@@ -68,33 +125,11 @@ fn device_in_the_dark<R: Abort>(
     second: Left,
 ) -> MemoryDevice {
     let profile = tiny(rt, alloc);
-    let map = ReadyMap {
-        interleaving: Interleaving::Lines,
-        checked: profile.checked,
-    };
-    let Ok(device) = formatted(alloc, &profile) else {
-        panic!(*rt; "a device");
-    };
-    let Ok(ready) = open(alloc, &map, &profile, device, Meter::with(ENOUGH, 0), 1) else {
-        panic!(*rt; "a module");
-    };
-    let mut load: Load<Ddr4Port<'_, ReadyMap>, MemoryDevice> = load_of(rt, ready);
-    load.arm_with_a_write(rt);
-    for line in further.iter() {
-        load.write(rt, *line);
-    }
-    load.gauge.set(units);
+    let map = map_of(&profile);
+    let mut load = armed_with(rt, alloc, &profile, &map, further, units);
     same(rt, load.lose(), Loss::Dark);
-    same(rt, left_on(rt, &load.running, 0), first);
-    same(rt, left_on(rt, &load.running, 1), second);
-    let image = Image {
-        generation: 1,
-        count: 0,
-        verdict: Verdict::PossibleLoss { after: 0 },
-        first: 0,
-        last: 0,
-    };
-    restores_to(rt, alloc, &mut load.device, image);
+    are_left(rt, &load.running, first, second);
+    restores_to_the_old(rt, alloc, &mut load.device);
     let Load { device, .. } = load;
     device
 }
@@ -111,7 +146,7 @@ fn goes_dark<R: Abort>(
     let _device = device_in_the_dark(rt, alloc, further, units, first, second);
 }
 
-const OPEN: Left = Left {
+pub(crate) const OPEN: Left = Left {
     commands: 1,
     last: Some(Command::Act {
         at: BankAddress {
@@ -147,21 +182,21 @@ const ENTERED: Left = Left {
 };
 
 // Behind the precharge the entry's ACT, WR and PRE, and the SRE.
-const DRAINED: Left = Left {
+pub(crate) const DRAINED: Left = Left {
     commands: 6,
     last: Some(Command::Sre { rank: 0 }),
     pending: 0,
     oldest: None,
 };
 
-const UNTOUCHED: Left = Left {
+pub(crate) const UNTOUCHED: Left = Left {
     commands: 0,
     last: None,
     pending: 0,
     oldest: None,
 };
 
-const ASLEEP: Left = Left {
+pub(crate) const ASLEEP: Left = Left {
     commands: 1,
     last: Some(Command::Sre { rank: 0 }),
     pending: 0,

@@ -4,14 +4,14 @@ ghost use Rattle.std.specs.Prelude.{◌≡◌, ℕ, length};
 use crate::cases::{AMPLE, CHANNELS, write_of};
 use crate::check::same;
 use crate::ends::{ends, is_strange};
-use crate::gates::{Always, EachTurn, Turns};
+use crate::gates::{EachTurn, Turns};
 use arm_state::{ArmRefusal, ArmReply, DisarmReply, Loss, ReadRefusal, WriteRefusal};
 use channel_port::ChannelPort;
 use energy_budget::Energy;
 use notice_book::{Notices, Persisted};
 use nv_machine::StepReply;
 use nv_workers::{
-    Behind, Board, BoardName, Ended, Host, Receipt, Seen, Stranger, Turn, channel_worker,
+    Behind, Board, BoardName, Ended, Host, Open, Receipt, Seen, Stranger, Turn, channel_worker,
     saver_worker,
 };
 use save_device::SaveDevice;
@@ -19,6 +19,7 @@ use slot_store::Step;
 use std::alloc::Global;
 use std::process::Abort;
 use std::sync::Wait;
+use std::thread::Threads;
 use std::time::Clock;
 
 // The write of a line with byte 11 that was the first one.
@@ -127,12 +128,12 @@ where
 /// Arms: a write is persistent at once, and a loss of mains saves it; from then on nothing is taken.
 pub(crate) fn lose_armed<K, D, E, B, N, R>(rt: &R, board: &Board<K, D, E, B, N>, host: &mut Host<B>)
 where
-    K: ChannelPort,
+    K: ChannelPort + Send,
     D: SaveDevice,
     E: Energy,
     B: BoardName,
     N: Notices,
-    R: Wait + Abort,
+    R: Threads + Wait + Abort + Sync,
 {
     same(rt, board.arm(rt), Ok(ArmReply::Armed));
     let receipt = first_receipt(0);
@@ -147,11 +148,11 @@ where
         generation: 2,
         count: 1,
     };
-    same(rt, board.power_loss(rt), saved);
+    same(rt, board.power_loss(rt, &Open), saved);
     let closed = WriteRefusal::Closed;
     same(rt, host.write(rt, board, write_of(0, 22)), Err(closed));
     same(rt, host.read(rt, board, 0), Err(ReadRefusal::Closed));
-    same(rt, (host.mark(), board.power_loss(rt)), (1, Loss::Closed));
+    same(rt, (host.mark(), board.power_loss(rt, &Open)), (1, Loss::Closed));
 }
 
 /// A save by hand, and a disarming whose save the saver makes.
@@ -228,12 +229,12 @@ pub(crate) fn end_workers<K, D, E, B, N, R>(
     host: &mut Host<B>,
 )
 where
-    K: ChannelPort,
+    K: ChannelPort + Send,
     D: SaveDevice,
     E: Energy,
     B: BoardName,
     N: Notices,
-    R: Wait + Clock + Abort,
+    R: Threads + Wait + Clock + Abort + Sync,
     requires { CHANNELS ≡ B.channels }
 {
     let nowhere = WriteRefusal::NoSuchLine;
@@ -250,9 +251,9 @@ where
     let asked = (goes.asked_in_order(), holds.asked_in_order());
     same(rt, asked, (Some(101), Some(101)));
     same(rt, board.save_step(rt), StepReply::NoSave);
-    same(rt, board.power_loss(rt), Loss::Unsaved);
-    let channel = channel_worker(rt, board, 0, &Always);
-    let saver = saver_worker(rt, board, CHANNELS, &Always);
+    same(rt, board.power_loss(rt, &Open), Loss::Unsaved);
+    let channel = channel_worker(rt, board, 0, &Open);
+    let saver = saver_worker(rt, board, CHANNELS, &Open);
     same(rt, (channel, saver), (Ended::Closed, Ended::Closed));
 }
 

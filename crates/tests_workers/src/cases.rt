@@ -54,11 +54,11 @@ pub(crate) fn write_of(line: u64, byte: u8) -> Write {
 // Tries a case of one thread.
 fn try_alone<K, D, E, B, R>(rt: &R, alloc: Global, ready: Ready<K, D, E>, case: Case)
 where
-    K: ChannelPort + Drop,
+    K: ChannelPort + Drop + Send,
     D: SaveDevice + Drop,
     E: Energy + Drop,
     B: BoardName,
-    R: Wait + Clock + Abort,
+    R: Threads + Wait + Clock + Abort + Sync,
     requires name { ready.opening.name ≡ B.name }
     requires parts { ready.opening.parts ≡ B.parts }
     requires board { ready.opening.board ≡ B.board }

@@ -21,15 +21,6 @@ impl Gate for Turns {
     }
 }
 
-/// Lets each worker go, at every turn.
-pub struct Always;
-
-impl Gate for Always {
-    fn pass(&self, _worker: u64, _turn: u64) -> Turn {
-        Turn::Go
-    }
-}
-
 /// Tells a worker the same so many turns, and then stops it.
 #[derive(Drop)]
 pub struct EachTurn {

@@ -3,13 +3,13 @@ ghost use Rattle.std.specs.Prelude.{◌≡◌};
 
 use crate::cases::{CHANNELS, write_of};
 use crate::check::same;
-use crate::gates::{Always, HeldUntil, OtherFirst};
+use crate::gates::{HeldUntil, OtherFirst};
 use arm_state::{Loss, ReadRefusal};
 use channel_port::{ChannelPort, Got, Ticket};
 use energy_budget::Energy;
 use line_memory::Line;
 use notice_book::Notices;
-use nv_workers::{Board, BoardName, Ended, Host, Seen, channel_worker, saver_worker};
+use nv_workers::{Board, BoardName, Ended, Host, Open, Seen, channel_worker, saver_worker};
 use save_device::SaveDevice;
 use std::process::Abort;
 use std::sync::Wait;
@@ -85,10 +85,10 @@ where
         rt,
         || -> Ended
             requires { CHANNELS ≡ B.channels }
-        { saver_worker(rt, board, CHANNELS, &Always) },
+        { saver_worker(rt, board, CHANNELS, &Open) },
         || -> Loss {
             thread::sleep(rt, Duration::from_millis(5));
-            board.power_loss(rt)
+            board.power_loss(rt, &Open)
         },
     )
 }

@@ -5,7 +5,7 @@ use Rattle.channel_set.specs.Draining.{drains_cost}
 use Rattle.channel_set.proofs.Carried.{carries-again}
 use Rattle.channel_set.proofs.Costing.{cost-whole, none-ok}
 use Rattle.channel_set.proofs.Counted.{reads_in, writes_in}
-use Rattle.channel_set.proofs.Drained.{draining-more, draining-none, draining-refused, drained-are, drained-kept, drained-places, drained-shaped, drained-then, drained-whole, drains-refused, drains-whole, refused-takes, stood}
+use Rattle.channel_set.proofs.Drained.{draining-more, draining-none, draining-refused, drained-are, drained-each, drained-kept, drained-places, drained-shaped, drained-then, drained-whole, drains-refused, drains-whole, refused-takes, stood}
 use Rattle.channel_set.proofs.Lists.{none-of}
 use Rattle.channel_set.proofs.set.ChannelSet.drain.Goals as goal
 
@@ -32,7 +32,7 @@ loop-port-preserved g c =
     let did = c.in_ok-drain.ensures in
     let p = get_or now i c.port-item.result in
     draining-more L c.args.self.now (g.E.Energy.gauge c.args.energy.now) i now (g.E.Energy.gauge c.loop-port.energy) c.loop-port.invariant (get_or now i c.port-item.result) c.drain.new.self at g.met.K.ChannelPort.own_writes (g.E.Energy.gauge c.drain.new.energy)
-    (record { drains = record { takes = (entries_in (take did.takes.paid (drain_actions (length (writes_in L p)))), did.takes.takes); rest = did.rest; keeps = did.keeps }; dry = did.dry }) did.pays did.covers
+    (record { drains = record { takes = (entries_in (take did.takes.paid (drain_actions (length (writes_in L p)))), did.takes.takes); rest = did.rest; keeps = did.keeps }; dry = did.dry; left = did.drained }) did.pays did.covers
 
 pub invariant_of-self : goal.invariant_of-self
 invariant_of-self g c =
@@ -78,6 +78,7 @@ returns-in_err-drain g c =
     let takes = refused-takes L channels before i now mid c.loop-port.invariant p c.drain.new.self at g.met.K.ChannelPort.own_writes dark later _ did.takes did.pays drained in
     record {
       drains = drains-refused L channels i gone _ drained before c.from_residual.result dark later c.from_residual.ensures.0 pays takes;
+      each = none-ok _ c.from_residual.result c.from_residual.ensures.0;
       covers = none-ok _ c.from_residual.result c.from_residual.ensures.0;
       keeps = carries-again L channels _ refl (drained-places L i gone channels.ports.items _ drained) (drained-kept L i gone channels.ports.items _ drained);
     }
@@ -94,6 +95,7 @@ returns g c =
     let count : i ≡ length channels.ports.items = omega (arith, all, c.loop-port.auto.port-index-end, ap length c.deref_mut-port-items.ensures.value) in
     record {
       drains = drains-whole L channels i 0 _ drained g.met.K.ChannelPort.own_writes before later (subst (λ n. PaysInTurn channels.costs (flat_map drain_actions (pending_each n (waits_in L channels.ports.items).writes)) before (Ok tt) later) count c.loop-port.invariant.pays) all;
+      each = drained-each L channels before i c.loop-port.port-items later c.deref_mut-port-items.result.now c.loop-port.invariant c.deref_mut-port-items.ensures.value c.deref_mut-port-items.ensures.len c.loop-port-test.false;
       covers =
           let paid = subst (λ n. drains_cost L (take i channels.ports.items) channels.costs.numbers ≤ total_cost channels.costs (flat_map drain_actions (pending_each n (waits_in L channels.ports.items).writes))) count c.loop-port.invariant.covered in
           omega (arith, paid, cost-whole L channels.costs.numbers channels.ports.items i count);

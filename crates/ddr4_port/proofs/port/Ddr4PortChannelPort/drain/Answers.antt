@@ -1,6 +1,6 @@
 use Rattle.std.proofs.Common.{sym, ap, ◌∙◌}
 use Rattle.ddr4_port.proofs.DrainCosts.{drain-covers}
-use Rattle.ddr4_port.proofs.Draining.{drain-checked, drain-keeps, drain-lost, drain-pays, drain-takes}
+use Rattle.ddr4_port.proofs.Draining.{drain-checked, drain-keeps, drain-left, drain-lost, drain-pays, drain-takes}
 use Rattle.ddr4_port.proofs.Paying.{paid_by}
 use Rattle.ddr4_port.proofs.Standing.{lost-on-backup, right-drained}
 use Rattle.ddr4_port.proofs.port.Ddr4PortChannelPort.drain.Goals.{in-Err, in-Ok}
@@ -36,6 +36,18 @@ returns-clause-takes g c =
     (elim c.match-drained.branch [
       | in-Ok w ↦ drain-takes c.args.costs.now c.drain_paying-drained.result s t _ _ did none c.match-drained.result (w.result-is ∙ sym (ap paid_by w.in-Ok.is))
       | in-Err w ↦ drain-takes c.args.costs.now c.drain_paying-drained.result s t _ _ did none c.match-drained.result (w.result-is ∙ sym (ap paid_by w.in-Err.is))
+    ])
+
+pub returns-clause-drained : goal.returns-clause-drained
+returns-clause-drained g c =
+    let s = c.self.inside.channel in
+    let t = c.drain_paying-drained.new.channel in
+    let did = c.drain_paying-drained.ensures.drains in
+    let f = g.M.LineMap.place_of c.self.inside.map.now in
+    rw (← c.self.view_is)
+    (elim c.match-drained.branch [
+      | in-Ok w ↦ drain-left c.args.costs.now c.drain_paying-drained.result s t _ _ did f c.self.inside.stage c.match-drained.result (w.result-is ∙ sym (ap paid_by w.in-Ok.is))
+      | in-Err w ↦ drain-left c.args.costs.now c.drain_paying-drained.result s t _ _ did f c.self.inside.stage c.match-drained.result (w.result-is ∙ sym (ap paid_by w.in-Err.is))
     ])
 
 pub returns-clause-covers : goal.returns-clause-covers

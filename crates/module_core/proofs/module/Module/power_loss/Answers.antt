@@ -1,52 +1,67 @@
-use Rattle.module_core.proofs.Common.{◌∙◌, ◌≡◌, ap, assembly, false, has_ended, is_backed, refl, rules, sym, true}
-use Rattle.module_core.proofs.Applying.{unmoved}
-use Rattle.module_core.proofs.Covering.{covered}
-use Rattle.module_core.proofs.HonestCalls.{ended_setup, honest_loss}
-use Rattle.module_core.proofs.LostModules.{answers_dark, answers_fault, answers_saved, answers_unsaved}
+use Rattle.std.proofs.lemmas.List.Elements.{All-drop}
+use Rattle.channel_port.specs.Draining.{in_turn}
+use Rattle.channel_port.specs.Waits.{AllBelow}
+use Rattle.module_core.specs.Saving.{IsOfLines}
+use Rattle.module_core.proofs.Common.{◌<◌, ◌∙◌, ◌≡◌, ChannelsView, Shape, Waiting, ap, assembly, false, refl, subst, sym, true, view_of}
 use Rattle.module_core.proofs.module.Module.power_loss.Goals as goal
 
-pub returns-then-has_ended-clause-answers : goal.returns-then-has_ended-clause-answers
-returns-then-has_ended-clause-answers g c = search (rules, unmoved)
+pub returns-in-Some-clause-answers : goal.returns-in-Some-clause-answers
+returns-in-Some-clause-answers g c = λ m stands. ((c.in-Some.ensures.over in_turn (g.D.SaveDevice.state c.args.device.now)).each m stands).answers
 
-pub returns-then-not-is_backed-clause-answers : goal.returns-then-not-is_backed-clause-answers
-returns-then-not-is_backed-clause-answers g c = λ m stands.
-    let h = stands.matches in let told = c.end_mains.ensures in let old = assembly c.args.self.now (g.D.SaveDevice.state c.args.device.now) (g.E.Energy.gauge c.args.energy.now) in
-    answers_unsaved g.K.ChannelPort old m stands c.end_mains.new.self told.ends told.none told.newest told.closed told.unsettled
-    (ap has_ended (sym h.mode) ∙ sym c.has_ended.ensures ∙ (let e : c.has_ended.result ≡ false = cc in e))
-    (ap is_backed (sym h.mode) ∙ sym c.is_backed.ensures ∙ (let e : c.is_backed.result ≡ false = cc in e))
+pub returns-in-Some-clause-loses : goal.returns-in-Some-clause-loses
+returns-in-Some-clause-loses g c = λ m stands. ((c.in-Some.ensures.over in_turn (g.D.SaveDevice.state c.args.device.now)).each m stands).loses
 
-pub returns-in-Ok-clause-answers : goal.returns-in-Ok-clause-answers
-returns-in-Ok-clause-answers g c = λ m stands.
-    let e = c.close.ensures.same in let b = c.begin_closing.ensures in
-    answers_saved g.K.ChannelPort (assembly c.args.self.now (g.D.SaveDevice.state c.args.device.now) (g.E.Energy.gauge c.args.energy.now)) m stands (let on : is_backed c.args.self.now.mode ≡ true = cc in on) c.tick.result (g.E.Energy.gauge c.tick.new.self) c.tick.ensures c.begin_closing.new.self b.ends b.begins
-    (assembly _ (g.D.SaveDevice.state c.close.new.device) (g.E.Energy.gauge c.close.new.energy)) (record { terms = e.numbers.terms; accepted = e.numbers.accepted; persisted = e.numbers.persisted }) e.reading e.keeps refl c.in-Ok.ensures.closes
+pub returns-in-Some-clause-covered : goal.returns-in-Some-clause-covered
+returns-in-Some-clause-covered g c = (c.in-Some.ensures.over in_turn (g.D.SaveDevice.state c.args.device.now)).covered
 
-pub returns-in-Err-Refused-clause-answers : goal.returns-in-Err-Refused-clause-answers
-returns-in-Err-Refused-clause-answers g c = λ m stands.
-    let e = c.close.ensures.same in let b = c.begin_closing.ensures in
-    answers_dark g.K.ChannelPort (assembly c.args.self.now (g.D.SaveDevice.state c.args.device.now) (g.E.Energy.gauge c.args.energy.now)) m stands (let on : is_backed c.args.self.now.mode ≡ true = cc in on) c.tick.result (g.E.Energy.gauge c.tick.new.self) c.tick.ensures c.begin_closing.new.self b.ends b.begins
-    (assembly c.close.new.self (g.D.SaveDevice.state c.close.new.device) (g.E.Energy.gauge c.close.new.energy)) e.numbers e.reading e.keeps e.mode c.in-Err-Refused.field-0 c.in-Err-Refused.field-0-is c.in-Err-Refused.ensures.closes
+pub returns-in-Some-clause-honest : goal.returns-in-Some-clause-honest
+returns-in-Some-clause-honest g c = (c.in-Some.ensures.over in_turn (g.D.SaveDevice.state c.args.device.now)).honest
 
-pub returns-in-Err-Fault-clause-answers : goal.returns-in-Err-Fault-clause-answers
-returns-in-Err-Fault-clause-answers g c = λ m stands.
-    let e = c.close.ensures.same in let b = c.begin_closing.ensures in
-    answers_fault g.K.ChannelPort (assembly c.args.self.now (g.D.SaveDevice.state c.args.device.now) (g.E.Energy.gauge c.args.energy.now)) m stands (let on : is_backed c.args.self.now.mode ≡ true = cc in on) c.tick.result (g.E.Energy.gauge c.tick.new.self) c.tick.ensures c.begin_closing.new.self b.ends b.begins
-    (assembly c.close.new.self (g.D.SaveDevice.state c.close.new.device) (g.E.Energy.gauge c.close.new.energy)) e.numbers e.reading e.keeps e.mode c.in-Err-Fault.field-0 c.in-Err-Fault.field-0-is c.in-Err-Fault.ensures.closes
+pub invariant_of-self : goal.invariant_of-self
+invariant_of-self g c =
+    let begun = c.begin_loss.new.self in let drain = c.drain-drained.ensures.drains in
+    record {
+      from = begun.from;
+      kept = begun.kept;
+      numbers = begun.numbers;
+      below = subst (AllBelow begun.accepted) (sym drain.takes.takes.writes) (All-drop (λ (w : Waiting). w.number < begun.accepted) _ (view_of g.K.ChannelPort begun.channels).waits.writes begun.below);
+      mains = λ on. let both : true ≡ false = sym c.in_default.ensures.ended ∙ on in absurd (let bad : ⊥ = cc in bad);
+      unspent = begun.unspent;
+      running = subst (λ (s : Shape). IsOfLines s.lines begun.saves.saving) (sym (ap (λ (v : ChannelsView). v.shape) drain.rest)) begun.running;
+      most = begun.most;
+    }
 
-pub returns-in-Ok-clause-honest : goal.returns-in-Ok-clause-honest
-returns-in-Ok-clause-honest g c =
-    honest_loss g.K.ChannelPort _ _ _
-    (record { answers = returns-in-Ok-clause-answers g c; setup = c.close.ensures.setup ∙ ended_setup g.K.ChannelPort c.tick.result c.args.self.now c.begin_closing.new.self c.begin_closing.ensures.ends })
+pub returns-clause-answers : goal.returns-clause-answers
+returns-clause-answers g c =
+    let D = g.D.SaveDevice in let E = g.E.Energy in let drain = c.drain-drained.ensures in
+    let told = c.conclude.ensures.concludes in_turn (assembly c.args.self.now (D.state c.args.device.now) (E.gauge c.args.energy.now)) (assembly c.begin_loss.new.self (D.state c.args.device.now) (E.gauge c.begin_loss.new.energy)) (c.in_default.ensures.begins (D.state c.args.device.now))
+    (record { drains = drain.drains; same = record { numbers = record { terms = refl; accepted = refl; persisted = refl }; reading = refl; mode = refl; keeps = drain.keeps }; saves = refl; device = refl }) drain.covers in
+    λ m stands. (told.each m stands).answers
 
-pub returns-in-Err-Refused-clause-honest : goal.returns-in-Err-Refused-clause-honest
-returns-in-Err-Refused-clause-honest g c =
-    honest_loss g.K.ChannelPort _ _ _
-    (record { answers = returns-in-Err-Refused-clause-answers g c; setup = c.close.ensures.setup ∙ ended_setup g.K.ChannelPort c.tick.result c.args.self.now c.begin_closing.new.self c.begin_closing.ensures.ends })
+pub returns-clause-loses : goal.returns-clause-loses
+returns-clause-loses g c =
+    let D = g.D.SaveDevice in let E = g.E.Energy in let drain = c.drain-drained.ensures in
+    let told = c.conclude.ensures.concludes in_turn (assembly c.args.self.now (D.state c.args.device.now) (E.gauge c.args.energy.now)) (assembly c.begin_loss.new.self (D.state c.args.device.now) (E.gauge c.begin_loss.new.energy)) (c.in_default.ensures.begins (D.state c.args.device.now))
+    (record { drains = drain.drains; same = record { numbers = record { terms = refl; accepted = refl; persisted = refl }; reading = refl; mode = refl; keeps = drain.keeps }; saves = refl; device = refl }) drain.covers in
+    λ m stands. (told.each m stands).loses
 
-pub returns-in-Err-Fault-clause-honest : goal.returns-in-Err-Fault-clause-honest
-returns-in-Err-Fault-clause-honest g c =
-    honest_loss g.K.ChannelPort _ _ _
-    (record { answers = returns-in-Err-Fault-clause-answers g c; setup = c.close.ensures.setup ∙ ended_setup g.K.ChannelPort c.tick.result c.args.self.now c.begin_closing.new.self c.begin_closing.ensures.ends })
+pub returns-clause-covered : goal.returns-clause-covered
+returns-clause-covered g c =
+    let D = g.D.SaveDevice in let E = g.E.Energy in let drain = c.drain-drained.ensures in
+    let told = c.conclude.ensures.concludes in_turn (assembly c.args.self.now (D.state c.args.device.now) (E.gauge c.args.energy.now)) (assembly c.begin_loss.new.self (D.state c.args.device.now) (E.gauge c.begin_loss.new.energy)) (c.in_default.ensures.begins (D.state c.args.device.now))
+    (record { drains = drain.drains; same = record { numbers = record { terms = refl; accepted = refl; persisted = refl }; reading = refl; mode = refl; keeps = drain.keeps }; saves = refl; device = refl }) drain.covers in
+    told.covered
 
-pub returns-in-Ok-clause-covered : goal.returns-in-Ok-clause-covered
-returns-in-Ok-clause-covered g c = let b = c.begin_closing.ensures in covered g.K.ChannelPort c.args.self.now.channels c.begin_closing.new.self.channels b.ends.channels b.cost c.in-Ok.ensures.covers
+pub returns-clause-honest : goal.returns-clause-honest
+returns-clause-honest g c =
+    let D = g.D.SaveDevice in let E = g.E.Energy in let drain = c.drain-drained.ensures in
+    let told = c.conclude.ensures.concludes in_turn (assembly c.args.self.now (D.state c.args.device.now) (E.gauge c.args.energy.now)) (assembly c.begin_loss.new.self (D.state c.args.device.now) (E.gauge c.begin_loss.new.energy)) (c.in_default.ensures.begins (D.state c.args.device.now))
+    (record { drains = drain.drains; same = record { numbers = record { terms = refl; accepted = refl; persisted = refl }; reading = refl; mode = refl; keeps = drain.keeps }; saves = refl; device = refl }) drain.covers in
+    told.honest
+
+pub returns-clause-setup : goal.returns-clause-setup
+returns-clause-setup g c =
+    let D = g.D.SaveDevice in let E = g.E.Energy in let drain = c.drain-drained.ensures in
+    let told = c.conclude.ensures.concludes in_turn (assembly c.args.self.now (D.state c.args.device.now) (E.gauge c.args.energy.now)) (assembly c.begin_loss.new.self (D.state c.args.device.now) (E.gauge c.begin_loss.new.energy)) (c.in_default.ensures.begins (D.state c.args.device.now))
+    (record { drains = drain.drains; same = record { numbers = record { terms = refl; accepted = refl; persisted = refl }; reading = refl; mode = refl; keeps = drain.keeps }; saves = refl; device = refl }) drain.covers in
+    told.setup

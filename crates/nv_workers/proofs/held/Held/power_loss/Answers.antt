@@ -6,26 +6,26 @@ use Rattle.nv_workers.proofs.Keeping.{keeps_same}
 use Rattle.nv_workers.proofs.Living.{lives_on}
 use Rattle.nv_workers.proofs.held.Held.power_loss.Goals as goal
 
-pub power_loss-reply-requires : goal.power_loss-reply-requires
-power_loss-reply-requires g c = record { size = has_device g.K.ChannelPort g.D.SaveDevice c.args.self.now.recorded c.args.self.now.kept }
+pub power_loss_with-reply-requires : goal.power_loss_with-reply-requires
+power_loss_with-reply-requires g c = record { size = has_device g.K.ChannelPort g.D.SaveDevice c.args.self.now.recorded c.args.self.now.kept }
 
 pub publish-requires-clause-behind : goal.publish-requires-clause-behind
 publish-requires-clause-behind g c =
-    let it = c.args.self.now in let call = c.power_loss-reply in
+    let it = c.args.self.now in let call = c.power_loss_with-reply in
     let after = record it.recorded { running = call.new.self; device = call.new.device; energy = call.new.energy } in
     falls_behind g.K.ChannelPort g.D.SaveDevice g.E.Energy events.Lose (replies.Lose call.result) it.recorded after it.kept call.ensures.answers g.B.BoardName.board it.seat it.shown
 
 pub invariant_of-self-clause-kept : goal.invariant_of-self-clause-kept
 invariant_of-self-clause-kept g c =
-    let it = c.args.self.now in let call = c.power_loss-reply in
+    let it = c.args.self.now in let call = c.power_loss_with-reply in
     let after = record it.recorded { running = call.new.self; device = call.new.device; energy = call.new.energy; saved = c.saved_after-self.result } in
     keeps_same g.K.ChannelPort g.D.SaveDevice g.E.Energy events.Lose (replies.Lose call.result) it.recorded after it.kept call.ensures.answers call.ensures.setup refl c.saved_after-self.ensures refl
 
 pub invariant_of-self-clause-lived : goal.invariant_of-self-clause-lived
 invariant_of-self-clause-lived g c =
-    let it = c.args.self.now in let call = c.power_loss-reply in
+    let it = c.args.self.now in let call = c.power_loss_with-reply in
     let after = record it.recorded { running = call.new.self; device = call.new.device; energy = call.new.energy; saved = c.saved_after-self.result } in
     lives_on g.K.ChannelPort g.D.SaveDevice g.E.Energy events.Lose (replies.Lose call.result) it.recorded after it.lived call.ensures.answers call.ensures.setup
 
 pub returns-clause-steps : goal.returns-clause-steps
-returns-clause-steps g c = c.power_loss-reply.ensures.answers
+returns-clause-steps g c = c.power_loss_with-reply.ensures.answers

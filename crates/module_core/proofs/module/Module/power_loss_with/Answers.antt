@@ -1,0 +1,67 @@
+use Rattle.std.proofs.lemmas.List.Elements.{All-drop}
+use Rattle.channel_port.specs.Draining.{at_once}
+use Rattle.channel_port.specs.Waits.{AllBelow}
+use Rattle.module_core.specs.Saving.{IsOfLines}
+use Rattle.module_core.proofs.Common.{◌<◌, ◌∙◌, ◌≡◌, ChannelsView, Shape, Waiting, ap, assembly, false, refl, subst, sym, true, view_of}
+use Rattle.module_core.proofs.module.Module.power_loss_with.Goals as goal
+
+pub returns-in-Some-clause-answers : goal.returns-in-Some-clause-answers
+returns-in-Some-clause-answers g c = λ m stands. ((c.in-Some.ensures.over at_once (g.D.SaveDevice.state c.args.device.now)).each m stands).answers
+
+pub returns-in-Some-clause-loses : goal.returns-in-Some-clause-loses
+returns-in-Some-clause-loses g c = λ m stands. ((c.in-Some.ensures.over at_once (g.D.SaveDevice.state c.args.device.now)).each m stands).loses
+
+pub returns-in-Some-clause-covered : goal.returns-in-Some-clause-covered
+returns-in-Some-clause-covered g c = (c.in-Some.ensures.over at_once (g.D.SaveDevice.state c.args.device.now)).covered
+
+pub returns-in-Some-clause-honest : goal.returns-in-Some-clause-honest
+returns-in-Some-clause-honest g c = (c.in-Some.ensures.over at_once (g.D.SaveDevice.state c.args.device.now)).honest
+
+pub invariant_of-self : goal.invariant_of-self
+invariant_of-self g c =
+    let begun = c.begin_loss.new.self in let drain = c.drain_at_once-drained.ensures.drains in
+    record {
+      from = begun.from;
+      kept = begun.kept;
+      numbers = begun.numbers;
+      below = subst (AllBelow begun.accepted) (sym drain.takes.takes.writes) (All-drop (λ (w : Waiting). w.number < begun.accepted) _ (view_of g.K.ChannelPort begun.channels).waits.writes begun.below);
+      mains = λ on. let both : true ≡ false = sym c.in_default.ensures.ended ∙ on in absurd (let bad : ⊥ = cc in bad);
+      unspent = begun.unspent;
+      running = subst (λ (s : Shape). IsOfLines s.lines begun.saves.saving) (sym (ap (λ (v : ChannelsView). v.shape) drain.rest)) begun.running;
+      most = begun.most;
+    }
+
+pub returns-clause-answers : goal.returns-clause-answers
+returns-clause-answers g c =
+    let D = g.D.SaveDevice in let E = g.E.Energy in let drain = c.drain_at_once-drained.ensures in
+    let told = c.conclude.ensures.concludes at_once (assembly c.args.self.now (D.state c.args.device.now) (E.gauge c.args.energy.now)) (assembly c.begin_loss.new.self (D.state c.args.device.now) (E.gauge c.begin_loss.new.energy)) (c.in_default.ensures.begins (D.state c.args.device.now))
+    (record { drains = drain.drains; same = record { numbers = record { terms = refl; accepted = refl; persisted = refl }; reading = refl; mode = refl; keeps = drain.keeps }; saves = refl; device = refl }) drain.covers in
+    λ m stands. (told.each m stands).answers
+
+pub returns-clause-loses : goal.returns-clause-loses
+returns-clause-loses g c =
+    let D = g.D.SaveDevice in let E = g.E.Energy in let drain = c.drain_at_once-drained.ensures in
+    let told = c.conclude.ensures.concludes at_once (assembly c.args.self.now (D.state c.args.device.now) (E.gauge c.args.energy.now)) (assembly c.begin_loss.new.self (D.state c.args.device.now) (E.gauge c.begin_loss.new.energy)) (c.in_default.ensures.begins (D.state c.args.device.now))
+    (record { drains = drain.drains; same = record { numbers = record { terms = refl; accepted = refl; persisted = refl }; reading = refl; mode = refl; keeps = drain.keeps }; saves = refl; device = refl }) drain.covers in
+    λ m stands. (told.each m stands).loses
+
+pub returns-clause-covered : goal.returns-clause-covered
+returns-clause-covered g c =
+    let D = g.D.SaveDevice in let E = g.E.Energy in let drain = c.drain_at_once-drained.ensures in
+    let told = c.conclude.ensures.concludes at_once (assembly c.args.self.now (D.state c.args.device.now) (E.gauge c.args.energy.now)) (assembly c.begin_loss.new.self (D.state c.args.device.now) (E.gauge c.begin_loss.new.energy)) (c.in_default.ensures.begins (D.state c.args.device.now))
+    (record { drains = drain.drains; same = record { numbers = record { terms = refl; accepted = refl; persisted = refl }; reading = refl; mode = refl; keeps = drain.keeps }; saves = refl; device = refl }) drain.covers in
+    told.covered
+
+pub returns-clause-honest : goal.returns-clause-honest
+returns-clause-honest g c =
+    let D = g.D.SaveDevice in let E = g.E.Energy in let drain = c.drain_at_once-drained.ensures in
+    let told = c.conclude.ensures.concludes at_once (assembly c.args.self.now (D.state c.args.device.now) (E.gauge c.args.energy.now)) (assembly c.begin_loss.new.self (D.state c.args.device.now) (E.gauge c.begin_loss.new.energy)) (c.in_default.ensures.begins (D.state c.args.device.now))
+    (record { drains = drain.drains; same = record { numbers = record { terms = refl; accepted = refl; persisted = refl }; reading = refl; mode = refl; keeps = drain.keeps }; saves = refl; device = refl }) drain.covers in
+    told.honest
+
+pub returns-clause-setup : goal.returns-clause-setup
+returns-clause-setup g c =
+    let D = g.D.SaveDevice in let E = g.E.Energy in let drain = c.drain_at_once-drained.ensures in
+    let told = c.conclude.ensures.concludes at_once (assembly c.args.self.now (D.state c.args.device.now) (E.gauge c.args.energy.now)) (assembly c.begin_loss.new.self (D.state c.args.device.now) (E.gauge c.begin_loss.new.energy)) (c.in_default.ensures.begins (D.state c.args.device.now))
+    (record { drains = drain.drains; same = record { numbers = record { terms = refl; accepted = refl; persisted = refl }; reading = refl; mode = refl; keeps = drain.keeps }; saves = refl; device = refl }) drain.covers in
+    told.setup
