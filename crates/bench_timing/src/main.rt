@@ -25,5 +25,6 @@ fn main(rt: HostRuntime) -> anyhow::Result<()> {
     maps::show(&rt, count.is_some())?;
     drains::show(&rt, count)?;
     traces::show(&rt, count.is_some())?;
-    side_by_side::show(&rt, count)
+    print!(rt; "{}", side_by_side::text(&rt, rt.alloc(), count)?)?;
+    Ok(())
 }

@@ -13,6 +13,7 @@ use drain_core::{DrainReport, Open, drain, drain_all};
 use energy_budget::{Costs, TINY_COSTS};
 use interleave_map::{Interleaving, ReadyMap};
 use std::alloc::Global;
+use std::fmt::Write;
 use std::thread::Threads;
 use std::time::{Clock, Instant};
 
@@ -150,11 +151,7 @@ fn summed(reports: &[Option<DrainReport>]) -> (u64, u64) {
 }
 
 // What the drains of all channels at once take, and whether those in turn take the same.
-fn line<R: Threads + Clock + Sync>(
-    rt: &R,
-    alloc: Global,
-    busy: bool,
-) -> anyhow::Result<String> {
+fn line<R: Threads + Clock + Sync>(rt: &R, alloc: Global, busy: bool) -> anyhow::Result<String> {
     let (in_turn, _) = drain_once(rt, alloc, busy, false)?;
     let (at_once, _) = drain_once(rt, alloc, busy, true)?;
     let (drained, most) = summed(&at_once);
@@ -169,16 +166,21 @@ fn line<R: Threads + Clock + Sync>(
     )?)
 }
 
-// Prints what the drains of all channels take, and nanoseconds in turn and at once, the mean of so many, where a count is given.
-pub(crate) fn show(rt: &HostRuntime, count: Option<u64>) -> anyhow::Result<()> {
+/// What the drains of all channels take, and nanoseconds in turn and at once, the mean of so many, where a count is given.
+pub(crate) fn text<R: Threads + Clock + Sync>(
+    rt: &R,
+    alloc: Global,
+    count: Option<u64>,
+) -> anyhow::Result<String> {
+    let mut text = String::new(alloc);
     for busy in [false, true] {
-        print!(rt; "{}", line(rt, rt.alloc(), busy)?)?;
+        write!(text, "{}", line(rt, alloc, busy)?)?;
         if let Some(count) = count {
-            let in_turn = mean(rt, rt.alloc(), busy, false, count)?;
-            let at_once = mean(rt, rt.alloc(), busy, true, count)?;
-            print!(rt; ", {in_turn} nanoseconds in turn, {at_once} at once")?;
+            let in_turn = mean(rt, alloc, busy, false, count)?;
+            let at_once = mean(rt, alloc, busy, true, count)?;
+            write!(text, ", {in_turn} nanoseconds in turn, {at_once} at once")?;
         }
-        println!(rt;)?;
+        writeln!(text)?;
     }
-    Ok(())
+    Ok(text)
 }

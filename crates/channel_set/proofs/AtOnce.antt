@@ -26,11 +26,14 @@ module _ {K : Type 0} (L : Ghosts K) (costs : Costs) where
   paid-dry : (old new : K) → reads_in L old ≡ [] → DrainsPaid L costs old new → DrainsDry L old new
   paid-dry old new lost did = record {
     drains = record {
-      takes = (length (writes_in L old), record {
-        writes = ap (λ (w : Waits). w.writes) did.dry ∙ sym (drop-length (writes_in L old));
-        reads = ap (λ (w : Waits). w.reads) did.dry ∙ sym lost;
-        given = ap (λ (w : Waits). w.given) did.dry;
-      });
+      takes = (
+        length (writes_in L old),
+        record {
+          writes = ap (λ (w : Waits). w.writes) did.dry ∙ sym (drop-length (writes_in L old));
+          reads = ap (λ (w : Waits). w.reads) did.dry ∙ sym lost;
+          given = ap (λ (w : Waits). w.given) did.dry;
+        },
+      );
       rest = did.rest;
       keeps = did.keeps;
     };

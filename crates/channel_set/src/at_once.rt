@@ -30,10 +30,15 @@ fn drain_ports<K: ChannelPort + Send, G: Gate + Sync, R: Threads + Sync>(
     ensures { (i : ℕ) (d : K) → i < length ports.old → DrainsPaid K.ChannelPort costs.now
         (slice_index_or ports.old i d) (slice_index_or ports.new i d) }
 {
-    for_each_mut(rt, ports, 8, &|number: usize, port: &mut K|
-        requires { AwaitsPaidDrain K.ChannelPort costs.now port.now }
-        ensures { DrainsPaid K.ChannelPort costs.entry.now port.entry.now port.exit.now }
-    { drain_port(port, number, costs, gate) });
+    for_each_mut(
+        rt,
+        ports,
+        8,
+        &|number: usize, port: &mut K|
+            requires { AwaitsPaidDrain K.ChannelPort costs.now port.now }
+            ensures { DrainsPaid K.ChannelPort costs.entry.now port.entry.now port.exit.now }
+        { drain_port(port, number, costs, gate) },
+    );
 }
 
 impl<K: ChannelPort> ChannelSet<K> {

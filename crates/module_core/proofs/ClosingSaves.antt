@@ -1,5 +1,5 @@
 -- A closing save: what its steps, each paid for first, come to.
-use Rattle.std.proofs.Common.{◌||◌, ◌-◌, ◌++◌, if◌then◌else◌, length}
+use Rattle.std.proofs.Common.{◌||◌, ◌++◌, if◌then◌else◌, length}
 use Rattle.std.specs.Prelude.{MatchResult}
 use Rattle.channel_port.specs.Shape.{IsShape}
 use Rattle.module_core.specs.Saves.{Learns}

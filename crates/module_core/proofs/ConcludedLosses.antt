@@ -11,7 +11,7 @@ use Rattle.module_core.specs.Closing.{ClosesModule, HasDrained}
 use Rattle.module_core.specs.Covering.{IsCovered}
 use Rattle.module_core.specs.Losing.{AnswersLoss, BeginsLoss, CoversDrains, IsLoss}
 use Rattle.module_core.specs.Stands.{SameNumbers}
-use Rattle.module_core.proofs.Common.{◌∙◌, ◌≡◌, Assembly, ChannelsView, DeviceState, Err, Ghosts, Machine, Module, ModuleStands, Ok, ap, assembly, setup_of, subst, sym}
+use Rattle.module_core.proofs.Common.{◌∙◌, ◌≡◌, Assembly, ChannelsView, DeviceState, Err, Ghosts, Machine, ModuleStands, Ok, ap, assembly, setup_of, subst}
 use Rattle.module_core.proofs.Applying.{same_setup}
 use Rattle.module_core.proofs.Covering.{covered}
 use Rattle.module_core.proofs.HonestCalls.{ended_setup, honest_loss}

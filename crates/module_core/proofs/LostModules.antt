@@ -20,7 +20,7 @@ use Rattle.arm_state.specs.declared.mode.Mode.TheVariants as modes
 use Rattle.slot_store.specs.declared.source.BrokenOff.TheVariants as broken
 use Rattle.nv_machine.specs.declared.events.Event.TheVariants as events
 use Rattle.nv_machine.specs.declared.events.Reply.TheVariants as replies
-use Rattle.module_core.proofs.Common.{[], ℕ, ◌∙◌, ◌≡◌, Assembly, BeginsSave, ChannelsView, DeviceState, Err, Gauge, GaugeCall, Ghosts, HappensAt, Holds, HoldsWhile, Image, IsAmong, IsMemory, IsReadyToClose, IsResting, List, Machine, Matches, Mode, Module, ModuleStands, Newest, None, Ok, Option, ReachesStore, ReadsLevel, SaveRun, Shape, Some, StopsWithin, Store, Waits, after, ap, assembly, base_of_life, begun, begun_save, false, has_ended, hold_of, inl, is_backed, lines_of_module, made_of, memory_of, point_of, present, refl, restored, rules, saved_in, saves_at, setup_of, shape_of, start_of_life, started, subst, sym, true, view_of, weaker, world_of}
+use Rattle.module_core.proofs.Common.{[], ℕ, ◌∙◌, ◌≡◌, Assembly, BeginsSave, ChannelsView, DeviceState, Err, Gauge, GaugeCall, Ghosts, Holds, HoldsWhile, Image, IsAmong, IsMemory, IsReadyToClose, IsResting, List, Machine, Matches, Mode, Module, ModuleStands, Newest, None, Ok, Option, ReachesStore, ReadsLevel, SaveRun, Shape, Some, StopsWithin, Store, Waits, after, ap, assembly, base_of_life, begun, begun_save, false, has_ended, hold_of, inl, is_backed, lines_of_module, made_of, memory_of, present, refl, restored, rules, saved_in, saves_at, setup_of, shape_of, start_of_life, started, subst, sym, true, view_of, weaker, world_of}
 use Rattle.module_core.specs.Losing.{AnswersLoss}
 use Rattle.module_core.proofs.Applying.{asked, same_lines, same_setup, unmoved}
 use Rattle.module_core.proofs.Knowing.{holds_begun}

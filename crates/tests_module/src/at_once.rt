@@ -2,7 +2,9 @@
 // step and 513 for the one entry, 1,391 in all.
 use crate::cases::tiny;
 use crate::check::same;
-use crate::dark::{ASLEEP, DRAINED, Left, OPEN, UNTOUCHED, are_left, armed_with, map_of, restores_to_the_old};
+use crate::dark::{
+    ASLEEP, DRAINED, Left, OPEN, UNTOUCHED, are_left, armed_with, map_of, restores_to_the_old,
+};
 use crate::load::{Image, Load, restores_to};
 use arm_state::Loss;
 use ddr4_port::Ddr4Port;

@@ -152,7 +152,11 @@ where
     let closed = WriteRefusal::Closed;
     same(rt, host.write(rt, board, write_of(0, 22)), Err(closed));
     same(rt, host.read(rt, board, 0), Err(ReadRefusal::Closed));
-    same(rt, (host.mark(), board.power_loss(rt, &Open)), (1, Loss::Closed));
+    same(
+        rt,
+        (host.mark(), board.power_loss(rt, &Open)),
+        (1, Loss::Closed),
+    );
 }
 
 /// A save by hand, and a disarming whose save the saver makes.
