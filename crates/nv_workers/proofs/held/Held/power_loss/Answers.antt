@@ -6,8 +6,8 @@ use Rattle.nv_workers.proofs.Keeping.{keeps_same}
 use Rattle.nv_workers.proofs.Living.{lives_on}
 use Rattle.nv_workers.proofs.held.Held.power_loss.Goals as goal
 
-pub power_loss_with-reply-requires : goal.power_loss_with-reply-requires
-power_loss_with-reply-requires g c = record { size = has_device g.K.ChannelPort g.D.SaveDevice c.args.self.now.recorded c.args.self.now.kept }
+pub power_loss_with-reply-requires-clause-size : goal.power_loss_with-reply-requires-clause-size
+power_loss_with-reply-requires-clause-size g c _ _ = has_device g.K.ChannelPort g.D.SaveDevice c.args.self.now.recorded c.args.self.now.kept
 
 pub publish-requires-clause-behind : goal.publish-requires-clause-behind
 publish-requires-clause-behind g c =
