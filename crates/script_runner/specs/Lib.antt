@@ -4,6 +4,6 @@ pub mod Ledger
 pub mod Story
 pub mod Keeping
 pub mod Doing
-pub mod Runs
 pub mod Chains
+pub mod Runs
 pub mod Scripts

@@ -50,7 +50,8 @@ pub fn run_lines<M: LineMap, R: Report>(
 }
 
 /// Runs lines as `run_lines` does, which makes this call. The session begins with no life, a device of zero bytes and a gauge
-/// that shows 0 and has no leak; it does line by line, each with the line's own words, and each answer tells of what its line did.
+/// that shows 0 and has no leak; it does line by line, each with the line's own words, and each answer tells of what its line did:
+/// the answers are those of a chain of lives.
 pub fn do_lines<'m, M: LineMap, R: Report>(
     alloc: Global,
     profile: &Profile,
