@@ -191,7 +191,7 @@ fn a_save_after_a_failed_one(rt: HostRuntime) {
     }
 }
 
-const ENDED_FUSES: [(&str, &str); 3] = [
+const ENDED_FUSES: [(&str, &str); 2] = [
     (
         "format/fuse 0/save/format/save",
         "formatted/fuse 0/fault save/formatted/saved 2 0",
@@ -200,15 +200,36 @@ const ENDED_FUSES: [(&str, &str); 3] = [
         "format/fuse 0/save/restore/save",
         "formatted/fuse 0/fault save/restored 1 0 Complete/saved 2 0",
     ),
-    (
-        "format/write 0 11/fuse 7/write 1 22/read 0/mark/work 0 1/sense 0/save",
-        "formatted/accepted 0 mark 0/fuse 7/accepted 1 mark 0/line 0 = 11/mark 0/0 0 ACT 0 0 0 0/level 0 disarmed/fault save",
-    ),
 ];
 
 #[test]
 fn a_fuse_ends_with_the_life(rt: HostRuntime) {
     are_answered(&rt, &ENDED_FUSES);
+}
+
+// A fuse counts the calls of the lines behind it, and lines that call no device leave it.
+const KEPT_FUSES: [(&str, &str); 4] = [
+    (
+        "format/write 0 11/fuse 7/write 1 22/read 0/mark/work 0 1/sense 0/save",
+        "formatted/accepted 0 mark 0/fuse 7/accepted 1 mark 0/line 0 = 11/mark 0/0 0 ACT 0 0 0 0/level 0 disarmed/fault save",
+    ),
+    (
+        "format/fuse 9/save/save",
+        "formatted/fuse 9/saved 2 0/fault save",
+    ),
+    (
+        "format/fuse 3/step/step/step/step",
+        "formatted/fuse 3/step close/step sync/step page 0/fault save",
+    ),
+    (
+        "format/sense 9000/write 0 11/fuse 5/arm/lose",
+        "formatted/level 9000 disarmed/accepted 0 mark 0/fuse 5/armed/lost fault",
+    ),
+];
+
+#[test]
+fn a_fuse_counts_on(rt: HostRuntime) {
+    are_answered(&rt, &KEPT_FUSES);
 }
 
 // The save's last sync fails: a stop may leave the gate of its slot closed, open or torn.

@@ -111,7 +111,7 @@ fn while_armed(rt: HostRuntime) {
     are_answered(&rt, &ARMED);
 }
 
-const LOSSES: [(&str, &str); 7] = [
+const LOSSES: [(&str, &str); 9] = [
     (
         "format/write 0 11/lose/lose/restore/read 0",
         "formatted/accepted 0 mark 0/lost unsaved/lost already/restored 1 0 Complete/line 0 = 00",
@@ -131,6 +131,14 @@ const LOSSES: [(&str, &str); 7] = [
     (
         "format/sense 9000/arm/write 0 11/lie 2000/read 0/mark/sense 9000/lose/restore",
         "formatted/level 9000 disarmed/armed/accepted 0 mark 1/lie 2000/line 0 = 11/mark 1/level 9000 armed/lost dark/restored 1 0 PossibleLoss",
+    ),
+    (
+        "format/sense 9000/lie 2000/arm/write 0 11/lose",
+        "formatted/level 9000 disarmed/lie 2000/armed/accepted 0 mark 1/lost dark",
+    ),
+    (
+        "format/sense 9000/arm/write 0 11/lie 2000/save/write 1 22/lose",
+        "formatted/level 9000 disarmed/armed/accepted 0 mark 1/lie 2000/saved 2 1/accepted 1 mark 2/lost dark",
     ),
     (
         "format/sense 9000/arm/write 0 11/fuse 3/lose/lose/restore new",
