@@ -314,12 +314,12 @@ where
 /// Ends an armed board whose one write is that of line 0. A stranger leaves it armed, and a loss of mains saves the write.
 pub(crate) fn end_armed<K, D, E, B, N, R>(rt: &R, board: Board<K, D, E, B, N>, hosts: Vec<Host<B>>)
 where
-    K: ChannelPort + Drop,
+    K: ChannelPort + Drop + Send,
     D: SaveDevice + Drop,
     E: Energy + Drop,
     B: BoardName,
     N: Notices + Drop,
-    R: Wait + Abort,
+    R: Threads + Wait + Abort + Sync,
     requires { length hosts.items ≡ B.parts }
 {
     let strange = Stranger {
@@ -332,7 +332,7 @@ where
         generation: 2,
         count: 1,
     };
-    same(rt, board.power_loss(rt), saved);
+    same(rt, board.power_loss(rt, &Open), saved);
     ends(rt, board, hosts, &[first_receipt(0)], &[], (1, 1));
 }
 
