@@ -1,5 +1,7 @@
 // A loss of mains whose energy ends at each of its first actions. The costs are those of the small profile: a close step takes
 // 439 units and an entry 513, so that channel 0 with its one write takes 952, and both channels take 1,391.
+ghost use Rattle.std.specs.Prelude.{◌≡◌};
+
 use crate::cases::{load_of, tiny};
 use crate::check::same;
 use crate::load::{Image, Load, restores_to};
@@ -23,7 +25,7 @@ const ENOUGH: u64 = 9_000;
 
 const SECOND_SLOT: usize = 12_288;
 
-//// What a loss of mains has left of a channel.
+/// What a loss of mains has left of a channel.
 #[derive(Clone, Copy, Debug, PartialEq, Eq)]
 pub struct Left {
     /// How many commands it has issued, and the last one.
@@ -70,7 +72,9 @@ pub(crate) fn are_left<R: Abort>(
 }
 
 /// The map that lays lines side by side.
-pub(crate) fn map_of(profile: &Profile) -> ReadyMap {
+pub(crate) fn map_of(profile: &Profile) -> ReadyMap
+    ensures { result.checked ≡ profile.now.checked }
+{
     ReadyMap {
         interleaving: Interleaving::Lines,
         checked: profile.checked,
@@ -86,7 +90,9 @@ pub(crate) fn armed_with<'m, R: Abort>(
     map: &'m ReadyMap,
     further: &[u64],
     units: u64,
-) -> Load<Ddr4Port<'m, ReadyMap>, MemoryDevice> {
+) -> Load<Ddr4Port<'m, ReadyMap>, MemoryDevice>
+    requires geometry { map.now.checked.geometry ≡ profile.now.checked.geometry }
+{
     let Ok(device) = formatted(alloc, profile) else {
         panic!(*rt; "a device");
     };
