@@ -9,7 +9,7 @@ use chan_core::{Channel, Phase};
 use ddr4_timing::profiles::{TINY, WIDEST};
 use ddr4_timing::timing::Checked;
 use drain_core::laws::running_channel_may_drain;
-use drain_core::{DrainReport, Open, drain, drain_all};
+use drain_core::{Always, DrainReport, drain, drain_all};
 use energy_budget::{Costs, TINY_COSTS};
 use interleave_map::{Interleaving, ReadyMap};
 use std::alloc::Global;
@@ -98,7 +98,7 @@ fn drain_at_once<R: Threads + Sync>(
     if channels.len() > 8 || !can_all_drain(channels, costs) {
         anyhow::bail!("may not drain");
     }
-    Ok(drain_all(rt, channels, costs, &Open))
+    Ok(drain_all(rt, channels, costs, &Always))
 }
 
 // The drains of all channels, and how many nanoseconds they took.

@@ -9,7 +9,7 @@ use energy_budget::Meter;
 use line_memory::Write;
 use notice_book::{NoticeBook, Notices};
 use nv_workers::{
-    Board, BoardName, Closed, Ended, Host, Open, Receipt, RecordedModule, Seen, channel_worker,
+    Always, Board, BoardName, Closed, Ended, Host, Receipt, RecordedModule, Seen, channel_worker,
     close, saver_worker,
 };
 use save_device::SaveDevice;
@@ -106,7 +106,7 @@ where
             Ok(receipt) => {
                 receipts.push(receipt)?;
                 if plan.lost_at == Some(receipt.number) {
-                    board.power_loss(rt, &Open);
+                    board.power_loss(rt, &Always);
                 }
             }
             Err(WriteRefusal::Full) => thread::yield_now(),

@@ -10,7 +10,7 @@ use interleave_map::ReadyMap;
 use line_memory::Write;
 use notice_book::{NoticeBook, Notices};
 use nv_profile::Profile;
-use nv_workers::{Board, BoardName, Host, Open, Receipt, close};
+use nv_workers::{Always, Board, BoardName, Host, Receipt, close};
 use save_device::{MemoryDevice, SaveDevice};
 use std::alloc::{AllocError, Global};
 use std::marker::Brand;
@@ -131,7 +131,7 @@ where
     };
     let armed = board.arm(rt);
     let told = write_at_once(rt, alloc, &board, hosts)?;
-    let lost = board.power_loss(rt, &Open);
+    let lost = board.power_loss(rt, &Always);
     let (hosts, receipts) = gather(alloc, told)?;
     if hosts.len() != HOSTS {
         return Err(Wrong::Hosts.into());

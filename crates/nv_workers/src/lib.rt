@@ -43,4 +43,4 @@ pub use shift::Shift;
 pub use starting::start;
 pub use turns::take_turns;
 pub use worker::Working;
-pub use worker_gate::{Gate, Open, Turn};
+pub use worker_gate::{Always, Gate, Turn};

@@ -11,7 +11,7 @@ use energy_budget::Energy;
 use notice_book::{Notices, Persisted};
 use nv_machine::StepReply;
 use nv_workers::{
-    Behind, Board, BoardName, Ended, Host, Open, Receipt, Seen, Stranger, Turn, channel_worker,
+    Always, Behind, Board, BoardName, Ended, Host, Receipt, Seen, Stranger, Turn, channel_worker,
     saver_worker,
 };
 use save_device::SaveDevice;
@@ -148,13 +148,13 @@ where
         generation: 2,
         count: 1,
     };
-    same(rt, board.power_loss(rt, &Open), saved);
+    same(rt, board.power_loss(rt, &Always), saved);
     let closed = WriteRefusal::Closed;
     same(rt, host.write(rt, board, write_of(0, 22)), Err(closed));
     same(rt, host.read(rt, board, 0), Err(ReadRefusal::Closed));
     same(
         rt,
-        (host.mark(), board.power_loss(rt, &Open)),
+        (host.mark(), board.power_loss(rt, &Always)),
         (1, Loss::Closed),
     );
 }
@@ -255,9 +255,9 @@ where
     let asked = (goes.asked_in_order(), holds.asked_in_order());
     same(rt, asked, (Some(101), Some(101)));
     same(rt, board.save_step(rt), StepReply::NoSave);
-    same(rt, board.power_loss(rt, &Open), Loss::Unsaved);
-    let channel = channel_worker(rt, board, 0, &Open);
-    let saver = saver_worker(rt, board, CHANNELS, &Open);
+    same(rt, board.power_loss(rt, &Always), Loss::Unsaved);
+    let channel = channel_worker(rt, board, 0, &Always);
+    let saver = saver_worker(rt, board, CHANNELS, &Always);
     same(rt, (channel, saver), (Ended::Closed, Ended::Closed));
 }
 

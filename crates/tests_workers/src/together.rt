@@ -9,7 +9,7 @@ use channel_port::{ChannelPort, Got, Ticket};
 use energy_budget::Energy;
 use line_memory::Line;
 use notice_book::Notices;
-use nv_workers::{Board, BoardName, Ended, Host, Open, Seen, channel_worker, saver_worker};
+use nv_workers::{Always, Board, BoardName, Ended, Host, Seen, channel_worker, saver_worker};
 use save_device::SaveDevice;
 use std::process::Abort;
 use std::sync::Wait;
@@ -85,10 +85,10 @@ where
         rt,
         || -> Ended
             requires { CHANNELS ≡ B.channels }
-        { saver_worker(rt, board, CHANNELS, &Open) },
+        { saver_worker(rt, board, CHANNELS, &Always) },
         || -> Loss {
             thread::sleep(rt, Duration::from_millis(5));
-            board.power_loss(rt, &Open)
+            board.power_loss(rt, &Always)
         },
     )
 }

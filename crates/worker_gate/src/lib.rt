@@ -20,9 +20,9 @@ pub trait Gate {
 }
 
 /// Lets each go, at every turn.
-pub struct Open;
+pub struct Always;
 
-impl Gate for Open {
+impl Gate for Always {
     fn pass(&self, _worker: u64, _turn: u64) -> Turn {
         Turn::Go
     }
