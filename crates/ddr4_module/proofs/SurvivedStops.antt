@@ -12,7 +12,7 @@ use Rattle.module_core.specs.ModuleLives.{HasAnswered, module_life}
 use Rattle.module_core.specs.declared.module.Module.{Module}
 use Rattle.module_core.specs.Stands.{Assembly, IsForChannels, setup_of}
 use Rattle.module_core.proofs.ModulesLive.{lives_anywhere}
-use Rattle.ddr4_module.specs.WildLives.{Beginning, SurvivesStop, WorksWithin}
+use Rattle.ddr4_module.specs.WildLives.{Beginning, OutlivesStop, WorksWithin}
 
 module _ {K : Type 0} (L : Ghosts K) where
   -- what the life of a module began with
@@ -20,7 +20,7 @@ module _ {K : Type 0} (L : Ghosts K) where
   beginning_of found image old = record { setup = setup_of L old.it; slot = found.newest.slot; image = image; device = old.device; gauge = old.gauge }
 
   pub survives_stop : (found : Head) (image : Image) (events : List Event) (replies : List Reply) (old new : Assembly L) → HasAnswered L found image events replies old new
-      → (bytes : List ℕ) → IsLeftAt (moments_since old.device new.device) bytes → SurvivesStop (beginning_of found image old) events replies bytes
+      → (bytes : List ℕ) → IsLeftAt (moments_since old.device new.device) bytes → OutlivesStop (beginning_of found image old) events replies bytes
   survives_stop found image events replies old new answered bytes left =
       let e = lives_anywhere L found image events replies old new answered bytes left in
       record {

@@ -50,7 +50,7 @@ pub record IsFrontOf (events : List Event) (replies : List Reply) (life : Lived)
   pub told : replies ≡ life.replies ++ untold
 
 -- A stop among these events left these bytes. They end a life that began so, and a restore of them finds what survives of it.
-pub record SurvivesStop (from : Beginning) (events : List Event) (replies : List Reply) (bytes : List ℕ) : Type 0 where
+pub record OutlivesStop (from : Beginning) (events : List Event) (replies : List Reply) (bytes : List ℕ) : Type 0 where
   pub life : Lived
   pub began : BeganWith from life
   pub front : IsFrontOf events replies life
@@ -67,4 +67,4 @@ pub record SurvivesEachStop (setup : Setup) (gauge : Gauge) (events : List Event
   pub found : restored setup.shape.lines old.bytes ≡ Found from.slot from.image
   pub same : from.device.bytes ≡ old.bytes
   pub restoring : LeavesOnly old from.device (MayLeave (present old))
-  pub survives : (bytes : List ℕ) → IsLeftAt (moments_since from.device new) bytes → SurvivesStop from events replies bytes
+  pub survives : (bytes : List ℕ) → IsLeftAt (moments_since from.device new) bytes → OutlivesStop from events replies bytes

@@ -33,8 +33,8 @@ pub fn sums_in_closed_form()
 {}
 
 /// With no fewer pending writes no sum is smaller, and with no fewer ticks no backing. The floor backs a disarming save, of
-/// which each step ticks once: a mark and a sync three times, the pages, and those that are made again (`floor_backs`). A reading that is enough to
-/// acknowledge writes backs it after one more reading too (`need_backs`).
+/// which each step ticks once: a mark and a sync three times, the pages, and those that are made again (`floor_backs`). A reading
+/// that is enough to acknowledge writes backs it after one more reading too (`need_backs`).
 pub fn sums_rise()
     ensures reserve { (costs : Costs) (j k : ℕ) → j ≤ k → reserve costs j ≤ reserve costs k }
     ensures backing { (costs : Costs) (j k ticks : ℕ) → j ≤ k

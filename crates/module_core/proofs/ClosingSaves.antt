@@ -3,7 +3,7 @@ use Rattle.std.proofs.Common.{◌||◌, ◌++◌, if◌then◌else◌, length}
 use Rattle.std.specs.Prelude.{MatchResult}
 use Rattle.channel_port.specs.Shape.{IsShape}
 use Rattle.module_core.specs.Saves.{Learns}
-use Rattle.module_core.specs.Closing.{IsWhole, PaysUntil, SavesClosing, arrays_at, calls_in, payments}
+use Rattle.module_core.specs.Closing.{EndsWhole, PaysUntil, SavesClosing, arrays_at, calls_in, payments}
 use Rattle.module_core.specs.Device.{IsPlanFor}
 use Rattle.module_core.specs.Saving.{IsAmongEither}
 use Rattle.nv_machine.specs.Moves.{SaveProgress, broken_off}
@@ -122,7 +122,7 @@ module _ (shape : Shape) (shaped : IsShape shape) (s : Store) (made : Image) (ol
     few : FailsWithin costs.retries finish told.tries
     few = subst (λ (most : ℕ). FailsWithin most finish told.tries) repeats_are told.few
 
-    whole : IsWhole (calls_in lines s) finish told.tries
+    whole : EndsWhole (calls_in lines s) finish told.tries
     whole = subst (λ (count : ℕ). MatchResult finish (λ done. goods told.tries ≡ count) (λ why. goods told.tries < count)) (all_steps ∙ sym (page_count s.closed lines)) how_many
 
     -- all was saved

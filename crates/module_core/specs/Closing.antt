@@ -111,14 +111,14 @@ PaysUntil costs actions (Err broken.Refused) tries old new =
 PaysUntil costs actions finish tries old new = PaysInTurn costs (tried actions tries) old (Ok tt) new
 
 -- all calls were made, or not all where it was broken off
-abbrev pub IsWhole : List CallKind → Finish → List Bool → Type 0
-IsWhole kinds finish tries = MatchResult finish (λ done. goods tries ≡ length kinds) (λ why. goods tries < length kinds)
+abbrev pub EndsWhole : List CallKind → Finish → List Bool → Type 0
+EndsWhole kinds finish tries = MatchResult finish (λ done. goods tries ≡ length kinds) (λ why. goods tries < length kinds)
 
 -- The save that runs, of this image, was made until its end, each step paid for first, also one that was made again.
 pub record SavesClosing (shape : Shape) (s : Store) (made : Image) (finish : Finish) (old new : SavesAt) : Type 0 where
   pub tries : List Bool
   pub few : FailsWithin shape.costs.retries finish tries
-  pub whole : IsWhole (calls_in shape.lines s) finish tries
+  pub whole : EndsWhole (calls_in shape.lines s) finish tries
   pub makes : ReachesStore shape.lines s (store_at_end shape.lines s made finish tries) old.device new.saves new.device
   pub calls : new.device.calls ≡ old.device.calls ++ calls_tried (calls_in shape.lines s) tries
   pub pays : PaysUntil shape.costs (save_actions shape.costs.pages) finish tries old.gauge new.gauge

@@ -177,7 +177,8 @@ impl<K: ChannelPort, D: SaveDevice, E: Energy, B: BoardName> Held<K, D, E, B> {
         ensures answers { IfOk result (λ r. All (IsBorneOut r.history) answers.now) }
         ensures shares { IfOk result (λ r.
             length r.history.writes ≡ B.before + sum_by (λ h. h.writes) hosts.items) }
-        ensures marks { IfOk result (λ r. All (λ h. h.persisted ≤ r.running.persisted) hosts.items) }
+        ensures marks { IfOk result (λ r.
+            All (λ h. h.persisted ≤ r.running.persisted) hosts.items) }
         ensures kept { IfOk result (λ r. IsRecordKept K.ChannelPort D.SaveDevice r) }
         ensures lived { IfOk result (λ r. HasSomeLife K.ChannelPort D.SaveDevice E.Energy r) }
         ensures stranger { IfErr result (λ e.

@@ -1,7 +1,7 @@
 -- How a save goes on, after a step that went well or one that failed.
 use Rattle.save_image.specs.Image.{digest_of}
 use Rattle.slot_store.specs.Rest.{IsHarmless}
-use Rattle.slot_store.specs.Saving.{Guards}
+use Rattle.slot_store.specs.Saving.{GuardsCandidates}
 use Rattle.slot_store.proofs.Common.{if◌then◌else◌, ℕ, ◌*◌, ◌+◌, ◌∙◌, ◌≡◌, ◌≤◌, Bool, Candidates, Close, DeviceState, Done, GivesPage, Header, Image, IsKept, Leaves, LeavesOnly, List, Makes, Open, Page, Plan, SavingAt, Step, SyncBody, SyncClosed, SyncOpen, Touches, change_of, false, gate_of, inl, inr, length, nat_lt, reach_of, step_after, true, within_call, ⊎_elim}
 use Rattle.slot_store.proofs.Standing.{stands_again, stands_next}
 use Rattle.slot_store.proofs.Stops.{closes_gate, kept_after, newest_after, stop_before, stop_leaves, torn_after}
@@ -20,19 +20,19 @@ module _ (candidates : Candidates) (old : Image) (plan : Plan) (memory : List (L
     kept : reach_of next ≤ plan.lines → IsKept plan before → IsKept plan after
     kept r was = kept_after plan digest page d n next before after r was m.unsettled
 
-  guards_next : (next : Step) → reach_of next ≤ plan.lines → Guards candidates plan next before → Makes (change_of plan digest next page) true before after → Guards candidates plan (step_after plan.lines next) after
+  guards_next : (next : Step) → reach_of next ≤ plan.lines → GuardsCandidates candidates plan next before → Makes (change_of plan digest next page) true before after → GuardsCandidates candidates plan (step_after plan.lines next) after
   guards_next Close r guards m = harmless_after Close true m (closes_gate plan digest page) guards
   guards_next SyncClosed r guards m = λ k here. m.settled k
   guards_next (Page i) r guards m =
       let still : IsKept plan after = kept (Page i) true m r guards in
-      elim (nat_lt plan.lines (64 * (i + 2))) as (λ b. Guards candidates plan (if b then Header else Page (i + 1)) after) [ true ↦ still | false ↦ still ]
+      elim (nat_lt plan.lines (64 * (i + 2))) as (λ b. GuardsCandidates candidates plan (if b then Header else Page (i + 1)) after) [ true ↦ still | false ↦ still ]
   guards_next Header r guards m = kept Header true m r guards
   guards_next SyncBody r guards m = λ k here. m.settled k
   guards_next Open r guards m = kept Open true m r guards
   guards_next SyncOpen r guards m = λ k here. m.settled k
   guards_next Done r guards m = λ k here. m.settled k
 
-  guards_again : (next : Step) → reach_of next ≤ plan.lines → Guards candidates plan next before → Makes (change_of plan digest next page) false before after → Guards candidates plan next after
+  guards_again : (next : Step) → reach_of next ≤ plan.lines → GuardsCandidates candidates plan next before → Makes (change_of plan digest next page) false before after → GuardsCandidates candidates plan next after
   guards_again Close r guards m = harmless_after Close false m (closes_gate plan digest page) guards
   guards_again SyncClosed r guards m = harmless_after SyncClosed false m (λ k w. absurd w) guards
   guards_again Header r guards m = kept Header false m r guards

@@ -66,10 +66,10 @@ IsKept plan state =
 
 -- What a stop may leave of the device before a step: one of the candidates until the gate is settled closed; from then
 -- on the other slot is settled.
-abbrev pub Guards : Candidates → Plan → Step → DeviceState → Type 0
-Guards candidates plan Close state = IsHarmless candidates plan.lines plan.slot plan.closed state
-Guards candidates plan SyncClosed state = IsHarmless candidates plan.lines plan.slot plan.closed state
-Guards candidates plan step state = IsKept plan state
+abbrev pub GuardsCandidates : Candidates → Plan → Step → DeviceState → Type 0
+GuardsCandidates candidates plan Close state = IsHarmless candidates plan.lines plan.slot plan.closed state
+GuardsCandidates candidates plan SyncClosed state = IsHarmless candidates plan.lines plan.slot plan.closed state
+GuardsCandidates candidates plan step state = IsKept plan state
 
 -- A save of this memory over the newest image `old`, before a step. Until the gate is settled closed a stop leaves one of
 -- the candidates.
@@ -78,7 +78,7 @@ pub record SavingAt (candidates : Candidates) (old : Image) (plan : Plan) (memor
   pub lines : IsMemory plan.lines memory
   pub rises : old.generation < plan.generation
   pub newest : slot_state plan.lines (other plan.slot) state.bytes ≡ Full old
-  pub guards : Guards candidates plan next state
+  pub guards : GuardsCandidates candidates plan next state
   pub has : SlotHas plan memory next tried state
 
 -- a restore finds the old image, the new one, or either
