@@ -332,7 +332,7 @@ where
         generation: 2,
         count: 1,
     };
-    same(rt, board.power_loss(rt, &Open), saved);
+    same(rt, board.power_loss(rt, &Always), saved);
     ends(rt, board, hosts, &[first_receipt(0)], &[], (1, 1));
 }
 
