@@ -3,11 +3,12 @@ use crate::tally::Tally;
 use ddr4_timing::profiles::SMALL;
 use nv_script::{ScriptFault, read_script};
 
-// What a word may be behind a verb.
+// What a word may be behind a verb; an ordinal is a number from 1 on.
 #[derive(Clone, Copy, PartialEq, Eq)]
 enum Kind {
     Number,
     Calls,
+    Ordinal,
     Pick,
 }
 
@@ -17,11 +18,12 @@ const ALONE: [&str; 8] = [
 ];
 
 // The verbs with one word behind them, and what that is.
-const WITH_ONE: [(&str, Kind); 5] = [
+const WITH_ONE: [(&str, Kind); 6] = [
     ("read", Kind::Number),
     ("sense", Kind::Number),
     ("lie", Kind::Number),
     ("fuse", Kind::Calls),
+    ("onefault", Kind::Ordinal),
     ("restore", Kind::Pick),
 ];
 
@@ -30,13 +32,13 @@ const OTHERS: [&str; 10] = [
     "write", "work", "Format", "formats", "on", "older", "torn", "torn1", "lines", "xor",
 ];
 
-// Words that are no verbs, and what each may be.
-const NUMBERS: [&str; 9] = [
-    "0",
+// Words that are no verbs, and what each may be; those that are 0 are no ordinals.
+const ZEROS: [&str; 2] = ["0", "00"];
+
+const NUMBERS: [&str; 7] = [
     "1",
     "7",
     "16",
-    "00",
     "0007",
     "127",
     "4096",
@@ -57,10 +59,15 @@ const NEITHER: [&str; 9] = [
     "\"1\"",
 ];
 
+fn is_number(word: &str) -> bool {
+    ZEROS.contains(&word) || NUMBERS.contains(&word)
+}
+
 fn is_of(kind: Kind, word: &str) -> bool {
     match kind {
-        Kind::Number => NUMBERS.contains(&word),
-        Kind::Calls => NUMBERS.contains(&word) || word == "off",
+        Kind::Number => is_number(word),
+        Kind::Calls => is_number(word) || word == "off",
+        Kind::Ordinal => NUMBERS.contains(&word),
         Kind::Pick => PICKS.contains(&word),
     }
 }
@@ -83,6 +90,7 @@ fn words(rt: &HostRuntime) -> anyhow::Result<Vec<&'static str>> {
         words.push(verb)?;
     }
     words.extend_from_slice(&OTHERS)?;
+    words.extend_from_slice(&ZEROS)?;
     words.extend_from_slice(&NUMBERS)?;
     words.extend_from_slice(&PICKS)?;
     words.extend_from_slice(&NEITHER)?;

@@ -1,5 +1,5 @@
 // Profiles of which one key is missing, written twice, or has another value; texts that are none; and bytes that aren't UTF-8.
-use crate::table::{KEYS, Key, Numbers, table, text_with};
+use crate::table::{Key, Numbers, table, text_with};
 use crate::tally::Tally;
 use nv_profile::{ProfileFault, TINY2, read_profile};
 
@@ -165,9 +165,9 @@ fn try_bytes(rt: &HostRuntime) -> anyhow::Result<()> {
 
 /// All of them.
 pub(crate) fn try_profiles(rt: &HostRuntime) -> anyhow::Result<()> {
-    let keys = table();
+    let keys = table(rt.alloc())?;
     let mut tally = Tally::new();
-    try_line(rt, &keys, KEYS, "", true, &mut tally)?;
+    try_line(rt, &keys, keys.len(), "", true, &mut tally)?;
     for (place, key) in keys.iter().enumerate() {
         try_values(rt, &keys, place, key, &mut tally)?;
         try_key(rt, &keys, place, key, &mut tally)?;

@@ -1,6 +1,6 @@
 // The keys of a profile, their limits, and which numbers make a profile: a second reading of the profile's rules. `tiny` is
 // written down once more here.
-use std::alloc::Global;
+use std::alloc::{AllocError, Global};
 
 /// A key of a profile: the table that it stands in, its value in the small profile, and its limits.
 #[derive(Clone, Copy, Drop)]
@@ -60,11 +60,8 @@ fn room(name: &'static str, value: u64, most: u64) -> Key {
     }
 }
 
-/// How many keys have a number.
-pub(crate) const KEYS: usize = 40;
-
-/// All keys with a number, table by table.
-pub(crate) fn table() -> [Key; KEYS] {
+// The keys of the timing.
+fn timing() -> [Key; 18] {
     [
         clocks("tRCD", 16),
         clocks("tRP", 16),
@@ -87,12 +84,22 @@ pub(crate) fn table() -> [Key; KEYS] {
             most: 1_000_000,
             ..clocks("tREFI", 9360)
         },
+    ]
+}
+
+fn geometry() -> [Key; 6] {
+    [
         parts("channels", 2, 1, 8),
         parts("ranks", 1, 1, 4),
         parts("groups", 2, 2, 4),
         parts("banks", 4, 4, 4),
         parts("rows", 2, 1, 65_536),
         parts("columns", 4, 1, 65_536),
+    ]
+}
+
+fn costs() -> [Key; 11] {
+    [
         cost("e_act", 4),
         cost("e_col", 2),
         cost("e_pre", 1),
@@ -107,6 +114,11 @@ pub(crate) fn table() -> [Key; KEYS] {
             is_optional: true,
             ..cost("e_digest", 100)
         },
+    ]
+}
+
+fn module() -> [Key; 5] {
+    [
         room("depth", 8, 64),
         room("reads", 8, 64),
         room("trail", 1024, 65_536),
@@ -117,6 +129,15 @@ pub(crate) fn table() -> [Key; KEYS] {
             ..room("retries", 2, 16)
         },
     ]
+}
+
+/// All keys with a number, table by table.
+pub(crate) fn table(alloc: Global) -> Result<Vec<Key>, AllocError> {
+    let mut keys = timing().to_vec(alloc)?;
+    keys.extend_from_slice(&geometry())?;
+    keys.extend_from_slice(&costs())?;
+    keys.extend_from_slice(&module())?;
+    Ok(keys)
 }
 
 /// The small profile with the value at one place of its table changed.

@@ -81,7 +81,11 @@ fn keys_and_values(rt: HostRuntime) -> anyhow::Result<()> {
         "e_act = 4\ne_col = 2",
         "e_act = 4\ne_digest = 1",
         "no key costs.e_col",
-    )?;
+    )
+}
+
+#[test]
+fn keys_of_the_module(rt: HostRuntime) -> anyhow::Result<()> {
     refused(
         &rt,
         "notices = 64",
