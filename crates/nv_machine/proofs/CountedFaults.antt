@@ -7,7 +7,7 @@ use Rattle.save_device.specs.declared.calls.Call.{Call}
 use Rattle.save_device.specs.declared.calls.CallKind.{CallKind}
 use Rattle.arm_state.specs.declared.refusal.ArmRefusal.{ArmRefusal}
 use Rattle.arm_state.specs.declared.refusal.ArmReply.{ArmReply}
-use Rattle.nv_machine.specs.Headline.{given}
+use Rattle.nv_machine.specs.Headline.{paused}
 use Rattle.nv_machine.specs.Honesty.{IsHonestAlong, IsSparedAlong}
 use Rattle.nv_machine.specs.Losses.{PaysFirst}
 use Rattle.nv_machine.specs.Machine.{ArmStep, SaveStepStep, arm_calls, step_call}
@@ -124,12 +124,12 @@ module _ (setup : Setup) where
   -- through a run
   pub run_counts : (events : List Event) (replies : List Reply) (old new : World) → Run setup events replies old new → Counts old new
   run_counts [] [] old new run = record {
-    gauge = run.gauge.counted;
-    leak = run.gauge.same_leak;
+    gauge = run.may.gauge.counted;
+    leak = run.may.gauge.same_leak;
     device = omega (arith, ap (λ (w : World). faults_of w.device) run.is);
   }
   run_counts (event ∷ events) (reply ∷ replies) old new run =
-      let before = run.1.rises in let here : Counts (given run.1.gauge old) run.0 = event_counts setup event reply (given run.1.gauge old) run.0 run.1.happens.step in
+      let before = run.1.may.gauge in let here : Counts (paused run.1.pause old) run.0 = event_counts setup event reply (paused run.1.pause old) run.0 run.1.happens.step in
       let rest : Counts run.0 new = run_counts events replies run.0 new run.2 in
       record {
         gauge = omega (arith, before.counted, here.gauge, rest.gauge);
@@ -143,7 +143,7 @@ module _ (setup : Setup) where
       → IsHonestThrough setup.shape.costs.numbers.leak old.gauge new.gauge → IsSparedAlong setup events replies old new run → IsHonestAlong setup events replies old new run
   honest_ends [] [] old new run honest spared = honest
   honest_ends (event ∷ events) (reply ∷ replies) old new run honest spared =
-      let before = run.1.rises in let here : Counts (given run.1.gauge old) run.0 = event_counts setup event reply (given run.1.gauge old) run.0 run.1.happens.step in
+      let before = run.1.may.gauge in let here : Counts (paused run.1.pause old) run.0 = event_counts setup event reply (paused run.1.pause old) run.0 run.1.happens.step in
       let rest : Counts run.0 new = run_counts events replies run.0 new run.2 in
       let same : new.gauge.faults ≡ old.gauge.faults = honest.faultless in (
         record { bounded = honest.bounded; faultless = omega (arith, before.counted, here.gauge, rest.gauge, same) },

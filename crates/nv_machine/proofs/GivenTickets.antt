@@ -12,7 +12,7 @@ use Rattle.channel_port.specs.declared.answers.Collected.{Collected}
 use Rattle.channel_port.specs.declared.answers.Got.{Got}
 use Rattle.channel_port.specs.declared.answers.Served.{Served}
 use Rattle.channel_port.specs.declared.answers.Ticket.{Ticket}
-use Rattle.nv_machine.specs.Headline.{given}
+use Rattle.nv_machine.specs.Headline.{paused}
 use Rattle.nv_machine.specs.Machine.{SenseStep}
 use Rattle.nv_machine.specs.Moves.{sensed}
 use Rattle.nv_machine.specs.Tickets.{GivesAnother, given_ticket}
@@ -131,7 +131,7 @@ module _ (setup : Setup) where
   pub given_before : (events : List Event) (replies : List Reply) (old new : World) (ticket : Ticket) → Run setup events replies old new → Has ticket old.machine.waits.given → All (λ reply. given_ticket reply ≢ Some ticket) replies
   given_before [] [] old new ticket run has = All-nil _
   given_before (event ∷ events) (reply ∷ replies) old new ticket run has =
-      let goes : GoesOn reply old.machine.waits run.0.machine.waits = event_goes setup (given run.1.gauge old) run.0 event reply run.1.happens.step in
+      let goes : GoesOn reply old.machine.waits run.0.machine.waits = event_goes setup (paused run.1.pause old) run.0 event reply run.1.happens.step in
       All-cons (λ (r : Reply). given_ticket r ≢ Some ticket) reply replies
       (λ some. never_had ticket old.machine.waits.given (goes.gives ticket some).0 has)
       (given_before events replies run.0 new ticket run.2 (goes.kept ticket has))
@@ -141,7 +141,7 @@ module _ (setup : Setup) where
   pub given_once : (events : List Event) (replies : List Reply) (old new : World) → Run setup events replies old new → AllPairs GivesAnother replies
   given_once [] [] old new run = λ i j d less within. absurd (omega (arith, within))
   given_once (event ∷ events) (reply ∷ replies) old new run =
-      let goes : GoesOn reply old.machine.waits run.0.machine.waits = event_goes setup (given run.1.gauge old) run.0 event reply run.1.happens.step in
+      let goes : GoesOn reply old.machine.waits run.0.machine.waits = event_goes setup (paused run.1.pause old) run.0 event reply run.1.happens.step in
       AllPairs-cons GivesAnother reply replies
       (λ k d less ticket some. given_before events replies run.0 new ticket run.2 (goes.gives ticket some).1 k d less)
       (given_once events replies run.0 new run.2)

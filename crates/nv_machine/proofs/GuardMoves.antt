@@ -19,7 +19,8 @@ guarded_begun m runs guarded =
     let made : IsGood (begun m) (made_of (is_armed m.mode) m) = made_good m (begun m) (is_armed m.mode) guarded (λ on. inl (grind arith)) in
     let set : is_armed m.mode ≡ true → ForSome (Some (begun_save (made_of (is_armed m.mode) m))) (λ save. save.made.arm ≢ 0) = λ on. for_one _ _ (armed_set (is_armed m.mode) on) in
     let clear : is_armed m.mode ≡ false → arm_byte (is_armed m.mode) ≡ 0 = ap arm_byte in
-    search (never, keeps, guarded.good_saved, made, clear)
+    let rises : (newest_of m).count ≤ all_of m = guarded.good_newest.prefix.to in
+    search (never, keeps, guarded.good_saved, made, clear, rises)
 
 -- an armed machine begins the disarming
 pub guarded_disarming : (m : Machine) → is_armed m.mode ≡ true → Guards m → Guards (disarming m)
@@ -27,7 +28,8 @@ guarded_disarming m on guarded =
     let keeps : (image : Image) → IsGood m image → IsGood (disarming m) image = carry m (disarming m) (λ i x. inl refl) (λ x. cc) in
     let made : IsGood (disarming m) (made_of false m) = made_good m (disarming m) false guarded (λ on. cc) in
     let runs : has_ended m.mode ≡ false = grind arith in let backed : is_backed m.mode ≡ true = grind arith in
-    search (never, keeps, guarded.good_saved, made, guarded.mains_last, guarded.backed_persisted)
+    let rises : (newest_of m).count ≤ all_of m = guarded.good_newest.prefix.to in
+    search (never, keeps, guarded.good_saved, made, guarded.mains_last, guarded.backed_persisted, rises)
 
 -- all is persistent, and the newest image is armed
 pub guarded_armed : (m : Machine) → m.store.saving ≡ None → m.lost ≡ None → Guards m → Guards (armed m)
@@ -109,13 +111,17 @@ module _ (m : Machine) (guarded : Guards m) (save : RunningSave) (runs : m.store
   refuses : m.store.maybe.any_arm ≡ true → s.unsettled ≡ true
   refuses any = goes.unsettled (guarded.failed_arm_unsettled any)
 
+  rises : ForSome goes.saved (λ i. (newest_of m).count ≤ i.count)
+  rises = goes.may (λ i. (newest_of m).count ≤ i.count) guarded.newest_saved (guarded.newest_made save runs)
+
   -- the save that runs has made a step, or is to make it again
   pub guarded_did : (step : Step) (repeats : ℕ) → has_ended m.mode ≡ false → Guards (record m { store = record s { saving = Some (record save { next = step; repeats = repeats }) } })
   guarded_did step repeats active =
       let next : RunningSave = record save { next = step; repeats = repeats } in let n : Machine = record m { store = record (with_saved m.store s goes.saved) { saving = Some next } } in
       let keeps : (image : Image) → IsGood m image → IsGood n image = carry m n (λ i x. x) (λ x. x) in
       let armed : is_armed m.mode ≡ true → ForSome (Some next) (λ save. save.made.arm ≢ 0) = λ on. for_one _ _ (guarded.armed_made on save runs) in
-      let again : Guards n = search (never, keeps, good, saved, refuses, armed_saved, guarded.disarming_holds_all, guarded.unarmed_made) in
+      let more : ForSome (Some next) (λ save. (newest_of m).count ≤ save.made.count) = for_one _ _ (guarded.newest_made save runs) in
+      let again : Guards n = search (never, keeps, good, saved, refuses, armed_saved, guarded.disarming_holds_all, guarded.unarmed_made, rises, more) in
       rw goes.is again
 
   -- it failed in its step
@@ -126,28 +132,30 @@ module _ (m : Machine) (guarded : Guards m) (save : RunningSave) (runs : m.store
       let active : has_ended n.mode ≡ false → has_ended m.mode ≡ false = grind arith in let stops : n.mode ≡ Mode.Disarming → is_some s.saving ≡ true = grind arith in
       let lacks : may_lack n ≡ may_lack m = grind arith in let idle : ForSome s.saving (λ save. save.made.arm ≢ 0) = for_none s.saving _ none in
       let keeps : (image : Image) → IsGood m image → IsGood n image = carry m n (λ i x. ⊎_elim (λ is. inl (lacks ∙ is)) inr x) (λ x. sym lacks ∙ x) in
-      let again : Guards n = search (never, keeps, saved, refuses, armed_saved, guarded.backed_persisted, guarded.armed_newest, guarded.no_arm_failed, guarded.mains_last, arms, backs, active, stops) in
+      let again : Guards n = search (never, keeps, saved, refuses, armed_saved, guarded.backed_persisted, guarded.armed_newest, guarded.no_arm_failed, guarded.mains_last, arms, backs, active, stops, rises) in
       rw goes.is again
 
 -- a closing save of all accepted writes was broken off
 pub guarded_broken : (m : Machine) (reading : ℕ) (reply : Loss) (waits : Waits) (s : Store) → Guards m → is_broken_off (Some reply) ≡ true → Proceeds (made_of false m) m.store s → s.saving ≡ None
-    → Guards (record { mode = Mode.Closing; reading = reading; lost = Some reply; life = m.life; waits = waits; store = s })
+    → Guards (record { mode = Mode.Closing; reading = reading; lost = Some reply; life = m.life; cut = m.cut; waits = waits; store = s })
 guarded_broken m reading reply waits s guarded broken goes none =
-    let n : Machine = record { mode = Mode.Closing; reading = reading; lost = Some reply; life = m.life; waits = waits; store = with_saved m.store s goes.saved } in
+    let n : Machine = record { mode = Mode.Closing; reading = reading; lost = Some reply; life = m.life; cut = m.cut; waits = waits; store = with_saved m.store s goes.saved } in
     let keeps : (image : Image) → IsGood m image → IsGood n image = carry m n (λ i x. inl broken) (λ calm. cc) in
     let made : IsGood n (made_of false m) = made_good m n false guarded (λ on. cc) in
     let saved : ForSome goes.saved (IsGood n) = goes.may (IsGood n) (λ x some. keeps x (guarded.good_saved x some)) made in
     let refuses : m.store.maybe.any_arm ≡ true → s.unsettled ≡ true = λ any. goes.unsettled (guarded.failed_arm_unsettled any) in
-    let again : Guards n = search (never, keeps, refuses) in
+    let rises : ForSome goes.saved (λ i. (newest_of m).count ≤ i.count) = goes.may (λ i. (newest_of m).count ≤ i.count) guarded.newest_saved guarded.good_newest.prefix.to in
+    let again : Guards n = search (never, keeps, refuses, rises) in
     rw goes.is again
 
 -- all was saved
 pub guarded_saved : (m : Machine) (reading generation count : ℕ) (waits : Waits) → Guards m
-    → Guards (record { mode = Mode.Saved; reading = reading; lost = Some (Loss.Saved generation count); life = m.life; waits = waits; store = saved_in m.store (made_of false m) })
+    → Guards (record { mode = Mode.Saved; reading = reading; lost = Some (Loss.Saved generation count); life = m.life; cut = m.cut; waits = waits; store = saved_in m.store (made_of false m) })
 guarded_saved m reading generation count waits guarded =
-    let n : Machine = record { mode = Mode.Saved; reading = reading; lost = Some (Loss.Saved generation count); life = m.life; waits = waits; store = saved_in m.store (made_of false m) } in
+    let n : Machine = record { mode = Mode.Saved; reading = reading; lost = Some (Loss.Saved generation count); life = m.life; cut = m.cut; waits = waits; store = saved_in m.store (made_of false m) } in
     let made : IsGood n (made_of false m) = made_good m n false guarded (λ on. cc) in
-    search never
+    let kept : m.cut ≤ all_of m = omega (arith, guarded.cut_newest, guarded.good_newest.prefix.to) in
+    search (never, kept)
 
 -- a save has ended
 pub guarded_finished : (m : Machine) (save : RunningSave) → Guards m → m.store.saving ≡ Some save → has_ended m.mode ≡ false → Guards (finished save m)
@@ -159,20 +167,23 @@ guarded_finished m save guarded runs active = by_mode m.mode refl
     running : m.lost ≡ None
     running = guarded.mains_last active
 
+    kept : m.cut ≤ save.made.count
+    kept = omega (arith, guarded.cut_newest, guarded.newest_made save runs)
+
     disarmed : is_armed m.mode ≡ false → Guards (record m { mode = Mode.Disarmed; life = record m.life { persisted = save.made.count }; store = saved_in m.store save.made })
     disarmed off =
         let n : Machine = record m { mode = Mode.Disarmed; life = record m.life { persisted = save.made.count }; store = saved_in m.store save.made } in
         let cause : save.made.arm ≢ 0 → HasCause n save.made = λ set. absurd (set (guarded.unarmed_made off save runs)) in
         let least : save.made.count ≤ save.made.count = omega arith in
         let newest : IsGood n save.made = search good in
-        search (never, good, running)
+        search (never, good, running, kept)
 
     by_mode : (mode : Mode) → m.mode ≡ mode
         → Guards (record m { mode = mode_after Move.EndSave mode; life = record m.life { persisted = persisted_at_end mode m.life.persisted save.made.count }; store = saved_in m.store save.made })
     by_mode Mode.Armed is =
         let n : Machine = record m { mode = Mode.Armed; store = saved_in m.store save.made } in let newest : IsGood n save.made = carry m n (λ i x. inl refl) (λ calm. cc) save.made good in
         let set : save.made.arm ≢ 0 = guarded.armed_made (ap is_armed is) save runs in let backed : m.life.persisted ≡ all_of m = guarded.backed_persisted (ap is_backed is) in
-        search (never, running)
+        search (never, running, kept)
     by_mode Mode.Closing is = grind arith
     by_mode Mode.Saved is = grind arith
     by_mode _ is = disarmed (ap is_armed is)

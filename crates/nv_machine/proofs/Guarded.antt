@@ -1,17 +1,41 @@
 -- The laws of a guarded machine: all that is known of one where `IsGuarded` stays closed.
 use Rattle.std.proofs.Common.{rules}
+use Rattle.std.proofs.lemmas.Bool.{cases_lt}
 use Rattle.slot_store.specs.Rest.{Candidates, only}
 use Rattle.nv_machine.specs.Opening.{new_life}
+use Rattle.nv_machine.specs.Guard.{HoldsCut, IsGood}
+use Rattle.nv_machine.specs.Headline.{MayCut}
 use Rattle.nv_machine.specs.SavedImages.{IsUnsaving}
 use Rattle.nv_machine.specs.State.{memory_after}
-use Rattle.nv_machine.proofs.Common.{Bool, false, true, ◌∙◌, ◌≡◌, ◌≤◌, ap, refl, None, Option, Some, is_some}
+use Rattle.nv_machine.proofs.Common.{Bool, arith, false, true, ℕ, ⊎_elim, ◌∙◌, ◌≡◌, ◌≤◌, ap, refl, None, Option, Some, is_some}
 use Rattle.nv_machine.proofs.Common.{Image, Slot, has_ended, is_armed, Mode}
+use Rattle.nv_machine.proofs.GuardLaws.{carry}
 use Rattle.nv_machine.proofs.Common.{IsGuarded, Machine, RunningSave, all_of, newest_of, start_of_life}
 
 -- it is guarded from the beginning of a life on, and stays so in any event (`guarded_event`)
 pub guarded_new : (slot : Slot) (closed : Bool) (image : Image) → IsGuarded (new_life slot closed image)
 unfolding IsGuarded
 guarded_new slot closed image = search rules
+
+-- it stays so where the stored writes are cut, and it may be cut to where it is
+pub guarded_cut : (m : Machine) (cut : ℕ) → MayCut m cut → IsGuarded m → IsGuarded (record m { cut = cut })
+unfolding IsGuarded
+guarded_cut m cut may guarded =
+    let n : Machine = record m { cut = cut } in
+    let begins : start_of_life m.life ≤ cut = omega (arith, guarded.opened_cut, may.rises) in
+    let most : cut ≤ (newest_of m).count = ⊎_elim may.most (λ stays. omega (arith, guarded.cut_newest, stays)) (cases_lt m.cut cut) in
+    let keeps : (image : Image) → IsGood m image → IsGood n image = carry m n (λ i x. x) (λ x. x) in
+    search (keeps, begins, most, guarded.good_saved, guarded.good_made)
+
+-- each image that a stop may make the newest holds all writes before the cut, and so does the one that is made
+pub cut_below : (m : Machine) → IsGuarded m → HoldsCut m
+unfolding IsGuarded
+cut_below m guarded = record {
+  opened = guarded.opened_cut;
+  newest = guarded.cut_newest;
+  saved = λ image some. omega (arith, guarded.cut_newest, guarded.newest_saved image some);
+  made = λ save some. omega (arith, guarded.cut_newest, guarded.newest_made save some);
+}
 
 -- the writes that the life was opened with are persistent, and the persistent ones are accepted
 pub opened_persisted : (m : Machine) → IsGuarded m → start_of_life m.life ≤ m.life.persisted

@@ -1,8 +1,9 @@
 -- Events in turn, and others that go on from their end.
+use Rattle.std.proofs.lemmas.Bool.{cases_lt}
 use Rattle.energy_budget.proofs.Charging.{rises_none, rises_twice}
 use Rattle.energy_budget.specs.Charging.{RisesTo}
-use Rattle.nv_machine.specs.Headline.{Happens, HappensNext, Rests, RunOf, given}
-use Rattle.nv_machine.proofs.Common.{List, [], ap, refl, subst, ◌++◌, ◌∙◌, ◌∷◌, Gauge, Run, Setup, World, Event, Reply}
+use Rattle.nv_machine.specs.Headline.{Happens, HappensNext, MayCut, MayPause, Pause, Rests, RunOf, pause_at, paused}
+use Rattle.nv_machine.proofs.Common.{List, [], ap, arith, refl, subst, ⊎_elim, ℕ, ◌++◌, ◌∙◌, ◌∷◌, ◌<◌, ◌≤◌, ◌≡◌, Machine, newest_of, Run, Setup, World, Event, Reply}
 
 -- a run, and one that goes on from its end: what is between the two may stand before the next event
 module _ {P : Type 0} (Between : P → P → Type 0) (Goes : Event → Reply → P → P → Type 0) (twice : (a b c : P) → Between a b → Between b c → Between a c)
@@ -18,28 +19,44 @@ module _ {P : Type 0} (Between : P → P → Type 0) (Goes : Event → Reply →
   join_runs_of (e ∷ events) [] more others old mid new none next = absurd none
 
 -- a moment, and the same one with the gauge charged
-pub rests_here : (w : World) → Rests w w
-rests_here w = record { gauge = rises_none w.gauge; is = refl }
+pub cut_stays : (m : Machine) → MayCut m m.cut
+cut_stays m = record { rises = omega arith; most = λ less. absurd (omega (arith, less)) }
 
-pub rests_charged : (w : World) (gauge : Gauge) → RisesTo w.gauge gauge → Rests w (given gauge w)
-rests_charged w gauge rises = record { gauge = rises; is = refl }
+pub rests_here : (w : World) → Rests w w
+rests_here w = record { may = record { gauge = rises_none w.gauge; cut = cut_stays w.machine }; is = refl }
+
+pub rests_paused : (w : World) (pause : Pause) → MayPause w pause → Rests w (paused pause w)
+rests_paused w pause may = record { may = may; is = refl }
+
+-- two cuts in turn are one, and two pauses
+cut_twice : (m : Machine) (first second : ℕ) → MayCut m first → MayCut (record m { cut = first }) second → MayCut m second
+cut_twice m first second one two = record {
+  rises = omega (arith, one.rises, two.rises);
+  most = λ less. ⊎_elim two.most (λ least. let here : first ≤ (newest_of m).count = one.most (omega (arith, less, least)) in omega (arith, here, least)) (cases_lt first second);
+}
+
+pause_twice : (a : World) (first second : Pause) → MayPause a first → MayPause (paused first a) second → MayPause a second
+pause_twice a first second one two = record {
+  gauge = rises_twice a.gauge first.gauge second.gauge one.gauge two.gauge;
+  cut = cut_twice a.machine first.cut second.cut one.cut two.cut;
+}
 
 rests_twice : (a b c : World) → Rests a b → Rests b c → Rests a c
 rests_twice a b c first second = record {
-  gauge = rises_twice a.gauge b.gauge c.gauge first.gauge second.gauge;
-  is = second.is ∙ ap (λ (w : World). given c.gauge w) first.is;
+  may = pause_twice a (pause_at b) (pause_at c) first.may (subst (λ (w : World). MayPause w (pause_at c)) first.is second.may);
+  is = second.is ∙ ap (λ (w : World). paused (pause_at c) w) first.is;
 }
 
--- an event before which the gauge wasn't touched
+-- an event without a pause before it
 pub happens_now : (setup : Setup) (event : Event) (reply : Reply) (old new : World) → Happens setup event reply old new → HappensNext setup event reply old new
-happens_now setup event reply old new happens = record { gauge = old.gauge; rises = rises_none old.gauge; happens = happens }
+happens_now setup event reply old new happens = record { pause = pause_at old; may = record { gauge = rises_none old.gauge; cut = cut_stays old.machine }; happens = happens }
 
--- the gauge was charged some time before the next event
+-- there was a pause some time before the next event
 happens_later : (setup : Setup) (event : Event) (reply : Reply) (old mid new : World) → Rests old mid → HappensNext setup event reply mid new → HappensNext setup event reply old new
 happens_later setup event reply old mid new rests next = record {
-  gauge = next.gauge;
-  rises = rises_twice old.gauge mid.gauge next.gauge rests.gauge next.rises;
-  happens = subst (λ (w : World). Happens setup event reply (given next.gauge w) new) rests.is next.happens;
+  pause = next.pause;
+  may = pause_twice old (pause_at mid) next.pause rests.may (subst (λ (w : World). MayPause w next.pause) rests.is next.may);
+  happens = subst (λ (w : World). Happens setup event reply (paused next.pause w) new) rests.is next.happens;
 }
 
 pub join_runs : (setup : Setup) (events : List Event) (replies : List Reply) (more : List Event) (others : List Reply) (old mid new : World)

@@ -15,7 +15,7 @@ use Rattle.channel_port.specs.Waits.{AllBelow, Goes, Has, is_write_up_to, waitin
 use Rattle.channel_port.specs.declared.answers.Got.{Got}
 use Rattle.channel_port.specs.declared.answers.Served.{Served}
 use Rattle.channel_port.specs.declared.waiting.Waiting.{Waiting}
-use Rattle.nv_machine.specs.Headline.{given}
+use Rattle.nv_machine.specs.Headline.{paused}
 use Rattle.nv_machine.specs.Machine.{SenseStep}
 use Rattle.nv_machine.specs.Moves.{sensed}
 use Rattle.nv_machine.specs.WaitingOrder.{WaitInOrder, GoesBefore, IsInOrder}
@@ -233,5 +233,5 @@ module _ (setup : Setup) where
   pub run_order : (events : List Event) (replies : List Reply) (old new : World) → Run setup events replies old new → IsInOrder old.machine → IsInOrder new.machine
   run_order [] [] old new run o = subst (λ (w : World). IsInOrder w.machine) (sym run.is) o
   run_order (event ∷ events) (reply ∷ replies) old new run o =
-      run_order events replies run.0 new run.2 (event_order setup (given run.1.gauge old) run.0 o event reply run.1.happens.step)
+      run_order events replies run.0 new run.2 (event_order setup (paused run.1.pause old) run.0 o event reply run.1.happens.step)
   run_order _ _ old new none o = absurd none

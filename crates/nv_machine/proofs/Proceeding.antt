@@ -70,5 +70,5 @@ fault_goes order setup old new done =
 
 -- the machine after a loss of mains
 pub after_loss : (reply : Loss) (m n : Machine) (mode : Mode) (s : Store) → LosesMains reply m n → n.mode ≡ mode → n.store ≡ s
-    → n ≡ record { mode = mode; reading = n.reading; lost = Some reply; life = m.life; waits = n.waits; store = s }
+    → n ≡ record { mode = mode; reading = n.reading; lost = Some reply; life = m.life; cut = m.cut; waits = n.waits; store = s }
 after_loss reply m n mode s loses is store = cc

@@ -5,7 +5,7 @@ use Rattle.slot_store.proofs.Resting.{found_only}
 use Rattle.slot_store.specs.Outcomes.{restored}
 use Rattle.slot_store.specs.Rest.{Candidates, IsAmong, IsSaved, only, rearmed}
 use Rattle.slot_store.specs.Slots.{other}
-use Rattle.nv_machine.specs.Headline.{HappensNext, MayFindMeanwhile, given}
+use Rattle.nv_machine.specs.Headline.{HappensNext, MayFindMeanwhile, paused}
 use Rattle.nv_machine.specs.SavedImages.{DisturbNoSave, DisturbsNoSave, IsOldOrNew, IsUnsaving}
 use Rattle.nv_machine.specs.declared.events.StepReply.{StepReply}
 use Rattle.nv_machine.proofs.Common.{List, [], ap, false, inl, inr, refl, subst, sym, ⊎_elim, ◌∙◌, ◌∷◌, ◌≡◌, Err, Found, ForSome, Image, IsGuarded, MachineStep, None, Ok, Option, Outcome, Run, RunningSave, Setup, Slot, Some, Step, Store, World, is_armed, made_of, marks, newest_of, Machine, Event, Reply}
@@ -101,7 +101,7 @@ module _ (slot : Slot) (newest made : Image) where
   goes_along : (setup : Setup) (events : List Event) (replies : List Reply) (old new : World) → Run setup events replies old new → DisturbNoSave events replies → Stage old.machine.store → Stage new.machine.store
   goes_along setup [] [] old new run calm stage = same_store old.machine new.machine (ap (λ (w : World). w.machine.store) run.is) stage
   goes_along setup (event ∷ events) (reply ∷ replies) old new run calm stage =
-      goes_along setup events replies run.0 new run.2 calm.1 (goes_on setup event reply (given run.1.gauge old) run.0 run.1.happens.step calm.0 stage)
+      goes_along setup events replies run.0 new run.2 calm.1 (goes_on setup event reply (paused run.1.pause old) run.0 run.1.happens.step calm.0 stage)
   goes_along setup _ _ old new none calm stage = absurd none
 
 -- no arm byte is written in such an event
@@ -147,10 +147,10 @@ module _ (setup : Setup) (events : List Event) (replies : List Reply) (old new :
       → LeavesOnly new.device last.device (λ bytes. IsOldOrNew old.machine (restored setup.shape.lines bytes))
   left_within_next last event reply next quiet =
       let slot = old.machine.store.maybe.slot in let newest = newest_of old.machine in let made = made_of (is_armed old.machine.mode) old.machine in
-      let later : Stage slot newest made last.machine.store = goes_on slot newest made setup event reply (given next.gauge new) last next.happens.step quiet stage in
+      let later : Stage slot newest made last.machine.store = goes_on slot newest made setup event reply (paused next.pause new) last next.happens.step quiet stage in
       weaker new.device last.device
       (λ bytes recovers.
       let outcome = restored setup.shape.lines bytes in
       let either : MayFindMeanwhile reply new.machine.store.maybe last.machine.store.maybe outcome = recovers.among in
-      ⊎_elim (finds slot newest made new.machine.store stage outcome) (finds slot newest made last.machine.store later outcome) (rw (unmarked setup event reply (given next.gauge new) last next.happens.step quiet) at either))
+      ⊎_elim (finds slot newest made new.machine.store stage outcome) (finds slot newest made last.machine.store later outcome) (rw (unmarked setup event reply (paused next.pause new) last next.happens.step quiet) at either))
       next.happens.meanwhile

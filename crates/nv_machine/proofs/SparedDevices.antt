@@ -1,7 +1,7 @@
 -- A device that counts no fault is spared: a machine is stranded only where a step of its save failed.
 use Rattle.save_device.specs.Device.{faults_of}
 use Rattle.arm_state.specs.Modes.{is_stranded}
-use Rattle.nv_machine.specs.Headline.{IsSpared, given}
+use Rattle.nv_machine.specs.Headline.{IsSpared, paused}
 use Rattle.nv_machine.specs.Honesty.{IsSparedAlong}
 use Rattle.nv_machine.specs.Machine.{step_call}
 use Rattle.nv_machine.proofs.Common.{Bool, List, [], ap, arith, false, ℕ, ◌∙◌, ◌∷◌, ◌≡◌, faults_more, DeviceState, mode_after, DrainOrder, Loss, Mode, Move, LoseStep, MachineStep, Machine, Run, Setup, World, Event, Reply}
@@ -52,7 +52,7 @@ module _ (setup : Setup) where
       → faults_of new.device ≡ faults_of old.device → IsSparedAlong setup events replies old new run
   spared_ends [] [] old new run was same = tt
   spared_ends (event ∷ events) (reply ∷ replies) old new run was same =
-      let from : World = given run.1.gauge old in
+      let from : World = paused run.1.pause old in
       let here : Counts from run.0 = event_counts setup event reply from run.0 run.1.happens.step in let rest : Counts run.0 new = run_counts setup events replies run.0 new run.2 in
       let first : faults_of run.0.device ≡ faults_of old.device = omega (arith, here.device, rest.device, same) in
       let next : faults_of new.device ≡ faults_of run.0.device = omega (arith, here.device, rest.device, same) in (

@@ -39,9 +39,25 @@ left_since P old new bytes leaves stop =
 abbrev pub StopsRecover : Setup → World → Type 0
 StopsRecover setup point = StopsWithin (λ bytes. RecoversAfterwards point.machine (restored setup.shape.lines bytes)) (present point.device)
 
+-- a cut of what is stored changes nothing of it
+pub recovers_cut : (m : Machine) (cut : ℕ) (outcome : Outcome) → RecoversAfterwards m outcome → RecoversAfterwards (record m { cut = cut }) outcome
+recovers_cut m cut outcome it = record {
+  among = it.among;
+  recovers = record {
+    slot = it.recovers.slot;
+    image = it.recovers.image;
+    found = it.recovers.found;
+    prefix = record { from = it.recovers.prefix.from; to = it.recovers.prefix.to; memory = it.recovers.prefix.memory };
+    complete = it.recovers.complete;
+    cause = it.recovers.cause;
+    holds_all = it.recovers.holds_all;
+  };
+}
+
 -- what it leaves at the end of a run
 pub left_along : (setup : Setup) (events : List Event) (replies : List Reply) (old new : World) → Run setup events replies old new → StopsRecover setup old → StopsRecover setup new
-left_along setup [] [] old new run left = subst (StopsRecover setup) (sym run.is) left
+left_along setup [] [] old new run left =
+    subst (StopsRecover setup) (sym run.is) (λ bytes stop. recovers_cut old.machine new.machine.cut (restored setup.shape.lines bytes) (left bytes stop))
 left_along setup (event ∷ events) (reply ∷ replies) old new run left = left_along setup events replies run.0 new run.2 run.1.happens.at_end
 left_along setup _ _ old new none left = absurd none
 

@@ -63,6 +63,18 @@ pub record Guards (m : Machine) : Type 0 where
   -- between two saves, where no call failed, only the newest image may be found
   pub only_newest : has_ended m.mode ≡ false → m.store.unsettled ≡ false → m.store.saving ≡ None → m.store.maybe.saved ≡ None
   pub mains_last : has_ended m.mode ≡ false → m.lost ≡ None
+  -- no image that a stop may make the newest holds fewer writes than the one known settled, and what that one lacks is stored
+  pub newest_saved : ForSome m.store.maybe.saved (λ image. (newest_of m).count ≤ image.count)
+  pub newest_made : ForSome m.store.saving (λ save. (newest_of m).count ≤ save.made.count)
+  pub opened_cut : start_of_life m.life ≤ m.cut
+  pub cut_newest : m.cut ≤ (newest_of m).count
+
+-- each image that a stop may make the newest, and the one that a save makes, holds all writes before the cut
+pub record HoldsCut (m : Machine) : Type 0 where
+  pub opened : start_of_life m.life ≤ m.cut
+  pub newest : m.cut ≤ (newest_of m).count
+  pub saved : ForSome m.store.maybe.saved (λ image. m.cut ≤ image.count)
+  pub made : ForSome m.store.saving (λ save. m.cut ≤ save.made.count)
 
 -- The same, closed: what other crates know of a guarded machine are the laws in `proofs/Guarded.antt`.
 unfoldable pub IsGuarded : Machine → Type 0

@@ -1,5 +1,5 @@
 -- What a stop at each moment of an event leaves, and what an honest gauge is enough for.
-use Rattle.std.specs.Prelude.{◌≡◌, ◌≢◌, ◌⊎◌, ℕ, ◌+◌, ◌-◌, ◌≤◌, Bool, true, false, List, [], ◌∷◌, Ok, Err, Option, Some, if◌then◌else◌}
+use Rattle.std.specs.Prelude.{◌≡◌, ◌≢◌, ◌⊎◌, ℕ, ◌+◌, ◌-◌, ◌<◌, ◌≤◌, Bool, true, false, List, [], ◌∷◌, Ok, Err, Option, Some, if◌then◌else◌}
 use Rattle.save_image.specs.Image.{Image}
 use Rattle.save_device.specs.Device.{DeviceState, present, faults_of, StopsWithin, LeavesOnly}
 use Rattle.slot_store.specs.declared.slots.Slot.{Slot}
@@ -18,7 +18,7 @@ use Rattle.arm_state.specs.declared.loss.Loss.TheVariants as loss
 use Rattle.nv_machine.specs.declared.events.Event.{Event}
 use Rattle.nv_machine.specs.declared.events.Reply.{Reply}
 use Rattle.nv_machine.specs.declared.events.Reply.TheVariants as replies
-use Rattle.nv_machine.specs.State.{Setup, RunningSave, Machine, World, pending_of, made_of}
+use Rattle.nv_machine.specs.State.{Setup, RunningSave, Machine, World, newest_of, pending_of, made_of}
 use Rattle.nv_machine.specs.Refusals.{need_for}
 use Rattle.nv_machine.specs.Machine.{MachineStep}
 use Rattle.nv_machine.specs.Guard.{IsPrefix, HasCause, may_lack}
@@ -105,20 +105,39 @@ pub record Happens (setup : Setup) (event : Event) (reply : Reply) (old new : Wo
   pub at_end : StopsWithin (λ bytes. RecoversAfterwards new.machine (restored setup.shape.lines bytes)) (present new.device)
   pub honest : IsHonest setup old reply new → IsBacked setup old.machine old.gauge → StaysBacked setup old reply new
 
--- the same moment with another gauge
-abbrev pub given : Gauge → World → World
-given gauge world = record world { gauge = gauge }
-
--- Between two events nothing has changed but the gauge, which may have been charged.
-pub record Rests (old new : World) : Type 0 where
-  pub gauge : RisesTo old.gauge new.gauge
-  pub is : new ≡ given new.gauge old
-
--- one event, before which the gauge may have been charged
-pub record HappensNext (setup : Setup) (event : Event) (reply : Reply) (old new : World) : Type 0 where
+-- what may change between two events: the gauge, and where the stored writes begin
+pub record Pause : Type 0 where
   pub gauge : Gauge
-  pub rises : RisesTo old.gauge gauge
-  pub happens : Happens setup event reply (given gauge old) new
+  pub cut : ℕ
+
+-- as they are now
+abbrev pub pause_at : World → Pause
+pause_at world = record { gauge = world.gauge; cut = world.machine.cut }
+
+-- the same moment after a pause
+abbrev pub paused : Pause → World → World
+paused pause world = record world { machine = record world.machine { cut = pause.cut }; gauge = pause.gauge }
+
+-- The cut stays, or moves forward to at most the end of the newest image that is known settled.
+pub record MayCut (m : Machine) (cut : ℕ) : Type 0 where
+  pub rises : m.cut ≤ cut
+  pub most : m.cut < cut → cut ≤ (newest_of m).count
+
+-- the gauge may be charged, and the stored writes may be cut
+pub record MayPause (old : World) (pause : Pause) : Type 0 where
+  pub gauge : RisesTo old.gauge pause.gauge
+  pub cut : MayCut old.machine pause.cut
+
+-- Between two events nothing has changed but that.
+pub record Rests (old new : World) : Type 0 where
+  pub may : MayPause old (pause_at new)
+  pub is : new ≡ paused (pause_at new) old
+
+-- one event, before which there may have been a pause
+pub record HappensNext (setup : Setup) (event : Event) (reply : Reply) (old new : World) : Type 0 where
+  pub pause : Pause
+  pub may : MayPause old pause
+  pub happens : Happens setup event reply (paused pause old) new
 
 -- events in turn, with what stands between them, and what may be between two of them
 abbrev pub RunOf : {P : Type 0} → (P → P → Type 0) → (Event → Reply → P → P → Type 0) → List Event → List Reply → P → P → Type 0
@@ -127,6 +146,6 @@ RunOf {P} Between Goes (event ∷ events) (reply ∷ replies) old new = (mid : P
 RunOf Between Goes [] (reply ∷ replies) old new = ⊥
 RunOf Between Goes (event ∷ events) [] old new = ⊥
 
--- The gauge may be charged before each event and after the last one.
+-- There may be a pause before each event and after the last one.
 abbrev pub Run : Setup → List Event → List Reply → World → World → Type 0
 Run setup = RunOf Rests (HappensNext setup)

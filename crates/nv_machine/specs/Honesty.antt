@@ -4,15 +4,15 @@ use Rattle.energy_budget.specs.Gauge.{IsHonestThrough}
 use Rattle.nv_machine.specs.declared.events.Event.{Event}
 use Rattle.nv_machine.specs.declared.events.Reply.{Reply}
 use Rattle.nv_machine.specs.State.{Setup, World}
-use Rattle.nv_machine.specs.Headline.{Run, IsBacked, IsHonest, IsSpared, SavesAllWritten, given}
+use Rattle.nv_machine.specs.Headline.{Run, IsBacked, IsHonest, IsSpared, SavesAllWritten, paused}
 
 module _ (setup : Setup) where
   -- in each event, and between two of them
   abbrev pub IsHonestAlong : (events : List Event) (replies : List Reply) (old new : World) → Run setup events replies old new → Type 0
   IsHonestAlong [] [] old new run = IsHonestThrough setup.shape.costs.numbers.leak old.gauge new.gauge
   IsHonestAlong (event ∷ events) (reply ∷ replies) old new run =
-      IsHonestThrough setup.shape.costs.numbers.leak old.gauge run.1.gauge
-      × IsHonest setup (given run.1.gauge old) reply run.0
+      IsHonestThrough setup.shape.costs.numbers.leak old.gauge run.1.pause.gauge
+      × IsHonest setup (paused run.1.pause old) reply run.0
       × IsHonestAlong events replies run.0 new run.2
   IsHonestAlong [] (reply ∷ replies) old new none = ⊥
   IsHonestAlong (event ∷ events) [] old new none = ⊥

@@ -15,6 +15,7 @@ new_life slot closed image = record {
   reading = 0;
   lost = None;
   life = record { opened = image; writes = []; persisted = image.count };
+  cut = image.count;
   waits = nothing;
   store = record { maybe = only slot image; closed = closed; unsettled = false; saving = None };
 }

@@ -1,5 +1,5 @@
 -- Which refusal an event meets: the first whose condition holds.
-use Rattle.std.specs.Prelude.{◌==◌, ◌||◌, ℕ, ◌+◌, ◌^◌, Bool, length, nat_le, is_some, Option, Some, None, if◌then◌else◌}
+use Rattle.std.specs.Prelude.{◌==◌, ◌||◌, ℕ, ◌+◌, ◌-◌, ◌^◌, Bool, nat_le, is_some, Option, Some, None, if◌then◌else◌}
 use Rattle.arm_state.specs.declared.refusal.SaveState.{SaveState}
 use Rattle.arm_state.specs.Modes.{is_disarming, has_ended, is_short}
 use Rattle.energy_budget.specs.Sums.{needed_level}
@@ -22,9 +22,9 @@ is_low setup m = is_short m.mode m.reading (need_for setup (pending_of m))
 abbrev pub lacks_energy : Setup → Machine → Bool
 lacks_energy setup m = is_short m.mode m.reading (need_for setup (pending_of m + 1))
 
--- the life has as many writes as it may have, or the next one would have the number 2^62
+-- as many writes are stored as there is room for, or the next one would have the number 2^62
 abbrev pub is_trail_full : Setup → Machine → Bool
-is_trail_full setup m = (length m.life.writes == setup.trail) || (all_of m == 2 ^ 62)
+is_trail_full setup m = (all_of m - m.cut == setup.trail) || (all_of m == 2 ^ 62)
 
 -- what may stand in the way of arming and of a save; over a newest image of so great a generation none is begun
 abbrev pub saves_of : Machine → SaveState

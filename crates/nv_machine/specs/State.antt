@@ -1,5 +1,5 @@
 -- The state of the machine: a life, what waits in the channels, and what a restore would find.
-use Rattle.std.specs.Prelude.{ℕ, ◌+◌, Bool, List, length, Option, Some, None}
+use Rattle.std.specs.Prelude.{ℕ, ◌+◌, ◌-◌, Bool, List, drop, length, Option, Some, None}
 use Rattle.line_memory.specs.declared.Write.{Write}
 use Rattle.line_memory.specs.Memory.{after, memory_at}
 use Rattle.save_image.specs.Image.{Image}
@@ -14,7 +14,7 @@ use Rattle.channel_port.specs.Waits.{Waits}
 use Rattle.channel_port.specs.Shape.{Shape}
 use Rattle.arm_state.specs.declared.loss.Loss.{Loss}
 
--- What doesn't change in a life: the shape of the channels, and how many writes a life may accept.
+-- What doesn't change in a life: the shape of the channels, and how many writes there is room for.
 pub record Setup : Type 0 where
   pub shape : Shape
   pub trail : ℕ
@@ -47,13 +47,15 @@ pub record Store : Type 0 where
   pub unsettled : Bool
   pub saving : Option RunningSave
 
--- The mode, the last reading of the gauge, the answer to the loss of mains once they were lost, the life, what waits in the
--- channels, and what a restore would find.
+-- The mode, the last reading of the gauge, the answer to the loss of mains once they were lost, the life, the number of the first
+-- write that is stored, what waits in the channels, and what a restore would find. The whole life is what theorems speak of. Of it
+-- only the writes from the cut on take room, and the memory before them.
 pub record Machine : Type 0 where
   pub mode : Mode
   pub reading : ℕ
   pub lost : Option Loss
   pub life : Life
+  pub cut : ℕ
   pub waits : Waits
   pub store : Store
 
@@ -73,6 +75,13 @@ memory_of m = after (base_of_life m.life) m.life.writes
 
 abbrev pub memory_after : Machine → ℕ → List (List ℕ)
 memory_after m n = memory_at (base_of_life m.life) (start_of_life m.life) m.life.writes n
+
+-- what is stored of the life: the memory before its cut, and the writes from there on
+abbrev pub stored_base : Machine → List (List ℕ)
+stored_base m = memory_after m m.cut
+
+abbrev pub stored_writes : Machine → List Write
+stored_writes m = drop (m.cut - start_of_life m.life) m.life.writes
 
 -- how many writes aren't in an array yet
 abbrev pub pending_of : Machine → ℕ
