@@ -3,10 +3,14 @@ use Rattle.channel_port.specs.declared.answers.Done.{Done}
 use Rattle.channel_set.specs.Carrying.{KeepsAll}
 use Rattle.channel_set.specs.Set.{NextCommand}
 use Rattle.channel_set.specs.declared.set.ChannelSet.{ChannelSet}
-use Rattle.module_core.specs.Stands.{Answers, Follows, IsCarried, Point, SameNumbers, WorksWhereDue}
+use Rattle.module_core.specs.Stands.{Answers, Follows, IsCarried, Point, SameNumbers, WorksWhereDue, saved_after}
 use Rattle.module_core.specs.declared.opening.LifeTerms.{LifeTerms}
 use Rattle.nv_machine.proofs.Backing.{IsKnown}
-use Rattle.nv_machine.proofs.EachEvent.{guarded_event}
+use Rattle.nv_machine.proofs.Effects.{KeepsNewest}
+use Rattle.nv_machine.specs.State.{newest_of}
+use Rattle.nv_machine.specs.declared.events.StepReply.{StepReply}
+use Rattle.arm_state.specs.declared.loss.Loss.{Loss}
+use Rattle.nv_machine.proofs.EachEvent.{event_keeps, guarded_event}
 use Rattle.nv_machine.proofs.HonestEvents.{honest_event}
 use Rattle.nv_machine.proofs.Leaving.{left_after, left_before}
 use Rattle.nv_machine.specs.Guard.{IsGuarded}
@@ -24,6 +28,12 @@ pub works_where_due : {K : Type 0} (L : Ghosts K) (channel : ℕ) (result : Opti
 works_where_due L channel None point next = inr next
 works_where_due L channel (Some done) point next = next
 
+-- how many writes the newest image holds after a reply
+newest_after : (reply : Reply) (before after : ℕ) → KeepsNewest reply before after → after ≡ saved_after reply before
+newest_after (replies.SaveStep (StepReply.Saved generation count)) before after keeps = keeps
+newest_after (replies.Lose (Loss.Saved generation count)) before after keeps = keeps
+newest_after reply before after keeps = keeps
+
 module _ {K : Type 0} (L : Ghosts K) where
   known : (it : Module K L) (state : DeviceState) (m : Machine) → ModuleStands L it state m → IsKnown (setup_of L it) m
   known it state m s = search rules
@@ -31,16 +41,28 @@ module _ {K : Type 0} (L : Ghosts K) where
   pub same_lines : (old new : Module K L) → setup_of L new ≡ setup_of L old → lines_of_module L new ≡ lines_of_module L old
   same_lines old new setup = ap (λ (s : Setup). s.shape.lines) setup
 
+  -- how many writes the newest image holds after an event
+  pub counted : (event : Event) (reply : Reply) (old new : Assembly L) (m : Machine) → ModuleStands L old.it old.device m → (n : Machine) → MachineStep (setup_of L old.it) event reply (world_of L old m) (world_of L new n)
+      → new.it.saved ≡ saved_after reply old.it.saved → new.it.saved ≡ (newest_of n).count
+  counted event reply old new m s n step saved =
+      let keeps = event_keeps (setup_of L old.it) event reply (world_of L old m) (world_of L new n) step s.guarded in
+      saved ∙ ap (saved_after reply) s.saved ∙ sym (newest_after reply (newest_of m).count (newest_of n).count keeps.newest)
+
   -- An event that may call the device.
   pub asked : (event : Event) (reply : Reply) (old new : Assembly L) → setup_of L new.it ≡ setup_of L old.it → (m : Machine) → ModuleStands L old.it old.device m → (n : Machine)
-      → MachineStep (setup_of L old.it) event reply (world_of L old m) (world_of L new n)
+      → MachineStep (setup_of L old.it) event reply (world_of L old m) (world_of L new n) → new.it.saved ≡ saved_after reply old.it.saved
       → Matches L new.it n → Holds (lines_of_module L old.it) n.store new.it.saves.saving new.device → WorksWhereDue L event reply (point_of L old m)
       → LeavesOnly old.device new.device (λ bytes. IsGuarded n → RecoversMeanwhile reply m n (restored (lines_of_module L old.it) bytes))
       → (n : Machine) × ModuleStands L new.it new.device n × HappensAt L (setup_of L old.it) event reply (point_of L old m) (point_of L new n)
-  asked event reply old new setup m s n step matches holds works moments =
+  asked event reply old new setup m s n step saved matches holds works moments =
       let guarded : IsGuarded n = guarded_event (setup_of L old.it) event reply (world_of L old m) (world_of L new n) step s.guarded in let lines : ℕ = lines_of_module L old.it in (
         n,
-        record { matches = matches; holds = subst (λ (k : ℕ). Holds k n.store new.it.saves.saving new.device) (sym (same_lines old.it new.it setup)) holds; guarded = guarded },
+        record {
+          matches = matches;
+          holds = subst (λ (k : ℕ). Holds k n.store new.it.saves.saving new.device) (sym (same_lines old.it new.it setup)) holds;
+          guarded = guarded;
+          saved = counted event reply old new m s n step saved;
+        },
         record {
           happens = record {
             step = step;
@@ -59,10 +81,10 @@ module _ {K : Type 0} (L : Ghosts K) where
   -- An event without a call of the device.
   pub alone : (event : Event) (reply : Reply) (old new : Module K L) (device : DeviceState) (before later : Gauge) → setup_of L new ≡ setup_of L old
       → Follows L (λ m n. MachineStep (setup_of L old) event reply (record { machine = m; device = device; gauge = before }) (record { machine = n; device = device; gauge = later })) old new
-      → marks reply ≡ false → ((m : Machine) → Matches L old m → WorksWhereDue L event reply (point_of L (assembly old device before) m)) → Answers L event reply (assembly old device before) (assembly new device later)
-  alone event reply old new device before later setup follows unmarked works m s =
+      → new.saved ≡ saved_after reply old.saved → marks reply ≡ false → ((m : Machine) → Matches L old m → WorksWhereDue L event reply (point_of L (assembly old device before) m)) → Answers L event reply (assembly old device before) (assembly new device later)
+  alone event reply old new device before later setup follows saved unmarked works m s =
       let f = follows m s.matches in let n : Machine = f.later in let lines : ℕ = lines_of_module L old in
-      asked event reply (assembly old device before) (assembly new device later) setup m s n f.step f.matches (holds_moved lines m.store device old.saves new.saves n.store f.moves s.matches.knows s.holds) (works m s.matches)
+      asked event reply (assembly old device before) (assembly new device later) setup m s n f.step saved f.matches (holds_moved lines m.store device old.saves new.saves n.store f.moves s.matches.knows s.holds) (works m s.matches)
       (started {P = λ bytes. IsGuarded n → RecoversMeanwhile reply m n (restored lines bytes)} device (λ bytes left guarded.
       let outcome : Outcome = restored lines bytes in let was : IsAmong m.store.maybe outcome = stop_now lines m.store old.saves.saving device s.holds bytes left in
       left_before reply m n s.guarded outcome was (inl (subst (λ (b : Bool). IsAmong (if b then record m.store.maybe { any_arm = true } else m.store.maybe) outcome) (sym unmarked) was))))
@@ -70,8 +92,8 @@ module _ {K : Type 0} (L : Ghosts K) where
   -- An event that changes nothing.
   pub unmoved : (event : Event) (reply : Reply) (it : Module K L) (device : DeviceState) (gauge : Gauge)
       → ((m : Machine) → Matches L it m → MachineStep (setup_of L it) event reply (record { machine = m; device = device; gauge = gauge }) (record { machine = m; device = device; gauge = gauge }))
-      → marks reply ≡ false → ((m : Machine) → Matches L it m → WorksWhereDue L event reply (point_of L (assembly it device gauge) m)) → Answers L event reply (assembly it device gauge) (assembly it device gauge)
-  unmoved event reply it device gauge step unmarked works = alone event reply it it device gauge gauge refl (λ m h. record { later = m; step = step m h; matches = h; moves = inl (refl, refl) }) unmarked works
+      → it.saved ≡ saved_after reply it.saved → marks reply ≡ false → ((m : Machine) → Matches L it m → WorksWhereDue L event reply (point_of L (assembly it device gauge) m)) → Answers L event reply (assembly it device gauge) (assembly it device gauge)
+  unmoved event reply it device gauge step saved unmarked works = alone event reply it it device gauge gauge refl (λ m h. record { later = m; step = step m h; matches = h; moves = inl (refl, refl) }) saved unmarked works
 
   -- Nothing but the reading and what waits has changed of a module.
   pub record StaysBut (old new : Module K L) : Type 0 where
@@ -90,13 +112,13 @@ module _ {K : Type 0} (L : Ghosts K) where
 
   -- An event after which something else waits, and nothing else is changed.
   pub waited : (event : Event) (reply : Reply) (old new : Module K L) (device : DeviceState) (gauge : Gauge) → StaysBut old new → new.reading ≡ old.reading
-      → (view_of L new.channels).hold ≡ (view_of L old.channels).hold → KeepsAll L old.channels new.channels → marks reply ≡ false
+      → (view_of L new.channels).hold ≡ (view_of L old.channels).hold → KeepsAll L old.channels new.channels → new.saved ≡ saved_after reply old.saved → marks reply ≡ false
       → ((m : Machine) → Matches L old m → let later : Waits = (view_of L new.channels).waits in
       MachineStep (setup_of L old) event reply (record { machine = m; device = device; gauge = gauge }) (record { machine = record m { waits = later }; device = device; gauge = gauge })
       × ForSome (hold_of m.store.saving) (λ k. WaitsFrom k (all_of m) later.writes)
       × WorksWhereDue L event reply (point_of L (assembly old device gauge) m))
       → Answers L event reply (assembly old device gauge) (assembly new device gauge)
-  waited event reply old new device gauge stays shown hold keeps unmarked told =
+  waited event reply old new device gauge stays shown hold keeps saved unmarked told =
       alone event reply old new device gauge gauge (same_setup old.channels new.channels old.terms new.terms stays.shape stays.numbers.terms) (λ m h.
       let later : Waits = (view_of L new.channels).waits in let t = told m h in record {
         later = record m { waits = later };
@@ -108,4 +130,4 @@ module _ {K : Type 0} (L : Ghosts K) where
           held = t.1;
         });
         moves = inl (refl, stays.saves);
-      }) unmarked (λ m h. (told m h).2)
+      }) saved unmarked (λ m h. (told m h).2)

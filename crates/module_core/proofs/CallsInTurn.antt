@@ -6,15 +6,24 @@ use Rattle.module_core.specs.Opening.{opened_with}
 use Rattle.slot_store.specs.declared.head.Head.{Head}
 use Rattle.nv_machine.specs.Headline.{RecoversAfterwards}
 use Rattle.module_core.specs.InTurn.{AnswersCall, AnswersCalls, IsCharged}
-use Rattle.module_core.specs.Stands.{Point, RunAt, RunsTo}
-use Rattle.module_core.proofs.Common.{[], ◌++◌, ◌∙◌, ◌∷◌, ◌≡◌, append-nil, Assembly, Event, Gauge, Ghosts, Image, List, Machine, ModuleStands, Reply, Setup, StopsWithin, point_of, present, refl, restored, setup_of, subst, sym}
-use Rattle.module_core.proofs.RunsOn.{join_runs, none_answered, one_run}
+use Rattle.channel_set.specs.declared.set.ChannelSet.{ChannelSet}
+use Rattle.module_core.specs.declared.opening.LifeTerms.{LifeTerms}
+use Rattle.module_core.specs.Stands.{IsCut, Point, RunAt, RunsTo}
+use Rattle.module_core.proofs.Common.{[], ◌++◌, ◌∙◌, ◌∷◌, ◌≡◌, append-nil, Assembly, DeviceState, Event, Gauge, Ghosts, Image, List, Machine, Module, ModuleStands, Reply, Setup, StopsWithin, ap, assembly, point_of, shape_of, present, refl, restored, setup_of, subst, sym}
+use Rattle.module_core.proofs.RunsOn.{cut_answered, join_runs, none_answered, one_run}
 
 module _ {K : Type 0} (L : Ghosts K) where
   pub rests_in_turn : (old new : Assembly L) → IsCharged L old new → AnswersCalls L [] [] old new
   rests_in_turn old new charged =
       subst (λ (a : Assembly L). AnswersCalls L [] [] old a) (sym charged.is)
       (record { answers = none_answered L old.it old.device old.gauge new.gauge charged.gauge; setup = refl })
+
+  pub cuts_in_turn : (old new : Module K L) (device : DeviceState) (gauge : Gauge) → IsCut L old new → AnswersCalls L [] [] (assembly old device gauge) (assembly new device gauge)
+  cuts_in_turn old new device gauge cut = record {
+    answers = cut_answered L old new device gauge cut;
+    setup = ap (λ (c : ChannelSet K L). record { shape = shape_of L c; trail = new.terms.trail }) cut.channels
+        ∙ ap (λ (t : LifeTerms). record { shape = shape_of L old.channels; trail = t.trail }) cut.terms;
+  }
 
   pub calls_in_turn : (event : Event) (reply : Reply) (old new : Assembly L) → AnswersCall L event reply old new → AnswersCalls L (event ∷ []) (reply ∷ []) old new
   calls_in_turn event reply old new call = record {

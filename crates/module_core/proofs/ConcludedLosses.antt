@@ -50,19 +50,19 @@ module _ {K : Type 0} (L : Ghosts K) (order : DrainOrder) (old begun mid new : A
     setup = setups;
   }
 
-  pub is_saved : new.it.mode ≡ modes.Saved → drained ≡ Ok tt → CoversDrains L drained begun → ClosesModule order (Ok tt) begun new → IsLoss L order (loss.Saved new.it.saves.newest.generation new.it.accepted) old new
-  is_saved mode paid covers closes =
+  pub is_saved : new.it.mode ≡ modes.Saved → new.it.saved ≡ new.it.accepted → drained ≡ Ok tt → CoversDrains L drained begun → ClosesModule order (Ok tt) begun new → IsLoss L order (loss.Saved new.it.saves.newest.generation new.it.accepted) old new
+  is_saved mode saved paid covers closes =
       is_loss (loss.Saved new.it.saves.newest.generation new.it.accepted)
-      (λ m stands. answers_saved L old m stands order b.backed b.reading begun.gauge b.reads begun.it b.ends b.begins new numbers reading keeps mode (from (Ok tt) closes))
+      (λ m stands. answers_saved L old m stands order b.backed b.reading begun.gauge b.reads begun.it b.ends b.begins new numbers reading keeps mode saved (from (Ok tt) closes))
       (covered L old.it.channels begun.it.channels b.ends.channels b.cost (subst (λ (p : Paid). CoversDrains L p begun) paid covers))
 
-  module _ (mode : new.it.mode ≡ mid.it.mode) (cause : BrokenOff) where
+  module _ (mode : new.it.mode ≡ mid.it.mode) (saved : new.it.saved ≡ mid.it.saved) (cause : BrokenOff) where
     pub is_dark : cause ≡ broken.Refused → ClosesModule order (Err cause) begun new → IsLoss L order loss.Dark old new
     is_dark why closes =
         is_loss loss.Dark
-        (λ m stands. answers_dark L old m stands order b.backed b.reading begun.gauge b.reads begun.it b.ends b.begins new numbers reading keeps (mode ∙ h.same.mode) cause why (from (Err cause) closes)) tt
+        (λ m stands. answers_dark L old m stands order b.backed b.reading begun.gauge b.reads begun.it b.ends b.begins new numbers reading keeps (mode ∙ h.same.mode) (saved ∙ h.same.saved) cause why (from (Err cause) closes)) tt
 
     pub is_fault : cause ≡ broken.Fault → ClosesModule order (Err cause) begun new → IsLoss L order loss.Fault old new
     is_fault why closes =
         is_loss loss.Fault
-        (λ m stands. answers_fault L old m stands order b.backed b.reading begun.gauge b.reads begun.it b.ends b.begins new numbers reading keeps (mode ∙ h.same.mode) cause why (from (Err cause) closes)) tt
+        (λ m stands. answers_fault L old m stands order b.backed b.reading begun.gauge b.reads begun.it b.ends b.begins new numbers reading keeps (mode ∙ h.same.mode) (saved ∙ h.same.saved) cause why (from (Err cause) closes)) tt

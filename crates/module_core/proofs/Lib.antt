@@ -16,6 +16,7 @@ pub mod Covering
 pub mod LossSteps
 pub mod LostModules
 pub mod RunsOn
+pub mod CuttingRuns
 pub mod CallsInTurn
 pub mod ModulesLive
 pub mod HonestCalls

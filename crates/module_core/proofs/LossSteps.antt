@@ -76,7 +76,7 @@ module _ (order : DrainOrder) (trail : ℕ) (m : Machine) (before : Gauge) (read
   lines = setup.shape.lines
 
   abbrev pub lost : Mode → Loss → Store → Machine
-  lost mode reply s = record { mode = mode; reading = reading; lost = Some reply; life = m.life; waits = new.channels.waits; store = s }
+  lost mode reply s = record { mode = mode; reading = reading; lost = Some reply; life = m.life; cut = m.cut; waits = new.channels.waits; store = s }
 
   abbrev pub begins : World
   begins = record { machine = m; device = old.at.device; gauge = before }

@@ -4,7 +4,7 @@ use Rattle.channel_set.specs.Carrying.{CarriesAll, KeepsAll}
 use Rattle.channel_set.specs.declared.set.ChannelSet.{ChannelSet}
 use Rattle.line_memory.specs.declared.Write.{Write}
 use Rattle.module_core.specs.Closing.{ClosesChannels, ClosingAt, closing_at}
-use Rattle.module_core.specs.Stands.{EndsMains, EndsHoldAndReads, SameNumbers}
+use Rattle.module_core.specs.Stands.{EndsMains, EndsHoldAndReads, SameNumbers, saved_after}
 use Rattle.slot_store.specs.Finishing.{Finish}
 use Rattle.slot_store.specs.declared.source.BrokenOff.{BrokenOff}
 use Rattle.nv_machine.proofs.GuardLaws.{for_none, for_one}
@@ -22,7 +22,7 @@ use Rattle.nv_machine.specs.declared.events.Event.TheVariants as events
 use Rattle.nv_machine.specs.declared.events.Reply.TheVariants as replies
 use Rattle.module_core.proofs.Common.{[], ℕ, ◌∙◌, ◌≡◌, Assembly, BeginsSave, ChannelsView, DeviceState, Err, Gauge, GaugeCall, Ghosts, Holds, HoldsWhile, Image, IsAmong, IsMemory, IsReadyToClose, IsResting, List, Machine, Matches, Mode, Module, ModuleStands, Newest, None, Ok, Option, ReachesStore, ReadsLevel, SaveRun, Shape, Some, StopsWithin, Store, Waits, after, ap, assembly, base_of_life, begun, begun_save, false, has_ended, hold_of, inl, is_backed, lines_of_module, made_of, memory_of, present, refl, restored, rules, saved_in, saves_at, setup_of, shape_of, start_of_life, started, subst, sym, true, view_of, weaker, world_of}
 use Rattle.module_core.specs.Losing.{AnswersLoss}
-use Rattle.module_core.proofs.Applying.{asked, same_lines, same_setup, unmoved}
+use Rattle.module_core.proofs.Applying.{asked, counted, same_lines, same_setup, unmoved}
 use Rattle.module_core.proofs.Knowing.{holds_begun}
 use Rattle.module_core.proofs.LossSteps.{all_saved, dark, fault, saved_on}
 use Rattle.module_core.proofs.RunningSaves.{holds_runs}
@@ -63,7 +63,7 @@ module _ {K : Type 0} (L : Ghosts K) where
   pub answers_closed : (order : DrainOrder) (it : Module K L) (device : DeviceState) (gauge : Gauge) → has_ended it.mode ≡ true → (m : Machine) → ModuleStands L it device m
       → AnswersLoss L order loss.Closed (assembly it device gauge) (assembly it device gauge) m
   answers_closed order it device gauge ended m stands = record {
-    answers = unmoved L events.Lose (replies.Lose loss.Closed) it device gauge (λ n h. (order, (ap has_ended (sym h.mode) ∙ ended, refl))) refl (λ n h. tt) m stands;
+    answers = unmoved L events.Lose (replies.Lose loss.Closed) it device gauge (λ n h. (order, (ap has_ended (sym h.mode) ∙ ended, refl))) refl refl (λ n h. tt) m stands;
     loses = (m, stands, (ap has_ended (sym stands.matches.mode) ∙ ended, refl));
   }
 
@@ -94,7 +94,7 @@ module _ {K : Type 0} (L : Ghosts K) where
     module _ (new : Assembly L) (reading : ℕ) (mode : Mode) (ended : has_ended mode ≡ true) (lost : IsLost old.it new.it reading mode) (reply : Loss) (store : Store) (none : store.saving ≡ None)
         (makes : ReachesStore (lines_of_module L old.it) m.store store old.device new.it.saves new.device) where
       abbrev after_loss : Machine
-      after_loss = record { mode = mode; reading = reading; lost = Some reply; life = m.life; waits = (view_of L new.it.channels).waits; store = store }
+      after_loss = record { mode = mode; reading = reading; lost = Some reply; life = m.life; cut = m.cut; waits = (view_of L new.it.channels).waits; store = store }
 
       matches : Matches L new.it after_loss
       matches =
@@ -103,6 +103,7 @@ module _ {K : Type 0} (L : Ghosts K) where
             mode = lost.mode_is;
             reading = lost.shown;
             start = ap (λ t. t.start) lost.numbers.terms ∙ h.start;
+            cut = ap (λ t. t.cut) lost.numbers.terms ∙ h.cut;
             accepted = lost.numbers.accepted ∙ h.accepted;
             persisted = lost.numbers.persisted ∙ h.persisted;
             knows = makes.knows;
@@ -116,19 +117,19 @@ module _ {K : Type 0} (L : Ghosts K) where
             };
           }
 
-      answers_loss : (order : DrainOrder) → LoseStep order (setup_of L old.it) reply (world_of L old m) (world_of L new after_loss) → AnswersLoss L order reply old new m
-      answers_loss order step =
+      answers_loss : (order : DrainOrder) → new.it.saved ≡ saved_after (replies.Lose reply) old.it.saved → LoseStep order (setup_of L old.it) reply (world_of L old m) (world_of L new after_loss) → AnswersLoss L order reply old new m
+      answers_loss order saved step =
           let same = same_setup L old.it.channels new.it.channels old.it.terms new.it.terms lost.shape lost.numbers.terms in
           let guarded : IsGuarded after_loss = guarded_event (setup_of L old.it) events.Lose (replies.Lose reply) (world_of L old m) (world_of L new after_loss) (order, step) stands.guarded in
           record {
             answers =
-                asked L events.Lose (replies.Lose reply) old new same m stands after_loss (order, step) matches makes.holds tt
+                asked L events.Lose (replies.Lose reply) old new same m stands after_loss (order, step) saved matches makes.holds tt
                 (weaker old.device new.device (λ bytes either guarded.
                 left_within (setup_of L old.it) events.Lose (replies.Lose reply) (world_of L old m) (world_of L new after_loss) (order, step) stands.guarded refl refl (restored (lines_of_module L old.it) bytes) either)
                 makes.moments);
             loses = (
               after_loss,
-              record { matches = matches; holds = subst (λ (k : ℕ). Holds k store new.it.saves.saving new.device) (sym (same_lines L old.it new.it same)) makes.holds; guarded = guarded },
+              record { matches = matches; holds = subst (λ (k : ℕ). Holds k store new.it.saves.saving new.device) (sym (same_lines L old.it new.it same)) makes.holds; guarded = guarded; saved = counted L events.Lose (replies.Lose reply) old new m stands after_loss (order, step) saved },
               step,
             );
           }
@@ -159,9 +160,9 @@ module _ {K : Type 0} (L : Ghosts K) where
           moments = started old.device (λ bytes left. inl (here bytes left));
         } in
         let waits : (view_of L new.channels).waits ≡ record m.waits { reads = [] } = ap (λ (v : ChannelsView). v.waits) ends.channels.is ∙ ap (λ (w : Waits). record w { reads = [] }) h.carried.waits in
-        answers_loss (assembly new old.device old.gauge) m.reading modes.Closing refl lost loss.Unsaved store refl makes order (
+        answers_loss (assembly new old.device old.gauge) m.reading modes.Closing refl lost loss.Unsaved store refl makes order ends.saved (
           disarmed_mode m.mode on calm,
-          ap (λ (w : Waits). record { machine = record { mode = modes.Closing; reading = m.reading; lost = Some loss.Unsaved; life = m.life; waits = w; store = store }; device = old.device; gauge = old.gauge }) waits,
+          ap (λ (w : Waits). record { machine = record { mode = modes.Closing; reading = m.reading; lost = Some loss.Unsaved; life = m.life; cut = m.cut; waits = w; store = store }; device = old.device; gauge = old.gauge }) waits,
         )
 
     -- After a tick a save of all was begun; then the channels were drained and the save was made, or both were broken off.
@@ -208,19 +209,19 @@ module _ {K : Type 0} (L : Ghosts K) where
         hold = ap (λ (v : ChannelsView). v.hold) rest;
       }
 
-      pub answers_saved : new.it.mode ≡ modes.Saved → Closes (Ok tt) → Answered (loss.Saved new.it.saves.newest.generation new.it.accepted)
-      answers_saved is closes =
+      pub answers_saved : new.it.mode ≡ modes.Saved → new.it.saved ≡ new.it.accepted → Closes (Ok tt) → Answered (loss.Saved new.it.saves.newest.generation new.it.accepted)
+      answers_saved is saved closes =
           let on = saved_on order old.it.terms.trail m old.gauge reading first (closing_at new) reads backed writes refl tickets (closed (Ok tt) closes) in let reply : Loss = loss.Saved new.it.saves.newest.generation new.it.accepted in
-          answers_loss new reading modes.Saved refl (lost modes.Saved is on.1.rest) reply (saved_in m.store (made_of false m)) refl on.2.makes order
+          answers_loss new reading modes.Saved refl (lost modes.Saved is on.1.rest) reply (saved_in m.store (made_of false m)) refl on.2.makes order saved
           (all_saved order old.it.terms.trail m old.gauge reading first (closing_at new) reads backed writes refl tickets new.it.saves.newest.generation new.it.accepted on.2.makes.knows.generation
           (numbers.accepted ∙ ends.numbers.accepted ∙ stands.matches.accepted) on.0 on.1 on.2)
 
-      pub answers_dark : new.it.mode ≡ begun.mode → (cause : BrokenOff) → cause ≡ broken.Refused → Closes (Err cause) → Answered loss.Dark
-      answers_dark is cause why closes =
+      pub answers_dark : new.it.mode ≡ begun.mode → new.it.saved ≡ begun.saved → (cause : BrokenOff) → cause ≡ broken.Refused → Closes (Err cause) → Answered loss.Dark
+      answers_dark is saved cause why closes =
           let short = dark order old.it.terms.trail m old.gauge reading first (closing_at new) reads backed writes refl tickets here (closed (Err broken.Refused) (subst (λ (x : BrokenOff). Closes (Err x)) why closes)) in
-          answers_loss new reading modes.Closing refl (lost modes.Closing (is ∙ ends.mode) short.rest) loss.Dark short.store short.none short.makes order short.step
+          answers_loss new reading modes.Closing refl (lost modes.Closing (is ∙ ends.mode) short.rest) loss.Dark short.store short.none short.makes order (saved ∙ ends.saved) short.step
 
-      pub answers_fault : new.it.mode ≡ begun.mode → (cause : BrokenOff) → cause ≡ broken.Fault → Closes (Err cause) → Answered loss.Fault
-      answers_fault is cause why closes =
+      pub answers_fault : new.it.mode ≡ begun.mode → new.it.saved ≡ begun.saved → (cause : BrokenOff) → cause ≡ broken.Fault → Closes (Err cause) → Answered loss.Fault
+      answers_fault is saved cause why closes =
           let short = fault order old.it.terms.trail m old.gauge reading first (closing_at new) reads backed writes refl tickets (closed (Err broken.Fault) (subst (λ (x : BrokenOff). Closes (Err x)) why closes)) in
-          answers_loss new reading modes.Closing refl (lost modes.Closing (is ∙ ends.mode) short.rest) loss.Fault short.store short.none short.makes order short.step
+          answers_loss new reading modes.Closing refl (lost modes.Closing (is ∙ ends.mode) short.rest) loss.Fault short.store short.none short.makes order (saved ∙ ends.saved) short.step

@@ -6,8 +6,8 @@ use Rattle.module_core.specs.ModuleLives.{LivesEndAfterEvents, LivesEndAnywhere,
 use Rattle.module_core.specs.Opening.{opened_with}
 use Rattle.slot_store.specs.declared.head.Head.{Head}
 use Rattle.nv_machine.proofs.StoppedLives.{since_is}
-use Rattle.nv_machine.proofs.JoinedRuns.{happens_now, rests_charged, rests_here}
-use Rattle.nv_machine.specs.Headline.{Happens, HappensNext, Run, given}
+use Rattle.nv_machine.proofs.JoinedRuns.{happens_now, rests_here, rests_paused}
+use Rattle.nv_machine.specs.Headline.{Happens, HappensNext, Run, paused}
 use Rattle.nv_machine.specs.Lives.{IsLeftAt, Unanswered, moments_since, stop_moments}
 use Rattle.save_device.specs.Device.{MayLeave, Moment, moments_of}
 use Rattle.slot_store.proofs.Resting.{found_only}
@@ -41,7 +41,7 @@ record Moments (setup : Setup) (events : List Event) (replies : List Reply) (old
 cut_first : (setup : Setup) (event : Event) (events : List Event) (reply : Reply) (replies : List Reply) (old mid new : World) (bytes : List ℕ) → HappensNext setup event reply old mid
     → Run setup events replies mid new → IsLeftAt (moments_since old.device mid.device) bytes → StopAmongEvents setup (event ∷ events) (reply ∷ replies) old new bytes
 cut_first setup event events reply replies old mid new bytes next later left =
-    let unanswered : Unanswered = record { event = event; reply = reply; next = mid } in let last : World = given next.gauge old in
+    let unanswered : Unanswered = record { event = event; reply = reply; next = mid } in let last : World = paused next.pause old in
     record {
       front = [];
       told = [];
@@ -51,7 +51,7 @@ cut_first setup event events reply replies old mid new bytes next later left =
       untold = reply ∷ replies;
       parts = refl;
       told_are = refl;
-      run = rests_charged old next.gauge next.rises;
+      run = rests_paused old next.pause next.may;
       goes_on = (mid, happens_now setup event reply last mid next.happens, later);
       happens = λ it is. let these : unanswered ≡ it = cc in subst (λ (x : Unanswered). Happens setup x.event x.reply last x.next) these next.happens;
       left = left;

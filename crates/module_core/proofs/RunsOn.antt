@@ -1,44 +1,48 @@
 -- A run of a module goes on by the next event, and by a run.
 use Rattle.std.proofs.Common.{get_or}
 use Rattle.std.proofs.lemmas.List.{take_more}
-use Rattle.energy_budget.proofs.Charging.{rises_none, rises_twice}
+use Rattle.energy_budget.proofs.Charging.{rises_none}
 use Rattle.energy_budget.specs.Charging.{RisesTo}
-use Rattle.module_core.specs.Stands.{Answers, HappensNextAt, Point, RestsAt, RunAt, RunsTo, given_at}
+use Rattle.channel_set.specs.declared.set.ChannelSet.{ChannelSet}
+use Rattle.module_core.specs.Stands.{IsCarried, IsCut}
+use Rattle.module_core.specs.declared.opening.LifeTerms.{LifeTerms}
+use Rattle.nv_machine.proofs.Guarded.{guarded_cut}
+use Rattle.module_core.specs.Stands.{Answers, HappensNextAt, Point, RestsAt, RunAt, RunsTo, paused_at}
 use Rattle.nv_machine.proofs.Leaving.{left_after}
-use Rattle.nv_machine.proofs.JoinedRuns.{join_runs_of}
-use Rattle.nv_machine.specs.Headline.{Run}
-use Rattle.module_core.proofs.Common.{[], ℕ, ◌++◌, ◌+◌, ◌<◌, ◌∙◌, ◌∷◌, ◌≡◌, AnswersAll, Assembly, DeviceState, Event, Gauge, Ghosts, HappensAt, List, Machine, Module, Reply, Setup, ap, assembly, length, lines_of_module, point_of, refl, restored, setup_of, subst, sym, take}
+use Rattle.nv_machine.proofs.JoinedRuns.{charged_only, join_runs_of, no_pause, pause_twice}
+use Rattle.nv_machine.specs.Headline.{MayCut, MayPause, Run, pause_at}
+use Rattle.module_core.proofs.Common.{[], arith, ℕ, ◌++◌, ◌+◌, ◌<◌, ◌≤◌, ◌∙◌, ◌∷◌, ◌≡◌, AnswersAll, AreSameSave, Assembly, DeviceState, Event, Gauge, Ghosts, HappensAt, Holds, IsMemory, Knows, List, Machine, Matches, Module, ModuleStands, Reply, Saves, Setup, ap, assembly, length, lines_of_module, memory_of, point_of, refl, restored, setup_of, shape_of, subst, sym, take, world_of}
 use Rattle.module_core.proofs.StoreSteps.{stop_now}
 
 module _ {K : Type 0} (L : Ghosts K) where
   -- a run of the module is one of the machine
   pub run_worlds : (setup : Setup) (events : List Event) (replies : List Reply) (old new : Point L) → RunAt L setup events replies old new → Run setup events replies old.world new.world
-  run_worlds setup [] [] old new run = record { gauge = run.gauge; is = ap (λ (p : Point L). p.world) run.is }
+  run_worlds setup [] [] old new run = record { may = run.may; is = ap (λ (p : Point L). p.world) run.is }
   run_worlds setup (event ∷ events) (reply ∷ replies) old new run =
-      (run.0.world, record { gauge = run.1.gauge; rises = run.1.rises; happens = run.1.happens.happens }, run_worlds setup events replies run.0 new run.2)
+      (run.0.world, record { pause = run.1.pause; may = run.1.may; happens = run.1.happens.happens }, run_worlds setup events replies run.0 new run.2)
   run_worlds setup events replies old new none = absurd none
 
-  -- a moment, and the same one with the gauge charged
-  rests_twice : (a b c : Point L) → RestsAt a b → RestsAt b c → RestsAt a c
+  -- a moment, and the same one behind a pause
+  pub rests_twice : (a b c : Point L) → RestsAt a b → RestsAt b c → RestsAt a c
   rests_twice a b c first second = record {
-    gauge = rises_twice a.world.gauge b.world.gauge c.world.gauge first.gauge second.gauge;
-    is = second.is ∙ ap (λ (p : Point L). given_at c.world.gauge p) first.is;
+    may = pause_twice a.world (pause_at b.world) (pause_at c.world) first.may (subst (λ (p : Point L). MayPause p.world (pause_at c.world)) first.is second.may);
+    is = second.is ∙ ap (λ (p : Point L). paused_at (pause_at c.world) p) first.is;
   }
 
   pub rests_at : (p : Point L) → RestsAt p p
-  rests_at p = record { gauge = rises_none p.world.gauge; is = refl }
+  rests_at p = record { may = no_pause p.world; is = refl }
 
-  -- the gauge was charged some time before the next event
-  happens_later : (setup : Setup) (event : Event) (reply : Reply) (old mid new : Point L) → RestsAt old mid → HappensNextAt L setup event reply mid new → HappensNextAt L setup event reply old new
+  -- there was a pause some time before the next event
+  unfoldable pub happens_later : (setup : Setup) (event : Event) (reply : Reply) (old mid new : Point L) → RestsAt old mid → HappensNextAt L setup event reply mid new → HappensNextAt L setup event reply old new
   happens_later setup event reply old mid new rests next = record {
-    gauge = next.gauge;
-    rises = rises_twice old.world.gauge mid.world.gauge next.gauge rests.gauge next.rises;
-    happens = subst (λ (p : Point L). HappensAt L setup event reply (given_at next.gauge p) new) rests.is next.happens;
+    pause = next.pause;
+    may = pause_twice old.world (pause_at mid.world) next.pause rests.may (subst (λ (p : Point L). MayPause p.world next.pause) rests.is next.may);
+    happens = subst (λ (p : Point L). HappensAt L setup event reply (paused_at next.pause p) new) rests.is next.happens;
   }
 
   -- one event alone
   pub one_run : (setup : Setup) (event : Event) (reply : Reply) (old new : Point L) → HappensAt L setup event reply old new → RunAt L setup (event ∷ []) (reply ∷ []) old new
-  one_run setup event reply old new happens = (new, record { gauge = old.world.gauge; rises = rises_none old.world.gauge; happens = happens }, rests_at new)
+  one_run setup event reply old new happens = (new, record { pause = pause_at old.world; may = no_pause old.world; happens = happens }, rests_at new)
 
   -- a run, and one that goes on from its end
   pub join_runs : (setup : Setup) (events : List Event) (replies : List Reply) (more : List Event) (others : List Reply) (old mid new : Point L)
@@ -55,10 +59,55 @@ module _ {K : Type 0} (L : Ghosts K) where
   none_answered it device gauge charged rises m stands = record {
     last = m;
     stands = stands;
-    run = record { gauge = rises; is = refl };
+    run = record { may = charged_only (world_of L (assembly it device gauge) m) charged rises; is = refl };
     left = λ bytes left.
         left_after m stands.guarded (restored (lines_of_module L it) bytes) (stop_now (lines_of_module L it) m.store it.saves.saving device stands.holds bytes left);
   }
+
+  -- a cut moves no more than the cut of the machine
+  cut_matches : (old new : Module K L) (m : Machine) → IsCut L old new → Matches L old m → Matches L new (record m { cut = new.terms.cut })
+  cut_matches old new m cut h = record {
+    mode = cut.mode ∙ h.mode;
+    reading = cut.reading ∙ h.reading;
+    start = ap (λ (t : LifeTerms). t.start) cut.terms ∙ h.start;
+    cut = refl;
+    accepted = cut.accepted ∙ h.accepted;
+    persisted = cut.persisted ∙ h.persisted;
+    knows = subst (λ (s : Saves). Knows s.newest s.closed s.unsettled m.store) (sym cut.saves) h.knows;
+    saving = subst (λ (s : Saves). AreSameSave m.store.saving s.saving) (sym cut.saves) h.saving;
+    memory = subst (λ (c : ChannelSet K L). IsMemory (shape_of L c).lines (memory_of m)) (sym cut.channels) h.memory;
+    carried = subst (λ (c : ChannelSet K L). IsCarried L c (record m { cut = new.terms.cut })) (sym cut.channels)
+        (record { carries = h.carried.carries; waits = h.carried.waits; hold = h.carried.hold; held = h.carried.held });
+  }
+
+  may_cut : (old new : Module K L) (device : DeviceState) (m : Machine) → IsCut L old new → ModuleStands L old device m → MayCut m new.terms.cut
+  may_cut old new device m cut s = record {
+    rises = omega (arith, s.matches.cut, cut.rises);
+    most = λ less. let most : new.terms.cut ≤ old.saved = cut.most (omega (arith, s.matches.cut, less)) in omega (arith, most, s.saved);
+  }
+
+  pub cut_stands : (old new : Module K L) (device : DeviceState) (m : Machine) → IsCut L old new → ModuleStands L old device m → ModuleStands L new device (record m { cut = new.terms.cut })
+  cut_stands old new device m cut s = record {
+    matches = cut_matches old new m cut s.matches;
+    holds = subst (λ (c : ChannelSet K L). Holds (shape_of L c).lines m.store new.saves.saving device) (sym cut.channels)
+        (subst (λ (x : Saves). Holds (lines_of_module L old) m.store x.saving device) (sym cut.saves) s.holds);
+    guarded = guarded_cut m new.terms.cut (may_cut old new device m cut s) s.guarded;
+    saved = cut.saved ∙ s.saved;
+  }
+
+  -- no event, while the stored writes are cut
+  pub cut_answered : (old new : Module K L) (device : DeviceState) (gauge : Gauge) → IsCut L old new → AnswersAll L [] [] (assembly old device gauge) (assembly new device gauge)
+  cut_answered old new device gauge cut m stands =
+      let n : Machine = record m { cut = new.terms.cut } in let after = cut_stands old new device m cut stands in record {
+        last = n;
+        stands = after;
+        run = record {
+          may = record { gauge = rises_none gauge; cut = may_cut old new device m cut stands };
+          is = ap (λ (c : ChannelSet K L). record { channels = c; world = record { machine = n; device = device; gauge = gauge } }) cut.channels;
+        };
+        left = λ bytes left.
+            left_after n after.guarded (restored (lines_of_module L old) bytes) (stop_now (lines_of_module L old) m.store old.saves.saving device stands.holds bytes left);
+      }
 
   -- one event more
   pub one_more : (events : List Event) (i : ℕ) (none : Event) (replies : List Reply) (reply : Reply) (old mid new : Assembly L)

@@ -4,6 +4,7 @@ pub mod Saving
 pub mod Saves
 -- which machine a module stands for, and what each of its calls answers
 pub mod Stands
+pub mod Cutting
 pub mod Opening
 pub mod Stepping
 pub mod Closing

@@ -62,6 +62,10 @@ IsOfLines lines saving = ForSome saving (λ run. (plan_of run).lines ≡ lines)
 abbrev pub MakesAtMost : ℕ → Option SaveRun → Type 0
 MakesAtMost most saving = ForSome saving (λ run. (plan_of run).generation ≤ most)
 
+-- the save that runs, where one does, makes an image of so many writes at least, and of so many at most
+abbrev pub MakesBetween : ℕ → ℕ → Option SaveRun → Type 0
+MakesBetween least most saving = ForSome saving (λ run. (least ≤ count_in run) × (count_in run ≤ most))
+
 -- the device has the size that its image needs
 abbrev pub IsSizedFor : Option SaveRun → DeviceState → Type 0
 IsSizedFor saving device = ForSome saving (λ run. HasSize (plan_of run).lines device)

@@ -1,5 +1,5 @@
 -- Which machine a module stands for.
-use Rattle.std.specs.Prelude.{◌≡◌, ◌⊎◌, ◌<◌, ℕ, Bool, true, List, [], Option, Some, None}
+use Rattle.std.specs.Prelude.{◌≡◌, ◌⊎◌, ◌<◌, ◌≤◌, ℕ, Bool, true, List, [], Option, Some, None}
 use Rattle.std.specs.Option.{ForSome, option_map}
 use Rattle.line_memory.specs.Memory.{IsMemory}
 use Rattle.save_device.specs.Device.{DeviceState, present, StopsWithin}
@@ -11,7 +11,6 @@ use Rattle.slot_store.specs.Runs.{next_of}
 use Rattle.arm_state.specs.declared.mode.Mode.TheVariants as modes
 use Rattle.arm_state.specs.Modes.{has_ended}
 use Rattle.energy_budget.specs.Gauge.{Gauge}
-use Rattle.energy_budget.specs.Charging.{RisesTo}
 use Rattle.channel_port.specs.declared.port.ChannelPort.{Ghosts}
 use Rattle.channel_set.specs.declared.set.ChannelSet.{ChannelSet}
 use Rattle.channel_set.specs.Set.{NextCommand, shape_of, view_of}
@@ -21,10 +20,12 @@ use Rattle.nv_machine.specs.declared.events.Event.{Event}
 use Rattle.nv_machine.specs.declared.events.Event.TheVariants as events
 use Rattle.nv_machine.specs.declared.events.Reply.{Reply}
 use Rattle.nv_machine.specs.declared.events.Reply.TheVariants as replies
-use Rattle.nv_machine.specs.State.{Setup, Machine, World, start_of_life, base_of_life, all_of, memory_of, hold_of}
+use Rattle.nv_machine.specs.declared.events.StepReply.TheVariants as step
+use Rattle.arm_state.specs.declared.loss.Loss.TheVariants as loss
+use Rattle.nv_machine.specs.State.{Setup, Machine, World, start_of_life, base_of_life, all_of, memory_of, newest_of, hold_of}
 use Rattle.nv_machine.specs.Machine.{TakesReading}
 use Rattle.nv_machine.specs.Guard.{IsGuarded}
-use Rattle.nv_machine.specs.Headline.{RecoversAfterwards, Happens, RunOf, given}
+use Rattle.nv_machine.specs.Headline.{RecoversAfterwards, Happens, MayPause, Pause, RunOf, pause_at, paused}
 use Rattle.module_core.specs.Saving.{Knows, AreSameSave}
 use Rattle.module_core.specs.Saves.{StoreMoves}
 use Rattle.module_core.specs.Device.{Holds}
@@ -48,13 +49,19 @@ pub record Point {K : Type 0} (L : Ghosts K) : Type 0 where
   pub channels : ChannelSet K L
   pub world : World
 
-abbrev pub given_at : {K : Type 0} {L : Ghosts K} → Gauge → Point L → Point L
-given_at gauge point = record point { world = given gauge point.world }
+abbrev pub paused_at : {K : Type 0} {L : Ghosts K} → Pause → Point L → Point L
+paused_at pause point = record point { world = paused pause point.world }
 
--- Between two events nothing has changed but the gauge, which may have been charged.
+-- Between two events there was at most a pause.
 pub record RestsAt {K : Type 0} {L : Ghosts K} (old new : Point L) : Type 0 where
-  pub gauge : RisesTo old.world.gauge new.world.gauge
-  pub is : new ≡ given_at new.world.gauge old
+  pub may : MayPause old.world (pause_at new.world)
+  pub is : new ≡ paused_at (pause_at new.world) old
+
+-- how many writes the newest image holds after a reply: as many as the save of which it tells, or as before
+abbrev pub saved_after : Reply → ℕ → ℕ
+saved_after (replies.SaveStep (step.Saved generation count)) saved = count
+saved_after (replies.Lose (loss.Saved generation count)) saved = count
+saved_after reply saved = saved
 
 module _ {K : Type 0} (L : Ghosts K) where
   abbrev pub setup_of : Module K L → Setup
@@ -87,9 +94,23 @@ module _ {K : Type 0} (L : Ghosts K) where
     pub accepted : new.accepted ≡ old.accepted
     pub persisted : new.persisted ≡ old.persisted
 
+  -- Nothing but the cut has changed: it stays, or moves forward to at most the end of the newest image.
+  pub record IsCut (old new : Module K L) : Type 0 where
+    pub terms : new.terms ≡ record old.terms { cut = new.terms.cut }
+    pub rises : old.terms.cut ≤ new.terms.cut
+    pub most : old.terms.cut < new.terms.cut → new.terms.cut ≤ old.saved
+    pub accepted : new.accepted ≡ old.accepted
+    pub persisted : new.persisted ≡ old.persisted
+    pub saved : new.saved ≡ old.saved
+    pub mode : new.mode ≡ old.mode
+    pub reading : new.reading ≡ old.reading
+    pub saves : new.saves ≡ old.saves
+    pub channels : new.channels ≡ old.channels
+
   -- nothing but the hold has changed, which ends behind the last page
   pub record SameButHold (old new : Module K L) : Type 0 where
     pub numbers : SameNumbers old new
+    pub saved : new.saved ≡ old.saved
     pub mode : new.mode ≡ old.mode
     pub reading : new.reading ≡ old.reading
     pub saves : new.saves ≡ old.saves
@@ -98,6 +119,7 @@ module _ {K : Type 0} (L : Ghosts K) where
   -- Mains were lost, after this reading: no hold lasts and all reads are lost, and nothing else but the saves has changed.
   pub record EndsMains (reading : ℕ) (old new : Module K L) : Type 0 where
     pub numbers : SameNumbers old new
+    pub saved : new.saved ≡ old.saved
     pub shown : new.reading ≡ reading
     pub mode : new.mode ≡ modes.Closing
     pub channels : EndsHoldAndReads old.channels new.channels
@@ -105,6 +127,7 @@ module _ {K : Type 0} (L : Ghosts K) where
   -- nothing but the saves and what waits has changed
   pub record SameButSaves (old new : Module K L) : Type 0 where
     pub numbers : SameNumbers old new
+    pub saved : new.saved ≡ old.saved
     pub reading : new.reading ≡ old.reading
     pub mode : new.mode ≡ old.mode
     pub keeps : KeepsAll L old.channels new.channels
@@ -114,6 +137,7 @@ module _ {K : Type 0} (L : Ghosts K) where
     pub mode : it.mode ≡ m.mode
     pub reading : it.reading ≡ m.reading
     pub start : it.terms.start ≡ start_of_life m.life
+    pub cut : it.terms.cut ≡ m.cut
     pub accepted : it.accepted ≡ all_of m
     pub persisted : it.persisted ≡ m.life.persisted
     pub knows : Knows it.saves.newest it.saves.closed it.saves.unsettled m.store
@@ -126,6 +150,7 @@ module _ {K : Type 0} (L : Ghosts K) where
     pub matches : Matches it m
     pub holds : Holds (lines_of_module it) m.store it.saves.saving device
     pub guarded : IsGuarded m
+    pub saved : it.saved ≡ (newest_of m).count
 
   -- The machine went on by this step to one that the module stands for. The device wasn't called.
   pub record MovesOn (Step : Machine → Machine → Type 0) (old new : Module K L) (m : Machine) : Type 0 where
@@ -165,13 +190,13 @@ module _ {K : Type 0} (L : Ghosts K) where
     pub happens : Happens setup event reply old.world new.world
     pub works : WorksWhereDue event reply old
 
-  -- one event, before which the gauge may have been charged
+  -- one event, before which there may have been a pause
   pub record HappensNextAt (setup : Setup) (event : Event) (reply : Reply) (old new : Point L) : Type 0 where
-    pub gauge : Gauge
-    pub rises : RisesTo old.world.gauge gauge
-    pub happens : HappensAt setup event reply (given_at gauge old) new
+    pub pause : Pause
+    pub may : MayPause old.world pause
+    pub happens : HappensAt setup event reply (paused_at pause old) new
 
-  -- Events of a module in turn. The gauge may be charged before each of them and after the last one.
+  -- Events of a module in turn. There may be a pause before each of them and after the last one.
   abbrev pub RunAt : Setup → List Event → List Reply → Point L → Point L → Type 0
   RunAt setup = RunOf RestsAt (HappensNextAt setup)
 

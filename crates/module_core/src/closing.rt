@@ -98,6 +98,7 @@ impl Saves {
         ensures saves { ClosesSave (view_of K.ChannelPort channels.now) result
             (saves_at self.old (D.state device.old) (E.gauge energy.old))
             (saves_at self.new (D.state device.new) (E.gauge energy.new)) }
+        ensures none { self.new.saving ≡ None }
         ensures lines { IsOfLines (shape_of K.ChannelPort channels.now).lines self.new.saving }
         ensures size { HasSize (shape_of K.ChannelPort channels.now).lines (D.state device.new) }
     {

@@ -6,6 +6,7 @@
 
 mod arming;
 mod closing;
+mod cutting;
 mod laws;
 mod losing;
 mod marks;

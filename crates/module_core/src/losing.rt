@@ -99,6 +99,7 @@ impl<K: ChannelPort> Module<K> {
             (assembly self.old (D.state device.old) (E.gauge energy.old))
             (assembly self.new (D.state device.new) (E.gauge energy.new)) }
         ensures paid { OnOk result (drained ≡ Ok tt) }
+        ensures none { self.new.saves.saving ≡ None }
         ensures same { SameButSaves K.ChannelPort self.old self.new }
         ensures setup { setup_of K.ChannelPort self.new ≡ setup_of K.ChannelPort self.old }
         ensures size { HasDevice K.ChannelPort self.new (D.state device.new) }
@@ -127,6 +128,7 @@ impl<K: ChannelPort> Module<K> {
         match self.close(drained, device, energy) {
             Ok(()) => {
                 self.mode = Mode::Saved;
+                self.saved = self.accepted;
                 Loss::Saved {
                     generation: self.saves.newest.generation,
                     count: self.accepted,

@@ -8,7 +8,7 @@ ghost use Rattle.channel_port.specs.Waits.{AllBelow, reads_on, writes_on};
 ghost use Rattle.channel_port.specs.declared.stage.Stage.TheVariants.{OnMains};
 ghost use Rattle.channel_set.specs.Set.{AreAt, place_in, shape_of, view_of};
 ghost use Rattle.nv_machine.specs.State.{Machine};
-ghost use Rattle.module_core.specs.Saving.{IsOfLines, MakesAtMost};
+ghost use Rattle.module_core.specs.Saving.{IsOfLines, MakesAtMost, MakesBetween};
 
 use crate::opening::LifeTerms;
 use crate::saves::Saves;
@@ -34,12 +34,17 @@ pub struct Module<K: ChannelPort> {
     /// How many writes were accepted, and how many of them are persistent, counted from the first life on.
     pub(crate) accepted: u64,
     pub(crate) persisted: u64,
+    /// How many writes the newest image holds that is known settled.
+    pub(crate) saved: u64,
     pub(crate) mode: Mode,
     /// The last reading of the gauge.
     pub(crate) reading: u64,
     pub(crate) saves: Saves,
     ghost from: { terms.start ≤ accepted },
-    ghost kept: { accepted ≤ terms.start + terms.trail },
+    ghost stored: { terms.cut ≤ saved },
+    ghost settled: { saved ≤ accepted },
+    ghost making: { MakesBetween saved accepted saves.saving },
+    ghost kept: { accepted ≤ terms.cut + terms.trail },
     ghost numbers: { accepted ≤ 2 ^ 62 },
     ghost below: { AllBelow accepted (view_of K.ChannelPort channels).waits.writes },
     ghost mains: { has_ended mode ≡ false → AreAt K.ChannelPort OnMains channels },
@@ -82,7 +87,7 @@ impl<K: ChannelPort> Module<K> {
             (writes_on place.channel (view_of K.ChannelPort self.now.channels).waits.writes
             == (shape_of K.ChannelPort self.now.channels).depth) ≡ false) }
         ensures trail { IfOk result (λ place. self.now.accepted
-            < self.now.terms.start + self.now.terms.trail) }
+            < self.now.terms.cut + self.now.terms.trail) }
         ensures numbers { IfOk result (λ place. self.now.accepted < 2 ^ 62) }
     {
         let Some(place) = self.channels.locate(line) else {
@@ -94,7 +99,7 @@ impl<K: ChannelPort> Module<K> {
         if self.mode.is_disarming() {
             return Err(WriteRefusal::Disarming);
         }
-        if self.accepted - self.terms.start == self.terms.trail || self.accepted == MOST_WRITES {
+        if self.accepted - self.terms.cut == self.terms.trail || self.accepted == MOST_WRITES {
             return Err(WriteRefusal::TrailFull);
         }
         if self.channels.is_full(place.channel) {
@@ -205,6 +210,7 @@ impl<K: ChannelPort> Module<K> {
         requires generation { self.old.saves.newest.generation ≤ 2 ^ 62 }
         requires armed { is_armed self.old.mode ≡ true → self.old.saves.newest.generation < 2 ^ 62 }
         ensures step { Follows K.ChannelPort (λ m n. n ≡ begun m) self.old self.new }
+        ensures saved { self.new.saved ≡ self.old.saved }
         ensures setup { setup_of K.ChannelPort self.new ≡ setup_of K.ChannelPort self.old }
     {
         let count = self.accepted;
@@ -217,6 +223,7 @@ impl<K: ChannelPort> Module<K> {
     fn begin_disarming(&mut self)
         requires { is_armed self.old.mode ≡ true }
         ensures step { Follows K.ChannelPort (λ m n. n ≡ disarming m) self.old self.new }
+        ensures saved { self.new.saved ≡ self.old.saved }
         ensures setup { setup_of K.ChannelPort self.new ≡ setup_of K.ChannelPort self.old }
     {
         self.mode = Mode::Disarming;
@@ -226,6 +233,7 @@ impl<K: ChannelPort> Module<K> {
     // Takes a reading; where it is too low while armed the disarming is begun.
     pub(crate) fn take_reading(&mut self, reading: u64) -> bool
         ensures step { FollowsReading K.ChannelPort reading result self.old self.new }
+        ensures saved { self.new.saved ≡ self.old.saved }
         ensures stays { result ≡ false → self.new.saves ≡ self.old.saves }
         ensures mode { result ≡ false → self.new.mode ≡ self.old.mode }
         ensures setup { setup_of K.ChannelPort self.new ≡ setup_of K.ChannelPort self.old }

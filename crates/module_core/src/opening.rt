@@ -10,20 +10,23 @@ use channel_port::ChannelPort;
 use channel_set::ChannelSet;
 use slot_store::Head;
 
-/// What doesn't change in a life.
+/// What no event of a life changes.
 #[derive(Clone, Copy, Debug, PartialEq, Eq)]
 pub struct LifeTerms {
     /// The number of its first write.
     pub start: u64,
-    /// How many writes it may accept.
+    /// How many writes may be stored.
     pub trail: u64,
+    /// The number of the first write that is stored. A cut alone moves it.
+    pub cut: u64,
 }
 
 impl<K: ChannelPort> Module<K> {
     ghost use Rattle.module_core.specs.Opening.{opened_with, setup_with, AreUnasked, BeginsOn};
     ghost use Rattle.module_core.specs.Stands.{ModuleStands, setup_of};
 
-    /// Begins a life, disarmed, over channels that hold the memory which a restore found. It may accept `trail` writes.
+    /// Begins a life, disarmed, over channels that hold the memory which a restore found. `trail` writes may be
+    /// stored at once.
     pub fn open(channels: ChannelSet<K>, found: Head, trail: u64) -> Module<K>
         requires unasked { AreUnasked K.ChannelPort channels }
         requires numbers { Fits found.newest.generation found.count }
@@ -37,9 +40,11 @@ impl<K: ChannelPort> Module<K> {
             terms: LifeTerms {
                 start: found.count,
                 trail,
+                cut: found.count,
             },
             accepted: found.count,
             persisted: found.count,
+            saved: found.count,
             mode: Mode::Disarmed,
             reading: 0,
             saves: Saves {

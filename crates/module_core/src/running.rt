@@ -10,6 +10,7 @@ use save_device::SaveDevice;
 use std::alloc::{AllocError, Global};
 
 impl<K: ChannelPort> Module<K> {
+    ghost use Rattle.module_core.specs.Cutting.{AnswersCut};
     ghost use Rattle.module_core.specs.HonestCalls.{StaysWhereHonest};
     ghost use Rattle.module_core.specs.Stands.{Answers, AnswersAll, HasDevice, IsForChannels, setup_of, assembly};
 
@@ -42,7 +43,9 @@ impl<K: ChannelPort> Module<K> {
         }
     }
 
-    /// Answers the events of a life in order. The answer's room is reserved first, so that an `Err` changed nothing.
+    /// Answers the events of a life in order, and cuts the stored writes at the beginning and behind each event, so that `TrailFull`
+    /// is met only where the newest finished save lacks as many writes as may be stored. The answer's room is reserved first, so
+    /// that an `Err` changed nothing.
     ///
     /// **The replies and the last state are a run of the machine**, at each moment of which a stop leaves what the machine
     /// says, whatever the device does; and after the last event the device's bytes restore to one of the machine's images.
@@ -61,6 +64,10 @@ impl<K: ChannelPort> Module<K> {
         ensures answers { IfOk result (λ replies. AnswersAll K.ChannelPort events.now replies.items
             (assembly self.old (D.state device.old) (E.gauge energy.old))
             (assembly self.new (D.state device.new) (E.gauge energy.new))) }
+        ensures cuts { IfOk result (λ replies. AnswersCut K.ChannelPort events.now replies.items
+            (assembly self.old (D.state device.old) (E.gauge energy.old))
+            (assembly self.new (D.state device.new) (E.gauge energy.new))) }
+        ensures cut { IfOk result (λ replies. self.new.terms.cut ≡ self.new.saved) }
         ensures honest { IfOk result (λ replies. StaysWhereHonest K.ChannelPort replies.items
             (assembly self.old (D.state device.old) (E.gauge energy.old))
             (assembly self.new (D.state device.new) (E.gauge energy.new))) }
@@ -71,8 +78,10 @@ impl<K: ChannelPort> Module<K> {
         ensures energy { IfErr result (λ error. energy.new ≡ energy.old) }
     {
         let mut replies = Vec::with_capacity(alloc, events.len())?;
+        let _gone = self.cut();
         for event in events {
             replies.push_reserved(self.apply(*event, device, energy));
+            let _gone = self.cut();
         }
         Ok(replies)
     }

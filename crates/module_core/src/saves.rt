@@ -8,7 +8,7 @@ ghost use Rattle.slot_store.specs.Steps.{reach_of};
 ghost use Rattle.slot_store.specs.Runs.{plan_of, next_of};
 ghost use Rattle.nv_machine.specs.State.{RunningSave, Store};
 ghost use Rattle.nv_machine.specs.Machine.{step_call};
-ghost use Rattle.module_core.specs.Saving.{count_in, IsFaultOf, IsOfLines, IsSizedFor, MakesAtMost, TellsFault, TellsStep, store_after, IsSaveOver};
+ghost use Rattle.module_core.specs.Saving.{count_in, IsFaultOf, IsOfLines, IsSizedFor, MakesAtMost, MakesBetween, TellsFault, TellsStep, store_after, IsSaveOver};
 
 use save_device::SaveDevice;
 use slot_store::{Newest, SaveRun, Step};
@@ -99,6 +99,8 @@ impl Saves {
             → IsOfLines lines self.new.saving }
         ensures most { (most : ℕ) → MakesAtMost most self.old.saving
             → MakesAtMost most self.new.saving }
+        ensures between { (least most : ℕ) → MakesBetween least most self.old.saving
+            → MakesBetween least most self.new.saving }
         ensures size { (lines : ℕ) → HasSize lines (D.state device.old)
             → HasSize lines (D.state device.new) }
     {
@@ -127,6 +129,8 @@ impl Saves {
             → IsOfLines lines self.new.saving }
         ensures most { (most : ℕ) → (plan_of run).generation ≤ most
             → MakesAtMost most self.new.saving }
+        ensures between { (least most : ℕ) → least ≤ count_in run → count_in run ≤ most
+            → MakesBetween least most self.new.saving }
         ensures fails { FailsIn run again result self.old self.new }
     {
         if !again {

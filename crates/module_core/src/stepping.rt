@@ -51,7 +51,7 @@ impl<K: ChannelPort> SaveSource for Arrays<'_, K> {
 
 impl<K: ChannelPort> Module<K> {
     ghost use Rattle.module_core.specs.Stepping.{MakesReadyStep};
-    ghost use Rattle.module_core.specs.Stands.{Matches, Answers, HasDevice, SameButHold, assembly, lines_of_module, setup_of};
+    ghost use Rattle.module_core.specs.Stands.{Matches, Answers, HasDevice, SameButHold, assembly, saved_after, lines_of_module, setup_of};
 
     // A write that the page of the coming step is to have waits for its array.
     fn must_wait(&self, step: Step) -> bool
@@ -96,6 +96,7 @@ impl<K: ChannelPort> Module<K> {
         ensures call { (run : SaveRun) → self.old.saves.saving ≡ Some run
             → MakesCalls (step_call (plan_of run).closed (next_of run) ∷ []) (is_made result)
             (D.state device.old).calls (D.state device.new).calls }
+        ensures saved { self.new.saved ≡ saved_after (Reply.SaveStep result) self.old.saved }
         ensures setup { setup_of K.ChannelPort self.new ≡ setup_of K.ChannelPort self.old }
         ensures size { HasDevice K.ChannelPort self.new (D.state device.new) }
     {
@@ -112,6 +113,7 @@ impl<K: ChannelPort> Module<K> {
             }
             Ok(None) => {
                 self.persisted = persisted_after_save(self.mode, self.persisted, count);
+                self.saved = count;
                 self.mode = self.mode.after(Move::EndSave);
                 StepReply::Saved {
                     generation: self.saves.newest.generation,

@@ -10,17 +10,23 @@ ghost use Rattle.module_core.specs.HonestCalls.{IsFaultless, SavesWhereHonest, S
 ghost use Rattle.module_core.specs.InTurn.{IsCharged, AnswersCall, AnswersCalls};
 ghost use Rattle.module_core.specs.ModuleLives.{HasAnswered, LifeSoFar};
 ghost use Rattle.module_core.specs.Opening.{opened_with};
-ghost use Rattle.module_core.specs.Stands.{Assembly, ModuleStands};
+ghost use Rattle.module_core.specs.Stands.{Assembly, IsCut, ModuleStands, assembly};
+ghost use Rattle.module_core.specs.declared.module.Module.{Module};
 ghost use Rattle.slot_store.specs.declared.head.Head.{Head};
+ghost use Rattle.save_device.specs.Device.{DeviceState};
+ghost use Rattle.energy_budget.specs.Gauge.{Gauge};
 
 use channel_port::ChannelPort;
 
-/// Calls of a module in turn, each with the same device and the same gauge, which may be charged between two of them, answer
-/// the list of their events, as `Module::run` does: no call, one call, and calls after others. So what the laws say of lists of
+/// Calls of a module in turn, each with the same device and the same gauge, answer the list of their events, as `Module::run`
+/// does: no call, one call, and calls after others. Between two of them the gauge may be charged, and the stored writes may be cut. So what the laws say of lists of
 /// events they say of single calls: a life begins where a module stands for a new one, and goes on by calls.
 pub fn calls_in_turn<K: ChannelPort>()
     ensures rests { (old new : Assembly K.ChannelPort) → IsCharged K.ChannelPort old new
         → AnswersCalls K.ChannelPort [] [] old new }
+    ensures cuts { (old new : Module K K.ChannelPort) (device : DeviceState) (gauge : Gauge)
+        → IsCut K.ChannelPort old new → AnswersCalls K.ChannelPort [] []
+        (assembly old device gauge) (assembly new device gauge) }
     ensures calls { (event : Event) (reply : Reply) (old new : Assembly K.ChannelPort)
         → AnswersCall K.ChannelPort event reply old new
         → AnswersCalls K.ChannelPort (event ∷ []) (reply ∷ []) old new }

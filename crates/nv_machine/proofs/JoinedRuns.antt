@@ -3,7 +3,7 @@ use Rattle.std.proofs.lemmas.Bool.{cases_lt}
 use Rattle.energy_budget.proofs.Charging.{rises_none, rises_twice}
 use Rattle.energy_budget.specs.Charging.{RisesTo}
 use Rattle.nv_machine.specs.Headline.{Happens, HappensNext, MayCut, MayPause, Pause, Rests, RunOf, pause_at, paused}
-use Rattle.nv_machine.proofs.Common.{List, [], ap, arith, refl, subst, ⊎_elim, ℕ, ◌++◌, ◌∙◌, ◌∷◌, ◌<◌, ◌≤◌, ◌≡◌, Machine, newest_of, Run, Setup, World, Event, Reply}
+use Rattle.nv_machine.proofs.Common.{List, [], ap, arith, refl, subst, ⊎_elim, ℕ, ◌++◌, ◌∙◌, ◌∷◌, ◌<◌, ◌≤◌, ◌≡◌, Machine, newest_of, Gauge, Run, Setup, World, Event, Reply}
 
 -- a run, and one that goes on from its end: what is between the two may stand before the next event
 module _ {P : Type 0} (Between : P → P → Type 0) (Goes : Event → Reply → P → P → Type 0) (twice : (a b c : P) → Between a b → Between b c → Between a c)
@@ -22,8 +22,14 @@ module _ {P : Type 0} (Between : P → P → Type 0) (Goes : Event → Reply →
 pub cut_stays : (m : Machine) → MayCut m m.cut
 cut_stays m = record { rises = omega arith; most = λ less. absurd (omega (arith, less)) }
 
+pub no_pause : (w : World) → MayPause w (pause_at w)
+no_pause w = record { gauge = rises_none w.gauge; cut = cut_stays w.machine }
+
+pub charged_only : (w : World) (gauge : Gauge) → RisesTo w.gauge gauge → MayPause w (record { gauge = gauge; cut = w.machine.cut })
+charged_only w gauge rises = record { gauge = rises; cut = cut_stays w.machine }
+
 pub rests_here : (w : World) → Rests w w
-rests_here w = record { may = record { gauge = rises_none w.gauge; cut = cut_stays w.machine }; is = refl }
+rests_here w = record { may = no_pause w; is = refl }
 
 pub rests_paused : (w : World) (pause : Pause) → MayPause w pause → Rests w (paused pause w)
 rests_paused w pause may = record { may = may; is = refl }
@@ -35,7 +41,7 @@ cut_twice m first second one two = record {
   most = λ less. ⊎_elim two.most (λ least. let here : first ≤ (newest_of m).count = one.most (omega (arith, less, least)) in omega (arith, here, least)) (cases_lt first second);
 }
 
-pause_twice : (a : World) (first second : Pause) → MayPause a first → MayPause (paused first a) second → MayPause a second
+pub pause_twice : (a : World) (first second : Pause) → MayPause a first → MayPause (paused first a) second → MayPause a second
 pause_twice a first second one two = record {
   gauge = rises_twice a.gauge first.gauge second.gauge one.gauge two.gauge;
   cut = cut_twice a.machine first.cut second.cut one.cut two.cut;
@@ -49,7 +55,7 @@ rests_twice a b c first second = record {
 
 -- an event without a pause before it
 pub happens_now : (setup : Setup) (event : Event) (reply : Reply) (old new : World) → Happens setup event reply old new → HappensNext setup event reply old new
-happens_now setup event reply old new happens = record { pause = pause_at old; may = record { gauge = rises_none old.gauge; cut = cut_stays old.machine }; happens = happens }
+happens_now setup event reply old new happens = record { pause = pause_at old; may = no_pause old; happens = happens }
 
 -- there was a pause some time before the next event
 happens_later : (setup : Setup) (event : Event) (reply : Reply) (old mid new : World) → Rests old mid → HappensNext setup event reply mid new → HappensNext setup event reply old new

@@ -178,6 +178,9 @@ invariant_of-self g c =
       unspent = λ backed. let e : c.step.new.self.newest.generation ≡ old.saves.newest.generation = ap (λ (x : Newest). x.generation) c.in-Err-Again.ensures.told in omega (arith, e, old.unspent backed);
       running = c.in-Err-Again.ensures.lines (lines_of_module g.K.ChannelPort old) old.running;
       most = λ armed. c.in-Err-Again.ensures.most (2 ^ 62) (old.most armed);
+      stored = old.stored;
+      settled = old.settled;
+      making = c.in-Err-Again.ensures.between old.saved old.accepted old.making;
     }
 
 pub invariant_of-self-in-Err-Ended-clause-below : goal.invariant_of-self-in-Err-Ended-clause-below
@@ -216,4 +219,10 @@ invariant_of-self-in-Some-this g c =
       unspent = λ backed. let e : c.step.new.self.newest.generation ≡ old.saves.newest.generation = ap (λ (x : Newest). x.generation) same in omega (arith, e, old.unspent backed);
       running = c.in-Ok-Some.ensures.lines (lines_of_module g.K.ChannelPort old) old.running;
       most = λ armed. c.in-Ok-Some.ensures.most (2 ^ 62) (old.most armed);
+      stored = old.stored;
+      settled = old.settled;
+      making = c.in-Ok-Some.ensures.between old.saved old.accepted old.making;
     }
+
+pub invariant_of-self-in-Err-Ended-clause-making : goal.invariant_of-self-in-Err-Ended-clause-making
+invariant_of-self-in-Err-Ended-clause-making g c = let old = c.args.self.now in c.in-Err-Ended.ensures.between old.saved old.accepted old.making

@@ -41,11 +41,11 @@ returns-clause-answers g c = λ device gauge.
       step = (refl, (c.in-Ok.ensures.admitted m h, record { number = h.accepted; mark = persisted; puts = puts; is = refl }));
       matches = search rules;
       moves = inl (refl, refl);
-    }) refl (λ m h. tt)
+    }) refl refl (λ m h. tt)
 
 pub returns-in-Err-clause-answers : goal.returns-in-Err-clause-answers
 returns-in-Err-clause-answers g c = λ device gauge.
-    unmoved g.K.ChannelPort (events.Write c.args.write) (replies.Write (Err c.in-Err.refusal)) c.args.self.now device gauge (λ m h. (refl, (c.in-Err.ensures.refusal m h, refl))) refl (λ m h. tt)
+    unmoved g.K.ChannelPort (events.Write c.args.write) (replies.Write (Err c.in-Err.refusal)) c.args.self.now device gauge (λ m h. (refl, (c.in-Err.ensures.refusal m h, refl))) refl refl (λ m h. tt)
 
 pub invariant_of-self-clause-below : goal.invariant_of-self-clause-below
 invariant_of-self-clause-below g c = below_joined c.args.self.now.accepted c.in-Ok.place.channel (view_of g.K.ChannelPort c.args.self.now.channels).waits (view_of g.K.ChannelPort c.put.new.self).waits c.put.ensures.puts c.args.self.now.below
@@ -55,3 +55,6 @@ invariant_of-self-clause-running g c = subst (λ (v : ChannelsView). IsOfLines v
 
 pub put-requires-clause-mains : goal.put-requires-clause-mains
 put-requires-clause-mains g c = c.args.self.now.mains c.in-Ok.ensures.running
+
+pub invariant_of-self-clause-making : goal.invariant_of-self-clause-making
+invariant_of-self-clause-making g c = λ run some. let here = c.args.self.now.making run some in (here.0, omega (arith, here.1))
