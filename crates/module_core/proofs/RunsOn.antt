@@ -40,6 +40,13 @@ module _ {K : Type 0} (L : Ghosts K) where
     happens = subst (λ (p : Point L). HappensAt L setup event reply (paused_at next.pause p) new) rests.is next.happens;
   }
 
+  -- a pause behind a run
+  pub run_rests : (setup : Setup) (events : List Event) (replies : List Reply) (old mid new : Point L) → RunAt L setup events replies old mid → RestsAt mid new → RunAt L setup events replies old new
+  run_rests setup [] [] old mid new run rests = rests_twice old mid new run rests
+  run_rests setup (event ∷ events) (reply ∷ replies) old mid new run rests = (run.0, run.1, run_rests setup events replies run.0 mid new run.2 rests)
+  run_rests setup [] (reply ∷ replies) old mid new none rests = absurd none
+  run_rests setup (event ∷ events) [] old mid new none rests = absurd none
+
   -- one event alone
   pub one_run : (setup : Setup) (event : Event) (reply : Reply) (old new : Point L) → HappensAt L setup event reply old new → RunAt L setup (event ∷ []) (reply ∷ []) old new
   one_run setup event reply old new happens = (new, record { pause = pause_at old.world; may = no_pause old.world; happens = happens }, rests_at new)

@@ -94,6 +94,11 @@ module _ {K : Type 0} (L : Ghosts K) where
     pub accepted : new.accepted ≡ old.accepted
     pub persisted : new.persisted ≡ old.persisted
 
+  -- No cut was made, and the newest image holds as many writes as the reply tells, or as before.
+  pub record KeepsStored (reply : Reply) (old new : Module K L) : Type 0 where
+    pub cut : new.terms.cut ≡ old.terms.cut
+    pub saved : new.saved ≡ saved_after reply old.saved
+
   -- Nothing but the cut has changed: it stays, or moves forward to at most the end of the newest image.
   pub record IsCut (old new : Module K L) : Type 0 where
     pub terms : new.terms ≡ record old.terms { cut = new.terms.cut }

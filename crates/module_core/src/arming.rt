@@ -10,7 +10,7 @@ use save_device::SaveDevice;
 use slot_store::mark_armed;
 
 impl<K: ChannelPort> Module<K> {
-    ghost use Rattle.module_core.specs.Stands.{Answers, HasDevice, setup_of, assembly};
+    ghost use Rattle.module_core.specs.Stands.{Answers, HasDevice, KeepsStored, setup_of, assembly};
 
     /// Arms: from then on each accepted write is persistent at once, since the gauge has the energy for its save. The newest
     /// image is marked first, which a stop may leave done or not done; a fault of the device leaves the module disarmed.
@@ -23,6 +23,7 @@ impl<K: ChannelPort> Module<K> {
         ensures answers { Answers K.ChannelPort Event.Arm (Reply.Arm result)
             (assembly self.old (D.state device.old) (E.gauge energy.old))
             (assembly self.new (D.state device.new) (E.gauge energy.new)) }
+        ensures stored { KeepsStored K.ChannelPort (Reply.Arm result) self.old self.new }
         ensures setup { setup_of K.ChannelPort self.new ≡ setup_of K.ChannelPort self.old }
         ensures size { HasDevice K.ChannelPort self.new (D.state device.new) }
     {

@@ -61,10 +61,14 @@ impl<K: ChannelPort> Module<K> {
 impl<K: ChannelPort> Module<K> {
     ghost use Rattle.module_core.specs.Closing.{ClosesDrained};
     ghost use Rattle.module_core.specs.Losing.{BeginsLoss, ConcludesLoss, LosesAlone};
-    ghost use Rattle.module_core.specs.Stands.{HasDevice, SameButSaves, setup_of, assembly};
+    ghost use Rattle.module_core.specs.Stands.{HasDevice, SameButSaves, saved_after, setup_of, assembly};
 
     // The beginning of a loss of mains: what it comes to where nothing is to be saved; else a save of all accepted writes is begun.
     fn begin_loss<E: Energy>(&mut self, energy: &mut E) -> Option<Loss>
+        ensures saved { self.new.saved ≡ self.old.saved }
+        ensures terms { self.new.terms ≡ self.old.terms }
+        ensures unsaved { IfSome result (λ lost. saved_after (Reply.Lose lost) self.old.saved
+            ≡ self.old.saved) }
         ensures over { IfSome result (λ lost. LosesAlone K.ChannelPort lost
             self.old (E.gauge energy.old) self.new (E.gauge energy.new)) }
         ensures begins { IfNone result ((device : DeviceState) → BeginsLoss K.ChannelPort
@@ -123,6 +127,8 @@ impl<K: ChannelPort> Module<K> {
         ensures concludes { ConcludesLoss K.ChannelPort drained result
             (assembly self.old (D.state device.old) (E.gauge energy.old))
             (assembly self.new (D.state device.new) (E.gauge energy.new)) }
+        ensures saved { self.new.saved ≡ saved_after (Reply.Lose result) self.old.saved }
+        ensures terms { self.new.terms ≡ self.old.terms }
         ensures size { HasDevice K.ChannelPort self.new (D.state device.new) }
     {
         match self.close(drained, device, energy) {
@@ -144,7 +150,7 @@ impl<K: ChannelPort> Module<K> {
     ghost use Rattle.module_core.specs.Covering.{IsCovered};
     ghost use Rattle.module_core.specs.HonestCalls.{SavesWhereHonest};
     ghost use Rattle.module_core.specs.Losing.{LosesBy};
-    ghost use Rattle.module_core.specs.Stands.{Answers, HasDevice, setup_of, assembly};
+    ghost use Rattle.module_core.specs.Stands.{Answers, HasDevice, KeepsStored, setup_of, assembly};
 
     /// Mains were lost. Where acknowledged writes are to be saved, the channels are drained one after another and all accepted
     /// writes are saved, each action paid for first; a payment that is refused or a fault of the device breaks it off. Disarmed,
@@ -165,6 +171,7 @@ impl<K: ChannelPort> Module<K> {
         ensures honest { SavesWhereHonest K.ChannelPort result
             (assembly self.old (D.state device.old) (E.gauge energy.old))
             (assembly self.new (D.state device.new) (E.gauge energy.new)) }
+        ensures stored { KeepsStored K.ChannelPort (Reply.Lose result) self.old self.new }
         ensures setup { setup_of K.ChannelPort self.new ≡ setup_of K.ChannelPort self.old }
         ensures size { HasDevice K.ChannelPort self.new (D.state device.new) }
     {
@@ -205,6 +212,7 @@ impl<K: ChannelPort> Module<K> {
         ensures honest { SavesWhereHonest K.ChannelPort result
             (assembly self.old (D.state device.old) (E.gauge energy.old))
             (assembly self.new (D.state device.new) (E.gauge energy.new)) }
+        ensures stored { KeepsStored K.ChannelPort (Reply.Lose result) self.old self.new }
         ensures setup { setup_of K.ChannelPort self.new ≡ setup_of K.ChannelPort self.old }
         ensures size { HasDevice K.ChannelPort self.new (D.state device.new) }
     {

@@ -63,7 +63,7 @@ fn persisted_after_write(mode: Mode, persisted: u64, accepted: u64) -> u64
 impl<K: ChannelPort> Module<K> {
     ghost use Rattle.nv_machine.specs.Refusals.{is_low, need_for, saves_of, write_refusal, read_refusal};
     ghost use Rattle.nv_machine.specs.Moves.{begun, disarming};
-    ghost use Rattle.module_core.specs.Stands.{Matches, Follows, FollowsReading, Answers, AnswersAlone, HasChannel, assembly, lines_of_module, setup_of};
+    ghost use Rattle.module_core.specs.Stands.{Matches, Follows, FollowsReading, Answers, AnswersAlone, HasChannel, KeepsStored, assembly, lines_of_module, setup_of};
 
     // What the gauge has to show while this many writes wait.
     pub(crate) fn need_for(&self, pending: u64) -> u64
@@ -119,6 +119,7 @@ impl<K: ChannelPort> Module<K> {
     pub fn write(&mut self, write: Write) -> Result<Accepted, WriteRefusal>
         ensures answers { AnswersAlone K.ChannelPort (Event.Write write) (Reply.Write result)
             self.old self.new }
+        ensures stored { KeepsStored K.ChannelPort (Reply.Write result) self.old self.new }
         ensures setup { setup_of K.ChannelPort self.new ≡ setup_of K.ChannelPort self.old }
     {
         let place = match self.admit_write(write.line) {
@@ -165,6 +166,7 @@ impl<K: ChannelPort> Module<K> {
     pub fn read(&mut self, line: u64) -> Result<Got, ReadRefusal>
         ensures answers { AnswersAlone K.ChannelPort (Event.Read line) (Reply.Read result)
             self.old self.new }
+        ensures stored { KeepsStored K.ChannelPort (Reply.Read result) self.old self.new }
         ensures setup { setup_of K.ChannelPort self.new ≡ setup_of K.ChannelPort self.old }
     {
         match self.admit_read(line) {
@@ -177,6 +179,7 @@ impl<K: ChannelPort> Module<K> {
     pub fn collect(&mut self, ticket: Ticket) -> Collected
         ensures answers { AnswersAlone K.ChannelPort (Event.Collect ticket) (Reply.Collect result)
             self.old self.new }
+        ensures stored { KeepsStored K.ChannelPort (Reply.Collect result) self.old self.new }
         ensures setup { setup_of K.ChannelPort self.new ≡ setup_of K.ChannelPort self.old }
     {
         self.channels.collect(ticket)
@@ -187,6 +190,7 @@ impl<K: ChannelPort> Module<K> {
         requires { HasChannel K.ChannelPort self.old channel }
         ensures answers { AnswersAlone K.ChannelPort (Event.Work channel) (Reply.Work result)
             self.old self.new }
+        ensures stored { KeepsStored K.ChannelPort (Reply.Work result) self.old self.new }
         ensures setup { setup_of K.ChannelPort self.new ≡ setup_of K.ChannelPort self.old }
     {
         if self.mode.has_ended() {
@@ -211,6 +215,7 @@ impl<K: ChannelPort> Module<K> {
         requires armed { is_armed self.old.mode ≡ true → self.old.saves.newest.generation < 2 ^ 62 }
         ensures step { Follows K.ChannelPort (λ m n. n ≡ begun m) self.old self.new }
         ensures saved { self.new.saved ≡ self.old.saved }
+        ensures terms { self.new.terms ≡ self.old.terms }
         ensures setup { setup_of K.ChannelPort self.new ≡ setup_of K.ChannelPort self.old }
     {
         let count = self.accepted;
@@ -224,6 +229,7 @@ impl<K: ChannelPort> Module<K> {
         requires { is_armed self.old.mode ≡ true }
         ensures step { Follows K.ChannelPort (λ m n. n ≡ disarming m) self.old self.new }
         ensures saved { self.new.saved ≡ self.old.saved }
+        ensures terms { self.new.terms ≡ self.old.terms }
         ensures setup { setup_of K.ChannelPort self.new ≡ setup_of K.ChannelPort self.old }
     {
         self.mode = Mode::Disarming;
@@ -234,6 +240,7 @@ impl<K: ChannelPort> Module<K> {
     pub(crate) fn take_reading(&mut self, reading: u64) -> bool
         ensures step { FollowsReading K.ChannelPort reading result self.old self.new }
         ensures saved { self.new.saved ≡ self.old.saved }
+        ensures terms { self.new.terms ≡ self.old.terms }
         ensures stays { result ≡ false → self.new.saves ≡ self.old.saves }
         ensures mode { result ≡ false → self.new.mode ≡ self.old.mode }
         ensures setup { setup_of K.ChannelPort self.new ≡ setup_of K.ChannelPort self.old }
@@ -253,6 +260,7 @@ impl<K: ChannelPort> Module<K> {
             → Answers K.ChannelPort Event.Sense (Reply.Sense result)
             (assembly self.old device (E.gauge energy.old))
             (assembly self.new device (E.gauge energy.new)) }
+        ensures stored { KeepsStored K.ChannelPort (Reply.Sense result) self.old self.new }
         ensures setup { setup_of K.ChannelPort self.new ≡ setup_of K.ChannelPort self.old }
     {
         if !self.mode.reads_gauge() {
@@ -268,6 +276,7 @@ impl<K: ChannelPort> Module<K> {
     pub fn disarm(&mut self) -> Result<DisarmReply, ArmRefusal>
         ensures answers { AnswersAlone K.ChannelPort Event.Disarm (Reply.Disarm result)
             self.old self.new }
+        ensures stored { KeepsStored K.ChannelPort (Reply.Disarm result) self.old self.new }
         ensures setup { setup_of K.ChannelPort self.new ≡ setup_of K.ChannelPort self.old }
     {
         if let Some(refusal) = self.mode.disarm_refusal() {
@@ -297,6 +306,7 @@ impl<K: ChannelPort> Module<K> {
     pub fn save_begin(&mut self) -> Result<(), ArmRefusal>
         ensures answers { AnswersAlone K.ChannelPort Event.SaveBegin (Reply.SaveBegin result)
             self.old self.new }
+        ensures stored { KeepsStored K.ChannelPort (Reply.SaveBegin result) self.old self.new }
         ensures setup { setup_of K.ChannelPort self.new ≡ setup_of K.ChannelPort self.old }
     {
         if let Some(refusal) = self.mode.save_refusal(self.save_state()) {

@@ -51,7 +51,7 @@ impl<K: ChannelPort> SaveSource for Arrays<'_, K> {
 
 impl<K: ChannelPort> Module<K> {
     ghost use Rattle.module_core.specs.Stepping.{MakesReadyStep};
-    ghost use Rattle.module_core.specs.Stands.{Matches, Answers, HasDevice, SameButHold, assembly, saved_after, lines_of_module, setup_of};
+    ghost use Rattle.module_core.specs.Stands.{Matches, Answers, HasDevice, KeepsStored, SameButHold, assembly, saved_after, lines_of_module, setup_of};
 
     // A write that the page of the coming step is to have waits for its array.
     fn must_wait(&self, step: Step) -> bool
@@ -97,6 +97,7 @@ impl<K: ChannelPort> Module<K> {
             → MakesCalls (step_call (plan_of run).closed (next_of run) ∷ []) (is_made result)
             (D.state device.old).calls (D.state device.new).calls }
         ensures saved { self.new.saved ≡ saved_after (Reply.SaveStep result) self.old.saved }
+        ensures terms { self.new.terms ≡ self.old.terms }
         ensures setup { setup_of K.ChannelPort self.new ≡ setup_of K.ChannelPort self.old }
         ensures size { HasDevice K.ChannelPort self.new (D.state device.new) }
     {
@@ -138,6 +139,7 @@ impl<K: ChannelPort> Module<K> {
         ensures answers { Answers K.ChannelPort Event.SaveStep (Reply.SaveStep result)
             (assembly self.old (D.state device.old) (E.gauge energy.old))
             (assembly self.new (D.state device.new) (E.gauge energy.new)) }
+        ensures stored { KeepsStored K.ChannelPort (Reply.SaveStep result) self.old self.new }
         ensures setup { setup_of K.ChannelPort self.new ≡ setup_of K.ChannelPort self.old }
         ensures size { HasDevice K.ChannelPort self.new (D.state device.new) }
     {
