@@ -18,11 +18,15 @@ module _ {K : Type 0} (L : Ghosts K) where
       subst (λ (a : Assembly L). AnswersCalls L [] [] old a) (sym charged.is)
       (record { answers = none_answered L old.it old.device old.gauge new.gauge charged.gauge; setup = refl })
 
+  pub cut_setup : (old new : Module K L) → IsCut L old new → setup_of L new ≡ setup_of L old
+  cut_setup old new cut =
+      ap (λ (c : ChannelSet K L). record { shape = shape_of L c; trail = new.terms.trail }) cut.channels
+      ∙ ap (λ (t : LifeTerms). record { shape = shape_of L old.channels; trail = t.trail }) cut.terms
+
   pub cuts_in_turn : (old new : Module K L) (device : DeviceState) (gauge : Gauge) → IsCut L old new → AnswersCalls L [] [] (assembly old device gauge) (assembly new device gauge)
   cuts_in_turn old new device gauge cut = record {
     answers = cut_answered L old new device gauge cut;
-    setup = ap (λ (c : ChannelSet K L). record { shape = shape_of L c; trail = new.terms.trail }) cut.channels
-        ∙ ap (λ (t : LifeTerms). record { shape = shape_of L old.channels; trail = t.trail }) cut.terms;
+    setup = cut_setup old new cut;
   }
 
   pub calls_in_turn : (event : Event) (reply : Reply) (old new : Assembly L) → AnswersCall L event reply old new → AnswersCalls L (event ∷ []) (reply ∷ []) old new

@@ -102,16 +102,20 @@ module _ {K : Type 0} (L : Ghosts K) where
     saved = cut.saved ∙ s.saved;
   }
 
+  pub cut_rests : (old new : Module K L) (device : DeviceState) (gauge : Gauge) (m : Machine) → IsCut L old new → ModuleStands L old device m
+      → RestsAt (point_of L (assembly old device gauge) m) (point_of L (assembly new device gauge) (record m { cut = new.terms.cut }))
+  cut_rests old new device gauge m cut stands = record {
+    may = record { gauge = rises_none gauge; cut = may_cut old new device m cut stands };
+    is = ap (λ (c : ChannelSet K L). record { channels = c; world = record { machine = record m { cut = new.terms.cut }; device = device; gauge = gauge } }) cut.channels;
+  }
+
   -- no event, while the stored writes are cut
   pub cut_answered : (old new : Module K L) (device : DeviceState) (gauge : Gauge) → IsCut L old new → AnswersAll L [] [] (assembly old device gauge) (assembly new device gauge)
   cut_answered old new device gauge cut m stands =
       let n : Machine = record m { cut = new.terms.cut } in let after = cut_stands old new device m cut stands in record {
         last = n;
         stands = after;
-        run = record {
-          may = record { gauge = rises_none gauge; cut = may_cut old new device m cut stands };
-          is = ap (λ (c : ChannelSet K L). record { channels = c; world = record { machine = n; device = device; gauge = gauge } }) cut.channels;
-        };
+        run = cut_rests old new device gauge m cut stands;
         left = λ bytes left.
             left_after n after.guarded (restored (lines_of_module L old) bytes) (stop_now (lines_of_module L old) m.store old.saves.saving device stands.holds bytes left);
       }

@@ -21,6 +21,20 @@ impl<K: ChannelPort> Module<K> {
         gone
     }
 
+    /// How many writes the newest image holds that is known settled.
+    pub fn saved(&self) -> u64
+        ensures { result ≡ self.now.saved }
+    {
+        self.saved
+    }
+
+    /// The number of the life's first write.
+    pub fn start(&self) -> u64
+        ensures { result ≡ self.now.terms.start }
+    {
+        self.terms.start
+    }
+
     /// The number of the first write that is stored.
     pub fn stored_from(&self) -> u64
         ensures { result ≡ self.now.terms.cut }

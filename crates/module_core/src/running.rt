@@ -78,7 +78,7 @@ impl<K: ChannelPort> Module<K> {
         ensures energy { IfErr result (λ error. energy.new ≡ energy.old) }
     {
         let mut replies = Vec::with_capacity(alloc, events.len())?;
-        let _gone = self.cut();
+        let _first = self.cut();
         for event in events {
             replies.push_reserved(self.apply(*event, device, energy));
             let _gone = self.cut();

@@ -17,7 +17,7 @@ pub use Rattle.module_core.specs.Stands.{Answers, AnswersAlone, Assembly, Happen
 pub use Rattle.module_core.proofs.CallsInTurn.{answered_none, life_begins, life_charged, life_on, none_answered_on, runs_on}
 pub use Rattle.nv_profile.specs.declared.profile.Profile.{Profile}
 pub use Rattle.nv_session.specs.Coming.{Comes, ComesAlone, ComesTo, IsOneEvent, Tale}
-pub use Rattle.nv_session.specs.Living.{GoesOnAlone, GoesOnBy, HasLife, IsLiving, IsShapeFor, IsWork, LivesOn, RunsWith, SessionAt, device_state, session_at, set_to}
+pub use Rattle.nv_session.specs.Living.{GoesOnAlone, GoesOnBy, HasLife, IsCutToSaved, IsLiving, IsShapeFor, IsWork, LivesOn, RunsWith, SameStored, SessionAt, device_state, session_at, set_to}
 pub use Rattle.nv_session.specs.Restoring.{FindsPrefix, FindsPrefixOf, FindsSaved, GoesBackTo, IsLeftBy, KeepsPrefixOf, Revives, TellsImage, TellsPrefix}
 pub use Rattle.nv_session.specs.ReadTurns.{AwaitsLine, IsNothing, ReadsLine, TakesReadTurns}
 pub use Rattle.nv_session.specs.SaveTurns.{MakesSave, TakesSteps, WorksBehind, WorksEach, is_underway}

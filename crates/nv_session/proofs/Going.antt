@@ -1,9 +1,9 @@
 -- How the life of a session goes on.
-use Rattle.std.proofs.Common.{◌≡◌, ℕ, List, ap, refl, sym, subst, Option, Some, None}
+use Rattle.std.proofs.Common.{◌≡◌, ◌∙◌, ℕ, List, ap, refl, sym, subst, Option, Some, None}
 use Rattle.std.proofs.Math.Logic.{∥∥₁_map}
 use Rattle.std.specs.Prelude.{MatchOption}
 use Rattle.nv_session.proofs.Common.{Assembly, Comes, ComesAlone, ComesTo, DeviceState, Event, Ghosts, GoesOnAlone, GoesOnBy}
-use Rattle.nv_session.proofs.Common.{HasDevice, HasLife, IsLiving, IsShapeFor, LivesOn, Machine, Module, Profile, Reply, SessionAt}
+use Rattle.nv_session.proofs.Common.{HasDevice, HasLife, IsCutToSaved, IsLiving, IsShapeFor, LivesOn, Machine, Module, Profile, Reply, SessionAt}
 use Rattle.nv_session.proofs.Common.{Setup, Tale, assembly, life_charged, life_on, lines_of, session_at, setup_of}
 use Rattle.slot_store.specs.Slots.{HasSize}
 use Rattle.energy_budget.specs.Charging.{RisesTo}
@@ -45,11 +45,12 @@ module _ {K : Type 0} (L : Ghosts K) where
   running_or other None = other
 
   pub begins_living : (profile : Profile) (it : Module K L) (device : DeviceState) (gauge : Gauge) → HasSize (lines_of profile.checked.geometry) device
-      → IsShapeFor profile (setup_of L it).shape → HasLife L it device gauge → IsLiving L profile (Some it) device gauge
-  begins_living profile it device gauge size fits lives = record {
+      → IsShapeFor profile (setup_of L it).shape → HasLife L it device gauge → IsCutToSaved L it → IsLiving L profile (Some it) device gauge
+  begins_living profile it device gauge size fits lives cut = record {
     size = size;
     fits = λ other same. subst (λ (l : Module K L). IsShapeFor profile (setup_of L l).shape) (ap (running_or it) same) fits;
     lives = λ other same. subst (λ (l : Module K L). HasLife L l device gauge) (ap (running_or it) same) lives;
+    cut = λ other same. subst (λ (l : Module K L). IsCutToSaved L l) (ap (running_or it) same) cut;
   }
 
   still_fits : (profile : Profile) (life : Option (Module K L)) (old new : Assembly L) → life ≡ Some old.it → IsLiving L profile life old.device old.gauge → setup_of L new.it ≡ setup_of L old.it
@@ -57,12 +58,17 @@ module _ {K : Type 0} (L : Ghosts K) where
   still_fits profile life old new was living same = subst (λ (s : Setup). IsShapeFor profile s.shape) (sym same) (living.fits old.it was)
 
   lives_with : (Told : Tale) (profile : Profile) (life : Option (Module K L)) (old new : Assembly L) → life ≡ Some old.it → IsLiving L profile life old.device old.gauge
-      → Comes L Told old new → setup_of L new.it ≡ setup_of L old.it → HasSize (lines_of profile.checked.geometry) new.device → IsLiving L profile (Some new.it) new.device new.gauge
-  lives_with Told profile life old new was living comes same size =
+      → Comes L Told old new → setup_of L new.it ≡ setup_of L old.it → HasSize (lines_of profile.checked.geometry) new.device → IsCutToSaved L new.it → IsLiving L profile (Some new.it) new.device new.gauge
+  lives_with Told profile life old new was living comes same size cut =
       begins_living profile new.it new.device new.gauge size (still_fits profile life old new was living same)
       (∥∥₁_map (living.lives old.it was)
       (λ (so : LifeSoFar L old).
-      let a = so.answered.runs in let c : ComesTo L Told old a.last new = comes a.last a.stands in life_on L old new so c.events c.replies same c.runs))
+      let a = so.answered.runs in let c : ComesTo L Told old a.last new = comes a.last a.stands in life_on L old new so c.events c.replies same c.runs)) cut
+
+  -- what is stored stays cut where a call tells of no save
+  pub still_cut : (profile : Profile) (life : Option (Module K L)) (old new : Module K L) (device : DeviceState) (gauge : Gauge) → life ≡ Some old → IsLiving L profile life device gauge
+      → new.terms.cut ≡ old.terms.cut → new.saved ≡ old.saved → IsCutToSaved L new
+  still_cut profile life old new device gauge was living cut saved = cut ∙ living.cut old was ∙ sym saved
 
   -- so it does where its gauge is charged
   pub charged_living : (profile : Profile) (life : Option (Module K L)) (device : DeviceState) (old new : Gauge) → RisesTo old new → IsLiving L profile life device old → IsLiving L profile life device new
@@ -70,17 +76,18 @@ module _ {K : Type 0} (L : Ghosts K) where
     size = living.size;
     fits = living.fits;
     lives = λ it was. ∥∥₁_map (living.lives it was) (life_charged L (assembly it device old) new rises);
+    cut = living.cut;
   }
 
   -- after calls that may call the device
   pub lives_on : (Told : Tale) (profile : Profile) (life : Option (Module K L)) (old new : Assembly L) → life ≡ Some old.it → IsLiving L profile life old.device old.gauge
-      → Comes L Told old new → setup_of L new.it ≡ setup_of L old.it → HasDevice L new.it new.device → IsLiving L profile (Some new.it) new.device new.gauge
-  lives_on Told profile life old new was living comes same size =
+      → Comes L Told old new → setup_of L new.it ≡ setup_of L old.it → HasDevice L new.it new.device → IsCutToSaved L new.it → IsLiving L profile (Some new.it) new.device new.gauge
+  lives_on Told profile life old new was living comes same size cut =
       lives_with Told profile life old new was living comes same
-      (subst (λ (n : ℕ). HasSize n new.device) (let fits : IsShapeFor profile (setup_of L new.it).shape = still_fits profile life old new was living same in fits.lines) size)
+      (subst (λ (n : ℕ). HasSize n new.device) (let fits : IsShapeFor profile (setup_of L new.it).shape = still_fits profile life old new was living same in fits.lines) size) cut
 
   -- after calls that don't
   pub lives_on_alone : (Told : Tale) (profile : Profile) (life : Option (Module K L)) (old new : Assembly L) → life ≡ Some old.it → new.device ≡ old.device
-      → IsLiving L profile life old.device old.gauge → Comes L Told old new → setup_of L new.it ≡ setup_of L old.it → IsLiving L profile (Some new.it) new.device new.gauge
-  lives_on_alone Told profile life old new was idle living comes same =
-      lives_with Told profile life old new was living comes same (subst (λ (d : DeviceState). HasSize (lines_of profile.checked.geometry) d) (sym idle) living.size)
+      → IsLiving L profile life old.device old.gauge → Comes L Told old new → setup_of L new.it ≡ setup_of L old.it → IsCutToSaved L new.it → IsLiving L profile (Some new.it) new.device new.gauge
+  lives_on_alone Told profile life old new was idle living comes same cut =
+      lives_with Told profile life old new was living comes same (subst (λ (d : DeviceState). HasSize (lines_of profile.checked.geometry) d) (sym idle) living.size) cut

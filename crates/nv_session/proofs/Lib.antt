@@ -7,6 +7,7 @@ pub mod SaveSteps
 pub mod Stepping
 pub mod Turning
 pub mod Going
+pub mod Cutting
 pub mod Beginning
 pub mod Restoring
 pub mod SessionLives

@@ -78,12 +78,22 @@ module _ {K : Type 0} (L : Ghosts K) where
   abbrev pub HasLife : Module K L → DeviceState → Gauge → Type 0
   HasLife it device gauge = ∥ LifeSoFar L (assembly it device gauge) ∥₁
 
+  -- of the writes that the newest image holds none is stored
+  abbrev pub IsCutToSaved : Module K L → Type 0
+  IsCutToSaved it = it.terms.cut ≡ it.saved
+
+  -- no cut was made, and the newest image holds as many writes as before
+  pub record SameStored (old new : Module K L) : Type 0 where
+    pub cut : new.terms.cut ≡ old.terms.cut
+    pub saved : new.saved ≡ old.saved
+
   -- The device is one for images of the profile's lines. The life that runs, if one does, has the profile's lines and channels,
-  -- and has lived with the device and the gauge since it was opened.
+  -- and has lived with the device and the gauge since it was opened; its stored writes are cut.
   pub record IsLiving (profile : Profile) (life : Option (Module K L)) (device : DeviceState) (gauge : Gauge) : Type 0 where
     pub size : HasSize (lines_of profile.checked.geometry) device
     pub fits : (it : Module K L) → life ≡ Some it → IsShapeFor profile (setup_of L it).shape
     pub lives : (it : Module K L) → life ≡ Some it → HasLife it device gauge
+    pub cut : (it : Module K L) → life ≡ Some it → IsCutToSaved it
 
   -- a life of this setup runs
   pub record RunsWith (setup : Setup) (Of : Module K L → Type 0) (life : Option (Module K L)) : Type 0 where

@@ -12,7 +12,7 @@ ghost use Rattle.energy_budget.specs.Meter.{meter_gauge, lie_of};
 ghost use Rattle.module_core.specs.Opening.{opened_with};
 ghost use Rattle.module_core.specs.Stands.{ModuleStands, setup_of};
 ghost use Rattle.nv_session.specs.Faults.{CountsFault, is_format_fault};
-ghost use Rattle.nv_session.specs.Living.{HasLife, PassesAll, RunsWith, device_state, innermost};
+ghost use Rattle.nv_session.specs.Living.{HasLife, IsCutToSaved, PassesAll, RunsWith, device_state, innermost};
 
 use crate::session::Session;
 use crate::wires::Wires;
@@ -62,6 +62,7 @@ impl<K: ChannelPort + Drop, A: Wires<K> + Drop> Session<K, A> {
     // From now on this life runs, over a map.
     fn begin(&mut self, life: Module<K>, map: Interleaving)
         requires over { setup_of K.ChannelPort life ≡ setup_over self.old map }
+        requires cut { IsCutToSaved K.ChannelPort life }
         requires lives { HasLife K.ChannelPort life (device_state self.old.device)
             (meter_gauge self.old.gauge) }
         ensures life { self.new.life ≡ Some life }

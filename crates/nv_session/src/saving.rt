@@ -1,4 +1,4 @@
-// The calls of a session that may call its device, and ask its gauge.
+// The calls of a session that may call its device, and ask its gauge. Behind those that may end a save the stored writes are cut.
 ghost use Rattle.std.specs.Prelude.{◌≡◌, Err, None};
 ghost use Rattle.nv_session.specs.SaveTurns.{MakesSave};
 ghost use Rattle.nv_session.specs.Turns.{MakesOneStep};
@@ -27,7 +27,11 @@ impl<K: ChannelPort + Drop, A: Wires<K> + Drop> Session<K, A> {
     {
         let channels = self.profile.checked.geometry.channels;
         match &mut self.life {
-            Some(life) => save(life, channels, &mut self.device, &mut self.gauge),
+            Some(life) => {
+                let made = save(life, channels, &mut self.device, &mut self.gauge);
+                let _gone = life.cut();
+                made
+            }
             None => Err(ArmRefusal::Closed),
         }
     }
@@ -43,7 +47,11 @@ impl<K: ChannelPort + Drop, A: Wires<K> + Drop> Session<K, A> {
         ensures wires { self.new.wires ≡ self.old.wires }
     {
         match &mut self.life {
-            Some(life) => step(life, &mut self.device, &mut self.gauge),
+            Some(life) => {
+                let made = step(life, &mut self.device, &mut self.gauge);
+                let _gone = life.cut();
+                made
+            }
             None => Err(ArmRefusal::Closed),
         }
     }
@@ -78,7 +86,11 @@ impl<K: ChannelPort + Drop, A: Wires<K> + Drop> Session<K, A> {
         ensures wires { self.new.wires ≡ self.old.wires }
     {
         match &mut self.life {
-            Some(life) => life.power_loss(&mut self.device, &mut self.gauge),
+            Some(life) => {
+                let lost = life.power_loss(&mut self.device, &mut self.gauge);
+                let _gone = life.cut();
+                lost
+            }
             None => Loss::Closed,
         }
     }

@@ -2,6 +2,7 @@
 ghost use Rattle.std.specs.Prelude.{◌≡◌};
 ghost use Rattle.module_core.specs.Stands.{HasChannel, HasDevice, assembly, setup_of};
 ghost use Rattle.nv_session.specs.Coming.{Comes, ComesAlone};
+ghost use Rattle.nv_session.specs.Living.{SameStored};
 ghost use Rattle.nv_session.specs.ReadTurns.{AwaitsLine, ReadsLine};
 ghost use Rattle.nv_session.specs.SaveTurns.{MakesSave, WorksBehind, WorksEach, is_underway};
 ghost use Rattle.nv_session.specs.Turns.{MakesOneStep};
@@ -32,6 +33,7 @@ pub enum LineSeen {
 fn await_read<K: ChannelPort>(running: &mut Module<K>, ticket: Ticket) -> LineSeen
     requires { HasChannel K.ChannelPort running.old ticket.channel }
     ensures comes { ComesAlone K.ChannelPort (AwaitsLine ticket result) running.old running.new }
+    ensures stored { SameStored K.ChannelPort running.old running.new }
     ensures setup { setup_of K.ChannelPort running.new ≡ setup_of K.ChannelPort running.old }
 {
     for _turn in 0..READ_TURNS {
@@ -59,6 +61,7 @@ pub(crate) fn read<K: ChannelPort>(
     requires channels { channels ≡ (setup_of K.ChannelPort running.old).shape.channels }
     ensures comes { ComesAlone K.ChannelPort
         (ReadsLine (setup_of K.ChannelPort running.old) line result) running.old running.new }
+    ensures stored { SameStored K.ChannelPort running.old running.new }
     ensures setup { setup_of K.ChannelPort running.new ≡ setup_of K.ChannelPort running.old }
 {
     match running.read(line) {

@@ -8,7 +8,7 @@ use Rattle.nv_session.proofs.Awaiting.{AwaitsTurns, Looks, awaits_itself, looks,
 use Rattle.nv_session.proofs.turns.await_read.Goals as goal
 
 pub loop-turn-init : goal.loop-turn-init
-loop-turn-init g c = record { setup = refl; comes = awaits_itself g.K.ChannelPort c.args.ticket c.args.running.now }
+loop-turn-init g c = record { setup = refl; stored = record { cut = refl; saved = refl }; comes = awaits_itself g.K.ChannelPort c.args.ticket c.args.running.now }
 
 pub returns-in-Data-clause-comes : goal.returns-in-Data-clause-comes
 returns-in-Data-clause-comes g c =
@@ -19,6 +19,10 @@ returns-in-Data-clause-comes g c =
 
 pub returns-in-Data-clause-setup : goal.returns-in-Data-clause-setup
 returns-in-Data-clause-setup g c = c.collect.ensures.setup ∙ c.loop-turn.invariant.setup
+
+pub returns-in-Data-clause-stored : goal.returns-in-Data-clause-stored
+returns-in-Data-clause-stored g c =
+    let was = c.loop-turn.invariant.stored in record { cut = c.collect.ensures.stored.cut ∙ was.cut; saved = c.collect.ensures.stored.saved ∙ was.saved }
 
 pub work-requires : goal.work-requires
 work-requires g c = subst (λ (s : Setup). c.args.ticket.channel < s.shape.channels) (sym (c.collect.ensures.setup ∙ c.loop-turn.invariant.setup)) c.requires
@@ -32,6 +36,10 @@ returns-in_default-work g c =
           (looks L ticket c.loop-turn._turn c.collect.result c.args.running.now c.loop-turn.running c.collect.new.self inv.setup inv.comes c.collect.ensures.answers)
           (subst (λ (done : Option Done). AnswersAlone L (events.Work ticket.channel) (replies.Work done) c.collect.new.self c.work.new.self) (none_of c.work.result c.in_default-work.not-Some) c.work.ensures.answers);
       setup = c.work.ensures.setup ∙ c.collect.ensures.setup ∙ inv.setup;
+      stored = record {
+        cut = c.work.ensures.stored.cut ∙ c.collect.ensures.stored.cut ∙ inv.stored.cut;
+        saved = c.work.ensures.stored.saved ∙ c.collect.ensures.stored.saved ∙ inv.stored.saved;
+      };
     }
 
 pub loop-turn-preserved : goal.loop-turn-preserved
@@ -40,6 +48,10 @@ loop-turn-preserved g c =
     let one_more : suc c.loop-turn._turn ≡ c.loop-turn._turn + 1 = omega arith in
     record {
       setup = c.work.ensures.setup ∙ c.collect.ensures.setup ∙ inv.setup;
+      stored = record {
+        cut = c.work.ensures.stored.cut ∙ c.collect.ensures.stored.cut ∙ inv.stored.cut;
+        saved = c.work.ensures.stored.saved ∙ c.collect.ensures.stored.saved ∙ inv.stored.saved;
+      };
       comes = subst (λ (n : ℕ). ComesAlone L (AwaitsTurns ticket n) c.args.running.now c.work.new.self) one_more
           (takes_turn L ticket c.loop-turn._turn c.collect.result c.in-Some.field-0 c.args.running.now c.collect.new.self c.work.new.self (c.collect.ensures.setup ∙ inv.setup)
           (nothing_of c.collect.result c.in_default.not-Data)
@@ -56,6 +68,10 @@ returns-in-Data-collect-clause-comes g c =
 pub returns-in-Data-collect-clause-setup : goal.returns-in-Data-collect-clause-setup
 returns-in-Data-collect-clause-setup g c = c.collect-2.ensures.setup ∙ c.loop-turn.invariant.setup
 
+pub returns-in-Data-collect-clause-stored : goal.returns-in-Data-collect-clause-stored
+returns-in-Data-collect-clause-stored g c =
+    let was = c.loop-turn.invariant.stored in record { cut = c.collect-2.ensures.stored.cut ∙ was.cut; saved = c.collect-2.ensures.stored.saved ∙ was.saved }
+
 pub returns-in_default-collect : goal.returns-in_default-collect
 returns-in_default-collect g c =
     let L = g.K.ChannelPort in let inv = c.loop-turn.invariant in let all : c.loop-turn._turn ≡ 64 = search rules in
@@ -64,4 +80,5 @@ returns-in_default-collect g c =
           (subst (λ (n : ℕ). ComesAlone L (Looks c.args.ticket n c.collect-2.result) c.args.running.now c.collect-2.new.self) all
           (looks L c.args.ticket c.loop-turn._turn c.collect-2.result c.args.running.now c.loop-turn.running c.collect-2.new.self inv.setup inv.comes c.collect-2.ensures.answers));
       setup = c.collect-2.ensures.setup ∙ inv.setup;
+      stored = record { cut = c.collect-2.ensures.stored.cut ∙ inv.stored.cut; saved = c.collect-2.ensures.stored.saved ∙ inv.stored.saved };
     }

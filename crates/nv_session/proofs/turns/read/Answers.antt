@@ -33,3 +33,7 @@ returns-in-Err-clause-comes g c =
     let L = g.K.ChannelPort in
     sees_refusal L c.args.line c.in-Err.refusal c.args.running.now c.read.new.self
     (subst (λ (answer : Result Got ReadRefusal). AnswersAlone L (events.Read c.args.line) (replies.Read answer) c.args.running.now c.read.new.self) c.in-Err.is c.read.ensures.answers)
+
+pub returns-in-Ok-Later-clause-stored : goal.returns-in-Ok-Later-clause-stored
+returns-in-Ok-Later-clause-stored g c =
+    let read = c.read.ensures.stored in let awaited = c.await_read.ensures.stored in record { cut = awaited.cut ∙ read.cut; saved = awaited.saved ∙ read.saved }

@@ -10,19 +10,19 @@ use Rattle.module_core.proofs.module.Module.run.Goals as goal
 
 pub loop-event-init : goal.loop-event-init
 loop-event-init g c =
-    let L = g.K.ChannelPort in let device = g.D.SaveDevice.state c.args.device.now in let cut = c.cut-gone.ensures in
-    let first : AnswersCut L [] [] (assembly c.args.self.now device (g.E.Energy.gauge c.args.energy.now)) (assembly c.cut-gone.new.self device (g.E.Energy.gauge c.args.energy.now)) =
-    first_cut L c.args.self.now c.cut-gone.new.self device (g.E.Energy.gauge c.args.energy.now) cut.cuts in
-    let size : HasDevice L c.cut-gone.new.self device = subst (λ (s : Setup). HasSize s.shape.lines device) (sym cut.setup) c.requires.size in
-    let whole : c.cut-gone.new.self.terms.cut ≡ c.cut-gone.new.self.saved = cut.to ∙ sym cut.cuts.saved in
-    record { size = size; setup = cut.setup; count = search rules; room = search rules; cut = whole; answers = subst (λ (rs : List Reply). AnswersCut L [] rs (assembly c.args.self.now device (g.E.Energy.gauge c.args.energy.now)) (assembly c.cut-gone.new.self device (g.E.Energy.gauge c.args.energy.now))) (search rules) first }
+    let L = g.K.ChannelPort in let device = g.D.SaveDevice.state c.args.device.now in let cut = c.cut-first.ensures in
+    let first : AnswersCut L [] [] (assembly c.args.self.now device (g.E.Energy.gauge c.args.energy.now)) (assembly c.cut-first.new.self device (g.E.Energy.gauge c.args.energy.now)) =
+    first_cut L c.args.self.now c.cut-first.new.self device (g.E.Energy.gauge c.args.energy.now) cut.cuts in
+    let size : HasDevice L c.cut-first.new.self device = subst (λ (s : Setup). HasSize s.shape.lines device) (sym cut.setup) c.requires.size in
+    let whole : c.cut-first.new.self.terms.cut ≡ c.cut-first.new.self.saved = cut.to ∙ sym cut.cuts.saved in
+    record { size = size; setup = cut.setup; count = search rules; room = search rules; cut = whole; answers = subst (λ (rs : List Reply). AnswersCut L [] rs (assembly c.args.self.now device (g.E.Energy.gauge c.args.energy.now)) (assembly c.cut-first.new.self device (g.E.Energy.gauge c.args.energy.now))) (search rules) first }
 
 pub loop-event-preserved : goal.loop-event-preserved
 loop-event-preserved g c =
     let L = g.K.ChannelPort in let S = g.D.SaveDevice in let E = g.E.Energy in let inv = c.loop-event.invariant in
     let old = assembly c.args.self.now (S.state c.args.device.now) (E.gauge c.args.energy.now) in let mid = assembly c.loop-event.self (S.state c.loop-event.device) (E.gauge c.loop-event.energy) in
-    let applied = assembly c.apply.new.self (S.state c.apply.new.device) (E.gauge c.apply.new.energy) in let cut = c.cut-gone-in-loop-event.ensures in
-    let new = assembly c.cut-gone-in-loop-event.new.self (S.state c.apply.new.device) (E.gauge c.apply.new.energy) in
+    let applied = assembly c.apply.new.self (S.state c.apply.new.device) (E.gauge c.apply.new.energy) in let cut = c.cut-gone.ensures in
+    let new = assembly c.cut-gone.new.self (S.state c.apply.new.device) (E.gauge c.apply.new.energy) in
     let events : List Event = c.args.events.now in let i : ℕ = c.loop-event.event-index in let reply : Reply = c.apply.result in
     record {
       size = subst (λ (s : Setup). HasSize s.shape.lines (S.state c.apply.new.device)) (sym cut.setup) c.apply.ensures.size;

@@ -3,7 +3,7 @@ use Rattle.nv_session.proofs.Common.{Assembly, IsOneEvent, assembly, device_stat
 use Rattle.nv_machine.specs.declared.events.Event.TheVariants as events
 use Rattle.nv_machine.specs.declared.events.Reply.TheVariants as replies
 use Rattle.nv_session.proofs.Coming.{one_event}
-use Rattle.nv_session.proofs.Going.{goes_on_by, lives_on}
+use Rattle.nv_session.proofs.Going.{goes_on_by, lives_on, still_cut}
 use Rattle.nv_session.proofs.session.Session.arm.Goals as goal
 
 pub returns-in-Some-clause-comes : goal.returns-in-Some-clause-comes
@@ -18,3 +18,4 @@ invariant_of-self-clause-living g c =
     let L = g.K.ChannelPort in let it = c.args.self.now in let reply = replies.Arm c.arm.result in
     let old : Assembly L = assembly c.in-Some.life (device_state it.device) (meter_gauge it.gauge) in let new : Assembly L = assembly c.arm.new.self (device_state c.arm.new.device) (meter_gauge c.arm.new.energy) in
     lives_on L (IsOneEvent events.Arm reply) it.profile it.life old new c.in-Some.is it.living (one_event L events.Arm reply old new c.arm.ensures.answers) c.arm.ensures.setup c.arm.ensures.size
+    (still_cut L it.profile it.life old.it new.it old.device old.gauge c.in-Some.is it.living c.arm.ensures.stored.cut c.arm.ensures.stored.saved)

@@ -7,4 +7,4 @@ pub invariant_of-self-clause-living : goal.invariant_of-self-clause-living
 invariant_of-self-clause-living g c =
     let it = c.args.self.now in
     begins_living g.K.ChannelPort it.profile c.args.life (device_state it.device) (meter_gauge it.gauge) it.living.size
-    (subst (λ (s : Setup). IsShapeFor it.profile s.shape) (sym c.requires.over) (it.fits c.args.map)) c.requires.lives
+    (subst (λ (s : Setup). IsShapeFor it.profile s.shape) (sym c.requires.over) (it.fits c.args.map)) c.requires.lives c.requires.cut

@@ -3,7 +3,7 @@ use Rattle.nv_session.proofs.Common.{IsOneEvent, assembly, device_state, meter_g
 use Rattle.nv_machine.specs.declared.events.Event.TheVariants as events
 use Rattle.nv_machine.specs.declared.events.Reply.TheVariants as replies
 use Rattle.nv_session.proofs.Coming.{one_event_alone}
-use Rattle.nv_session.proofs.Going.{goes_on_alone, lives_on_alone}
+use Rattle.nv_session.proofs.Going.{goes_on_alone, lives_on_alone, still_cut}
 use Rattle.nv_session.proofs.session.Session.disarm.Goals as goal
 
 pub returns-in-Some-clause-comes : goal.returns-in-Some-clause-comes
@@ -18,3 +18,4 @@ invariant_of-self-clause-living g c =
     let device = device_state it.device in let gauge = meter_gauge it.gauge in
     lives_on_alone L (IsOneEvent events.Disarm reply) it.profile it.life (assembly c.in-Some.life device gauge) (assembly c.disarm.new.self device gauge) c.in-Some.is refl it.living
     (one_event_alone L events.Disarm reply c.in-Some.life c.disarm.new.self c.disarm.ensures.answers device gauge) c.disarm.ensures.setup
+    (still_cut L it.profile it.life c.in-Some.life c.disarm.new.self device gauge c.in-Some.is it.living c.disarm.ensures.stored.cut c.disarm.ensures.stored.saved)

@@ -1,6 +1,6 @@
 use Rattle.std.proofs.Common.{refl}
 use Rattle.nv_session.proofs.Common.{ReadsLine, assembly, device_state, meter_gauge, setup_of}
-use Rattle.nv_session.proofs.Going.{goes_on_alone, lives_on_alone}
+use Rattle.nv_session.proofs.Going.{goes_on_alone, lives_on_alone, still_cut}
 use Rattle.nv_session.proofs.session.Session.read.Goals as goal
 
 pub returns-in-Some-clause-comes : goal.returns-in-Some-clause-comes
@@ -12,3 +12,4 @@ invariant_of-self-clause-living g c =
     let L = g.K.ChannelPort in let it = c.args.self.now in let life = c.in-Some.life in let device = device_state it.device in let gauge = meter_gauge it.gauge in
     lives_on_alone L (ReadsLine (setup_of L life) c.args.line c.read.result) it.profile it.life (assembly life device gauge) (assembly c.read.new.running device gauge) c.in-Some.is refl it.living
     (c.read.ensures.comes device gauge) c.read.ensures.setup
+    (still_cut L it.profile it.life life c.read.new.running device gauge c.in-Some.is it.living c.read.ensures.stored.cut c.read.ensures.stored.saved)

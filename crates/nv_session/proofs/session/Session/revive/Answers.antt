@@ -1,4 +1,4 @@
-use Rattle.std.proofs.Common.{ℕ, List, false, Ok, Err, rules, sym, subst}
+use Rattle.std.proofs.Common.{◌∙◌, ℕ, List, false, Ok, Err, rules, sym, subst}
 use Rattle.std.proofs.lemmas.Grind.{merely}
 use Rattle.nv_session.proofs.Common.{DeviceState, Revives, assembly, device_state, life_begins, lines_of}
 use Rattle.nv_session.proofs.Common.{meter_gauge}
@@ -21,6 +21,9 @@ revived g c =
     let lines : ℕ = lines_of c.args.self.now.profile.checked.geometry in let bytes : List ℕ = (device_state c.args.self.now.device).bytes in let device : DeviceState = device_state c.restore.new.device in
     let finds : FindsRestored c.lines-lines.result it bytes device = record { restored_is = c.in_ok-restored.ensures.found; rests = c.in_ok-restored.ensures.at_rest } in
     revives_restored g.K.ChannelPort lines it bytes c.in-Ok.life device (subst (λ (n : ℕ). FindsRestored n it bytes device) c.lines-lines.ensures.is finds) c.in-Ok.ensures.begins
+
+pub begin-requires-clause-cut : goal.begin-requires-clause-cut
+begin-requires-clause-cut g c = let r = revived g (goal.at.begin-requires-clause-cut g c).In-Ok in r.stands.matches.cut ∙ sym r.stands.saved
 
 pub begin-requires-clause-lives : goal.begin-requires-clause-lives
 begin-requires-clause-lives g c =

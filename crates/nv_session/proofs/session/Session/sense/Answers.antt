@@ -5,7 +5,7 @@ use Rattle.nv_machine.specs.declared.events.Event.TheVariants as events
 use Rattle.nv_machine.specs.declared.events.Reply.TheVariants as replies
 use Rattle.nv_session.proofs.Coming.{one_event}
 use Rattle.energy_budget.specs.Charging.{RisesTo}
-use Rattle.nv_session.proofs.Going.{charged_living, goes_on_by, lives_on_alone}
+use Rattle.nv_session.proofs.Going.{charged_living, goes_on_by, lives_on_alone, still_cut}
 use Rattle.nv_session.proofs.SessionLives.{set_rises}
 use Rattle.nv_session.proofs.session.Session.sense.Goals as goal
 
@@ -23,3 +23,4 @@ invariant_of-self-clause-living g c =
     let old = assembly c.in-Some.life device (meter_gauge c.set.new.self) in let new = assembly read.new.self device (meter_gauge read.new.energy) in
     lives_on_alone L (IsOneEvent events.Sense reply) it.profile it.life old new c.in-Some.is refl
     (charged_living L it.profile it.life device (meter_gauge it.gauge) old.gauge (subst (RisesTo (meter_gauge it.gauge)) (sym c.set.ensures.gauge) (set_rises c.args.level (meter_gauge it.gauge))) it.living) (one_event L events.Sense reply old new (read.ensures.answers device)) read.ensures.setup
+    (still_cut L it.profile it.life c.in-Some.life read.new.self device (meter_gauge it.gauge) c.in-Some.is it.living read.ensures.stored.cut read.ensures.stored.saved)

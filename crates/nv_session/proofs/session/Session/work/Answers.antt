@@ -3,7 +3,7 @@ use Rattle.nv_session.proofs.Common.{Event, IsOneEvent, IsWork, Reply, assembly,
 use Rattle.nv_machine.specs.declared.events.Event.TheVariants as events
 use Rattle.nv_machine.specs.declared.events.Reply.TheVariants as replies
 use Rattle.nv_session.proofs.Coming.{comes_retold, one_event_alone}
-use Rattle.nv_session.proofs.Going.{goes_on_alone, lives_on_alone}
+use Rattle.nv_session.proofs.Going.{goes_on_alone, lives_on_alone, still_cut}
 use Rattle.nv_session.proofs.session.Session.work.Goals as goal
 
 pub returns-in-Some-clause-comes : goal.returns-in-Some-clause-comes
@@ -23,3 +23,4 @@ invariant_of-self-clause-living g c =
     let device = device_state it.device in let gauge = meter_gauge it.gauge in
     lives_on_alone L (IsOneEvent event reply) it.profile it.life (assembly c.in-Some.life device gauge) (assembly c.work.new.self device gauge) c.in-Some.is refl it.living
     (one_event_alone L event reply c.in-Some.life c.work.new.self c.work.ensures.answers device gauge) c.work.ensures.setup
+    (still_cut L it.profile it.life c.in-Some.life c.work.new.self device gauge c.in-Some.is it.living c.work.ensures.stored.cut c.work.ensures.stored.saved)
