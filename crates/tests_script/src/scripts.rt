@@ -219,6 +219,25 @@ fn a_write_past_a_full_life(rt: HostRuntime) {
     );
 }
 
+// The writes that a finished save holds make room for as many more.
+#[test]
+fn a_write_behind_a_save_of_a_full_life(rt: HostRuntime) {
+    is_answered_with(
+        &rt,
+        "trail = 1024",
+        "trail = 2",
+        "format/write 0 11/write 0 22/write 0 33/save/write 0 33",
+        "formatted/accepted 0 mark 0/accepted 1 mark 0/refused write 5 TrailFull/saved 2 2/accepted 2 mark 2",
+    );
+    is_answered_with(
+        &rt,
+        "trail = 1024",
+        "trail = 1",
+        "format/sense 9000/arm/write 0 11/write 0 22/disarm/write 0 22/save/write 0 22/write 0 33/read 0",
+        "formatted/level 9000 disarmed/armed/accepted 0 mark 1/refused write 5 TrailFull/disarming/refused write 3 Disarming/saved 2 1/accepted 1 mark 1/refused write 5 TrailFull/line 0 = 22",
+    );
+}
+
 #[test]
 fn the_map_of_the_profile(rt: HostRuntime) {
     let script = "format/write 69 44/work 0 1/work 1 1";
