@@ -15,6 +15,7 @@ use Rattle.arm_state.specs.declared.refusal.ArmReply.TheVariants as arm
 use Rattle.arm_state.specs.declared.refusal.DisarmReply.{DisarmReply}
 use Rattle.arm_state.specs.declared.refusal.DisarmReply.TheVariants as disarm
 use Rattle.line_memory.specs.Memory.{line_of}
+use Rattle.nv_machine.specs.Headline.{paused}
 use Rattle.nv_machine.specs.declared.events.Accepted.{Accepted}
 use Rattle.arm_state.specs.declared.refusal.WriteRefusal.{WriteRefusal}
 use Rattle.arm_state.specs.declared.refusal.ReadRefusal.{ReadRefusal}
@@ -61,7 +62,7 @@ module _ {K : Type 0} (L : Ghosts K) where
         n = then.n;
         stands = then.stands;
         opened = then.went.rises.opened;
-        writes = event_adds then.setup event reply (record { machine = m; device = is.device; gauge = is.gauge }) (record { machine = then.n; device = is.device'; gauge = is.gauge' }) is.step then.went.guarded
+        writes = event_adds then.setup event reply (paused is.before (record { machine = m; device = is.device; gauge = is.before.gauge })) (paused is.behind (record { machine = then.n; device = is.device'; gauge = is.behind.gauge })) is.step is.guarded
             ∙ ap (λ (ws : List Write). m.life.writes ++ ws) adds;
         rises = then.went.rises.persisted;
         told = omega (arith, told, mark);
