@@ -1,5 +1,6 @@
 // The cases, each on a module over the channels of the small profile.
 use crate::check::same;
+use crate::cuts::cut_in_each_mode;
 use crate::load::Load;
 use crate::notices::{notify_of_a_save, write_behind_its_back};
 use crate::runs::{lose_at_once, save_at_once, turn_at_once};
@@ -23,6 +24,7 @@ enum Case {
     Turn,
     Notices,
     SecondWriter,
+    Cuts,
 }
 
 /// The module of two channels that is ready, with its device and its gauge.
@@ -65,6 +67,7 @@ fn try_module<K: ChannelPort + Drop, R: Abort>(
         Case::Turn => turn_at_once(rt, alloc, &mut load),
         Case::Notices => notify_of_a_save(rt, alloc, &mut load),
         Case::SecondWriter => write_behind_its_back(rt, alloc, &mut load),
+        Case::Cuts => cut_in_each_mode(rt, &mut load),
     }
 }
 
@@ -146,4 +149,9 @@ fn notices_after_a_save(rt: HostRuntime) {
 #[test]
 fn a_second_writer(rt: HostRuntime) {
     try_case(&rt, rt.alloc(), Case::SecondWriter);
+}
+
+#[test]
+fn cuts_in_each_mode(rt: HostRuntime) {
+    try_case(&rt, rt.alloc(), Case::Cuts);
 }

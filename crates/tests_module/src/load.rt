@@ -3,7 +3,7 @@ ghost use Rattle.std.specs.Prelude.{◌≡◌, length};
 ghost use Rattle.module_core.specs.Stands.{HasDevice, setup_of};
 
 use crate::check::same;
-use arm_state::{ArmReply, Loss};
+use arm_state::{ArmReply, DisarmReply, Loss};
 use channel_port::ChannelPort;
 use energy_budget::Meter;
 use line_memory::{Line, Write};
@@ -39,9 +39,13 @@ impl<K: ChannelPort, D: SaveDevice> Load<K, D> {
         self.running.save_step(&mut self.device, &mut self.gauge)
     }
 
-    // Makes a whole save; its generation.
-    fn save<R: Abort>(&mut self, rt: &R) -> u64 {
+    /// Begins a save.
+    pub(crate) fn begin_save<R: Abort>(&mut self, rt: &R) {
         same(rt, self.running.save_begin(), Ok(()));
+    }
+
+    /// Makes the rest of a save that runs; its generation.
+    pub(crate) fn finish_save<R: Abort>(&mut self, rt: &R) -> u64 {
         for _turn in 0..TURNS {
             match self.turn() {
                 StepReply::Saved { generation, .. } => return generation,
@@ -76,7 +80,23 @@ impl<K: ChannelPort, D: SaveDevice> Load<K, D> {
         self.write(rt, 0);
         self.write(rt, 64);
         self.write(rt, 127);
-        same(rt, self.save(rt), 2);
+        self.begin_save(rt);
+        same(rt, self.finish_save(rt), 2);
+    }
+
+    /// The gauge shows enough for each closing save.
+    pub(crate) fn charge(&mut self) {
+        self.gauge.set(9000);
+    }
+
+    /// Begins a disarming.
+    pub(crate) fn disarm<R: Abort>(&mut self, rt: &R) {
+        same(rt, self.running.disarm(), Ok(DisarmReply::Disarming));
+    }
+
+    /// Cuts the stored writes, of which so many go.
+    pub(crate) fn cuts<R: Abort>(&mut self, rt: &R, gone: u64) {
+        same(rt, self.running.cut(), gone);
     }
 }
 
