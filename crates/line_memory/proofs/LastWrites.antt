@@ -1,5 +1,5 @@
 -- A line after writes has the data of the last one that names it.
-use Rattle.std.proofs.Common.{◌≡◌, ℕ, ◌<◌, Bool, true, false, List, [], ◌∷◌, length, fold, refl, sym, ◌∙◌, ap, subst}
+use Rattle.std.proofs.Common.{◌≡◌, ℕ, ◌<◌, Bool, true, false, List, [], ◌∷◌, length, fold, refl, sym, arith, ◌∙◌, ap, subst}
 use Rattle.std.specs.Prelude.{◌==◌, if◌then◌else◌, slice_index_or}
 use Rattle.std.proofs.lemmas.Bool.{eqb-true, eqb-false}
 use Rattle.std.proofs.lemmas.List.{length-set, get_or-set_same, get_or-set_other, get_or_default}
@@ -28,3 +28,8 @@ pub line_after_from : (writes : List Write) (memory : List (List ℕ)) (line : �
 line_after_from writes memory line d less =
     ap (λ (first : List ℕ). fold (λ value (w : Write). if w.line == line then w.«data» else value) first writes) (get_or_default memory line d [] less)
     ∙ line_after_is writes memory line less
+
+-- no write is left
+pub none_more : {A B : Type 0} (f : A → B → A) (first : A) (rest : List B) → length rest ≡ 0 → fold f first rest ≡ first
+none_more f first [] none = refl
+none_more f first (x ∷ rest) none = absurd (omega (arith, none))

@@ -1,40 +1,46 @@
-// The memory that a life began with, and its writes.
-ghost use Rattle.std.specs.Prelude.{◌≡◌, ◌==◌, ◌+◌, ◌<◌, ◌≤◌, ◌++◌, [], ◌∷◌, ◌↔◌, length, fold, take, if◌then◌else◌, IfOk, IfErr, IsTrue};
-ghost use Rattle.line_memory.specs.Memory.{after, line_of, memory_at};
-ghost use Rattle.line_memory.specs.History.{IsSeenAt, recorded, write_at};
+// A memory of a life, and the writes that it accepted since.
+ghost use Rattle.std.specs.Prelude.{◌≡◌, ◌==◌, ◌+◌, ◌<◌, ◌≤◌, ◌++◌, [], ◌∷◌, ◌↔◌, length, take, if◌then◌else◌, IfOk, IfErr, IsTrue};
+ghost use Rattle.std.specs.VecDeque.Iter.{deque_iter_rest};
+ghost use Rattle.line_memory.specs.Memory.{after, after_write, line_of, memory_at};
+ghost use Rattle.line_memory.specs.History.{IsSeenAt, cut_at, recorded, write_at};
 
 use crate::{Line, Write};
 use std::alloc::{AllocError, Global};
+use std::collections::VecDeque;
+use std::collections::vec_deque::Iter;
 use std::marker::Model;
 
-/// What a life began with and has accepted. Contracts see the lines of its first memory, the number of its first write, the
-/// writes, and how many of them there is room for.
+/// What is stored of a life: a memory, and the writes that it accepted since. It begins with the life's first memory, and each
+/// cut moves it on. Contracts see the lines of the memory, the number of the first write that it lacks, the writes from that
+/// one on, and how many of them there is room for.
 #[derive(Drop)]
 pub struct History {
     base: Vec<Line>,
     start: u64,
-    writes: Vec<Write>,
+    writes: VecDeque<Write>,
     room: usize,
 }
 
 impl Model for History {
-    ghost use Rattle.std.specs.Prelude.{◌≤◌, vec_len, vec_capacity};
+    ghost use Rattle.std.specs.Prelude.{◌≤◌};
+    ghost use Rattle.std.specs.VecDeque.{deque_len, deque_capacity};
     ghost use Rattle.line_memory.specs.History.{Recorded, recorded};
 
     ghost Value = { Recorded };
 
     ghost view = { λ r. recorded r.base.items r.start r.writes.items r.room };
 
-    ghost invariant = { λ r. (vec_len r.writes ≤ r.room) × (r.room ≤ vec_capacity r.writes) };
+    ghost invariant = { λ r. (deque_len r.writes ≤ r.room) × (r.room ≤ deque_capacity r.writes) };
 }
 
-// A line after these writes, which was `first` before them.
-fn line_after(writes: &[Write], line: u64, first: Line) -> Line
-    ensures { result
-        ≡ fold (λ value w. if w.line == line then w.«data» else value) first writes.now }
+// A line of this memory after the first `count` of these writes.
+fn line_at(base: &[Line], writes: &VecDeque<Write>, line: u64, count: usize) -> Line
+    requires line { line < length base.now }
+    requires count { count ≤ length writes.now.items }
+    ensures { result ≡ line_of (after base.now (take count writes.now.items)) line }
 {
-    let mut value = first;
-    for write in writes {
+    let mut value = base[line as usize];
+    for write in writes.range(..count) {
         if write.line == line {
             value = write.data;
         }
@@ -42,14 +48,14 @@ fn line_after(writes: &[Write], line: u64, first: Line) -> Line
     value
 }
 
-// A line of this memory after the first `count` of these writes.
-fn line_at(base: &[Line], writes: &[Write], line: u64, count: usize) -> Line
-    requires line { line < length base.now }
-    requires count { count ≤ length writes.now }
-    ensures { result ≡ line_of (after base.now (take count writes.now)) line }
+// The line that a write names gets its data.
+fn put(memory: &mut Vec<Line>, write: Write)
+    ensures { memory.new.items ≡ after_write memory.old.items write }
 {
-    let first = base[line as usize];
-    line_after(&writes[..count], line, first)
+    let Write { line, data } = write;
+    if (line as usize) < memory.len() {
+        memory[line as usize] = data;
+    }
 }
 
 impl History {
@@ -64,7 +70,7 @@ impl History {
         ensures ok { IfOk result (λ history. history ≡ recorded base.items start [] room) }
         ensures err { IfErr result (λ e. e.0 ≡ base) }
     {
-        match Vec::with_capacity(alloc, room) {
+        match VecDeque::with_capacity(alloc, room) {
             Ok(writes) => Ok(History {
                 base,
                 start,
@@ -80,17 +86,33 @@ impl History {
         requires { length self.old.writes < self.old.room }
         ensures { self.new ≡ record self.old { writes = self.old.writes ++ write ∷ [] } }
     {
-        self.writes.push_reserved(write);
+        self.writes.push_back_reserved(write);
     }
 
-    /// The accepted writes, in their order.
-    pub fn writes(&self) -> &[Write]
-        ensures { result.now ≡ self.now.writes }
+    /// The stored writes, in the order of their numbers.
+    pub fn writes(&self) -> Iter<'_, Write>
+        ensures { deque_iter_rest result ≡ self.now.writes }
     {
-        self.writes.as_slice()
+        self.writes.iter()
     }
 
-    /// The accepted write of a number; None where the life has accepted none of it.
+    /// The writes with numbers below `at` go into the memory, in the order of their numbers: each is looked at once, and those
+    /// that stay aren't moved. It takes no memory.
+    pub fn cut(&mut self, at: u64)
+        requires from { self.old.start ≤ at }
+        requires all { at ≤ self.old.start + length self.old.writes }
+        ensures { self.new ≡ cut_at at self.old }
+    {
+        for _number in self.start..at {
+            let Some(write) = self.writes.pop_front() else {
+                unreachable!()
+            };
+            put(&mut self.base, write);
+        }
+        self.start = at;
+    }
+
+    /// The stored write of a number; None where the record has none of it.
     pub fn accepted_write(&self, number: u64) -> Option<Write>
         ensures { result ≡ write_at self.now.start self.now.writes number }
     {
@@ -101,7 +123,7 @@ impl History {
     }
 
     /// Whether the record knows a line after the first `at` accepted writes: there is such a line, and the number is between
-    /// those of the life.
+    /// that of the record's memory and all that were accepted.
     pub fn knows(&self, line: u64, at: u64) -> bool
         ensures { IsTrue result ↔ IsSeenAt self.now line at }
     {
