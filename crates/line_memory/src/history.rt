@@ -1,13 +1,11 @@
 // A memory of a life, and the writes that it accepted since.
 ghost use Rattle.std.specs.Prelude.{◌≡◌, ◌==◌, ◌+◌, ◌<◌, ◌≤◌, ◌++◌, [], ◌∷◌, ◌↔◌, length, take, if◌then◌else◌, IfOk, IfErr, IsTrue};
-ghost use Rattle.std.specs.VecDeque.Iter.{deque_iter_rest};
 ghost use Rattle.line_memory.specs.Memory.{after, after_write, line_of, memory_at};
 ghost use Rattle.line_memory.specs.History.{IsSeenAt, cut_at, recorded, write_at};
 
 use crate::{Line, Write};
 use std::alloc::{AllocError, Global};
 use std::collections::VecDeque;
-use std::collections::vec_deque::Iter;
 use std::marker::Model;
 
 /// What is stored of a life: a memory, and the writes that it accepted since. It begins with the life's first memory, and each
@@ -16,8 +14,8 @@ use std::marker::Model;
 #[derive(Drop)]
 pub struct History {
     base: Vec<Line>,
-    start: u64,
-    writes: VecDeque<Write>,
+    pub(crate) start: u64,
+    pub(crate) writes: VecDeque<Write>,
     room: usize,
 }
 
@@ -87,13 +85,6 @@ impl History {
         ensures { self.new ≡ record self.old { writes = self.old.writes ++ write ∷ [] } }
     {
         self.writes.push_back_reserved(write);
-    }
-
-    /// The stored writes, in the order of their numbers.
-    pub fn writes(&self) -> Iter<'_, Write>
-        ensures { deque_iter_rest result ≡ self.now.writes }
-    {
-        self.writes.iter()
     }
 
     /// The writes with numbers below `at` go into the memory, in the order of their numbers: each is looked at once, and those
