@@ -1,7 +1,7 @@
 -- What a record tells once it was cut.
 use Rattle.std.proofs.Common.{rules, ◌≡◌, ◌↔◌, ℕ, zero, suc, ◌+◌, ◌-◌, ◌<◌, ◌≤◌, false, List, [], ◌∷◌, length, take, drop, refl, sym, ap, ◌∙◌, arith, length-set}
 use Rattle.std.specs.Prelude.{nat_lt, slice_get}
-use Rattle.std.proofs.lemmas.List.{length-drop}
+use Rattle.std.proofs.lemmas.List.{drop-drop, length-drop}
 use Rattle.std.proofs.lemmas.List.Sums.{fold-append}
 use Rattle.std.proofs.Math.Seq.{take-add}
 use Rattle.line_memory.specs.declared.Write.{Write}
@@ -60,6 +60,17 @@ told_the_same at life from upto = record {
   seen = same_seen at life from upto;
 }
 
+pub same_record : (base base2 : List (List ℕ)) (start : ℕ) (ws ws2 : List Write) (room room2 : ℕ) → base ≡ base2 → ws ≡ ws2 → room ≡ room2
+    → recorded base start ws room ≡ recorded base2 start ws2 room2
+same_record base base2 start ws ws2 room room2 b w r = rw (b, w, r) refl
+
+-- two cuts, one behind the other, are the second one
+pub cut_again : (life : Recorded) (first second : ℕ) → life.start ≤ first → first ≤ second → cut_at second (cut_at first life) ≡ cut_at second life
+cut_again life first second from later =
+    let place : first - life.start + (second - first) ≡ second - life.start = omega (arith, from, later) in
+    same_record _ _ second _ _ life.room life.room (same_memory first life from second later)
+    (drop-drop (second - first) (first - life.start) life.writes ∙ ap (λ (k : ℕ). drop k life.writes) place) refl
+
 -- one more write has gone: what is to go yet, and what stays
 pub one_less : (at n : ℕ) (base : List (List ℕ)) (w : Write) (old new : List Write) → n < at → old ≡ w ∷ new
     → after base (take (at - n) old) ≡ after (after_write base w) (take (at - (n + 1)) new)
@@ -78,7 +89,3 @@ none_left at n base ws done = let none : at - n ≡ 0 = omega (arith, done) in a
 
 pub none_off : (at n : ℕ) (ws : List Write) → at ≤ n → drop (at - n) ws ≡ ws
 none_off at n ws done = let none : at - n ≡ 0 = omega (arith, done) in ap (λ (k : ℕ). drop k ws) none
-
-pub same_record : (base base2 : List (List ℕ)) (start : ℕ) (ws ws2 : List Write) (room room2 : ℕ) → base ≡ base2 → ws ≡ ws2 → room ≡ room2
-    → recorded base start ws room ≡ recorded base2 start ws2 room2
-same_record base base2 start ws ws2 room room2 b w r = rw (b, w, r) refl
