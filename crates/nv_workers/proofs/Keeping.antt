@@ -1,45 +1,60 @@
 -- Each event keeps the record of the life, with the write that it accepted, and the count of the newest image.
-use Rattle.std.proofs.Common.{◌≡◌, ℕ, ◌+◌, ◌<◌, ◌≤◌, List, [], ◌∷◌, ◌++◌, length, refl, ap, sym, ◌∙◌, arith}
+use Rattle.std.proofs.Common.{◌≡◌, ℕ, ◌+◌, ◌-◌, ◌<◌, ◌≤◌, List, [], ◌∷◌, ◌++◌, length, refl, ap, sym, ◌∙◌, arith}
 use Rattle.std.specs.Result.{IsOk}
 use Rattle.std.proofs.Math.Nat.{ℕ_set}
-use Rattle.std.proofs.lemmas.List.{append-nil, length-append}
-use Rattle.nv_workers.proofs.Common.{Err, Ghosts as GaugeGhosts, IsRecordKept, Machine, Ok, RecordedModule, Result}
+use Rattle.std.proofs.lemmas.List.{append-nil, length-append, length-drop}
+use Rattle.nv_workers.proofs.Common.{Err, Ghosts as GaugeGhosts, IsRecordKept, Machine, ModuleStands, Ok, RecordedModule, Result}
 use Rattle.nv_workers.proofs.Common.{Setup, StandsWith, StepsTo, assembly_of, setup_of, world_of, ∥∥₁_elim, ∥∥₁_map}
 use Rattle.save_image.specs.Image.{Image}
 use Rattle.save_device.specs.declared.device.SaveDevice.{Ghosts as DeviceGhosts}
 use Rattle.line_memory.specs.declared.Write as line_write
-use Rattle.line_memory.specs.History.{Recorded}
+use Rattle.line_memory.specs.History.{Recorded, recorded}
 use Rattle.channel_port.specs.declared.port.ChannelPort.{Ghosts}
-use Rattle.arm_state.specs.declared.loss.Loss.TheVariants as loss
 use Rattle.arm_state.specs.declared.refusal.WriteRefusal.{WriteRefusal}
 use Rattle.nv_machine.specs.declared.events.Accepted.{Accepted}
-use Rattle.nv_machine.specs.declared.events.StepReply.TheVariants as step
 use Rattle.nv_machine.specs.declared.events.Event.{Event}
 use Rattle.nv_machine.specs.declared.events.Event.TheVariants as events
 use Rattle.nv_machine.specs.declared.events.Reply.{Reply}
 use Rattle.nv_machine.specs.declared.events.Reply.TheVariants as replies
 use Rattle.nv_machine.specs.Rising.{added}
-use Rattle.nv_machine.proofs.Effects.{KeepsNewest}
 use Rattle.nv_machine.proofs.EachEvent.{KeepsLife, event_keeps}
-use Rattle.nv_workers.specs.Newest.{saved_after}
+use Rattle.nv_machine.proofs.Guarded.{cut_below}
+use Rattle.nv_machine.specs.State.{start_of_life, stored_base, stored_writes}
+use Rattle.nv_workers.proofs.Stored.{stored_grows}
 
 -- the record with the write that an event accepted
 abbrev pub recorded_after : Event → Reply → Recorded → Recorded
 recorded_after event reply history = record history { writes = history.writes ++ added event reply }
 
--- so many writes the newest image has after a reply
-newest_after : (reply : Reply) (before after : ℕ) → KeepsNewest reply before after → after ≡ saved_after reply before
-newest_after (replies.SaveStep (step.Saved generation count)) before after is = is
-newest_after (replies.Lose (loss.Saved generation count)) before after is = is
-newest_after reply before after is = is
+-- a record with these writes and this room
+abbrev with_writes : Recorded → List line_write.Write → Recorded
+with_writes history writes = record history { writes = writes }
 
-module _ {K D E : Type 0} (L : Ghosts K) (M : DeviceGhosts D) (N : GaugeGhosts E) where
+module _ {K D E : Type 0} (L : Ghosts K) (M : DeviceGhosts D) where
+  -- what is stored begins within the life
+  pub begins_within : (it : RecordedModule K D E L) (m : Machine) → ModuleStands L it.running (M.state it.device) m → (start_of_life m.life ≤ m.cut) × (m.cut ≤ start_of_life m.life + length m.life.writes)
+  begins_within it m stands =
+      let opened = (cut_below m stands.guarded).opened in
+      let stored : it.running.terms.cut ≤ it.running.saved = it.running.stored in
+      let settled : it.running.saved ≤ it.running.accepted = it.running.settled in
+      (opened, omega (arith, stored, settled, stands.matches.cut, stands.matches.accepted))
+
+  -- the record begins where the module's stored writes do
+  pub starts_with : (it : RecordedModule K D E L) → IsRecordKept L M it → it.history.start ≡ it.running.terms.cut
+  starts_with it kept = ∥∥₁_elim kept.stands (ℕ_set _ _) (λ s. ap (λ (h : Recorded). h.start) s.1.stored ∙ sym s.1.stands.matches.cut)
+
   -- how many writes the module has accepted
-  counted_with : (it : RecordedModule K D E L) → IsRecordKept L M it → it.running.accepted ≡ it.history.start + length it.history.writes
+  pub counted_with : (it : RecordedModule K D E L) → IsRecordKept L M it → it.running.accepted ≡ it.history.start + length it.history.writes
   counted_with it kept =
       ∥∥₁_elim kept.stands (ℕ_set _ _)
-      (λ s. let size : length s.0.life.writes ≡ length it.history.writes = ap length s.1.writes in omega (arith, s.1.stands.matches.accepted, s.1.start, size))
+      (λ s.
+      let m : Machine = s.0 in let within = begins_within it m s.1.stands in
+      let size : length it.history.writes ≡ length m.life.writes - (m.cut - start_of_life m.life) =
+      ap (λ (h : Recorded). length h.writes) s.1.stored ∙ length-drop (m.cut - start_of_life m.life) m.life.writes in
+      let start : it.history.start ≡ m.cut = ap (λ (h : Recorded). h.start) s.1.stored in
+      omega (arith, s.1.stands.matches.accepted, start, size, within.0, within.1))
 
+module _ {K D E : Type 0} (L : Ghosts K) (M : DeviceGhosts D) (N : GaugeGhosts E) where
   module _ (event : Event) (reply : Reply) (old new : RecordedModule K D E L) (kept : IsRecordKept L M old)
       (steps : StepsTo L M N event reply old new) (setup : setup_of L new.running ≡ setup_of L old.running) where
     life_kept : (m : Machine) (with : StandsWith L M old m) → KeepsLife event reply m (steps m with.stands).0
@@ -52,39 +67,62 @@ module _ {K D E : Type 0} (L : Ghosts K) (M : DeviceGhosts D) (N : GaugeGhosts E
         ∥∥₁_elim kept.stands (ℕ_set _ _)
         (λ s. (steps s.0 s.1.stands).1.matches.start ∙ ap (λ (i : Image). i.count) (life_kept s.0 s.1).opened ∙ sym s.1.stands.matches.start)
 
-    stands_on : new.saved ≡ saved_after reply old.saved → new.history ≡ recorded_after event reply old.history → (m : Machine) (with : StandsWith L M old m) → StandsWith L M new (steps m with.stands).0
-    stands_on saves records m with =
-        let keeps = life_kept m with in
+    -- the module has accepted the write that the event adds
+    counts_on : new.running.accepted ≡ old.running.accepted + length (added event reply)
+    counts_on =
+        ∥∥₁_elim kept.stands (ℕ_set _ _)
+        (λ s.
+        let keeps = life_kept s.0 s.1 in let next = steps s.0 s.1.stands in
+        let from : next.0.life.opened.count ≡ s.0.life.opened.count = ap (λ (i : Image). i.count) keeps.opened in
+        let size = ap length keeps.writes ∙ length-append s.0.life.writes (added event reply) in
+        omega (arith, next.1.matches.accepted, s.1.stands.matches.accepted, from, size))
+
+    -- the hosts' writes are those of the life, but for its first ones
+    pub counted_on : (before total later : ℕ) → old.running.accepted ≡ old.running.terms.start + before + total → later ≡ total + length (added event reply)
+        → new.running.accepted ≡ new.running.terms.start + before + later
+    counted_on before total later was adds = omega (arith, counts_on, same_start, was, adds)
+
+    -- none is added
+    pub counted_same : (before total : ℕ) → added event reply ≡ [] → old.running.accepted ≡ old.running.terms.start + before + total
+        → new.running.accepted ≡ new.running.terms.start + before + total
+    counted_same before total none was = counted_on before total total was (omega (arith, ap length none))
+
+    stands_on : new.running.terms.cut ≡ old.running.terms.cut → new.history ≡ recorded_after event reply old.history → (m : Machine) (with : StandsWith L M old m)
+        → StandsWith L M new (steps m with.stands).0
+    stands_on uncut records m with =
+        let n : Machine = (steps m with.stands).0 in let keeps = life_kept m with in
+        let same_cut : n.cut ≡ m.cut = sym (steps m with.stands).1.matches.cut ∙ uncut ∙ with.stands.matches.cut in
+        let within = begins_within L M old m with.stands in
+        let room : ℕ = old.history.room in
+        let grows = stored_grows m n (added event reply) room same_cut keeps.opened keeps.writes (omega (arith, within.0, within.1)) in
+        let whole : new.history ≡ recorded (stored_base n) n.cut (stored_writes n) room =
+        records ∙ ap (λ (h : Recorded). with_writes h (h.writes ++ added event reply)) with.stored ∙ sym grows in
         record {
           stands = (steps m with.stands).1;
-          saved = newest_after reply _ _ keeps.newest ∙ ap (saved_after reply) with.saved ∙ sym saves;
-          base = ap (λ (i : Image). i.memory) keeps.opened ∙ with.base ∙ sym (ap (λ (h : Recorded). h.base) records);
-          start = ap (λ (i : Image). i.count) keeps.opened ∙ with.start ∙ sym (ap (λ (h : Recorded). h.start) records);
-          writes = keeps.writes ∙ ap (λ (ws : List line_write.Write). ws ++ added event reply) with.writes ∙ sym (ap (λ (h : Recorded). h.writes) records);
+          stored = whole ∙ ap (λ (r : ℕ). recorded (stored_base n) n.cut (stored_writes n) r) (sym (ap (λ (h : Recorded). h.room) whole));
         }
 
-    pub keeps_on : new.saved ≡ saved_after reply old.saved → new.history ≡ recorded_after event reply old.history → IsRecordKept L M new
-    keeps_on saves records = record {
-      stands = ∥∥₁_map kept.stands (λ s. ((steps s.0 s.1.stands).0, stands_on saves records s.0 s.1));
+    pub keeps_on : new.running.terms.cut ≡ old.running.terms.cut → new.history ≡ recorded_after event reply old.history → IsRecordKept L M new
+    keeps_on uncut records = record {
+      stands = ∥∥₁_map kept.stands (λ s. ((steps s.0 s.1.stands).0, stands_on uncut records s.0 s.1));
       room =
-          let start = same_start in let trail : new.running.terms.trail ≡ old.running.terms.trail = ap (λ (s : Setup). s.trail) setup in
-          omega (arith, kept.room, start, trail, ap (λ (h : Recorded). h.start) records, ap (λ (h : Recorded). h.room) records);
+          let trail : new.running.terms.trail ≡ old.running.terms.trail = ap (λ (s : Setup). s.trail) setup in omega (arith, kept.room, trail, ap (λ (h : Recorded). h.room) records);
     }
 
     -- an event that accepts no write leaves the record as it is
-    pub keeps_same : added event reply ≡ [] → new.saved ≡ saved_after reply old.saved → new.history ≡ old.history → IsRecordKept L M new
-    keeps_same none saves same =
+    pub keeps_same : new.running.terms.cut ≡ old.running.terms.cut → added event reply ≡ [] → new.history ≡ old.history → IsRecordKept L M new
+    keeps_same uncut none same =
         let writes : old.history.writes ++ added event reply ≡ old.history.writes = ap (λ (ws : List line_write.Write). old.history.writes ++ ws) none ∙ append-nil old.history.writes in
-        keeps_on saves (same ∙ ap (λ (ws : List line_write.Write). record old.history { writes = ws }) (sym writes))
+        keeps_on uncut (same ∙ ap (λ (ws : List line_write.Write). record old.history { writes = ws }) (sym writes))
 
   -- a write that was accepted had room in the record
   pub has_room : (write : line_write.Write) (result : Result Accepted WriteRefusal) (old new : RecordedModule K D E L) → IsRecordKept L M old
       → StepsTo L M N (events.Write write) (replies.Write result) old new → setup_of L new.running ≡ setup_of L old.running
-      → new.running.accepted ≤ new.running.terms.start + new.running.terms.trail → IsOk result → length old.history.writes < old.history.room
-  has_room write (Ok accepted) old new kept steps setup within ok =
-      let noted : RecordedModule K D E L = record new { saved = old.saved; history = recorded_after (events.Write write) (replies.Write (Ok accepted)) old.history } in
-      let later = keeps_on (events.Write write) (replies.Write (Ok accepted)) old noted kept steps setup refl refl in
-      let count = counted_with noted later in
+      → new.running.terms.cut ≡ old.running.terms.cut → new.running.accepted ≤ new.running.terms.cut + new.running.terms.trail → IsOk result → length old.history.writes < old.history.room
+  has_room write (Ok accepted) old new kept steps setup uncut within ok =
+      let noted : RecordedModule K D E L = record new { history = recorded_after (events.Write write) (replies.Write (Ok accepted)) old.history } in
+      let later = keeps_on (events.Write write) (replies.Write (Ok accepted)) old noted kept steps setup uncut refl in
+      let count = counted_with L M noted later in let start = starts_with L M noted later in
       let size = length-append old.history.writes (write ∷ []) in
-      omega (arith, within, later.room, count, size)
-  has_room write (Err refusal) old new kept steps setup within ok = absurd (let bad : ⊥ = cc in bad)
+      omega (arith, within, later.room, count, start, size)
+  has_room write (Err refusal) old new kept steps setup uncut within ok = absurd (let bad : ⊥ = cc in bad)

@@ -1,9 +1,11 @@
 pub mod Common
+pub mod CutRecords
 pub mod Holding
 pub mod IfOkGives
 pub mod Keeping
 pub mod Living
 pub mod Quiet
 pub mod ReadLent
+pub mod Stored
 pub mod Ticketed
 pub mod Written

@@ -1,12 +1,15 @@
 -- When a life bears out what its hosts were told.
-use Rattle.std.specs.Prelude.{◌≡◌, ℕ, List, All, slice_get, take, Some, MatchBool}
+use Rattle.std.specs.Prelude.{◌≡◌, ◌⊎◌, ℕ, ◌+◌, ◌<◌, List, All, count_by, length, nat_lt, slice_get, take, Some, MatchBool, if◌then◌else◌}
 use Rattle.line_memory.specs.History.{Recorded, IsSeenAt}
 use Rattle.line_memory.specs.Memory.{line_of, memory_at}
 use Rattle.line_memory.specs.History.{write_at}
 use Rattle.line_memory.specs.declared.Write.{Write}
-use Rattle.nv_workers.specs.declared.ending.Stranger.{Stranger}
+use Rattle.channel_port.specs.declared.port.ChannelPort.{Ghosts}
+use Rattle.nv_workers.specs.declared.checking.Cut.{Cut}
+use Rattle.nv_workers.specs.declared.checking.Stranger.{Stranger}
 use Rattle.nv_workers.specs.declared.host.Receipt.{Receipt}
 use Rattle.nv_workers.specs.declared.host.Seen.{Seen}
+use Rattle.nv_workers.specs.declared.recorded_module.RecordedModule.{RecordedModule}
 
 -- the write that a receipt is for
 abbrev pub receipted : Receipt → Write
@@ -29,9 +32,41 @@ pub record IsFirstNot {A : Type 0} (P : A → Type 0) (xs : List A) (place : ℕ
   pub differs : ¬ P element
   pub before : All P (take place xs)
 
--- the first receipt that doesn't stand in the history; where all stand, the first answer that isn't borne out
-abbrev pub IsFirstStranger : Recorded → List Receipt → List Seen → Stranger → Type 0
-IsFirstStranger history receipts answers stranger =
+-- or it is past: what it tells of lies below this number
+abbrev pub StandsOrIsPast : ℕ → Recorded → Receipt → Type 0
+StandsOrIsPast below history receipt = (receipt.number < below) ⊎ StandsIn history receipt
+
+abbrev pub IsBorneOutOrPast : ℕ → Recorded → Seen → Type 0
+IsBorneOutOrPast below history answer = (answer.at < below) ⊎ IsBorneOut history answer
+
+-- how many receipts and answers are past
+abbrev pub past_among : ℕ → List Receipt → List Seen → ℕ
+past_among below receipts answers = count_by (λ r. nat_lt r.number below) receipts + count_by (λ a. nat_lt a.at below) answers
+
+-- the first receipt that doesn't stand in the history and isn't past; where there is none, the first answer that isn't borne
+-- out and isn't past
+abbrev pub IsFirstStranger : ℕ → Recorded → List Receipt → List Seen → Stranger → Type 0
+IsFirstStranger below history receipts answers stranger =
     MatchBool stranger.answer
-    (All (StandsIn history) receipts × IsFirstNot (IsBorneOut history) answers stranger.index)
-    (IsFirstNot (StandsIn history) receipts stranger.index)
+    (All (StandsOrIsPast below history) receipts × IsFirstNot (IsBorneOutOrPast below history) answers stranger.index)
+    (IsFirstNot (StandsOrIsPast below history) receipts stranger.index)
+
+abbrev pub cut : ℕ → ℕ → ℕ → Cut
+cut from checked past = record { from = from; checked = checked; past = past }
+
+module _ {K D E : Type 0} (L : Ghosts K) where
+  -- Where writes of the life were cut off, whatever lies below the stored ones is past. Before a cut nothing is.
+  abbrev pub past_below : RecordedModule K D E L → ℕ
+  past_below it = if nat_lt it.running.terms.start it.history.start then it.history.start else 0
+
+  -- No stranger is among these receipts and answers: each is past or was checked, and this is told of it.
+  pub record HasChecked (it : RecordedModule K D E L) (receipts : List Receipt) (answers : List Seen) (told : Cut) : Type 0 where
+    pub starts : told.from ≡ it.history.start
+    pub gone : told.past ≡ past_among (past_below it) receipts answers
+    pub all : told.checked + told.past ≡ length receipts + length answers
+    pub stand : All (StandsOrIsPast (past_below it) it.history) receipts
+    pub borne_out : All (IsBorneOutOrPast (past_below it) it.history) answers
+
+  -- this one is the first stranger among them
+  abbrev pub HasStranger : RecordedModule K D E L → List Receipt → List Seen → Stranger → Type 0
+  HasStranger it receipts answers stranger = IsFirstStranger (past_below it) it.history receipts answers stranger

@@ -14,9 +14,14 @@ use Rattle.nv_machine.specs.declared.events.Reply.TheVariants as replies
 use Rattle.nv_machine.specs.State.{Machine}
 use Rattle.module_core.specs.Stands.{Matches}
 use Rattle.nv_workers.specs.declared.board_name.BoardName.{Ghosts as NameGhosts}
+use Rattle.nv_workers.specs.declared.checking.Cut.{Cut}
+use Rattle.nv_workers.specs.declared.checking.Stranger.{Stranger}
 use Rattle.nv_workers.specs.declared.held.Held.{Held}
+use Rattle.nv_workers.specs.declared.host.Receipt.{Receipt}
+use Rattle.nv_workers.specs.declared.host.Seen.{Seen}
 use Rattle.nv_workers.specs.declared.saver.Saving.{Saving}
 use Rattle.nv_workers.specs.declared.worker.Working.{Working}
+use Rattle.nv_workers.specs.Cutting.{CutsOrNames}
 use Rattle.nv_workers.specs.Lookouts.{EndsWaiting}
 use Rattle.nv_workers.specs.Savers.{turn_of, turn_taken, working_of}
 use Rattle.nv_workers.specs.Serving.{ReadsServed}
@@ -30,6 +35,12 @@ module _ {K D E B : Type 0} (L : Ghosts K) (M : DeviceGhosts D) (N : GaugeGhosts
     pub after : Held K D E B L M N O
     pub steps : Steps L M N O event reply before after
 
+  -- receipts and answers were checked and it was cut, or a stranger was named
+  pub record LentCut (receipts : List Receipt) (answers : List Seen) (result : Result Cut Stranger) : Type 0 where
+    pub before : Held K D E B L M N O
+    pub after : Held K D E B L M N O
+    pub cuts : CutsOrNames L M N O receipts answers result before after
+
   -- a channel's worker took one turn
   pub record LentWork (channel : ℕ) (done : Working) : Type 0 where
     pub before : Held K D E B L M N O
@@ -40,7 +51,7 @@ module _ {K D E B : Type 0} (L : Ghosts K) (M : DeviceGhosts D) (N : GaugeGhosts
   pub record LentSave (saving : Saving) : Type 0 where
     pub before : Held K D E B L M N O
     pub after : Held K D E B L M N O
-    pub turn : (m : Machine) → Matches L before.recorded.running m → turn_taken saving ≡ turn_of m before.recorded.saved
+    pub turn : (m : Machine) → Matches L before.recorded.running m → turn_taken saving ≡ turn_of m before.recorded.running.saved
     pub steps : TakesTurn L M N O saving before after
 
   -- the same, by how it goes on

@@ -1,12 +1,12 @@
 pub mod Boards
 pub mod Client
+pub mod Cutting
 pub mod Ending
 pub mod Kept
 pub mod Lent
 pub mod Lived
 pub mod Lookouts
 pub mod Marks
-pub mod Newest
 pub mod Opening
 pub mod Savers
 pub mod Serving

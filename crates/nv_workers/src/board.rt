@@ -3,7 +3,9 @@ ghost use Rattle.std.specs.Prelude.{◌<◌};
 
 use crate::awaiting::await_bytes;
 use crate::board_name::BoardName;
+use crate::checking::{Cut, Stranger};
 use crate::held::Held;
+use crate::host::{Receipt, Seen};
 use crate::lent::BoardLookout;
 use crate::saver::Saving;
 use crate::worker::Working;
@@ -26,7 +28,7 @@ pub struct Board<K: ChannelPort, D: SaveDevice, E: Energy, B: BoardName, N: Noti
 }
 
 impl<K: ChannelPort, D: SaveDevice, E: Energy, B: BoardName, N: Notices> Board<K, D, E, B, N> {
-    ghost use Rattle.nv_workers.specs.Lent.{LentBytes, LentStep};
+    ghost use Rattle.nv_workers.specs.Lent.{LentBytes, LentCut, LentStep};
 
     /// Puts a module and a book of notices behind their locks.
     pub fn new(held: Held<K, D, E, B>, notices: N) -> Board<K, D, E, B, N> {
@@ -86,6 +88,20 @@ impl<K: ChannelPort, D: SaveDevice, E: Energy, B: BoardName, N: Notices> Board<K
             Event.Lose (Reply.Lose result) }
     {
         self.held.lock(rt).power_loss(rt, gate)
+    }
+
+    /// Checks receipts and answers against the stored writes, and then takes off those that the newest image holds, as `Held::cut`:
+    /// both under one lock. A stranger among the receipts and the answers is named, and then nothing was cut.
+    pub fn cut(
+        &self,
+        rt: &impl Wait,
+        receipts: &[Receipt],
+        answers: &[Seen],
+    ) -> Result<Cut, Stranger>
+        ensures { LentCut K.ChannelPort D.SaveDevice E.Energy B.BoardName.own
+            receipts.now answers.now result }
+    {
+        self.held.lock(rt).cut(receipts, answers)
     }
 
     /// Waits for the bytes of a read that was answered by a ticket. A loss of mains ends it.

@@ -1,107 +1,44 @@
-// The end of a board, and the check of receipts and answers.
-ghost use Rattle.std.specs.Prelude.{◌≡◌, ◌+◌, ◌≤◌, ◌↔◌, All, Some, length, sum_by, IfOk, IfErr, IfSome, IfNone, IsTrue};
-ghost use Rattle.line_memory.specs.History.{Recorded};
-ghost use Rattle.line_memory.specs.declared.Write.{Write};
+// The end of a board.
+ghost use Rattle.std.specs.Prelude.{◌≡◌, ◌+◌, ◌≤◌, All, length, sum_by, IfOk, IfErr};
 ghost use Rattle.nv_workers.specs.declared.held.Held.{Held};
 ghost use Rattle.nv_workers.specs.Kept.{IsRecordKept};
 ghost use Rattle.nv_workers.specs.Lived.{HasSomeLife};
-ghost use Rattle.nv_workers.specs.Ending.{IsBorneOut, IsFirstNot, IsFirstStranger, StandsIn, receipted};
+ghost use Rattle.nv_workers.specs.Ending.{HasChecked, HasStranger, cut};
 
 use crate::board::Board;
 use crate::board_name::BoardName;
+use crate::checking::{Cut, Stranger};
 use crate::held::Held;
 use crate::host::{Host, Receipt, Seen};
 use crate::recorded_module::RecordedModule;
 use crate::tally::Tally;
 use channel_port::ChannelPort;
 use energy_budget::Energy;
-use line_memory::{History, Write};
 use mark_board::{BoardSeat, MarkBoard};
 use notice_book::Notices;
 use save_device::SaveDevice;
 use std::sync::ledger::Share;
 
-/// What a board leaves: the module with its record, the notices that were not called, and how many receipts and answers were
-/// checked.
+/// What a life leaves: the module with its record, and what became of its receipts and answers. The history goes from the write
+/// with the number `from` on; so many receipts and answers were checked against it, and so many are past.
+#[derive(Drop)]
+pub struct EndedLife<K: ChannelPort, D, E> {
+    pub recorded: RecordedModule<K, D, E>,
+    pub from: u64,
+    pub checked: u64,
+    pub past: u64,
+}
+
+/// What a board leaves: the module with its record, the notices that were not called, and what became of receipts and answers. The
+/// history goes from the write with the number `from` on; so many receipts and answers were checked against it, and so many are
+/// past.
 #[derive(Drop)]
 pub struct Closed<K: ChannelPort, D, E, N> {
     pub recorded: RecordedModule<K, D, E>,
     pub notices: N,
+    pub from: u64,
     pub checked: u64,
-}
-
-/// A receipt, or an answer, that the history doesn't bear out, by its place.
-#[derive(Clone, Copy, Debug, PartialEq, Eq)]
-pub struct Stranger {
-    pub answer: bool,
-    pub index: usize,
-}
-
-// Whether a write was found, and is that of a receipt.
-fn is_of(found: Option<Write>, receipt: &Receipt) -> bool
-    ensures { IsTrue result ↔ (found ≡ Some (receipted receipt.now)) }
-{
-    match found {
-        Some(write) => write.line == receipt.line && write.data == receipt.data,
-        None => false,
-    }
-}
-
-// Whether the write of a receipt stands in the history.
-fn stands_in(history: &History, receipt: &Receipt) -> bool
-    ensures { IsTrue result ↔ StandsIn history.now receipt.now }
-{
-    is_of(history.accepted_write(receipt.number), receipt)
-}
-
-// Whether an answer is its line after the writes before it.
-#[tactic(auto, unfolding(crate::specs::Ending::IsBorneOut))]
-fn is_borne_out(history: &History, answer: &Seen) -> bool
-    ensures { IsTrue result ↔ IsBorneOut history.now answer.now }
-{
-    history.knows(answer.line, answer.at) && history.value_of(answer.line, answer.at) == answer.data
-}
-
-// The first receipt that doesn't stand in the history.
-fn strange_receipt(history: &History, receipts: &[Receipt]) -> Option<usize>
-    ensures some { IfSome result (λ i. IsFirstNot (StandsIn history.now) receipts.now i) }
-    ensures none { IfNone result (All (StandsIn history.now) receipts.now) }
-{
-    receipts
-        .iter()
-        .position(|receipt| !stands_in(history, receipt))
-}
-
-// The first answer that the history doesn't bear out.
-fn strange_answer(history: &History, answers: &[Seen]) -> Option<usize>
-    ensures some { IfSome result (λ i. IsFirstNot (IsBorneOut history.now) answers.now i) }
-    ensures none { IfNone result (All (IsBorneOut history.now) answers.now) }
-{
-    answers
-        .iter()
-        .position(|answer| !is_borne_out(history, answer))
-}
-
-/// The first receipt, else the first answer, that a life doesn't bear out.
-pub fn find_stranger(history: &History, receipts: &[Receipt], answers: &[Seen]) -> Option<Stranger>
-    ensures some { IfSome result (λ s.
-        IsFirstStranger history.now receipts.now answers.now s) }
-    ensures receipts { IfNone result (All (StandsIn history.now) receipts.now) }
-    ensures answers { IfNone result (All (IsBorneOut history.now) answers.now) }
-{
-    if let Some(index) = strange_receipt(history, receipts) {
-        return Some(Stranger {
-            answer: false,
-            index,
-        });
-    }
-    if let Some(index) = strange_answer(history, answers) {
-        return Some(Stranger {
-            answer: true,
-            index,
-        });
-    }
-    None
+    pub past: u64,
 }
 
 // Ends a host, whose share goes to the others'. It has seen no mark above the words.
@@ -139,8 +76,8 @@ impl<K: ChannelPort, D: SaveDevice, E: Energy, B: BoardName> Held<K, D, E, B> {
         ensures same { result ≡ self.recorded }
         ensures kept { IsRecordKept K.ChannelPort D.SaveDevice result }
         ensures lived { HasSomeLife K.ChannelPort D.SaveDevice E.Energy result }
-        ensures shares { length result.history.writes
-            ≡ B.before + sum_by (λ h. h.writes) hosts.items }
+        ensures shares { result.running.accepted
+            ≡ result.running.terms.start + B.before + sum_by (λ h. h.writes) hosts.items }
         ensures marks { All (λ h. h.persisted ≤ result.running.persisted) hosts.items }
     {
         let Held {
@@ -159,43 +96,56 @@ impl<K: ChannelPort, D: SaveDevice, E: Energy, B: BoardName> Held<K, D, E, B> {
 }
 
 impl<K: ChannelPort, D: SaveDevice, E: Energy, B: BoardName> Held<K, D, E, B> {
-    /// Ends a life once all hosts of its board are back: the receipts and the answers are checked against the history, and the module
-    /// comes back with its record, as it is. A stranger among them gives all back, as it was. It takes no memory.
+    /// Ends a life once all hosts of its board are back: the receipts and the answers are checked against the history, as a cut does
+    /// it, and the module comes back with its record, as it is. A stranger among them gives all back, as it was. It takes no memory.
     pub fn end(
         self,
         hosts: Vec<Host<B>>,
         receipts: &[Receipt],
         answers: &[Seen],
-    ) -> Result<RecordedModule<K, D, E>, (Held<K, D, E, B>, Vec<Host<B>>, Stranger)>
+    ) -> Result<EndedLife<K, D, E>, (Held<K, D, E, B>, Vec<Host<B>>, Stranger)>
     where
         K: Drop,
         D: Drop,
         E: Drop,
         requires { length hosts.items ≡ B.parts }
-        ensures recorded { IfOk result (λ r. r ≡ self.recorded) }
-        ensures receipts { IfOk result (λ r. All (StandsIn r.history) receipts.now) }
-        ensures answers { IfOk result (λ r. All (IsBorneOut r.history) answers.now) }
-        ensures shares { IfOk result (λ r.
-            length r.history.writes ≡ B.before + sum_by (λ h. h.writes) hosts.items) }
-        ensures marks { IfOk result (λ r.
-            All (λ h. h.persisted ≤ r.running.persisted) hosts.items) }
-        ensures kept { IfOk result (λ r. IsRecordKept K.ChannelPort D.SaveDevice r) }
-        ensures lived { IfOk result (λ r. HasSomeLife K.ChannelPort D.SaveDevice E.Energy r) }
+        ensures recorded { IfOk result (λ c. c.recorded ≡ self.recorded) }
+        ensures checked { IfOk result (λ c. HasChecked K.ChannelPort c.recorded
+            receipts.now answers.now (cut c.from c.checked c.past)) }
+        ensures shares { IfOk result (λ c. c.recorded.running.accepted
+            ≡ c.recorded.running.terms.start + B.before + sum_by (λ h. h.writes) hosts.items) }
+        ensures marks { IfOk result (λ c.
+            All (λ h. h.persisted ≤ c.recorded.running.persisted) hosts.items) }
+        ensures kept { IfOk result (λ c. IsRecordKept K.ChannelPort D.SaveDevice c.recorded) }
+        ensures lived { IfOk result (λ c.
+            HasSomeLife K.ChannelPort D.SaveDevice E.Energy c.recorded) }
         ensures stranger { IfErr result (λ e.
-            IsFirstStranger self.recorded.history receipts.now answers.now e.2) }
+            HasStranger K.ChannelPort self.recorded receipts.now answers.now e.2) }
         ensures same { IfErr result (λ e. e.0 ≡ self) }
         ensures hosts { IfErr result (λ e. e.1 ≡ hosts) }
     {
-        match find_stranger(&self.recorded.history, receipts, answers) {
-            Some(stranger) => Err((self, hosts, stranger)),
-            None => Ok(self.conclude(hosts)),
+        match self.check(receipts, answers) {
+            Err(stranger) => Err((self, hosts, stranger)),
+            Ok(
+                Cut {
+                    from,
+                    checked,
+                    past,
+                },
+            ) => Ok(EndedLife {
+                recorded: self.conclude(hosts),
+                from,
+                checked,
+                past,
+            }),
         }
     }
 }
 
 /// Ends a board once all its threads were joined, with all its hosts, as `Held::end` what lay behind its lock: the receipts and the
-/// answers are checked against the history, and the module with its record and the notices come back. A stranger among them gives
-/// the board and the hosts back. It takes no memory.
+/// answers are checked against the history, and the module with its record and the notices come back. Where the board was cut,
+/// receipts with numbers below `from` and answers given behind fewer writes are past: they are counted, and not checked. A
+/// stranger among the others gives the board and the hosts back. It takes no memory.
 pub fn close<K, D, E, B, N>(
     board: Board<K, D, E, B, N>,
     hosts: Vec<Host<B>>,
@@ -209,27 +159,35 @@ where
     B: BoardName,
     N: Notices + Drop,
     requires { length hosts.items ≡ B.parts }
-    ensures receipts { IfOk result (λ c. All (StandsIn c.recorded.history) receipts.now) }
-    ensures answers { IfOk result (λ c. All (IsBorneOut c.recorded.history) answers.now) }
-    ensures shares { IfOk result (λ c. length c.recorded.history.writes
-        ≡ B.before + sum_by (λ h. h.writes) hosts.items) }
+    ensures checked { IfOk result (λ c. HasChecked K.ChannelPort c.recorded
+        receipts.now answers.now (cut c.from c.checked c.past)) }
+    ensures shares { IfOk result (λ c. c.recorded.running.accepted
+        ≡ c.recorded.running.terms.start + B.before + sum_by (λ h. h.writes) hosts.items) }
     ensures marks { IfOk result (λ c.
         All (λ h. h.persisted ≤ c.recorded.running.persisted) hosts.items) }
     ensures kept { IfOk result (λ c. IsRecordKept K.ChannelPort D.SaveDevice c.recorded) }
     ensures lived { IfOk result (λ c. HasSomeLife K.ChannelPort D.SaveDevice E.Energy c.recorded) }
-    ensures checked { IfOk result (λ c. c.checked ≡ length receipts.now + length answers.now) }
     ensures hosts { IfErr result (λ e. e.1 ≡ hosts) }
     ensures stranger { IfErr result (λ e.
         (held : Held K D E B K.ChannelPort D.SaveDevice E.Energy B.BoardName.own)
-        × IsFirstStranger held.recorded.history receipts.now answers.now e.2) }
+        × HasStranger K.ChannelPort held.recorded receipts.now answers.now e.2) }
 {
     let Board { held, notices } = board;
     let notices = notices.into_inner();
     match held.into_inner().end(hosts, receipts, answers) {
-        Ok(recorded) => Ok(Closed {
+        Ok(
+            EndedLife {
+                recorded,
+                from,
+                checked,
+                past,
+            },
+        ) => Ok(Closed {
             recorded,
             notices,
-            checked: receipts.len() as u64 + answers.len() as u64,
+            from,
+            checked,
+            past,
         }),
         Err((held, hosts, stranger)) => Err((Board::new(held, notices), hosts, stranger)),
     }

@@ -7,7 +7,6 @@ ghost use Rattle.module_core.specs.Stands.{setup_of};
 ghost use Rattle.nv_workers.specs.Kept.{IsRecordKept};
 ghost use Rattle.nv_workers.specs.Lived.{HasSomeLife};
 ghost use Rattle.nv_workers.specs.Marks.{IsBehind, IsCounted, marks_of};
-ghost use Rattle.nv_workers.specs.Newest.{saved_after};
 
 use crate::board_name::BoardName;
 use crate::recorded_module::RecordedModule;
@@ -27,7 +26,7 @@ use std::thread::Threads;
 use worker_gate::Gate;
 
 /// A module with its record, the words and the seat that moves them, which show the module's two numbers, and how many of the
-/// recorded writes are the hosts'. It keeps that some life so far leads to where module, device and gauge stand.
+/// life's writes are the hosts'. It keeps that some life so far leads to where module, device and gauge stand.
 #[derive(Drop)]
 pub struct Held<K: ChannelPort, D: SaveDevice, E: Energy, B: BoardName> {
     pub(crate) recorded: RecordedModule<K, D, E>,
@@ -39,7 +38,8 @@ pub struct Held<K: ChannelPort, D: SaveDevice, E: Energy, B: BoardName> {
     ghost kept: { IsRecordKept K.ChannelPort D.SaveDevice recorded },
     ghost lived: { HasSomeLife K.ChannelPort D.SaveDevice E.Energy recorded },
     ghost shown: { seat ≡ marks_of K.ChannelPort B.board recorded.running },
-    ghost counted: { length recorded.history.writes ≡ B.before + tally.book.total },
+    ghost counted: { recorded.running.accepted
+        ≡ recorded.running.terms.start + B.before + tally.book.total },
 }
 
 /// What a read was answered, and how many writes were accepted before it.
@@ -56,17 +56,6 @@ pub(crate) fn publish<K: ChannelPort>(marks: &MarkBoard, seat: &mut BoardSeat, r
 {
     seat.accept(marks, running.accepted());
     seat.raise(marks, running.mark());
-}
-
-// How many writes the newest image has after a reply.
-fn saved_after(reply: Reply, saved: u64) -> u64
-    ensures { result ≡ saved_after reply saved }
-{
-    match reply {
-        Reply::SaveStep(StepReply::Saved { count, .. }) | Reply::Lose(Loss::Saved { count, .. }) =>
-            count,
-        _ => saved,
-    }
 }
 
 impl<K: ChannelPort, D: SaveDevice, E: Energy, B: BoardName> Held<K, D, E, B> {
@@ -87,7 +76,8 @@ impl<K: ChannelPort, D: SaveDevice, E: Energy, B: BoardName> Held<K, D, E, B> {
         requires kept { IsRecordKept K.ChannelPort D.SaveDevice recorded }
         requires lived { HasSomeLife K.ChannelPort D.SaveDevice E.Energy recorded }
         requires seat { seat ≡ marks_of K.ChannelPort B.board recorded.running }
-        requires counted { length recorded.history.writes ≡ B.before + tally.book.total }
+        requires counted { recorded.running.accepted
+            ≡ recorded.running.terms.start + B.before + tally.book.total }
         ensures { result.recorded ≡ recorded }
     {
         Held {
@@ -246,7 +236,6 @@ impl<K: ChannelPort, D: SaveDevice, E: Energy, B: BoardName> Held<K, D, E, B> {
             .recorded
             .running
             .save_step(&mut self.recorded.device, &mut self.recorded.energy);
-        self.recorded.saved = saved_after(Reply::SaveStep(reply), self.recorded.saved);
         publish(&self.marks, &mut self.seat, &self.recorded.running);
         reply
     }
@@ -271,7 +260,6 @@ impl<K: ChannelPort, D: SaveDevice, E: Energy, B: BoardName> Held<K, D, E, B> {
             &mut self.recorded.energy,
             gate,
         );
-        self.recorded.saved = saved_after(Reply::Lose(reply), self.recorded.saved);
         publish(&self.marks, &mut self.seat, &self.recorded.running);
         reply
     }

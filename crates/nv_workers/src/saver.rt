@@ -82,19 +82,20 @@ impl<K: ChannelPort, D: SaveDevice, E: Energy, B: BoardName> Held<K, D, E, B> {
     /// What a saver is to do now.
     pub fn saver_turn(&self) -> SaverTurn
         ensures { (m : Machine) → Matches K.ChannelPort self.now.recorded.running m
-            → result ≡ turn_of m self.now.recorded.saved }
+            → result ≡ turn_of m self.now.recorded.running.saved }
     {
         let mode = self.recorded.running.mode();
         let saves = self.recorded.running.save_state();
+        let saved = self.recorded.running.saved();
         let accepted = self.recorded.running.accepted();
-        turn_at(mode, saves, self.recorded.saved, accepted)
+        turn_at(mode, saves, saved, accepted)
     }
 
     /// Takes a saver's turn: it begins a save where one is needed and none runs, makes one step of the save that runs, or
     /// does nothing.
     pub fn save(&mut self) -> Saving
         ensures turn { (m : Machine) → Matches K.ChannelPort self.old.recorded.running m
-            → turn_taken result ≡ turn_of m self.old.recorded.saved }
+            → turn_taken result ≡ turn_of m self.old.recorded.running.saved }
         ensures steps { TakesTurn K.ChannelPort D.SaveDevice E.Energy B.BoardName.own
             result self.old self.new }
         ensures setup { setup_of K.ChannelPort self.new.recorded.running

@@ -1,5 +1,5 @@
 // How a board begins.
-ghost use Rattle.std.specs.Prelude.{◌≡◌, ◌≤◌, [], length, vec_len, All, IfOk, IfErr};
+ghost use Rattle.std.specs.Prelude.{◌≡◌, ◌+◌, ◌≤◌, [], vec_len, All, IfOk, IfErr};
 ghost use Rattle.std.specs.Arc.{arc_value};
 ghost use Rattle.mark_board.specs.SeenMarks.{AllHaveSeen, seen_marks};
 ghost use Rattle.module_core.specs.Stands.{setup_of};
@@ -62,7 +62,7 @@ pub fn start<K: ChannelPort, D: SaveDevice, E: Energy, B: BoardName, N: Notices>
     requires parts { opening.parts ≡ B.parts }
     requires board { opening.board ≡ B.board }
     requires mark { opening.mark ≤ recorded.running.persisted }
-    requires before { length recorded.history.writes ≡ B.before }
+    requires before { recorded.running.accepted ≡ recorded.running.terms.start + B.before }
     requires kept { IsRecordKept K.ChannelPort D.SaveDevice recorded }
     requires lived { HasSomeLife K.ChannelPort D.SaveDevice E.Energy recorded }
     requires channels { (setup_of K.ChannelPort recorded.running).shape.channels ≡ B.channels }

@@ -1,7 +1,7 @@
 use Rattle.std.proofs.Common.{◌∙◌, refl}
 use Rattle.nv_machine.specs.declared.events.Event.TheVariants as events
 use Rattle.nv_machine.specs.declared.events.Reply.TheVariants as replies
-use Rattle.nv_workers.proofs.Keeping.{keeps_same}
+use Rattle.nv_workers.proofs.Keeping.{counted_same, keeps_same}
 use Rattle.nv_workers.proofs.Living.{lives_on}
 use Rattle.nv_workers.proofs.Quiet.{collect_is_quiet, same_marks}
 use Rattle.nv_workers.proofs.held.Held.collect.Goals as goal
@@ -9,7 +9,12 @@ use Rattle.nv_workers.proofs.held.Held.collect.Goals as goal
 pub invariant_of-self-clause-kept : goal.invariant_of-self-clause-kept
 invariant_of-self-clause-kept g c =
     let it = c.args.self.now in let call = c.collect in let after = record it.recorded { running = call.new.self } in
-    keeps_same g.K.ChannelPort g.D.SaveDevice g.E.Energy (events.Collect c.args.ticket) (replies.Collect call.result) it.recorded after it.kept (call.ensures.answers _ _) call.ensures.setup refl refl refl
+    keeps_same g.K.ChannelPort g.D.SaveDevice g.E.Energy (events.Collect c.args.ticket) (replies.Collect call.result) it.recorded after it.kept (call.ensures.answers _ _) call.ensures.setup call.ensures.stored.cut refl refl
+
+pub invariant_of-self-clause-counted : goal.invariant_of-self-clause-counted
+invariant_of-self-clause-counted g c =
+    let it = c.args.self.now in let call = c.collect in let after = record it.recorded { running = call.new.self } in
+    counted_same g.K.ChannelPort g.D.SaveDevice g.E.Energy (events.Collect c.args.ticket) (replies.Collect call.result) it.recorded after it.kept (call.ensures.answers _ _) call.ensures.setup g.B.BoardName.before it.tally.book.total refl it.counted
 
 pub invariant_of-self-clause-lived : goal.invariant_of-self-clause-lived
 invariant_of-self-clause-lived g c =

@@ -2,7 +2,7 @@ use Rattle.std.proofs.Common.{refl}
 use Rattle.nv_machine.specs.declared.events.Event.TheVariants as events
 use Rattle.nv_machine.specs.declared.events.Reply.TheVariants as replies
 use Rattle.nv_workers.proofs.Holding.{falls_behind, has_device}
-use Rattle.nv_workers.proofs.Keeping.{keeps_same}
+use Rattle.nv_workers.proofs.Keeping.{counted_same, keeps_same}
 use Rattle.nv_workers.proofs.Living.{lives_on}
 use Rattle.nv_workers.proofs.held.Held.power_loss.Goals as goal
 
@@ -18,13 +18,19 @@ publish-requires-clause-behind g c =
 pub invariant_of-self-clause-kept : goal.invariant_of-self-clause-kept
 invariant_of-self-clause-kept g c =
     let it = c.args.self.now in let call = c.power_loss_with-reply in
-    let after = record it.recorded { running = call.new.self; device = call.new.device; energy = call.new.energy; saved = c.saved_after-self.result } in
-    keeps_same g.K.ChannelPort g.D.SaveDevice g.E.Energy events.Lose (replies.Lose call.result) it.recorded after it.kept call.ensures.answers call.ensures.setup refl c.saved_after-self.ensures refl
+    let after = record it.recorded { running = call.new.self; device = call.new.device; energy = call.new.energy } in
+    keeps_same g.K.ChannelPort g.D.SaveDevice g.E.Energy events.Lose (replies.Lose call.result) it.recorded after it.kept call.ensures.answers call.ensures.setup call.ensures.stored.cut refl refl
+
+pub invariant_of-self-clause-counted : goal.invariant_of-self-clause-counted
+invariant_of-self-clause-counted g c =
+    let it = c.args.self.now in let call = c.power_loss_with-reply in
+    let after = record it.recorded { running = call.new.self; device = call.new.device; energy = call.new.energy } in
+    counted_same g.K.ChannelPort g.D.SaveDevice g.E.Energy events.Lose (replies.Lose call.result) it.recorded after it.kept call.ensures.answers call.ensures.setup g.B.BoardName.before it.tally.book.total refl it.counted
 
 pub invariant_of-self-clause-lived : goal.invariant_of-self-clause-lived
 invariant_of-self-clause-lived g c =
     let it = c.args.self.now in let call = c.power_loss_with-reply in
-    let after = record it.recorded { running = call.new.self; device = call.new.device; energy = call.new.energy; saved = c.saved_after-self.result } in
+    let after = record it.recorded { running = call.new.self; device = call.new.device; energy = call.new.energy } in
     lives_on g.K.ChannelPort g.D.SaveDevice g.E.Energy events.Lose (replies.Lose call.result) it.recorded after it.lived call.ensures.answers call.ensures.setup
 
 pub returns-clause-steps : goal.returns-clause-steps

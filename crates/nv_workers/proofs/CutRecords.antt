@@ -1,0 +1,69 @@
+-- A cut keeps the record, and the life of a module goes on through it.
+use Rattle.std.proofs.Common.{◌≡◌, ℕ, ◌+◌, ◌≤◌, [], refl, ap, sym, subst, ◌∙◌, arith}
+use Rattle.nv_workers.proofs.Common.{Ghosts as GaugeGhosts, HasSomeLife, IsRecordKept, Machine, ModuleStands, RecordedModule, StandsWith, assembly_of, marks_of, ∥∥₁_map}
+use Rattle.atomic_table.specs.Seated.{TableId}
+use Rattle.line_memory.specs.History.{Recorded, TellsSameFrom, cut_at, recorded}
+use Rattle.line_memory.proofs.Moving.{cut_again, told_the_same}
+use Rattle.save_device.specs.declared.device.SaveDevice.{Ghosts as DeviceGhosts}
+use Rattle.channel_port.specs.declared.port.ChannelPort.{Ghosts}
+use Rattle.nv_machine.proofs.Guarded.{cut_below}
+use Rattle.nv_machine.specs.State.{stored_base, stored_writes}
+use Rattle.module_core.specs.ModuleLives.{LifeSoFar}
+use Rattle.module_core.specs.Stands.{assembly}
+use Rattle.module_core.specs.declared.opening.LifeTerms.{LifeTerms}
+use Rattle.module_core.proofs.CallsInTurn.{cuts_in_turn, life_on}
+use Rattle.module_core.proofs.RunsOn.{cut_stands}
+use Rattle.nv_workers.proofs.Keeping.{begins_within}
+use Rattle.nv_workers.specs.Cutting.{MovesToNewest}
+use Rattle.nv_workers.specs.Kept.{whole_record}
+
+-- what is recorded tells what the whole life does
+pub records_tell : {K D E : Type 0} (L : Ghosts K) (M : DeviceGhosts D) (it : RecordedModule K D E L) (m : Machine) → StandsWith L M it m
+    → TellsSameFrom it.history.start (whole_record m it.history.room) it.history
+records_tell L M it m with =
+    let life : Recorded = whole_record m it.history.room in
+    let within = begins_within L M it m with.stands in
+    let told : TellsSameFrom m.cut life (cut_at m.cut life) = told_the_same m.cut life within.0 within.1 in
+    let stored : it.history ≡ cut_at m.cut life = with.stored in
+    subst (λ (h : Recorded). TellsSameFrom h.start life h) (sym stored) told
+
+module _ {K D E : Type 0} (L : Ghosts K) (M : DeviceGhosts D) (old new : RecordedModule K D E L) (moves : MovesToNewest L old new) where
+  same_trail : new.running.terms.trail ≡ old.running.terms.trail
+  same_trail = ap (λ (t : LifeTerms). t.trail) moves.only.terms
+
+  stands_cut : (m : Machine) → StandsWith L M old m → StandsWith L M new (record m { cut = new.running.terms.cut })
+  stands_cut m with =
+      let to : ℕ = new.running.terms.cut in let room : ℕ = old.history.room in
+      let n : Machine = record m { cut = to } in
+      let opened = (cut_below m with.stands.guarded).opened in
+      let rises : m.cut ≤ to = omega (arith, moves.only.rises, with.stands.matches.cut) in
+      let whole : new.history ≡ recorded (stored_base n) n.cut (stored_writes n) room =
+      moves.records ∙ ap (λ (k : ℕ). cut_at k old.history) (sym moves.whole) ∙ ap (cut_at to) with.stored ∙ cut_again (whole_record m room) m.cut to opened rises in
+      record {
+        stands = subst (λ (d : D). ModuleStands L new.running (M.state d) n) (sym moves.device) (cut_stands L old.running new.running (M.state old.device) m moves.only with.stands);
+        stored = whole ∙ ap (λ (r : ℕ). recorded (stored_base n) n.cut (stored_writes n) r) (sym (ap (λ (h : Recorded). h.room) whole));
+      }
+
+  pub kept_cut : IsRecordKept L M old → IsRecordKept L M new
+  kept_cut kept = record {
+    stands = ∥∥₁_map kept.stands (λ s. (record s.0 { cut = new.running.terms.cut }, stands_cut s.0 s.1));
+    room = omega (arith, kept.room, same_trail, ap (λ (h : Recorded). h.room) moves.records);
+  }
+
+  -- the hosts' writes are those of the life still
+  pub counted_cut : (before total : ℕ) → old.running.accepted ≡ old.running.terms.start + before + total → new.running.accepted ≡ new.running.terms.start + before + total
+  counted_cut before total was = omega (arith, was, moves.only.accepted, ap (λ (t : LifeTerms). t.start) moves.only.terms)
+
+  pub marks_cut : (board : TableId) → marks_of L board old.running ≡ marks_of L board new.running
+  marks_cut board = rw (moves.only.accepted, moves.only.persisted) refl
+
+  module _ (N : GaugeGhosts E) where
+    pub lives_cut : HasSomeLife L M N old → HasSomeLife L M N new
+    lives_cut lived =
+        let calls = cuts_in_turn L old.running new.running (M.state old.device) (N.gauge old.energy) moves.only in
+        subst (λ (e : E). ∥ LifeSoFar L (assembly new.running (M.state new.device) (N.gauge e)) ∥₁) (sym moves.energy)
+        (subst (λ (d : D). ∥ LifeSoFar L (assembly new.running (M.state d) (N.gauge old.energy)) ∥₁) (sym moves.device)
+        (∥∥₁_map lived
+        (λ (so : LifeSoFar L (assembly_of L M N old)).
+        let a = so.answered.runs in
+        life_on L (assembly_of L M N old) (assembly new.running (M.state old.device) (N.gauge old.energy)) so [] [] calls.setup (calls.answers a.last a.stands))))

@@ -1,0 +1,152 @@
+// The check of receipts and answers against what is stored of a life.
+ghost use Rattle.std.specs.Prelude.{◌≡◌, ◌≤◌, ◌+◌, ◌↔◌, All, Some, count_by, length, nat_lt, IfOk, IfErr, IfSome, IfNone, IsTrue};
+ghost use Rattle.line_memory.specs.History.{Recorded};
+ghost use Rattle.line_memory.specs.declared.Write.{Write};
+ghost use Rattle.nv_workers.specs.Ending.{HasChecked, HasStranger, IsBorneOut, IsBorneOutOrPast, IsFirstNot, IsFirstStranger, StandsIn, StandsOrIsPast, past_below, receipted};
+
+use crate::board_name::BoardName;
+use crate::held::Held;
+use crate::host::{Receipt, Seen};
+use channel_port::ChannelPort;
+use energy_budget::Energy;
+use line_memory::{History, Write};
+use save_device::SaveDevice;
+
+/// What became of the receipts and the answers that a cut was given, before it cut. The stored writes went from the number `from`
+/// on, and so many were checked against them. So many are past: a receipt with a number below `from`, or an answer that was given
+/// behind fewer writes, where writes had been cut off before.
+#[derive(Clone, Copy, Debug, PartialEq, Eq)]
+pub struct Cut {
+    pub from: u64,
+    pub checked: u64,
+    pub past: u64,
+}
+
+/// A receipt, or an answer, that the history doesn't bear out, by its place.
+#[derive(Clone, Copy, Debug, PartialEq, Eq)]
+pub struct Stranger {
+    pub answer: bool,
+    pub index: usize,
+}
+
+// Whether a write was found, and is that of a receipt.
+fn is_of(found: Option<Write>, receipt: &Receipt) -> bool
+    ensures { IsTrue result ↔ (found ≡ Some (receipted receipt.now)) }
+{
+    match found {
+        Some(write) => write.line == receipt.line && write.data == receipt.data,
+        None => false,
+    }
+}
+
+// Whether the write of a receipt stands in the history.
+fn stands_in(history: &History, receipt: &Receipt) -> bool
+    ensures { IsTrue result ↔ StandsIn history.now receipt.now }
+{
+    is_of(history.accepted_write(receipt.number), receipt)
+}
+
+// Whether an answer is its line after the writes before it.
+#[tactic(auto, unfolding(crate::specs::Ending::IsBorneOut))]
+fn is_borne_out(history: &History, answer: &Seen) -> bool
+    ensures { IsTrue result ↔ IsBorneOut history.now answer.now }
+{
+    history.knows(answer.line, answer.at) && history.value_of(answer.line, answer.at) == answer.data
+}
+
+// The first receipt that doesn't stand in the history, and isn't past.
+fn strange_receipt(history: &History, below: u64, receipts: &[Receipt]) -> Option<usize>
+    ensures some { IfSome result (λ i.
+        IsFirstNot (StandsOrIsPast below history.now) receipts.now i) }
+    ensures none { IfNone result (All (StandsOrIsPast below history.now) receipts.now) }
+{
+    receipts.iter().position(|receipt| receipt.number >= below && !stands_in(history, receipt))
+}
+
+// The first answer that the history doesn't bear out, and that isn't past.
+fn strange_answer(history: &History, below: u64, answers: &[Seen]) -> Option<usize>
+    ensures some { IfSome result (λ i.
+        IsFirstNot (IsBorneOutOrPast below history.now) answers.now i) }
+    ensures none { IfNone result (All (IsBorneOutOrPast below history.now) answers.now) }
+{
+    answers.iter().position(|answer| answer.at >= below && !is_borne_out(history, answer))
+}
+
+// The first receipt, else the first answer, that a life doesn't bear out, and that isn't past.
+fn find_stranger(
+    history: &History,
+    below: u64,
+    receipts: &[Receipt],
+    answers: &[Seen],
+) -> Option<Stranger>
+    ensures some { IfSome result (λ s.
+        IsFirstStranger below history.now receipts.now answers.now s) }
+    ensures receipts { IfNone result (All (StandsOrIsPast below history.now) receipts.now) }
+    ensures answers { IfNone result (All (IsBorneOutOrPast below history.now) answers.now) }
+{
+    if let Some(index) = strange_receipt(history, below, receipts) {
+        return Some(Stranger {
+            answer: false,
+            index,
+        });
+    }
+    if let Some(index) = strange_answer(history, below, answers) {
+        return Some(Stranger {
+            answer: true,
+            index,
+        });
+    }
+    None
+}
+
+// How many receipts are past.
+fn past_receipts(below: u64, receipts: &[Receipt]) -> usize
+    ensures count { result ≡ count_by (λ r. nat_lt r.number below) receipts.now }
+    ensures few { result ≤ length receipts.now }
+{
+    receipts
+        .iter()
+        .filter(|receipt| receipt.number < below)
+        .count()
+}
+
+// How many answers are past.
+fn past_answers(below: u64, answers: &[Seen]) -> usize
+    ensures count { result ≡ count_by (λ a. nat_lt a.at below) answers.now }
+    ensures few { result ≤ length answers.now }
+{
+    answers.iter().filter(|answer| answer.at < below).count()
+}
+
+impl<K: ChannelPort, D: SaveDevice, E: Energy, B: BoardName> Held<K, D, E, B> {
+    // Below which number receipts and answers are past.
+    fn past_below(&self) -> u64
+        ensures { result ≡ past_below K.ChannelPort self.now.recorded }
+    {
+        let from = self.recorded.history.start();
+        if self.recorded.running.start() < from {
+            from
+        } else {
+            0
+        }
+    }
+
+    // Checks receipts and answers against what is stored.
+    pub(crate) fn check(&self, receipts: &[Receipt], answers: &[Seen]) -> Result<Cut, Stranger>
+        ensures checked { IfOk result (λ told.
+            HasChecked K.ChannelPort self.now.recorded receipts.now answers.now told) }
+        ensures stranger { IfErr result (λ stranger.
+            HasStranger K.ChannelPort self.now.recorded receipts.now answers.now stranger) }
+    {
+        let below = self.past_below();
+        if let Some(stranger) = find_stranger(&self.recorded.history, below, receipts, answers) {
+            return Err(stranger);
+        }
+        let (past, seen) = (past_receipts(below, receipts), past_answers(below, answers));
+        Ok(Cut {
+            from: self.recorded.history.start(),
+            checked: (receipts.len() - past) as u64 + (answers.len() - seen) as u64,
+            past: past as u64 + seen as u64,
+        })
+    }
+}
