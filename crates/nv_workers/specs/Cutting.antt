@@ -24,8 +24,10 @@ module _ {K D E : Type 0} (L : Ghosts K) where
     pub energy : new.energy ≡ old.energy
 
 module _ {K D E B : Type 0} (L : Ghosts K) (M : DeviceGhosts D) (N : GaugeGhosts E) (O : NameGhosts B) where
-  -- Where there is no stranger among the receipts and answers they were checked, and then it was cut. A stranger is named, and
-  -- nothing has changed.
+  -- Where there is no stranger among the receipts and answers they were checked, and then it was cut; told is where the stored
+  -- writes begin from then on. A stranger is named, and nothing has changed.
   abbrev pub CutsOrNames : List Receipt → List Seen → Result Cut Stranger → Held K D E B L M N O → Held K D E B L M N O → Type 0
-  CutsOrNames receipts answers (Ok told) old new = HasChecked L old.recorded receipts answers told × MovesToNewest L old.recorded new.recorded
+  CutsOrNames receipts answers (Ok told) old new =
+      HasChecked L old.recorded receipts answers (record told { from = old.recorded.history.start })
+      × (told.from ≡ new.recorded.history.start) × MovesToNewest L old.recorded new.recorded
   CutsOrNames receipts answers (Err stranger) old new = HasStranger L old.recorded receipts answers stranger × (new ≡ old)

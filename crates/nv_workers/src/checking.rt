@@ -12,9 +12,9 @@ use energy_budget::Energy;
 use line_memory::{History, Write};
 use save_device::SaveDevice;
 
-/// What became of the receipts and the answers that a cut was given, before it cut. The stored writes went from the number `from`
-/// on, and so many were checked against them. So many are past: a receipt with a number below `from`, or an answer that was given
-/// behind fewer writes, where writes had been cut off before.
+/// What a cut tells. The stored writes go from the number `from` on now, so that receipts with numbers below it and answers given
+/// behind fewer writes need not be kept any more. So many receipts and answers were checked against the writes that were stored
+/// until then, and so many were past: what they tell of had been cut off before.
 #[derive(Clone, Copy, Debug, PartialEq, Eq)]
 pub struct Cut {
     pub from: u64,

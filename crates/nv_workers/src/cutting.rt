@@ -25,6 +25,6 @@ impl<K: ChannelPort, D: SaveDevice, E: Energy, B: BoardName> Held<K, D, E, B> {
         let _gone = self.recorded.running.cut();
         let at = self.recorded.running.stored_from();
         self.recorded.history.cut(at);
-        Ok(told)
+        Ok(Cut { from: at, ..told })
     }
 }

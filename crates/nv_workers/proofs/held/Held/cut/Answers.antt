@@ -1,10 +1,21 @@
-use Rattle.std.proofs.Common.{◌≡◌, ◌∙◌, ℕ, ◌+◌, ◌≤◌, ap, arith, length, refl, sym}
+use Rattle.channel_port.specs.declared.port.ChannelPort.{Ghosts}
+use Rattle.nv_workers.specs.Ending.{HasChecked}
+use Rattle.nv_workers.specs.declared.checking.Cut.{Cut}
+use Rattle.nv_workers.specs.declared.host.Receipt.{Receipt}
+use Rattle.nv_workers.specs.declared.host.Seen.{Seen}
+use Rattle.nv_workers.specs.declared.recorded_module.RecordedModule.{RecordedModule}
+use Rattle.std.proofs.Common.{◌≡◌, ◌∙◌, List, ℕ, ◌+◌, ◌≤◌, ap, arith, length, refl, sym}
 use Rattle.line_memory.specs.History.{Recorded, cut_at}
 use Rattle.nv_workers.specs.Cutting.{MovesToNewest}
 use Rattle.nv_workers.proofs.CutRecords.{counted_cut, kept_cut, lives_cut, marks_cut}
 use Rattle.nv_workers.proofs.Holding.{same_channels}
 use Rattle.nv_workers.proofs.Keeping.{counted_with, starts_with}
 use Rattle.nv_workers.proofs.held.Held.cut.Goals as goal
+
+-- what was checked is told of by where the record began
+checked_at_start : {K D E : Type 0} (L : Ghosts K) (it : RecordedModule K D E L) (receipts : List Receipt) (answers : List Seen) (told : Cut) → HasChecked L it receipts answers told
+    → HasChecked L it receipts answers (record told { from = it.history.start })
+checked_at_start L it receipts answers told checked = record { starts = refl; gone = checked.gone; all = checked.all; stand = checked.stand; borne_out = checked.borne_out }
 
 pub cut-requires-clause-from : goal.cut-requires-clause-from
 cut-requires-clause-from g c =
@@ -38,6 +49,7 @@ returns-clause-cuts g c =
     let it = c.args.self.now in
     let records : c.cut.new.self ≡ cut_at it.recorded.running.saved it.recorded.history =
     c.cut.ensures ∙ ap (λ (k : ℕ). cut_at k it.recorded.history) (c.stored_from-at.ensures ∙ c.cut-gone.ensures.to) in (
-      c.in_ok-told.ensures.checked,
+      checked_at_start g.K.ChannelPort it.recorded c.args.receipts.now c.args.answers.now c.in_ok-told.told c.in_ok-told.ensures.checked,
+      c.stored_from-at.ensures ∙ c.cut-gone.ensures.to ∙ sym (ap (λ (h : Recorded). h.start) records),
       record { only = c.cut-gone.ensures.cuts; whole = c.cut-gone.ensures.to; records = records; device = refl; energy = refl },
     )
