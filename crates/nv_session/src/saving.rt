@@ -29,7 +29,7 @@ impl<K: ChannelPort + Drop, A: Wires<K> + Drop> Session<K, A> {
         match &mut self.life {
             Some(life) => {
                 let made = save(life, channels, &mut self.device, &mut self.gauge);
-                let _gone = life.cut();
+                let _cut_by_save = life.cut();
                 made
             }
             None => Err(ArmRefusal::Closed),
@@ -49,7 +49,7 @@ impl<K: ChannelPort + Drop, A: Wires<K> + Drop> Session<K, A> {
         match &mut self.life {
             Some(life) => {
                 let made = step(life, &mut self.device, &mut self.gauge);
-                let _gone = life.cut();
+                let _cut_by_step = life.cut();
                 made
             }
             None => Err(ArmRefusal::Closed),
@@ -88,7 +88,7 @@ impl<K: ChannelPort + Drop, A: Wires<K> + Drop> Session<K, A> {
         match &mut self.life {
             Some(life) => {
                 let lost = life.power_loss(&mut self.device, &mut self.gauge);
-                let _gone = life.cut();
+                let _cut_by_loss = life.cut();
                 lost
             }
             None => Loss::Closed,

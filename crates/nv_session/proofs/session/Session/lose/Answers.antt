@@ -10,20 +10,20 @@ use Rattle.nv_session.proofs.session.Session.lose.Goals as goal
 
 pub returns-in-Some-clause-comes : goal.returns-in-Some-clause-comes
 returns-in-Some-clause-comes g c =
-    let L = g.K.ChannelPort in let it = c.args.self.now in let life = c.cut-gone.new.self in let lost = c.power_loss-lost in let reply = replies.Lose lost.result in
+    let L = g.K.ChannelPort in let it = c.args.self.now in let life = c.cut-cut_by_loss.new.self in let lost = c.power_loss-lost in let reply = replies.Lose lost.result in
     let old : Assembly L = assembly c.in-Some.life (device_state it.device) (meter_gauge it.gauge) in
     let mid : Assembly L = assembly lost.new.self (device_state lost.new.device) (meter_gauge lost.new.energy) in
     goes_on_by L (λ setup. IsOneEvent events.Lose reply) (session_at it.life old.device old.gauge) (session_at _ mid.device mid.gauge) old.it life c.in-Some.is refl
-    (comes_cut L (IsOneEvent events.Lose reply) old mid life (λ es rs m n cut told. told) lost.ensures.setup (one_event L events.Lose reply old mid lost.ensures.answers) c.cut-gone.ensures.cuts)
-    (c.cut-gone.ensures.setup ∙ lost.ensures.setup)
+    (comes_cut L (IsOneEvent events.Lose reply) old mid life (λ es rs m n cut told. told) lost.ensures.setup (one_event L events.Lose reply old mid lost.ensures.answers) c.cut-cut_by_loss.ensures.cuts)
+    (c.cut-cut_by_loss.ensures.setup ∙ lost.ensures.setup)
 
 pub invariant_of-self-clause-living : goal.invariant_of-self-clause-living
 invariant_of-self-clause-living g c =
-    let L = g.K.ChannelPort in let it = c.args.self.now in let life = c.cut-gone.new.self in let lost = c.power_loss-lost in let reply = replies.Lose lost.result in
+    let L = g.K.ChannelPort in let it = c.args.self.now in let life = c.cut-cut_by_loss.new.self in let lost = c.power_loss-lost in let reply = replies.Lose lost.result in
     let old : Assembly L = assembly c.in-Some.life (device_state it.device) (meter_gauge it.gauge) in
     let mid : Assembly L = assembly lost.new.self (device_state lost.new.device) (meter_gauge lost.new.energy) in
     lives_on L (IsOneEvent events.Lose reply) it.profile it.life old (assembly life mid.device mid.gauge) c.in-Some.is it.living
-    (comes_cut L (IsOneEvent events.Lose reply) old mid life (λ es rs m n cut told. told) lost.ensures.setup (one_event L events.Lose reply old mid lost.ensures.answers) c.cut-gone.ensures.cuts)
-    (c.cut-gone.ensures.setup ∙ lost.ensures.setup)
-    (subst (λ (s : Setup). HasSize s.shape.lines mid.device) (sym c.cut-gone.ensures.setup) lost.ensures.size)
-    (now_cut L mid.it life c.cut-gone.ensures.cuts c.cut-gone.ensures.to)
+    (comes_cut L (IsOneEvent events.Lose reply) old mid life (λ es rs m n cut told. told) lost.ensures.setup (one_event L events.Lose reply old mid lost.ensures.answers) c.cut-cut_by_loss.ensures.cuts)
+    (c.cut-cut_by_loss.ensures.setup ∙ lost.ensures.setup)
+    (subst (λ (s : Setup). HasSize s.shape.lines mid.device) (sym c.cut-cut_by_loss.ensures.setup) lost.ensures.size)
+    (now_cut L mid.it life c.cut-cut_by_loss.ensures.cuts c.cut-cut_by_loss.ensures.to)

@@ -7,22 +7,22 @@ use Rattle.nv_session.proofs.session.Session.save.Goals as goal
 
 pub returns-in-Some-clause-comes : goal.returns-in-Some-clause-comes
 returns-in-Some-clause-comes g c =
-    let L = g.K.ChannelPort in let it = c.args.self.now in let life = c.cut-gone.new.self in
+    let L = g.K.ChannelPort in let it = c.args.self.now in let life = c.cut-cut_by_save.new.self in
     let old : Assembly L = assembly c.in-Some.life (device_state it.device) (meter_gauge it.gauge) in
     let mid : Assembly L = assembly c.save-made.new.running (device_state c.save-made.new.device) (meter_gauge c.save-made.new.energy) in
     let channels : it.profile.checked.geometry.channels ≡ (setup_of L old.it).shape.channels = sym (it.living.fits old.it c.in-Some.is).channels in
     goes_on_by L (λ setup. MakesSave setup.shape.channels c.save-made.result) (session_at it.life old.device old.gauge) (session_at _ mid.device mid.gauge) old.it life c.in-Some.is refl
     (subst (λ (n : ℕ). Comes L (MakesSave n c.save-made.result) old (assembly life mid.device mid.gauge)) channels
-    (comes_cut L (MakesSave it.profile.checked.geometry.channels c.save-made.result) old mid life (save_cut it.profile.checked.geometry.channels c.save-made.result) c.save-made.ensures.setup c.save-made.ensures.comes c.cut-gone.ensures.cuts))
-    (c.cut-gone.ensures.setup ∙ c.save-made.ensures.setup)
+    (comes_cut L (MakesSave it.profile.checked.geometry.channels c.save-made.result) old mid life (save_cut it.profile.checked.geometry.channels c.save-made.result) c.save-made.ensures.setup c.save-made.ensures.comes c.cut-cut_by_save.ensures.cuts))
+    (c.cut-cut_by_save.ensures.setup ∙ c.save-made.ensures.setup)
 
 pub invariant_of-self-clause-living : goal.invariant_of-self-clause-living
 invariant_of-self-clause-living g c =
-    let L = g.K.ChannelPort in let it = c.args.self.now in let life = c.cut-gone.new.self in
+    let L = g.K.ChannelPort in let it = c.args.self.now in let life = c.cut-cut_by_save.new.self in
     let old : Assembly L = assembly c.in-Some.life (device_state it.device) (meter_gauge it.gauge) in
     let mid : Assembly L = assembly c.save-made.new.running (device_state c.save-made.new.device) (meter_gauge c.save-made.new.energy) in
     lives_on L (MakesSave it.profile.checked.geometry.channels c.save-made.result) it.profile it.life old (assembly life mid.device mid.gauge) c.in-Some.is it.living
-    (comes_cut L (MakesSave it.profile.checked.geometry.channels c.save-made.result) old mid life (save_cut it.profile.checked.geometry.channels c.save-made.result) c.save-made.ensures.setup c.save-made.ensures.comes c.cut-gone.ensures.cuts)
-    (c.cut-gone.ensures.setup ∙ c.save-made.ensures.setup)
-    (subst (λ (s : Setup). HasSize s.shape.lines mid.device) (sym c.cut-gone.ensures.setup) c.save-made.ensures.size)
-    (now_cut L mid.it life c.cut-gone.ensures.cuts c.cut-gone.ensures.to)
+    (comes_cut L (MakesSave it.profile.checked.geometry.channels c.save-made.result) old mid life (save_cut it.profile.checked.geometry.channels c.save-made.result) c.save-made.ensures.setup c.save-made.ensures.comes c.cut-cut_by_save.ensures.cuts)
+    (c.cut-cut_by_save.ensures.setup ∙ c.save-made.ensures.setup)
+    (subst (λ (s : Setup). HasSize s.shape.lines mid.device) (sym c.cut-cut_by_save.ensures.setup) c.save-made.ensures.size)
+    (now_cut L mid.it life c.cut-cut_by_save.ensures.cuts c.cut-cut_by_save.ensures.to)
