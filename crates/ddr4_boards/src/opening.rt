@@ -184,7 +184,6 @@ pub fn open<'m, M: LineMap, D: SaveDevice + Drop, E: Energy + Drop>(
     Ok(Ready {
         opening,
         recorded: RecordedModule {
-            saved: running.mark(),
             running,
             device,
             energy,

@@ -1,5 +1,5 @@
 // A module with its record and the words of its board, before the board has a name.
-ghost use Rattle.std.specs.Prelude.{◌≡◌, ◌≤◌, [], length, vec_len, All, IfOk};
+ghost use Rattle.std.specs.Prelude.{◌≡◌, ◌+◌, ◌≤◌, [], length, vec_len, All, IfOk};
 ghost use Rattle.module_core.specs.Stands.{HasDevice, setup_of};
 ghost use Rattle.nv_workers.specs.Client.{client};
 ghost use Rattle.nv_workers.specs.Kept.{IsRecordKept};
@@ -13,7 +13,7 @@ use save_device::SaveDevice;
 use std::alloc::{AllocError, Global};
 
 /// A module that has begun, with its record, and the words and seats of its board. Contracts see both, and how many channels the
-/// module has.
+/// module has. Nothing was cut off its record.
 #[derive(Drop)]
 pub struct Ready<K: ChannelPort, D: SaveDevice, E: Energy> {
     pub opening: Opening,
@@ -24,6 +24,8 @@ pub struct Ready<K: ChannelPort, D: SaveDevice, E: Energy> {
     ghost kept: { IsRecordKept K.ChannelPort D.SaveDevice recorded },
     ghost lived: { HasSomeLife K.ChannelPort D.SaveDevice E.Energy recorded },
     ghost mark: { opening.mark ≤ recorded.running.persisted },
+    ghost whole: { recorded.running.accepted
+        ≡ recorded.running.terms.start + length recorded.history.writes },
 }
 
 impl<K: ChannelPort + Drop, D: SaveDevice + Drop, E: Energy + Drop> Ready<K, D, E> {

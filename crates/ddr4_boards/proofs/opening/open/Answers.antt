@@ -10,7 +10,7 @@ use Rattle.nv_machine.specs.State.{Setup}
 use Rattle.module_core.specs.Opening.{opened_with}
 use Rattle.module_core.specs.Stands.{ModuleStands}
 use Rattle.module_core.proofs.CallsInTurn.{life_begins}
-use Rattle.ddr4_boards.proofs.NewLives.{new_is_kept}
+use Rattle.ddr4_boards.proofs.NewLives.{new_is_kept, new_is_whole}
 use Rattle.ddr4_boards.proofs.opening.open.Goals as goal
 use Rattle.ddr4_boards.proofs.opening.open.Goals.{In-Ok-begin}
 
@@ -29,8 +29,14 @@ pub invariant_of-result-clause-kept : goal.invariant_of-result-clause-kept
 invariant_of-result-clause-kept g c =
     let it = c.in-Ok.restored in
     new_is_kept _ g.D.SaveDevice _ it.head (image_of_restored it c.in-Ok.ensures.found.arm) c.args.profile.now.sizes.trail
-    (begun_stands g (goal.at.invariant_of-result-clause-kept g c).In-Ok-begin) c.mark.ensures (search rules)
+    (begun_stands g (goal.at.invariant_of-result-clause-kept g c).In-Ok-begin) (search rules)
     (ap (λ (s : Setup). s.trail) c.in-Ok-begin.ensures.setup.is)
+
+pub invariant_of-result-clause-whole : goal.invariant_of-result-clause-whole
+invariant_of-result-clause-whole g c =
+    let it = c.in-Ok.restored in
+    new_is_whole _ c.in-Ok-begin.begun.running (g.D.SaveDevice.state c.restore.new.device) it.head (image_of_restored it c.in-Ok.ensures.found.arm) c.in-Ok-begin.begun.history c.args.profile.now.sizes.trail
+    (begun_stands g (goal.at.invariant_of-result-clause-whole g c).In-Ok-begin) c.in-Ok-begin.ensures.history
 
 pub invariant_of-result-clause-sized : goal.invariant_of-result-clause-sized
 invariant_of-result-clause-sized g c =
