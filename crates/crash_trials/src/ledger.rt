@@ -105,3 +105,26 @@ impl<'a> Ledger<'a> {
         "00"
     }
 }
+
+// Does an answer only say how the device or the gauge is to fail?
+fn is_of_a_fault_to_come(answer: &str) -> bool {
+    ["lie ", "fuse ", "onefault "]
+        .iter()
+        .any(|word| answer.starts_with(*word))
+}
+
+/// The writes that were accepted, and the answers, but for those that say how the device or the gauge is to fail.
+pub(crate) fn account_of(alloc: Global, script: &str, answers: &str) -> Result<String, AllocError> {
+    let ledger = Ledger::of(alloc, script, answers)?;
+    let mut account = String::new(alloc);
+    for Entry { line, data } in &ledger.writes {
+        account.push_str(&format!(in alloc; "write {line} {data}\n")?)?;
+    }
+    for answer in answers.split('\n') {
+        if !is_of_a_fault_to_come(answer) {
+            account.push_str(answer)?;
+            account.push_str("\n")?;
+        }
+    }
+    Ok(account)
+}

@@ -1,45 +1,43 @@
 //! Scripts that are broken off at each moment, restored, and judged by the list of their writes.
 //!
-//!     crash_trials         a stop at each device call, one call that fails, both at once, and a loss of mains after each line
-//!     crash_trials all     the same, with each pair of calls, and each number of units that a gauge may have left, up to 4,000
+//!     crash_trials           a stop at each device call, one call that fails, both at once, and a loss of mains after each line;
+//!                            and lives whose gauge answers any words, over a device that fails at will, drawn from seeds
+//!     crash_trials all       the same, with each pair of calls, each number of units that a gauge may have left, up to 4,000,
+//!                            and 20 times as many seeds
+//!     crash_trials seed N    the lives that are drawn from this seed alone
 //!
-//! A trial is wrong, and its script is shown, where the restore is refused, holds lines that no prefix of the accepted writes gives, is told Complete and
-//! lacks a write that was told persistent, or lacks one though the gauge told the truth and the device failed nowhere. It is
-//! also wrong where the table that `nvctl crash` prints has another restore for the same stop.
+//! A trial is wrong, and its script is shown, where the restore is refused, holds lines that no prefix of the accepted writes
+//! gives, is told Complete and lacks a write that was told persistent, or lacks one though the gauge told the truth and the device
+//! failed nowhere. It is also wrong where the table that `nvctl crash` prints has another restore for the same stop.
 #![tactic(auto)]
 
+mod draws;
+mod events;
+mod extent;
 mod judging;
 mod ledger;
 mod longest;
 mod scripts;
 mod settings;
+mod show;
+mod tally;
 mod trials;
+mod wild;
 
+use crate::extent::Extent;
 use crate::scripts::SCRIPTS;
 use crate::settings::{SETTINGS, Setting};
-use crate::trials::{Extent, Tally, Trials};
+use crate::show::Show;
+use crate::trials::Trials;
 use nv_profile::Profile;
 use std::env;
-
-fn show(rt: &HostRuntime, what: &str, tally: &Tally) -> anyhow::Result<()> {
-    println!(rt;
-        "    {what}: {} complete, {} possible losses, {} wrong",
-        tally.complete,
-        tally.possible_loss,
-        tally.wrong.len()
-    )?;
-    for wrong in &tally.wrong {
-        println!(rt; "        {}", wrong.as_str())?;
-    }
-    Ok(())
-}
 
 // A script of as many lines as a script may have.
 fn show_longest(rt: &HostRuntime, profile: &Profile) -> anyhow::Result<()> {
     let script = longest::script(rt.alloc())?;
     let answers = Trials::new(rt.alloc(), profile).answers(&script)?;
     let right = longest::right_reads(rt.alloc(), &answers)?;
-    println!(rt;
+    println!(*rt;
         "{} lines: {right} of {} reads right",
         script.split('\n').count() - 1,
         longest::ROUNDS
@@ -48,85 +46,93 @@ fn show_longest(rt: &HostRuntime, profile: &Profile) -> anyhow::Result<()> {
 }
 
 // The trials of each script.
-fn try_scripts(rt: &HostRuntime, setting: &Setting, extent: Extent) -> anyhow::Result<()> {
-    let profile = setting.profile(rt.alloc())?;
-    show_longest(rt, &profile)?;
-    let trials = Trials::new(rt.alloc(), &profile);
+fn try_scripts(show: &mut Show<'_>, setting: &Setting, extent: Extent) -> anyhow::Result<()> {
+    let alloc = show.rt.alloc();
+    let profile = setting.profile(alloc)?;
+    if extent.has_stops {
+        show_longest(show.rt, &profile)?;
+    }
+    let trials = Trials::new(alloc, &profile);
     for script in SCRIPTS {
-        println!(rt; "{}, {}", script.name, setting.name)?;
-        let text = setting.script(rt.alloc(), script.text)?;
-        try_faults(rt, &trials, &text, setting, extent)?;
-        try_losses(rt, &trials, &text, setting, extent)?;
+        println!(*show.rt; "{}, {}", script.name, setting.name)?;
+        let text = setting.script(alloc, script.text)?;
+        if extent.has_stops {
+            try_faults(show, &trials, &text, setting, extent)?;
+            try_losses(show, &trials, &text, setting, extent)?;
+        }
+        let lives = trials.wild_lives(&text, extent.first_seed, extent.seeds)?;
+        show.tally("a gauge at will", &lives)?;
     }
     Ok(())
 }
 
 // The trials of one script over a device that fails.
 fn try_faults(
-    rt: &HostRuntime,
+    show: &mut Show<'_>,
     trials: &Trials<'_>,
     text: &str,
     setting: &Setting,
     extent: Extent,
 ) -> anyhow::Result<()> {
     let repeats = setting.retries > 0;
-    show(rt, "a device that fails", &trials.stops(text)?)?;
-    show(
-        rt,
+    show.tally("a device that fails", &trials.stops(text)?)?;
+    show.tally(
         "one call that fails",
         &trials.one_faults(text, repeats, extent)?,
     )?;
-    show(
-        rt,
+    show.tally(
         "one call, and then the device",
         &trials.both(text, extent.calls)?,
     )
 }
 
-// The trials of one script under a loss of mains.
+// The trials of one script under a loss of mains. With no costs no payment fails, whatever a gauge has left, so that fewer lies
+// are tried.
 fn try_losses(
-    rt: &HostRuntime,
+    show: &mut Show<'_>,
     trials: &Trials<'_>,
     text: &str,
     setting: &Setting,
     extent: Extent,
 ) -> anyhow::Result<()> {
     let repeats = setting.retries > 0;
-    show(rt, "mains lost", &trials.losses(text)?)?;
-    show(
-        rt,
+    show.tally("mains lost", &trials.losses(text)?)?;
+    show.tally(
         "mains lost, and one call that fails",
         &trials.one_fault_losses(text, repeats, extent)?,
     )?;
     if repeats {
         return Ok(());
     }
-    show(
-        rt,
+    let apart = if setting.is_free {
+        Extent::SHORT.lies
+    } else {
+        extent.lies
+    };
+    show.tally(
         "mains lost under a lie",
-        &trials.lies(text, setting.unit, extent.lies)?,
+        &trials.lies(text, setting.unit, apart)?,
     )
+}
+
+// What these words ask for.
+fn extent_of(words: &[String]) -> anyhow::Result<Extent> {
+    match words {
+        [_] => Ok(Extent::SHORT),
+        [_, word] if word.as_str() == "all" => Ok(Extent::ALL),
+        [_, word, seed] if word.as_str() == "seed" => Ok(Extent::of_seed(seed.parse::<u64>()?)),
+        _ => anyhow::bail!("no word, all, or seed and a number"),
+    }
 }
 
 fn main(rt: HostRuntime) -> anyhow::Result<()> {
     let words: Vec<String> = env::args(&rt)?.collect(rt.alloc())?;
-    let extent = match words.as_slice() {
-        [_] => Extent {
-            is_all: false,
-            lies: 125,
-            calls: 16,
-        },
-        [_, word] if word.as_str() == "all" => Extent {
-            is_all: true,
-            lies: 1,
-            calls: 1,
-        },
-        _ => anyhow::bail!("no word, or all"),
-    };
+    let extent = extent_of(&words)?;
+    let mut show = Show::new(&rt);
     for setting in &SETTINGS {
-        if extent.is_all || setting.is_short {
-            try_scripts(&rt, setting, extent)?;
+        if extent.has_all_settings || setting.is_short {
+            try_scripts(&mut show, setting, extent)?;
         }
     }
-    Ok(())
+    show.end()
 }

@@ -11,6 +11,8 @@ pub struct Setting {
     pub retries: u64,
     pub level: &'static str,
     pub unit: u64,
+    /// Each action costs nothing, and there is no leak.
+    pub is_free: bool,
     /// It is tried also where not all is.
     pub is_short: bool,
 }
@@ -26,6 +28,7 @@ pub const SETTINGS: [Setting; 6] = [
         retries: 0,
         level: "9000",
         unit: 1,
+        is_free: false,
         is_short: true,
     },
     Setting {
@@ -34,6 +37,7 @@ pub const SETTINGS: [Setting; 6] = [
         retries: 1,
         level: "60000",
         unit: 1,
+        is_free: false,
         is_short: false,
     },
     Setting {
@@ -42,6 +46,7 @@ pub const SETTINGS: [Setting; 6] = [
         retries: 2,
         level: "60000",
         unit: 1,
+        is_free: false,
         is_short: true,
     },
     Setting {
@@ -50,6 +55,7 @@ pub const SETTINGS: [Setting; 6] = [
         retries: 16,
         level: "60000",
         unit: 1,
+        is_free: false,
         is_short: false,
     },
     Setting {
@@ -58,6 +64,7 @@ pub const SETTINGS: [Setting; 6] = [
         retries: 0,
         level: "0",
         unit: 1,
+        is_free: true,
         is_short: true,
     },
     Setting {
@@ -66,6 +73,7 @@ pub const SETTINGS: [Setting; 6] = [
         retries: 0,
         level: "9000000000",
         unit: 1_000_000,
+        is_free: false,
         is_short: true,
     },
 ];

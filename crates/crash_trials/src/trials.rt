@@ -1,21 +1,20 @@
 // Scripts that are broken off and restored.
 ghost use Rattle.std.specs.Prelude.{◌≡◌};
 
+use crate::extent::Extent;
 use crate::judging::{Restored, Wrong, judged};
-use crate::ledger::Ledger;
+use crate::ledger::{Ledger, account_of};
+use crate::tally::{Counts, Left, Tally};
 use crash_table::{Outcome, PICKS};
 use interleave_map::{Interleaving, ReadyMap};
 use nv_profile::Profile;
 use nv_script::read_script;
-use save_device::Pick;
+use save_device::{MemoryDevice, Pick, SaveDevice};
 use script_runner::run_script;
 use std::alloc::{AllocError, Global};
 
 /// Two kinds of unsettled bytes.
-const FEW: [Pick; 2] = [Pick::Old, Pick::Torn(0xa5)];
-
-/// Four kinds.
-const FOUR: [Pick; 4] = [Pick::Old, Pick::New, Pick::Torn(0x00), Pick::Torn(0xa5)];
+pub(crate) const FEW: [Pick; 2] = [Pick::Old, Pick::Torn(0xa5)];
 
 /// Behind so many device calls each script has ended.
 const MOST_CALLS: u64 = 64;
@@ -25,61 +24,6 @@ const CLOSING_CALLS: u64 = 8;
 
 /// Where the lies end, in units.
 const MOST_UNITS: u64 = 4_000;
-
-/// How much is tried.
-#[derive(Clone, Copy, Drop)]
-pub struct Extent {
-    pub is_all: bool,
-    /// So many units are between lies.
-    pub lies: u64,
-    /// So many calls are between those from which on the device fails, beside one that does.
-    pub calls: u64,
-}
-
-impl Extent {
-    // What may become of unsettled bytes where one call fails.
-    fn picks(self) -> &'static [Pick] {
-        if self.is_all { &FOUR } else { &FEW }
-    }
-}
-
-/// What was found, how often, and of each trial that was wrong why, with its script.
-#[derive(Drop)]
-pub struct Tally {
-    pub complete: u64,
-    pub possible_loss: u64,
-    pub wrong: Vec<String>,
-}
-
-impl Tally {
-    fn new(alloc: Global) -> Tally {
-        Tally {
-            complete: 0,
-            possible_loss: 0,
-            wrong: Vec::new(alloc),
-        }
-    }
-
-    fn count(
-        &mut self,
-        alloc: Global,
-        script: &str,
-        found: Result<Restored, Wrong>,
-    ) -> Result<(), AllocError> {
-        match found {
-            Ok(restored) if restored.is_complete => {
-                self.complete = self.complete.saturating_add(1);
-            }
-            Ok(_) => self.possible_loss = self.possible_loss.saturating_add(1),
-            Err(wrong) => {
-                let lines = script.trim_end().replace(alloc, "\n", "/")?;
-                self.wrong
-                    .push(format!(in alloc; "{wrong:?}: {}", lines.as_str())?)?;
-            }
-        }
-        Ok(())
-    }
-}
 
 // The word of a pick.
 fn word_of(alloc: Global, pick: Pick) -> Result<String, AllocError> {
@@ -102,11 +46,32 @@ fn is_same(outcome: &Outcome, restored: &Restored, told: u64) -> bool {
         && outcome.told == told
 }
 
+// A script that was run to its end.
+#[derive(Drop)]
+struct Ran {
+    answers: String,
+    device: MemoryDevice,
+}
+
+// What a device reads.
+fn bytes_of(alloc: Global, device: &mut MemoryDevice) -> anyhow::Result<Vec<u8>> {
+    let mut bytes = Vec::from_elem(alloc, 0, device.len())?;
+    device.read(0, &mut bytes)?;
+    Ok(bytes)
+}
+
+// A byte that isn't one of these, where there is one.
+fn byte_not_in(bytes: &[u8]) -> u8 {
+    (0..u8::MAX)
+        .find(|byte| !bytes.contains(byte))
+        .unwrap_or(u8::MAX)
+}
+
 /// The trials of a profile.
 #[derive(Drop)]
 pub struct Trials<'p> {
-    alloc: Global,
-    profile: &'p Profile,
+    pub(crate) alloc: Global,
+    pub(crate) profile: &'p Profile,
 }
 
 impl<'p> Trials<'p> {
@@ -116,7 +81,7 @@ impl<'p> Trials<'p> {
     }
 
     // A ready-made map of the profile.
-    fn map(&self, interleaving: Interleaving) -> ReadyMap
+    pub(crate) fn map(&self, interleaving: Interleaving) -> ReadyMap
         ensures { result.checked ≡ self.now.profile.now.checked }
     {
         ReadyMap {
@@ -125,13 +90,12 @@ impl<'p> Trials<'p> {
         }
     }
 
-    /// What a script answers.
-    pub(crate) fn answers(&self, script: &str) -> anyhow::Result<String> {
+    // Runs a script to its end.
+    fn run(&self, script: &str) -> anyhow::Result<Ran> {
         let lines_map = self.map(Interleaving::Lines);
         let xor_map = self.map(Interleaving::Xor);
         let mut bytes = Vec::new(self.alloc);
-        // what the device holds in the end is told by the answers
-        let _device = run_script(
+        let device = run_script(
             self.alloc,
             self.profile,
             script.as_bytes(),
@@ -139,10 +103,37 @@ impl<'p> Trials<'p> {
             &xor_map,
             &mut bytes,
         )?;
-        Ok(String::from_utf8(bytes)?)
+        let answers = String::from_utf8(bytes)?;
+        Ok(Ran { answers, device })
     }
 
-    // What a restore behind a script found, judged by the writes before it and by the table of crashes.
+    /// A formatted device.
+    pub(crate) fn formatted(&self) -> anyhow::Result<MemoryDevice> {
+        Ok(self.run("format\n")?.device)
+    }
+
+    /// What a script answers.
+    pub(crate) fn answers(&self, script: &str) -> anyhow::Result<String> {
+        Ok(self.run(script)?.answers)
+    }
+
+    // What a script leaves that is stopped at its end.
+    fn left(&self, script: &str, honest: bool) -> anyhow::Result<Left> {
+        let Ran {
+            answers,
+            mut device,
+        } = self.run(script)?;
+        let bytes = bytes_of(self.alloc, &mut device)?;
+        device.stop(Pick::Torn(byte_not_in(&bytes)));
+        Ok(Left {
+            account: account_of(self.alloc, script, &answers)?,
+            bytes,
+            torn: bytes_of(self.alloc, &mut device)?,
+            honest,
+        })
+    }
+
+    // What a restore behind a script finds, judged by the writes before it and by the table of crashes.
     fn judge(
         &self,
         script: &str,
@@ -168,8 +159,50 @@ impl<'p> Trials<'p> {
         }
     }
 
-    // Runs a script to its end, restores what it left by each pick, and counts what was found. Answers whether a call of the
-    // device failed.
+    // Restores what a script leaves by a pick; none where that is wrong, which is told.
+    fn restore_by(
+        &self,
+        script: &str,
+        pick: Pick,
+        honest: bool,
+        tally: &mut Tally,
+    ) -> anyhow::Result<Option<Restored>> {
+        let word = word_of(self.alloc, pick)?;
+        let whole = format!(in self.alloc; "{script}restore {word}\nread 0\nread 1\nread 127\n")?;
+        let answers = self.answers(&whole)?;
+        match self.judge(script, pick, &answers, honest)? {
+            Ok(restored) => Ok(Some(restored)),
+            Err(wrong) => {
+                tally.blame(self.alloc, &whole, wrong)?;
+                Ok(None)
+            }
+        }
+    }
+
+    // Restores what a script leaves by each pick, or by the first one alone where none makes a difference.
+    fn restore_each(
+        &self,
+        script: &str,
+        picks: &[Pick],
+        left: &Left,
+        tally: &mut Tally,
+    ) -> anyhow::Result<Counts> {
+        let mut counts = Counts::NONE;
+        let mut last = None;
+        for pick in picks {
+            if last.is_none() || !left.is_settled() {
+                last = self.restore_by(script, *pick, left.honest, tally)?;
+            }
+            if let Some(restored) = last {
+                counts.count(restored);
+            }
+        }
+        Ok(counts)
+    }
+
+    // Runs a script to its end, stops it there, and counts what restores by the picks find. Answers whether a call of the device
+    // failed. A restore depends on nothing but the bytes that a stop left: where one of the last stops left the same, behind the
+    // same writes and answers, none is made again.
     fn restore(
         &self,
         script: &str,
@@ -177,17 +210,15 @@ impl<'p> Trials<'p> {
         honest: bool,
         tally: &mut Tally,
     ) -> anyhow::Result<bool> {
-        let mut has_failed = false;
-        for pick in picks {
-            let word = word_of(self.alloc, *pick)?;
-            let whole = format!(in self.alloc;
-                "{script}restore {word}\nread 0\nread 1\nread 127\n"
-            )?;
-            let answers = self.answers(&whole)?;
-            let found = self.judge(script, *pick, &answers, honest)?;
-            tally.count(self.alloc, &whole, found)?;
-            has_failed = has_failed || tells_fault(&answers);
+        let left = self.left(script, honest)?;
+        let has_failed = tells_fault(&left.account);
+        if tally.counts_as_before(&left) {
+            return Ok(has_failed);
         }
+        let wrong = tally.wrong.len();
+        let counts = self.restore_each(script, picks, &left, tally)?;
+        let is_right = tally.wrong.len() == wrong;
+        tally.remember(left, counts, is_right)?;
         Ok(has_failed)
     }
 
