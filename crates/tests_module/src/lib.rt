@@ -20,3 +20,5 @@ mod notices;
 mod repeats;
 #[cfg(test)]
 mod runs;
+#[cfg(test)]
+mod wild;

@@ -82,7 +82,8 @@ pub(crate) fn save_at_once<K: ChannelPort, D: SaveDevice, R: Abort>(
     answers_with(rt, alloc, load, 0, &SAVE, &SAVE_REPLIES, image);
 }
 
-const LOSS: [Event; 5] = [
+/// A module arms, accepts two writes, and loses its mains.
+pub(crate) const LOSS: [Event; 5] = [
     Event::Sense,
     Event::Arm,
     Event::Write(Write {
