@@ -86,8 +86,7 @@ fn try_faults(
     )
 }
 
-// The trials of one script under a loss of mains. With no costs no payment fails, whatever a gauge has left, so that fewer lies
-// are tried.
+// The trials of one script under a loss of mains.
 fn try_losses(
     show: &mut Show<'_>,
     trials: &Trials<'_>,
@@ -104,14 +103,9 @@ fn try_losses(
     if repeats {
         return Ok(());
     }
-    let apart = if setting.is_free {
-        Extent::SHORT.lies
-    } else {
-        extent.lies
-    };
     show.tally(
         "mains lost under a lie",
-        &trials.lies(text, setting.unit, apart)?,
+        &trials.lies(text, setting.unit, extent.lies)?,
     )
 }
 

@@ -11,8 +11,6 @@ pub struct Setting {
     pub retries: u64,
     pub level: &'static str,
     pub unit: u64,
-    /// Each action costs nothing, and there is no leak.
-    pub is_free: bool,
     /// It is tried also where not all is.
     pub is_short: bool,
 }
@@ -28,7 +26,6 @@ pub const SETTINGS: [Setting; 6] = [
         retries: 0,
         level: "9000",
         unit: 1,
-        is_free: false,
         is_short: true,
     },
     Setting {
@@ -37,7 +34,6 @@ pub const SETTINGS: [Setting; 6] = [
         retries: 1,
         level: "60000",
         unit: 1,
-        is_free: false,
         is_short: false,
     },
     Setting {
@@ -46,7 +42,6 @@ pub const SETTINGS: [Setting; 6] = [
         retries: 2,
         level: "60000",
         unit: 1,
-        is_free: false,
         is_short: true,
     },
     Setting {
@@ -55,7 +50,6 @@ pub const SETTINGS: [Setting; 6] = [
         retries: 16,
         level: "60000",
         unit: 1,
-        is_free: false,
         is_short: false,
     },
     Setting {
@@ -64,7 +58,6 @@ pub const SETTINGS: [Setting; 6] = [
         retries: 0,
         level: "0",
         unit: 1,
-        is_free: true,
         is_short: true,
     },
     Setting {
@@ -73,7 +66,6 @@ pub const SETTINGS: [Setting; 6] = [
         retries: 0,
         level: "9000000000",
         unit: 1_000_000,
-        is_free: false,
         is_short: true,
     },
 ];

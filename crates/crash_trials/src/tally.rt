@@ -114,16 +114,15 @@ impl Tally {
         Ok(())
     }
 
-    /// Keeps what is wrong of a trial, with its script.
+    /// Keeps what is wrong of a trial, with its script as `printf` takes it.
     pub(crate) fn blame(
         &mut self,
         alloc: Global,
         script: &str,
         wrong: Wrong,
     ) -> Result<(), AllocError> {
-        let lines = script.trim_end().replace(alloc, "\n", "/")?;
-        self.wrong
-            .push(format!(in alloc; "{wrong:?}: {}", lines.as_str())?)?;
+        let lines = script.replace(alloc, "\n", "\\n")?;
+        self.wrong.push(format!(in alloc; "{wrong:?}: printf '{}' | nvctl run", lines.as_str())?)?;
         Ok(())
     }
 }
