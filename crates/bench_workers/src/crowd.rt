@@ -23,6 +23,19 @@ use thiserror::Error;
 /// How often a host tries its calls, all in all: where no thread is to be had, what it waits for doesn't come.
 const TRIES: u64 = 1 << 28;
 
+/// How many receipts a host holds before it cuts the history.
+const HELD: usize = 512;
+
+/// When the history of a board is cut.
+#[derive(Clone, Copy, PartialEq, Eq)]
+pub(crate) enum Cuts {
+    Never,
+    /// By each host, where it holds many receipts or the board has no room.
+    Along,
+    /// Once, when the hosts are done.
+    Last,
+}
+
 /// What each of so many hosts does: it rests, and then come its writes and its reads, over the first lines. A saver goes on beside
 /// them, where one is wanted. Mains are lost at the write of a number, where one is given; the module is armed then.
 #[derive(Clone, Copy)]
@@ -34,15 +47,18 @@ pub(crate) struct Plan {
     pub lines: u64,
     pub saves: bool,
     pub lost_at: Option<u64>,
+    pub cuts: Cuts,
 }
 
-/// What a crowd came to: the module with its record, how many receipts and answers were checked, and how long the hosts took in
-/// nanoseconds.
+/// What a crowd came to: the module with its record, how many receipts and answers were checked, how many were past, and how long
+/// the hosts and the last cut took in nanoseconds.
 #[derive(Drop)]
 pub(crate) struct Outcome<K: ChannelPort, D> {
     pub recorded: RecordedModule<K, D, Meter>,
     pub checked: u64,
+    pub past: u64,
     pub nanos: u128,
+    pub cut_nanos: u128,
 }
 
 /// What a crowd never comes to.
@@ -54,11 +70,19 @@ pub(crate) enum Wrong {
     Stranger,
 }
 
+/// The receipts that a host holds, and what its cuts told of those before.
+#[derive(Drop)]
+struct Kept {
+    receipts: Vec<Receipt>,
+    checked: u64,
+    past: u64,
+}
+
 /// What one host was told.
 #[derive(Drop)]
 struct Told<B: BoardName> {
     host: Host<B>,
-    receipts: Vec<Receipt>,
+    kept: Kept,
     answers: Vec<Seen>,
 }
 
@@ -66,26 +90,52 @@ struct Told<B: BoardName> {
 #[derive(Drop)]
 struct Gathered<B: BoardName> {
     hosts: Vec<Host<B>>,
-    receipts: Vec<Receipt>,
+    kept: Kept,
     answers: Vec<Seen>,
 }
 
 impl Plan {
     // The line of a host's next call.
-    fn line(&self, count: usize) -> u64 {
-        let mixed = (count as u64).wrapping_mul(0x9E37_79B9_7F4A_7C15) >> 32;
+    fn line(&self, count: u64) -> u64 {
+        let mixed = count.wrapping_mul(0x9E37_79B9_7F4A_7C15) >> 32;
         mixed.checked_rem(self.lines).unwrap_or(0)
+    }
+
+    // A host's next write.
+    fn write(&self, count: u64, turn: u64) -> Write {
+        Write {
+            line: self.line(count),
+            data: [(turn % 256) as u8; 64],
+        }
     }
 }
 
-// The writes of a host. One that finds its channel full is made again; a loss of mains ends them.
+// Cuts the history, where the plan is so. The receipts are let go that were checked or are past.
+fn cut_off<K, D, B, N, R>(rt: &R, board: &Board<K, D, Meter, B, N>, kept: &mut Kept, plan: &Plan)
+where
+    K: ChannelPort,
+    D: SaveDevice,
+    B: BoardName,
+    N: Notices,
+    R: Wait,
+{
+    if plan.cuts == Cuts::Along
+        && let Ok(cut) = board.cut(rt, kept.receipts.as_slice(), &[])
+    {
+        kept.checked = kept.checked.saturating_add(cut.checked);
+        kept.past = kept.past.saturating_add(cut.past);
+        kept.receipts.clear();
+    }
+}
+
+// The writes of a host. One that finds its channel or the board full is made again; a loss of mains ends them.
 fn write_all<K, D, B, N, R>(
     rt: &R,
     alloc: Global,
     board: &Board<K, D, Meter, B, N>,
     host: &mut Host<B>,
     plan: &Plan,
-) -> Result<Vec<Receipt>, AllocError>
+) -> Result<Kept, AllocError>
 where
     K: ChannelPort + Send,
     D: SaveDevice,
@@ -93,27 +143,36 @@ where
     N: Notices,
     R: Threads + Wait + Sync,
 {
-    let mut receipts = Vec::new(alloc);
+    let mut kept = Kept {
+        receipts: Vec::new(alloc),
+        checked: 0,
+        past: 0,
+    };
+    let mut made: u64 = 0;
     for turn in 0..TRIES {
-        if receipts.len() as u64 == plan.writes {
+        if made == plan.writes {
             break;
         }
-        let write = Write {
-            line: plan.line(receipts.len()),
-            data: [(turn % 256) as u8; 64],
-        };
-        match host.write(rt, board, write) {
+        match host.write(rt, board, plan.write(made, turn)) {
             Ok(receipt) => {
-                receipts.push(receipt)?;
+                made = made.saturating_add(1);
+                kept.receipts.push(receipt)?;
                 if plan.lost_at == Some(receipt.number) {
                     board.power_loss(rt, &Always);
                 }
+                if kept.receipts.len() >= HELD {
+                    cut_off(rt, board, &mut kept, plan);
+                }
             }
             Err(WriteRefusal::Full) => thread::yield_now(),
+            Err(WriteRefusal::TrailFull) => {
+                cut_off(rt, board, &mut kept, plan);
+                thread::yield_now();
+            }
             Err(_) => break,
         }
     }
-    Ok(receipts)
+    Ok(kept)
 }
 
 // The reads of a host.
@@ -136,7 +195,7 @@ where
         if answers.len() as u64 == plan.reads {
             break;
         }
-        match host.read(rt, board, plan.line(answers.len())) {
+        match host.read(rt, board, plan.line(answers.len() as u64)) {
             Ok(seen) => answers.push(seen)?,
             Err(ReadRefusal::Full) => thread::yield_now(),
             Err(_) => break,
@@ -161,11 +220,11 @@ where
     R: Threads + Wait + Clock + Sync,
 {
     thread::sleep(rt, plan.rest);
-    let receipts = write_all(rt, alloc, board, &mut host, plan)?;
+    let kept = write_all(rt, alloc, board, &mut host, plan)?;
     let answers = read_all(rt, alloc, board, &mut host, plan)?;
     Ok(Told {
         host,
-        receipts,
+        kept,
         answers,
     })
 }
@@ -283,19 +342,49 @@ fn gather<B: BoardName>(
     told: Vec<Result<Told<B>, AllocError>>,
 ) -> Result<Gathered<B>, AllocError> {
     let mut hosts = Vec::new(alloc);
-    let mut receipts = Vec::new(alloc);
+    let mut kept = Kept {
+        receipts: Vec::new(alloc),
+        checked: 0,
+        past: 0,
+    };
     let mut answers = Vec::new(alloc);
     for one in told {
         let one = one?;
         hosts.push(one.host)?;
-        receipts.extend_from_slice(one.receipts.as_slice())?;
+        kept.receipts
+            .extend_from_slice(one.kept.receipts.as_slice())?;
+        kept.checked = kept.checked.saturating_add(one.kept.checked);
+        kept.past = kept.past.saturating_add(one.kept.past);
         answers.extend_from_slice(one.answers.as_slice())?;
     }
     Ok(Gathered {
         hosts,
-        receipts,
+        kept,
         answers,
     })
+}
+
+// How long a cut takes that nobody asks anything of, in nanoseconds; none where the plan has no such cut.
+fn cut_last<K, D, B, N, R>(
+    rt: &R,
+    board: &Board<K, D, Meter, B, N>,
+    plan: &Plan,
+) -> anyhow::Result<u128>
+where
+    K: ChannelPort,
+    D: SaveDevice,
+    B: BoardName,
+    N: Notices,
+    R: Wait + Clock,
+{
+    if plan.cuts != Cuts::Last {
+        return Ok(0);
+    }
+    let start = Instant::now(rt)?;
+    if board.cut(rt, &[], &[]).is_err() {
+        return Err(Wrong::Stranger.into());
+    }
+    Ok(start.elapsed(rt)?.as_nanos())
 }
 
 /// A crowd on the board of a module, up to its end: each receipt and each answer was checked.
@@ -331,23 +420,27 @@ where
     let nanos = start.elapsed(rt)?.as_nanos();
     let Gathered {
         hosts,
-        receipts,
+        kept,
         answers,
     } = gather(alloc, told)?;
     if hosts.len() != plan.hosts {
         return Err(Wrong::Hosts.into());
     }
-    match close(board, hosts, receipts.as_slice(), answers.as_slice()) {
+    let cut_nanos = cut_last(rt, &board, plan)?;
+    match close(board, hosts, kept.receipts.as_slice(), answers.as_slice()) {
         Ok(
             Closed {
                 recorded,
                 checked,
+                past,
                 ..
             },
         ) => Ok(Outcome {
             recorded,
-            checked,
+            checked: kept.checked.saturating_add(checked),
+            past: kept.past.saturating_add(past),
             nanos,
+            cut_nanos,
         }),
         Err(_) => Err(Wrong::Stranger.into()),
     }

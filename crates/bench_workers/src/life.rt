@@ -28,7 +28,9 @@ pub(crate) struct Back {
 pub(crate) struct Lived {
     pub accepted: u64,
     pub checked: u64,
+    pub past: u64,
     pub nanos: u128,
+    pub cut_nanos: u128,
     pub back: Option<Back>,
 }
 
@@ -73,9 +75,11 @@ where
     let outcome = crowd::<_, _, Brand, R>(rt, alloc, ready, plan)?;
     let earlier = outcome.recorded;
     let mut lived = Lived {
-        accepted: earlier.history.writes().len() as u64,
+        accepted: earlier.running.accepted(),
         checked: outcome.checked,
+        past: outcome.past,
         nanos: outcome.nanos,
+        cut_nanos: outcome.cut_nanos,
         back: None,
     };
     if plan.saves || plan.lost_at.is_some() {

@@ -3,7 +3,7 @@ ghost use Rattle.std.specs.Prelude.{◌≡◌, ℕ, length};
 
 use crate::cases::{AMPLE, CHANNELS, write_of};
 use crate::check::same;
-use crate::ends::{ends, is_strange};
+use crate::ends::{cut_of, ends, is_strange};
 use crate::gates::{EachTurn, Turns};
 use arm_state::{ArmRefusal, ArmReply, DisarmReply, Loss, ReadRefusal, WriteRefusal};
 use channel_port::ChannelPort;
@@ -22,8 +22,8 @@ use std::sync::Wait;
 use std::thread::Threads;
 use std::time::Clock;
 
-// The write of a line with byte 11 that was the first one.
-fn first_receipt(line: u64) -> Receipt {
+/// The write of a line with byte 11 that was the first one.
+pub(crate) fn first_receipt(line: u64) -> Receipt {
     Receipt {
         number: 0,
         line,
@@ -31,8 +31,8 @@ fn first_receipt(line: u64) -> Receipt {
     }
 }
 
-// So many turns of the saver, and how it ended.
-fn saved<K, D, E, B, N, R>(rt: &R, board: &Board<K, D, E, B, N>, most: u64) -> Ended
+/// So many turns of the saver, and how it ended.
+pub(crate) fn saved<K, D, E, B, N, R>(rt: &R, board: &Board<K, D, E, B, N>, most: u64) -> Ended
 where
     K: ChannelPort,
     D: SaveDevice,
@@ -46,8 +46,8 @@ where
     saver_worker(rt, board, CHANNELS, &Turns { worker, most })
 }
 
-// So many turns of channel 0, and how its worker ended.
-fn worked<K, D, E, B, N, R>(rt: &R, board: &Board<K, D, E, B, N>, most: u64) -> Ended
+/// So many turns of channel 0, and how its worker ended.
+pub(crate) fn worked<K, D, E, B, N, R>(rt: &R, board: &Board<K, D, E, B, N>, most: u64) -> Ended
 where
     K: ChannelPort,
     D: SaveDevice,
@@ -289,7 +289,14 @@ where
         index: 1,
     };
     let (board, hosts) = is_strange(rt, board, hosts, &receipts[..1], &answers, strange);
-    ends(rt, board, hosts, &receipts[..1], &answers[..1], (2, 1));
+    ends(
+        rt,
+        board,
+        hosts,
+        &receipts[..1],
+        &answers[..1],
+        (cut_of(0, 2, 0), 1),
+    );
 }
 
 /// Arms, and writes line 0.
@@ -333,11 +340,18 @@ where
         count: 1,
     };
     same(rt, board.power_loss(rt, &Always), saved);
-    ends(rt, board, hosts, &[first_receipt(0)], &[], (1, 1));
+    ends(
+        rt,
+        board,
+        hosts,
+        &[first_receipt(0)],
+        &[],
+        (cut_of(0, 1, 0), 1),
+    );
 }
 
-// Line 0 as its first write left it, seen after so many writes.
-fn answer_at(at: u64) -> Seen {
+/// Line 0 as its first write left it, seen after so many writes.
+pub(crate) fn answer_at(at: u64) -> Seen {
     Seen {
         line: 0,
         data: [11; 64],

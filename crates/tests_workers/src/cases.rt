@@ -5,6 +5,9 @@ use crate::alone::{
     end_armed, end_with_strangers, end_workers, lose_armed, save_by_hand, work_by_turns,
     write_armed, write_disarmed,
 };
+use crate::cuts::{
+    cut_behind_saves, cut_beside_strangers, cut_in_each_mode, end_behind_cuts, end_cut_off,
+};
 use crate::silent::Silent;
 use crate::together::{lose_threads, read_beside_held, work_apart};
 use channel_port::ChannelPort;
@@ -13,7 +16,7 @@ use energy_budget::{Energy, Meter};
 use interleave_map::{Interleaving, ReadyMap};
 use line_memory::Write;
 use notice_book::{Notice, NoticeBook, Persisted};
-use nv_profile::{Profile, TINY, read_profile};
+use nv_profile::{ModuleSizes, Profile, TINY, read_profile};
 use nv_workers::BoardName;
 use save_device::SaveDevice;
 use std::alloc::Global;
@@ -41,6 +44,9 @@ enum Case {
     Parted,
     Held,
     Goes,
+    Cuts,
+    CutModes,
+    CutStrange,
 }
 
 /// A write of a line whose bytes are all this one.
@@ -81,12 +87,16 @@ where
         Case::Modes => save_by_hand(rt, &board, &mut first[0]),
         Case::Goes => work_by_turns(rt, &board, &mut first[0]),
         Case::Strange => write_armed(rt, &board, &mut first[0]),
+        Case::Cuts => cut_behind_saves(rt, &board, &mut first[0]),
+        Case::CutModes => cut_in_each_mode(rt, &board, &mut first[0]),
+        Case::CutStrange => cut_beside_strangers(rt, &board, &mut first[0]),
         _ => end_workers(rt, &board, &mut first[0]),
     }
-    if case == Case::Strange {
-        end_armed(rt, board, hosts);
-    } else {
-        end_with_strangers(rt, board, hosts);
+    match case {
+        Case::Strange => end_armed(rt, board, hosts),
+        Case::Cuts => end_behind_cuts(rt, board, hosts),
+        Case::CutModes | Case::CutStrange => end_cut_off(rt, board, hosts),
+        _ => end_with_strangers(rt, board, hosts),
     }
 }
 
@@ -135,21 +145,32 @@ where
     if ready.channels != CHANNELS {
         panic!(*rt; "two channels");
     }
-    if matches!(
-        case,
-        Case::Disarmed | Case::Armed | Case::Modes | Case::Ends | Case::Strange | Case::Goes
-    ) {
-        try_alone::<K, D, E, B, R>(rt, alloc, ready, case);
-    } else {
+    if matches!(case, Case::Apart | Case::Parted | Case::Held) {
         try_threads::<K, D, E, B, R>(rt, alloc, ready, case);
+    } else {
+        try_alone::<K, D, E, B, R>(rt, alloc, ready, case);
     }
 }
 
-// The profile `tiny`.
-fn tiny<R: Abort>(rt: &R, alloc: Global) -> Profile {
-    match read_profile(alloc, TINY.as_bytes()) {
-        Ok(profile) => profile,
-        Err(_) => panic!(*rt; "a profile"),
+// The profile `tiny`; where the history is to be cut, with room for two writes.
+fn profile_for<R: Abort>(rt: &R, alloc: Global, case: Case) -> Profile {
+    let Ok(profile) = read_profile(alloc, TINY.as_bytes()) else {
+        panic!(*rt; "a profile");
+    };
+    if !matches!(case, Case::Cuts | Case::CutModes | Case::CutStrange) {
+        return profile;
+    }
+    Profile {
+        checked: profile.checked,
+        costs: profile.costs,
+        sizes: ModuleSizes {
+            depth: 8,
+            reads: 8,
+            trail: 2,
+            notices: 2,
+            retries: 0,
+        },
+        map: profile.map,
     }
 }
 
@@ -158,7 +179,7 @@ fn try_case<R>(rt: &R, alloc: Global, case: Case)
 where
     R: Threads + Wait + Clock + Abort + Copy + Send + Sync,
 {
-    let profile = tiny(rt, alloc);
+    let profile = profile_for(rt, alloc, case);
     let map = ReadyMap {
         interleaving: Interleaving::Lines,
         checked: profile.checked,
@@ -215,4 +236,19 @@ fn a_read_is_served_while_workers_are_held(rt: HostRuntime) {
 #[test]
 fn a_go_is_one_command(rt: HostRuntime) {
     try_case(&rt, rt.alloc(), Case::Goes);
+}
+
+#[test]
+fn ten_saves_in_the_room_of_two(rt: HostRuntime) {
+    try_case(&rt, rt.alloc(), Case::Cuts);
+}
+
+#[test]
+fn a_cut_in_each_mode(rt: HostRuntime) {
+    try_case(&rt, rt.alloc(), Case::CutModes);
+}
+
+#[test]
+fn strangers_stop_a_cut(rt: HostRuntime) {
+    try_case(&rt, rt.alloc(), Case::CutStrange);
 }

@@ -5,18 +5,27 @@ use crate::check::same;
 use channel_port::ChannelPort;
 use energy_budget::Energy;
 use notice_book::Notices;
-use nv_workers::{Board, BoardName, Host, Receipt, Seen, Stranger, close};
+use nv_workers::{Board, BoardName, Cut, Host, Receipt, Seen, Stranger, close};
 use save_device::SaveDevice;
 use std::process::Abort;
 
-/// Fails where a board isn't closed with these receipts and answers: so many were checked, and so long is the history.
+/// What was told of receipts and answers.
+pub(crate) fn cut_of(from: u64, checked: u64, past: u64) -> Cut {
+    Cut {
+        from,
+        checked,
+        past,
+    }
+}
+
+/// Fails where a board isn't closed with these receipts and answers: this is told of them, and so many writes are stored.
 pub(crate) fn ends<K, D, E, B, N, R>(
     rt: &R,
     board: Board<K, D, E, B, N>,
     hosts: Vec<Host<B>>,
     receipts: &[Receipt],
     answers: &[Seen],
-    wanted: (u64, usize),
+    wanted: (Cut, usize),
 )
 where
     K: ChannelPort + Drop,
@@ -28,8 +37,11 @@ where
     requires { length hosts.items ≡ B.parts }
 {
     let got = match close(board, hosts, receipts, answers) {
-        Ok(closed) => (closed.checked, closed.recorded.history.writes().len()),
-        Err(left) => (0, left.2.index),
+        Ok(closed) => (
+            cut_of(closed.from, closed.checked, closed.past),
+            closed.recorded.history.writes().len(),
+        ),
+        Err(left) => (cut_of(0, 0, 0), left.2.index),
     };
     same(rt, got, wanted);
 }

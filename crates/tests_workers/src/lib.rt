@@ -9,6 +9,8 @@ mod cases;
 #[cfg(test)]
 mod check;
 #[cfg(test)]
+mod cuts;
+#[cfg(test)]
 mod ends;
 #[cfg(test)]
 mod gates;
