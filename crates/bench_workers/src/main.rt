@@ -107,7 +107,7 @@ fn show(rt: &HostRuntime, name: &str, plan: &Plan, lived: &Lived) -> anyhow::Res
         "{name}: {hosts} hosts, {accepted} writes accepted, {checked} receipts and answers checked"
     )?;
     if plan.cuts == Cuts::Along {
-        println!(rt; "{name}: {past} of them past")?;
+        println!(rt; "{name}: {past} receipts and answers past")?;
     }
     if let Some(Back { count, differ }) = lived.back {
         if plan.lost_at.is_some() {
