@@ -17,6 +17,8 @@
 //!     for i in 1 2 3 4; do timeout 600 sh -c 'while :; do :; done' & done
 #![tactic(auto)]
 
+ghost use Rattle.nv_profile.specs.Limits.{AreSizes};
+
 mod crowd;
 mod gate;
 mod life;

@@ -23,7 +23,7 @@ fn receipt_of(number: u64) -> Receipt {
     Receipt {
         number,
         line: 0,
-        data: [number as u8; 64],
+        data: [(number % 256) as u8; 64],
     }
 }
 
@@ -42,7 +42,7 @@ where
     N: Notices,
     R: Wait + Abort,
 {
-    let write = write_of(0, number as u8);
+    let write = write_of(0, (number % 256) as u8);
     same(rt, host.write(rt, board, write), Ok(receipt_of(number)));
 }
 
