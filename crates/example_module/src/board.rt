@@ -107,8 +107,8 @@ fn gather<B: BoardName>(
     Ok((hosts, receipts))
 }
 
-// The hosts write at once to an armed board, which then loses its mains. At its end each receipt is looked for in the history
-// of the life.
+// The hosts write at once to an armed board, which then loses its mains. A cut looks for each receipt in the history of the life,
+// and then takes off what the image of the loss holds. So the board's end has no receipt left to look for.
 fn share<K, B, R>(
     rt: &R,
     alloc: Global,
@@ -136,11 +136,14 @@ where
     if hosts.len() != HOSTS {
         return Err(Wrong::Hosts.into());
     }
-    match close(board, hosts, receipts.as_slice(), &[]) {
-        Ok(closed) => Ok(Shared {
+    let Ok(cut) = board.cut(rt, receipts.as_slice(), &[]) else {
+        return Err(Wrong::Receipt.into());
+    };
+    match close(board, hosts, &[], &[]) {
+        Ok(_) => Ok(Shared {
             armed,
             lost,
-            receipts: closed.checked,
+            receipts: cut.checked,
         }),
         Err(_) => Err(Wrong::Receipt.into()),
     }
