@@ -24,7 +24,8 @@ fn script_of(alloc: Global, passed: u64, pick: &str) -> anyhow::Result<String> {
 
 // What two writes and a save answer where so many saves are made.
 fn tell_round(text: &mut String, save: u64, made: u64) -> anyhow::Result<()> {
-    let (first, second) = (2 * save, 2 * save + 1);
+    let first = save.saturating_mul(2);
+    let second = first.saturating_add(1);
     if save > made {
         text.push_str("/refused write 5 TrailFull/refused write 5 TrailFull/fault save")?;
         return Ok(());
@@ -36,7 +37,12 @@ fn tell_round(text: &mut String, save: u64, made: u64) -> anyhow::Result<()> {
     if save == made {
         text.push_str("/fault save")?;
     } else {
-        write!(text, "/saved {} {}", save + 2, second + 1)?;
+        write!(
+            text,
+            "/saved {} {}",
+            save.saturating_add(2),
+            second.saturating_add(1)
+        )?;
     }
     Ok(())
 }
@@ -48,12 +54,12 @@ fn answers_of(alloc: Global, passed: u64, found: u64) -> anyhow::Result<String> 
     for save in 0..SAVES {
         tell_round(&mut text, save, passed / CALLS)?;
     }
-    let count = 2 * found;
+    let count = found.saturating_mul(2);
     let first = count.saturating_sub(1);
     write!(
         text,
         "/restored {} {count} Complete/line 0 = {first:02x}/line 127 = {count:02x}",
-        found + 1
+        found.saturating_add(1)
     )?;
     Ok(text)
 }
