@@ -163,7 +163,36 @@ where
     same(rt, board.cut(rt, &[], &[]), Ok(cut_of(2, 0, 0)));
 }
 
-/// Strangers stop a cut; behind a cut the same are past. A loss of mains saves a further write, and that goes too.
+// A loss of mains saves a further write, and that goes too.
+fn cut_behind_a_loss<K, D, E, B, N, R>(rt: &R, board: &Board<K, D, E, B, N>, host: &mut Host<B>)
+where
+    K: ChannelPort + Send,
+    D: SaveDevice,
+    E: Energy,
+    B: BoardName,
+    N: Notices,
+    R: Threads + Wait + Abort + Sync,
+{
+    same(rt, board.arm(rt), Ok(ArmReply::Armed));
+    write_next(rt, board, host, 1);
+    let lost = Loss::Saved {
+        generation: 3,
+        count: 2,
+    };
+    same(rt, board.power_loss(rt, &Always), lost);
+    same(
+        rt,
+        board.cut(rt, &[receipt_of(1)], &[]),
+        Ok(cut_of(2, 1, 0)),
+    );
+    same(
+        rt,
+        board.cut(rt, &[receipt_of(1)], &[]),
+        Ok(cut_of(2, 0, 1)),
+    );
+}
+
+/// Strangers stop a cut; behind a cut the same are past, also behind a loss of mains.
 pub(crate) fn cut_beside_strangers<K, D, E, B, N, R>(
     rt: &R,
     board: &Board<K, D, E, B, N>,
@@ -203,23 +232,7 @@ where
         board.cut(rt, &[other], &[answer_at(0)]),
         Ok(cut_of(1, 0, 2)),
     );
-    same(rt, board.arm(rt), Ok(ArmReply::Armed));
-    write_next(rt, board, host, 1);
-    let lost = Loss::Saved {
-        generation: 3,
-        count: 2,
-    };
-    same(rt, board.power_loss(rt, &Always), lost);
-    same(
-        rt,
-        board.cut(rt, &[receipt_of(1)], &[]),
-        Ok(cut_of(2, 1, 0)),
-    );
-    same(
-        rt,
-        board.cut(rt, &[receipt_of(1)], &[]),
-        Ok(cut_of(2, 0, 1)),
-    );
+    cut_behind_a_loss(rt, board, host);
 }
 
 /// Ends a board that was cut at number 2: what lies before is past, and nothing is stored.
