@@ -36,6 +36,11 @@ impl Told {
 }
 
 impl Gate for Told {
+    ghost use Rattle.std.specs.Prelude.{⊤};
+
+    // Any answer may come at any turn.
+    ghost says = { λ _ _ _ _. ⊤ };
+
     fn pass(&self, _worker: u64, _turn: u64) -> Turn {
         self.asked.fetch_add(1, Ordering::SeqCst);
         self.told
@@ -124,6 +129,11 @@ struct BothAsked<C: Clock> {
 }
 
 impl<C: Clock> Gate for BothAsked<C> {
+    ghost use Rattle.std.specs.Prelude.{⊤};
+
+    // Any answer may come at any turn.
+    ghost says = { λ _ _ _ _. ⊤ };
+
     fn pass(&self, worker: u64, turn: u64) -> Turn {
         let (own, other) = if worker == 0 {
             (&self.first, &self.second)

@@ -12,6 +12,11 @@ pub struct Turns {
 }
 
 impl Gate for Turns {
+    ghost use Rattle.std.specs.Prelude.{⊤};
+
+    // Any answer may come at any turn.
+    ghost says = { λ _ _ _ _. ⊤ };
+
     fn pass(&self, worker: u64, turn: u64) -> Turn {
         if worker == self.worker && turn < self.most {
             Turn::Go
@@ -51,6 +56,11 @@ impl EachTurn {
 }
 
 impl Gate for EachTurn {
+    ghost use Rattle.std.specs.Prelude.{⊤};
+
+    // Any answer may come at any turn.
+    ghost says = { λ _ _ _ _. ⊤ };
+
     fn pass(&self, _worker: u64, turn: u64) -> Turn {
         if self.asked.fetch_add(1, Ordering::SeqCst) != turn {
             self.astray.store(true, Ordering::SeqCst);
@@ -96,6 +106,11 @@ impl<C: Clock> HeldUntil<C> {
 }
 
 impl<C: Clock> Gate for HeldUntil<C> {
+    ghost use Rattle.std.specs.Prelude.{⊤};
+
+    // Any answer may come at any turn.
+    ghost says = { λ _ _ _ _. ⊤ };
+
     fn pass(&self, _worker: u64, turn: u64) -> Turn {
         if self.answered.load(Ordering::SeqCst) {
             return Turn::Stop;
@@ -150,6 +165,11 @@ impl<C: Clock> OtherFirst<C> {
 }
 
 impl<C: Clock> Gate for OtherFirst<C> {
+    ghost use Rattle.std.specs.Prelude.{⊤};
+
+    // Any answer may come at any turn.
+    ghost says = { λ _ _ _ _. ⊤ };
+
     fn pass(&self, worker: u64, turn: u64) -> Turn {
         let answered = self.answered.load(Ordering::SeqCst);
         if worker == 0 {

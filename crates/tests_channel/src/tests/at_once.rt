@@ -154,6 +154,11 @@ struct HeldTwice {
 }
 
 impl Gate for HeldTwice {
+    ghost use Rattle.std.specs.Prelude.{⊤};
+
+    // Any answer may come at any turn.
+    ghost says = { λ _ _ _ _. ⊤ };
+
     fn pass(&self, _worker: u64, turn: u64) -> Turn {
         self.asked.fetch_add(1, Ordering::SeqCst);
         if turn < 2 { Turn::Hold } else { Turn::Stop }
@@ -184,6 +189,11 @@ struct BothAsked<C: Clock> {
 }
 
 impl<C: Clock> Gate for BothAsked<C> {
+    ghost use Rattle.std.specs.Prelude.{⊤};
+
+    // Any answer may come at any turn.
+    ghost says = { λ _ _ _ _. ⊤ };
+
     fn pass(&self, worker: u64, turn: u64) -> Turn {
         let (own, other) = if worker == 0 {
             (&self.first, &self.second)
