@@ -3,6 +3,7 @@ ghost use Rattle.std.specs.Prelude.{◌≡◌, ◌<◌, ◌≤◌, ℕ, [], All,
 ghost use Rattle.channel_port.specs.declared.stage.Stage.TheVariants.{OnBackup};
 ghost use Rattle.channel_port.specs.Draining.{at_once};
 ghost use Rattle.channel_set.specs.Paid.{AwaitsPaidDrain, DrainsPaid};
+ghost use Rattle.worker_gate.specs.Waiting.{AreAwaited, AwaitsTurn};
 
 use crate::ChannelSet;
 use channel_port::ChannelPort;
@@ -13,7 +14,8 @@ use worker_gate::{Gate, await_turn};
 // Drains a port once the gate lets it go.
 fn drain_port<K: ChannelPort, G: Gate>(port: &mut K, number: usize, costs: &Costs, gate: &G)
     requires { AwaitsPaidDrain K.ChannelPort costs.now port.old }
-    ensures { DrainsPaid K.ChannelPort costs.now port.old port.new }
+    ensures drains { DrainsPaid K.ChannelPort costs.now port.old port.new }
+    ensures asked { AwaitsTurn G.Gate number gate.now }
 {
     await_turn(gate, number as u64);
     port.drain_paid(costs);
@@ -27,8 +29,9 @@ fn drain_ports<K: ChannelPort + Send, G: Gate + Sync, R: Threads + Sync>(
     gate: &G,
 )
     requires { All (AwaitsPaidDrain K.ChannelPort costs.now) ports.old }
-    ensures { (i : ℕ) (d : K) → i < length ports.old → DrainsPaid K.ChannelPort costs.now
+    ensures drains { (i : ℕ) (d : K) → i < length ports.old → DrainsPaid K.ChannelPort costs.now
         (slice_index_or ports.old i d) (slice_index_or ports.new i d) }
+    ensures asked { AreAwaited G.Gate gate.now 0 (length ports.old) }
 {
     for_each_mut(
         rt,
@@ -36,7 +39,8 @@ fn drain_ports<K: ChannelPort + Send, G: Gate + Sync, R: Threads + Sync>(
         8,
         &|number: usize, port: &mut K|
             requires { AwaitsPaidDrain K.ChannelPort costs.now port.now }
-            ensures { DrainsPaid K.ChannelPort costs.entry.now port.entry.now port.exit.now }
+            ensures { DrainsPaid K.ChannelPort costs.entry.now port.entry.now port.exit.now
+                × AwaitsTurn G.Gate number gate.entry.now }
         { drain_port(port, number, costs, gate) },
     );
 }
@@ -71,6 +75,7 @@ impl<K: ChannelPort> ChannelSet<K> {
         ensures drains { DrainsAll at_once (view_of K.ChannelPort self.old) (E.gauge energy.old)
             result (view_of K.ChannelPort self.new) (E.gauge energy.new) }
         ensures each { OnOk result (DrainsEach K.ChannelPort self.old self.new) }
+        ensures asked { OnOk result (AreAwaited G.Gate gate.now 0 (length self.old.ports.items)) }
         ensures dark { OnErr result (self.new ≡ self.old) }
         ensures covers { OnOk result (cost_of_drains K.ChannelPort self.old self.old.costs.numbers
             ≤ paid_for_drains (view_of K.ChannelPort self.old)) }

@@ -24,3 +24,4 @@ pub mod ClocksRise
 pub mod DrainingChannel
 pub mod PaidDrain
 mod JoinedReports
+mod JoinedWaits

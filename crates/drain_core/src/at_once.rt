@@ -3,6 +3,7 @@ ghost use Rattle.std.specs.Prelude.{◌≡◌, ◌-◌, ◌<◌, ◌≤◌, ℕ,
 ghost use Rattle.std.specs.Thread.{IsSync};
 ghost use Rattle.drain_core.specs.AtOnce.{AreDrained, AreReports, CanAllDrain, CanDrainFrom};
 ghost use Rattle.drain_core.specs.Steps.{drained};
+ghost use Rattle.worker_gate.specs.Waiting.{AreAwaited};
 
 use crate::channel_drain::drain;
 use crate::report::DrainReport;
@@ -39,7 +40,8 @@ fn drain_from<G: Gate + Sync, R: Threads + Sync>(
     first: u64,
 ) -> [Option<DrainReport>; 8]
     requires { CanDrainFrom costs.now first channels.old }
-    ensures { AreDrained costs.now channels.old result channels.new }
+    ensures drains { AreDrained costs.now channels.old result channels.new }
+    ensures asked { AreAwaited G.Gate gate.now first (length channels.old) }
 {
     let mut reports = [None; 8];
     if channels.is_empty() {
@@ -57,11 +59,13 @@ fn drain_from<G: Gate + Sync, R: Threads + Sync>(
         rt,
         &mut || -> [Option<DrainReport>; 8]
             requires { IsSync R.row × CanDrainFrom costs.now first left.now }
-            ensures { AreDrained costs.entry.now left.entry.now result left.exit.now }
+            ensures { AreDrained costs.entry.now left.entry.now result left.exit.now
+                × AreAwaited G.Gate gate.entry.now first (length left.entry.now) }
         { drain_from(rt, left, costs, gate, first) },
         &mut || -> [Option<DrainReport>; 8]
             requires { IsSync R.row × CanDrainFrom costs.now next right.now }
-            ensures { AreDrained costs.entry.now right.entry.now result right.exit.now }
+            ensures { AreDrained costs.entry.now right.entry.now result right.exit.now
+                × AreAwaited G.Gate gate.entry.now next (length right.entry.now) }
         { drain_from(rt, right, costs, gate, next) },
     );
     joined(&one, &other, half)
@@ -83,6 +87,7 @@ pub fn drain_all<G: Gate + Sync, R: Threads + Sync>(
     requires can { CanAllDrain costs.now channels.old }
     ensures drains { channels.new ≡ map drained channels.old }
     ensures reports { AreReports costs.now.numbers channels.old result }
+    ensures asked { AreAwaited G.Gate gate.now 0 (length channels.old) }
 {
     drain_from(rt, channels, costs, gate, 0)
 }

@@ -1,6 +1,5 @@
 -- A wait at a gate.
-use Rattle.std.specs.Prelude.{◌≡◌, ◌≢◌, ◌⊎◌, ℕ, ◌-◌, ◌<◌, ◌^◌}
-use Rattle.worker_gate.specs.declared.Turn.{Turn}
+use Rattle.std.specs.Prelude.{◌≡◌, ◌⊎◌, ℕ, ◌+◌, ◌-◌, ◌<◌, ◌^◌}
 use Rattle.worker_gate.specs.declared.Turn.TheVariants.{Go, Hold, Stop}
 use Rattle.worker_gate.specs.declared.Gate.{Ghosts}
 
@@ -14,3 +13,7 @@ module _ {G : Type 0} (K : Ghosts G) where
     pub turn : ℕ
     pub held : (earlier : ℕ) → earlier < turn → K.says worker earlier Hold gate
     pub ends : IsLet worker turn gate ⊎ (turn ≡ 2 ^ 64 - 1)
+
+  -- So many workers were each awaited, by the numbers from this one on.
+  abbrev pub AreAwaited : G → ℕ → ℕ → Type 0
+  AreAwaited gate first count = (i : ℕ) → i < count → AwaitsTurn (first + i) gate

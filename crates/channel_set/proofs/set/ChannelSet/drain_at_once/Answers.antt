@@ -35,7 +35,7 @@ invariant_of-self g c =
     let L = g.K.ChannelPort in
     let channels = c.args.self.now in
     let ports = channels.ports.items in
-    let drained = drained-once L channels.costs channels c.deref_mut.result.now c.drain_ports.new.ports c.deref_mut.ensures.value c.deref_mut.ensures.len c.drain_ports.auto.ports (λ k p at. none-of (reads_in L) ports k p at c.requires.lost) c.drain_ports.ensures in
+    let drained = drained-once L channels.costs channels c.deref_mut.result.now c.drain_ports.new.ports c.deref_mut.ensures.value c.deref_mut.ensures.len c.drain_ports.auto.ports (λ k p at. none-of (reads_in L) ports k p at c.requires.lost) c.drain_ports.ensures.drains in
     record { are = drained-are L (length ports) 0 ports _ drained channels.terms channels.are; shaped = drained-shaped L (length ports) 0 ports _ drained channels.terms channels.costs channels.shaped; reckoned = channels.reckoned }
 
 pub returns-clause-drains : goal.returns-clause-drains
@@ -45,7 +45,7 @@ returns-clause-drains g c =
     let ports = channels.ports.items in
     let before = g.E.Energy.gauge c.args.energy.now in
     let later = g.E.Energy.gauge c.pay.new.self in
-    let drained = drained-once L channels.costs channels c.deref_mut.result.now c.drain_ports.new.ports c.deref_mut.ensures.value c.deref_mut.ensures.len c.drain_ports.auto.ports (λ k p at. none-of (reads_in L) ports k p at c.requires.lost) c.drain_ports.ensures in
+    let drained = drained-once L channels.costs channels c.deref_mut.result.now c.drain_ports.new.ports c.deref_mut.ensures.value c.deref_mut.ensures.len c.drain_ports.auto.ports (λ k p at. none-of (reads_in L) ports k p at c.requires.lost) c.drain_ports.ensures.drains in
     drains-once L (g.met.K.ChannelPort g.world.𝓛 g.world.𝓜 g.world.𝓡 ((λ s x. x), (λ x. x), (λ x. x), λ x. x)).own_writes channels before later _ drained
     (subst (λ (cost : ℕ). PaysCost before cost (Ok tt) later) c.cost_at_once.ensures c.in_ok-pay.ensures)
 
@@ -53,19 +53,19 @@ pub returns-clause-each : goal.returns-clause-each
 returns-clause-each g c =
     let L = g.K.ChannelPort in
     let channels = c.args.self.now in
-    each-once L channels.costs channels c.deref_mut.result.now c.drain_ports.new.ports c.deref_mut.ensures.value c.deref_mut.ensures.len c.drain_ports.auto.ports (λ k p at. none-of (reads_in L) channels.ports.items k p at c.requires.lost) c.drain_ports.ensures
+    each-once L channels.costs channels c.deref_mut.result.now c.drain_ports.new.ports c.deref_mut.ensures.value c.deref_mut.ensures.len c.drain_ports.auto.ports (λ k p at. none-of (reads_in L) channels.ports.items k p at c.requires.lost) c.drain_ports.ensures.drains
 
 pub returns-clause-covers : goal.returns-clause-covers
 returns-clause-covers g c =
     let L = g.K.ChannelPort in
     let channels = c.args.self.now in
     covered-paid L (g.met.K.ChannelPort g.world.𝓛 g.world.𝓜 g.world.𝓡 ((λ s x. x), (λ x. x), (λ x. x), λ x. x)).own_writes channels
-    (covers-once L channels.costs channels c.deref_mut.result.now c.drain_ports.new.ports c.deref_mut.ensures.value c.deref_mut.ensures.len c.drain_ports.auto.ports (λ k p at. none-of (reads_in L) channels.ports.items k p at c.requires.lost) c.drain_ports.ensures)
+    (covers-once L channels.costs channels c.deref_mut.result.now c.drain_ports.new.ports c.deref_mut.ensures.value c.deref_mut.ensures.len c.drain_ports.auto.ports (λ k p at. none-of (reads_in L) channels.ports.items k p at c.requires.lost) c.drain_ports.ensures.drains)
 
 pub returns-clause-keeps : goal.returns-clause-keeps
 returns-clause-keeps g c =
     let L = g.K.ChannelPort in
     let channels = c.args.self.now in
     let ports = channels.ports.items in
-    let drained = drained-once L channels.costs channels c.deref_mut.result.now c.drain_ports.new.ports c.deref_mut.ensures.value c.deref_mut.ensures.len c.drain_ports.auto.ports (λ k p at. none-of (reads_in L) ports k p at c.requires.lost) c.drain_ports.ensures in
+    let drained = drained-once L channels.costs channels c.deref_mut.result.now c.drain_ports.new.ports c.deref_mut.ensures.value c.deref_mut.ensures.len c.drain_ports.auto.ports (λ k p at. none-of (reads_in L) ports k p at c.requires.lost) c.drain_ports.ensures.drains in
     carries-again L channels _ refl (drained-places L (length ports) 0 ports _ drained) (drained-kept L (length ports) 0 ports _ drained)
