@@ -1,5 +1,5 @@
 -- How a device's faults are counted.
-use Rattle.std.proofs.Common.{◌≡◌, inl, inr, ℕ, ◌+◌, ◌/◌, Bool, true, false, cond, not, List, [], ◌∷◌, ◌++◌, replicate, Result, Ok, Err, refl, ap, arith}
+use Rattle.std.proofs.Common.{◌≡◌, inl, inr, ℕ, ◌/◌, Bool, true, false, cond, not, List, [], ◌∷◌, ◌++◌, replicate, Result, Ok, Err, refl, ap, arith}
 use Rattle.std.proofs.lemmas.List.Sums.{sum_by-append}
 use Rattle.save_device.specs.declared.calls.Call.{Call}
 use Rattle.save_device.specs.declared.calls.CallKind.{CallKind}

@@ -44,50 +44,49 @@ module _ {K : Type 0} (L : Ghosts K) where
   running_or other (Some it) = it
   running_or other None = other
 
-  pub begins_living : (profile : Profile) (it : Module K L) (device : DeviceState) (gauge : Gauge) → HasSize (lines_of profile.checked.geometry) device
-      → IsShapeFor profile (setup_of L it).shape → HasLife L it device gauge → IsCutToSaved L it → IsLiving L profile (Some it) device gauge
-  begins_living profile it device gauge size fits lives cut = record {
+  -- the moment at which this life runs
+  abbrev pub running_at : Assembly L → SessionAt L
+  running_at now = session_at (Some now.it) now.device now.gauge
+
+  pub begins_living : (profile : Profile) (now : Assembly L) → HasSize (lines_of profile.checked.geometry) now.device
+      → IsShapeFor profile (setup_of L now.it).shape → HasLife L now → IsCutToSaved L now.it → IsLiving L profile (running_at now)
+  begins_living profile now size fits lives cut = record {
     size = size;
-    fits = λ other same. subst (λ (l : Module K L). IsShapeFor profile (setup_of L l).shape) (ap (running_or it) same) fits;
-    lives = λ other same. subst (λ (l : Module K L). HasLife L l device gauge) (ap (running_or it) same) lives;
-    cut = λ other same. subst (λ (l : Module K L). IsCutToSaved L l) (ap (running_or it) same) cut;
+    fits = λ other same. subst (λ (l : Module K L). IsShapeFor profile (setup_of L l).shape) (ap (running_or now.it) same) fits;
+    lives = λ other same. subst (λ (l : Module K L). HasLife L (assembly l now.device now.gauge)) (ap (running_or now.it) same) lives;
+    cut = λ other same. subst (λ (l : Module K L). IsCutToSaved L l) (ap (running_or now.it) same) cut;
   }
 
-  still_fits : (profile : Profile) (life : Option (Module K L)) (old new : Assembly L) → life ≡ Some old.it → IsLiving L profile life old.device old.gauge → setup_of L new.it ≡ setup_of L old.it
-      → IsShapeFor profile (setup_of L new.it).shape
-  still_fits profile life old new was living same = subst (λ (s : Setup). IsShapeFor profile s.shape) (sym same) (living.fits old.it was)
-
-  lives_with : (Told : Tale) (profile : Profile) (life : Option (Module K L)) (old new : Assembly L) → life ≡ Some old.it → IsLiving L profile life old.device old.gauge
-      → Comes L Told old new → setup_of L new.it ≡ setup_of L old.it → HasSize (lines_of profile.checked.geometry) new.device → IsCutToSaved L new.it → IsLiving L profile (Some new.it) new.device new.gauge
-  lives_with Told profile life old new was living comes same size cut =
-      begins_living profile new.it new.device new.gauge size (still_fits profile life old new was living same)
-      (∥∥₁_map (living.lives old.it was)
-      (λ (so : LifeSoFar L old).
-      let a = so.answered.runs in let c : ComesTo L Told old a.last new = comes a.last a.stands in life_on L old new so c.events c.replies same c.runs)) cut
-
-  -- what is stored stays cut where a call tells of no save
-  pub still_cut : (profile : Profile) (life : Option (Module K L)) (old new : Module K L) (device : DeviceState) (gauge : Gauge) → life ≡ Some old → IsLiving L profile life device gauge
-      → new.terms.cut ≡ old.terms.cut → new.saved ≡ old.saved → IsCutToSaved L new
-  still_cut profile life old new device gauge was living cut saved = cut ∙ living.cut old was ∙ sym saved
-
   -- so it does where its gauge is charged
-  pub charged_living : (profile : Profile) (life : Option (Module K L)) (device : DeviceState) (old new : Gauge) → RisesTo old new → IsLiving L profile life device old → IsLiving L profile life device new
-  charged_living profile life device old new rises living = record {
+  pub charged_living : (profile : Profile) (at : SessionAt L) (gauge : Gauge) → RisesTo at.gauge gauge → IsLiving L profile at → IsLiving L profile (record at { gauge = gauge })
+  charged_living profile at gauge rises living = record {
     size = living.size;
     fits = living.fits;
-    lives = λ it was. ∥∥₁_map (living.lives it was) (life_charged L (assembly it device old) new rises);
+    lives = λ it runs. ∥∥₁_map (living.lives it runs) (life_charged L (assembly it at.device at.gauge) gauge rises);
     cut = living.cut;
   }
 
-  -- after calls that may call the device
-  pub lives_on : (Told : Tale) (profile : Profile) (life : Option (Module K L)) (old new : Assembly L) → life ≡ Some old.it → IsLiving L profile life old.device old.gauge
-      → Comes L Told old new → setup_of L new.it ≡ setup_of L old.it → HasDevice L new.it new.device → IsCutToSaved L new.it → IsLiving L profile (Some new.it) new.device new.gauge
-  lives_on Told profile life old new was living comes same size cut =
-      lives_with Told profile life old new was living comes same
-      (subst (λ (n : ℕ). HasSize n new.device) (let fits : IsShapeFor profile (setup_of L new.it).shape = still_fits profile life old new was living same in fits.lines) size) cut
+  module _ (profile : Profile) (at : SessionAt L) (it : Module K L) (runs : at.life ≡ Some it) (living : IsLiving L profile at) where
+    still_fits : (later : Module K L) → setup_of L later ≡ setup_of L it → IsShapeFor profile (setup_of L later).shape
+    still_fits later same = subst (λ (s : Setup). IsShapeFor profile s.shape) (sym same) (living.fits it runs)
 
-  -- after calls that don't
-  pub lives_on_alone : (Told : Tale) (profile : Profile) (life : Option (Module K L)) (old new : Assembly L) → life ≡ Some old.it → new.device ≡ old.device
-      → IsLiving L profile life old.device old.gauge → Comes L Told old new → setup_of L new.it ≡ setup_of L old.it → IsCutToSaved L new.it → IsLiving L profile (Some new.it) new.device new.gauge
-  lives_on_alone Told profile life old new was idle living comes same cut =
-      lives_with Told profile life old new was living comes same (subst (λ (d : DeviceState). HasSize (lines_of profile.checked.geometry) d) (sym idle) living.size) cut
+    -- what is stored stays cut where a call tells of no save
+    pub still_cut : (later : Module K L) → later.terms.cut ≡ it.terms.cut → later.saved ≡ it.saved → IsCutToSaved L later
+    still_cut later cut saved = cut ∙ living.cut it runs ∙ sym saved
+
+    module _ (Told : Tale) (new : Assembly L) (comes : Comes L Told (assembly it at.device at.gauge) new) (same : setup_of L new.it ≡ setup_of L it) (cut : IsCutToSaved L new.it) where
+      lives_with : HasSize (lines_of profile.checked.geometry) new.device → IsLiving L profile (running_at new)
+      lives_with size =
+          let old : Assembly L = assembly it at.device at.gauge in
+          begins_living profile new size (still_fits new.it same)
+          (∥∥₁_map (living.lives it runs)
+          (λ (so : LifeSoFar L old).
+          let a = so.answered.runs in let c : ComesTo L Told old a.last new = comes a.last a.stands in life_on L old new so c.events c.replies same c.runs)) cut
+
+      -- after calls that may call the device
+      pub lives_on : HasDevice L new.it new.device → IsLiving L profile (running_at new)
+      lives_on size = lives_with (subst (λ (n : ℕ). HasSize n new.device) (let fits : IsShapeFor profile (setup_of L new.it).shape = still_fits new.it same in fits.lines) size)
+
+      -- after calls that don't
+      pub lives_on_alone : new.device ≡ at.device → IsLiving L profile (running_at new)
+      lives_on_alone idle = lives_with (subst (λ (d : DeviceState). HasSize (lines_of profile.checked.geometry) d) (sym idle) living.size)

@@ -1,12 +1,13 @@
 -- A restore after a save that is done, and after a stop at any time.
 use Rattle.std.proofs.Common.{◌≡◌, ◌≢◌, ◌∙◌, ℕ, ◌≤◌, List, false, inl, inr, refl, sym, ap, subst, arith, Option, Some, None}
+use Rattle.std.specs.Prelude.{MatchOption}
 use Rattle.std.proofs.Math.Logic.{∥∥₁_map, ∥∥₁_elim}
 use Rattle.std.proofs.lemmas.Grind.{merely}
 use Rattle.nv_session.proofs.Common.{Assembly, DeviceState, FindsPrefix, FindsPrefixOf, FindsSaved, Ghosts, GoesBackTo, StopsWithin}
 use Rattle.nv_session.proofs.Common.{HasSaved, Head, IsLeftBy, IsLiving, IsSettled, IsShapeFor, KeepsPrefixOf}
 use Rattle.nv_session.proofs.Common.{LeavesOnly, Machine, MayLeave, Module, ModuleStands, Outcome, Profile, Revives}
 use Rattle.nv_session.proofs.Common.{RunsWith, SessionAt, Setup, TellsImage, TellsPrefix, assembly, lines_of}
-use Rattle.nv_session.proofs.Common.{lines_of_module, memory_after, newest_of, present, restored, session_at, setup_of}
+use Rattle.nv_session.proofs.Common.{lines_of_module, memory_after, newest_of, present, restored, setup_of}
 use Rattle.nv_session.proofs.Common.{verdict_of}
 use Rattle.save_device.proofs.Moments.{last_within}
 use Rattle.save_device.proofs.Rows.{same_rows}
@@ -112,27 +113,32 @@ module _ {K : Type 0} (L : Ghosts K) where
   stop_restored old new m bytes found stands left revives = finds_prefix new.it m (lines_of_module L old.it) bytes found new.device (left_by_life L old m stands bytes left) revives
 
   -- a stop of a session leaves what one does after each machine that it goes back to
-  life_left : (profile : Profile) (life : Option (Module K L)) (old : SessionAt L) (m : Machine) → IsLiving L profile life old.device old.gauge
-      → GoesBackTo L (lines_of profile.checked.geometry) (session_at life old.device old.gauge) m → IsLeftBy (lines_of profile.checked.geometry) m old.device
-  life_left profile (Some it) old m living stands =
-      let fits : IsShapeFor profile (setup_of L it).shape = living.fits it refl in
-      subst (λ (n : ℕ). IsLeftBy n m old.device) fits.lines (left_by_life L (assembly it old.device old.gauge) m stands)
-  life_left profile None old m living left_by = left_by
+  life_left : (profile : Profile) (old : SessionAt L) (m : Machine) → IsLiving L profile old → GoesBackTo L (lines_of profile.checked.geometry) old m → IsLeftBy (lines_of profile.checked.geometry) m old.device
+  life_left profile old m living is = of_life old.life refl is
+    where
+      lines : ℕ
+      lines = lines_of profile.checked.geometry
+
+      of_life : (life : Option (Module K L)) → old.life ≡ life → MatchOption life (IsLeftBy lines m old.device) (λ it. ModuleStands L it old.device m) → IsLeftBy lines m old.device
+      of_life (Some it) runs stands =
+          let fits : IsShapeFor profile (setup_of L it).shape = living.fits it runs in
+          subst (λ (n : ℕ). IsLeftBy n m old.device) fits.lines (left_by_life L (assembly it old.device old.gauge) m stands)
+      of_life None runs left_by = left_by
 
   -- a session's restore: its life before fitted the profile, and the life that it began is of this setup
   pub session_finds : (profile : Profile) (setup : Setup) (old new : SessionAt L) (bytes : List ℕ) (found : Head)
-      → IsLiving L profile old.life old.device old.gauge → MayLeave (present old.device) bytes
+      → IsLiving L profile old → MayLeave (present old.device) bytes
       → RunsWith L setup (λ it. Revives L (restored (lines_of profile.checked.geometry) bytes) found it new.device) new.life
       → FindsPrefixOf L (lines_of profile.checked.geometry) setup old found new
   session_finds profile setup old new bytes found living left runs m is = record {
     it = runs.it;
     runs = runs.runs;
     over = runs.over;
-    holds = finds_prefix runs.it m (lines_of profile.checked.geometry) bytes found new.device (life_left profile old.life old m living is bytes left) runs.holds;
+    holds = finds_prefix runs.it m (lines_of profile.checked.geometry) bytes found new.device (life_left profile old m living is bytes left) runs.holds;
   }
 
   -- refused, it settled no more than the stop had
-  pub session_keeps : (profile : Profile) (old new : SessionAt L) (stopped : DeviceState) (error : RestoreError) → IsLiving L profile old.life old.device old.gauge
+  pub session_keeps : (profile : Profile) (old new : SessionAt L) (stopped : DeviceState) (error : RestoreError) → IsLiving L profile old
       → MayLeave (present old.device) stopped.bytes → IsSettled stopped → LeavesOnly stopped new.device (MayLeave (present stopped))
       → Refuses error (restored (lines_of profile.checked.geometry) stopped.bytes) → KeepsPrefixOf L (lines_of profile.checked.geometry) old error new
   session_keeps profile old new stopped error living left settled within refuses =
@@ -140,21 +146,25 @@ module _ {K : Type 0} (L : Ghosts K) where
       record {
         leaves = λ m is bytes again.
             subst (λ (bs : List ℕ). RecoversAfterwards m (restored lines bs)) (sym (settled_bytes stopped bytes settled (last_within stopped new.device within bytes again)))
-            (life_left profile old.life old m living is stopped.bytes left);
+            (life_left profile old m living is stopped.bytes left);
         fails = λ m is.
-            let after : RecoversAfterwards m (restored lines stopped.bytes) = life_left profile old.life old m living is stopped.bytes left in
+            let after : RecoversAfterwards m (restored lines stopped.bytes) = life_left profile old m living is stopped.bytes left in
             only_fails error (restored lines stopped.bytes) (merely (after.recovers.slot, after.recovers.image, after.recovers.found)) refuses;
       }
 
   -- where a life ran its stop left an image
-  pub session_fails : (profile : Profile) (life : Option (Module K L)) (old : SessionAt L) (bytes : List ℕ) (error : RestoreError) → IsLiving L profile life old.device old.gauge
-      → MayLeave (present old.device) bytes → Refuses error (restored (lines_of profile.checked.geometry) bytes) → life ≢ None → IsFailure error
-  session_fails profile None old bytes error living left refuses runs = absurd (runs refl)
-  session_fails profile (Some it) old bytes error living left refuses runs =
-      only_fails error (restored (lines_of profile.checked.geometry) bytes)
-      (∥∥₁_map (living.lives it refl)
-      (λ (so : LifeSoFar L (assembly it old.device old.gauge)).
-      let runs = so.answered.runs in
-      let after : RecoversAfterwards runs.last (restored (lines_of profile.checked.geometry) bytes) = life_left profile (Some it) old runs.last living runs.stands bytes left in
-      (after.recovers.slot, after.recovers.image, after.recovers.found)))
-      refuses
+  pub session_fails : (profile : Profile) (old : SessionAt L) (bytes : List ℕ) (error : RestoreError) → IsLiving L profile old
+      → MayLeave (present old.device) bytes → Refuses error (restored (lines_of profile.checked.geometry) bytes) → old.life ≢ None → IsFailure error
+  session_fails profile old bytes error living left refuses some = of_life old.life refl
+    where
+      of_life : (life : Option (Module K L)) → old.life ≡ life → IsFailure error
+      of_life None none = absurd (some none)
+      of_life (Some it) runs =
+          only_fails error (restored (lines_of profile.checked.geometry) bytes)
+          (∥∥₁_map (living.lives it runs)
+          (λ (so : LifeSoFar L (assembly it old.device old.gauge)).
+          let a = so.answered.runs in let fits : IsShapeFor profile (setup_of L it).shape = living.fits it runs in
+          let after : RecoversAfterwards a.last (restored (lines_of profile.checked.geometry) bytes) =
+          subst (λ (n : ℕ). IsLeftBy n a.last old.device) fits.lines (left_by_life L (assembly it old.device old.gauge) a.last a.stands) bytes left in
+          (after.recovers.slot, after.recovers.image, after.recovers.found)))
+          refuses

@@ -2,7 +2,7 @@
 use Rattle.std.proofs.Common.{◌≡◌, ◌∙◌, ℕ, ◌+◌, ◌≤◌, Bool, true, false, List, [], Option, Some, arith, refl, subst}
 use Rattle.std.specs.Prelude.{MatchOption, nat_lt, if◌then◌else◌}
 use Rattle.std.proofs.lemmas.Bool.{ltb-false}
-use Rattle.nv_session.proofs.Common.{Assembly, ComesTo, DeviceState, Event, Ghosts, GoesOnBy, Head, LivesOn, Module}
+use Rattle.nv_session.proofs.Common.{Assembly, ComesTo, Event, Ghosts, GoesOnBy, Head, LivesOn, Module}
 use Rattle.nv_session.proofs.Common.{Outcome, Reply, Revives, SessionAt, Setup, Tale, answered_none, assembly}
 use Rattle.nv_session.proofs.Common.{none_answered_on, runs_on, session_at, set_to, setup_of}
 use Rattle.save_image.specs.Image.{Image}
@@ -22,9 +22,9 @@ set_rises level gauge = record { rises = by_test (nat_lt level gauge.level) refl
 
 module _ {K : Type 0} (L : Ghosts K) where
   -- a restore begins a life
-  pub begins_life : (restores : Outcome) (found : Head) (it : Module K L) (device : DeviceState) (gauge : Gauge) (revives : Revives L restores found it device)
-      → HasLived L found revives.image [] [] (assembly it device gauge) (session_at (Some it) device gauge)
-  begins_life restores found it device gauge revives = record { it = it; runs = refl; answered = answered_none L found revives.image (assembly it device gauge) revives.stands }
+  pub begins_life : (restores : Outcome) (found : Head) (now : Assembly L) (revives : Revives L restores found now.it now.device)
+      → HasLived L found revives.image [] [] now (session_at (Some now.it) now.device now.gauge)
+  begins_life restores found now revives = record { it = now.it; runs = refl; answered = answered_none L found revives.image now revives.stands }
 
   module _ (found : Head) (image : Image) (events : List Event) (replies : List Reply) (first : Assembly L) where
     -- a call goes on with it

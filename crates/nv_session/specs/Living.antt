@@ -25,7 +25,7 @@ use Rattle.nv_machine.specs.declared.events.Reply.TheVariants as reply
 use Rattle.nv_machine.specs.State.{Setup, Machine}
 use Rattle.module_core.specs.declared.module.Module.{Module}
 use Rattle.module_core.specs.ModuleLives.{LifeSoFar}
-use Rattle.module_core.specs.Stands.{assembly, setup_of}
+use Rattle.module_core.specs.Stands.{Assembly, assembly, setup_of}
 use Rattle.nv_session.specs.Coming.{Tale, IsOneEvent, Comes}
 
 -- why a line isn't written or read where no life runs, in a memory of so many lines
@@ -74,9 +74,9 @@ abbrev pub session_at : {K : Type 0} {L : Ghosts K} → Option (Module K L) → 
 session_at life device gauge = record { life = life; device = device; gauge = gauge }
 
 module _ {K : Type 0} (L : Ghosts K) where
-  -- the module has a life so far, with this device and this gauge
-  abbrev pub HasLife : Module K L → DeviceState → Gauge → Type 0
-  HasLife it device gauge = ∥ LifeSoFar L (assembly it device gauge) ∥₁
+  -- the module has a life so far, with its device and its gauge
+  abbrev pub HasLife : Assembly L → Type 0
+  HasLife now = ∥ LifeSoFar L now ∥₁
 
   -- of the writes that the newest image holds none is stored
   abbrev pub IsCutToSaved : Module K L → Type 0
@@ -89,11 +89,11 @@ module _ {K : Type 0} (L : Ghosts K) where
 
   -- The device is one for images of the profile's lines. The life that runs, if one does, has the profile's lines and channels,
   -- and has lived with the device and the gauge since it was opened; its stored writes are cut.
-  pub record IsLiving (profile : Profile) (life : Option (Module K L)) (device : DeviceState) (gauge : Gauge) : Type 0 where
-    pub size : HasSize (lines_of profile.checked.geometry) device
-    pub fits : (it : Module K L) → life ≡ Some it → IsShapeFor profile (setup_of L it).shape
-    pub lives : (it : Module K L) → life ≡ Some it → HasLife it device gauge
-    pub cut : (it : Module K L) → life ≡ Some it → IsCutToSaved it
+  pub record IsLiving (profile : Profile) (at : SessionAt L) : Type 0 where
+    pub size : HasSize (lines_of profile.checked.geometry) at.device
+    pub fits : (it : Module K L) → at.life ≡ Some it → IsShapeFor profile (setup_of L it).shape
+    pub lives : (it : Module K L) → at.life ≡ Some it → HasLife (assembly it at.device at.gauge)
+    pub cut : (it : Module K L) → at.life ≡ Some it → IsCutToSaved it
 
   -- a life of this setup runs
   pub record RunsWith (setup : Setup) (Of : Module K L → Type 0) (life : Option (Module K L)) : Type 0 where

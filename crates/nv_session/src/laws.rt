@@ -7,7 +7,7 @@ ghost use Rattle.arm_state.specs.Modes.{is_armed};
 ghost use Rattle.energy_budget.specs.Charging.{RisesTo};
 ghost use Rattle.energy_budget.specs.Gauge.{Gauge};
 ghost use Rattle.energy_budget.specs.Meter.{meter_gauge};
-ghost use Rattle.save_device.specs.Device.{DeviceState, MayLeave, present};
+ghost use Rattle.save_device.specs.Device.{MayLeave, present};
 ghost use Rattle.save_image.specs.Image.{Image};
 ghost use Rattle.slot_store.specs.Outcomes.{Outcome, restored};
 ghost use Rattle.nv_machine.specs.State.{Machine, memory_after};
@@ -61,11 +61,10 @@ pub fn restore_after_any_stop<K: ChannelPort>()
 /// session goes on with it, be it one event or several; and so does a level that is set between two calls, which charges the
 /// gauge or counts a fault. So what the laws say of lives they say of a session's, wherever a stop ends it.
 pub fn sessions_live<K: ChannelPort>()
-    ensures begins { (restores : Outcome) (found : Head) (it : Module K K.ChannelPort)
-        (device : DeviceState) (gauge : Gauge)
-        (revives : Revives K.ChannelPort restores found it device)
+    ensures begins { (restores : Outcome) (found : Head) (now : Assembly K.ChannelPort)
+        (revives : Revives K.ChannelPort restores found now.it now.device)
         → HasLived K.ChannelPort found revives.image [] []
-        (assembly it device gauge) (session_at (Some it) device gauge) }
+        now (session_at (Some now.it) now.device now.gauge) }
     ensures one { (event : Event) (reply : Reply) (found : Head) (image : Image)
         (events : List Event) (replies : List Reply) (first : Assembly K.ChannelPort)
         (old new : SessionAt K.ChannelPort)
@@ -112,7 +111,8 @@ pub fn sessions_live<K: ChannelPort>()
 pub fn sessions_keep_lives<K: ChannelPort, A: Wires<K>>()
     ensures { (session : Session K A K.ChannelPort A.Wires) (it : Module K K.ChannelPort)
         → session.life ≡ Some it
-        → HasLife K.ChannelPort it (device_state session.device) (meter_gauge session.gauge) }
+        → HasLife K.ChannelPort
+        (assembly it (device_state session.device) (meter_gauge session.gauge)) }
 {}
 
 /// **Stopped at any moment since its life began, within a call or a device write too, a session's restore is that of the theorem

@@ -10,7 +10,7 @@ ghost use Rattle.slot_store.specs.Rest.{IsAtRestOn};
 ghost use Rattle.slot_store.specs.Told.{Refuses, IsFailure, image_of_restored, is_fault};
 ghost use Rattle.energy_budget.specs.Meter.{meter_gauge, lie_of};
 ghost use Rattle.module_core.specs.Opening.{opened_with};
-ghost use Rattle.module_core.specs.Stands.{ModuleStands, setup_of};
+ghost use Rattle.module_core.specs.Stands.{ModuleStands, assembly, setup_of};
 ghost use Rattle.nv_session.specs.Faults.{CountsFault, is_format_fault};
 ghost use Rattle.nv_session.specs.Living.{HasLife, IsCutToSaved, PassesAll, RunsWith, device_state, innermost};
 
@@ -63,8 +63,8 @@ impl<K: ChannelPort + Drop, A: Wires<K> + Drop> Session<K, A> {
     fn begin(&mut self, life: Module<K>, map: Interleaving)
         requires over { setup_of K.ChannelPort life ≡ setup_over self.old map }
         requires cut { IsCutToSaved K.ChannelPort life }
-        requires lives { HasLife K.ChannelPort life (device_state self.old.device)
-            (meter_gauge self.old.gauge) }
+        requires lives { HasLife K.ChannelPort
+            (assembly life (device_state self.old.device) (meter_gauge self.old.gauge)) }
         ensures life { self.new.life ≡ Some life }
         ensures device { device_state self.new.device ≡ device_state self.old.device }
         ensures gauge { self.new.gauge ≡ self.old.gauge }

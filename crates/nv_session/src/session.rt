@@ -6,7 +6,7 @@ ghost use Rattle.save_device.specs.Device.{IsSettled, MayLeave, present};
 ghost use Rattle.save_device.specs.Memory.{state_of, IsPicked};
 ghost use Rattle.slot_store.specs.Slots.{device_size};
 ghost use Rattle.energy_budget.specs.Meter.{meter_gauge, level_of, leak_of, lie_of};
-ghost use Rattle.nv_session.specs.Living.{IsShapeFor, IsLiving, PassesAll, device_state, innermost};
+ghost use Rattle.nv_session.specs.Living.{IsShapeFor, IsLiving, PassesAll, device_state, innermost, session_at};
 
 use crate::wires::Wires;
 use channel_port::ChannelPort;
@@ -28,7 +28,8 @@ pub struct Session<K: ChannelPort, A: Wires<K>> {
     pub(crate) wires: A,
     pub(crate) life: Option<Module<K>>,
     ghost fits: { (map : Interleaving) → IsShapeFor profile (A.shape wires map) },
-    ghost living: { IsLiving K.ChannelPort profile life (device_state device) (meter_gauge gauge) },
+    ghost living: { IsLiving K.ChannelPort profile
+        (session_at life (device_state device) (meter_gauge gauge)) },
 }
 
 /// The calls that a device passes where it passes all.

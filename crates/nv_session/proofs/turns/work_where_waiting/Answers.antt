@@ -1,4 +1,4 @@
-use Rattle.std.proofs.Common.{◌∙◌, true, false, true≢false, sym, subst}
+use Rattle.std.proofs.Common.{◌∙◌, true≢false, sym, subst}
 use Rattle.nv_session.proofs.Common.{ComesAlone, StepReply, WorksBehind}
 use Rattle.nv_session.proofs.Turning.{did_not_wait, waited}
 use Rattle.nv_session.proofs.turns.work_where_waiting.Goals as goal

@@ -1,4 +1,5 @@
 use Rattle.std.proofs.Common.{refl}
+use Rattle.nv_session.specs.Sessions.{moment_in}
 use Rattle.nv_session.proofs.Common.{IsOneEvent, assembly, device_state, meter_gauge}
 use Rattle.nv_machine.specs.declared.events.Event.TheVariants as events
 use Rattle.nv_machine.specs.declared.events.Reply.TheVariants as replies
@@ -16,6 +17,6 @@ pub invariant_of-self-clause-living : goal.invariant_of-self-clause-living
 invariant_of-self-clause-living g c =
     let L = g.K.ChannelPort in let it = c.args.self.now in let reply = replies.Disarm c.disarm.result in
     let device = device_state it.device in let gauge = meter_gauge it.gauge in
-    lives_on_alone L (IsOneEvent events.Disarm reply) it.profile it.life (assembly c.in-Some.life device gauge) (assembly c.disarm.new.self device gauge) c.in-Some.is refl it.living
+    lives_on_alone L it.profile (moment_in it) c.in-Some.life c.in-Some.is it.living (IsOneEvent events.Disarm reply) (assembly c.disarm.new.self device gauge)
     (one_event_alone L events.Disarm reply c.in-Some.life c.disarm.new.self c.disarm.ensures.answers device gauge) c.disarm.ensures.setup
-    (still_cut L it.profile it.life c.in-Some.life c.disarm.new.self device gauge c.in-Some.is it.living c.disarm.ensures.stored.cut c.disarm.ensures.stored.saved)
+    (still_cut L it.profile (moment_in it) c.in-Some.life c.in-Some.is it.living c.disarm.new.self c.disarm.ensures.stored.cut c.disarm.ensures.stored.saved) refl

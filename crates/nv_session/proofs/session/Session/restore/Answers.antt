@@ -41,7 +41,7 @@ returns-clause-fails g c =
     let old = c.args.self.now in let lines : ℕ = lines_of old.profile.checked.geometry in let bytes : List ℕ = (device_state c.stop.new.self.device).bytes in
     IfErr-weaker c.revive.result (λ error. Refuses error (restored (lines_of c.stop.new.self.profile.checked.geometry) bytes)) (λ error. old.life ≢ None → IsFailure error)
     (λ error refuses.
-    session_fails g.K.ChannelPort old.profile old.life (moment_in old) bytes error old.living c.stop.ensures.left
+    session_fails g.K.ChannelPort old.profile (moment_in old) bytes error old.living c.stop.ensures.left
     (subst (λ (p : Profile). Refuses error (restored (lines_of p.checked.geometry) bytes)) c.stop.ensures.profile refuses))
     c.revive.ensures.refused
 

@@ -1,4 +1,5 @@
 use Rattle.std.proofs.Common.{refl, Some, subst, sym}
+use Rattle.nv_session.specs.Sessions.{moment_in}
 use Rattle.nv_session.proofs.Common.{GoesOnBy, IsOneEvent, Reply, assembly, device_state, meter_gauge, session_at, set_to}
 use Rattle.energy_budget.specs.Gauge.{Gauge}
 use Rattle.nv_machine.specs.declared.events.Event.TheVariants as events
@@ -19,8 +20,9 @@ returns-in-Some-clause-comes g c = λ device.
 
 pub invariant_of-self-clause-living : goal.invariant_of-self-clause-living
 invariant_of-self-clause-living g c =
-    let L = g.K.ChannelPort in let it = c.args.self.now in let read = c.sense-reading in let reply : Reply = replies.Sense read.result in let device = device_state it.device in
+    let L = g.K.ChannelPort in let it = c.args.self.now in let read = c.sense-reading in let reply : Reply = replies.Sense read.result in let device = device_state it.device in let was : Gauge = set_to c.args.level (meter_gauge it.gauge) in
     let old = assembly c.in-Some.life device (meter_gauge c.set.new.self) in let new = assembly read.new.self device (meter_gauge read.new.energy) in
-    lives_on_alone L (IsOneEvent events.Sense reply) it.profile it.life old new c.in-Some.is refl
-    (charged_living L it.profile it.life device (meter_gauge it.gauge) old.gauge (subst (RisesTo (meter_gauge it.gauge)) (sym c.set.ensures.gauge) (set_rises c.args.level (meter_gauge it.gauge))) it.living) (one_event L events.Sense reply old new (read.ensures.answers device)) read.ensures.setup
-    (still_cut L it.profile it.life c.in-Some.life read.new.self device (meter_gauge it.gauge) c.in-Some.is it.living read.ensures.stored.cut read.ensures.stored.saved)
+    lives_on_alone L it.profile (session_at it.life device old.gauge) old.it c.in-Some.is
+    (charged_living L it.profile (moment_in it) old.gauge (subst (RisesTo (meter_gauge it.gauge)) {x = was} (sym {b = was} c.set.ensures.gauge) (set_rises c.args.level (meter_gauge it.gauge))) it.living)
+    (IsOneEvent events.Sense reply) new (one_event L events.Sense reply old new (read.ensures.answers device)) read.ensures.setup
+    (still_cut L it.profile (moment_in it) old.it c.in-Some.is it.living new.it read.ensures.stored.cut read.ensures.stored.saved) refl

@@ -1,4 +1,5 @@
 use Rattle.std.proofs.Common.{refl}
+use Rattle.nv_session.specs.Sessions.{moment_in}
 use Rattle.nv_session.proofs.Common.{Event, IsOneEvent, IsWork, Reply, assembly, device_state, meter_gauge}
 use Rattle.nv_machine.specs.declared.events.Event.TheVariants as events
 use Rattle.nv_machine.specs.declared.events.Reply.TheVariants as replies
@@ -21,6 +22,6 @@ pub invariant_of-self-clause-living : goal.invariant_of-self-clause-living
 invariant_of-self-clause-living g c =
     let L = g.K.ChannelPort in let it = c.args.self.now in let event : Event = events.Work c.args.channel in let reply : Reply = replies.Work c.work.result in
     let device = device_state it.device in let gauge = meter_gauge it.gauge in
-    lives_on_alone L (IsOneEvent event reply) it.profile it.life (assembly c.in-Some.life device gauge) (assembly c.work.new.self device gauge) c.in-Some.is refl it.living
+    lives_on_alone L it.profile (moment_in it) c.in-Some.life c.in-Some.is it.living (IsOneEvent event reply) (assembly c.work.new.self device gauge)
     (one_event_alone L event reply c.in-Some.life c.work.new.self c.work.ensures.answers device gauge) c.work.ensures.setup
-    (still_cut L it.profile it.life c.in-Some.life c.work.new.self device gauge c.in-Some.is it.living c.work.ensures.stored.cut c.work.ensures.stored.saved)
+    (still_cut L it.profile (moment_in it) c.in-Some.life c.in-Some.is it.living c.work.new.self c.work.ensures.stored.cut c.work.ensures.stored.saved) refl
