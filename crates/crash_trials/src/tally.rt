@@ -55,7 +55,7 @@ impl Counts {
 
 /// What a stop left, and what restores by each pick found behind it.
 #[derive(Drop)]
-struct Seen {
+struct Remembered {
     left: Left,
     counts: Counts,
 }
@@ -65,7 +65,7 @@ struct Seen {
 pub(crate) struct Tally {
     pub counts: Counts,
     pub wrong: Vec<String>,
-    seen: Vec<Seen>,
+    seen: Vec<Remembered>,
 }
 
 impl Tally {
@@ -109,7 +109,7 @@ impl Tally {
             self.seen.clear();
         }
         if is_right {
-            self.seen.push(Seen { left, counts })?;
+            self.seen.push(Remembered { left, counts })?;
         }
         Ok(())
     }
