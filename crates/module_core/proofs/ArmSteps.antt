@@ -7,7 +7,7 @@ use Rattle.arm_state.specs.declared.refusal.SaveState.{SaveState}
 use Rattle.nv_machine.proofs.Guarded.{mains_last, newest_alone}
 use Rattle.nv_machine.proofs.Refusing.{Arms, arms_where}
 use Rattle.nv_machine.proofs.Leaving.{left_marking}
-use Rattle.nv_machine.specs.Guard.{is_broken_off, may_lack}
+use Rattle.nv_machine.specs.Guard.{is_broken_off, would_lose_acknowledged}
 use Rattle.nv_machine.specs.Machine.{ArmStep, MayArm}
 use Rattle.nv_machine.specs.Moves.{arm_failed}
 use Rattle.nv_machine.specs.Refusals.{need_for}
@@ -48,7 +48,7 @@ rests_rearmed lines m state r = search rules
 pub holds_none : (lines : ℕ) (s : Store) (state : DeviceState) (o : Option RunningSave) (r : Option SaveRun) → o ≡ None → AreSameSave o r → IsResting lines s state → HoldsWhile o r lines s state
 holds_none lines s state o r is runs rest = search rules
 
-pub calm_disarmed : (m : Machine) → m.mode ≡ modes.Disarmed → m.lost ≡ None → may_lack m ≡ false
+pub calm_disarmed : (m : Machine) → m.mode ≡ modes.Disarmed → m.lost ≡ None → would_lose_acknowledged m ≡ false
 calm_disarmed m disarmed running = ap (λ (mode : Mode). is_backed mode || is_broken_off m.lost) disarmed ∙ ap is_broken_off running
 
 -- the newest image with any arm byte

@@ -13,7 +13,7 @@ use Rattle.nv_machine.specs.declared.events.Event.TheVariants as event
 use Rattle.nv_machine.specs.declared.events.Reply.TheVariants as reply
 use Rattle.nv_machine.specs.Losses.{LoseStep, SavesAll}
 use Rattle.nv_machine.specs.Machine.{MachineStep}
-use Rattle.nv_machine.specs.Guard.{is_broken_off, may_lack}
+use Rattle.nv_machine.specs.Guard.{is_broken_off, would_lose_acknowledged}
 use Rattle.nv_machine.specs.Headline.{IsBacked, IsHonest, Run, SavesAllWritten}
 use Rattle.nv_machine.specs.Honesty.{IsHonestAlong, SavesAllAlong}
 use Rattle.nv_machine.proofs.Backing.{not_backed}
@@ -79,7 +79,7 @@ module _ {K : Type 0} (L : Ghosts K) where
         kept = λ off bytes left.
             let here = (r.left bytes left).recovers in
             let unbacked : is_backed r.last.mode ≡ false = ap is_backed (sym r.stands.matches.mode) ∙ off in
-            let settled : may_lack r.last ≡ false = or_from (is_backed r.last.mode) (is_broken_off r.last.lost) unbacked calm in
+            let settled : would_lose_acknowledged r.last ≡ false = or_from (is_backed r.last.mode) (is_broken_off r.last.lost) unbacked calm in
             record {
               slot = here.slot;
               image = here.image;

@@ -31,7 +31,7 @@ pub use Rattle.energy_budget.specs.declared.action.Action.{Action}
 pub use Rattle.energy_budget.specs.declared.costs.Costs.{Costs}
 pub use Rattle.channel_port.specs.Draining.{DrainOrder, pending_each}
 pub use Rattle.channel_port.specs.Waits.{Waits}
-pub use Rattle.nv_machine.specs.Guard.{Guards, HasCause, IsGood, IsPrefix, is_broken_off, may_lack}
+pub use Rattle.nv_machine.specs.Guard.{Guards, HasCause, IsGood, IsPrefix, is_broken_off, would_lose_acknowledged}
 unfoldable pub use Rattle.nv_machine.specs.Guard.{IsGuarded}
 pub use Rattle.nv_machine.specs.Headline.{IsBacked, IsHonest, Recovers, RecoversAfterwards, Run, SavesAllWritten, StaysBacked, marks, ticks_left}
 pub use Rattle.nv_machine.specs.Honesty.{IsBackedAt}

@@ -1,5 +1,5 @@
 -- What the machine keeps in any event, and what becomes of its life.
-use Rattle.nv_machine.proofs.Common.{List, [], ap, arith, false, refl, sym, ℕ, ◌++◌, ◌+◌, ◌∙◌, ◌≡◌, ◌≤◌, None, Some, append-nil, Write, step_after, has_ended, is_armed, is_backed, is_disarming, DrainOrder, Loss, Mode, Guards, IsGuarded, is_broken_off, may_lack, SavesAllWritten, marks, LoseStep, MachineStep, persisted_at_end, read_as, written, added, Machine, RunningSave, Setup, World, all_of, newest_of, told_mark, Event, Reply}
+use Rattle.nv_machine.proofs.Common.{List, [], ap, arith, false, refl, sym, ℕ, ◌++◌, ◌+◌, ◌∙◌, ◌≡◌, ◌≤◌, None, Some, append-nil, Write, step_after, has_ended, is_armed, is_backed, is_disarming, DrainOrder, Loss, Mode, Guards, IsGuarded, is_broken_off, would_lose_acknowledged, SavesAllWritten, marks, LoseStep, MachineStep, persisted_at_end, read_as, written, added, Machine, RunningSave, Setup, World, all_of, newest_of, told_mark, Event, Reply}
 use Rattle.nv_machine.proofs.Refusing.{arms_where, accepted_where, begins_where}
 use Rattle.nv_machine.proofs.Effects.{KeepsNewest, Effect, rests, shows, runs_low, disarms, accepts, begins, arms, fails_to_arm, steps, ends, repeats, fails, closes, effect}
 use Rattle.nv_machine.proofs.Proceeding.{stepped_goes, torn_goes, failed_goes, failed_ends, newest_stays, dark_goes, fault_goes, after_loss}
@@ -17,7 +17,7 @@ at_end m save guarded runs = by_mode m.mode refl
     by_mode : (mode : Mode) → m.mode ≡ mode → let persisted = persisted_at_end mode m.life.persisted save.made.count in (m.life.persisted ≤ persisted) × (save.made.count ≤ persisted)
     by_mode Mode.Armed is = let all : m.life.persisted ≡ all_of m = guarded.backed_persisted (ap is_backed is) in omega (arith, (guarded.good_made save runs).prefix.to)
     by_mode Mode.Disarmed is =
-        let running : m.lost ≡ None = guarded.mains_last (ap has_ended is) in let calm : may_lack m ≡ false = grind arith in
+        let running : m.lost ≡ None = guarded.mains_last (ap has_ended is) in let calm : would_lose_acknowledged m ≡ false = grind arith in
         omega (arith, (guarded.good_made save runs).holds_all calm)
     by_mode Mode.Closing is = grind (arith, guarded.no_save_at_end)
     by_mode Mode.Saved is = grind (arith, guarded.no_save_at_end)
@@ -36,7 +36,7 @@ pub record KeepsLife (event : Event) (reply : Reply) (m n : Machine) : Type 0 wh
   pub persisted : m.life.persisted ≤ n.life.persisted
   pub told : told_mark reply ≤ n.life.persisted
   pub newest : KeepsNewest reply (newest_of m).count (newest_of n).count
-  pub calm : marks reply ≡ false → may_lack m ≡ false → may_lack n ≡ false
+  pub calm : marks reply ≡ false → would_lose_acknowledged m ≡ false → would_lose_acknowledged n ≡ false
   pub unbroken : SavesAllWritten m reply → is_broken_off m.lost ≡ false → is_broken_off n.lost ≡ false
 
 module _ (setup : Setup) (old new : World) (guarded : Guards old.machine) where

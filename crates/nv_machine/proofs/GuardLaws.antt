@@ -2,7 +2,7 @@
 use Rattle.std.proofs.lemmas.Bool.{both_ways}
 use Rattle.std.proofs.lemmas.Option.{none-some}
 use Rattle.line_memory.proofs.MemoryLaws.{memory_at-all}
-use Rattle.nv_machine.proofs.Common.{Bool, arith, false, refl, subst, sym, true, ℕ, ◌≡◌, ◌≢◌, ◌≤◌, None, Option, Some, ForSome, arm_byte, Image, is_disarming, Mode, HasCause, IsGood, Guards, may_lack, Machine, base_of_life, made_of, start_of_life}
+use Rattle.nv_machine.proofs.Common.{Bool, arith, false, refl, subst, sym, true, ℕ, ◌≡◌, ◌≢◌, ◌≤◌, None, Option, Some, ForSome, arm_byte, Image, is_disarming, Mode, HasCause, IsGood, Guards, would_lose_acknowledged, Machine, base_of_life, made_of, start_of_life}
 
 -- what holds of none, and of one
 pub for_none : {X : Type 0} (o : Option X) (P : X → Type 0) → o ≡ None → ForSome o P
@@ -28,7 +28,7 @@ clash_mode mode off on = grind arith
 pub ruleset never = (both_ways, none-some, clash, clash_le, clash_some, clash_mode, for_none, for_one)
 
 -- a good image stays good where the life is the same
-pub carry : (m n : Machine) → ((image : Image) → HasCause m image → HasCause (record n { life = m.life }) image) → (may_lack n ≡ false → may_lack m ≡ false)
+pub carry : (m n : Machine) → ((image : Image) → HasCause m image → HasCause (record n { life = m.life }) image) → (would_lose_acknowledged n ≡ false → would_lose_acknowledged m ≡ false)
     → (image : Image) → IsGood m image → IsGood (record n { life = m.life }) image
 carry m n cause calm image good = search (cause, calm, good.complete, good.cause, good.holds_all)
 

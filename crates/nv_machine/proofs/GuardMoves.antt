@@ -1,7 +1,7 @@
 -- What the machine keeps in each of its moves.
 use Rattle.nv_machine.specs.Moves.{arm_failed, closed_unsaved, saved_in}
 use Rattle.nv_machine.specs.State.{begun_save}
-use Rattle.nv_machine.proofs.Common.{Bool, [], ap, arith, false, inl, inr, length, refl, sym, true, ℕ, ⊎_elim, ◌++◌, ◌+◌, ◌-◌, ◌∙◌, ◌∷◌, ◌≡◌, ◌≢◌, ◌≤◌, None, Some, if◌then◌else◌, is_some, length-append, take-append-le, ForSome, after, Write, arm_byte, Image, Step, has_ended, is_armed, is_backed, is_disarming, mode_after, Loss, Mode, Move, Waits, HasCause, IsGood, Guards, IsPrefix, is_broken_off, may_lack, armed, begun, disarming, finished, persisted_at_end, written, Machine, RunningSave, Store, all_of, base_of_life, made_of, newest_of, start_of_life}
+use Rattle.nv_machine.proofs.Common.{Bool, [], ap, arith, false, inl, inr, length, refl, sym, true, ℕ, ⊎_elim, ◌++◌, ◌+◌, ◌-◌, ◌∙◌, ◌∷◌, ◌≡◌, ◌≢◌, ◌≤◌, None, Some, if◌then◌else◌, is_some, length-append, take-append-le, ForSome, after, Write, arm_byte, Image, Step, has_ended, is_armed, is_backed, is_disarming, mode_after, Loss, Mode, Move, Waits, HasCause, IsGood, Guards, IsPrefix, is_broken_off, would_lose_acknowledged, armed, begun, disarming, finished, persisted_at_end, written, Machine, RunningSave, Store, all_of, base_of_life, made_of, newest_of, start_of_life}
 use Rattle.nv_machine.proofs.GuardLaws.{for_none, for_one, never, carry, made_good, armed_set}
 use Rattle.nv_machine.proofs.Proceeding.{with_saved, Proceeds}
 
@@ -45,14 +45,14 @@ guarded_armed m none running guarded =
 -- the arm byte may be any
 pub guarded_arm_failed : (m : Machine) → m.store.saving ≡ None → m.mode ≡ Mode.Disarmed → m.lost ≡ None → Guards m → Guards (arm_failed m)
 guarded_arm_failed m none disarmed running guarded =
-    let calm : may_lack m ≡ false = grind arith in let off : is_armed m.mode ≡ false = ap is_armed disarmed in
+    let calm : would_lose_acknowledged m ≡ false = grind arith in let off : is_armed m.mode ≡ false = ap is_armed disarmed in
     let keeps : (image : Image) → IsGood m image → IsGood (arm_failed m) image = carry m (arm_failed m) (λ i x. inr (inl refl)) (λ x. x) in
     search (never, keeps, guarded.good_saved, guarded.good_newest.holds_all)
 
 -- mains were lost while disarmed
 pub guarded_unsaved : (m : Machine) → m.mode ≡ Mode.Disarmed → m.lost ≡ None → Guards m → Guards (closed_unsaved m)
 guarded_unsaved m disarmed running guarded =
-    let calm : may_lack m ≡ false = grind arith in
+    let calm : would_lose_acknowledged m ≡ false = grind arith in
     let keeps : (image : Image) → IsGood m image → IsGood (closed_unsaved m) image = carry m (closed_unsaved m) (λ i x. ⊎_elim (λ is. cc) inr x) (λ x. calm) in
     search (never, keeps, guarded.good_saved)
 
@@ -73,7 +73,7 @@ module _ (m : Machine) (guarded : Guards m) (write : Write) (persisted : ℕ) (w
 
   guarded_more_armed : is_armed m.mode ≡ true → persisted ≡ all_of m + 1 → Guards longer
   guarded_more_armed on is =
-      let lacks : may_lack longer ≡ true = grind arith in let calm : is_disarming m.mode ≡ false = grind arith in
+      let lacks : would_lose_acknowledged longer ≡ true = grind arith in let calm : is_disarming m.mode ≡ false = grind arith in
       let keeps : (image : Image) → image.arm ≢ 0 → IsGood m image → IsGood longer image =
       λ image set good. record { prefix = longer_prefix image good.prefix; complete = λ clear. absurd (set clear); cause = λ armed. inl lacks; holds_all = λ calm. cc } in
       let least : start_of_life m.life ≤ persisted = omega (arith, guarded.opened_persisted, guarded.persisted_accepted, is) in
@@ -130,7 +130,7 @@ module _ (m : Machine) (guarded : Guards m) (save : RunningSave) (runs : m.store
       let n : Machine = record m { mode = mode_after Move.FailSave m.mode; store = with_saved m.store s goes.saved } in
       let arms : is_armed n.mode ≡ true → is_armed m.mode ≡ true = grind arith in let backs : is_backed n.mode ≡ true → is_backed m.mode ≡ true = grind arith in
       let active : has_ended n.mode ≡ false → has_ended m.mode ≡ false = grind arith in let stops : n.mode ≡ Mode.Disarming → is_some s.saving ≡ true = grind arith in
-      let lacks : may_lack n ≡ may_lack m = grind arith in let idle : ForSome s.saving (λ save. save.made.arm ≢ 0) = for_none s.saving _ none in
+      let lacks : would_lose_acknowledged n ≡ would_lose_acknowledged m = grind arith in let idle : ForSome s.saving (λ save. save.made.arm ≢ 0) = for_none s.saving _ none in
       let keeps : (image : Image) → IsGood m image → IsGood n image = carry m n (λ i x. ⊎_elim (λ is. inl (lacks ∙ is)) inr x) (λ x. sym lacks ∙ x) in
       let again : Guards n = search (never, keeps, saved, refuses, armed_saved, guarded.backed_persisted, guarded.armed_newest, guarded.no_arm_failed, guarded.mains_last, arms, backs, active, stops, rises) in
       rw goes.is again

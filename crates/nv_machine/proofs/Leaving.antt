@@ -3,7 +3,7 @@ use Rattle.std.proofs.Common.{◌⊎◌}
 use Rattle.slot_store.specs.Rest.{IsAmong, IsSaved, rearmed}
 use Rattle.slot_store.specs.Slots.{other}
 use Rattle.nv_machine.specs.Headline.{HasCauseMeanwhile, MayFindMeanwhile, RecoversMeanwhile}
-use Rattle.nv_machine.proofs.Common.{Bool, List, [], ap, arith, false, inl, inr, refl, true, ℕ, ⊎_elim, ◌++◌, ◌∙◌, ◌≡◌, ◌≤◌, None, Option, Some, append-nil, ForSome, Write, Image, Found, Outcome, Slot, Guards, HasCause, IsGood, IsGuarded, IsPrefix, may_lack, Recovers, RecoversAfterwards, marks, MachineStep, added, Machine, Setup, World, newest_of, Event, Reply}
+use Rattle.nv_machine.proofs.Common.{Bool, List, [], ap, arith, false, inl, inr, refl, true, ℕ, ⊎_elim, ◌++◌, ◌∙◌, ◌≡◌, ◌≤◌, None, Option, Some, append-nil, ForSome, Write, Image, Found, Outcome, Slot, Guards, HasCause, IsGood, IsGuarded, IsPrefix, would_lose_acknowledged, Recovers, RecoversAfterwards, marks, MachineStep, added, Machine, Setup, World, newest_of, Event, Reply}
 use Rattle.nv_machine.proofs.EachEvent.{KeepsLife, guarded_event, event_keeps}
 
 -- a good image that a restore finds
@@ -68,7 +68,7 @@ left_within setup event reply old new done guarded unmarked silent outcome eithe
     either
 
 -- a stop within an arm call: the newest image has any arm byte
-pub left_marking : (reply : Reply) (old new : Machine) → marks reply ≡ true → may_lack old ≡ false → IsGuarded old → (outcome : Outcome)
+pub left_marking : (reply : Reply) (old new : Machine) → marks reply ≡ true → would_lose_acknowledged old ≡ false → IsGuarded old → (outcome : Outcome)
     → IsAmong (record old.store.maybe { any_arm = true }) outcome → RecoversMeanwhile reply old new outcome
 unfolding IsGuarded
 left_marking reply old new marked calm guarded outcome (inl is) =

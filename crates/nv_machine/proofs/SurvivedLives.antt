@@ -4,7 +4,7 @@ use Rattle.slot_store.specs.Outcomes.{verdict_of}
 use Rattle.slot_store.specs.declared.restoring.Verdict.{Verdict}
 use Rattle.nv_machine.specs.Lives.{last_life}
 use Rattle.nv_machine.specs.Survival.{IsHonestLife, IsRecovered, IsSurvived, history_to}
-use Rattle.nv_machine.proofs.Common.{List, [], ap, arith, false, length, ℕ, ◌++◌, ◌+◌, ◌∷◌, ◌≡◌, after, Image, is_backed, IsPrefix, is_broken_off, may_lack, IsBackedAt, AreChained, IsLived, Lived, Machine}
+use Rattle.nv_machine.proofs.Common.{List, [], ap, arith, false, length, ℕ, ◌++◌, ◌+◌, ◌∷◌, ◌≡◌, after, Image, is_backed, IsPrefix, is_broken_off, would_lose_acknowledged, IsBackedAt, AreChained, IsLived, Lived, Machine}
 use Rattle.nv_machine.proofs.Backing.{not_backed}
 use Rattle.nv_machine.proofs.RisingMarks.{told_along}
 use Rattle.nv_machine.proofs.HonestRuns.{saved_along, unbroken_along}
@@ -29,7 +29,7 @@ last_lived life [] chained = chained
 last_lived life (next ∷ lives) chained = last_lived next lives chained.2
 
 -- in an honest life nothing may be lacking at the end
-honest_calm : (life : Lived) → IsLived life → IsHonestLife life → may_lack life.last.machine ≡ false
+honest_calm : (life : Lived) → IsLived life → IsHonestLife life → would_lose_acknowledged life.last.machine ≡ false
 honest_calm life lived honest =
     let first : IsBackedAt life.setup life.first = not_backed life.setup life.first.machine life.first.gauge (ap (λ (m : Machine). is_backed m.mode) lived.begins) in
     let along = honest_ends life.setup life.events life.replies life.first life.last honest.run honest.gauge honest.spared in

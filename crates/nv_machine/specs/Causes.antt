@@ -2,14 +2,14 @@
 use Rattle.std.specs.Prelude.{◌≡◌, ◌⊎◌, true, List, ◌∷◌, ◌++◌, All, Option, Some, None}
 use Rattle.save_image.specs.Image.{Image}
 use Rattle.nv_machine.specs.State.{Machine}
-use Rattle.nv_machine.specs.Guard.{may_lack}
+use Rattle.nv_machine.specs.Guard.{would_lose_acknowledged}
 use Rattle.nv_machine.specs.Headline.{marks}
 use Rattle.nv_machine.specs.Lives.{Unanswered, Lived}
 
 -- A cause of the life's own: darkness now, where acknowledged writes may be lacking, or an arm call that failed since the last
 -- save.
 abbrev pub HasOwnCause : Machine → Type 0
-HasOwnCause m = (may_lack m ≡ true) ⊎ (m.store.maybe.any_arm ≡ true)
+HasOwnCause m = (would_lose_acknowledged m ≡ true) ⊎ (m.store.maybe.any_arm ≡ true)
 
 -- the same at a stop, which may have come within an event, as an arm call
 abbrev pub HasOwnCauseAt : Option Unanswered → Machine → Type 0

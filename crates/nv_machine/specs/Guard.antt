@@ -22,13 +22,13 @@ is_broken_off lost = false
 
 -- in the dark, now, acknowledged writes may be lacking: the module is armed, disarming or stranded, or a closing save was
 -- broken off
-abbrev pub may_lack : Machine → Bool
-may_lack m = is_backed m.mode || is_broken_off m.lost
+abbrev pub would_lose_acknowledged : Machine → Bool
+would_lose_acknowledged m = is_backed m.mode || is_broken_off m.lost
 
 -- Why this image, which isn't complete, may be the newest: darkness now, or an arm call that failed since the last save, or
 -- the life began with this very image.
 abbrev pub HasCause : Machine → Image → Type 0
-HasCause m image = (may_lack m ≡ true) ⊎ (m.store.maybe.any_arm ≡ true) ⊎ (image ≡ m.life.opened)
+HasCause m image = (would_lose_acknowledged m ≡ true) ⊎ (m.store.maybe.any_arm ≡ true) ⊎ (image ≡ m.life.opened)
 
 -- An image that a stop may make the newest: where it is complete it holds each acknowledged write, where it isn't there is
 -- a cause, and where nothing may be lacking it holds them all the same.
@@ -36,7 +36,7 @@ pub record IsGood (m : Machine) (image : Image) : Type 0 where
   pub prefix : IsPrefix m image
   pub complete : image.arm ≡ 0 → m.life.persisted ≤ image.count
   pub cause : image.arm ≢ 0 → HasCause m image
-  pub holds_all : may_lack m ≡ false → m.life.persisted ≤ image.count
+  pub holds_all : would_lose_acknowledged m ≡ false → m.life.persisted ≤ image.count
 
 -- What the machine keeps: each image that a stop may make the newest is good, and so is the one that a save makes.
 pub record Guards (m : Machine) : Type 0 where

@@ -21,7 +21,7 @@ use Rattle.nv_machine.specs.declared.events.Reply.TheVariants as replies
 use Rattle.nv_machine.specs.State.{Setup, RunningSave, Machine, World, newest_of, pending_of, made_of}
 use Rattle.nv_machine.specs.Refusals.{need_for}
 use Rattle.nv_machine.specs.Machine.{MachineStep}
-use Rattle.nv_machine.specs.Guard.{IsPrefix, HasCause, may_lack}
+use Rattle.nv_machine.specs.Guard.{IsPrefix, HasCause, would_lose_acknowledged}
 
 -- A restore finds an image: the memory after a prefix of the accepted writes. Where it is complete it holds each write that
 -- was acknowledged, and where nothing may be lacking it holds them all the same. Where it isn't complete there is a cause.
@@ -32,7 +32,7 @@ pub record Recovers (m : Machine) (Why : Image → Type 0) (outcome : Outcome) :
   pub prefix : IsPrefix m image
   pub complete : image.arm ≡ 0 → m.life.persisted ≤ image.count
   pub cause : image.arm ≢ 0 → Why image
-  pub holds_all : may_lack m ≡ false → m.life.persisted ≤ image.count
+  pub holds_all : would_lose_acknowledged m ≡ false → m.life.persisted ≤ image.count
 
 -- in an event with this reply the arm byte of the newest image was written
 abbrev pub marks : Reply → Bool

@@ -10,7 +10,7 @@ use Rattle.slot_store.specs.Outcomes as outcome
 use Rattle.slot_store.specs.Told.{IsFailure}
 use Rattle.channel_port.specs.declared.port.ChannelPort.{Ghosts}
 use Rattle.nv_machine.specs.State.{Setup, Machine}
-use Rattle.nv_machine.specs.Guard.{IsPrefix, HasCause, may_lack}
+use Rattle.nv_machine.specs.Guard.{IsPrefix, HasCause, would_lose_acknowledged}
 use Rattle.nv_machine.specs.Headline.{RecoversAfterwards}
 use Rattle.module_core.specs.declared.module.Module.{Module}
 use Rattle.module_core.specs.Opening.{opened_with}
@@ -29,7 +29,7 @@ pub record TellsPrefix (m : Machine) (found : Head) (image : Image) : Type 0 whe
   pub tells : TellsImage found image
   pub prefix : IsPrefix m image
   pub complete : found.verdict ≡ Complete → m.life.persisted ≤ found.count
-  pub holds_all : may_lack m ≡ false → m.life.persisted ≤ found.count
+  pub holds_all : would_lose_acknowledged m ≡ false → m.life.persisted ≤ found.count
   pub cause : found.verdict ≢ Complete → HasCause m image
 
 -- whatever a stop leaves of the device, it is what a stop left after this machine
