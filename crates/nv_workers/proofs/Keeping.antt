@@ -2,7 +2,7 @@
 use Rattle.std.proofs.Common.{◌≡◌, ℕ, ◌+◌, ◌-◌, ◌<◌, ◌≤◌, List, [], ◌∷◌, ◌++◌, length, refl, ap, sym, ◌∙◌, arith}
 use Rattle.std.specs.Result.{IsOk}
 use Rattle.std.proofs.Math.Nat.{ℕ_set}
-use Rattle.std.proofs.lemmas.List.{append-nil, length-append, length-drop}
+use Rattle.std.proofs.lemmas.List.{length-append, length-drop}
 use Rattle.nv_workers.proofs.Common.{Err, Ghosts as GaugeGhosts, IsRecordKept, Machine, ModuleStands, Ok, RecordedModule, Result}
 use Rattle.nv_workers.proofs.Common.{Setup, StandsWith, StepsTo, assembly_of, setup_of, world_of, ∥∥₁_elim, ∥∥₁_map}
 use Rattle.save_image.specs.Image.{Image}
@@ -82,11 +82,6 @@ module _ {K D E : Type 0} (L : Ghosts K) (M : DeviceGhosts D) (N : GaugeGhosts E
         → new.running.accepted ≡ new.running.terms.start + before + later
     counted_on before total later was adds = omega (arith, counts_on, same_start, was, adds)
 
-    -- none is added
-    pub counted_same : (before total : ℕ) → added event reply ≡ [] → old.running.accepted ≡ old.running.terms.start + before + total
-        → new.running.accepted ≡ new.running.terms.start + before + total
-    counted_same before total none was = counted_on before total total was (omega (arith, ap length none))
-
     stands_on : new.running.terms.cut ≡ old.running.terms.cut → new.history ≡ recorded_after event reply old.history → (m : Machine) (with : StandsWith L M old m)
         → StandsWith L M new (steps m with.stands).0
     stands_on uncut records m with =
@@ -108,12 +103,6 @@ module _ {K D E : Type 0} (L : Ghosts K) (M : DeviceGhosts D) (N : GaugeGhosts E
       room =
           let trail : new.running.terms.trail ≡ old.running.terms.trail = ap (λ (s : Setup). s.trail) setup in omega (arith, kept.room, trail, ap (λ (h : Recorded). h.room) records);
     }
-
-    -- an event that accepts no write leaves the record as it is
-    pub keeps_same : new.running.terms.cut ≡ old.running.terms.cut → added event reply ≡ [] → new.history ≡ old.history → IsRecordKept L M new
-    keeps_same uncut none same =
-        let writes : old.history.writes ++ added event reply ≡ old.history.writes = ap (λ (ws : List line_write.Write). old.history.writes ++ ws) none ∙ append-nil old.history.writes in
-        keeps_on uncut (same ∙ ap (λ (ws : List line_write.Write). record old.history { writes = ws }) (sym writes))
 
   -- a write that was accepted had room in the record
   pub has_room : (write : line_write.Write) (result : Result Accepted WriteRefusal) (old new : RecordedModule K D E L) → IsRecordKept L M old

@@ -1,5 +1,5 @@
 -- What is stored of a life: it grows by each accepted write, and a cut moves it on.
-use Rattle.std.proofs.Common.{◌≡◌, ℕ, ◌-◌, ◌≤◌, List, ◌++◌, length, take, drop, ap, refl, ◌∙◌}
+use Rattle.std.proofs.Common.{◌≡◌, ℕ, ◌-◌, ◌≤◌, List, ◌++◌, length, drop, ap, ◌∙◌}
 use Rattle.std.proofs.lemmas.List.{drop-append-le, take-append-le}
 use Rattle.line_memory.specs.declared.Write as line_write
 use Rattle.line_memory.specs.Memory.{after, memory_at}

@@ -1,11 +1,17 @@
 -- What is kept beside a module.
-use Rattle.std.specs.Prelude.{◌≡◌, ℕ, ◌≤◌}
+use Rattle.std.specs.Prelude.{◌≡◌, ℕ, ◌+◌, ◌≤◌}
+use Rattle.atomic_table.specs.Seated.{TableId}
+use Rattle.mark_board.specs.SeenMarks.{SeenMarks}
 use Rattle.line_memory.specs.History.{Recorded, recorded}
 use Rattle.save_device.specs.declared.device.SaveDevice.{Ghosts as DeviceGhosts}
+use Rattle.energy_budget.specs.declared.energy.Energy.{Ghosts as GaugeGhosts}
 use Rattle.channel_port.specs.declared.port.ChannelPort.{Ghosts}
 use Rattle.nv_machine.specs.State.{Machine, base_of_life, start_of_life, stored_base, stored_writes}
-use Rattle.module_core.specs.Stands.{ModuleStands}
+use Rattle.module_core.specs.Stands.{ModuleStands, setup_of}
+use Rattle.nv_workers.specs.declared.board_name.BoardName.{Ghosts as NameGhosts}
 use Rattle.nv_workers.specs.declared.recorded_module.RecordedModule.{RecordedModule}
+use Rattle.nv_workers.specs.Lived.{HasSomeLife}
+use Rattle.nv_workers.specs.Marks.{marks_of}
 
 -- the record of a whole life, as if none of its writes had been cut off
 abbrev pub whole_record : Machine → ℕ → Recorded
@@ -26,3 +32,15 @@ module _ {K D E : Type 0} (L : Ghosts K) (M : DeviceGhosts D) where
   pub record IsRecordKept (it : RecordedModule K D E L) : Type 0 where
     pub stands : ∥ ((m : Machine) × StandsWith it m) ∥₁
     pub room : HasRoomForAll it
+
+module _ {K D E B : Type 0} (L : Ghosts K) (M : DeviceGhosts D) (N : GaugeGhosts E) (O : NameGhosts B) where
+  -- What is true behind the lock between two events: the words and the channels are those that the board's name says; the record
+  -- is kept; some life so far leads to where module, device and gauge stand; the marks are the module's two numbers; and the
+  -- hosts have written all that was accepted since the board was opened, so many.
+  pub record IsBoardKept (it : RecordedModule K D E L) (words : TableId) (marks : SeenMarks) (written : ℕ) : Type 0 where
+    pub board : words ≡ O.board
+    pub channels : (setup_of L it.running).shape.channels ≡ O.channels
+    pub recorded : IsRecordKept L M it
+    pub lived : HasSomeLife L M N it
+    pub shown : marks ≡ marks_of L O.board it.running
+    pub counted : it.running.accepted ≡ it.running.terms.start + O.before + written

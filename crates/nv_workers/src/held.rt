@@ -4,7 +4,7 @@ ghost use Rattle.mark_board.specs.SeenMarks.{IsNotAbove};
 ghost use Rattle.std.specs.Arc.{arc_value};
 ghost use Rattle.nv_machine.specs.Rising.{added};
 ghost use Rattle.module_core.specs.Stands.{setup_of};
-ghost use Rattle.nv_workers.specs.Kept.{IsRecordKept};
+ghost use Rattle.nv_workers.specs.Kept.{IsBoardKept, IsRecordKept};
 ghost use Rattle.nv_workers.specs.Lived.{HasSomeLife};
 ghost use Rattle.nv_workers.specs.Marks.{IsBehind, IsCounted, marks_of};
 
@@ -33,13 +33,8 @@ pub struct Held<K: ChannelPort, D: SaveDevice, E: Energy, B: BoardName> {
     pub(crate) marks: Arc<MarkBoard, Global>,
     pub(crate) seat: BoardSeat,
     pub(crate) tally: Tally<B>,
-    ghost board: { arc_value marks ≡ B.board },
-    ghost channels: { (setup_of K.ChannelPort recorded.running).shape.channels ≡ B.channels },
-    ghost kept: { IsRecordKept K.ChannelPort D.SaveDevice recorded },
-    ghost lived: { HasSomeLife K.ChannelPort D.SaveDevice E.Energy recorded },
-    ghost shown: { seat ≡ marks_of K.ChannelPort B.board recorded.running },
-    ghost counted: { recorded.running.accepted
-        ≡ recorded.running.terms.start + B.before + tally.book.total },
+    ghost kept: { IsBoardKept K.ChannelPort D.SaveDevice E.Energy B.BoardName
+        recorded (arc_value marks) seat tally.book.total },
 }
 
 /// What a read was answered, and how many writes were accepted before it.

@@ -1,5 +1,4 @@
 use Rattle.std.proofs.Common.{subst, sym}
-use Rattle.nv_workers.specs.declared.recorded_module.RecordedModule.{RecordedModule}
 use Rattle.nv_workers.specs.Ending.{HasChecked, cut}
 use Rattle.nv_workers.proofs.held.Held.end.Goals as goal
 

@@ -1,5 +1,5 @@
-use Rattle.std.proofs.Common.{◌≡◌, ◌∙◌, ℕ, ◌+◌, ◌≤◌, ap, arith, length, refl, sym}
-use Rattle.line_memory.specs.History.{Recorded, cut_at}
+use Rattle.std.proofs.Common.{◌≡◌, ◌∙◌, ℕ, ◌≤◌, ap, arith, refl}
+use Rattle.line_memory.specs.History.{cut_at}
 use Rattle.nv_workers.specs.Cutting.{MovesToNewest}
 use Rattle.nv_workers.proofs.CutRecords.{counted_cut, kept_cut, lives_cut, marks_cut}
 use Rattle.nv_workers.proofs.Holding.{same_channels}
@@ -8,13 +8,13 @@ use Rattle.nv_workers.proofs.held.Held.move_to_newest.Goals as goal
 
 pub cut-requires-clause-from : goal.cut-requires-clause-from
 cut-requires-clause-from g c =
-    let it = c.args.self.now in let starts = starts_with g.K.ChannelPort g.D.SaveDevice it.recorded it.kept in
+    let it = c.args.self.now in let starts = starts_with g.K.ChannelPort g.D.SaveDevice it.recorded it.kept.recorded in
     let stored : it.recorded.running.terms.cut ≤ it.recorded.running.saved = it.recorded.running.stored in
     omega (arith, starts, stored, c.saved-at.ensures)
 
 pub cut-requires-clause-all : goal.cut-requires-clause-all
 cut-requires-clause-all g c =
-    let it = c.args.self.now in let counts = counted_with g.K.ChannelPort g.D.SaveDevice it.recorded it.kept in
+    let it = c.args.self.now in let counts = counted_with g.K.ChannelPort g.D.SaveDevice it.recorded it.kept.recorded in
     let settled : it.recorded.running.saved ≤ it.recorded.running.accepted = it.recorded.running.settled in
     omega (arith, counts, settled, c.saved-at.ensures)
 
@@ -25,12 +25,14 @@ invariant_of-self g c =
     let records : c.cut.new.self ≡ cut_at it.recorded.running.saved it.recorded.history = c.cut.ensures ∙ ap (λ (k : ℕ). cut_at k it.recorded.history) c.saved-at.ensures in
     let moves : MovesToNewest K it.recorded after = record { only = c.cut-gone.ensures.cuts; whole = c.cut-gone.ensures.to; records = records; device = refl; energy = refl } in
     record {
-      board = it.board;
-      channels = same_channels K it.recorded.running c.cut-gone.new.self g.B.BoardName.channels it.channels c.cut-gone.ensures.setup;
-      kept = kept_cut K D it.recorded after moves it.kept;
-      lived = lives_cut K D it.recorded after moves g.E.Energy it.lived;
-      shown = it.shown ∙ marks_cut K D it.recorded after moves g.B.BoardName.board;
-      counted = counted_cut K D it.recorded after moves g.B.BoardName.before it.tally.book.total it.counted;
+      kept = record {
+        board = it.kept.board;
+        channels = same_channels K it.recorded.running c.cut-gone.new.self g.B.BoardName.channels it.kept.channels c.cut-gone.ensures.setup;
+        recorded = kept_cut K D it.recorded after moves it.kept.recorded;
+        lived = lives_cut K D it.recorded after moves g.E.Energy it.kept.lived;
+        shown = it.kept.shown ∙ marks_cut K D it.recorded after moves g.B.BoardName.board;
+        counted = counted_cut K D it.recorded after moves g.B.BoardName.before it.tally.book.total it.kept.counted;
+      };
     }
 
 pub returns-clause-moves : goal.returns-clause-moves

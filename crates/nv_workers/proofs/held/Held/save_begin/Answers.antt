@@ -1,30 +1,18 @@
 use Rattle.std.proofs.Common.{refl}
 use Rattle.nv_machine.specs.declared.events.Event.TheVariants as events
 use Rattle.nv_machine.specs.declared.events.Reply.TheVariants as replies
-use Rattle.nv_workers.proofs.Holding.{falls_behind}
-use Rattle.nv_workers.proofs.Keeping.{counted_same, keeps_same}
-use Rattle.nv_workers.proofs.Living.{lives_on}
+use Rattle.nv_workers.proofs.BoardsKept.{kept_same, stays_behind}
 use Rattle.nv_workers.proofs.held.Held.save_begin.Goals as goal
 
 pub publish-requires-clause-behind : goal.publish-requires-clause-behind
 publish-requires-clause-behind g c =
-    let it = c.args.self.now in let call = c.save_begin-reply in let after = record it.recorded { running = call.new.self } in
-    falls_behind g.K.ChannelPort g.D.SaveDevice g.E.Energy events.SaveBegin (replies.SaveBegin call.result) it.recorded after it.kept (call.ensures.answers _ _) g.B.BoardName.board it.seat it.shown
+    let it = c.args.self.now in let call = c.save_begin-reply in
+    stays_behind events.SaveBegin (replies.SaveBegin call.result) it.recorded (record it.recorded { running = call.new.self }) it.kept (call.ensures.answers _ _)
 
-pub invariant_of-self-clause-kept : goal.invariant_of-self-clause-kept
-invariant_of-self-clause-kept g c =
-    let it = c.args.self.now in let call = c.save_begin-reply in let after = record it.recorded { running = call.new.self } in
-    keeps_same g.K.ChannelPort g.D.SaveDevice g.E.Energy events.SaveBegin (replies.SaveBegin call.result) it.recorded after it.kept (call.ensures.answers _ _) call.ensures.setup call.ensures.stored.cut refl refl
-
-pub invariant_of-self-clause-counted : goal.invariant_of-self-clause-counted
-invariant_of-self-clause-counted g c =
-    let it = c.args.self.now in let call = c.save_begin-reply in let after = record it.recorded { running = call.new.self } in
-    counted_same g.K.ChannelPort g.D.SaveDevice g.E.Energy events.SaveBegin (replies.SaveBegin call.result) it.recorded after it.kept (call.ensures.answers _ _) call.ensures.setup g.B.BoardName.before it.tally.book.total refl it.counted
-
-pub invariant_of-self-clause-lived : goal.invariant_of-self-clause-lived
-invariant_of-self-clause-lived g c =
-    let it = c.args.self.now in let call = c.save_begin-reply in let after = record it.recorded { running = call.new.self } in
-    lives_on g.K.ChannelPort g.D.SaveDevice g.E.Energy events.SaveBegin (replies.SaveBegin call.result) it.recorded after it.lived (call.ensures.answers _ _) call.ensures.setup
+pub invariant_of-self : goal.invariant_of-self
+invariant_of-self g c =
+    let it = c.args.self.now in let call = c.save_begin-reply in
+    record { kept = kept_same events.SaveBegin (replies.SaveBegin call.result) it.recorded (record it.recorded { running = call.new.self }) it.kept (call.ensures.answers _ _) call.ensures.setup call.ensures.stored.cut refl refl _ _ c.deref.ensures c.publish.ensures }
 
 pub returns-clause-steps : goal.returns-clause-steps
 returns-clause-steps g c = c.save_begin-reply.ensures.answers _ _
