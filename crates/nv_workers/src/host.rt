@@ -42,6 +42,13 @@ pub struct Seen {
     pub at: u64,
 }
 
+/// What was got of a line: its bytes or a ticket, and how many writes were accepted before it.
+#[derive(Clone, Copy, Debug, PartialEq, Eq)]
+pub struct GotAt {
+    pub got: Got,
+    pub at: u64,
+}
+
 /// A write that isn't known to be persistent: its number, and the mark that was found.
 #[derive(Clone, Copy, Debug, PartialEq, Eq)]
 pub struct Behind {
@@ -149,15 +156,15 @@ impl<B: BoardName> Host<B> {
         &mut self,
         held: &mut Held<K, D, E, B>,
         line: u64,
-    ) -> Result<(Got, u64), ReadRefusal>
+    ) -> Result<GotAt, ReadRefusal>
         ensures ok { IfOk result (λ r. Steps K.ChannelPort D.SaveDevice E.Energy B.BoardName.own
-            (Event.Read line) (Reply.Read (Ok r.0)) held.old held.new) }
+            (Event.Read line) (Reply.Read (Ok r.got)) held.old held.new) }
         ensures err { IfErr result (λ refusal.
             Steps K.ChannelPort D.SaveDevice E.Energy B.BoardName.own
             (Event.Read line) (Reply.Read (Err refusal)) held.old held.new) }
-        ensures channel { IfOk result (λ r. IsOfChannels B.channels r.0) }
-        ensures at { IfOk result (λ r. r.1 ≡ held.old.recorded.running.accepted) }
-        ensures seen { IfOk result (λ r. r.1 ≡ self.new.accepted) }
+        ensures channel { IfOk result (λ r. IsOfChannels B.channels r.got) }
+        ensures at { IfOk result (λ r. r.at ≡ held.old.recorded.running.accepted) }
+        ensures seen { IfOk result (λ r. r.at ≡ self.new.accepted) }
         ensures rises { SeesNoLess self.old self.new }
         ensures writes { self.new.writes ≡ self.old.writes }
         ensures device { held.new.recorded.device ≡ held.old.recorded.device }
@@ -167,7 +174,7 @@ impl<B: BoardName> Host<B> {
     {
         let ReadAt { reply, at } = held.read(&mut self.seat, line);
         match reply {
-            Ok(got) => Ok((got, at)),
+            Ok(got) => Ok(GotAt { got, at }),
             Err(refusal) => Err(refusal),
         }
     }
@@ -178,14 +185,14 @@ impl<B: BoardName> Host<B> {
         &mut self,
         held: &mut Held<K, D, E, B>,
         line: u64,
-    ) -> Result<(Got, u64), ReadRefusal>
+    ) -> Result<GotAt, ReadRefusal>
         ensures ok { IfOk result (λ r. ReadsServed K.ChannelPort D.SaveDevice E.Energy
-            B.BoardName.own line r.0 held.old held.new) }
+            B.BoardName.own line r.got held.old held.new) }
         ensures err { IfErr result (λ refusal.
             Steps K.ChannelPort D.SaveDevice E.Energy B.BoardName.own
             (Event.Read line) (Reply.Read (Err refusal)) held.old held.new) }
-        ensures at { IfOk result (λ r. r.1 ≡ held.old.recorded.running.accepted) }
-        ensures seen { IfOk result (λ r. r.1 ≡ self.new.accepted) }
+        ensures at { IfOk result (λ r. r.at ≡ held.old.recorded.running.accepted) }
+        ensures seen { IfOk result (λ r. r.at ≡ self.new.accepted) }
         ensures rises { SeesNoLess self.old self.new }
         ensures writes { self.new.writes ≡ self.old.writes }
         ensures device { held.new.recorded.device ≡ held.old.recorded.device }
@@ -193,10 +200,13 @@ impl<B: BoardName> Host<B> {
         ensures setup { setup_of K.ChannelPort held.new.recorded.running
             ≡ setup_of K.ChannelPort held.old.recorded.running }
     {
-        let (got, at) = self.read_in(held, line)?;
+        let GotAt { got, at } = self.read_in(held, line)?;
         match got {
-            Got::Now(_) => Ok((got, at)),
-            Got::Later(ticket) => Ok((told_for(ticket, serve(held, ticket)), at)),
+            Got::Now(_) => Ok(GotAt { got, at }),
+            Got::Later(ticket) => {
+                let got = told_for(ticket, serve(held, ticket));
+                Ok(GotAt { got, at })
+            }
         }
     }
 
@@ -217,7 +227,7 @@ impl<B: BoardName> Host<B> {
         ensures rises { SeesNoLess self.old self.new }
         ensures writes { self.new.writes ≡ self.old.writes }
     {
-        let (got, at) = self.ask_served(rt, board, line)?;
+        let GotAt { got, at } = self.ask_served(rt, board, line)?;
         match got {
             Got::Now(data) => Ok(Seen { line, data, at }),
             Got::Later(ticket) => match board.await_line(rt, ticket) {
@@ -233,10 +243,10 @@ impl<B: BoardName> Host<B> {
         rt: &impl Wait,
         board: &Board<K, D, E, B, N>,
         line: u64,
-    ) -> Result<(Got, u64), ReadRefusal>
-        ensures at { IfOk result (λ r. r.1 ≡ self.new.accepted) }
+    ) -> Result<GotAt, ReadRefusal>
+        ensures at { IfOk result (λ r. r.at ≡ self.new.accepted) }
         ensures asked { IfOk result (λ r. LentRead K.ChannelPort D.SaveDevice E.Energy
-            B.BoardName.own line r.0 r.1) }
+            B.BoardName.own line r.got r.at) }
         ensures refused { IfErr result (λ refusal. LentStep K.ChannelPort D.SaveDevice E.Energy
             B.BoardName.own (Event.Read line) (Reply.Read (Err refusal))) }
         ensures rises { SeesNoLess self.old self.new }
@@ -252,8 +262,8 @@ impl<B: BoardName> Host<B> {
         rt: &impl Wait,
         board: &Board<K, D, E, B, N>,
         line: u64,
-    ) -> Result<(Got, u64), ReadRefusal>
-        ensures at { IfOk result (λ r. r.1 ≡ self.new.accepted) }
+    ) -> Result<GotAt, ReadRefusal>
+        ensures at { IfOk result (λ r. r.at ≡ self.new.accepted) }
         ensures rises { SeesNoLess self.old self.new }
         ensures writes { self.new.writes ≡ self.old.writes }
     {

@@ -36,7 +36,7 @@ pub use checking::{Cut, Stranger};
 pub use ending::{Closed, EndedLife, close};
 pub use gate::{Ended, channel_worker, saver_worker};
 pub use held::Held;
-pub use host::{Behind, Host, Receipt, Seen};
+pub use host::{Behind, GotAt, Host, Receipt, Seen};
 pub use laws::{boards_keep_lives, records_tell_lives};
 pub use lookout::Lookout;
 pub use opening::Opening;

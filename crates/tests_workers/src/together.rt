@@ -9,7 +9,9 @@ use channel_port::{ChannelPort, Got, Ticket};
 use energy_budget::Energy;
 use line_memory::Line;
 use notice_book::Notices;
-use nv_workers::{Always, Board, BoardName, Ended, Host, Seen, channel_worker, saver_worker};
+use nv_workers::{
+    Always, Board, BoardName, Ended, GotAt, Host, Seen, channel_worker, saver_worker,
+};
 use save_device::SaveDevice;
 use std::process::Abort;
 use std::sync::Wait;
@@ -109,7 +111,12 @@ where
     R: Wait + Abort,
 {
     match host.ask(rt, board, line) {
-        Ok((Got::Later(ticket), 0)) => ticket,
+        Ok(
+            GotAt {
+                got: Got::Later(ticket),
+                at: 0,
+            },
+        ) => ticket,
         _ => panic!(*rt; "a ticket"),
     }
 }
