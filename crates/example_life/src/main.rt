@@ -6,7 +6,7 @@ use ddr4_module::{Sizes, wild_life};
 use energy_budget::{Costs, Wild};
 use interleave_map::{Interleaving, ReadyMap};
 use line_memory::Write;
-use notice_book::{Notice, NoticeBook, Persisted};
+use notice_book::{Called, Notice, NoticeBook, Persisted};
 use nv_machine::{Event, Reply};
 use nv_profile::{Profile, TINY, read_profile};
 use save_device::{Fuse, MemoryDevice, OneFault};
@@ -66,7 +66,7 @@ fn live(alloc: Global, profile: &Profile) -> anyhow::Result<Vec<Reply>> {
 }
 
 // Notices of three writes, and the answers of those that are below the mark.
-fn deliver(alloc: Global, mark: u64) -> anyhow::Result<Vec<(u64, u64)>> {
+fn deliver(alloc: Global, mark: u64) -> anyhow::Result<Vec<Called>> {
     let mut book = NoticeBook::with_room(alloc, 3)?;
     for number in 0..3 {
         let Ok(notice) = Box::new(alloc, |told: Persisted| told.mark) else {
@@ -90,7 +90,7 @@ fn main(rt: HostRuntime) -> anyhow::Result<()> {
             mark = accepted.mark;
         }
     }
-    for (number, answer) in deliver(alloc, mark)? {
+    for Called { number, answer } in deliver(alloc, mark)? {
         println!(rt; "notice of write {number}: the mark is {answer}")?;
     }
     Ok(())

@@ -5,7 +5,7 @@ ghost use Rattle.notice_book.specs.Told.{persisted_at};
 
 use crate::Module;
 use channel_port::ChannelPort;
-use notice_book::{Notices, Persisted};
+use notice_book::{Called, Notices, Persisted};
 use std::alloc::{AllocError, Global};
 
 impl<K: ChannelPort> Module<K> {
@@ -25,11 +25,7 @@ impl<K: ChannelPort> Module<K> {
 
     /// Delivers a book's notices at the module's mark: those with a number below it are called, each once and in rising
     /// order, and the others stay. It refuses only where there is no memory for the answers: then none was called.
-    pub fn notify<N: Notices>(
-        &self,
-        alloc: Global,
-        book: &mut N,
-    ) -> Result<Vec<(u64, u64)>, AllocError>
+    pub fn notify<N: Notices>(&self, alloc: Global, book: &mut N) -> Result<Vec<Called>, AllocError>
         ensures delivered { IfOk result (λ answers.
             N.delivers self.now.persisted book.old answers.items book.new) }
         ensures same { OnErr result (book.new ≡ book.old) }

@@ -4,6 +4,7 @@ use Rattle.std.specs.List.{AllByRecursion}
 use Rattle.std.specs.List.Sorted.{IsStrictlyIncreasing}
 use Rattle.std.proofs.Common.{refl, zero, suc, arith, take, drop, get_or, ap, sym, add-one, subst}
 use Rattle.std.proofs.lemmas.Bool.Decides.{nat_tests}
+use Rattle.notice_book.specs.declared.entry.Called.{Called}
 use Rattle.notice_book.specs.Numbered.{AnswersEach, IsNumberFree, due_entries, later_entries}
 
 test_true : (m n : ℕ) → m < n → nat_lt m n ≡ true
@@ -130,7 +131,7 @@ module _ {E : Type 0} (number : E → ℕ) where
   below_at mark (suc n) (x ∷ xs) (suc k) d b l m = below_at mark n xs k d b.1 (omega arith) (omega arith)
 
   -- one more answer
-  pub AnswersEach-push : (gives : E → ℕ → Type 0) (es : List E) (rs : List (ℕ × ℕ)) (e : E) (r : ℕ × ℕ) → AnswersEach number gives es rs → r.0 ≡ number e → gives e r.1 → AnswersEach number gives (es ++ e ∷ []) (rs ++ r ∷ [])
+  pub AnswersEach-push : (gives : E → ℕ → Type 0) (es : List E) (rs : List Called) (e : E) (r : Called) → AnswersEach number gives es rs → r.number ≡ number e → gives e r.answer → AnswersEach number gives (es ++ e ∷ []) (rs ++ r ∷ [])
   AnswersEach-push gives [] [] e r h n g = (n, g, tt)
   AnswersEach-push gives (x ∷ xs) (y ∷ ys) e r h n g = (h.0, h.1, AnswersEach-push gives xs ys e r h.2 n g)
   AnswersEach-push gives [] (y ∷ ys) e r h n g = absurd h

@@ -3,6 +3,7 @@ use Rattle.std.specs.Prelude.{◌≡◌, ℕ, ◌<◌, ◌++◌, List, [], ◌�
 use Rattle.std.specs.declared.alloc.Global.{Global}
 use Rattle.std.specs.declared.dyn_box.DynBox.{DynBox}
 use denote.Param.Members.{Mut}
+use Rattle.notice_book.specs.declared.entry.Called.{Called}
 use Rattle.notice_book.specs.declared.entry.Entry.{Entry}
 use Rattle.notice_book.specs.declared.entry.Persisted.{Persisted}
 use Rattle.notice_book.specs.declared.book.NoticeBook.{NoticeBook}
@@ -67,7 +68,7 @@ module _ {X : Type 0} {F : X → Type 0} {M : Mut ((x : X) × F x) (Persisted ×
     pub room : new.room ≡ old.room
 
   -- exactly the notices below the mark are called, once each and in rising order, and the others stay
-  pub record Delivers (mark : ℕ) (old : NoticeBook X F M) (answers : List (ℕ × ℕ)) (new : NoticeBook X F M) : Type 0 where
+  pub record Delivers (mark : ℕ) (old : NoticeBook X F M) (answers : List Called) (new : NoticeBook X F M) : Type 0 where
     pub called : AnswersEach number_of_notice (MayAnswer mark) (due_entries number_of_notice mark (entries_of old)) answers
     pub others : entries_of new ≡ later_entries number_of_notice mark (entries_of old)
     pub room : new.room ≡ old.room

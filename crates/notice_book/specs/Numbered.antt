@@ -1,6 +1,7 @@
 -- Lists of entries that have numbers.
 use Rattle.std.specs.Prelude.{◌≡◌, ◌≢◌, ℕ, ◌<◌, ◌≤◌, Any, List, [], ◌∷◌, ⊤, filter, nat_lt, nat_le, length, take, drop}
 use Rattle.std.specs.List.{AllByRecursion}
+use Rattle.notice_book.specs.declared.entry.Called.{Called}
 
 module _ {E : Type 0} (number : E → ℕ) where
   -- every number is below this one
@@ -23,10 +24,10 @@ module _ {E : Type 0} (number : E → ℕ) where
   later_entries mark entries = filter (λ e. nat_le mark (number e)) entries
 
   -- entry by entry, its number and a word that it may answer
-  abbrev pub AnswersEach : (E → ℕ → Type 0) → List E → List (ℕ × ℕ) → Type 0
+  abbrev pub AnswersEach : (E → ℕ → Type 0) → List E → List Called → Type 0
   AnswersEach may_answer [] [] = ⊤
-  AnswersEach may_answer (e ∷ es) (a ∷ rest) = (a.0 ≡ number e) × may_answer e a.1 × AnswersEach may_answer es rest
-  AnswersEach may_answer [] (a ∷ rest) = ⊥
+  AnswersEach may_answer (e ∷ es) (c ∷ rest) = (c.number ≡ number e) × may_answer e c.answer × AnswersEach may_answer es rest
+  AnswersEach may_answer [] (c ∷ rest) = ⊥
   AnswersEach may_answer (e ∷ es) [] = ⊥
 
   -- the first n are those below the mark

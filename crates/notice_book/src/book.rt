@@ -5,7 +5,7 @@ ghost use Rattle.std.specs.List.Sorted.{IsStrictlyIncreasing};
 ghost use Rattle.std.specs.VecDeque.{deque_len, deque_capacity};
 ghost use Rattle.notice_book.specs.Told.{IsCallableAbove};
 
-use crate::entry::{Entry, Notice};
+use crate::entry::{Called, Entry, Notice};
 use std::alloc::{AllocError, Global};
 use std::collections::VecDeque;
 
@@ -107,7 +107,7 @@ impl NoticeBook {
 
     /// Calls the notices with a number below the mark, each once and in rising order, and gives the number and the answer
     /// of each; the others stay. It refuses only where there is no memory for the answers: then none was called.
-    pub fn deliver(&mut self, alloc: Global, mark: u64) -> Result<Vec<(u64, u64)>, AllocError>
+    pub fn deliver(&mut self, alloc: Global, mark: u64) -> Result<Vec<Called>, AllocError>
         ensures delivered { IfOk result (λ answers. Delivers mark self.old answers.items self.new) }
         ensures same { OnErr result (self.new ≡ self.old) }
     {
@@ -119,7 +119,7 @@ impl NoticeBook {
             };
             let number = entry.number;
             let answer = entry.call(mark);
-            answers.push_reserved((number, answer));
+            answers.push_reserved(Called { number, answer });
         }
         Ok(answers)
     }

@@ -12,6 +12,13 @@ pub struct Persisted {
 /// A callback that is called once, with its number and a mark above it. It answers a word of its maker's own.
 pub type Notice = Box<dyn FnOnce(Persisted) -> u64 + Send>;
 
+/// A notice that was called: its number, and the word that it answered.
+#[derive(Clone, Copy, Debug, PartialEq, Eq)]
+pub struct Called {
+    pub number: u64,
+    pub answer: u64,
+}
+
 /// A notice and its number.
 #[derive(Drop)]
 pub struct Entry {

@@ -9,5 +9,5 @@ mod entry;
 mod notices;
 
 pub use book::{Full, InsertRefusal, NoticeBook};
-pub use entry::{Entry, Notice, Persisted};
+pub use entry::{Called, Entry, Notice, Persisted};
 pub use notices::Notices;

@@ -1,11 +1,12 @@
 // A book as the crates above take it.
 ghost use Rattle.std.specs.Prelude.{◌≡◌, ℕ, List, IfErr, IfOk, OnErr, OnOk};
 ghost use Rattle.notice_book.specs.declared.book.InsertRefusal.{InsertRefusal};
+ghost use Rattle.notice_book.specs.declared.entry.Called.{Called};
 ghost use Rattle.notice_book.specs.Told.{IsCallableAbove};
 ghost use Rattle.notice_book.specs.NoticeBooks.{Delivers, InsertsIn, RefusesInsert, refused_notice};
 
 use crate::book::{InsertRefusal, NoticeBook};
-use crate::entry::Notice;
+use crate::entry::{Called, Notice};
 use std::alloc::{AllocError, Global};
 
 /// What takes notices and delivers them. A crate above is generic in it, so that none of its functions names a boxed
@@ -20,7 +21,7 @@ pub trait Notices {
 
     ghost refuses: { ℕ → Self → InsertRefusal Self.Notice → Type 0 };
 
-    ghost delivers: { ℕ → Self → List (ℕ × ℕ) → Self → Type 0 };
+    ghost delivers: { ℕ → Self → List Called → Self → Type 0 };
 
     /// Puts a notice in, as `NoticeBook::insert`.
     fn insert_notice(
@@ -35,7 +36,7 @@ pub trait Notices {
         ensures same { OnErr result (self.new ≡ self.old) };
 
     /// Calls the notices below the mark, as `NoticeBook::deliver`.
-    fn deliver_below(&mut self, alloc: Global, mark: u64) -> Result<Vec<(u64, u64)>, AllocError>
+    fn deliver_below(&mut self, alloc: Global, mark: u64) -> Result<Vec<Called>, AllocError>
         ensures delivered { IfOk result (λ answers. delivers mark self.old answers.items self.new) }
         ensures same { OnErr result (self.new ≡ self.old) };
 }
@@ -55,7 +56,7 @@ impl Notices for NoticeBook {
         self.insert(number, notice)
     }
 
-    fn deliver_below(&mut self, alloc: Global, mark: u64) -> Result<Vec<(u64, u64)>, AllocError> {
+    fn deliver_below(&mut self, alloc: Global, mark: u64) -> Result<Vec<Called>, AllocError> {
         self.deliver(alloc, mark)
     }
 }

@@ -8,7 +8,7 @@ use crate::board_name::BoardName;
 use crate::host::{Host, Receipt};
 use channel_port::ChannelPort;
 use energy_budget::Energy;
-use notice_book::{InsertRefusal, Notices};
+use notice_book::{Called, InsertRefusal, Notices};
 use save_device::SaveDevice;
 use std::alloc::{AllocError, Global};
 use std::sync::Wait;
@@ -21,7 +21,7 @@ impl<K: ChannelPort, D: SaveDevice, E: Energy, B: BoardName, N: Notices> Board<K
         rt: &impl Wait,
         alloc: Global,
         host: &mut Host<B>,
-    ) -> Result<Vec<(u64, u64)>, AllocError>
+    ) -> Result<Vec<Called>, AllocError>
         ensures delivered { IfOk result (λ answers. (before : N) × (after : N)
             × N.delivers host.new.persisted before answers.items after) }
         ensures rises { host.old.persisted ≤ host.new.persisted }
@@ -38,7 +38,7 @@ impl<B: BoardName> Host<B> {
         &mut self,
         alloc: Global,
         book: &mut N,
-    ) -> Result<Vec<(u64, u64)>, AllocError>
+    ) -> Result<Vec<Called>, AllocError>
         ensures delivered { IfOk result (λ answers.
             N.delivers self.new.persisted book.old answers.items book.new) }
         ensures same { OnErr result (book.new ≡ book.old) }

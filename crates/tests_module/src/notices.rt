@@ -8,7 +8,7 @@ use crate::check::same;
 use crate::load::{Image, Load, format_again, restores_to};
 use channel_port::ChannelPort;
 use module_core::Module;
-use notice_book::{Notice, NoticeBook, Persisted};
+use notice_book::{Called, Notice, NoticeBook, Persisted};
 use save_device::SaveDevice;
 use slot_store::Verdict;
 use std::alloc::Global;
@@ -44,7 +44,7 @@ fn notifies<K: ChannelPort, R: Abort>(
     alloc: Global,
     module: &Module<K>,
     book: &mut NoticeBook,
-    wanted: &[(u64, u64)],
+    wanted: &[Called],
 )
     requires { AreNumbersBelow number_of_notice 2 (entries_of book.old) }
     ensures { AreNumbersBelow number_of_notice 2 (entries_of book.new) }
@@ -65,7 +65,17 @@ pub(crate) fn notify_of_a_save<K: ChannelPort, D: SaveDevice, R: Abort>(
     let (mut book, third) = full_book(rt, alloc, first, second, third);
     notifies(rt, alloc, &load.running, &mut book, &[]);
     load.save_three_writes(rt);
-    notifies(rt, alloc, &load.running, &mut book, &[(0, 3), (1, 1)]);
+    let (first, second) = (
+        Called {
+            number: 0,
+            answer: 3,
+        },
+        Called {
+            number: 1,
+            answer: 1,
+        },
+    );
+    notifies(rt, alloc, &load.running, &mut book, &[first, second]);
     same(rt, book.register(2, third).is_ok(), true);
     let told = Persisted { number: 2, mark: 3 };
     same(rt, load.running.persisted(2), Some(told));

@@ -8,7 +8,7 @@ use crate::gates::{EachTurn, Turns};
 use arm_state::{ArmRefusal, ArmReply, DisarmReply, Loss, ReadRefusal, WriteRefusal};
 use channel_port::ChannelPort;
 use energy_budget::Energy;
-use notice_book::{Notices, Persisted};
+use notice_book::{Called, Notices, Persisted};
 use nv_machine::StepReply;
 use nv_workers::{
     Always, Behind, Board, BoardName, Ended, Host, Receipt, Seen, Stranger, Turn, channel_worker,
@@ -60,13 +60,13 @@ where
     channel_worker(rt, board, 0, &Turns { worker: 0, most })
 }
 
-// The number and the answer of the first notice that is called.
+// The first notice that is called.
 fn told<K, D, E, B, N, R>(
     rt: &R,
     alloc: Global,
     board: &Board<K, D, E, B, N>,
     host: &mut Host<B>,
-) -> Option<(u64, u64)>
+) -> Option<Called>
 where
     K: ChannelPort,
     D: SaveDevice,
@@ -121,7 +121,11 @@ where
         first.check(&receipt),
         Ok(Persisted { number: 0, mark: 1 }),
     );
-    same(rt, told(rt, alloc, board, first), Some((0, 1)));
+    let called = Called {
+        number: 0,
+        answer: 1,
+    };
+    same(rt, told(rt, alloc, board, first), Some(called));
     same(rt, told(rt, alloc, board, first), None);
 }
 

@@ -4,7 +4,7 @@ ghost use Rattle.notice_book.specs.NoticeBooks.{entries_of};
 ghost use Rattle.notice_book.specs.Told.{IsCallableAbove};
 
 use crate::check::same;
-use notice_book::{InsertRefusal, Notice, NoticeBook, Notices, Persisted};
+use notice_book::{Called, InsertRefusal, Notice, NoticeBook, Notices, Persisted};
 use std::alloc::{AllocError, Global};
 use std::process::Abort;
 use std::sync::Arc;
@@ -49,6 +49,11 @@ fn counts<R: Abort>(rt: &R, alloc: Global, calls: &Arc<AtomicU64>) -> Notice
     notice
 }
 
+// A notice that was called, and its answer.
+fn called(number: u64, answer: u64) -> Called {
+    Called { number, answer }
+}
+
 // Two notices fill a book, a third one comes back, and the two are called.
 fn fills<R: Abort>(
     rt: &R,
@@ -72,7 +77,11 @@ fn fills<R: Abort>(
         panic!(*rt; "a third notice in a book for two");
     };
     let answers = book.deliver(alloc, 3).expect(rt, "memory");
-    same(rt, answers.as_slice(), [(0, 3), (1, 1)].as_slice());
+    same(
+        rt,
+        answers.as_slice(),
+        [called(0, 3), called(1, 1)].as_slice(),
+    );
     (book, full.notice)
 }
 
@@ -83,11 +92,11 @@ fn a_full_book_hands_the_notice_back(rt: HostRuntime) {
     let (mut book, back) = fills(&rt, alloc, first, second, tells_distance(&rt, alloc));
     same(&rt, book.register(2, back).is_ok(), true);
     same(&rt, book.len(), 1);
-    answered(&rt, book.deliver(alloc, 5), &[(2, 3)]);
+    answered(&rt, book.deliver(alloc, 5), &[called(2, 3)]);
 }
 
 // The notices that were called answered so.
-fn answered<R: Abort>(rt: &R, answers: Result<Vec<(u64, u64)>, AllocError>, wanted: &[(u64, u64)]) {
+fn answered<R: Abort>(rt: &R, answers: Result<Vec<Called>, AllocError>, wanted: &[Called]) {
     same(rt, answers.expect(rt, "memory").as_slice(), wanted);
 }
 
@@ -102,10 +111,14 @@ fn a_mark_calls_those_below_it(rt: HostRuntime) {
         same(&rt, book.insert(number, notice).is_ok(), true);
     }
     answered(&rt, book.deliver(alloc, 0), &[]);
-    answered(&rt, book.deliver(alloc, 3), &[(0, 0), (1, 1), (2, 2)]);
+    answered(
+        &rt,
+        book.deliver(alloc, 3),
+        &[called(0, 0), called(1, 1), called(2, 2)],
+    );
     answered(&rt, book.deliver(alloc, 3), &[]);
     same(&rt, calls.load(Ordering::SeqCst), 3);
-    answered(&rt, book.deliver(alloc, 4), &[(3, 3)]);
+    answered(&rt, book.deliver(alloc, 4), &[called(3, 3)]);
     same(&rt, calls.load(Ordering::SeqCst), 4);
 }
 
@@ -124,7 +137,11 @@ fn inserts<R: Abort>(rt: &R, alloc: Global, first: Notice, second: Notice, third
     same(rt, book.insert(5, back).is_ok(), true);
     let full = matches!(book.insert(5, third), Err(InsertRefusal::Full(_)));
     same(rt, full, true);
-    answered(rt, book.deliver_below(alloc, 9), &[(5, 5), (7, 9)]);
+    answered(
+        rt,
+        book.deliver_below(alloc, 9),
+        &[called(5, 5), called(7, 9)],
+    );
 }
 
 #[test]

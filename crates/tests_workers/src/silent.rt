@@ -1,7 +1,7 @@
 // A book without room, for boards of the tests that several threads share.
 ghost use Rattle.std.specs.Prelude.{◌≡◌};
 
-use notice_book::{InsertRefusal, Notices};
+use notice_book::{Called, InsertRefusal, Notices};
 use std::alloc::{AllocError, Global};
 
 /// Takes no notice, and calls none.
@@ -23,7 +23,7 @@ impl Notices for Silent {
         Err(InsertRefusal::Full(notice))
     }
 
-    fn deliver_below(&mut self, alloc: Global, _mark: u64) -> Result<Vec<(u64, u64)>, AllocError> {
+    fn deliver_below(&mut self, alloc: Global, _mark: u64) -> Result<Vec<Called>, AllocError> {
         Ok(Vec::new(alloc))
     }
 }
