@@ -9,8 +9,8 @@ use energy_budget::Meter;
 use line_memory::Write;
 use notice_book::{NoticeBook, Notices};
 use nv_workers::{
-    Always, Board, BoardName, Closed, Ended, Host, Receipt, RecordedModule, Seen, channel_worker,
-    close, saver_worker,
+    Always, Board, BoardName, Closed, Ended, Host, Receipt, RecordedModule, Seen, Started,
+    channel_worker, close, saver_worker,
 };
 use save_device::SaveDevice;
 use std::alloc::{AllocError, Global};
@@ -408,7 +408,7 @@ where
 {
     let channels = ready.channels;
     let book = NoticeBook::with_room(alloc, 1)?;
-    let Ok((board, hosts)) = ready.board::<B, NoticeBook>(alloc, book) else {
+    let Ok(Started { board, hosts }) = ready.board::<B, NoticeBook>(alloc, book) else {
         return Err(AllocError.into());
     };
     if plan.lost_at.is_some() {

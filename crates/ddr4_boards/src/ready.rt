@@ -8,9 +8,9 @@ ghost use Rattle.nv_workers.specs.Lived.{HasSomeLife};
 use channel_port::ChannelPort;
 use energy_budget::Energy;
 use notice_book::Notices;
-use nv_workers::{Board, BoardName, Host, Opening, RecordedModule, start};
+use nv_workers::{BoardName, NotStarted, Opening, RecordedModule, Started, start};
 use save_device::SaveDevice;
-use std::alloc::{AllocError, Global};
+use std::alloc::Global;
 
 /// A module that has begun, with its record, and the words and seats of its board. Contracts see both, and how many channels the
 /// module has. Nothing was cut off its record.
@@ -35,15 +35,15 @@ impl<K: ChannelPort + Drop, D: SaveDevice + Drop, E: Energy + Drop> Ready<K, D, 
         self,
         alloc: Global,
         notices: N,
-    ) -> Result<(Board<K, D, E, B, N>, Vec<Host<B>>), (RecordedModule<K, D, E>, N, AllocError)>
+    ) -> Result<Started<K, D, E, B, N>, NotStarted<K, D, E, N>>
         requires name { self.opening.name ≡ B.name }
         requires parts { self.opening.parts ≡ B.parts }
         requires board { self.opening.board ≡ B.board }
         requires before { length self.recorded.history.writes ≡ B.before }
         requires channels { self.channels ≡ B.channels }
-        ensures number { IfOk result (λ s. vec_len s.1 ≡ B.parts) }
+        ensures number { IfOk result (λ s. vec_len s.hosts ≡ B.parts) }
         ensures hosts { IfOk result (λ s.
-            All (λ h. h ≡ client self.opening.mark self.opening.mark 0 []) s.1.items) }
+            All (λ h. h ≡ client self.opening.mark self.opening.mark 0 []) s.hosts.items) }
     {
         let Ready {
             opening,

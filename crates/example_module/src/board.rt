@@ -10,7 +10,7 @@ use interleave_map::ReadyMap;
 use line_memory::Write;
 use notice_book::{NoticeBook, Notices};
 use nv_profile::Profile;
-use nv_workers::{Always, Board, BoardName, Host, Receipt, close};
+use nv_workers::{Always, Board, BoardName, Host, Receipt, Started, close};
 use save_device::{MemoryDevice, SaveDevice};
 use std::alloc::{AllocError, Global};
 use std::marker::Brand;
@@ -92,11 +92,18 @@ where
     )
 }
 
-// The hosts, and the receipts of all.
+/// The hosts, and the receipts of all.
+#[derive(Drop)]
+struct Gathered<B: BoardName> {
+    hosts: Vec<Host<B>>,
+    receipts: Vec<Receipt>,
+}
+
+// What all hosts told.
 fn gather<B: BoardName>(
     alloc: Global,
     told: Vec<Result<Told<B>, AllocError>>,
-) -> Result<(Vec<Host<B>>, Vec<Receipt>), AllocError> {
+) -> Result<Gathered<B>, AllocError> {
     let mut hosts = Vec::new(alloc);
     let mut receipts = Vec::new(alloc);
     for one in told {
@@ -104,7 +111,7 @@ fn gather<B: BoardName>(
         hosts.push(one.host)?;
         receipts.extend_from_slice(one.receipts.as_slice())?;
     }
-    Ok((hosts, receipts))
+    Ok(Gathered { hosts, receipts })
 }
 
 // The hosts write at once to an armed board, which then loses its mains. A cut looks for each receipt in the history of the life,
@@ -126,13 +133,13 @@ where
     requires channels { ready.channels ≡ B.channels }
 {
     let book = NoticeBook::with_room(alloc, 1)?;
-    let Ok((board, hosts)) = ready.board::<B, NoticeBook>(alloc, book) else {
+    let Ok(Started { board, hosts }) = ready.board::<B, NoticeBook>(alloc, book) else {
         return Err(AllocError.into());
     };
     let armed = board.arm(rt);
     let told = write_at_once(rt, alloc, &board, hosts)?;
     let lost = board.power_loss(rt, &Always);
-    let (hosts, receipts) = gather(alloc, told)?;
+    let Gathered { hosts, receipts } = gather(alloc, told)?;
     if hosts.len() != HOSTS {
         return Err(Wrong::Hosts.into());
     }

@@ -41,6 +41,22 @@ pub struct Closed<K: ChannelPort, D, E, N> {
     pub past: u64,
 }
 
+/// A life that wasn't ended, since a receipt or an answer is a stranger to it: it and its hosts are as they were.
+#[derive(Drop)]
+pub struct NotEnded<K: ChannelPort, D: SaveDevice, E: Energy, B: BoardName> {
+    pub stranger: Stranger,
+    pub held: Held<K, D, E, B>,
+    pub hosts: Vec<Host<B>>,
+}
+
+/// A board that wasn't closed, since a receipt or an answer is a stranger to its life. Its hosts are as they were.
+#[derive(Drop)]
+pub struct NotClosed<K: ChannelPort, D: SaveDevice, E: Energy, B: BoardName, N: Notices> {
+    pub stranger: Stranger,
+    pub board: Board<K, D, E, B, N>,
+    pub hosts: Vec<Host<B>>,
+}
+
 // Ends a host, whose share goes to the others'. It has seen no mark above the words.
 fn end_host<B: BoardName>(
     marks: &MarkBoard,
@@ -103,7 +119,7 @@ impl<K: ChannelPort, D: SaveDevice, E: Energy, B: BoardName> Held<K, D, E, B> {
         hosts: Vec<Host<B>>,
         receipts: &[Receipt],
         answers: &[Seen],
-    ) -> Result<EndedLife<K, D, E>, (Held<K, D, E, B>, Vec<Host<B>>, Stranger)>
+    ) -> Result<EndedLife<K, D, E>, NotEnded<K, D, E, B>>
     where
         K: Drop,
         D: Drop,
@@ -119,13 +135,17 @@ impl<K: ChannelPort, D: SaveDevice, E: Energy, B: BoardName> Held<K, D, E, B> {
         ensures kept { IfOk result (λ c. IsRecordKept K.ChannelPort D.SaveDevice c.recorded) }
         ensures lived { IfOk result (λ c.
             HasSomeLife K.ChannelPort D.SaveDevice E.Energy c.recorded) }
-        ensures stranger { IfErr result (λ e.
-            HasStranger K.ChannelPort self.recorded receipts.now answers.now e.2) }
-        ensures same { IfErr result (λ e. e.0 ≡ self) }
-        ensures hosts { IfErr result (λ e. e.1 ≡ hosts) }
+        ensures stranger { IfErr result (λ left.
+            HasStranger K.ChannelPort self.recorded receipts.now answers.now left.stranger) }
+        ensures same { IfErr result (λ left. left.held ≡ self) }
+        ensures hosts { IfErr result (λ left. left.hosts ≡ hosts) }
     {
         match self.check(receipts, answers) {
-            Err(stranger) => Err((self, hosts, stranger)),
+            Err(stranger) => Err(NotEnded {
+                stranger,
+                held: self,
+                hosts,
+            }),
             Ok(
                 Cut {
                     from,
@@ -151,7 +171,7 @@ pub fn close<K, D, E, B, N>(
     hosts: Vec<Host<B>>,
     receipts: &[Receipt],
     answers: &[Seen],
-) -> Result<Closed<K, D, E, N>, (Board<K, D, E, B, N>, Vec<Host<B>>, Stranger)>
+) -> Result<Closed<K, D, E, N>, NotClosed<K, D, E, B, N>>
 where
     K: ChannelPort + Drop,
     D: SaveDevice + Drop,
@@ -167,10 +187,10 @@ where
         All (λ h. h.persisted ≤ c.recorded.running.persisted) hosts.items) }
     ensures kept { IfOk result (λ c. IsRecordKept K.ChannelPort D.SaveDevice c.recorded) }
     ensures lived { IfOk result (λ c. HasSomeLife K.ChannelPort D.SaveDevice E.Energy c.recorded) }
-    ensures hosts { IfErr result (λ e. e.1 ≡ hosts) }
-    ensures stranger { IfErr result (λ e.
+    ensures hosts { IfErr result (λ left. left.hosts ≡ hosts) }
+    ensures stranger { IfErr result (λ left.
         (held : Held K D E B K.ChannelPort D.SaveDevice E.Energy B.BoardName.own)
-        × HasStranger K.ChannelPort held.recorded receipts.now answers.now e.2) }
+        × HasStranger K.ChannelPort held.recorded receipts.now answers.now left.stranger) }
 {
     let Board { held, notices } = board;
     let notices = notices.into_inner();
@@ -189,6 +209,10 @@ where
             checked,
             past,
         }),
-        Err((held, hosts, stranger)) => Err((Board::new(held, notices), hosts, stranger)),
+        Err(left) => Err(NotClosed {
+            stranger: left.stranger,
+            board: Board::new(left.held, notices),
+            hosts: left.hosts,
+        }),
     }
 }

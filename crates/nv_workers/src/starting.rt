@@ -49,6 +49,21 @@ fn seated<B: BoardName>(
     Ok(hosts)
 }
 
+/// A board that has begun, and its hosts.
+#[derive(Drop)]
+pub struct Started<K: ChannelPort, D: SaveDevice, E: Energy, B: BoardName, N: Notices> {
+    pub board: Board<K, D, E, B, N>,
+    pub hosts: Vec<Host<B>>,
+}
+
+/// Why no board began: there was no memory for its hosts. The module with its record and the book of notices are given back.
+#[derive(Drop)]
+pub struct NotStarted<K: ChannelPort, D, E, N> {
+    pub why: AllocError,
+    pub recorded: RecordedModule<K, D, E>,
+    pub notices: N,
+}
+
 /// Puts a module with its record and a book of notices behind their locks, with as many hosts as the opening has seats. The
 /// board's name is picked from the opening: a caller is generic over it. It refuses only where there is no memory for the hosts,
 /// and then gives module and book back.
@@ -57,7 +72,7 @@ pub fn start<K: ChannelPort, D: SaveDevice, E: Energy, B: BoardName, N: Notices>
     opening: Opening,
     recorded: RecordedModule<K, D, E>,
     notices: N,
-) -> Result<(Board<K, D, E, B, N>, Vec<Host<B>>), (RecordedModule<K, D, E>, N, AllocError)>
+) -> Result<Started<K, D, E, B, N>, NotStarted<K, D, E, N>>
     requires name { opening.name ≡ B.name }
     requires parts { opening.parts ≡ B.parts }
     requires board { opening.board ≡ B.board }
@@ -66,11 +81,11 @@ pub fn start<K: ChannelPort, D: SaveDevice, E: Energy, B: BoardName, N: Notices>
     requires kept { IsRecordKept K.ChannelPort D.SaveDevice recorded }
     requires lived { HasSomeLife K.ChannelPort D.SaveDevice E.Energy recorded }
     requires channels { (setup_of K.ChannelPort recorded.running).shape.channels ≡ B.channels }
-    ensures number { IfOk result (λ s. vec_len s.1 ≡ B.parts) }
+    ensures number { IfOk result (λ s. vec_len s.hosts ≡ B.parts) }
     ensures hosts { IfOk result (λ s.
-        All (λ h. h ≡ client opening.mark opening.mark 0 []) s.1.items) }
-    ensures recorded { IfErr result (λ e. e.0 ≡ recorded) }
-    ensures notices { IfErr result (λ e. e.1 ≡ notices) }
+        All (λ h. h ≡ client opening.mark opening.mark 0 []) s.hosts.items) }
+    ensures recorded { IfErr result (λ left. left.recorded ≡ recorded) }
+    ensures notices { IfErr result (λ left. left.notices ≡ notices) }
 {
     let Opening {
         blank,
@@ -81,12 +96,23 @@ pub fn start<K: ChannelPort, D: SaveDevice, E: Energy, B: BoardName, N: Notices>
     } = opening;
     let (book, mut rest) = blank.open::<B>();
     let Ok(marks) = Arc::new(alloc, marks) else {
-        return Err((recorded, notices, AllocError));
+        return Err(NotStarted {
+            why: AllocError,
+            recorded,
+            notices,
+        });
     };
     let Ok(hosts) = seated(alloc, &marks, seats, &mut rest, mark) else {
-        return Err((recorded, notices, AllocError));
+        return Err(NotStarted {
+            why: AllocError,
+            recorded,
+            notices,
+        });
     };
     publish(&marks, &mut seat, &recorded.running);
     let held = Held::new(recorded, marks, seat, Tally { book, rest });
-    Ok((Board::new(held, notices), hosts))
+    Ok(Started {
+        board: Board::new(held, notices),
+        hosts,
+    })
 }

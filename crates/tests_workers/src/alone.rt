@@ -11,8 +11,8 @@ use energy_budget::Energy;
 use notice_book::{Called, Notices, Persisted};
 use nv_machine::StepReply;
 use nv_workers::{
-    Always, Behind, Board, BoardName, Ended, Host, Receipt, Seen, Stranger, Turn, channel_worker,
-    saver_worker,
+    Always, Behind, Board, BoardName, Ended, Host, NotClosed, Receipt, Seen, Stranger, Turn,
+    channel_worker, saver_worker,
 };
 use save_device::SaveDevice;
 use slot_store::Step;
@@ -287,12 +287,19 @@ where
         answer: false,
         index: 1,
     };
-    let (board, hosts) = is_strange(rt, board, hosts, &receipts, &answers, strange);
+    let NotClosed { board, hosts, .. } = is_strange(rt, board, hosts, &receipts, &answers, strange);
     let strange = Stranger {
         answer: true,
         index: 1,
     };
-    let (board, hosts) = is_strange(rt, board, hosts, &receipts[..1], &answers, strange);
+    let NotClosed { board, hosts, .. } = is_strange(
+        rt,
+        board,
+        hosts,
+        &receipts[..1],
+        &answers,
+        strange,
+    );
     ends(
         rt,
         board,
@@ -337,7 +344,14 @@ where
         answer: false,
         index: 0,
     };
-    let (board, hosts) = is_strange(rt, board, hosts, &[first_receipt(1)], &[], strange);
+    let NotClosed { board, hosts, .. } = is_strange(
+        rt,
+        board,
+        hosts,
+        &[first_receipt(1)],
+        &[],
+        strange,
+    );
     same(rt, board.arm(rt), Ok(ArmReply::AlreadyArmed));
     let saved = Loss::Saved {
         generation: 2,

@@ -17,7 +17,7 @@ use interleave_map::{Interleaving, ReadyMap};
 use line_memory::Write;
 use notice_book::{Notice, NoticeBook, Persisted};
 use nv_profile::{ModuleSizes, Profile, TINY, read_profile};
-use nv_workers::BoardName;
+use nv_workers::{BoardName, Started};
 use save_device::SaveDevice;
 use std::alloc::Global;
 use std::marker::Brand;
@@ -74,7 +74,7 @@ where
     requires hosts { B.parts ≡ 12 }
 {
     let book = NoticeBook::with_room(alloc, 2).expect(rt, "memory");
-    let Ok((board, mut hosts)) = ready.board::<B, NoticeBook>(alloc, book) else {
+    let Ok(Started { board, mut hosts }) = ready.board::<B, NoticeBook>(alloc, book) else {
         panic!(*rt; "memory");
     };
     let (first, rest) = hosts.as_mut_slice().split_at_mut(1);
@@ -116,7 +116,7 @@ where
     requires channels { CHANNELS ≡ B.channels }
     requires hosts { B.parts ≡ 12 }
 {
-    let Ok((board, mut hosts)) = ready.board::<B, Silent>(alloc, Silent) else {
+    let Ok(Started { board, mut hosts }) = ready.board::<B, Silent>(alloc, Silent) else {
         panic!(*rt; "memory");
     };
     let host = hosts.pop().expect(rt, "a host");

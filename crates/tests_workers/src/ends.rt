@@ -5,7 +5,7 @@ use crate::check::same;
 use channel_port::ChannelPort;
 use energy_budget::Energy;
 use notice_book::Notices;
-use nv_workers::{Board, BoardName, Cut, Host, Receipt, Seen, Stranger, close};
+use nv_workers::{Board, BoardName, Cut, Host, NotClosed, Receipt, Seen, Stranger, close};
 use save_device::SaveDevice;
 use std::process::Abort;
 
@@ -41,7 +41,7 @@ where
             cut_of(closed.from, closed.checked, closed.past),
             closed.recorded.history.writes().len(),
         ),
-        Err(left) => (cut_of(0, 0, 0), left.2.index),
+        Err(left) => (cut_of(0, 0, 0), left.stranger.index),
     };
     same(rt, got, wanted);
 }
@@ -54,7 +54,7 @@ pub(crate) fn is_strange<K, D, E, B, N, R>(
     receipts: &[Receipt],
     answers: &[Seen],
     wanted: Stranger,
-) -> (Board<K, D, E, B, N>, Vec<Host<B>>)
+) -> NotClosed<K, D, E, B, N>
 where
     K: ChannelPort + Drop,
     D: SaveDevice + Drop,
@@ -63,13 +63,13 @@ where
     N: Notices + Drop,
     R: Abort,
     requires { length hosts.items ≡ B.parts }
-    ensures { result.1 ≡ hosts }
+    ensures { result.hosts ≡ hosts }
 {
     match close(board, hosts, receipts, answers) {
         Ok(_) => panic!(*rt; "no stranger"),
-        Err((board, hosts, stranger)) => {
-            same(rt, stranger, wanted);
-            (board, hosts)
+        Err(left) => {
+            same(rt, left.stranger, wanted);
+            left
         }
     }
 }
