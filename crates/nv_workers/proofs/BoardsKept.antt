@@ -32,7 +32,7 @@ module _ {K D E B : Type 0} {L : Ghosts K} {M : DeviceGhosts D} {N : GaugeGhosts
       recorded = keeps_on L M N event reply old new kept.recorded steps setup uncut records;
       lived = lives_on L M N event reply old new kept.lived steps setup;
       shown = is ∙ ap (λ (b : TableId). marks_of L b new.running) (named ∙ kept.board);
-      counted = counted_on L M N event reply old new kept.recorded steps setup O.before total later kept.counted adds;
+      counted = counted_on L M N event reply old new kept.recorded steps O.before total later kept.counted adds;
     }
 
     -- by one that accepts none
@@ -45,4 +45,4 @@ module _ {K D E B : Type 0} {L : Ghosts K} {M : DeviceGhosts D} {N : GaugeGhosts
     -- and by one that moves neither number, behind which the marks stay
     pub kept_quiet : IsQuiet event reply → added event reply ≡ [] → new.history ≡ old.history → (shown : SeenMarks) → shown ≡ marks → IsBoardKept L M N O new words shown total
     kept_quiet quiet none same shown is =
-        kept_same none same shown O.board (sym kept.board) (is ∙ kept.shown ∙ same_marks L M N event reply old new kept.recorded steps quiet O.board)
+        kept_same none same shown O.board (sym kept.board) (is ∙ kept.shown ∙ same_marks L M N event reply old new kept.recorded steps quiet none O.board)

@@ -55,8 +55,7 @@ module _ {K D E : Type 0} (L : Ghosts K) (M : DeviceGhosts D) where
       omega (arith, s.1.stands.matches.accepted, start, size, within.0, within.1))
 
 module _ {K D E : Type 0} (L : Ghosts K) (M : DeviceGhosts D) (N : GaugeGhosts E) where
-  module _ (event : Event) (reply : Reply) (old new : RecordedModule K D E L) (kept : IsRecordKept L M old)
-      (steps : StepsTo L M N event reply old new) (setup : setup_of L new.running ≡ setup_of L old.running) where
+  module _ (event : Event) (reply : Reply) (old new : RecordedModule K D E L) (kept : IsRecordKept L M old) (steps : StepsTo L M N event reply old new) where
     life_kept : (m : Machine) (with : StandsWith L M old m) → KeepsLife event reply m (steps m with.stands).0
     life_kept m with =
         let next = steps m with.stands in
@@ -68,7 +67,7 @@ module _ {K D E : Type 0} (L : Ghosts K) (M : DeviceGhosts D) (N : GaugeGhosts E
         (λ s. (steps s.0 s.1.stands).1.matches.start ∙ ap (λ (i : Image). i.count) (life_kept s.0 s.1).opened ∙ sym s.1.stands.matches.start)
 
     -- the module has accepted the write that the event adds
-    counts_on : new.running.accepted ≡ old.running.accepted + length (added event reply)
+    pub counts_on : new.running.accepted ≡ old.running.accepted + length (added event reply)
     counts_on =
         ∥∥₁_elim kept.stands (ℕ_set _ _)
         (λ s.
@@ -97,8 +96,8 @@ module _ {K D E : Type 0} (L : Ghosts K) (M : DeviceGhosts D) (N : GaugeGhosts E
           stored = whole ∙ ap (λ (r : ℕ). recorded (stored_base n) n.cut (stored_writes n) r) (sym (ap (λ (h : Recorded). h.room) whole));
         }
 
-    pub keeps_on : new.running.terms.cut ≡ old.running.terms.cut → new.history ≡ recorded_after event reply old.history → IsRecordKept L M new
-    keeps_on uncut records = record {
+    pub keeps_on : setup_of L new.running ≡ setup_of L old.running → new.running.terms.cut ≡ old.running.terms.cut → new.history ≡ recorded_after event reply old.history → IsRecordKept L M new
+    keeps_on setup uncut records = record {
       stands = ∥∥₁_map kept.stands (λ s. ((steps s.0 s.1.stands).0, stands_on uncut records s.0 s.1));
       room =
           let trail : new.running.terms.trail ≡ old.running.terms.trail = ap (λ (s : Setup). s.trail) setup in omega (arith, kept.room, trail, ap (λ (h : Recorded). h.room) records);

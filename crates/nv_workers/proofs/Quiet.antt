@@ -1,9 +1,8 @@
 -- Reads, their collection and the commands move neither number of a module; a write makes one more.
-use Rattle.std.proofs.Common.{◌≡◌, ℕ, ◌+◌, [], ◌∷◌, length, refl, ap, sym, ◌∙◌, arith}
+use Rattle.std.proofs.Common.{◌≡◌, ℕ, ◌+◌, [], length, refl, ap, sym, ◌∙◌, arith}
 use Rattle.std.proofs.Math.Nat.{ℕ_set}
-use Rattle.std.proofs.lemmas.List.{length-append}
 use Rattle.nv_workers.proofs.Common.{Err, Ghosts as GaugeGhosts, Got, IfOk, IsCounted, IsRecordKept, Life, Machine}
-use Rattle.nv_workers.proofs.Common.{None, Ok, Option, RecordedModule, Result, Setup, Some, StandsWith, StepsTo, World}
+use Rattle.nv_workers.proofs.Common.{None, Ok, Option, RecordedModule, Result, Setup, Some, StepsTo, World}
 use Rattle.nv_workers.proofs.Common.{assembly_of, marks_of, setup_of, world_of, ∥∥₁_elim}
 use Rattle.atomic_table.specs.Seated.{TableId}
 use Rattle.line_memory.specs.declared.Write as line_write
@@ -20,6 +19,8 @@ use Rattle.nv_machine.specs.declared.events.Event.TheVariants as events
 use Rattle.nv_machine.specs.declared.events.Reply.{Reply}
 use Rattle.nv_machine.specs.declared.events.Reply.TheVariants as replies
 use Rattle.nv_machine.specs.Machine.{MachineStep}
+use Rattle.nv_machine.specs.Rising.{added}
+use Rattle.nv_workers.proofs.Keeping.{counts_on}
 
 -- the event leaves the life as it is
 abbrev pub IsQuiet : Event → Reply → Type 0
@@ -40,37 +41,32 @@ work_is_quiet channel None setup old new step = ap life_of step.1
 work_is_quiet channel (Some done) setup old new step = ap life_of step.1.2
 
 module _ {K D E : Type 0} (L : Ghosts K) (M : DeviceGhosts D) (N : GaugeGhosts E) where
-  module _ (event : Event) (reply : Reply) (old new : RecordedModule K D E L) (kept : IsRecordKept L M old) (steps : StepsTo L M N event reply old new) (quiet : IsQuiet event reply) where
-    same_life : (m : Machine) (with : StandsWith L M old m) → (steps m with.stands).0.life ≡ m.life
-    same_life m with =
-        let next = steps m with.stands in quiet (setup_of L old.running) (world_of L (assembly_of L M N old) m) (world_of L (assembly_of L M N new) next.0) next.2.happens.step
+  module _ (event : Event) (reply : Reply) (old new : RecordedModule K D E L) (kept : IsRecordKept L M old) (steps : StepsTo L M N event reply old new) where
+    -- as many writes are accepted as before, where the event adds none
+    pub same_accepted : added event reply ≡ [] → new.running.accepted ≡ old.running.accepted
+    same_accepted none = omega (arith, counts_on L M N event reply old new kept steps, ap length none)
 
-    same_accepted : new.running.accepted ≡ old.running.accepted
-    same_accepted =
+    same_persisted : IsQuiet event reply → new.running.persisted ≡ old.running.persisted
+    same_persisted quiet =
         ∥∥₁_elim kept.stands (ℕ_set _ _)
         (λ s.
-        (steps s.0 s.1.stands).1.matches.accepted ∙ ap (λ (l : Life). l.opened.count + length l.writes) (same_life s.0 s.1) ∙ sym s.1.stands.matches.accepted)
+        let next = steps s.0 s.1.stands in
+        let life = quiet (setup_of L old.running) (world_of L (assembly_of L M N old) s.0) (world_of L (assembly_of L M N new) next.0) next.2.happens.step in
+        next.1.matches.persisted ∙ ap (λ (l : Life). l.persisted) life ∙ sym s.1.stands.matches.persisted)
 
-    same_persisted : new.running.persisted ≡ old.running.persisted
-    same_persisted =
-        ∥∥₁_elim kept.stands (ℕ_set _ _)
-        (λ s. (steps s.0 s.1.stands).1.matches.persisted ∙ ap (λ (l : Life). l.persisted) (same_life s.0 s.1) ∙ sym s.1.stands.matches.persisted)
-
-    pub same_marks : (board : TableId) → marks_of L board old.running ≡ marks_of L board new.running
-    same_marks board = rw (same_accepted, same_persisted) refl
+    pub same_marks : IsQuiet event reply → added event reply ≡ [] → (board : TableId) → marks_of L board old.running ≡ marks_of L board new.running
+    same_marks quiet none board = rw (same_accepted none, same_persisted quiet) refl
 
   module _ (write : line_write.Write) (old new : RecordedModule K D E L) (kept : IsRecordKept L M old) where
     counted : (accepted : Accepted) → StepsTo L M N (events.Write write) (replies.Write (Ok accepted)) old new → IsCounted L accepted old.running new.running
-    counted accepted steps = record {
-      number = ∥∥₁_elim kept.stands (ℕ_set _ _) (λ s. (steps s.0 s.1.stands).2.happens.step.1.1.number ∙ sym s.1.stands.matches.accepted);
-      mark = ∥∥₁_elim kept.stands (ℕ_set _ _) (λ s. let next = steps s.0 s.1.stands in next.2.happens.step.1.1.mark ∙ sym next.1.matches.persisted);
-      one = ∥∥₁_elim kept.stands (ℕ_set _ _)
-          (λ s.
-          let next = steps s.0 s.1.stands in let done = next.2.happens.step.1.1 in
-          let more : length next.0.life.writes ≡ length s.0.life.writes + 1 = ap (λ (m : Machine). length m.life.writes) done.is ∙ length-append s.0.life.writes (write ∷ []) in
-          let from : next.0.life.opened.count ≡ s.0.life.opened.count = ap (λ (m : Machine). m.life.opened.count) done.is in
-          omega (arith, next.1.matches.accepted, done.number, more, from));
-    }
+    counted accepted steps =
+        let number : accepted.number ≡ old.running.accepted = ∥∥₁_elim kept.stands (ℕ_set _ _) (λ s. (steps s.0 s.1.stands).2.happens.step.1.1.number ∙ sym s.1.stands.matches.accepted) in
+        let more : new.running.accepted ≡ old.running.accepted + 1 = counts_on L M N (events.Write write) (replies.Write (Ok accepted)) old new kept steps in
+        record {
+          number = number;
+          mark = ∥∥₁_elim kept.stands (ℕ_set _ _) (λ s. let next = steps s.0 s.1.stands in next.2.happens.step.1.1.mark ∙ sym next.1.matches.persisted);
+          one = omega (arith, number, more);
+        }
 
     pub told_counted : (result : Result Accepted WriteRefusal) → StepsTo L M N (events.Write write) (replies.Write result) old new → IfOk result (λ accepted. IsCounted L accepted old.running new.running)
     told_counted (Ok accepted) steps = counted accepted steps

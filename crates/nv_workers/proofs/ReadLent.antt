@@ -1,6 +1,6 @@
 -- A read that a lock lent is known by its two clauses.
 use Rattle.std.specs.Prelude.{◌≡◌, ℕ}
-use Rattle.nv_workers.proofs.Common.{Err, Ghosts as GaugeGhosts, Got, IfOk, Ok, Result}
+use Rattle.nv_workers.proofs.Common.{Err, Ghosts as GaugeGhosts, IfOk, Ok, Result}
 use Rattle.save_device.specs.declared.device.SaveDevice.{Ghosts as DeviceGhosts}
 use Rattle.arm_state.specs.declared.refusal.ReadRefusal.{ReadRefusal}
 use Rattle.channel_port.specs.declared.port.ChannelPort.{Ghosts}

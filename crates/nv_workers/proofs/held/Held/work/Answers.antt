@@ -1,9 +1,8 @@
-use Rattle.std.proofs.Common.{ap, refl, sym}
-use Rattle.mark_board.specs.SeenMarks.{SeenMarks}
+use Rattle.std.proofs.Common.{refl}
 use Rattle.nv_machine.specs.declared.events.Event.TheVariants as events
 use Rattle.nv_machine.specs.declared.events.Reply.TheVariants as replies
 use Rattle.nv_workers.proofs.BoardsKept.{kept_quiet}
-use Rattle.nv_workers.proofs.Quiet.{work_is_quiet, same_marks}
+use Rattle.nv_workers.proofs.Quiet.{same_accepted, work_is_quiet}
 use Rattle.nv_workers.proofs.held.Held.work.Goals as goal
 
 pub invariant_of-self : goal.invariant_of-self
@@ -17,5 +16,4 @@ invariant_of-self g c =
 pub returns-clause-accepted : goal.returns-clause-accepted
 returns-clause-accepted g c =
     let it = c.args.self.now in let call = c.work in let after = record it.recorded { running = call.new.self } in
-    let same = same_marks g.K.ChannelPort g.D.SaveDevice g.E.Energy (events.Work c.args.channel) (replies.Work call.result) it.recorded after it.kept.recorded (call.ensures.answers _ _) (work_is_quiet c.args.channel call.result) g.B.BoardName.board in
-    ap (λ (marks : SeenMarks). marks.accepted) (sym same)
+    same_accepted g.K.ChannelPort g.D.SaveDevice g.E.Energy (events.Work c.args.channel) (replies.Work call.result) it.recorded after it.kept.recorded (call.ensures.answers _ _) refl
