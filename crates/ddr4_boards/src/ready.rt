@@ -24,7 +24,7 @@ pub struct Ready<K: ChannelPort, D: SaveDevice, E: Energy> {
     ghost kept: { IsRecordKept K.ChannelPort D.SaveDevice recorded },
     ghost lived: { HasSomeLife K.ChannelPort D.SaveDevice E.Energy recorded },
     ghost mark: { opening.mark ≤ recorded.running.persisted },
-    ghost whole: { recorded.running.accepted
+    ghost uncut: { recorded.running.accepted
         ≡ recorded.running.terms.start + length recorded.history.writes },
 }
 

@@ -44,7 +44,7 @@ module _ {X : Type 0} {F : X → Type 0} {M : Mut ((x : X) × F x) (Persisted ×
     pub room : new.room ≡ old.room
 
   -- a notice of this number came in at a place, and the others are as they were
-  pub record Inserts (number : ℕ) (notice : DynBox X Global F) (old new : List (Entry X F M)) : Type 0 where
+  pub record InsertsEntry (number : ℕ) (notice : DynBox X Global F) (old new : List (Entry X F M)) : Type 0 where
     pub place : ℕ
     pub entry : Entry X F M
     pub numbered : entry.number ≡ number
@@ -62,9 +62,9 @@ module _ {X : Type 0} {F : X → Type 0} {M : Mut ((x : X) × F x) (Persisted ×
     pub free : IsNumberFree number_of_notice number (entries_of book)
 
   -- a book may take a notice, and it came in
-  pub record InsertsIn (number : ℕ) (notice : DynBox X Global F) (old new : NoticeBook X F M) : Type 0 where
+  pub record InsertsNotice (number : ℕ) (notice : DynBox X Global F) (old new : NoticeBook X F M) : Type 0 where
     pub allowed : MayInsert number old
-    pub added : Inserts number notice (entries_of old) (entries_of new)
+    pub added : InsertsEntry number notice (entries_of old) (entries_of new)
     pub room : new.room ≡ old.room
 
   -- exactly the notices below the mark are called, once each and in rising order, and the others stay

@@ -36,7 +36,7 @@ pub struct NoticeBook {
 
 impl NoticeBook {
     ghost use Rattle.notice_book.specs.Numbered.{AreNumbersBelow, IsCountBelow, IsNumberTaken, IsPlaceFor};
-    ghost use Rattle.notice_book.specs.NoticeBooks.{Appends, Delivers, HasRoom, InsertsIn, IsBookFull, RefusesInsert, entries_of, number_of_notice, refused_notice};
+    ghost use Rattle.notice_book.specs.NoticeBooks.{Appends, Delivers, HasRoom, InsertsNotice, IsBookFull, RefusesInsert, entries_of, number_of_notice, refused_notice};
 
     /// An empty book with room for this many notices. It refuses only where there is no memory for them.
     pub fn with_room(alloc: Global, room: usize) -> Result<NoticeBook, AllocError>
@@ -90,7 +90,7 @@ impl NoticeBook {
     /// exactly where a notice of the number is there: it comes back, and the book is as it was. It takes no memory.
     pub fn insert(&mut self, number: u64, notice: Notice) -> Result<(), InsertRefusal<Notice>>
         requires callable { IsCallableAbove (λ told. Notice.pre notice told) number }
-        ensures added { OnOk result (InsertsIn number notice self.old self.new) }
+        ensures added { OnOk result (InsertsNotice number notice self.old self.new) }
         ensures refused { IfErr result (λ refusal. RefusesInsert number self.old refusal) }
         ensures back { IfErr result (λ refusal. refused_notice refusal ≡ notice) }
         ensures same { OnErr result (self.new ≡ self.old) }

@@ -3,7 +3,7 @@ ghost use Rattle.std.specs.Prelude.{◌≡◌, ℕ, List, IfErr, IfOk, OnErr, On
 ghost use Rattle.notice_book.specs.declared.book.InsertRefusal.{InsertRefusal};
 ghost use Rattle.notice_book.specs.declared.entry.Called.{Called};
 ghost use Rattle.notice_book.specs.Told.{IsCallableAbove};
-ghost use Rattle.notice_book.specs.NoticeBooks.{Delivers, InsertsIn, RefusesInsert, refused_notice};
+ghost use Rattle.notice_book.specs.NoticeBooks.{Delivers, InsertsNotice, RefusesInsert, refused_notice};
 
 use crate::book::{InsertRefusal, NoticeBook};
 use crate::entry::{Called, Notice};
@@ -46,7 +46,7 @@ impl Notices for NoticeBook {
 
     ghost is_callable = { λ number notice. IsCallableAbove (λ told. Notice.pre notice told) number };
 
-    ghost inserts = { InsertsIn };
+    ghost inserts = { InsertsNotice };
 
     ghost refuses = { RefusesInsert };
 

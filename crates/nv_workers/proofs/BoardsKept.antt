@@ -1,7 +1,7 @@
 -- What each call keeps behind the lock.
 use Rattle.std.proofs.Common.{◌≡◌, ℕ, ◌+◌, List, [], ◌++◌, length, ap, sym, ◌∙◌, arith}
 use Rattle.std.proofs.lemmas.List.{append-nil}
-use Rattle.nv_workers.proofs.Common.{Ghosts as GaugeGhosts, IsBehind, RecordedModule, SeenMarks, StepsTo, marks_of, setup_of}
+use Rattle.nv_workers.proofs.Common.{Ghosts as GaugeGhosts, RecordedModule, SeenMarks, ShowsNoMore, StepsTo, marks_of, setup_of}
 use Rattle.atomic_table.specs.Seated.{TableId}
 use Rattle.line_memory.specs.declared.Write as line_write
 use Rattle.save_device.specs.declared.device.SaveDevice.{Ghosts as DeviceGhosts}
@@ -11,7 +11,7 @@ use Rattle.nv_machine.specs.declared.events.Reply.{Reply}
 use Rattle.nv_machine.specs.Rising.{added}
 use Rattle.nv_workers.specs.declared.board_name.BoardName.{Ghosts as NameGhosts}
 use Rattle.nv_workers.specs.Kept.{IsBoardKept}
-use Rattle.nv_workers.proofs.Holding.{falls_behind, same_channels}
+use Rattle.nv_workers.proofs.Holding.{same_channels, shows_no_more_after}
 use Rattle.nv_workers.proofs.Keeping.{counted_on, keeps_on, recorded_after}
 use Rattle.nv_workers.proofs.Living.{lives_on}
 use Rattle.nv_workers.proofs.Quiet.{IsQuiet, same_marks}
@@ -19,8 +19,8 @@ use Rattle.nv_workers.proofs.Quiet.{IsQuiet, same_marks}
 module _ {K D E B : Type 0} {L : Ghosts K} {M : DeviceGhosts D} {N : GaugeGhosts E} {O : NameGhosts B} {words : TableId} {marks : SeenMarks} {total : ℕ}
     (event : Event) (reply : Reply) (old new : RecordedModule K D E L) (kept : IsBoardKept L M N O old words marks total) (steps : StepsTo L M N event reply old new) where
   -- the marks of before aren't above the module's numbers after an event
-  pub stays_behind : IsBehind L new.running marks
-  stays_behind = falls_behind L M N event reply old new kept.recorded steps O.board marks kept.shown
+  pub event_shows_no_more : ShowsNoMore L new.running marks
+  event_shows_no_more = shows_no_more_after L M N event reply old new kept.recorded steps O.board marks kept.shown
 
   module _ (setup : setup_of L new.running ≡ setup_of L old.running) (uncut : new.running.terms.cut ≡ old.running.terms.cut) where
     -- all is kept by an event behind which the marks are shown and the write that it accepted is noted

@@ -38,7 +38,7 @@ module _ {K D E : Type 0} (L : Ghosts K) (M : DeviceGhosts D) (old new : Recorde
       let opened = (cut_below m with.stands.guarded).opened in
       let rises : m.cut ≤ to = omega (arith, moves.only.rises, with.stands.matches.cut) in
       let whole : new.history ≡ recorded (stored_base n) n.cut (stored_writes n) room =
-      moves.records ∙ ap (λ (k : ℕ). cut_at k old.history) (sym moves.whole) ∙ ap (cut_at to) with.stored ∙ cut_again (whole_record m room) m.cut to opened rises in
+      moves.history ∙ ap (λ (k : ℕ). cut_at k old.history) (sym moves.newest) ∙ ap (cut_at to) with.stored ∙ cut_again (whole_record m room) m.cut to opened rises in
       record {
         stands = subst (λ (d : D). ModuleStands L new.running (M.state d) n) (sym moves.device) (cut_stands L old.running new.running (M.state old.device) m moves.only with.stands);
         stored = whole ∙ ap (λ (r : ℕ). recorded (stored_base n) n.cut (stored_writes n) r) (sym (ap (λ (h : Recorded). h.room) whole));
@@ -47,7 +47,7 @@ module _ {K D E : Type 0} (L : Ghosts K) (M : DeviceGhosts D) (old new : Recorde
   pub kept_cut : IsRecordKept L M old → IsRecordKept L M new
   kept_cut kept = record {
     stands = ∥∥₁_map kept.stands (λ s. (record s.0 { cut = new.running.terms.cut }, stands_cut s.0 s.1));
-    room = omega (arith, kept.room, same_trail, ap (λ (h : Recorded). h.room) moves.records);
+    room = omega (arith, kept.room, same_trail, ap (λ (h : Recorded). h.room) moves.history);
   }
 
   -- the hosts' writes are those of the life still

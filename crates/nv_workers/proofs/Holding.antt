@@ -2,7 +2,7 @@
 use Rattle.std.proofs.Common.{◌≡◌, ◌≤◌, ℕ, ap, arith, subst, sym, ◌∙◌}
 use Rattle.std.proofs.Math.Nat.{ℕ_set}
 use Rattle.std.proofs.Math.Bridge.{le_prop}
-use Rattle.nv_workers.proofs.Common.{Ghosts as GaugeGhosts, HasDevice, IsBehind, IsRecordKept, Machine, ModuleStands}
+use Rattle.nv_workers.proofs.Common.{Ghosts as GaugeGhosts, HasDevice, IsRecordKept, Machine, ModuleStands, ShowsNoMore}
 use Rattle.nv_workers.proofs.Common.{None, Option, RecordedModule, RunningSave, SeenMarks, Setup, Some, StandsWith}
 use Rattle.nv_workers.proofs.Common.{StepsTo, Store, assembly_of, marks_of, seen_marks, setup_of, world_of, ∥∥₁_elim}
 use Rattle.atomic_table.specs.Seated.{TableId}
@@ -41,8 +41,8 @@ module _ {K D E : Type 0} (L : Ghosts K) (M : DeviceGhosts D) (it : RecordedModu
   has_device = ∥∥₁_elim kept.stands (ℕ_set _ _) (λ s. right_size _ s.0.store _ _ (M.state it.device) s.1.stands.holds)
 
   -- words that show no more than is persistent aren't above the module's two numbers
-  pub opened_behind : (board : TableId) (mark : ℕ) → mark ≤ it.running.persisted → IsBehind L it.running (seen_marks board mark mark)
-  opened_behind board mark least =
+  pub opening_shows_no_more : (board : TableId) (mark : ℕ) → mark ≤ it.running.persisted → ShowsNoMore L it.running (seen_marks board mark mark)
+  opening_shows_no_more board mark least =
       let ordered : it.running.persisted ≤ it.running.accepted = ∥∥₁_elim kept.stands le_prop (λ s. in_order L it.running (M.state it.device) s.0 s.1.stands) in
       record { accepted = omega (arith, least, ordered); persisted = least; ordered = ordered }
 
@@ -54,9 +54,9 @@ module _ {K D E : Type 0} (L : Ghosts K) (M : DeviceGhosts D) (N : GaugeGhosts E
       event_rises (setup_of L old.running) event reply (world_of L (assembly_of L M N old) m) (world_of L (assembly_of L M N new) next.0) next.2.happens.step with.stands.guarded
 
   -- the marks of before aren't above the module's numbers after an event
-  pub falls_behind : (board : TableId) (marks : SeenMarks) → marks ≡ marks_of L board old.running → IsBehind L new.running marks
-  falls_behind board marks shown =
-      subst (λ (m : SeenMarks). IsBehind L new.running m) (sym shown)
+  pub shows_no_more_after : (board : TableId) (marks : SeenMarks) → marks ≡ marks_of L board old.running → ShowsNoMore L new.running marks
+  shows_no_more_after board marks shown =
+      subst (λ (m : SeenMarks). ShowsNoMore L new.running m) (sym shown)
       (record {
         accepted = ∥∥₁_elim kept.stands le_prop (λ s. omega (arith, (rises s.0 s.1).accepted, s.1.stands.matches.accepted, (steps s.0 s.1.stands).1.matches.accepted));
         persisted = ∥∥₁_elim kept.stands le_prop (λ s. omega (arith, (rises s.0 s.1).persisted, s.1.stands.matches.persisted, (steps s.0 s.1.stands).1.matches.persisted));

@@ -26,7 +26,7 @@ IsBorneOut history answer =
     × (answer.«data» ≡ line_of (memory_at history.base history.start history.writes answer.at) answer.line)
 
 -- the first element that isn't so stands at this place
-pub record IsFirstNot {A : Type 0} (P : A → Type 0) (xs : List A) (place : ℕ) : Type 0 where
+pub record IsFirstWithout {A : Type 0} (P : A → Type 0) (xs : List A) (place : ℕ) : Type 0 where
   pub element : A
   pub here : slice_get xs place ≡ Some element
   pub differs : ¬ P element
@@ -48,8 +48,8 @@ past_among below receipts answers = count_by (λ r. nat_lt r.number below) recei
 abbrev pub IsFirstStranger : ℕ → Recorded → List Receipt → List Seen → Stranger → Type 0
 IsFirstStranger below history receipts answers stranger =
     MatchBool stranger.answer
-    (All (StandsOrIsPast below history) receipts × IsFirstNot (IsBorneOutOrPast below history) answers stranger.index)
-    (IsFirstNot (StandsOrIsPast below history) receipts stranger.index)
+    (All (StandsOrIsPast below history) receipts × IsFirstWithout (IsBorneOutOrPast below history) answers stranger.index)
+    (IsFirstWithout (StandsOrIsPast below history) receipts stranger.index)
 
 abbrev pub cut : ℕ → ℕ → ℕ → Cut
 cut from checked past = record { from = from; checked = checked; past = past }
@@ -62,8 +62,8 @@ module _ {K D E : Type 0} (L : Ghosts K) where
   -- No stranger is among these receipts and answers: each is past or was checked, and this is told of it.
   pub record HasChecked (it : RecordedModule K D E L) (receipts : List Receipt) (answers : List Seen) (told : Cut) : Type 0 where
     pub starts : told.from ≡ it.history.start
-    pub gone : told.past ≡ past_among (past_below it) receipts answers
-    pub all : told.checked + told.past ≡ length receipts + length answers
+    pub past : told.past ≡ past_among (past_below it) receipts answers
+    pub counted : told.checked + told.past ≡ length receipts + length answers
     pub stand : All (StandsOrIsPast (past_below it) it.history) receipts
     pub borne_out : All (IsBorneOutOrPast (past_below it) it.history) answers
 

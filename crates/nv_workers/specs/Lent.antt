@@ -48,15 +48,15 @@ module _ {K D E B : Type 0} (L : Ghosts K) (M : DeviceGhosts D) (N : GaugeGhosts
     pub works : WorksOnce L M N O channel done before after
 
   -- a saver took its turn
-  pub record LentSave (saving : Saving) : Type 0 where
+  pub record LentSaverTurn (saving : Saving) : Type 0 where
     pub before : Held K D E B L M N O
     pub after : Held K D E B L M N O
     pub turn : (m : Machine) → Matches L before.recorded.running m → turn_taken saving ≡ turn_of m before.recorded.running.saved
     pub steps : TakesTurn L M N O saving before after
 
   -- the same, by how it goes on
-  abbrev pub LentSaver : Working → Type 0
-  LentSaver done = (saving : Saving) × LentSave saving × (done ≡ working_of saving)
+  abbrev pub LentSaverWork : Working → Type 0
+  LentSaverWork done = (saving : Saving) × LentSaverTurn saving × (done ≡ working_of saving)
 
   -- a ticket was answered by these bytes, or there was nothing for it any more
   abbrev pub LentBytes : Ticket → Result (List ℕ) ReadRefusal → Type 0

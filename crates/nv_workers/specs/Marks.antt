@@ -23,7 +23,7 @@ module _ {K : Type 0} (L : Ghosts K) where
   marks_of board it = seen_marks board it.accepted it.persisted
 
   -- the marks aren't above the module's two numbers, which are in order
-  pub record IsBehind (it : Module K L) (marks : SeenMarks) : Type 0 where
+  pub record ShowsNoMore (it : Module K L) (marks : SeenMarks) : Type 0 where
     pub accepted : marks.accepted ≤ it.accepted
     pub persisted : marks.persisted ≤ it.persisted
     pub ordered : it.persisted ≤ it.accepted

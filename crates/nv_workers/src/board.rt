@@ -113,11 +113,11 @@ impl<K: ChannelPort, D: SaveDevice, E: Energy, B: BoardName, N: Notices> Board<K
 }
 
 impl<K: ChannelPort, D: SaveDevice, E: Energy, B: BoardName, N: Notices> Board<K, D, E, B, N> {
-    ghost use Rattle.nv_workers.specs.Lent.{LentSave, LentStep, LentWork};
+    ghost use Rattle.nv_workers.specs.Lent.{LentSaverTurn, LentStep, LentWork};
 
     // One turn of a saver.
     pub(crate) fn save(&self, rt: &impl Wait) -> Saving
-        ensures { LentSave K.ChannelPort D.SaveDevice E.Energy B.BoardName.own result }
+        ensures { LentSaverTurn K.ChannelPort D.SaveDevice E.Energy B.BoardName.own result }
     {
         self.held.lock(rt).save()
     }

@@ -2,7 +2,7 @@
 ghost use Rattle.std.specs.Prelude.{◌≡◌, ◌≤◌, ◌+◌, ◌↔◌, All, Some, count_by, length, nat_lt, IfOk, IfErr, IfSome, IfNone, IsTrue};
 ghost use Rattle.line_memory.specs.History.{Recorded};
 ghost use Rattle.line_memory.specs.declared.Write.{Write};
-ghost use Rattle.nv_workers.specs.Ending.{HasChecked, HasStranger, IsBorneOut, IsBorneOutOrPast, IsFirstNot, IsFirstStranger, StandsIn, StandsOrIsPast, past_below, receipted};
+ghost use Rattle.nv_workers.specs.Ending.{HasChecked, HasStranger, IsBorneOut, IsBorneOutOrPast, IsFirstStranger, IsFirstWithout, StandsIn, StandsOrIsPast, past_below, receipted};
 
 use crate::board_name::BoardName;
 use crate::held::Held;
@@ -57,7 +57,7 @@ fn is_borne_out(history: &History, answer: &Seen) -> bool
 // The first receipt that doesn't stand in the history, and isn't past.
 fn strange_receipt(history: &History, below: u64, receipts: &[Receipt]) -> Option<usize>
     ensures some { IfSome result (λ i.
-        IsFirstNot (StandsOrIsPast below history.now) receipts.now i) }
+        IsFirstWithout (StandsOrIsPast below history.now) receipts.now i) }
     ensures none { IfNone result (All (StandsOrIsPast below history.now) receipts.now) }
 {
     receipts.iter().position(|receipt| receipt.number >= below && !stands_in(history, receipt))
@@ -66,7 +66,7 @@ fn strange_receipt(history: &History, below: u64, receipts: &[Receipt]) -> Optio
 // The first answer that the history doesn't bear out, and that isn't past.
 fn strange_answer(history: &History, below: u64, answers: &[Seen]) -> Option<usize>
     ensures some { IfSome result (λ i.
-        IsFirstNot (IsBorneOutOrPast below history.now) answers.now i) }
+        IsFirstWithout (IsBorneOutOrPast below history.now) answers.now i) }
     ensures none { IfNone result (All (IsBorneOutOrPast below history.now) answers.now) }
 {
     answers.iter().position(|answer| answer.at >= below && !is_borne_out(history, answer))

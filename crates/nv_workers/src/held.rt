@@ -6,7 +6,7 @@ ghost use Rattle.nv_machine.specs.Rising.{added};
 ghost use Rattle.module_core.specs.Stands.{setup_of};
 ghost use Rattle.nv_workers.specs.Kept.{IsBoardKept, IsRecordKept};
 ghost use Rattle.nv_workers.specs.Lived.{HasSomeLife};
-ghost use Rattle.nv_workers.specs.Marks.{IsBehind, IsCounted, marks_of};
+ghost use Rattle.nv_workers.specs.Marks.{IsCounted, ShowsNoMore, marks_of};
 
 use crate::board_name::BoardName;
 use crate::recorded_module::RecordedModule;
@@ -46,7 +46,7 @@ pub(crate) struct ReadAt {
 // The marks follow the module.
 pub(crate) fn publish<K: ChannelPort>(marks: &MarkBoard, seat: &mut BoardSeat, running: &Module<K>)
     requires board { seat.old.board ≡ marks.now }
-    requires behind { IsBehind K.ChannelPort running.now seat.old }
+    requires shown { ShowsNoMore K.ChannelPort running.now seat.old }
     ensures { seat.new ≡ marks_of K.ChannelPort marks.now running.now }
 {
     seat.accept(marks, running.accepted());

@@ -91,14 +91,14 @@ where
     R: Wait + Clock,
 {
     ghost use Rattle.std.specs.Prelude.{◌≡◌};
-    ghost use Rattle.nv_workers.specs.Lent.{LentSaver};
+    ghost use Rattle.nv_workers.specs.Lent.{LentSaverWork};
 
     ghost is_of = { λ worker. worker ≡ B.channels };
 
     ghost asks = { λ worker turn told old new. new ≡ old };
 
     ghost works = { λ worker done old new.
-        LentSaver K.ChannelPort D.SaveDevice E.Energy B.BoardName.own done };
+        LentSaverWork K.ChannelPort D.SaveDevice E.Energy B.BoardName.own done };
 
     ghost rests = { λ idle old new. new ≡ old };
 

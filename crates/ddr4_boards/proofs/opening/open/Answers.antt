@@ -32,11 +32,11 @@ invariant_of-result-clause-kept g c =
     (begun_stands g (goal.at.invariant_of-result-clause-kept g c).In-Ok-begin) (search rules)
     (ap (λ (s : Setup). s.trail) c.in-Ok-begin.ensures.setup.is)
 
-pub invariant_of-result-clause-whole : goal.invariant_of-result-clause-whole
-invariant_of-result-clause-whole g c =
+pub invariant_of-result-clause-uncut : goal.invariant_of-result-clause-uncut
+invariant_of-result-clause-uncut g c =
     let it = c.in-Ok.restored in
     new_is_whole _ c.in-Ok-begin.begun.running (g.D.SaveDevice.state c.restore.new.device) it.head (image_of_restored it c.in-Ok.ensures.found.arm) c.in-Ok-begin.begun.history c.args.profile.now.sizes.trail
-    (begun_stands g (goal.at.invariant_of-result-clause-whole g c).In-Ok-begin) c.in-Ok-begin.ensures.history
+    (begun_stands g (goal.at.invariant_of-result-clause-uncut g c).In-Ok-begin) c.in-Ok-begin.ensures.history
 
 pub invariant_of-result-clause-sized : goal.invariant_of-result-clause-sized
 invariant_of-result-clause-sized g c =

@@ -1,17 +1,17 @@
 use Rattle.std.proofs.Common.{◌≡◌, ◌≤◌, ◌∙◌, All, [], ap, subst, sym}
 use Rattle.atomic_table.specs.Seated.{TableId}
 use Rattle.mark_board.specs.SeenMarks.{AllHaveSeen, seen_marks}
-use Rattle.nv_workers.proofs.Common.{Client, IsBehind, SeenMarks, client}
+use Rattle.nv_workers.proofs.Common.{Client, SeenMarks, ShowsNoMore, client}
 use Rattle.nv_workers.specs.Opening.{OpeningView}
-use Rattle.nv_workers.proofs.Holding.{opened_behind}
+use Rattle.nv_workers.proofs.Holding.{opening_shows_no_more}
 use Rattle.nv_workers.proofs.starting.start.Goals as goal
 
-pub publish-requires-clause-behind : goal.publish-requires-clause-behind
-publish-requires-clause-behind g c =
+pub publish-requires-clause-shown : goal.publish-requires-clause-shown
+publish-requires-clause-shown g c =
     let it = c.args.recorded in let inside = c.opening.inside in
     let least = subst (λ (o : OpeningView). o.mark ≤ it.running.persisted) (sym c.opening.view_is) c.requires.mark in
-    subst (λ (m : SeenMarks). IsBehind g.K.ChannelPort it.running m) (sym c.opening.invariant.0)
-    (opened_behind g.K.ChannelPort g.D.SaveDevice it c.requires.kept inside.marks inside.mark least)
+    subst (λ (m : SeenMarks). ShowsNoMore g.K.ChannelPort it.running m) (sym c.opening.invariant.0)
+    (opening_shows_no_more g.K.ChannelPort g.D.SaveDevice it c.requires.kept inside.marks inside.mark least)
 
 pub returns-clause-hosts : goal.returns-clause-hosts
 returns-clause-hosts g c = subst (λ (o : OpeningView). All (λ (h : Client). h ≡ client o.mark o.mark 0 []) c.in-Ok-seated.hosts.items) c.opening.view_is c.in-Ok-seated.ensures.hosts

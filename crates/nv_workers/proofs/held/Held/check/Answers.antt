@@ -9,8 +9,8 @@ returns-clause-checked g c =
     let past : ℕ = c.past_receipts-past.result + c.past_answers-seen.result in
     record {
       starts = c.start.ensures;
-      gone = subst (λ (b : ℕ). past ≡ past_among b receipts answers) below (rw (c.past_receipts-past.ensures.count, c.past_answers-seen.ensures.count) refl);
-      all = omega (arith, c.past_receipts-past.ensures.few, c.past_answers-seen.ensures.few);
+      past = subst (λ (b : ℕ). past ≡ past_among b receipts answers) below (rw (c.past_receipts-past.ensures.count, c.past_answers-seen.ensures.count) refl);
+      counted = omega (arith, c.past_receipts-past.ensures.few, c.past_answers-seen.ensures.few);
       stand = subst (λ (b : ℕ). All (StandsOrIsPast b it.history) receipts) below none.receipts;
       borne_out = subst (λ (b : ℕ). All (IsBorneOutOrPast b it.history) answers) below none.answers;
     }

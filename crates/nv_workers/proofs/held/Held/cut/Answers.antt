@@ -10,7 +10,7 @@ use Rattle.nv_workers.proofs.held.Held.cut.Goals as goal
 -- what was checked is told of by where the record began
 checked_at_start : {K D E : Type 0} (L : Ghosts K) (it : RecordedModule K D E L) (receipts : List Receipt) (answers : List Seen) (told : Cut) → HasChecked L it receipts answers told
     → HasChecked L it receipts answers (record told { from = it.history.start })
-checked_at_start L it receipts answers told checked = record { starts = refl; gone = checked.gone; all = checked.all; stand = checked.stand; borne_out = checked.borne_out }
+checked_at_start L it receipts answers told checked = record { starts = refl; past = checked.past; counted = checked.counted; stand = checked.stand; borne_out = checked.borne_out }
 
 pub returns-clause-cuts : goal.returns-clause-cuts
 returns-clause-cuts g c = (

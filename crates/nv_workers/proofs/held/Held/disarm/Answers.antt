@@ -1,13 +1,13 @@
 use Rattle.std.proofs.Common.{refl}
 use Rattle.nv_machine.specs.declared.events.Event.TheVariants as events
 use Rattle.nv_machine.specs.declared.events.Reply.TheVariants as replies
-use Rattle.nv_workers.proofs.BoardsKept.{kept_same, stays_behind}
+use Rattle.nv_workers.proofs.BoardsKept.{event_shows_no_more, kept_same}
 use Rattle.nv_workers.proofs.held.Held.disarm.Goals as goal
 
-pub publish-requires-clause-behind : goal.publish-requires-clause-behind
-publish-requires-clause-behind g c =
+pub publish-requires-clause-shown : goal.publish-requires-clause-shown
+publish-requires-clause-shown g c =
     let it = c.args.self.now in let call = c.disarm-reply in
-    stays_behind events.Disarm (replies.Disarm call.result) it.recorded (record it.recorded { running = call.new.self }) it.kept (call.ensures.answers _ _)
+    event_shows_no_more events.Disarm (replies.Disarm call.result) it.recorded (record it.recorded { running = call.new.self }) it.kept (call.ensures.answers _ _)
 
 pub invariant_of-self : goal.invariant_of-self
 invariant_of-self g c =

@@ -23,7 +23,7 @@ invariant_of-self g c =
     let it = c.args.self.now in let K = g.K.ChannelPort in let D = g.D.SaveDevice in
     let after = record it.recorded { running = c.cut-gone.new.self; history = c.cut.new.self } in
     let records : c.cut.new.self ≡ cut_at it.recorded.running.saved it.recorded.history = c.cut.ensures ∙ ap (λ (k : ℕ). cut_at k it.recorded.history) c.saved-at.ensures in
-    let moves : MovesToNewest K it.recorded after = record { only = c.cut-gone.ensures.cuts; whole = c.cut-gone.ensures.to; records = records; device = refl; energy = refl } in
+    let moves : MovesToNewest K it.recorded after = record { only = c.cut-gone.ensures.cuts; newest = c.cut-gone.ensures.to; history = records; device = refl; energy = refl } in
     record {
       kept = record {
         board = it.kept.board;
@@ -39,4 +39,4 @@ pub returns-clause-moves : goal.returns-clause-moves
 returns-clause-moves g c =
     let it = c.args.self.now in
     let records : c.cut.new.self ≡ cut_at it.recorded.running.saved it.recorded.history = c.cut.ensures ∙ ap (λ (k : ℕ). cut_at k it.recorded.history) c.saved-at.ensures in
-    record { only = c.cut-gone.ensures.cuts; whole = c.cut-gone.ensures.to; records = records; device = refl; energy = refl }
+    record { only = c.cut-gone.ensures.cuts; newest = c.cut-gone.ensures.to; history = records; device = refl; energy = refl }

@@ -1,17 +1,17 @@
 use Rattle.std.proofs.Common.{refl}
 use Rattle.nv_machine.specs.declared.events.Event.TheVariants as events
 use Rattle.nv_machine.specs.declared.events.Reply.TheVariants as replies
-use Rattle.nv_workers.proofs.BoardsKept.{kept_same, stays_behind}
+use Rattle.nv_workers.proofs.BoardsKept.{event_shows_no_more, kept_same}
 use Rattle.nv_workers.proofs.Holding.{has_device}
 use Rattle.nv_workers.proofs.held.Held.save_step.Goals as goal
 
 pub save_step-reply-requires : goal.save_step-reply-requires
 save_step-reply-requires g c = record { size = has_device g.K.ChannelPort g.D.SaveDevice c.args.self.now.recorded c.args.self.now.kept.recorded }
 
-pub publish-requires-clause-behind : goal.publish-requires-clause-behind
-publish-requires-clause-behind g c =
+pub publish-requires-clause-shown : goal.publish-requires-clause-shown
+publish-requires-clause-shown g c =
     let it = c.args.self.now in let call = c.save_step-reply in
-    stays_behind events.SaveStep (replies.SaveStep call.result) it.recorded (record it.recorded { running = call.new.self; device = call.new.device; energy = call.new.energy }) it.kept call.ensures.answers
+    event_shows_no_more events.SaveStep (replies.SaveStep call.result) it.recorded (record it.recorded { running = call.new.self; device = call.new.device; energy = call.new.energy }) it.kept call.ensures.answers
 
 pub invariant_of-self : goal.invariant_of-self
 invariant_of-self g c =

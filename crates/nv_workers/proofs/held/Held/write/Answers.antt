@@ -1,7 +1,7 @@
 use Rattle.std.proofs.Common.{◌∙◌}
 use Rattle.nv_machine.specs.declared.events.Event.TheVariants as events
 use Rattle.nv_machine.specs.declared.events.Reply.TheVariants as replies
-use Rattle.nv_workers.proofs.BoardsKept.{kept_on, stays_behind}
+use Rattle.nv_workers.proofs.BoardsKept.{event_shows_no_more, kept_on}
 use Rattle.nv_workers.proofs.Keeping.{has_room}
 use Rattle.nv_workers.proofs.Quiet.{told_counted}
 use Rattle.nv_workers.proofs.held.Held.write.Goals as goal
@@ -11,10 +11,10 @@ note-requires-clause-room g c =
     let it = c.args.self.now in let call = c.write-reply in let after = record it.recorded { running = call.new.self } in
     has_room g.K.ChannelPort g.D.SaveDevice g.E.Energy c.args.write call.result it.recorded after it.kept.recorded (call.ensures.answers _ _) call.ensures.setup call.ensures.stored.cut call.new.self.kept
 
-pub publish-requires-clause-behind : goal.publish-requires-clause-behind
-publish-requires-clause-behind g c =
+pub publish-requires-clause-shown : goal.publish-requires-clause-shown
+publish-requires-clause-shown g c =
     let it = c.args.self.now in let call = c.write-reply in
-    stays_behind (events.Write c.args.write) (replies.Write call.result) it.recorded (record it.recorded { running = call.new.self }) it.kept (call.ensures.answers _ _)
+    event_shows_no_more (events.Write c.args.write) (replies.Write call.result) it.recorded (record it.recorded { running = call.new.self }) it.kept (call.ensures.answers _ _)
 
 pub invariant_of-self : goal.invariant_of-self
 invariant_of-self g c =
