@@ -3,7 +3,8 @@ use Rattle.channel_port.specs.declared.answers.Done.{Done}
 use Rattle.channel_set.specs.Carrying.{KeepsAll}
 use Rattle.channel_set.specs.Set.{NextCommand}
 use Rattle.channel_set.specs.declared.set.ChannelSet.{ChannelSet}
-use Rattle.module_core.specs.Stands.{Answers, Follows, IsCarried, Point, SameNumbers, WorksWhereDue, saved_after}
+use Rattle.module_core.specs.Fronts.{SameNumbers}
+use Rattle.module_core.specs.Stands.{Answers, Follows, IsCarried, Point, WorksWhereDue, saved_after}
 use Rattle.module_core.specs.declared.opening.LifeTerms.{LifeTerms}
 use Rattle.nv_machine.proofs.Backing.{IsKnown}
 use Rattle.nv_machine.proofs.Effects.{KeepsNewest}
@@ -43,15 +44,15 @@ module _ {K : Type 0} (L : Ghosts K) where
 
   -- how many writes the newest image holds after an event
   pub counted : (event : Event) (reply : Reply) (old new : Assembly L) (m : Machine) → ModuleStands L old.it old.device m → (n : Machine) → MachineStep (setup_of L old.it) event reply (world_of L old m) (world_of L new n)
-      → new.it.saved ≡ saved_after reply old.it.saved → new.it.saved ≡ (newest_of n).count
+      → new.it.front.saved ≡ saved_after reply old.it.front.saved → new.it.front.saved ≡ (newest_of n).count
   counted event reply old new m s n step saved =
       let keeps = event_keeps (setup_of L old.it) event reply (world_of L old m) (world_of L new n) step s.guarded in
       saved ∙ ap (saved_after reply) s.saved ∙ sym (newest_after reply (newest_of m).count (newest_of n).count keeps.newest)
 
   -- An event that may call the device.
   pub asked : (event : Event) (reply : Reply) (old new : Assembly L) → setup_of L new.it ≡ setup_of L old.it → (m : Machine) → ModuleStands L old.it old.device m → (n : Machine)
-      → MachineStep (setup_of L old.it) event reply (world_of L old m) (world_of L new n) → new.it.saved ≡ saved_after reply old.it.saved
-      → Matches L new.it n → Holds (lines_of_module L old.it) n.store new.it.saves.saving new.device → WorksWhereDue L event reply (point_of L old m)
+      → MachineStep (setup_of L old.it) event reply (world_of L old m) (world_of L new n) → new.it.front.saved ≡ saved_after reply old.it.front.saved
+      → Matches L new.it n → Holds (lines_of_module L old.it) n.store new.it.front.saves.saving new.device → WorksWhereDue L event reply (point_of L old m)
       → LeavesOnly old.device new.device (λ bytes. IsGuarded n → RecoversMeanwhile reply m n (restored (lines_of_module L old.it) bytes))
       → (n : Machine) × ModuleStands L new.it new.device n × HappensAt L (setup_of L old.it) event reply (point_of L old m) (point_of L new n)
   asked event reply old new setup m s n step saved matches holds works moments =
@@ -59,7 +60,7 @@ module _ {K : Type 0} (L : Ghosts K) where
         n,
         record {
           matches = matches;
-          holds = subst (λ (k : ℕ). Holds k n.store new.it.saves.saving new.device) (sym (same_lines old.it new.it setup)) holds;
+          holds = subst (λ (k : ℕ). Holds k n.store new.it.front.saves.saving new.device) (sym (same_lines old.it new.it setup)) holds;
           guarded = guarded;
           saved = counted event reply old new m s n step saved;
         },
@@ -67,7 +68,7 @@ module _ {K : Type 0} (L : Ghosts K) where
           happens = record {
             step = step;
             meanwhile = weaker old.device new.device (λ bytes left. left guarded) moments;
-            at_end = λ bytes left. left_after n guarded (restored lines bytes) (stop_now lines n.store new.it.saves.saving new.device holds bytes left);
+            at_end = λ bytes left. left_after n guarded (restored lines bytes) (stop_now lines n.store new.it.front.saves.saving new.device holds bytes left);
             honest = λ honest backed. honest_event (setup_of L old.it) event reply (world_of L old m) (world_of L new n) step (known old.it old.device m s) honest backed;
           };
           works = works;
@@ -81,49 +82,49 @@ module _ {K : Type 0} (L : Ghosts K) where
   -- An event without a call of the device.
   pub alone : (event : Event) (reply : Reply) (old new : Module K L) (device : DeviceState) (before later : Gauge) → setup_of L new ≡ setup_of L old
       → Follows L (λ m n. MachineStep (setup_of L old) event reply (record { machine = m; device = device; gauge = before }) (record { machine = n; device = device; gauge = later })) old new
-      → new.saved ≡ saved_after reply old.saved → marks reply ≡ false → ((m : Machine) → Matches L old m → WorksWhereDue L event reply (point_of L (assembly old device before) m)) → Answers L event reply (assembly old device before) (assembly new device later)
+      → new.front.saved ≡ saved_after reply old.front.saved → marks reply ≡ false → ((m : Machine) → Matches L old m → WorksWhereDue L event reply (point_of L (assembly old device before) m)) → Answers L event reply (assembly old device before) (assembly new device later)
   alone event reply old new device before later setup follows saved unmarked works m s =
       let f = follows m s.matches in let n : Machine = f.later in let lines : ℕ = lines_of_module L old in
-      asked event reply (assembly old device before) (assembly new device later) setup m s n f.step saved f.matches (holds_moved lines m.store device old.saves new.saves n.store f.moves s.matches.knows s.holds) (works m s.matches)
+      asked event reply (assembly old device before) (assembly new device later) setup m s n f.step saved f.matches (holds_moved lines m.store device old.front.saves new.front.saves n.store f.moves s.matches.front.knows s.holds) (works m s.matches)
       (started {P = λ bytes. IsGuarded n → RecoversMeanwhile reply m n (restored lines bytes)} device (λ bytes left guarded.
-      let outcome : Outcome = restored lines bytes in let was : IsAmong m.store.maybe outcome = stop_now lines m.store old.saves.saving device s.holds bytes left in
+      let outcome : Outcome = restored lines bytes in let was : IsAmong m.store.maybe outcome = stop_now lines m.store old.front.saves.saving device s.holds bytes left in
       left_before reply m n s.guarded outcome was (inl (subst (λ (b : Bool). IsAmong (if b then record m.store.maybe { any_arm = true } else m.store.maybe) outcome) (sym unmarked) was))))
 
   -- An event that changes nothing.
   pub unmoved : (event : Event) (reply : Reply) (it : Module K L) (device : DeviceState) (gauge : Gauge)
       → ((m : Machine) → Matches L it m → MachineStep (setup_of L it) event reply (record { machine = m; device = device; gauge = gauge }) (record { machine = m; device = device; gauge = gauge }))
-      → it.saved ≡ saved_after reply it.saved → marks reply ≡ false → ((m : Machine) → Matches L it m → WorksWhereDue L event reply (point_of L (assembly it device gauge) m)) → Answers L event reply (assembly it device gauge) (assembly it device gauge)
+      → it.front.saved ≡ saved_after reply it.front.saved → marks reply ≡ false → ((m : Machine) → Matches L it m → WorksWhereDue L event reply (point_of L (assembly it device gauge) m)) → Answers L event reply (assembly it device gauge) (assembly it device gauge)
   unmoved event reply it device gauge step saved unmarked works = alone event reply it it device gauge gauge refl (λ m h. record { later = m; step = step m h; matches = h; moves = inl (refl, refl) }) saved unmarked works
 
   -- Nothing but the reading and what waits has changed of a module.
   pub record StaysBut (old new : Module K L) : Type 0 where
-    pub numbers : SameNumbers L old new
-    pub mode : new.mode ≡ old.mode
-    pub saves : new.saves ≡ old.saves
+    pub numbers : SameNumbers old.front new.front
+    pub mode : new.front.mode ≡ old.front.mode
+    pub saves : new.front.saves ≡ old.front.saves
     pub shape : shape_of L new.channels ≡ shape_of L old.channels
 
-  matches_on : (old new : Module K L) (m : Machine) (reading : ℕ) (waits : Waits) → Matches L old m → StaysBut old new → new.reading ≡ reading → IsCarried L new.channels (record m { waits = waits })
+  matches_on : (old new : Module K L) (m : Machine) (reading : ℕ) (waits : Waits) → Matches L old m → StaysBut old new → new.front.reading ≡ reading → IsCarried L new.channels (record m { waits = waits })
       → Matches L new (record m { reading = reading; waits = waits })
   matches_on old new m reading waits h stays shown carried = search rules
 
   -- another reading
-  pub reread : (old new : Module K L) (m : Machine) → Matches L old m → StaysBut old new → new.channels ≡ old.channels → Matches L new (read_as new.reading m)
-  reread old new m h stays same = matches_on old new m new.reading m.waits h stays refl (subst (λ (c : ChannelSet K L). IsCarried L c m) (sym same) h.carried)
+  pub reread : (old new : Module K L) (m : Machine) → Matches L old m → StaysBut old new → new.channels ≡ old.channels → Matches L new (read_as new.front.reading m)
+  reread old new m h stays same = matches_on old new m new.front.reading m.waits h stays refl (subst (λ (c : ChannelSet K L). IsCarried L c m) (sym same) h.carried)
 
   -- An event after which something else waits, and nothing else is changed.
-  pub waited : (event : Event) (reply : Reply) (old new : Module K L) (device : DeviceState) (gauge : Gauge) → StaysBut old new → new.reading ≡ old.reading
-      → (view_of L new.channels).hold ≡ (view_of L old.channels).hold → KeepsAll L old.channels new.channels → new.saved ≡ saved_after reply old.saved → marks reply ≡ false
+  pub waited : (event : Event) (reply : Reply) (old new : Module K L) (device : DeviceState) (gauge : Gauge) → StaysBut old new → new.front.reading ≡ old.front.reading
+      → (view_of L new.channels).hold ≡ (view_of L old.channels).hold → KeepsAll L old.channels new.channels → new.front.saved ≡ saved_after reply old.front.saved → marks reply ≡ false
       → ((m : Machine) → Matches L old m → let later : Waits = (view_of L new.channels).waits in
       MachineStep (setup_of L old) event reply (record { machine = m; device = device; gauge = gauge }) (record { machine = record m { waits = later }; device = device; gauge = gauge })
       × ForSome (hold_of m.store.saving) (λ k. WaitsFrom k (all_of m) later.writes)
       × WorksWhereDue L event reply (point_of L (assembly old device gauge) m))
       → Answers L event reply (assembly old device gauge) (assembly new device gauge)
   waited event reply old new device gauge stays shown hold keeps saved unmarked told =
-      alone event reply old new device gauge gauge (same_setup old.channels new.channels old.terms new.terms stays.shape stays.numbers.terms) (λ m h.
+      alone event reply old new device gauge gauge (same_setup old.channels new.channels old.front.terms new.front.terms stays.shape stays.numbers.terms) (λ m h.
       let later : Waits = (view_of L new.channels).waits in let t = told m h in record {
         later = record m { waits = later };
         step = t.0;
-        matches = matches_on old new m m.reading later h stays (shown ∙ h.reading) (record {
+        matches = matches_on old new m m.reading later h stays (shown ∙ h.front.reading) (record {
           carries = keeps (base_of_life m.life) (start_of_life m.life) m.life.writes h.carried.carries;
           waits = refl;
           hold = hold ∙ h.carried.hold;

@@ -56,12 +56,12 @@ pub any_arm_in : (m : Machine) (o : Outcome) → IsAmong (with_any_arm m.store.m
 any_arm_in m o is = search rules
 
 -- Nothing refuses to arm a module that is this machine.
-module _ {K : Type 0} (L : Ghosts K) (old : Module K L) (m : Machine) (h : Matches L old m) (off : is_armed old.mode ≡ false) (free : arm_refusal old.mode (saves_of m) ≡ None) where
+module _ {K : Type 0} (L : Ghosts K) (old : Module K L) (m : Machine) (h : Matches L old m) (off : is_armed old.front.mode ≡ false) (free : arm_refusal old.front.mode (saves_of m) ≡ None) where
   pub unarmed : is_armed m.mode ≡ false
-  unarmed = ap is_armed (sym h.mode) ∙ off
+  unarmed = ap is_armed (sym h.front.mode) ∙ off
 
   pub unrefused : arm_refusal m.mode (saves_of m) ≡ None
-  unrefused = ap (λ (x : Mode). arm_refusal x (saves_of m)) (sym h.mode) ∙ free
+  unrefused = ap (λ (x : Mode). arm_refusal x (saves_of m)) (sym h.front.mode) ∙ free
 
   arms : Arms m
   arms = arms_where m unarmed unrefused
@@ -74,7 +74,7 @@ module _ {K : Type 0} (L : Ghosts K) (old : Module K L) (m : Machine) (h : Match
   may_arm device before new need is enough reads = record { unarmed = unarmed; unrefused = unrefused; reads = reads; enough = subst (λ (k : ℕ). k ≤ new.machine.reading) (needs need is) enough }
 
 -- The arm byte is written.
-module _ {K : Type 0} (L : Ghosts K) (old : Module K L) (device : DeviceState) (m : Machine) (stands : ModuleStands L old device m) (off : is_armed old.mode ≡ false) (free : arm_refusal old.mode (saves_of m) ≡ None) where
+module _ {K : Type 0} (L : Ghosts K) (old : Module K L) (device : DeviceState) (m : Machine) (stands : ModuleStands L old device m) (off : is_armed old.front.mode ≡ false) (free : arm_refusal old.front.mode (saves_of m) ≡ None) where
   abbrev lines : ℕ
   lines = lines_of_module L old
 
@@ -84,14 +84,14 @@ module _ {K : Type 0} (L : Ghosts K) (old : Module K L) (device : DeviceState) (
   running : has_ended m.mode ≡ false
   running = ap has_ended a.disarmed
 
-  pub alone_there : IsAtRestOn old.saves.newest.slot (newest_of m) lines m.store.closed device
+  pub alone_there : IsAtRestOn old.front.saves.newest.slot (newest_of m) lines m.store.closed device
   alone_there =
-      let rest : IsResting lines m.store device = at_rest lines m.store device m.store.saving old.saves.saving stands.holds in
+      let rest : IsResting lines m.store device = at_rest lines m.store device m.store.saving old.front.saves.saving stands.holds in
       let alone : m.store.maybe ≡ only m.store.maybe.slot (newest_of m) =
       newest_alone m stands.guarded (record { runs = running; idle = a.idle; settled = a.settled }) in
       let own : rest.image.arm ≡ (newest_of m).arm = rest.newest.own (ap (λ (c : Candidates). c.any_arm) alone) in
       let newest : rest.image ≡ newest_of m = rest.newest.is ∙ ap (rearmed (newest_of m)) own in
-      subst (λ (x : Slot). IsAtRestOn x (newest_of m) lines m.store.closed device) (sym stands.matches.knows.slot)
+      subst (λ (x : Slot). IsAtRestOn x (newest_of m) lines m.store.closed device) (sym stands.matches.front.knows.slot)
       (record {
         size = rest.rest.size;
         full = rest.rest.full ∙ ap Full newest;
@@ -102,16 +102,16 @@ module _ {K : Type 0} (L : Ghosts K) (old : Module K L) (device : DeviceState) (
       })
 
   -- arming tells of no save
-  same_count : {count : ℕ} (result : Result ArmReply ArmRefusal) → count ≡ old.saved → count ≡ saved_after (replies.Arm result) old.saved
+  same_count : {count : ℕ} (result : Result ArmReply ArmRefusal) → count ≡ old.front.saved → count ≡ saved_after (replies.Arm result) old.front.saved
   same_count result same = same
 
-  pub answers_marked : (result : Result ArmReply ArmRefusal) → marks (replies.Arm result) ≡ true → (before : Gauge) (new : Assembly L) → setup_of L new.it ≡ setup_of L old → new.it.saved ≡ old.saved → (n : Machine)
+  pub answers_marked : (result : Result ArmReply ArmRefusal) → marks (replies.Arm result) ≡ true → (before : Gauge) (new : Assembly L) → setup_of L new.it ≡ setup_of L old → new.it.front.saved ≡ old.front.saved → (n : Machine)
       → ArmStep (setup_of L old) result (world_of L (assembly old device before) m) (world_of L new n) → Matches L new.it n → n.store.saving ≡ m.store.saving → IsResting lines n.store new.device
-      → LeavesOnly device new.device (λ bytes. IsAmong (with_any_arm old.saves.newest.slot (newest_of m)) (restored lines bytes))
+      → LeavesOnly device new.device (λ bytes. IsAmong (with_any_arm old.front.saves.newest.slot (newest_of m)) (restored lines bytes))
       → (n : Machine) × ModuleStands L new.it new.device n × HappensAt L (setup_of L old) events.Arm (replies.Arm result) (point_of L (assembly old device before) m) (point_of L new n)
   answers_marked result marked before new setup saved n step matches idle rests moments =
       asked L events.Arm (replies.Arm result) (assembly old device before) new setup m stands n step (same_count result saved) matches
-      (holds_none lines n.store new.device n.store.saving new.it.saves.saving (idle ∙ a.idle) matches.saving rests) tt
+      (holds_none lines n.store new.device n.store.saving new.it.front.saves.saving (idle ∙ a.idle) matches.front.saving rests) tt
       (weaker device new.device (λ bytes left guarded.
       left_marking (replies.Arm result) m n marked (calm_disarmed m a.disarmed (mains_last m stands.guarded running)) stands.guarded (restored lines bytes)
-      (any_arm_in m (restored lines bytes) (subst (λ (x : Slot). IsAmong (with_any_arm x (newest_of m)) (restored lines bytes)) stands.matches.knows.slot left))) moments)
+      (any_arm_in m (restored lines bytes) (subst (λ (x : Slot). IsAmong (with_any_arm x (newest_of m)) (restored lines bytes)) stands.matches.front.knows.slot left))) moments)

@@ -20,7 +20,7 @@ module _ {K : Type 0} (L : Ghosts K) where
 
   pub cut_setup : (old new : Module K L) → IsCut L old new → setup_of L new ≡ setup_of L old
   cut_setup old new cut =
-      ap (λ (c : ChannelSet K L). record { shape = shape_of L c; trail = new.terms.trail }) cut.channels
+      ap (λ (c : ChannelSet K L). record { shape = shape_of L c; trail = new.front.terms.trail }) cut.channels
       ∙ ap (λ (t : LifeTerms). record { shape = shape_of L old.channels; trail = t.trail }) cut.terms
 
   pub cuts_in_turn : (old new : Module K L) (device : DeviceState) (gauge : Gauge) → IsCut L old new → AnswersCalls L [] [] (assembly old device gauge) (assembly new device gauge)

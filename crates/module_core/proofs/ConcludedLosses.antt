@@ -10,27 +10,28 @@ use Rattle.slot_store.specs.declared.source.BrokenOff.TheVariants as broken
 use Rattle.module_core.specs.Closing.{ClosesModule, HasDrained}
 use Rattle.module_core.specs.Covering.{IsCovered}
 use Rattle.module_core.specs.Losing.{AnswersLoss, BeginsLoss, CoversDrains, IsLoss}
-use Rattle.module_core.specs.Stands.{SameNumbers}
+use Rattle.module_core.specs.Fronts.{SameNumbers}
+use Rattle.module_core.specs.declared.front.Front.{Front}
 use Rattle.module_core.proofs.Common.{◌∙◌, ◌≡◌, Assembly, ChannelsView, DeviceState, Err, Ghosts, Machine, ModuleStands, Ok, ap, assembly, setup_of, subst}
 use Rattle.module_core.proofs.Applying.{same_setup}
 use Rattle.module_core.proofs.Covering.{covered}
 use Rattle.module_core.proofs.HonestCalls.{ended_setup, honest_loss}
 use Rattle.module_core.proofs.LostModules.{answers_dark, answers_fault, answers_saved}
 
-module _ {K : Type 0} (L : Ghosts K) (order : DrainOrder) (old begun mid new : Assembly L) (drained : Paid) (b : BeginsLoss L old begun) (h : HasDrained order drained begun mid) (same : SameNumbers L mid.it new.it)
-    (shown : new.it.reading ≡ mid.it.reading) (kept : KeepsAll L mid.it.channels new.it.channels) (setup : setup_of L new.it ≡ setup_of L mid.it) where
-  numbers : SameNumbers L begun.it new.it
+module _ {K : Type 0} (L : Ghosts K) (order : DrainOrder) (old begun mid new : Assembly L) (drained : Paid) (b : BeginsLoss L old begun) (h : HasDrained order drained begun mid) (same : SameNumbers mid.it.front new.it.front)
+    (shown : new.it.front.reading ≡ mid.it.front.reading) (kept : KeepsAll L mid.it.channels new.it.channels) (setup : setup_of L new.it ≡ setup_of L mid.it) where
+  numbers : SameNumbers begun.it.front new.it.front
   numbers = record {
-    terms = same.terms ∙ h.same.numbers.terms;
-    accepted = same.accepted ∙ h.same.numbers.accepted;
-    persisted = same.persisted ∙ h.same.numbers.persisted;
+    terms = same.terms ∙ ap (λ (f : Front). f.terms) h.front;
+    accepted = same.accepted ∙ ap (λ (f : Front). f.accepted) h.front;
+    persisted = same.persisted ∙ ap (λ (f : Front). f.persisted) h.front;
   }
 
   keeps : KeepsAll L begun.it.channels new.it.channels
-  keeps base start writes carries = kept base start writes (h.same.keeps base start writes carries)
+  keeps base start writes carries = kept base start writes (h.keeps base start writes carries)
 
-  reading : new.it.reading ≡ begun.it.reading
-  reading = shown ∙ h.same.reading
+  reading : new.it.front.reading ≡ begun.it.front.reading
+  reading = shown ∙ ap (λ (f : Front). f.reading) h.front
 
   from : (finish : Finish) → ClosesModule order finish begun new → ClosesModule order finish (assembly begun.it old.device begun.gauge) new
   from finish closes = subst (λ (d : DeviceState). ClosesModule order finish (assembly begun.it d begun.gauge) new) b.device closes
@@ -38,7 +39,7 @@ module _ {K : Type 0} (L : Ghosts K) (order : DrainOrder) (old begun mid new : A
   setups : setup_of L new.it ≡ setup_of L old.it
   setups =
       setup
-      ∙ same_setup L begun.it.channels mid.it.channels begun.it.terms mid.it.terms (ap (λ (v : ChannelsView). v.shape) h.drains.rest) h.same.numbers.terms
+      ∙ same_setup L begun.it.channels mid.it.channels begun.it.front.terms mid.it.front.terms (ap (λ (v : ChannelsView). v.shape) h.drains.rest) (ap (λ (f : Front). f.terms) h.front)
       ∙ ended_setup L b.reading old.it begun.it b.ends
 
   -- all that is said of it follows from what it answers
@@ -50,19 +51,19 @@ module _ {K : Type 0} (L : Ghosts K) (order : DrainOrder) (old begun mid new : A
     setup = setups;
   }
 
-  pub is_saved : new.it.mode ≡ modes.Saved → new.it.saved ≡ new.it.accepted → drained ≡ Ok tt → CoversDrains L drained begun → ClosesModule order (Ok tt) begun new → IsLoss L order (loss.Saved new.it.saves.newest.generation new.it.accepted) old new
+  pub is_saved : new.it.front.mode ≡ modes.Saved → new.it.front.saved ≡ new.it.front.accepted → drained ≡ Ok tt → CoversDrains L drained begun → ClosesModule order (Ok tt) begun new → IsLoss L order (loss.Saved new.it.front.saves.newest.generation new.it.front.accepted) old new
   is_saved mode saved paid covers closes =
-      is_loss (loss.Saved new.it.saves.newest.generation new.it.accepted)
+      is_loss (loss.Saved new.it.front.saves.newest.generation new.it.front.accepted)
       (λ m stands. answers_saved L old m stands order b.backed b.reading begun.gauge b.reads begun.it b.ends b.begins new numbers reading keeps mode saved (from (Ok tt) closes))
       (covered L old.it.channels begun.it.channels b.ends.channels b.cost (subst (λ (p : Paid). CoversDrains L p begun) paid covers))
 
-  module _ (mode : new.it.mode ≡ mid.it.mode) (saved : new.it.saved ≡ mid.it.saved) (cause : BrokenOff) where
+  module _ (mode : new.it.front.mode ≡ mid.it.front.mode) (saved : new.it.front.saved ≡ mid.it.front.saved) (cause : BrokenOff) where
     pub is_dark : cause ≡ broken.Refused → ClosesModule order (Err cause) begun new → IsLoss L order loss.Dark old new
     is_dark why closes =
         is_loss loss.Dark
-        (λ m stands. answers_dark L old m stands order b.backed b.reading begun.gauge b.reads begun.it b.ends b.begins new numbers reading keeps (mode ∙ h.same.mode) (saved ∙ h.same.saved) cause why (from (Err cause) closes)) tt
+        (λ m stands. answers_dark L old m stands order b.backed b.reading begun.gauge b.reads begun.it b.ends b.begins new numbers reading keeps (mode ∙ ap (λ (f : Front). f.mode) h.front) (saved ∙ ap (λ (f : Front). f.saved) h.front) cause why (from (Err cause) closes)) tt
 
     pub is_fault : cause ≡ broken.Fault → ClosesModule order (Err cause) begun new → IsLoss L order loss.Fault old new
     is_fault why closes =
         is_loss loss.Fault
-        (λ m stands. answers_fault L old m stands order b.backed b.reading begun.gauge b.reads begun.it b.ends b.begins new numbers reading keeps (mode ∙ h.same.mode) (saved ∙ h.same.saved) cause why (from (Err cause) closes)) tt
+        (λ m stands. answers_fault L old m stands order b.backed b.reading begun.gauge b.reads begun.it b.ends b.begins new numbers reading keeps (mode ∙ ap (λ (f : Front). f.mode) h.front) (saved ∙ ap (λ (f : Front). f.saved) h.front) cause why (from (Err cause) closes)) tt

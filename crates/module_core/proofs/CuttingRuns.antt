@@ -1,9 +1,8 @@
 -- A run goes on by the next event and a cut behind it.
 use Rattle.std.proofs.Common.{get_or}
 use Rattle.std.proofs.lemmas.List.{take_more}
-use Rattle.energy_budget.proofs.Charging.{rises_none}
 use Rattle.module_core.specs.Cutting.{AnswersCut, HappensCutAt, RunsCut}
-use Rattle.module_core.specs.Stands.{Answers, HappensNextAt, IsCut, Point, RestsAt, RunAt, RunsTo}
+use Rattle.module_core.specs.Stands.{Answers, IsCut, Point, RestsAt, RunAt, RunsTo}
 use Rattle.nv_machine.proofs.JoinedRuns.{join_runs_of, no_pause}
 use Rattle.save_device.specs.Device.{StopsWithin, present}
 use Rattle.slot_store.specs.Outcomes.{restored}
@@ -39,14 +38,14 @@ module _ {K : Type 0} (L : Ghosts K) where
 
   -- one event more, and a cut
   pub one_more_cut : (events : List Event) (i : ℕ) (none : Event) (replies : List Reply) (reply : Reply) (old mid applied : Assembly L) (new : Assembly L)
-      → i < length events → setup_of L mid.it ≡ setup_of L old.it → mid.it.terms.cut ≡ mid.it.saved → setup_of L applied.it ≡ setup_of L old.it
+      → i < length events → setup_of L mid.it ≡ setup_of L old.it → mid.it.front.terms.cut ≡ mid.it.front.saved → setup_of L applied.it ≡ setup_of L old.it
       → AnswersCut L (take i events) replies old mid → Answers L (get_or events i none) reply mid applied
       → new ≡ assembly new.it applied.device applied.gauge → IsCut L applied.it new.it → AnswersCut L (take (i + 1) events) (replies ++ reply ∷ []) old new
   one_more_cut events i none replies reply old mid applied new inside same whole later so_far next is cut m stands =
       let event : Event = get_or events i none in let setup : Setup = setup_of L old.it in let before : RunsCut L (take i events) replies old m mid = so_far m stands in
       let after = next before.last before.stands in let n : Machine = after.0 in let from : Point L = point_of L mid before.last in
       let happens : HappensAt L setup event reply from (point_of L applied n) = subst (λ (s : Setup). HappensAt L s event reply from (point_of L applied n)) same after.2 in
-      let at_end : before.last.cut ≡ (newest_of before.last).count = sym before.stands.matches.cut ∙ whole ∙ before.stands.saved in
+      let at_end : before.last.cut ≡ (newest_of before.last).count = sym before.stands.matches.front.cut ∙ whole ∙ before.stands.saved in
       let happens_cut : HappensCutAt L setup event reply from (point_of L applied n) =
       record { next = record { pause = pause_at from.world; may = no_pause from.world; happens = happens }; cut = at_end } in
       let last : Assembly L = assembly new.it applied.device applied.gauge in

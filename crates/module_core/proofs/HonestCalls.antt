@@ -52,7 +52,7 @@ whole_along setup _ _ old new none saves = absurd none
 module _ {K : Type 0} (L : Ghosts K) where
   -- the setup stays where mains are lost
   pub ended_setup : (reading : ℕ) (old new : Module K L) → EndsMains L reading old new → setup_of L new ≡ setup_of L old
-  ended_setup reading old new ends = same_setup L old.channels new.channels old.terms new.terms (ap (λ (v : ChannelsView). v.shape) ends.channels.is) ends.numbers.terms
+  ended_setup reading old new ends = same_setup L old.channels new.channels old.front.terms new.front.terms (ap (λ (v : ChannelsView). v.shape) ends.channels.is) ends.numbers.terms
 
   -- a life through which neither the gauge nor the device counted a fault
   along : (found : Head) (image : Image) (events : List Event) (replies : List Reply) (old : Assembly L) (last : World) (run : Run (setup_of L old.it) events replies (world_of L old (opened_with found image)) last)
@@ -78,13 +78,13 @@ module _ {K : Type 0} (L : Ghosts K) where
         losses = whole_along setup events replies first last run saves;
         kept = λ off bytes left.
             let here = (r.left bytes left).recovers in
-            let unbacked : is_backed r.last.mode ≡ false = ap is_backed (sym r.stands.matches.mode) ∙ off in
+            let unbacked : is_backed r.last.mode ≡ false = ap is_backed (sym r.stands.matches.front.mode) ∙ off in
             let settled : would_lose_acknowledged r.last ≡ false = or_from (is_backed r.last.mode) (is_broken_off r.last.lost) unbacked calm in
             record {
               slot = here.slot;
               image = here.image;
               found = ap (λ (s : Setup). restored s.shape.lines bytes) answered.setup ∙ here.found;
-              holds = omega (arith, r.stands.matches.persisted, here.holds_all settled);
+              holds = omega (arith, r.stands.matches.front.persisted, here.holds_all settled);
             };
       }
 
@@ -123,15 +123,15 @@ module _ {K : Type 0} (L : Ghosts K) where
         spared = spared;
       } in
       let stays = next.2.happens.honest now (subst (λ (s : Setup). IsBacked s r.last mid.gauge) (sym answered.setup) backed) in
-      let is : lost ≡ loss.Saved (made_of false r.last).generation (made_of false r.last).count = stays.saves (ap is_backed (sym r.stands.matches.mode) ∙ on) in
+      let is : lost ≡ loss.Saved (made_of false r.last).generation (made_of false r.last).count = stays.saves (ap is_backed (sym r.stands.matches.front.mode) ∙ on) in
       let order : DrainOrder = next.2.happens.step.0 in
       let step : SavesAll order (setup_of L mid.it) (made_of false r.last).generation (made_of false r.last).count middle last =
       subst (λ (l : Loss). LoseStep order (setup_of L mid.it) l middle last) is next.2.happens.step.1 in
-      let generation : (made_of false r.last).generation ≡ mid.it.saves.newest.generation + 1 = ap (λ (g : ℕ). g + 1) (sym r.stands.matches.knows.generation) in
+      let generation : (made_of false r.last).generation ≡ mid.it.front.saves.newest.generation + 1 = ap (λ (g : ℕ). g + 1) (sym r.stands.matches.front.knows.generation) in
       record {
-        answered = is ∙ ap (λ (g : ℕ). loss.Saved g (made_of false r.last).count) generation ∙ ap (loss.Saved (mid.it.saves.newest.generation + 1)) (sym r.stands.matches.accepted);
+        answered = is ∙ ap (λ (g : ℕ). loss.Saved g (made_of false r.last).count) generation ∙ ap (loss.Saved (mid.it.front.saves.newest.generation + 1)) (sym r.stands.matches.front.accepted);
         restores = λ bytes left.
-            subst (λ (s : Setup). HoldsAll mid.it.accepted (restored s.shape.lines bytes)) (sym call.setup)
-            (finds_all order (setup_of L mid.it) (made_of false r.last).generation (made_of false r.last).count mid.it.accepted middle last step r.stands.matches.accepted
+            subst (λ (s : Setup). HoldsAll mid.it.front.accepted (restored s.shape.lines bytes)) (sym call.setup)
+            (finds_all order (setup_of L mid.it) (made_of false r.last).generation (made_of false r.last).count mid.it.front.accepted middle last step r.stands.matches.front.accepted
             (restored (setup_of L mid.it).shape.lines bytes) (next.2.happens.at_end bytes left).among);
       }

@@ -12,6 +12,8 @@ pub mod ClosingSteps
 pub mod ClosingStores
 pub mod ClosingSaves
 pub mod Emptied
+pub mod ToldFronts
+pub mod SteppedChannels
 pub mod Covering
 pub mod LossSteps
 pub mod LostModules

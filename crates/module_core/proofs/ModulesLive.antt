@@ -115,7 +115,7 @@ module _ {K : Type 0} (L : Ghosts K) where
   opened_on : (found : Head) (image : Image) (it : Module K L) (device : DeviceState) → ModuleStands L it device (opened_with found image)
       → StopsWithin (λ bytes. restored (lines_of_module L it) bytes ≡ Found found.newest.slot image) (present device)
   opened_on found image it device stands bytes left =
-      found_only found.newest.slot image (restored (lines_of_module L it) bytes) (stop_now (lines_of_module L it) (opened_with found image).store it.saves.saving device stands.holds bytes left)
+      found_only found.newest.slot image (restored (lines_of_module L it) bytes) (stop_now (lines_of_module L it) (opened_with found image).store it.front.saves.saving device stands.holds bytes left)
 
   pub lives_after : LivesEndAfterEvents L
   lives_after found image events replies old new answered bytes left =

@@ -68,56 +68,58 @@ module _ {K : Type 0} (L : Ghosts K) where
     stands = stands;
     run = record { may = charged_only (world_of L (assembly it device gauge) m) charged rises; is = refl };
     left = λ bytes left.
-        left_after m stands.guarded (restored (lines_of_module L it) bytes) (stop_now (lines_of_module L it) m.store it.saves.saving device stands.holds bytes left);
+        left_after m stands.guarded (restored (lines_of_module L it) bytes) (stop_now (lines_of_module L it) m.store it.front.saves.saving device stands.holds bytes left);
   }
 
   -- a cut moves no more than the cut of the machine
-  cut_matches : (old new : Module K L) (m : Machine) → IsCut L old new → Matches L old m → Matches L new (record m { cut = new.terms.cut })
+  cut_matches : (old new : Module K L) (m : Machine) → IsCut L old new → Matches L old m → Matches L new (record m { cut = new.front.terms.cut })
   cut_matches old new m cut h = record {
-    mode = cut.mode ∙ h.mode;
-    reading = cut.reading ∙ h.reading;
-    start = ap (λ (t : LifeTerms). t.start) cut.terms ∙ h.start;
-    cut = refl;
-    accepted = cut.accepted ∙ h.accepted;
-    persisted = cut.persisted ∙ h.persisted;
-    knows = subst (λ (s : Saves). Knows s.newest s.closed s.unsettled m.store) (sym cut.saves) h.knows;
-    saving = subst (λ (s : Saves). AreSameSave m.store.saving s.saving) (sym cut.saves) h.saving;
+    front = record {
+      mode = cut.mode ∙ h.front.mode;
+      reading = cut.reading ∙ h.front.reading;
+      start = ap (λ (t : LifeTerms). t.start) cut.terms ∙ h.front.start;
+      cut = refl;
+      accepted = cut.accepted ∙ h.front.accepted;
+      persisted = cut.persisted ∙ h.front.persisted;
+      knows = subst (λ (s : Saves). Knows s.newest s.closed s.unsettled m.store) (sym cut.saves) h.front.knows;
+      saving = subst (λ (s : Saves). AreSameSave m.store.saving s.saving) (sym cut.saves) h.front.saving;
+    };
     memory = subst (λ (c : ChannelSet K L). IsMemory (shape_of L c).lines (memory_of m)) (sym cut.channels) h.memory;
-    carried = subst (λ (c : ChannelSet K L). IsCarried L c (record m { cut = new.terms.cut })) (sym cut.channels)
+    carried = subst (λ (c : ChannelSet K L). IsCarried L c (record m { cut = new.front.terms.cut })) (sym cut.channels)
         (record { carries = h.carried.carries; waits = h.carried.waits; hold = h.carried.hold; held = h.carried.held });
   }
 
-  may_cut : (old new : Module K L) (device : DeviceState) (m : Machine) → IsCut L old new → ModuleStands L old device m → MayCut m new.terms.cut
+  may_cut : (old new : Module K L) (device : DeviceState) (m : Machine) → IsCut L old new → ModuleStands L old device m → MayCut m new.front.terms.cut
   may_cut old new device m cut s = record {
-    rises = omega (arith, s.matches.cut, cut.rises);
-    most = λ less. let most : new.terms.cut ≤ old.saved = cut.most (omega (arith, s.matches.cut, less)) in omega (arith, most, s.saved);
+    rises = omega (arith, s.matches.front.cut, cut.rises);
+    most = λ less. let most : new.front.terms.cut ≤ old.front.saved = cut.most (omega (arith, s.matches.front.cut, less)) in omega (arith, most, s.saved);
   }
 
-  pub cut_stands : (old new : Module K L) (device : DeviceState) (m : Machine) → IsCut L old new → ModuleStands L old device m → ModuleStands L new device (record m { cut = new.terms.cut })
+  pub cut_stands : (old new : Module K L) (device : DeviceState) (m : Machine) → IsCut L old new → ModuleStands L old device m → ModuleStands L new device (record m { cut = new.front.terms.cut })
   cut_stands old new device m cut s = record {
     matches = cut_matches old new m cut s.matches;
-    holds = subst (λ (c : ChannelSet K L). Holds (shape_of L c).lines m.store new.saves.saving device) (sym cut.channels)
+    holds = subst (λ (c : ChannelSet K L). Holds (shape_of L c).lines m.store new.front.saves.saving device) (sym cut.channels)
         (subst (λ (x : Saves). Holds (lines_of_module L old) m.store x.saving device) (sym cut.saves) s.holds);
-    guarded = guarded_cut m new.terms.cut (may_cut old new device m cut s) s.guarded;
+    guarded = guarded_cut m new.front.terms.cut (may_cut old new device m cut s) s.guarded;
     saved = cut.saved ∙ s.saved;
   }
 
   pub cut_rests : (old new : Module K L) (device : DeviceState) (gauge : Gauge) (m : Machine) → IsCut L old new → ModuleStands L old device m
-      → RestsAt (point_of L (assembly old device gauge) m) (point_of L (assembly new device gauge) (record m { cut = new.terms.cut }))
+      → RestsAt (point_of L (assembly old device gauge) m) (point_of L (assembly new device gauge) (record m { cut = new.front.terms.cut }))
   cut_rests old new device gauge m cut stands = record {
     may = record { gauge = rises_none gauge; cut = may_cut old new device m cut stands };
-    is = ap (λ (c : ChannelSet K L). record { channels = c; world = record { machine = record m { cut = new.terms.cut }; device = device; gauge = gauge } }) cut.channels;
+    is = ap (λ (c : ChannelSet K L). record { channels = c; world = record { machine = record m { cut = new.front.terms.cut }; device = device; gauge = gauge } }) cut.channels;
   }
 
   -- no event, while the stored writes are cut
   pub cut_answered : (old new : Module K L) (device : DeviceState) (gauge : Gauge) → IsCut L old new → AnswersAll L [] [] (assembly old device gauge) (assembly new device gauge)
   cut_answered old new device gauge cut m stands =
-      let n : Machine = record m { cut = new.terms.cut } in let after = cut_stands old new device m cut stands in record {
+      let n : Machine = record m { cut = new.front.terms.cut } in let after = cut_stands old new device m cut stands in record {
         last = n;
         stands = after;
         run = cut_rests old new device gauge m cut stands;
         left = λ bytes left.
-            left_after n after.guarded (restored (lines_of_module L old) bytes) (stop_now (lines_of_module L old) m.store old.saves.saving device stands.holds bytes left);
+            left_after n after.guarded (restored (lines_of_module L old) bytes) (stop_now (lines_of_module L old) m.store old.front.saves.saving device stands.holds bytes left);
       }
 
   -- one event more

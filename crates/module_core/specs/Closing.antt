@@ -20,7 +20,7 @@ use Rattle.energy_budget.specs.Gauge.{Gauge, PaysCost}
 use Rattle.channel_port.specs.declared.port.ChannelPort.{Ghosts}
 use Rattle.channel_port.specs.Shape.{Shape}
 use Rattle.channel_set.specs.Set.{ChannelsView, shape_of, view_of}
-use Rattle.channel_set.specs.Carrying.{CarriesAll}
+use Rattle.channel_set.specs.Carrying.{CarriesAll, KeepsAll}
 use Rattle.channel_set.specs.Draining.{DrainsAll}
 use Rattle.line_memory.specs.declared.Write.{Write}
 use Rattle.line_memory.specs.Memory.{after}
@@ -35,7 +35,7 @@ use Rattle.nv_machine.specs.Moves.{broken_off, saved_in, after_steps}
 use Rattle.module_core.specs.Device.{Holds}
 use Rattle.module_core.specs.Saving.{Knows}
 use Rattle.module_core.specs.Saves.{ReachesStore}
-use Rattle.module_core.specs.Stands.{Assembly, SameButSaves, lines_of_module}
+use Rattle.module_core.specs.Stands.{Assembly, lines_of_module}
 
 -- what is paid for a step of a save
 abbrev pub action_of : Step → Action
@@ -151,20 +151,20 @@ ClosesChannels order s made finish old new =
 
 module _ {K : Type 0} {L : Ghosts K} where
   abbrev pub closing_at : Assembly L → ClosingAt
-  closing_at a = record { channels = view_of L a.it.channels; at = saves_at a.it.saves a.device a.gauge }
+  closing_at a = record { channels = view_of L a.it.channels; at = saves_at a.it.front.saves a.device a.gauge }
 
   -- whichever store the device held, where a save of what the channels carry was begun over it
   abbrev pub ClosesModule : DrainOrder → Finish → Assembly L → Assembly L → Type 0
   ClosesModule order finish old new =
-      (s : Store) (made : Image) (base : List (List ℕ)) (start : ℕ) (writes : List Write) → IsReadyToClose (lines_of_module L old.it) s made old.it.saves old.device
+      (s : Store) (made : Image) (base : List (List ℕ)) (start : ℕ) (writes : List Write) → IsReadyToClose (lines_of_module L old.it) s made old.it.front.saves old.device
       → CarriesAll L old.it.channels base start writes → after base writes ≡ made.memory
       → ClosesChannels order s made finish (closing_at old) (closing_at new)
 
   -- The channels were drained in this order, or a payment was refused.
   pub record HasDrained (order : DrainOrder) (drained : Paid) (old new : Assembly L) : Type 0 where
     pub drains : DrainsAll order (view_of L old.it.channels) old.gauge drained (view_of L new.it.channels) new.gauge
-    pub same : SameButSaves L old.it new.it
-    pub saves : new.it.saves ≡ old.it.saves
+    pub front : new.it.front ≡ old.it.front
+    pub keeps : KeepsAll L old.it.channels new.it.channels
     pub device : new.device ≡ old.device
 
   -- whichever module the drains began with

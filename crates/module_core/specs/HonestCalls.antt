@@ -61,19 +61,19 @@ module _ {K : Type 0} (L : Ghosts K) where
   pub record StaysHonest (replies : List Reply) (now : Assembly L) : Type 0 where
     pub backed : IsBackedNow now
     pub losses : All IsWholeLoss replies
-    pub kept : is_backed now.it.mode ≡ false → RestoresTo (HoldsUpTo now.it.persisted) now
+    pub kept : is_backed now.it.front.mode ≡ false → RestoresTo (HoldsUpTo now.it.front.persisted) now
 
   -- The loss of mains was answered by a save of all accepted writes, which a restore finds.
   pub record SavesAllNow (lost : Loss) (old new : Assembly L) : Type 0 where
-    pub answered : lost ≡ loss.Saved (old.it.saves.newest.generation + 1) old.it.accepted
-    pub restores : RestoresTo (HoldsAll old.it.accepted) new
+    pub answered : lost ≡ loss.Saved (old.it.front.saves.newest.generation + 1) old.it.front.accepted
+    pub restores : RestoresTo (HoldsAll old.it.front.accepted) new
 
   -- Where neither has counted a fault since the beginning of the life, a loss of mains saves all while acknowledged writes are
   -- to be saved.
   abbrev pub SavesWhereHonest : Loss → Assembly L → Assembly L → Type 0
   SavesWhereHonest lost old new =
       (found : Head) (image : Image) (before : List Event) (told : List Reply) (first : Assembly L) → HasAnswered L found image before told first old
-      → IsFaultless first new → is_backed old.it.mode ≡ true → SavesAllNow lost old new
+      → IsFaultless first new → is_backed old.it.front.mode ≡ true → SavesAllNow lost old new
 
   -- the same of calls in turn: what was so far, and what they answer, stays honest
   abbrev pub StaysWhereHonest : List Reply → Assembly L → Assembly L → Type 0

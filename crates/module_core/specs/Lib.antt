@@ -2,8 +2,10 @@
 pub mod Device
 pub mod Saving
 pub mod Saves
--- which machine a module stands for, and what each of its calls answers
+-- which machine a front stands for, and a module; and what each of its calls answers
+pub mod Fronts
 pub mod Stands
+pub mod Parts
 pub mod Cutting
 pub mod Opening
 pub mod Stepping

@@ -46,11 +46,11 @@ module _ {K : Type 0} (L : Ghosts K) where
 
   -- Mains were lost while the module was backed. The gauge was read once, and a save of all accepted writes begun.
   pub record BeginsLoss (old new : Assembly L) : Type 0 where
-    pub backed : is_backed old.it.mode ≡ true
+    pub backed : is_backed old.it.front.mode ≡ true
     pub reading : ℕ
     pub reads : ReadsLevel Tick old.gauge reading new.gauge
     pub ends : EndsMains L reading old.it new.it
-    pub begins : BeginsSave old.it.saves old.it.accepted false (lines_of_module L old.it) new.it.saves
+    pub begins : BeginsSave old.it.front.saves old.it.front.accepted false (lines_of_module L old.it) new.it.front.saves
     pub cost : (numbers : CostNumbers) → cost_of_drains L new.it.channels numbers ≡ cost_of_drains L old.it.channels numbers
     pub device : new.device ≡ old.device
 

@@ -26,9 +26,9 @@ use Rattle.nv_machine.specs.State.{Setup, Machine, World, start_of_life, base_of
 use Rattle.nv_machine.specs.Machine.{TakesReading}
 use Rattle.nv_machine.specs.Guard.{IsGuarded}
 use Rattle.nv_machine.specs.Headline.{RecoversAfterwards, Happens, MayPause, Pause, RunOf, pause_at, paused}
-use Rattle.module_core.specs.Saving.{Knows, AreSameSave}
 use Rattle.module_core.specs.Saves.{StoreMoves}
 use Rattle.module_core.specs.Device.{Holds}
+use Rattle.module_core.specs.Fronts.{FrontMatches, SameNumbers, setup_in}
 
 -- the hold before this step: it ends behind the last page
 abbrev pub hold_behind : Option Step → Option ℕ → Option ℕ
@@ -65,7 +65,7 @@ saved_after reply saved = saved
 
 module _ {K : Type 0} (L : Ghosts K) where
   abbrev pub setup_of : Module K L → Setup
-  setup_of it = record { shape = shape_of L it.channels; trail = it.terms.trail }
+  setup_of it = setup_in (shape_of L it.channels) it.front
 
   abbrev pub lines_of_module : Module K L → ℕ
   lines_of_module it = (shape_of L it.channels).lines
@@ -88,81 +88,56 @@ module _ {K : Type 0} (L : Ghosts K) where
     pub is : view_of L new ≡ record (view_of L old) { hold = None; waits = record (view_of L old).waits { reads = [] } }
     pub keeps : KeepsAll L old new
 
-  -- of a life's numbers none has changed
-  pub record SameNumbers (old new : Module K L) : Type 0 where
-    pub terms : new.terms ≡ old.terms
-    pub accepted : new.accepted ≡ old.accepted
-    pub persisted : new.persisted ≡ old.persisted
-
   -- No cut was made, and the newest image holds as many writes as the reply tells, or as before.
   pub record KeepsStored (reply : Reply) (old new : Module K L) : Type 0 where
-    pub cut : new.terms.cut ≡ old.terms.cut
-    pub saved : new.saved ≡ saved_after reply old.saved
+    pub cut : new.front.terms.cut ≡ old.front.terms.cut
+    pub saved : new.front.saved ≡ saved_after reply old.front.saved
 
   -- Nothing but the cut has changed: it stays, or moves forward to at most the end of the newest image.
   pub record IsCut (old new : Module K L) : Type 0 where
-    pub terms : new.terms ≡ record old.terms { cut = new.terms.cut }
-    pub rises : old.terms.cut ≤ new.terms.cut
-    pub most : old.terms.cut < new.terms.cut → new.terms.cut ≤ old.saved
-    pub accepted : new.accepted ≡ old.accepted
-    pub persisted : new.persisted ≡ old.persisted
-    pub saved : new.saved ≡ old.saved
-    pub mode : new.mode ≡ old.mode
-    pub reading : new.reading ≡ old.reading
-    pub saves : new.saves ≡ old.saves
+    pub terms : new.front.terms ≡ record old.front.terms { cut = new.front.terms.cut }
+    pub rises : old.front.terms.cut ≤ new.front.terms.cut
+    pub most : old.front.terms.cut < new.front.terms.cut → new.front.terms.cut ≤ old.front.saved
+    pub accepted : new.front.accepted ≡ old.front.accepted
+    pub persisted : new.front.persisted ≡ old.front.persisted
+    pub saved : new.front.saved ≡ old.front.saved
+    pub mode : new.front.mode ≡ old.front.mode
+    pub reading : new.front.reading ≡ old.front.reading
+    pub saves : new.front.saves ≡ old.front.saves
     pub channels : new.channels ≡ old.channels
 
   -- nothing but the hold has changed, which ends behind the last page
   pub record SameButHold (old new : Module K L) : Type 0 where
-    pub numbers : SameNumbers old new
-    pub saved : new.saved ≡ old.saved
-    pub mode : new.mode ≡ old.mode
-    pub reading : new.reading ≡ old.reading
-    pub saves : new.saves ≡ old.saves
-    pub channels : ChangesHold (hold_behind (option_map next_of old.saves.saving) (view_of L old.channels).hold) old.channels new.channels
+    pub front : new.front ≡ old.front
+    pub channels : ChangesHold (hold_behind (option_map next_of old.front.saves.saving) (view_of L old.channels).hold) old.channels new.channels
 
   -- Mains were lost, after this reading: no hold lasts and all reads are lost, and nothing else but the saves has changed.
   pub record EndsMains (reading : ℕ) (old new : Module K L) : Type 0 where
-    pub numbers : SameNumbers old new
-    pub saved : new.saved ≡ old.saved
-    pub shown : new.reading ≡ reading
-    pub mode : new.mode ≡ modes.Closing
+    pub numbers : SameNumbers old.front new.front
+    pub saved : new.front.saved ≡ old.front.saved
+    pub shown : new.front.reading ≡ reading
+    pub mode : new.front.mode ≡ modes.Closing
     pub channels : EndsHoldAndReads old.channels new.channels
-
-  -- nothing but the saves and what waits has changed
-  pub record SameButSaves (old new : Module K L) : Type 0 where
-    pub numbers : SameNumbers old new
-    pub saved : new.saved ≡ old.saved
-    pub reading : new.reading ≡ old.reading
-    pub mode : new.mode ≡ old.mode
-    pub keeps : KeepsAll L old.channels new.channels
 
   -- the module, apart from the device
   pub record Matches (it : Module K L) (m : Machine) : Type 0 where
-    pub mode : it.mode ≡ m.mode
-    pub reading : it.reading ≡ m.reading
-    pub start : it.terms.start ≡ start_of_life m.life
-    pub cut : it.terms.cut ≡ m.cut
-    pub accepted : it.accepted ≡ all_of m
-    pub persisted : it.persisted ≡ m.life.persisted
-    pub knows : Knows it.saves.newest it.saves.closed it.saves.unsettled m.store
-    pub saving : AreSameSave m.store.saving it.saves.saving
+    pub front : FrontMatches it.front m
     pub memory : IsMemory (lines_of_module it) (memory_of m)
     pub carried : IsCarried it.channels m
 
   -- the module and its device
   pub record ModuleStands (it : Module K L) (device : DeviceState) (m : Machine) : Type 0 where
     pub matches : Matches it m
-    pub holds : Holds (lines_of_module it) m.store it.saves.saving device
+    pub holds : Holds (lines_of_module it) m.store it.front.saves.saving device
     pub guarded : IsGuarded m
-    pub saved : it.saved ≡ (newest_of m).count
+    pub saved : it.front.saved ≡ (newest_of m).count
 
   -- The machine went on by this step to one that the module stands for. The device wasn't called.
   pub record MovesOn (Step : Machine → Machine → Type 0) (old new : Module K L) (m : Machine) : Type 0 where
     pub later : Machine
     pub step : Step m later
     pub matches : Matches new later
-    pub moves : StoreMoves (lines_of_module old) m.store old.saves later.store new.saves
+    pub moves : StoreMoves (lines_of_module old) m.store old.front.saves later.store new.front.saves
 
   -- whichever machine the module stood for goes on by it
   abbrev pub Follows : (Machine → Machine → Type 0) → Module K L → Module K L → Type 0

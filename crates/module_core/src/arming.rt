@@ -27,23 +27,23 @@ impl<K: ChannelPort> Module<K> {
         ensures setup { setup_of K.ChannelPort self.new ≡ setup_of K.ChannelPort self.old }
         ensures size { HasDevice K.ChannelPort self.new (D.state device.new) }
     {
-        if self.mode.is_armed() {
+        if self.front.mode.is_armed() {
             return Ok(ArmReply::AlreadyArmed);
         }
-        if let Some(refusal) = self.mode.arm_refusal(self.save_state()) {
+        if let Some(refusal) = self.front.mode.arm_refusal(self.save_state()) {
             return Err(refusal);
         }
-        self.reading = energy.sense();
+        self.front.reading = energy.sense();
         let need = self.need_for(self.channels.pending());
-        if let Some(refusal) = energy_refusal(need, self.reading) {
+        if let Some(refusal) = energy_refusal(need, self.front.reading) {
             return Err(refusal);
         }
-        let Ok(()) = mark_armed(device, self.saves.newest.slot) else {
-            self.saves.unsettled = true;
+        let Ok(()) = mark_armed(device, self.front.saves.newest.slot) else {
+            self.front.saves.unsettled = true;
             return Err(ArmRefusal::Device);
         };
-        self.persisted = self.accepted;
-        self.mode = Mode::Armed;
+        self.front.persisted = self.front.accepted;
+        self.front.mode = Mode::Armed;
         Ok(ArmReply::Armed)
     }
 }

@@ -12,33 +12,33 @@ impl<K: ChannelPort> Module<K> {
     /// of the first stored write has changed, and what a restore finds is the same.
     pub fn cut(&mut self) -> u64
         ensures cuts { IsCut K.ChannelPort self.old self.new }
-        ensures to { self.new.terms.cut ≡ self.old.saved }
-        ensures gone { self.new.terms.cut ≡ self.old.terms.cut + result }
+        ensures to { self.new.front.terms.cut ≡ self.old.front.saved }
+        ensures gone { self.new.front.terms.cut ≡ self.old.front.terms.cut + result }
         ensures setup { setup_of K.ChannelPort self.new ≡ setup_of K.ChannelPort self.old }
     {
-        let gone = self.saved - self.terms.cut;
-        self.terms.cut = self.saved;
+        let gone = self.front.saved - self.front.terms.cut;
+        self.front.terms.cut = self.front.saved;
         gone
     }
 
     /// How many writes the newest image holds that is known settled.
     pub fn saved(&self) -> u64
-        ensures { result ≡ self.now.saved }
+        ensures { result ≡ self.now.front.saved }
     {
-        self.saved
+        self.front.saved
     }
 
     /// The number of the life's first write.
     pub fn start(&self) -> u64
-        ensures { result ≡ self.now.terms.start }
+        ensures { result ≡ self.now.front.terms.start }
     {
-        self.terms.start
+        self.front.terms.start
     }
 
     /// The number of the first write that is stored.
     pub fn stored_from(&self) -> u64
-        ensures { result ≡ self.now.terms.cut }
+        ensures { result ≡ self.now.front.terms.cut }
     {
-        self.terms.cut
+        self.front.terms.cut
     }
 }

@@ -7,19 +7,23 @@
 mod arming;
 mod closing;
 mod cutting;
+mod front;
 mod laws;
 mod losing;
 mod marks;
 mod module;
 mod opening;
+mod parts;
 mod running;
 mod saves;
 mod stepping;
 mod telling;
 mod turns;
 
+pub use front::Front;
 pub use laws::{marks_rise, modules_live};
 pub use module::Module;
 pub use opening::LifeTerms;
+pub use parts::TakenApart;
 pub use saves::Saves;
 pub use turns::{calls_in_turn, honest_modules};

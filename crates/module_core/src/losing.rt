@@ -1,6 +1,7 @@
 // The loss of mains.
 ghost use Rattle.std.specs.Prelude.{◌≡◌, ◌≤◌, ◌^◌, [], false, true, None, Ok, IfNone, IfSome, OnOk};
 ghost use Rattle.energy_budget.specs.declared.costs.CostNumbers.{CostNumbers};
+ghost use Rattle.channel_set.specs.Carrying.{KeepsAll};
 ghost use Rattle.channel_set.specs.Draining.{cost_of_drains};
 ghost use Rattle.arm_state.specs.Modes.{has_ended};
 ghost use Rattle.save_device.specs.Device.{DeviceState};
@@ -25,34 +26,35 @@ impl<K: ChannelPort> Module<K> {
     // Ends all work on mains; a save that runs is given up.
     fn end_mains(&mut self)
         requires { AreAt K.ChannelPort OnMains self.old.channels }
-        ensures ends { EndsMains K.ChannelPort self.old.reading self.old self.new }
-        ensures none { self.new.saves.saving ≡ None }
-        ensures newest { self.new.saves.newest ≡ self.old.saves.newest }
-        ensures closed { self.new.saves.closed ≡ self.old.saves.closed }
-        ensures unsettled { self.new.saves.unsettled ≡ self.old.saves.unsettled }
+        ensures ends { EndsMains K.ChannelPort self.old.front.reading self.old self.new }
+        ensures none { self.new.front.saves.saving ≡ None }
+        ensures newest { self.new.front.saves.newest ≡ self.old.front.saves.newest }
+        ensures closed { self.new.front.saves.closed ≡ self.old.front.saves.closed }
+        ensures unsettled { self.new.front.saves.unsettled ≡ self.old.front.saves.unsettled }
     {
-        self.mode = Mode::Closing;
-        self.saves.saving = None;
+        self.front.mode = Mode::Closing;
+        self.front.saves.saving = None;
         self.channels.hold(None);
         self.channels.lose_mains();
     }
 
     // The same after a reading, and begins the save of all accepted writes.
     fn begin_closing(&mut self, reading: u64)
-        requires generation { self.old.saves.newest.generation ≤ 2 ^ 62 }
+        requires generation { self.old.front.saves.newest.generation ≤ 2 ^ 62 }
         requires mains { AreAt K.ChannelPort OnMains self.old.channels }
         ensures ends { EndsMains K.ChannelPort reading self.old self.new }
-        ensures begins { BeginsSave self.old.saves self.old.accepted false
-            (shape_of K.ChannelPort self.old.channels).lines self.new.saves }
+        ensures begins { BeginsSave self.old.front.saves self.old.front.accepted false
+            (shape_of K.ChannelPort self.old.channels).lines self.new.front.saves }
         ensures cost { (numbers : CostNumbers)
             → cost_of_drains K.ChannelPort self.new.channels numbers
             ≡ cost_of_drains K.ChannelPort self.old.channels numbers }
         ensures backup { AreAt K.ChannelPort OnBackup self.new.channels }
     {
-        self.reading = reading;
-        self.mode = Mode::Closing;
-        self.saves
-            .begin(self.accepted, false, self.channels.lines());
+        self.front.reading = reading;
+        self.front.mode = Mode::Closing;
+        self.front
+            .saves
+            .begin(self.front.accepted, false, self.channels.lines());
         self.channels.hold(None);
         self.channels.lose_mains();
     }
@@ -61,28 +63,29 @@ impl<K: ChannelPort> Module<K> {
 impl<K: ChannelPort> Module<K> {
     ghost use Rattle.module_core.specs.Closing.{ClosesDrained};
     ghost use Rattle.module_core.specs.Losing.{BeginsLoss, ConcludesLoss, LosesAlone};
-    ghost use Rattle.module_core.specs.Stands.{HasDevice, SameButSaves, saved_after, setup_of, assembly};
+    ghost use Rattle.module_core.specs.Fronts.{SameButSaves};
+    ghost use Rattle.module_core.specs.Stands.{HasDevice, saved_after, setup_of, assembly};
 
     // The beginning of a loss of mains: what it comes to where nothing is to be saved; else a save of all accepted writes is begun.
     fn begin_loss<E: Energy>(&mut self, energy: &mut E) -> Option<Loss>
-        ensures saved { self.new.saved ≡ self.old.saved }
-        ensures terms { self.new.terms ≡ self.old.terms }
-        ensures unsaved { IfSome result (λ lost. saved_after (Reply.Lose lost) self.old.saved
-            ≡ self.old.saved) }
+        ensures saved { self.new.front.saved ≡ self.old.front.saved }
+        ensures terms { self.new.front.terms ≡ self.old.front.terms }
+        ensures unsaved { IfSome result (λ lost. saved_after (Reply.Lose lost) self.old.front.saved
+            ≡ self.old.front.saved) }
         ensures over { IfSome result (λ lost. LosesAlone K.ChannelPort lost
             self.old (E.gauge energy.old) self.new (E.gauge energy.new)) }
         ensures begins { IfNone result ((device : DeviceState) → BeginsLoss K.ChannelPort
             (assembly self.old device (E.gauge energy.old))
             (assembly self.new device (E.gauge energy.new))) }
-        ensures ended { IfNone result (has_ended self.new.mode ≡ true) }
+        ensures ended { IfNone result (has_ended self.new.front.mode ≡ true) }
         ensures backup { IfNone result (AreAt K.ChannelPort OnBackup self.new.channels) }
         ensures lost { IfNone result ((view_of K.ChannelPort self.new.channels).waits.reads ≡ []) }
         ensures setup { setup_of K.ChannelPort self.new ≡ setup_of K.ChannelPort self.old }
     {
-        if self.mode.has_ended() {
+        if self.front.mode.has_ended() {
             return Some(Loss::Closed);
         }
-        if !self.mode.is_backed() {
+        if !self.front.mode.is_backed() {
             self.end_mains();
             return Some(Loss::Unsaved);
         }
@@ -97,22 +100,23 @@ impl<K: ChannelPort> Module<K> {
         device: &mut D,
         energy: &mut E,
     ) -> Result<(), BrokenOff>
-        requires ended { has_ended self.old.mode ≡ true }
+        requires ended { has_ended self.old.front.mode ≡ true }
         requires size { HasDevice K.ChannelPort self.old (D.state device.old) }
         ensures closes { ClosesDrained drained result
             (assembly self.old (D.state device.old) (E.gauge energy.old))
             (assembly self.new (D.state device.new) (E.gauge energy.new)) }
         ensures paid { OnOk result (drained ≡ Ok tt) }
-        ensures none { self.new.saves.saving ≡ None }
-        ensures same { SameButSaves K.ChannelPort self.old self.new }
+        ensures none { self.new.front.saves.saving ≡ None }
+        ensures same { SameButSaves self.old.front self.new.front }
+        ensures keeps { KeepsAll K.ChannelPort self.old.channels self.new.channels }
         ensures setup { setup_of K.ChannelPort self.new ≡ setup_of K.ChannelPort self.old }
         ensures size { HasDevice K.ChannelPort self.new (D.state device.new) }
     {
         if drained.is_err() {
-            self.saves.saving = None;
+            self.front.saves.saving = None;
             return Err(BrokenOff::Refused);
         }
-        self.saves.finish(&self.channels, device, energy)
+        self.front.saves.finish(&self.channels, device, energy)
     }
 
     // What a loss that was begun comes to, behind the drains of its channels.
@@ -122,22 +126,22 @@ impl<K: ChannelPort> Module<K> {
         device: &mut D,
         energy: &mut E,
     ) -> Loss
-        requires ended { has_ended self.old.mode ≡ true }
+        requires ended { has_ended self.old.front.mode ≡ true }
         requires size { HasDevice K.ChannelPort self.old (D.state device.old) }
         ensures concludes { ConcludesLoss K.ChannelPort drained result
             (assembly self.old (D.state device.old) (E.gauge energy.old))
             (assembly self.new (D.state device.new) (E.gauge energy.new)) }
-        ensures saved { self.new.saved ≡ saved_after (Reply.Lose result) self.old.saved }
-        ensures terms { self.new.terms ≡ self.old.terms }
+        ensures saved { self.new.front.saved ≡ saved_after (Reply.Lose result) self.old.front.saved }
+        ensures terms { self.new.front.terms ≡ self.old.front.terms }
         ensures size { HasDevice K.ChannelPort self.new (D.state device.new) }
     {
         match self.close(drained, device, energy) {
             Ok(()) => {
-                self.mode = Mode::Saved;
-                self.saved = self.accepted;
+                self.front.mode = Mode::Saved;
+                self.front.saved = self.front.accepted;
                 Loss::Saved {
-                    generation: self.saves.newest.generation,
-                    count: self.accepted,
+                    generation: self.front.saves.newest.generation,
+                    count: self.front.accepted,
                 }
             }
             Err(BrokenOff::Refused) => Loss::Dark,

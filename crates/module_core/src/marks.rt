@@ -9,17 +9,17 @@ use channel_set::ChannelSet;
 impl<K: ChannelPort> Module<K> {
     /// The number of writes accepted, counted from the first life on.
     pub fn accepted(&self) -> u64
-        ensures is { result ≡ self.now.accepted }
+        ensures is { result ≡ self.now.front.accepted }
         ensures fits { result ≤ 2 ^ 62 }
     {
-        self.accepted
+        self.front.accepted
     }
 
     /// The number of writes that are persistent: those with a smaller number are.
     pub fn mark(&self) -> u64
-        ensures { result ≡ self.now.persisted }
+        ensures { result ≡ self.now.front.persisted }
     {
-        self.persisted
+        self.front.persisted
     }
 
     /// The channels, to be looked at.
@@ -31,8 +31,8 @@ impl<K: ChannelPort> Module<K> {
 
     /// What the module does with writes.
     pub fn mode(&self) -> Mode
-        ensures { result ≡ self.now.mode }
+        ensures { result ≡ self.now.front.mode }
     {
-        self.mode
+        self.front.mode
     }
 }

@@ -1,18 +1,15 @@
 // The module, and its calls that ask nothing of the device.
-ghost use Rattle.std.specs.Prelude.{◌≡◌, ◌==◌, ◌+◌, ◌-◌, ◌<◌, ◌≤◌, ◌^◌, ℕ, true, false, nat_le, None, Some, IfErr, IfOk, if◌then◌else◌};
-ghost use Rattle.std.specs.Option.{ForSome};
-ghost use Rattle.slot_store.specs.Runs.{plan_of};
+ghost use Rattle.std.specs.Prelude.{◌≡◌, ◌==◌, ◌+◌, ◌-◌, ◌<◌, ◌≤◌, ◌^◌, true, false, nat_le, None, Some, IfErr, IfOk};
 ghost use Rattle.save_device.specs.Device.{DeviceState};
-ghost use Rattle.arm_state.specs.Modes.{is_armed, is_backed, has_ended};
+ghost use Rattle.arm_state.specs.Modes.{is_armed, has_ended};
 ghost use Rattle.channel_port.specs.Waits.{AllBelow, reads_on, writes_on};
 ghost use Rattle.channel_port.specs.declared.stage.Stage.TheVariants.{OnMains};
 ghost use Rattle.channel_set.specs.Set.{AreAt, place_in, shape_of, view_of};
 ghost use Rattle.nv_machine.specs.State.{Machine};
-ghost use Rattle.module_core.specs.Saving.{IsOfLines, MakesAtMost, MakesBetween};
+ghost use Rattle.module_core.specs.Saving.{IsOfLines};
 
-use crate::opening::LifeTerms;
-use crate::saves::Saves;
-use arm_state::{ArmRefusal, DisarmReply, Mode, ReadRefusal, SaveState, WriteRefusal};
+use crate::Front;
+use arm_state::{ArmRefusal, DisarmReply, ReadRefusal, SaveState, WriteRefusal};
 use channel_port::{ChannelPort, Collected, Done, Got, Ticket};
 use channel_set::ChannelSet;
 use ddr4_timing::place::Place;
@@ -20,49 +17,20 @@ use energy_budget::Energy;
 use line_memory::Write;
 use nv_machine::{Accepted, Event, Reply};
 
-/// No save is begun over a newest image of this generation or a greater one.
-const SPENT: u64 = 1 << 62;
-
-/// The largest count of an image, and so the number of the first write that no image could hold.
-const MOST_WRITES: u64 = 1 << 62;
-
-/// A life: its channels, how many writes it has accepted, and its saves.
+/// A life: its front and its channels.
 #[derive(Drop)]
 pub struct Module<K: ChannelPort> {
+    pub(crate) front: Front,
     pub(crate) channels: ChannelSet<K>,
-    pub(crate) terms: LifeTerms,
-    /// How many writes were accepted, and how many of them are persistent, counted from the first life on.
-    pub(crate) accepted: u64,
-    pub(crate) persisted: u64,
-    /// How many writes the newest image holds that is known settled.
-    pub(crate) saved: u64,
-    pub(crate) mode: Mode,
-    /// The last reading of the gauge.
-    pub(crate) reading: u64,
-    pub(crate) saves: Saves,
-    ghost from: { terms.start ≤ accepted },
-    ghost stored: { terms.cut ≤ saved },
-    ghost settled: { saved ≤ accepted },
-    ghost making: { MakesBetween saved accepted saves.saving },
-    ghost kept: { accepted ≤ terms.cut + terms.trail },
-    ghost numbers: { accepted ≤ 2 ^ 62 },
-    ghost below: { AllBelow accepted (view_of K.ChannelPort channels).waits.writes },
-    ghost mains: { has_ended mode ≡ false → AreAt K.ChannelPort OnMains channels },
-    ghost unspent: { is_backed mode ≡ true → saves.newest.generation ≤ 2 ^ 62 },
-    ghost running: { IsOfLines (shape_of K.ChannelPort channels).lines saves.saving },
-    ghost most: { is_armed mode ≡ true → MakesAtMost (2 ^ 62) saves.saving },
-}
-
-// How many writes are persistent after one more was accepted.
-fn persisted_after_write(mode: Mode, persisted: u64, accepted: u64) -> u64
-    ensures { result ≡ (if is_armed mode then accepted else persisted) }
-{
-    if mode.is_armed() { accepted } else { persisted }
+    ghost below: { AllBelow front.accepted (view_of K.ChannelPort channels).waits.writes },
+    ghost mains: { has_ended front.mode ≡ false → AreAt K.ChannelPort OnMains channels },
+    ghost running: { IsOfLines (shape_of K.ChannelPort channels).lines front.saves.saving },
 }
 
 impl<K: ChannelPort> Module<K> {
     ghost use Rattle.nv_machine.specs.Refusals.{is_low, need_for, saves_of, write_refusal, read_refusal};
     ghost use Rattle.nv_machine.specs.Moves.{begun, disarming};
+    ghost use Rattle.module_core.specs.Fronts.{HasRoom};
     ghost use Rattle.module_core.specs.Stands.{Matches, Follows, FollowsReading, Answers, AnswersAlone, HasChannel, KeepsStored, assembly, lines_of_module, setup_of};
 
     // What the gauge has to show while this many writes wait.
@@ -82,37 +50,21 @@ impl<K: ChannelPort> Module<K> {
         ensures line { IfOk result (λ place. line < lines_of_module K.ChannelPort self.now) }
         ensures place { IfOk result (λ place.
             place ≡ place_in K.ChannelPort self.now.channels line) }
-        ensures running { IfOk result (λ place. has_ended self.now.mode ≡ false) }
+        ensures running { IfOk result (λ place. has_ended self.now.front.mode ≡ false) }
         ensures room { IfOk result (λ place.
             (writes_on place.channel (view_of K.ChannelPort self.now.channels).waits.writes
             == (shape_of K.ChannelPort self.now.channels).depth) ≡ false) }
-        ensures trail { IfOk result (λ place. self.now.accepted
-            < self.now.terms.cut + self.now.terms.trail) }
-        ensures numbers { IfOk result (λ place. self.now.accepted < 2 ^ 62) }
+        ensures numbers { IfOk result (λ place. HasRoom self.now.front) }
     {
         let Some(place) = self.channels.locate(line) else {
             return Err(WriteRefusal::NoSuchLine);
         };
-        if self.mode.has_ended() {
-            return Err(WriteRefusal::Closed);
-        }
-        if self.mode.is_disarming() {
-            return Err(WriteRefusal::Disarming);
-        }
-        if self.accepted - self.terms.cut == self.terms.trail || self.accepted == MOST_WRITES {
-            return Err(WriteRefusal::TrailFull);
-        }
-        if self.channels.is_full(place.channel) {
-            return Err(WriteRefusal::Full);
-        }
+        let is_full = self.channels.is_full(place.channel);
         let need = self.need_for(self.channels.pending() + 1);
-        if self.mode.is_short(self.reading, need) {
-            return Err(WriteRefusal::EnergyLow {
-                need,
-                has: self.reading,
-            });
+        match self.front.write_refusal(is_full, need) {
+            Some(refusal) => Err(refusal),
+            None => Ok(place),
         }
-        Ok(place)
     }
 
     /// Accepts a write, which later reads see; while armed it is persistent at once.
@@ -126,14 +78,8 @@ impl<K: ChannelPort> Module<K> {
             Ok(place) => place,
             Err(refusal) => return Err(refusal),
         };
-        let number = self.accepted;
-        self.channels.put(number, write, place);
-        self.accepted = number + 1;
-        self.persisted = persisted_after_write(self.mode, self.persisted, self.accepted);
-        Ok(Accepted {
-            number,
-            mark: self.persisted,
-        })
+        self.channels.put(self.front.accepted, write, place);
+        Ok(self.front.accept())
     }
 
     // Where a read goes, or why it isn't answered.
@@ -145,7 +91,7 @@ impl<K: ChannelPort> Module<K> {
         ensures line { IfOk result (λ place. line < lines_of_module K.ChannelPort self.now) }
         ensures place { IfOk result (λ place.
             place ≡ place_in K.ChannelPort self.now.channels line) }
-        ensures running { IfOk result (λ place. has_ended self.now.mode ≡ false) }
+        ensures running { IfOk result (λ place. has_ended self.now.front.mode ≡ false) }
         ensures room { IfOk result (λ place.
             (reads_on place.channel (view_of K.ChannelPort self.now.channels).waits.reads
             == (shape_of K.ChannelPort self.now.channels).reads) ≡ false) }
@@ -153,13 +99,11 @@ impl<K: ChannelPort> Module<K> {
         let Some(place) = self.channels.locate(line) else {
             return Err(ReadRefusal::NoSuchLine);
         };
-        if self.mode.has_ended() {
-            return Err(ReadRefusal::Closed);
+        let is_full = self.channels.is_full_of_reads(place.channel);
+        match self.front.read_refusal(is_full) {
+            Some(refusal) => Err(refusal),
+            None => Ok(place),
         }
-        if self.channels.is_full_of_reads(place.channel) {
-            return Err(ReadRefusal::Full);
-        }
-        Ok(place)
     }
 
     /// Reads a line of the memory after all accepted writes, at once or by a ticket.
@@ -170,7 +114,7 @@ impl<K: ChannelPort> Module<K> {
         ensures setup { setup_of K.ChannelPort self.new ≡ setup_of K.ChannelPort self.old }
     {
         match self.admit_read(line) {
-            Ok(place) => Ok(self.channels.get(line, place, self.accepted)),
+            Ok(place) => Ok(self.channels.get(line, place, self.front.accepted)),
             Err(refusal) => Err(refusal),
         }
     }
@@ -193,7 +137,7 @@ impl<K: ChannelPort> Module<K> {
         ensures stored { KeepsStored K.ChannelPort (Reply.Work result) self.old self.new }
         ensures setup { setup_of K.ChannelPort self.new ≡ setup_of K.ChannelPort self.old }
     {
-        if self.mode.has_ended() {
+        if self.front.mode.has_ended() {
             return None;
         }
         self.channels.work(channel)
@@ -201,51 +145,48 @@ impl<K: ChannelPort> Module<K> {
 
     // While armed: the last reading is too low for what waits.
     fn is_low(&self) -> bool
-        ensures armed { result ≡ true → is_armed self.now.mode ≡ true }
+        ensures armed { result ≡ true → is_armed self.now.front.mode ≡ true }
         ensures low { (m : Machine) → Matches K.ChannelPort self.now m
             → result ≡ is_low (setup_of K.ChannelPort self.now) m }
     {
-        let need = self.need_for(self.channels.pending());
-        self.mode.is_short(self.reading, need)
+        self.front.is_low(self.need_for(self.channels.pending()))
     }
 
     // Begins a save of all accepted writes, in place of one that runs.
     fn begin(&mut self)
-        requires generation { self.old.saves.newest.generation ≤ 2 ^ 62 }
-        requires armed { is_armed self.old.mode ≡ true → self.old.saves.newest.generation < 2 ^ 62 }
+        requires generation { self.old.front.saves.newest.generation ≤ 2 ^ 62 }
+        requires armed { is_armed self.old.front.mode ≡ true → self.old.front.saves.newest.generation < 2 ^ 62 }
         ensures step { Follows K.ChannelPort (λ m n. n ≡ begun m) self.old self.new }
-        ensures saved { self.new.saved ≡ self.old.saved }
-        ensures terms { self.new.terms ≡ self.old.terms }
+        ensures saved { self.new.front.saved ≡ self.old.front.saved }
+        ensures terms { self.new.front.terms ≡ self.old.front.terms }
         ensures setup { setup_of K.ChannelPort self.new ≡ setup_of K.ChannelPort self.old }
     {
-        let count = self.accepted;
-        self.saves
-            .begin(count, self.mode.is_armed(), self.channels.lines());
-        self.channels.hold(Some(count));
+        self.front.begin_save(self.channels.lines());
+        self.channels.hold(Some(self.front.accepted));
     }
 
     // Refuses writes until a save of all accepted ones is done.
     fn begin_disarming(&mut self)
-        requires { is_armed self.old.mode ≡ true }
+        requires { is_armed self.old.front.mode ≡ true }
         ensures step { Follows K.ChannelPort (λ m n. n ≡ disarming m) self.old self.new }
-        ensures saved { self.new.saved ≡ self.old.saved }
-        ensures terms { self.new.terms ≡ self.old.terms }
+        ensures saved { self.new.front.saved ≡ self.old.front.saved }
+        ensures terms { self.new.front.terms ≡ self.old.front.terms }
         ensures setup { setup_of K.ChannelPort self.new ≡ setup_of K.ChannelPort self.old }
     {
-        self.mode = Mode::Disarming;
-        self.begin();
+        self.front.begin_disarming(self.channels.lines());
+        self.channels.hold(Some(self.front.accepted));
     }
 
     // Takes a reading; where it is too low while armed the disarming is begun.
     pub(crate) fn take_reading(&mut self, reading: u64) -> bool
         ensures step { FollowsReading K.ChannelPort reading result self.old self.new }
-        ensures saved { self.new.saved ≡ self.old.saved }
-        ensures terms { self.new.terms ≡ self.old.terms }
-        ensures stays { result ≡ false → self.new.saves ≡ self.old.saves }
-        ensures mode { result ≡ false → self.new.mode ≡ self.old.mode }
+        ensures saved { self.new.front.saved ≡ self.old.front.saved }
+        ensures terms { self.new.front.terms ≡ self.old.front.terms }
+        ensures stays { result ≡ false → self.new.front.saves ≡ self.old.front.saves }
+        ensures mode { result ≡ false → self.new.front.mode ≡ self.old.front.mode }
         ensures setup { setup_of K.ChannelPort self.new ≡ setup_of K.ChannelPort self.old }
     {
-        self.reading = reading;
+        self.front.reading = reading;
         if !self.is_low() {
             return false;
         }
@@ -263,8 +204,8 @@ impl<K: ChannelPort> Module<K> {
         ensures stored { KeepsStored K.ChannelPort (Reply.Sense result) self.old self.new }
         ensures setup { setup_of K.ChannelPort self.new ≡ setup_of K.ChannelPort self.old }
     {
-        if !self.mode.reads_gauge() {
-            return self.reading;
+        if !self.front.mode.reads_gauge() {
+            return self.front.reading;
         }
         let level = energy.sense();
         // `sense` answers the level alone; the mode tells whether it turned
@@ -279,10 +220,10 @@ impl<K: ChannelPort> Module<K> {
         ensures stored { KeepsStored K.ChannelPort (Reply.Disarm result) self.old self.new }
         ensures setup { setup_of K.ChannelPort self.new ≡ setup_of K.ChannelPort self.old }
     {
-        if let Some(refusal) = self.mode.disarm_refusal() {
+        if let Some(refusal) = self.front.mode.disarm_refusal() {
             return Err(refusal);
         }
-        if !self.mode.is_armed() {
+        if !self.front.mode.is_armed() {
             return Ok(DisarmReply::AlreadyDisarmed);
         }
         self.begin_disarming();
@@ -292,13 +233,9 @@ impl<K: ChannelPort> Module<K> {
     /// What may stand in the way of arming and of a save.
     pub fn save_state(&self) -> SaveState
         ensures state { (m : Machine) → Matches K.ChannelPort self.now m → result ≡ saves_of m }
-        ensures spent { result.is_spent ≡ nat_le (2 ^ 62) self.now.saves.newest.generation }
+        ensures spent { result.is_spent ≡ nat_le (2 ^ 62) self.now.front.saves.newest.generation }
     {
-        SaveState {
-            is_running: self.saves.saving.is_some(),
-            is_unsettled: self.saves.unsettled,
-            is_spent: self.saves.newest.generation >= SPENT,
-        }
+        self.front.save_state()
     }
 
     /// Begins a save of all writes accepted so far, which holds later ones back until its last page is written. A stranded
@@ -309,7 +246,7 @@ impl<K: ChannelPort> Module<K> {
         ensures stored { KeepsStored K.ChannelPort (Reply.SaveBegin result) self.old self.new }
         ensures setup { setup_of K.ChannelPort self.new ≡ setup_of K.ChannelPort self.old }
     {
-        if let Some(refusal) = self.mode.save_refusal(self.save_state()) {
+        if let Some(refusal) = self.front.mode.save_refusal(self.save_state()) {
             return Err(refusal);
         }
         self.begin();

@@ -4,7 +4,7 @@ ghost use Rattle.save_device.specs.Device.{DeviceState};
 ghost use Rattle.save_image.specs.Header.{Fits};
 ghost use Rattle.save_image.specs.Image.{Image};
 
-use crate::{Module, Saves};
+use crate::{Front, Module, Saves};
 use arm_state::Mode;
 use channel_port::ChannelPort;
 use channel_set::ChannelSet;
@@ -36,23 +36,25 @@ impl<K: ChannelPort> Module<K> {
         ensures setup { setup_of K.ChannelPort result ≡ setup_with K.ChannelPort channels trail }
     {
         Module {
+            front: Front {
+                terms: LifeTerms {
+                    start: found.count,
+                    trail,
+                    cut: found.count,
+                },
+                accepted: found.count,
+                persisted: found.count,
+                saved: found.count,
+                mode: Mode::Disarmed,
+                reading: 0,
+                saves: Saves {
+                    newest: found.newest,
+                    closed: found.closed,
+                    unsettled: false,
+                    saving: None,
+                },
+            },
             channels,
-            terms: LifeTerms {
-                start: found.count,
-                trail,
-                cut: found.count,
-            },
-            accepted: found.count,
-            persisted: found.count,
-            saved: found.count,
-            mode: Mode::Disarmed,
-            reading: 0,
-            saves: Saves {
-                newest: found.newest,
-                closed: found.closed,
-                unsettled: false,
-                saving: None,
-            },
         }
     }
 }

@@ -67,7 +67,7 @@ impl<K: ChannelPort> Module<K> {
         ensures cuts { IfOk result (λ replies. AnswersCut K.ChannelPort events.now replies.items
             (assembly self.old (D.state device.old) (E.gauge energy.old))
             (assembly self.new (D.state device.new) (E.gauge energy.new))) }
-        ensures cut { IfOk result (λ replies. self.new.terms.cut ≡ self.new.saved) }
+        ensures cut { IfOk result (λ replies. self.new.front.terms.cut ≡ self.new.front.saved) }
         ensures honest { IfOk result (λ replies. StaysWhereHonest K.ChannelPort replies.items
             (assembly self.old (D.state device.old) (E.gauge energy.old))
             (assembly self.new (D.state device.new) (E.gauge energy.new))) }

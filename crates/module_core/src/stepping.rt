@@ -1,16 +1,15 @@
 // The steps of a save on mains.
-ghost use Rattle.std.specs.Prelude.{◌≡◌, ℕ, [], ◌∷◌, true, false, Some, IsSome};
-ghost use Rattle.save_device.specs.Calls.{MakesCalls};
-ghost use Rattle.slot_store.specs.declared.saving.SaveRun.{SaveRun};
-ghost use Rattle.slot_store.specs.Runs.{plan_of, next_of};
+ghost use Rattle.std.specs.Prelude.{◌≡◌, ℕ, false, Some, IsSome};
 ghost use Rattle.channel_set.specs.Set.{view_of};
-ghost use Rattle.arm_state.specs.Modes.{repeats_in};
+ghost use Rattle.arm_state.specs.Modes.{has_ended, repeats_in};
+ghost use Rattle.channel_port.specs.Shape.{Shape};
+ghost use Rattle.slot_store.specs.Slots.{HasSize};
 ghost use Rattle.nv_machine.specs.State.{Machine, RunningSave};
 ghost use Rattle.nv_machine.specs.Moves.{persisted_at_end};
-ghost use Rattle.nv_machine.specs.Machine.{must_wait, step_call, is_made};
+ghost use Rattle.nv_machine.specs.Machine.{must_wait};
 
-use crate::Module;
 use crate::saves::StepFault;
+use crate::{Front, Module};
 use arm_state::{Mode, Move};
 use channel_port::ChannelPort;
 use channel_set::ChannelSet;
@@ -49,66 +48,40 @@ impl<K: ChannelPort> SaveSource for Arrays<'_, K> {
     }
 }
 
-impl<K: ChannelPort> Module<K> {
-    ghost use Rattle.module_core.specs.Stepping.{MakesReadyStep};
-    ghost use Rattle.module_core.specs.Stands.{Matches, Answers, HasDevice, KeepsStored, SameButHold, assembly, saved_after, lines_of_module, setup_of};
+impl Front {
+    ghost use Rattle.module_core.specs.Saving.{IsOfLines, IsSizedFor};
+    ghost use Rattle.module_core.specs.Stands.{saved_after};
+    ghost use Rattle.module_core.specs.Stepping.{CallsOnce, FrontMakesReadyStep};
 
-    // A write that the page of the coming step is to have waits for its array.
-    fn must_wait(&self, step: Step) -> bool
-        ensures { (m : Machine) (save : RunningSave) → Matches K.ChannelPort self.now m
-            → m.store.saving ≡ Some save → save.next ≡ step → result ≡ must_wait m save }
-    {
-        let Some(count) = self.saves.count() else {
-            return false;
-        };
-        match step {
-            Step::Page(_) => self.channels.has_below(count),
-            _ => false,
-        }
-    }
-
-    // Ends the hold once the last page is written.
-    fn release_behind_pages(&mut self)
-        ensures { SameButHold K.ChannelPort self.old self.new }
-    {
-        let Some(step) = self.saves.next() else {
-            return;
-        };
-        if matches!(step, Step::Header) {
-            self.channels.hold(None);
-        }
-    }
-
-    // How many steps in which the device fails the save that runs may make again.
-    fn repeats(&self) -> u64
-        ensures { result
-            ≡ repeats_in self.now.mode (setup_of K.ChannelPort self.now).shape.costs.retries }
-    {
-        self.mode.repeats(self.channels.costs().retries)
-    }
-
-    // Makes the coming step of the save that runs.
-    fn make_step<D: SaveDevice>(&mut self, device: &mut D, page: &[u8; 4096]) -> StepReply
+    // Makes the coming step of the save that runs, one call of the device, which may fail in it so often before the save has ended.
+    fn make_step<D: SaveDevice>(
+        &mut self,
+        device: &mut D,
+        page: &[u8; 4096],
+        repeats: u64,
+    ) -> StepReply
         requires runs { IsSome self.old.saves.saving }
-        requires size { HasDevice K.ChannelPort self.old (D.state device.old) }
-        ensures made { MakesReadyStep K.ChannelPort page.now result
+        requires size { IsSizedFor self.old.saves.saving (D.state device.old) }
+        ensures made { (shape : Shape) → repeats ≡ repeats_in self.old.mode shape.costs.retries
+            → FrontMakesReadyStep shape page.now result
             self.old (D.state device.old) self.new (D.state device.new) }
-        ensures call { (run : SaveRun) → self.old.saves.saving ≡ Some run
-            → MakesCalls (step_call (plan_of run).closed (next_of run) ∷ []) (is_made result)
-            (D.state device.old).calls (D.state device.new).calls }
+        ensures call { CallsOnce self.old.saves.saving result
+            (D.state device.old) (D.state device.new) }
         ensures saved { self.new.saved ≡ saved_after (Reply.SaveStep result) self.old.saved }
         ensures terms { self.new.terms ≡ self.old.terms }
-        ensures setup { setup_of K.ChannelPort self.new ≡ setup_of K.ChannelPort self.old }
-        ensures size { HasDevice K.ChannelPort self.new (D.state device.new) }
+        ensures accepted { self.new.accepted ≡ self.old.accepted }
+        ensures ended { has_ended self.new.mode ≡ has_ended self.old.mode }
+        ensures lines { (lines : ℕ) → IsOfLines lines self.old.saves.saving
+            → IsOfLines lines self.new.saves.saving }
+        ensures size { (lines : ℕ) → HasSize lines (D.state device.old)
+            → HasSize lines (D.state device.new) }
     {
         let Some(count) = self.saves.count() else {
             unreachable!();
         };
-        let repeats = self.repeats();
         match self.saves.step(device, page, repeats) {
             Err(StepFault::Again) => StepReply::Retry,
             Err(StepFault::Ended) => {
-                self.channels.hold(None);
                 self.mode = self.mode.after(Move::FailSave);
                 StepReply::Fault
             }
@@ -121,11 +94,70 @@ impl<K: ChannelPort> Module<K> {
                     count,
                 }
             }
-            Ok(Some(step)) => {
-                self.release_behind_pages();
-                StepReply::Did(step)
-            }
+            Ok(Some(step)) => StepReply::Did(step),
         }
+    }
+}
+
+impl<K: ChannelPort> Module<K> {
+    ghost use Rattle.module_core.specs.Stepping.{CallsOnce, MakesReadyStep};
+    ghost use Rattle.module_core.specs.Stands.{Matches, Answers, HasDevice, KeepsStored, SameButHold, assembly, saved_after, setup_of};
+
+    // A write that the page of the coming step is to have waits for its array.
+    fn must_wait(&self, step: Step) -> bool
+        ensures { (m : Machine) (save : RunningSave) → Matches K.ChannelPort self.now m
+            → m.store.saving ≡ Some save → save.next ≡ step → result ≡ must_wait m save }
+    {
+        let Some(count) = self.front.saves.count() else {
+            return false;
+        };
+        match step {
+            Step::Page(_) => self.channels.has_below(count),
+            _ => false,
+        }
+    }
+
+    // Ends the hold once the last page is written.
+    fn release_behind_pages(&mut self)
+        ensures { SameButHold K.ChannelPort self.old self.new }
+    {
+        let Some(step) = self.front.saves.next() else {
+            return;
+        };
+        if matches!(step, Step::Header) {
+            self.channels.hold(None);
+        }
+    }
+
+    // How many steps in which the device fails the save that runs may make again.
+    fn repeats(&self) -> u64
+        ensures { result
+            ≡ repeats_in self.now.front.mode (setup_of K.ChannelPort self.now).shape.costs.retries }
+    {
+        self.front.mode.repeats(self.channels.costs().retries)
+    }
+
+    // Makes the coming step of the save that runs.
+    fn make_step<D: SaveDevice>(&mut self, device: &mut D, page: &[u8; 4096]) -> StepReply
+        requires runs { IsSome self.old.front.saves.saving }
+        requires size { HasDevice K.ChannelPort self.old (D.state device.old) }
+        ensures made { MakesReadyStep K.ChannelPort page.now result
+            self.old (D.state device.old) self.new (D.state device.new) }
+        ensures call { CallsOnce self.old.front.saves.saving result
+            (D.state device.old) (D.state device.new) }
+        ensures saved { self.new.front.saved ≡ saved_after (Reply.SaveStep result) self.old.front.saved }
+        ensures terms { self.new.front.terms ≡ self.old.front.terms }
+        ensures setup { setup_of K.ChannelPort self.new ≡ setup_of K.ChannelPort self.old }
+        ensures size { HasDevice K.ChannelPort self.new (D.state device.new) }
+    {
+        let repeats = self.repeats();
+        let reply = self.front.make_step(device, page, repeats);
+        match reply {
+            StepReply::Fault => self.channels.hold(None),
+            StepReply::Did(_) => self.release_behind_pages(),
+            _ => {}
+        }
+        reply
     }
 
     /// Makes the coming step of the save that runs, one call of the device, after a reading of the gauge. While armed a low
@@ -143,7 +175,7 @@ impl<K: ChannelPort> Module<K> {
         ensures setup { setup_of K.ChannelPort self.new ≡ setup_of K.ChannelPort self.old }
         ensures size { HasDevice K.ChannelPort self.new (D.state device.new) }
     {
-        let Some(step) = self.saves.next() else {
+        let Some(step) = self.front.saves.next() else {
             return StepReply::NoSave;
         };
         if self.must_wait(step) {

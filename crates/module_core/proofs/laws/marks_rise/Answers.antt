@@ -9,15 +9,15 @@ use Rattle.module_core.proofs.laws.marks_rise.Goals as goal
 module _ {K : Type 0} (L : Ghosts K) where
   in_order : (it : Module K L) (device : DeviceState) (m : Machine) → ModuleStands L it device m → HasMarksInOrder L it
   in_order it device m stands = record {
-    start = omega (arith, stands.matches.start, stands.matches.persisted, opened_persisted m stands.guarded);
-    within = omega (arith, stands.matches.accepted, stands.matches.persisted, persisted_accepted m stands.guarded);
+    start = omega (arith, stands.matches.front.start, stands.matches.front.persisted, opened_persisted m stands.guarded);
+    within = omega (arith, stands.matches.front.accepted, stands.matches.front.persisted, persisted_accepted m stands.guarded);
   }
 
   -- the marks of the modules are those of the machines
   rises_with : (old new : Module K L) (device later : DeviceState) (m n : Machine) → ModuleStands L old device m → ModuleStands L new later n → Rises m n → MarksRise L old new
   rises_with old new device later m n before behind rises = record {
-    accepted = omega (arith, before.matches.accepted, behind.matches.accepted, rises.accepted);
-    persisted = omega (arith, before.matches.persisted, behind.matches.persisted, rises.persisted);
+    accepted = omega (arith, before.matches.front.accepted, behind.matches.front.accepted, rises.accepted);
+    persisted = omega (arith, before.matches.front.persisted, behind.matches.front.persisted, rises.persisted);
     ordered = in_order new later n behind;
   }
 

@@ -23,17 +23,17 @@ returns-in-Some-clause-answers g c =
     let device : DeviceState = g.D.SaveDevice.state c.args.device.now in let gauge : Gauge = g.E.Energy.gauge c.args.energy.now in
     unmoved g.K.ChannelPort events.Arm (replies.Arm (Err c.in-Some.refusal)) c.args.self.now device gauge
     (λ m h.
-    arm_refused (setup_of g.K.ChannelPort c.args.self.now) (record { machine = m; device = device; gauge = gauge }) c.in-Some.refusal (ap is_armed (sym h.mode) ∙ (let e : is_armed c.args.self.now.mode ≡ false = cc in e))
-    (ap (λ (x : Mode). arm_refusal x (saves_of m)) (sym h.mode) ∙ ap (arm_refusal c.args.self.now.mode) (sym (c.save_state.ensures.state m h)) ∙ sym c.arm_refusal.ensures ∙ c.in-Some.is)) refl (unmarked c.args.self.now.mode c.save_state.result c.in-Some.refusal (sym c.arm_refusal.ensures ∙ c.in-Some.is)) (λ m h. tt)
+    arm_refused (setup_of g.K.ChannelPort c.args.self.now) (record { machine = m; device = device; gauge = gauge }) c.in-Some.refusal (ap is_armed (sym h.front.mode) ∙ (let e : is_armed c.args.self.now.front.mode ≡ false = cc in e))
+    (ap (λ (x : Mode). arm_refusal x (saves_of m)) (sym h.front.mode) ∙ ap (arm_refusal c.args.self.now.front.mode) (sym (c.save_state.ensures.state m h)) ∙ sym c.arm_refusal.ensures ∙ c.in-Some.is)) refl (unmarked c.args.self.now.front.mode c.save_state.result c.in-Some.refusal (sym c.arm_refusal.ensures ∙ c.in-Some.is)) (λ m h. tt)
 
 pub returns-in-Some-energy_refusal-clause-answers : goal.returns-in-Some-energy_refusal-clause-answers
 returns-in-Some-energy_refusal-clause-answers g c =
     let L = g.K.ChannelPort in let old = c.args.self.now in let device : DeviceState = g.D.SaveDevice.state c.args.device.now in let before : Gauge = g.E.Energy.gauge c.args.energy.now in let later : Gauge = g.E.Energy.gauge c.sense-self.new.self in
     let reading : ℕ = c.sense-self.result in let r : ArmRefusal = c.in-Some-energy_refusal.refusal in let need : ℕ = c.need_for-need.result in
     let is : (reading < need) × (r ≡ refusals.NeedEnergy need reading) = energy_is need reading r (sym c.energy_refusal.ensures ∙ c.in-Some-energy_refusal.is) in
-    let off : is_armed old.mode ≡ false = cc in
+    let off : is_armed old.front.mode ≡ false = cc in
     alone L events.Arm (replies.Arm (Err r)) old _ device before later refl (λ m h.
-    let free : arm_refusal old.mode (saves_of m) ≡ None = ap (arm_refusal old.mode) (sym (c.save_state.ensures.state m h)) ∙ sym c.arm_refusal.ensures ∙ c.in_default.is in record {
+    let free : arm_refusal old.front.mode (saves_of m) ≡ None = ap (arm_refusal old.front.mode) (sym (c.save_state.ensures.state m h)) ∙ sym c.arm_refusal.ensures ∙ c.in_default.is in record {
       later = read_as reading m;
       step = subst (λ (x : ArmRefusal). ArmStep (setup_of L old) (Err x) (record { machine = m; device = device; gauge = before }) (record { machine = read_as reading m; device = device; gauge = later })) (sym is.1) (record {
         unarmed = unarmed L old m h off free;
@@ -51,8 +51,8 @@ pub returns-in_default-mark_armed-clause-answers : goal.returns-in_default-mark_
 returns-in_default-mark_armed-clause-answers g c = λ m stands.
     let L = g.K.ChannelPort in let old = c.args.self.now in let h = stands.matches in let device : DeviceState = g.D.SaveDevice.state c.args.device.now in let before : Gauge = g.E.Energy.gauge c.args.energy.now in
     let new = assembly _ (g.D.SaveDevice.state c.mark_armed.new.device) (g.E.Energy.gauge c.sense-self.new.self) in let reading : ℕ = c.sense-self.result in let need : ℕ = c.need_for-need.result in
-    let off : is_armed old.mode ≡ false = cc in
-    let free : arm_refusal old.mode (saves_of m) ≡ None = ap (arm_refusal old.mode) (sym (c.save_state.ensures.state m h)) ∙ sym c.arm_refusal.ensures ∙ c.in_default.is in
+    let off : is_armed old.front.mode ≡ false = cc in
+    let free : arm_refusal old.front.mode (saves_of m) ≡ None = ap (arm_refusal old.front.mode) (sym (c.save_state.ensures.state m h)) ∙ sym c.arm_refusal.ensures ∙ c.in_default.is in
     let here = alone_there L old device m stands off free in let n : Machine = arm_failed (read_as reading m) in
     answers_marked L old device m stands off free (Err refusals.Device) refl before new refl refl n (
       may_arm L old m h off free device before (world_of L new n) need (c.need_for-need.ensures.value ∙ ap (need_for (setup_of L old)) c.pending.ensures.is)
@@ -61,7 +61,7 @@ returns-in_default-mark_armed-clause-answers g c = λ m stands.
       refl,
     )
     (search rules) refl
-    (rests_rearmed (lines_of_module L old) (read_as reading m) new.device (subst (λ (x : Slot). IsAtRestRearmed x (newest_of m) (lines_of_module L old) m.store.closed new.device) h.knows.slot
+    (rests_rearmed (lines_of_module L old) (read_as reading m) new.device (subst (λ (x : Slot). IsAtRestRearmed x (newest_of m) (lines_of_module L old) m.store.closed new.device) h.front.knows.slot
     (c.in_default-mark_armed.ensures.failed (newest_of m) (lines_of_module L old) m.store.closed here)))
     (c.mark_armed.ensures.any_moment (newest_of m) (lines_of_module L old) m.store.closed here)
 
@@ -69,8 +69,8 @@ pub returns-clause-answers : goal.returns-clause-answers
 returns-clause-answers g c = λ m stands.
     let L = g.K.ChannelPort in let old = c.args.self.now in let h = stands.matches in let device : DeviceState = g.D.SaveDevice.state c.args.device.now in let before : Gauge = g.E.Energy.gauge c.args.energy.now in
     let new = assembly _ (g.D.SaveDevice.state c.mark_armed.new.device) (g.E.Energy.gauge c.sense-self.new.self) in let reading : ℕ = c.sense-self.result in let need : ℕ = c.need_for-need.result in
-    let off : is_armed old.mode ≡ false = cc in
-    let free : arm_refusal old.mode (saves_of m) ≡ None = ap (arm_refusal old.mode) (sym (c.save_state.ensures.state m h)) ∙ sym c.arm_refusal.ensures ∙ c.in_default.is in
+    let off : is_armed old.front.mode ≡ false = cc in
+    let free : arm_refusal old.front.mode (saves_of m) ≡ None = ap (arm_refusal old.front.mode) (sym (c.save_state.ensures.state m h)) ∙ sym c.arm_refusal.ensures ∙ c.in_default.is in
     let here = alone_there L old device m stands off free in let n : Machine = armed (read_as reading m) in
     answers_marked L old device m stands off free (Ok arm.Armed) refl before new refl refl n (
       may_arm L old m h off free device before (world_of L new n) need (c.need_for-need.ensures.value ∙ ap (need_for (setup_of L old)) c.pending.ensures.is)
@@ -79,7 +79,7 @@ returns-clause-answers g c = λ m stands.
       refl,
     )
     (search rules) refl
-    (rests_armed (lines_of_module L old) (read_as reading m) new.device (subst (λ (x : Slot). IsAtRestOn x (rearmed (newest_of m) 0x5A) (lines_of_module L old) m.store.closed new.device) h.knows.slot
+    (rests_armed (lines_of_module L old) (read_as reading m) new.device (subst (λ (x : Slot). IsAtRestOn x (rearmed (newest_of m) 0x5A) (lines_of_module L old) m.store.closed new.device) h.front.knows.slot
     (c.in-Ok.ensures.armed (newest_of m) (lines_of_module L old) m.store.closed here)))
     (c.mark_armed.ensures.any_moment (newest_of m) (lines_of_module L old) m.store.closed here)
 

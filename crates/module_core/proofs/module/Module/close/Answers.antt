@@ -1,6 +1,5 @@
 use Rattle.channel_port.specs.Draining.{Paid}
 use Rattle.module_core.specs.Closing.{HasDrained}
-use Rattle.nv_machine.proofs.GuardLaws.{for_none}
 use Rattle.module_core.proofs.Common.{◌≡◌, Ok, assembly, refl, subst, sym}
 use Rattle.module_core.proofs.DrainedModules.{all_paid, closes_dark, closes_on}
 use Rattle.module_core.proofs.module.Module.close.Goals as goal
@@ -16,6 +15,3 @@ returns-clause-closes g c = λ order old h s made base start writes ready carrie
     let paid : c.args.drained ≡ Ok tt = all_paid c.args.drained (sym c.if-is_err.ensures.value) in
     closes_on g.K.ChannelPort order old mid s made base start writes ready carries same (subst (λ (p : Paid). HasDrained order p old mid) paid h) g.met.K.ChannelPort.settled c.finish.result
     c.finish.new.self (g.D.SaveDevice.state c.finish.new.device) (g.E.Energy.gauge c.finish.new.energy) c.finish.ensures.saves
-
-pub invariant_of-self-2-clause-making : goal.invariant_of-self-2-clause-making
-invariant_of-self-2-clause-making g c = for_none c.finish.new.self.saving _ c.finish.ensures.none

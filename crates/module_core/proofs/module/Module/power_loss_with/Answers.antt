@@ -21,50 +21,42 @@ pub invariant_of-self : goal.invariant_of-self
 invariant_of-self g c =
     let begun = c.begin_loss.new.self in let drain = c.drain_at_once-drained.ensures.drains in
     record {
-      from = begun.from;
-      kept = begun.kept;
-      numbers = begun.numbers;
-      below = subst (AllBelow begun.accepted) (sym drain.takes.takes.writes) (All-drop (λ (w : Waiting). w.number < begun.accepted) _ (view_of g.K.ChannelPort begun.channels).waits.writes begun.below);
+      below = subst (AllBelow begun.front.accepted) (sym drain.takes.takes.writes) (All-drop (λ (w : Waiting). w.number < begun.front.accepted) _ (view_of g.K.ChannelPort begun.channels).waits.writes begun.below);
       mains = λ on. let both : true ≡ false = sym c.in_default.ensures.ended ∙ on in absurd (let bad : ⊥ = cc in bad);
-      unspent = begun.unspent;
-      running = subst (λ (s : Shape). IsOfLines s.lines begun.saves.saving) (sym (ap (λ (v : ChannelsView). v.shape) drain.rest)) begun.running;
-      most = begun.most;
-      stored = begun.stored;
-      settled = begun.settled;
-      making = begun.making;
+      running = subst (λ (s : Shape). IsOfLines s.lines begun.front.saves.saving) (sym (ap (λ (v : ChannelsView). v.shape) drain.rest)) begun.running;
     }
 
 pub returns-clause-answers : goal.returns-clause-answers
 returns-clause-answers g c =
     let D = g.D.SaveDevice in let E = g.E.Energy in let drain = c.drain_at_once-drained.ensures in
     let told = c.conclude.ensures.concludes at_once (assembly c.args.self.now (D.state c.args.device.now) (E.gauge c.args.energy.now)) (assembly c.begin_loss.new.self (D.state c.args.device.now) (E.gauge c.begin_loss.new.energy)) (c.in_default.ensures.begins (D.state c.args.device.now))
-    (record { drains = drain.drains; same = record { numbers = record { terms = refl; accepted = refl; persisted = refl }; saved = refl; reading = refl; mode = refl; keeps = drain.keeps }; saves = refl; device = refl }) drain.covers in
+    (record { drains = drain.drains; front = refl; keeps = drain.keeps; device = refl }) drain.covers in
     λ m stands. (told.each m stands).answers
 
 pub returns-clause-loses : goal.returns-clause-loses
 returns-clause-loses g c =
     let D = g.D.SaveDevice in let E = g.E.Energy in let drain = c.drain_at_once-drained.ensures in
     let told = c.conclude.ensures.concludes at_once (assembly c.args.self.now (D.state c.args.device.now) (E.gauge c.args.energy.now)) (assembly c.begin_loss.new.self (D.state c.args.device.now) (E.gauge c.begin_loss.new.energy)) (c.in_default.ensures.begins (D.state c.args.device.now))
-    (record { drains = drain.drains; same = record { numbers = record { terms = refl; accepted = refl; persisted = refl }; saved = refl; reading = refl; mode = refl; keeps = drain.keeps }; saves = refl; device = refl }) drain.covers in
+    (record { drains = drain.drains; front = refl; keeps = drain.keeps; device = refl }) drain.covers in
     λ m stands. (told.each m stands).loses
 
 pub returns-clause-covered : goal.returns-clause-covered
 returns-clause-covered g c =
     let D = g.D.SaveDevice in let E = g.E.Energy in let drain = c.drain_at_once-drained.ensures in
     let told = c.conclude.ensures.concludes at_once (assembly c.args.self.now (D.state c.args.device.now) (E.gauge c.args.energy.now)) (assembly c.begin_loss.new.self (D.state c.args.device.now) (E.gauge c.begin_loss.new.energy)) (c.in_default.ensures.begins (D.state c.args.device.now))
-    (record { drains = drain.drains; same = record { numbers = record { terms = refl; accepted = refl; persisted = refl }; saved = refl; reading = refl; mode = refl; keeps = drain.keeps }; saves = refl; device = refl }) drain.covers in
+    (record { drains = drain.drains; front = refl; keeps = drain.keeps; device = refl }) drain.covers in
     told.covered
 
 pub returns-clause-honest : goal.returns-clause-honest
 returns-clause-honest g c =
     let D = g.D.SaveDevice in let E = g.E.Energy in let drain = c.drain_at_once-drained.ensures in
     let told = c.conclude.ensures.concludes at_once (assembly c.args.self.now (D.state c.args.device.now) (E.gauge c.args.energy.now)) (assembly c.begin_loss.new.self (D.state c.args.device.now) (E.gauge c.begin_loss.new.energy)) (c.in_default.ensures.begins (D.state c.args.device.now))
-    (record { drains = drain.drains; same = record { numbers = record { terms = refl; accepted = refl; persisted = refl }; saved = refl; reading = refl; mode = refl; keeps = drain.keeps }; saves = refl; device = refl }) drain.covers in
+    (record { drains = drain.drains; front = refl; keeps = drain.keeps; device = refl }) drain.covers in
     told.honest
 
 pub returns-clause-setup : goal.returns-clause-setup
 returns-clause-setup g c =
     let D = g.D.SaveDevice in let E = g.E.Energy in let drain = c.drain_at_once-drained.ensures in
     let told = c.conclude.ensures.concludes at_once (assembly c.args.self.now (D.state c.args.device.now) (E.gauge c.args.energy.now)) (assembly c.begin_loss.new.self (D.state c.args.device.now) (E.gauge c.begin_loss.new.energy)) (c.in_default.ensures.begins (D.state c.args.device.now))
-    (record { drains = drain.drains; same = record { numbers = record { terms = refl; accepted = refl; persisted = refl }; saved = refl; reading = refl; mode = refl; keeps = drain.keeps }; saves = refl; device = refl }) drain.covers in
+    (record { drains = drain.drains; front = refl; keeps = drain.keeps; device = refl }) drain.covers in
     told.setup

@@ -15,9 +15,9 @@ returns-in-Ok-clause-answers g c = λ device gauge.
     (ap (λ (v : ChannelsView). v.hold) e.rest) e.keeps refl refl (λ m h.
     let channel : ℕ = (setup_of L old).shape.channel_of line in let bytes : List ℕ = line_of (memory_of m) line in
     let told : IsGot bytes line (all_of m) channel c.get.result m.waits later =
-    subst (λ (k : ℕ). IsGot bytes line k channel c.get.result m.waits later) h.accepted
-    (subst (λ (w : Waits). IsGot bytes line old.accepted channel c.get.result w later) h.carried.waits
-    (subst (λ (p : Place). IsGot bytes line old.accepted p.channel c.get.result (view_of L old.channels).waits later) c.in-Ok.ensures.place
+    subst (λ (k : ℕ). IsGot bytes line k channel c.get.result m.waits later) h.front.accepted
+    (subst (λ (w : Waits). IsGot bytes line old.front.accepted channel c.get.result w later) h.carried.waits
+    (subst (λ (p : Place). IsGot bytes line old.front.accepted p.channel c.get.result (view_of L old.channels).waits later) c.in-Ok.ensures.place
     (e.got (base_of_life m.life) (start_of_life m.life) m.life.writes h.carried.carries))) in
     let writes : later.writes ≡ m.waits.writes = e.writes ∙ ap (λ (w : Waits). w.writes) h.carried.waits in (
       (refl, (c.in-Ok.ensures.admitted m h, told, refl)),

@@ -14,7 +14,7 @@ loop-event-init g c =
     let first : AnswersCut L [] [] (assembly c.args.self.now device (g.E.Energy.gauge c.args.energy.now)) (assembly c.cut-first.new.self device (g.E.Energy.gauge c.args.energy.now)) =
     first_cut L c.args.self.now c.cut-first.new.self device (g.E.Energy.gauge c.args.energy.now) cut.cuts in
     let size : HasDevice L c.cut-first.new.self device = subst (λ (s : Setup). HasSize s.shape.lines device) (sym cut.setup) c.requires.size in
-    let whole : c.cut-first.new.self.terms.cut ≡ c.cut-first.new.self.saved = cut.to ∙ sym cut.cuts.saved in
+    let whole : c.cut-first.new.self.front.terms.cut ≡ c.cut-first.new.self.front.saved = cut.to ∙ sym cut.cuts.saved in
     record { size = size; setup = cut.setup; count = search rules; room = search rules; cut = whole; answers = subst (λ (rs : List Reply). AnswersCut L [] rs (assembly c.args.self.now device (g.E.Energy.gauge c.args.energy.now)) (assembly c.cut-first.new.self device (g.E.Energy.gauge c.args.energy.now))) (search rules) first }
 
 pub loop-event-preserved : goal.loop-event-preserved

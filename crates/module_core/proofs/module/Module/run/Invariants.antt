@@ -13,7 +13,7 @@ invariant-loop-event g l =
       setup : setup_of L l.self ≡ setup_of L l.fn.self;
       count : length l.replies.items ≡ l.event-index;
       room : length l.events ≤ vec_capacity l.replies;
-      cut : l.self.terms.cut ≡ l.self.saved;
+      cut : l.self.front.terms.cut ≡ l.self.front.saved;
       answers : AnswersCut L (take l.event-index l.events) l.replies.items
           (assembly l.fn.self (S.state l.fn.device) (E.gauge l.fn.energy)) (assembly l.self (S.state l.device) (E.gauge l.energy));
     }

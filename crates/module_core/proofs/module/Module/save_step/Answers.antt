@@ -31,7 +31,7 @@ returns-in_default-clause-answers g c = search (rules, unmoved, none_runs)
 pub returns-then-must_wait-clause-answers : goal.returns-then-must_wait-clause-answers
 returns-then-must_wait-clause-answers g c =
     unmoved g.K.ChannelPort events.SaveStep (replies.SaveStep step.Waiting) c.args.self.now (g.D.SaveDevice.state c.args.device.now) (g.E.Energy.gauge c.args.energy.now) (λ m h.
-    let s = save_runs m.store.saving c.args.self.now.saves.saving c.in-Some.step h.saving (sym c.next.ensures.is ∙ c.in-Some.is) in
+    let s = save_runs m.store.saving c.args.self.now.front.saves.saving c.in-Some.step h.front.saving (sym c.next.ensures.is ∙ c.in-Some.is) in
     let waits : must_wait m s.0 ≡ true = sym (c.must_wait.ensures m s.0 h s.1 s.2) ∙ (let e : c.must_wait.result ≡ true = cc in e) in
     (s.0, s.1, waits, refl)) refl refl (λ m h. tt)
 
@@ -41,7 +41,7 @@ returns-then-take_reading-clause-answers g c =
     let setup : Setup = setup_of L c.args.self.now in let reading : ℕ = c.tick-reading.result in
     alone L events.SaveStep (replies.SaveStep step.Turned)
     c.args.self.now c.take_reading.new.self device before later c.take_reading.ensures.setup (λ m h.
-    let s = save_runs m.store.saving c.args.self.now.saves.saving c.in-Some.step h.saving (sym c.next.ensures.is ∙ c.in-Some.is) in
+    let s = save_runs m.store.saving c.args.self.now.front.saves.saving c.in-Some.step h.front.saving (sym c.next.ensures.is ∙ c.in-Some.is) in
     let ready : must_wait m s.0 ≡ false = sym (c.must_wait.ensures m s.0 h s.1 s.2) ∙ (let e : c.must_wait.result ≡ false = cc in e) in
     let t = c.take_reading.ensures.step m h in let low : is_low setup (read_as reading m) ≡ true = t.step.0 ∙ (let e : c.take_reading.result ≡ true = cc in e) in
     let turned : t.later ≡ disarming (read_as reading m) = t.step.1 ∙ ap (λ (b : Bool). if b then disarming (read_as reading m) else read_as reading m) low in record {
@@ -56,13 +56,13 @@ returns-clause-answers g c = λ m stands.
     let L = g.K.ChannelPort in let S = g.D.SaveDevice in let h = stands.matches in let old = c.args.self.now in let device : DeviceState = S.state c.args.device.now in let device' : DeviceState = S.state c.make_step.new.device in
     let before : Gauge = g.E.Energy.gauge c.args.energy.now in let later : Gauge = g.E.Energy.gauge c.tick-reading.new.self in
     let setup : Setup = setup_of L old in let lines : ℕ = lines_of_module L old in let reading : ℕ = c.tick-reading.result in let read : Machine = read_as reading m in let now = c.take_reading.new.self in
-    let s = save_runs m.store.saving old.saves.saving c.in-Some.step h.saving (sym c.next.ensures.is ∙ c.in-Some.is) in let save : RunningSave = s.0 in let count : ℕ = save.made.count in
+    let s = save_runs m.store.saving old.front.saves.saving c.in-Some.step h.front.saving (sym c.next.ensures.is ∙ c.in-Some.is) in let save : RunningSave = s.0 in let count : ℕ = save.made.count in
     let ready : must_wait m save ≡ false = sym (c.must_wait.ensures m save h s.1 s.2) ∙ (let e : c.must_wait.result ≡ false = cc in e) in
     let t = c.take_reading.ensures.step m h in let high : is_low setup read ≡ false = t.step.0 ∙ (let e : c.take_reading.result ≡ false = cc in e) in
     let still : t.later ≡ read = t.step.1 ∙ ap (λ (b : Bool). if b then disarming read else read) high in
     let h' : Matches L now read = subst (λ (x : Machine). Matches L now x) still t.matches in
-    let moves : StoreMoves lines m.store old.saves read.store now.saves = subst (λ (x : Machine). StoreMoves lines m.store old.saves x.store now.saves) still t.moves in
-    let holds' : Holds lines m.store now.saves.saving device = holds_moved lines m.store device old.saves now.saves m.store moves h.knows stands.holds in
+    let moves : StoreMoves lines m.store old.front.saves read.store now.front.saves = subst (λ (x : Machine). StoreMoves lines m.store old.front.saves x.store now.front.saves) still t.moves in
+    let holds' : Holds lines m.store now.front.saves.saving device = holds_moved lines m.store device old.front.saves now.front.saves m.store moves h.front.knows stands.holds in
     let same : lines_of_module L now ≡ lines = same_lines L old now c.take_reading.ensures.setup in
     let array : List (List ℕ) = (view_of L now.channels).array in let writes : (view_of L now.channels).waits.writes ≡ m.waits.writes = ap (λ (w : Waits). w.writes) h'.carried.waits in
     let end : ℕ = start_of_life m.life + length m.life.writes in
@@ -73,9 +73,9 @@ returns-clause-answers g c = λ m stands.
     let page : GivesPage save.made.memory save.next c.page_for.result.now =
     gives array save.made.memory m count end save.next c.page_for.result.now (subst (λ (x : Step). GivesPage array x c.page_for.result.now) (sym s.2) c.page_for.ensures) ready
     (subst (λ (o : Option RunningSave). ForSome (hold_of o) (λ k. WaitsFrom k end m.waits.writes)) s.1 h.carried.held) pages in
-    let ready' : IsReadyFor (lines_of_module L now) m.store save now.saves c.page_for.result.now device = record { runs = s.1; gives = page; knows = h'.knows; holds = subst (λ (k : ℕ). Holds k m.store now.saves.saving device) (sym same) holds' } in
+    let ready' : IsReadyFor (lines_of_module L now) m.store save now.front.saves c.page_for.result.now device = record { runs = s.1; gives = page; knows = h'.front.knows; holds = subst (λ (k : ℕ). Holds k m.store now.front.saves.saving device) (sym same) holds' } in
     let made = c.make_step.ensures.made read save ready' h' in let n : Machine = made.later in
-    let the = the_run (lines_of_module L now) m.store device save m.store.saving now.saves.saving s.1 ready'.holds in let run : SaveRun = the.0 in
+    let the = the_run (lines_of_module L now) m.store device save m.store.saving now.front.saves.saving s.1 ready'.holds in let run : SaveRun = the.0 in
     let call_is : step_call (plan_of run).closed (next_of run) ≡ step_call m.store.closed save.next =
     ap (step_call (plan_of run).closed) the.2.next ∙ same_call (plan_of run) m.store.closed save.next (tried_of run) the.2.shut in
     let oldw : World = record { machine = m; device = device; gauge = before } in let neww : World = record { machine = n; device = device'; gauge = later } in
@@ -83,7 +83,7 @@ returns-clause-answers g c = λ m stands.
     (subst (λ (k : CallKind). MakesCalls (k ∷ []) (is_made c.make_step.result) device.calls device'.calls) call_is (c.make_step.ensures.call run the.1))
     (subst (λ (x : Setup). MadeStep x save c.make_step.result read n) c.take_reading.ensures.setup made.step) in
     asked L events.SaveStep (replies.SaveStep c.make_step.result) (assembly old device before) (assembly c.make_step.new.self device' later) (c.make_step.ensures.setup ∙ c.take_reading.ensures.setup) m stands n step (c.make_step.ensures.saved ∙ ap (saved_after (replies.SaveStep c.make_step.result)) c.take_reading.ensures.saved) made.matches
-    (subst (λ (k : ℕ). Holds k n.store c.make_step.new.self.saves.saving device') same made.reaches.holds) tt
+    (subst (λ (k : ℕ). Holds k n.store c.make_step.new.self.front.saves.saving device') same made.reaches.holds) tt
     (weaker device device' (λ image either guarded.
     left_within setup events.SaveStep (replies.SaveStep c.make_step.result) oldw neww step stands.guarded refl refl (restored lines image)
     (subst (λ (k : ℕ). IsAmong m.store.maybe (restored k image) ⊎ IsAmong n.store.maybe (restored k image)) same either))

@@ -8,7 +8,7 @@ use Rattle.module_core.proofs.module.Module.work.Goals as goal
 pub invariant_of-self-clause-below : goal.invariant_of-self-clause-below
 invariant_of-self-clause-below g c =
     let L = g.K.ChannelPort in let e = c.work.ensures in
-    worked_below c.args.self.now.accepted c.args.channel c.work.result (view_of L c.args.self.now.channels) (view_of L c.work.new.self) e.served e.stays c.args.self.now.below
+    worked_below c.args.self.now.front.accepted c.args.channel c.work.result (view_of L c.args.self.now.channels) (view_of L c.work.new.self) e.served e.stays c.args.self.now.below
 
 pub returns-clause-answers : goal.returns-clause-answers
 returns-clause-answers g c = λ device gauge.
@@ -17,7 +17,7 @@ returns-clause-answers g c = λ device gauge.
     waited L (events.Work channel) (replies.Work done) old _ device gauge
     (record { numbers = record { terms = refl; accepted = refl; persisted = refl }; mode = refl; saves = refl; shape = ap (λ (v : ChannelsView). v.shape) e.rest }) refl
     (ap (λ (v : ChannelsView). v.hold) e.rest) e.keeps refl refl (λ m h.
-    let runs : has_ended m.mode ≡ false = ap has_ended (sym h.mode) ∙ (let off : has_ended old.mode ≡ false = cc in off) in
+    let runs : has_ended m.mode ≡ false = ap has_ended (sym h.front.mode) ∙ (let off : has_ended old.front.mode ≡ false = cc in off) in
     let held : ForSome before.hold (λ k. WaitsFrom k (all_of m) before.waits.writes) =
     subst (λ (o : Option ℕ). ForSome o (λ k. WaitsFrom k (all_of m) before.waits.writes)) (sym h.carried.hold)
     (subst (λ (w : Waits). ForSome (hold_of m.store.saving) (λ k. WaitsFrom k (all_of m) w.writes)) (sym h.carried.waits) h.carried.held) in (
