@@ -37,7 +37,7 @@ recorded_new image room =
 module _ {K D E : Type 0} (L : Ghosts K) (M : DeviceGhosts D) where
   -- a module that stands for a new life, with a record of its memory and no write, and with room for all that it may store
   pub new_is_kept : (it : RecordedModule K D E L) (found : Head) (image : Image) (room : ℕ) → ModuleStands L it.running (M.state it.device) (opened_with found image)
-      → it.history ≡ recorded image.memory image.count [] room → it.running.terms.trail ≡ room → IsRecordKept L M it
+      → it.history ≡ recorded image.memory image.count [] room → it.running.front.terms.trail ≡ room → IsRecordKept L M it
   new_is_kept it found image room stands history trail = record {
     stands = merely (
       opened_with found image,
@@ -51,6 +51,6 @@ module _ {K D E : Type 0} (L : Ghosts K) (M : DeviceGhosts D) where
 
 -- it has accepted no write
 pub new_is_whole : {K : Type 0} (L : Ghosts K) (running : Module K L) (device : DeviceState) (found : Head) (image : Image) (history : Recorded) (room : ℕ)
-    → ModuleStands L running device (opened_with found image) → history ≡ recorded image.memory image.count [] room → running.accepted ≡ running.terms.start + length history.writes
+    → ModuleStands L running device (opened_with found image) → history ≡ recorded image.memory image.count [] room → running.front.accepted ≡ running.front.terms.start + length history.writes
 new_is_whole L running device found image history room stands is =
-    let none : length history.writes ≡ 0 = ap (λ (h : Recorded). length h.writes) is in omega (arith, none, stands.matches.accepted, stands.matches.start)
+    let none : length history.writes ≡ 0 = ap (λ (h : Recorded). length h.writes) is in omega (arith, none, stands.matches.front.accepted, stands.matches.front.start)

@@ -101,7 +101,7 @@ fn begin<'m, M: LineMap>(
     requires memory { IsMemory (lines_of profile.now.checked.geometry) restored.lines.items }
     requires numbers { Fits restored.head.newest.generation restored.head.count }
     ensures parts { IfOk result (λ begun. begun.opening.parts ≡ hosts) }
-    ensures mark { IfOk result (λ begun. begun.opening.mark ≡ begun.running.persisted) }
+    ensures mark { IfOk result (λ begun. begun.opening.mark ≡ begun.running.front.persisted) }
     ensures begins { IfOk result (λ begun. (arm : ℕ) (at : DeviceState)
         → IsAtRestOn restored.head.newest.slot (image_of_restored restored arm)
         (lines_of profile.now.checked.geometry) restored.head.closed at

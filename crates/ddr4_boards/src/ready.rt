@@ -23,9 +23,9 @@ pub struct Ready<K: ChannelPort, D: SaveDevice, E: Energy> {
     ghost sized: { HasDevice K.ChannelPort recorded.running (D.state recorded.device) },
     ghost kept: { IsRecordKept K.ChannelPort D.SaveDevice recorded },
     ghost lived: { HasSomeLife K.ChannelPort D.SaveDevice E.Energy recorded },
-    ghost mark: { opening.mark ≤ recorded.running.persisted },
-    ghost uncut: { recorded.running.accepted
-        ≡ recorded.running.terms.start + length recorded.history.writes },
+    ghost mark: { opening.mark ≤ recorded.running.front.persisted },
+    ghost uncut: { recorded.running.front.accepted
+        ≡ recorded.running.front.terms.start + length recorded.history.writes },
 }
 
 impl<K: ChannelPort + Drop, D: SaveDevice + Drop, E: Energy + Drop> Ready<K, D, E> {

@@ -14,7 +14,7 @@ module _ {K : Type 0} (L : Ghosts K) where
       → StopsWithin (λ bytes. RecoversAfterwards m (restored (setup_of L old.it).shape.lines bytes)) (present old.device)
   left_by_life old m stands = λ bytes left.
       let lines = (setup_of L old.it).shape.lines in
-      left_after m stands.guarded (restored lines bytes) (stop_now lines m.store old.it.saves.saving old.device stands.holds bytes left)
+      left_after m stands.guarded (restored lines bytes) (stop_now lines m.store old.it.front.saves.saving old.device stands.holds bytes left)
 
   -- no event
   pub comes_to_itself : (Told : Tale) (it : Assembly L) → ((m : Machine) → Told [] [] m m) → Comes L Told it it

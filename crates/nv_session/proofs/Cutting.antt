@@ -17,7 +17,7 @@ module _ {K : Type 0} (L : Ghosts K) where
   pub comes_cut : (Told : Tale) (old mid : Assembly L) (new : Module K L) → ToldOfCut Told → setup_of L mid.it ≡ setup_of L old.it → Comes L Told old mid → IsCut L mid.it new
       → Comes L Told old (assembly new mid.device mid.gauge)
   comes_cut Told old mid new told same comes cut m stands =
-      let c : ComesTo L Told old m mid = comes m stands in let n : Machine = record c.runs.last { cut = new.terms.cut } in let last : Assembly L = assembly new mid.device mid.gauge in
+      let c : ComesTo L Told old m mid = comes m stands in let n : Machine = record c.runs.last { cut = new.front.terms.cut } in let last : Assembly L = assembly new mid.device mid.gauge in
       let stands' : ModuleStands L new mid.device n = cut_stands L mid.it new mid.device c.runs.last cut c.runs.stands in let setup : setup_of L new ≡ setup_of L old.it = cut_setup L mid.it new cut ∙ same in
       record {
         events = c.events;
@@ -29,10 +29,10 @@ module _ {K : Type 0} (L : Ghosts K) where
               (cut_rests L mid.it new mid.device mid.gauge c.runs.last cut c.runs.stands);
           left = subst (λ (s : Setup). StopsWithin (λ bytes. RecoversAfterwards n (restored s.shape.lines bytes)) (present mid.device)) setup (left_by_life L last n stands');
         };
-        told = told c.events c.replies m c.runs.last new.terms.cut c.told;
+        told = told c.events c.replies m c.runs.last new.front.terms.cut c.told;
       }
 
-  pub now_cut : (mid new : Module K L) → IsCut L mid new → new.terms.cut ≡ mid.saved → IsCutToSaved L new
+  pub now_cut : (mid new : Module K L) → IsCut L mid new → new.front.terms.cut ≡ mid.front.saved → IsCutToSaved L new
   now_cut mid new cut to = to ∙ sym cut.saved
 
 ends_cut : (result : Result StepReply ArmRefusal) (m : Machine) (cut : ℕ) → EndsSave result m → EndsSave result (record m { cut = cut })

@@ -71,7 +71,7 @@ module _ {K : Type 0} (L : Ghosts K) where
     still_fits later same = subst (λ (s : Setup). IsShapeFor profile s.shape) (sym same) (living.fits it runs)
 
     -- what is stored stays cut where a call tells of no save
-    pub still_cut : (later : Module K L) → later.terms.cut ≡ it.terms.cut → later.saved ≡ it.saved → IsCutToSaved L later
+    pub still_cut : (later : Module K L) → later.front.terms.cut ≡ it.front.terms.cut → later.front.saved ≡ it.front.saved → IsCutToSaved L later
     still_cut later cut saved = cut ∙ living.cut it runs ∙ sym saved
 
     module _ (Told : Tale) (new : Assembly L) (comes : Comes L Told (assembly it at.device at.gauge) new) (same : setup_of L new.it ≡ setup_of L it) (cut : IsCutToSaved L new.it) where

@@ -84,7 +84,7 @@ module _ {K : Type 0} (L : Ghosts K) where
   saved_left it m generation count bytes stands saved left =
       let lines : ℕ = lines_of_module L it.it in
       among_only m.store.maybe.slot (newest_of m) (restored lines bytes)
-      (subst (λ (c : Candidates). IsAmong c (restored lines bytes)) saved.alone (stop_now lines m.store it.it.saves.saving it.device stands.holds bytes left))
+      (subst (λ (c : Candidates). IsAmong c (restored lines bytes)) saved.alone (stop_now lines m.store it.it.front.saves.saving it.device stands.holds bytes left))
 
   pub save_restored : (old new : Assembly L) (m : Machine) (generation count : ℕ) (bytes : List ℕ) (found : Head)
       → ModuleStands L old.it old.device m → HasSaved generation count m → is_armed m.mode ≡ false → MayLeave (present old.device) bytes

@@ -80,12 +80,12 @@ module _ {K : Type 0} (L : Ghosts K) where
 
   -- of the writes that the newest image holds none is stored
   abbrev pub IsCutToSaved : Module K L → Type 0
-  IsCutToSaved it = it.terms.cut ≡ it.saved
+  IsCutToSaved it = it.front.terms.cut ≡ it.front.saved
 
   -- no cut was made, and the newest image holds as many writes as before
   pub record SameStored (old new : Module K L) : Type 0 where
-    pub cut : new.terms.cut ≡ old.terms.cut
-    pub saved : new.saved ≡ old.saved
+    pub cut : new.front.terms.cut ≡ old.front.terms.cut
+    pub saved : new.front.saved ≡ old.front.saved
 
   -- The device is one for images of the profile's lines. The life that runs, if one does, has the profile's lines and channels,
   -- and has lived with the device and the gauge since it was opened; its stored writes are cut.

@@ -99,7 +99,7 @@ impl<K: ChannelPort + Drop, A: Wires<K> + Drop> Session<K, A> {
             (λ setup. IsOneEvent Event.Sense (Reply.Sense result.reading))
             (session_at self.old.life device (set_to level (meter_gauge self.old.gauge)))
             (session_at self.new.life device (meter_gauge self.new.gauge)) }
-        ensures mode { result.mode ≡ option_map (λ life. life.mode) self.new.life }
+        ensures mode { result.mode ≡ option_map (λ life. life.front.mode) self.new.life }
         ensures none { self.old.life ≡ None → result.reading ≡ level }
         ensures lie { self.old.life ≡ None
             → lie_of self.new.gauge ≡ lie_of self.old.gauge }
@@ -182,7 +182,7 @@ impl<K: ChannelPort + Drop, A: Wires<K> + Drop> Session<K, A> {
 
     /// The number of writes that are persistent; 0 where no life runs.
     pub fn mark(&self) -> u64
-        ensures { result ≡ unwrap_or (option_map (λ life. life.persisted) self.now.life) 0 }
+        ensures { result ≡ unwrap_or (option_map (λ life. life.front.persisted) self.now.life) 0 }
     {
         match &self.life {
             Some(life) => life.mark(),

@@ -22,7 +22,7 @@ module _ {K D E B : Type 0} {L : Ghosts K} {M : DeviceGhosts D} {N : GaugeGhosts
   pub event_shows_no_more : ShowsNoMore L new.running marks
   event_shows_no_more = shows_no_more_after L M N event reply old new kept.recorded steps O.board marks kept.shown
 
-  module _ (setup : setup_of L new.running ≡ setup_of L old.running) (uncut : new.running.terms.cut ≡ old.running.terms.cut) where
+  module _ (setup : setup_of L new.running ≡ setup_of L old.running) (uncut : new.running.front.terms.cut ≡ old.running.front.terms.cut) where
     -- all is kept by an event behind which the marks are shown and the write that it accepted is noted
     pub kept_on : (later : ℕ) → new.history ≡ recorded_after event reply old.history → later ≡ total + length (added event reply)
         → (shown : SeenMarks) (board : TableId) → board ≡ words → shown ≡ marks_of L board new.running → IsBoardKept L M N O new words shown later

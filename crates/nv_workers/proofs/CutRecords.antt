@@ -28,15 +28,15 @@ records_tell L M it m with =
     subst (λ (h : Recorded). TellsSameFrom h.start life h) (sym stored) told
 
 module _ {K D E : Type 0} (L : Ghosts K) (M : DeviceGhosts D) (old new : RecordedModule K D E L) (moves : MovesToNewest L old new) where
-  same_trail : new.running.terms.trail ≡ old.running.terms.trail
+  same_trail : new.running.front.terms.trail ≡ old.running.front.terms.trail
   same_trail = ap (λ (t : LifeTerms). t.trail) moves.only.terms
 
-  stands_cut : (m : Machine) → StandsWith L M old m → StandsWith L M new (record m { cut = new.running.terms.cut })
+  stands_cut : (m : Machine) → StandsWith L M old m → StandsWith L M new (record m { cut = new.running.front.terms.cut })
   stands_cut m with =
-      let to : ℕ = new.running.terms.cut in let room : ℕ = old.history.room in
+      let to : ℕ = new.running.front.terms.cut in let room : ℕ = old.history.room in
       let n : Machine = record m { cut = to } in
       let opened = (cut_below m with.stands.guarded).opened in
-      let rises : m.cut ≤ to = omega (arith, moves.only.rises, with.stands.matches.cut) in
+      let rises : m.cut ≤ to = omega (arith, moves.only.rises, with.stands.matches.front.cut) in
       let whole : new.history ≡ recorded (stored_base n) n.cut (stored_writes n) room =
       moves.history ∙ ap (λ (k : ℕ). cut_at k old.history) (sym moves.newest) ∙ ap (cut_at to) with.stored ∙ cut_again (whole_record m room) m.cut to opened rises in
       record {
@@ -46,12 +46,12 @@ module _ {K D E : Type 0} (L : Ghosts K) (M : DeviceGhosts D) (old new : Recorde
 
   pub kept_cut : IsRecordKept L M old → IsRecordKept L M new
   kept_cut kept = record {
-    stands = ∥∥₁_map kept.stands (λ s. (record s.0 { cut = new.running.terms.cut }, stands_cut s.0 s.1));
+    stands = ∥∥₁_map kept.stands (λ s. (record s.0 { cut = new.running.front.terms.cut }, stands_cut s.0 s.1));
     room = omega (arith, kept.room, same_trail, ap (λ (h : Recorded). h.room) moves.history);
   }
 
   -- the hosts' writes are those of the life still
-  pub counted_cut : (before total : ℕ) → old.running.accepted ≡ old.running.terms.start + before + total → new.running.accepted ≡ new.running.terms.start + before + total
+  pub counted_cut : (before total : ℕ) → old.running.front.accepted ≡ old.running.front.terms.start + before + total → new.running.front.accepted ≡ new.running.front.terms.start + before + total
   counted_cut before total was = omega (arith, was, moves.only.accepted, ap (λ (t : LifeTerms). t.start) moves.only.terms)
 
   pub marks_cut : (board : TableId) → marks_of L board old.running ≡ marks_of L board new.running

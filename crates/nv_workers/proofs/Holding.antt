@@ -32,8 +32,8 @@ module _ {K : Type 0} (L : Ghosts K) where
   same_channels old new channels is same = ap (λ (s : Setup). s.shape.channels) same ∙ is
 
   -- the persistent writes are accepted ones
-  in_order : (it : Module K L) (device : DeviceState) (m : Machine) → ModuleStands L it device m → it.persisted ≤ it.accepted
-  in_order it device m stands = omega (arith, stands.matches.accepted, stands.matches.persisted, persisted_accepted m stands.guarded)
+  in_order : (it : Module K L) (device : DeviceState) (m : Machine) → ModuleStands L it device m → it.front.persisted ≤ it.front.accepted
+  in_order it device m stands = omega (arith, stands.matches.front.accepted, stands.matches.front.persisted, persisted_accepted m stands.guarded)
 
 module _ {K D E : Type 0} (L : Ghosts K) (M : DeviceGhosts D) (it : RecordedModule K D E L) (kept : IsRecordKept L M it) where
   -- the device has the module's size
@@ -41,9 +41,9 @@ module _ {K D E : Type 0} (L : Ghosts K) (M : DeviceGhosts D) (it : RecordedModu
   has_device = ∥∥₁_elim kept.stands (ℕ_set _ _) (λ s. right_size _ s.0.store _ _ (M.state it.device) s.1.stands.holds)
 
   -- words that show no more than is persistent aren't above the module's two numbers
-  pub opening_shows_no_more : (board : TableId) (mark : ℕ) → mark ≤ it.running.persisted → ShowsNoMore L it.running (seen_marks board mark mark)
+  pub opening_shows_no_more : (board : TableId) (mark : ℕ) → mark ≤ it.running.front.persisted → ShowsNoMore L it.running (seen_marks board mark mark)
   opening_shows_no_more board mark least =
-      let ordered : it.running.persisted ≤ it.running.accepted = ∥∥₁_elim kept.stands le_prop (λ s. in_order L it.running (M.state it.device) s.0 s.1.stands) in
+      let ordered : it.running.front.persisted ≤ it.running.front.accepted = ∥∥₁_elim kept.stands le_prop (λ s. in_order L it.running (M.state it.device) s.0 s.1.stands) in
       record { accepted = omega (arith, least, ordered); persisted = least; ordered = ordered }
 
 module _ {K D E : Type 0} (L : Ghosts K) (M : DeviceGhosts D) (N : GaugeGhosts E) (event : Event) (reply : Reply) (old new : RecordedModule K D E L) (kept : IsRecordKept L M old)
@@ -58,7 +58,7 @@ module _ {K D E : Type 0} (L : Ghosts K) (M : DeviceGhosts D) (N : GaugeGhosts E
   shows_no_more_after board marks shown =
       subst (λ (m : SeenMarks). ShowsNoMore L new.running m) (sym shown)
       (record {
-        accepted = ∥∥₁_elim kept.stands le_prop (λ s. omega (arith, (rises s.0 s.1).accepted, s.1.stands.matches.accepted, (steps s.0 s.1.stands).1.matches.accepted));
-        persisted = ∥∥₁_elim kept.stands le_prop (λ s. omega (arith, (rises s.0 s.1).persisted, s.1.stands.matches.persisted, (steps s.0 s.1.stands).1.matches.persisted));
+        accepted = ∥∥₁_elim kept.stands le_prop (λ s. omega (arith, (rises s.0 s.1).accepted, s.1.stands.matches.front.accepted, (steps s.0 s.1.stands).1.matches.front.accepted));
+        persisted = ∥∥₁_elim kept.stands le_prop (λ s. omega (arith, (rises s.0 s.1).persisted, s.1.stands.matches.front.persisted, (steps s.0 s.1.stands).1.matches.front.persisted));
         ordered = ∥∥₁_elim kept.stands le_prop (λ s. let next = steps s.0 s.1.stands in in_order L new.running (M.state new.device) next.0 next.1);
       })

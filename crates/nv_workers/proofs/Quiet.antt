@@ -43,16 +43,16 @@ work_is_quiet channel (Some done) setup old new step = ap life_of step.1.2
 module _ {K D E : Type 0} (L : Ghosts K) (M : DeviceGhosts D) (N : GaugeGhosts E) where
   module _ (event : Event) (reply : Reply) (old new : RecordedModule K D E L) (kept : IsRecordKept L M old) (steps : StepsTo L M N event reply old new) where
     -- as many writes are accepted as before, where the event adds none
-    pub same_accepted : added event reply ≡ [] → new.running.accepted ≡ old.running.accepted
+    pub same_accepted : added event reply ≡ [] → new.running.front.accepted ≡ old.running.front.accepted
     same_accepted none = omega (arith, counts_on L M N event reply old new kept steps, ap length none)
 
-    same_persisted : IsQuiet event reply → new.running.persisted ≡ old.running.persisted
+    same_persisted : IsQuiet event reply → new.running.front.persisted ≡ old.running.front.persisted
     same_persisted quiet =
         ∥∥₁_elim kept.stands (ℕ_set _ _)
         (λ s.
         let next = steps s.0 s.1.stands in
         let life = quiet (setup_of L old.running) (world_of L (assembly_of L M N old) s.0) (world_of L (assembly_of L M N new) next.0) next.2.happens.step in
-        next.1.matches.persisted ∙ ap (λ (l : Life). l.persisted) life ∙ sym s.1.stands.matches.persisted)
+        next.1.matches.front.persisted ∙ ap (λ (l : Life). l.persisted) life ∙ sym s.1.stands.matches.front.persisted)
 
     pub same_marks : IsQuiet event reply → added event reply ≡ [] → (board : TableId) → marks_of L board old.running ≡ marks_of L board new.running
     same_marks quiet none board = rw (same_accepted none, same_persisted quiet) refl
@@ -60,11 +60,11 @@ module _ {K D E : Type 0} (L : Ghosts K) (M : DeviceGhosts D) (N : GaugeGhosts E
   module _ (write : line_write.Write) (old new : RecordedModule K D E L) (kept : IsRecordKept L M old) where
     counted : (accepted : Accepted) → StepsTo L M N (events.Write write) (replies.Write (Ok accepted)) old new → IsCounted L accepted old.running new.running
     counted accepted steps =
-        let number : accepted.number ≡ old.running.accepted = ∥∥₁_elim kept.stands (ℕ_set _ _) (λ s. (steps s.0 s.1.stands).2.happens.step.1.1.number ∙ sym s.1.stands.matches.accepted) in
-        let more : new.running.accepted ≡ old.running.accepted + 1 = counts_on L M N (events.Write write) (replies.Write (Ok accepted)) old new kept steps in
+        let number : accepted.number ≡ old.running.front.accepted = ∥∥₁_elim kept.stands (ℕ_set _ _) (λ s. (steps s.0 s.1.stands).2.happens.step.1.1.number ∙ sym s.1.stands.matches.front.accepted) in
+        let more : new.running.front.accepted ≡ old.running.front.accepted + 1 = counts_on L M N (events.Write write) (replies.Write (Ok accepted)) old new kept steps in
         record {
           number = number;
-          mark = ∥∥₁_elim kept.stands (ℕ_set _ _) (λ s. let next = steps s.0 s.1.stands in next.2.happens.step.1.1.mark ∙ sym next.1.matches.persisted);
+          mark = ∥∥₁_elim kept.stands (ℕ_set _ _) (λ s. let next = steps s.0 s.1.stands in next.2.happens.step.1.1.mark ∙ sym next.1.matches.front.persisted);
           one = omega (arith, number, more);
         }
 

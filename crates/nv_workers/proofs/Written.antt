@@ -14,7 +14,7 @@ use Rattle.nv_workers.specs.Writing.{HostWrites, HostWritesServed}
 
 module _ {K D E B : Type 0} (L : Ghosts K) (M : DeviceGhosts D) (N : GaugeGhosts E) (O : NameGhosts B) where
   pub written_served : (write : line_write.Write) (result : Result Receipt WriteRefusal) (host told : Client) (old asked new : Held K D E B L M N O) → MakesRoom L M N O write.line old asked
-      → asked.recorded.history ≡ old.recorded.history → asked.recorded.running.accepted ≡ old.recorded.running.accepted → HostWrites L M N O write result host told asked new
+      → asked.recorded.history ≡ old.recorded.history → asked.recorded.running.front.accepted ≡ old.recorded.running.front.accepted → HostWrites L M N O write result host told asked new
       → HostWritesServed L M N O write result host told old new
   written_served write (Ok receipt) host told old asked new room history accepted writes =
       let done = writes.1 in (

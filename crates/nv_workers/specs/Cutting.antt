@@ -18,8 +18,8 @@ module _ {K D E : Type 0} (L : Ghosts K) where
   -- The module and its record have moved on to the end of the newest image, and nothing else has changed.
   pub record MovesToNewest (old new : RecordedModule K D E L) : Type 0 where
     pub only : IsCut L old.running new.running
-    pub newest : new.running.terms.cut ≡ old.running.saved
-    pub history : new.history ≡ cut_at old.running.saved old.history
+    pub newest : new.running.front.terms.cut ≡ old.running.front.saved
+    pub history : new.history ≡ cut_at old.running.front.saved old.history
     pub device : new.device ≡ old.device
     pub energy : new.energy ≡ old.energy
 

@@ -57,7 +57,7 @@ cut from checked past = record { from = from; checked = checked; past = past }
 module _ {K D E : Type 0} (L : Ghosts K) where
   -- Where writes of the life were cut off, whatever lies below the stored ones is past. Before a cut nothing is.
   abbrev pub past_below : RecordedModule K D E L → ℕ
-  past_below it = if nat_lt it.running.terms.start it.history.start then it.history.start else 0
+  past_below it = if nat_lt it.running.front.terms.start it.history.start then it.history.start else 0
 
   -- No stranger is among these receipts and answers: each is past or was checked, and this is told of it.
   pub record HasChecked (it : RecordedModule K D E L) (receipts : List Receipt) (answers : List Seen) (told : Cut) : Type 0 where

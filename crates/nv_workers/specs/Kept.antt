@@ -25,7 +25,7 @@ module _ {K D E : Type 0} (L : Ghosts K) (M : DeviceGhosts D) where
 
   -- the record has room for as many writes as the module may store
   abbrev pub HasRoomForAll : RecordedModule K D E L → Type 0
-  HasRoomForAll it = it.running.terms.trail ≤ it.history.room
+  HasRoomForAll it = it.running.front.terms.trail ≤ it.history.room
 
   -- What is true between two events: the record is that of some machine that the module and its device stand for, and there is
   -- room.
@@ -43,4 +43,4 @@ module _ {K D E B : Type 0} (L : Ghosts K) (M : DeviceGhosts D) (N : GaugeGhosts
     pub recorded : IsRecordKept L M it
     pub lived : HasSomeLife L M N it
     pub shown : marks ≡ marks_of L O.board it.running
-    pub counted : it.running.accepted ≡ it.running.terms.start + O.before + written
+    pub counted : it.running.front.accepted ≡ it.running.front.terms.start + O.before + written

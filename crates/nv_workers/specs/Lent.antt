@@ -51,7 +51,7 @@ module _ {K D E B : Type 0} (L : Ghosts K) (M : DeviceGhosts D) (N : GaugeGhosts
   pub record LentSaverTurn (saving : Saving) : Type 0 where
     pub before : Held K D E B L M N O
     pub after : Held K D E B L M N O
-    pub turn : (m : Machine) → Matches L before.recorded.running m → turn_taken saving ≡ turn_of m before.recorded.running.saved
+    pub turn : (m : Machine) → Matches L before.recorded.running m → turn_taken saving ≡ turn_of m before.recorded.running.front.saved
     pub steps : TakesTurn L M N O saving before after
 
   -- the same, by how it goes on
@@ -67,7 +67,7 @@ module _ {K D E B : Type 0} (L : Ghosts K) (M : DeviceGhosts D) (N : GaugeGhosts
     pub before : Held K D E B L M N O
     pub after : Held K D E B L M N O
     pub reads : ReadsServed L M N O line told before after
-    pub counted : at ≡ before.recorded.running.accepted
+    pub counted : at ≡ before.recorded.running.front.accepted
 
   -- its bytes were told at once, or are what its ticket had later
   abbrev pub LentLine : ℕ → List ℕ → ℕ → Type 0

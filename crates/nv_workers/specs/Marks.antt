@@ -14,16 +14,16 @@ module _ {K : Type 0} (L : Ghosts K) where
   -- An accepted write has the number of all that were accepted before it and tells how many are persistent then; it is one
   -- more.
   pub record IsCounted (accepted : Accepted) (old new : Module K L) : Type 0 where
-    pub number : accepted.number ≡ old.accepted
-    pub mark : accepted.mark ≡ new.persisted
-    pub one : new.accepted ≡ accepted.number + 1
+    pub number : accepted.number ≡ old.front.accepted
+    pub mark : accepted.mark ≡ new.front.persisted
+    pub one : new.front.accepted ≡ accepted.number + 1
 
   -- what the board's seat sees where the marks are the module's two numbers
   abbrev pub marks_of : TableId → Module K L → SeenMarks
-  marks_of board it = seen_marks board it.accepted it.persisted
+  marks_of board it = seen_marks board it.front.accepted it.front.persisted
 
   -- the marks aren't above the module's two numbers, which are in order
   pub record ShowsNoMore (it : Module K L) (marks : SeenMarks) : Type 0 where
-    pub accepted : marks.accepted ≤ it.accepted
-    pub persisted : marks.persisted ≤ it.persisted
-    pub ordered : it.persisted ≤ it.accepted
+    pub accepted : marks.accepted ≤ it.front.accepted
+    pub persisted : marks.persisted ≤ it.front.persisted
+    pub ordered : it.front.persisted ≤ it.front.accepted

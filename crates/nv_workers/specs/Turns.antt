@@ -26,8 +26,8 @@ module _ {K D E B : Type 0} (L : Ghosts K) (M : DeviceGhosts D) (N : GaugeGhosts
   -- a channel was worked once: it issued a command, or had none, or mains were lost
   abbrev pub WorksOnce : ℕ → Working → Held K D E B L M N O → Held K D E B L M N O → Type 0
   WorksOnce channel working.Worked old new =
-      (has_ended new.recorded.running.mode ≡ false) × (done : Done) × Steps L M N O (events.Work channel) (replies.Work (Some done)) old new
+      (has_ended new.recorded.running.front.mode ≡ false) × (done : Done) × Steps L M N O (events.Work channel) (replies.Work (Some done)) old new
   WorksOnce channel working.Rested old new =
-      (has_ended new.recorded.running.mode ≡ false) × Steps L M N O (events.Work channel) (replies.Work None) old new
+      (has_ended new.recorded.running.front.mode ≡ false) × Steps L M N O (events.Work channel) (replies.Work None) old new
   WorksOnce channel working.Closed old new =
-      (has_ended new.recorded.running.mode ≡ true) × (done : Option Done) × Steps L M N O (events.Work channel) (replies.Work done) old new
+      (has_ended new.recorded.running.front.mode ≡ true) × (done : Option Done) × Steps L M N O (events.Work channel) (replies.Work done) old new

@@ -20,7 +20,7 @@ use Rattle.nv_workers.specs.Steps.{Steps}
 module _ {K D E B : Type 0} (L : Ghosts K) (M : DeviceGhosts D) (N : GaugeGhosts E) (O : NameGhosts B) where
   -- The receipt of an accepted write has its number, its line and its data. It is one more of the host's, and of the record.
   pub record IsReceipted (write : Write) (receipt : Receipt) (host told : Client) (old new : Held K D E B L M N O) : Type 0 where
-    pub number : receipt.number ≡ old.recorded.running.accepted
+    pub number : receipt.number ≡ old.recorded.running.front.accepted
     pub line : receipt.line ≡ write.line
     pub stored : receipt.«data» ≡ write.«data»
     pub seen : receipt.number < told.accepted
@@ -42,7 +42,7 @@ module _ {K D E B : Type 0} (L : Ghosts K) (M : DeviceGhosts D) (N : GaugeGhosts
     -- what was done, and told
     abbrev pub WritesBy : Write → Result Receipt WriteRefusal → Client → Client → Held K D E B L M N O → Held K D E B L M N O → Type 0
     WritesBy write (Ok receipt) host told old new =
-        does write (Ok (told_at receipt.number new.recorded.running.persisted)) old new × IsReceipted write receipt host told old new
+        does write (Ok (told_at receipt.number new.recorded.running.front.persisted)) old new × IsReceipted write receipt host told old new
     WritesBy write (Err refusal) host told old new = does write (Err refusal) old new × IsTurnedAway host told old new
 
   abbrev pub WritesOnce : Write → Result Accepted WriteRefusal → Held K D E B L M N O → Held K D E B L M N O → Type 0

@@ -92,9 +92,9 @@ impl<K: ChannelPort, D: SaveDevice, E: Energy, B: BoardName> Held<K, D, E, B> {
         ensures same { result ≡ self.recorded }
         ensures kept { IsRecordKept K.ChannelPort D.SaveDevice result }
         ensures lived { HasSomeLife K.ChannelPort D.SaveDevice E.Energy result }
-        ensures shares { result.running.accepted
-            ≡ result.running.terms.start + B.before + sum_by (λ h. h.writes) hosts.items }
-        ensures marks { All (λ h. h.persisted ≤ result.running.persisted) hosts.items }
+        ensures shares { result.running.front.accepted
+            ≡ result.running.front.terms.start + B.before + sum_by (λ h. h.writes) hosts.items }
+        ensures marks { All (λ h. h.persisted ≤ result.running.front.persisted) hosts.items }
     {
         let Held {
             recorded,
@@ -128,10 +128,10 @@ impl<K: ChannelPort, D: SaveDevice, E: Energy, B: BoardName> Held<K, D, E, B> {
         ensures recorded { IfOk result (λ c. c.recorded ≡ self.recorded) }
         ensures checked { IfOk result (λ c. HasChecked K.ChannelPort c.recorded
             receipts.now answers.now (cut c.from c.checked c.past)) }
-        ensures shares { IfOk result (λ c. c.recorded.running.accepted
-            ≡ c.recorded.running.terms.start + B.before + sum_by (λ h. h.writes) hosts.items) }
+        ensures shares { IfOk result (λ c. c.recorded.running.front.accepted
+            ≡ c.recorded.running.front.terms.start + B.before + sum_by (λ h. h.writes) hosts.items) }
         ensures marks { IfOk result (λ c.
-            All (λ h. h.persisted ≤ c.recorded.running.persisted) hosts.items) }
+            All (λ h. h.persisted ≤ c.recorded.running.front.persisted) hosts.items) }
         ensures kept { IfOk result (λ c. IsRecordKept K.ChannelPort D.SaveDevice c.recorded) }
         ensures lived { IfOk result (λ c.
             HasSomeLife K.ChannelPort D.SaveDevice E.Energy c.recorded) }
@@ -181,10 +181,10 @@ where
     requires { length hosts.items ≡ B.parts }
     ensures checked { IfOk result (λ c. HasChecked K.ChannelPort c.recorded
         receipts.now answers.now (cut c.from c.checked c.past)) }
-    ensures shares { IfOk result (λ c. c.recorded.running.accepted
-        ≡ c.recorded.running.terms.start + B.before + sum_by (λ h. h.writes) hosts.items) }
+    ensures shares { IfOk result (λ c. c.recorded.running.front.accepted
+        ≡ c.recorded.running.front.terms.start + B.before + sum_by (λ h. h.writes) hosts.items) }
     ensures marks { IfOk result (λ c.
-        All (λ h. h.persisted ≤ c.recorded.running.persisted) hosts.items) }
+        All (λ h. h.persisted ≤ c.recorded.running.front.persisted) hosts.items) }
     ensures kept { IfOk result (λ c. IsRecordKept K.ChannelPort D.SaveDevice c.recorded) }
     ensures lived { IfOk result (λ c. HasSomeLife K.ChannelPort D.SaveDevice E.Energy c.recorded) }
     ensures hosts { IfErr result (λ left. left.hosts ≡ hosts) }

@@ -71,8 +71,8 @@ impl<K: ChannelPort, D: SaveDevice, E: Energy, B: BoardName> Held<K, D, E, B> {
         requires kept { IsRecordKept K.ChannelPort D.SaveDevice recorded }
         requires lived { HasSomeLife K.ChannelPort D.SaveDevice E.Energy recorded }
         requires seat { seat ≡ marks_of K.ChannelPort B.board recorded.running }
-        requires counted { recorded.running.accepted
-            ≡ recorded.running.terms.start + B.before + tally.book.total }
+        requires counted { recorded.running.front.accepted
+            ≡ recorded.running.front.terms.start + B.before + tally.book.total }
         ensures { result.recorded ≡ recorded }
     {
         Held {
@@ -126,7 +126,7 @@ impl<K: ChannelPort, D: SaveDevice, E: Energy, B: BoardName> Held<K, D, E, B> {
         ensures setup { setup_of K.ChannelPort self.new.recorded.running
             ≡ setup_of K.ChannelPort self.old.recorded.running }
         ensures channel { IfOk result.reply (IsOfChannels B.channels) }
-        ensures at { result.at ≡ self.old.recorded.running.accepted }
+        ensures at { result.at ≡ self.old.recorded.running.front.accepted }
         ensures seen { host.new ≡ marks_of K.ChannelPort B.board self.old.recorded.running }
         ensures rises { IsNotAbove host.old host.new }
     {
@@ -154,8 +154,8 @@ impl<K: ChannelPort, D: SaveDevice, E: Energy, B: BoardName> Held<K, D, E, B> {
         ensures steps { Steps K.ChannelPort D.SaveDevice E.Energy B.BoardName.own
             (Event.Work channel) (Reply.Work result) self.old self.new }
         ensures history { self.new.recorded.history ≡ self.old.recorded.history }
-        ensures accepted { self.new.recorded.running.accepted
-            ≡ self.old.recorded.running.accepted }
+        ensures accepted { self.new.recorded.running.front.accepted
+            ≡ self.old.recorded.running.front.accepted }
         ensures device { self.new.recorded.device ≡ self.old.recorded.device }
         ensures energy { self.new.recorded.energy ≡ self.old.recorded.energy }
         ensures setup { setup_of K.ChannelPort self.new.recorded.running

@@ -163,7 +163,7 @@ impl<B: BoardName> Host<B> {
             Steps K.ChannelPort D.SaveDevice E.Energy B.BoardName.own
             (Event.Read line) (Reply.Read (Err refusal)) held.old held.new) }
         ensures channel { IfOk result (λ r. IsOfChannels B.channels r.got) }
-        ensures at { IfOk result (λ r. r.at ≡ held.old.recorded.running.accepted) }
+        ensures at { IfOk result (λ r. r.at ≡ held.old.recorded.running.front.accepted) }
         ensures seen { IfOk result (λ r. r.at ≡ self.new.accepted) }
         ensures rises { SeesNoLess self.old self.new }
         ensures writes { self.new.writes ≡ self.old.writes }
@@ -191,7 +191,7 @@ impl<B: BoardName> Host<B> {
         ensures err { IfErr result (λ refusal.
             Steps K.ChannelPort D.SaveDevice E.Energy B.BoardName.own
             (Event.Read line) (Reply.Read (Err refusal)) held.old held.new) }
-        ensures at { IfOk result (λ r. r.at ≡ held.old.recorded.running.accepted) }
+        ensures at { IfOk result (λ r. r.at ≡ held.old.recorded.running.front.accepted) }
         ensures seen { IfOk result (λ r. r.at ≡ self.new.accepted) }
         ensures rises { SeesNoLess self.old self.new }
         ensures writes { self.new.writes ≡ self.old.writes }

@@ -82,7 +82,7 @@ impl<K: ChannelPort, D: SaveDevice, E: Energy, B: BoardName> Held<K, D, E, B> {
     /// What a saver is to do now.
     pub fn saver_turn(&self) -> SaverTurn
         ensures { (m : Machine) → Matches K.ChannelPort self.now.recorded.running m
-            → result ≡ turn_of m self.now.recorded.running.saved }
+            → result ≡ turn_of m self.now.recorded.running.front.saved }
     {
         let mode = self.recorded.running.mode();
         let saves = self.recorded.running.save_state();
@@ -95,7 +95,7 @@ impl<K: ChannelPort, D: SaveDevice, E: Energy, B: BoardName> Held<K, D, E, B> {
     /// does nothing.
     pub fn save(&mut self) -> Saving
         ensures turn { (m : Machine) → Matches K.ChannelPort self.old.recorded.running m
-            → turn_taken result ≡ turn_of m self.old.recorded.running.saved }
+            → turn_taken result ≡ turn_of m self.old.recorded.running.front.saved }
         ensures steps { TakesTurn K.ChannelPort D.SaveDevice E.Energy B.BoardName.own
             result self.old self.new }
         ensures setup { setup_of K.ChannelPort self.new.recorded.running
@@ -111,7 +111,7 @@ impl<K: ChannelPort, D: SaveDevice, E: Energy, B: BoardName> Held<K, D, E, B> {
 
     /// Were mains lost?
     pub(crate) fn has_ended(&self) -> bool
-        ensures { result ≡ has_ended self.now.recorded.running.mode }
+        ensures { result ≡ has_ended self.now.recorded.running.front.mode }
     {
         self.recorded.running.mode().has_ended()
     }

@@ -55,7 +55,7 @@ pub(crate) fn make_room<K: ChannelPort, D: SaveDevice, E: Energy, B: BoardName>(
     ensures room { MakesRoom K.ChannelPort D.SaveDevice E.Energy B.BoardName.own
         line held.old held.new }
     ensures history { held.new.recorded.history ≡ held.old.recorded.history }
-    ensures accepted { held.new.recorded.running.accepted ≡ held.old.recorded.running.accepted }
+    ensures accepted { held.new.recorded.running.front.accepted ≡ held.old.recorded.running.front.accepted }
     ensures device { held.new.recorded.device ≡ held.old.recorded.device }
     ensures energy { held.new.recorded.energy ≡ held.old.recorded.energy }
     ensures setup { setup_of K.ChannelPort held.new.recorded.running

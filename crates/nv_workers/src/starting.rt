@@ -76,8 +76,8 @@ pub fn start<K: ChannelPort, D: SaveDevice, E: Energy, B: BoardName, N: Notices>
     requires name { opening.name ≡ B.name }
     requires parts { opening.parts ≡ B.parts }
     requires board { opening.board ≡ B.board }
-    requires mark { opening.mark ≤ recorded.running.persisted }
-    requires before { recorded.running.accepted ≡ recorded.running.terms.start + B.before }
+    requires mark { opening.mark ≤ recorded.running.front.persisted }
+    requires before { recorded.running.front.accepted ≡ recorded.running.front.terms.start + B.before }
     requires kept { IsRecordKept K.ChannelPort D.SaveDevice recorded }
     requires lived { HasSomeLife K.ChannelPort D.SaveDevice E.Energy recorded }
     requires channels { (setup_of K.ChannelPort recorded.running).shape.channels ≡ B.channels }

@@ -66,13 +66,13 @@ module _ {K : Type 0} (L : Ghosts K) where
 
   -- how many writes are persistent, as a session tells it
   abbrev mark_of : Option (Module K L) → ℕ
-  mark_of life = unwrap_or (option_map (λ it. it.persisted) life) 0
+  mark_of life = unwrap_or (option_map (λ it. it.front.persisted) life) 0
 
   pub mark_truly : (lines mark : ℕ) (at : SessionAt L) → mark ≡ mark_of at.life → AnswersTruly L lines line.Mark (answer.Mark mark) at at
   mark_truly lines mark at is =
       goes_truly L lines line.Mark (answer.Mark mark) at at tt (λ known. refl)
       (λ it m runs stands.
-      let marked : mark ≡ m.life.persisted = is ∙ ap mark_of runs ∙ stands.matches.persisted in
+      let marked : mark ≡ m.life.persisted = is ∙ ap mark_of runs ∙ stands.matches.front.persisted in
       still line.Mark (answer.Mark mark) it m at at runs stands refl (omega (arith, marked)) (λ lines ledger kept runs. omega (arith, marked, kept.told)) refl refl)
       (λ none. record {
         none = none;

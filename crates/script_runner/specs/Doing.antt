@@ -108,7 +108,7 @@ module _ {K A : Type 0} {L : Ghosts K} {W : wires.Ghosts A K} where
 
   -- a level is told with the mode of the life that runs
   abbrev pub TellsMode : Answer → Session K A L W → Type 0
-  TellsMode (answer.Level reading mode) new = mode ≡ option_map (λ life. life.mode) new.life
+  TellsMode (answer.Level reading mode) new = mode ≡ option_map (λ life. life.front.mode) new.life
   TellsMode given new = ⊥
 
   -- a lie ends, and the gauge is as it was
@@ -165,7 +165,7 @@ module _ {K A : Type 0} {L : Ghosts K} {W : wires.Ghosts A K} where
 
   -- it is told how many writes are persistent
   pub record Marks (given : Answer) (old new : Session K A L W) : Type 0 where
-    pub told : given ≡ answer.Mark (unwrap_or (option_map (λ life. life.persisted) old.life) 0)
+    pub told : given ≡ answer.Mark (unwrap_or (option_map (λ life. life.front.persisted) old.life) 0)
     pub same : new ≡ old
 
   -- a line is done with its own words, and this answer tells of it

@@ -9,7 +9,7 @@ use Rattle.nv_workers.proofs.starting.start.Goals as goal
 pub publish-requires-clause-shown : goal.publish-requires-clause-shown
 publish-requires-clause-shown g c =
     let it = c.args.recorded in let inside = c.opening.inside in
-    let least = subst (λ (o : OpeningView). o.mark ≤ it.running.persisted) (sym c.opening.view_is) c.requires.mark in
+    let least = subst (λ (o : OpeningView). o.mark ≤ it.running.front.persisted) (sym c.opening.view_is) c.requires.mark in
     subst (λ (m : SeenMarks). ShowsNoMore g.K.ChannelPort it.running m) (sym c.opening.invariant.0)
     (opening_shows_no_more g.K.ChannelPort g.D.SaveDevice it c.requires.kept inside.marks inside.mark least)
 

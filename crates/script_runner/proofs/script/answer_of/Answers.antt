@@ -240,7 +240,7 @@ returns-in-Sense-clause-does g c =
             (λ setup es rs m n is. (told.reading, told.mode, refl, is)) goes;
         none = λ none.
             ap (λ (reading : ℕ). answer.Level reading told.mode) (ensures.none none)
-            ∙ ap (λ (mode : Option Mode). answer.Level level mode) (ensures.mode ∙ ap (option_map (λ life. life.mode)) (none_begins L Told set (moment_in made) goes none));
+            ∙ ap (λ (mode : Option Mode). answer.Level level mode) (ensures.mode ∙ ap (option_map (λ life. life.front.mode)) (none_begins L Told set (moment_in made) goes none));
       },
       ensures.mode,
       record { device = ensures.device; lie = ensures.lie },

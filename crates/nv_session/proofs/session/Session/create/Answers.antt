@@ -29,7 +29,7 @@ formatted_life g c =
     c.lines-lines.ensures.is c.in-Ok.ensures c.in-Ok-format.ensures.at_rest
 
 pub begin-requires-clause-cut : goal.begin-requires-clause-cut
-begin-requires-clause-cut g c = let new = formatted_life g (goal.at.begin-requires-clause-cut g c).In-Ok-open in new.matches.cut ∙ sym new.saved
+begin-requires-clause-cut g c = let new = formatted_life g (goal.at.begin-requires-clause-cut g c).In-Ok-open in new.matches.front.cut ∙ sym new.saved
 
 pub begin-requires-clause-lives : goal.begin-requires-clause-lives
 begin-requires-clause-lives g c =

@@ -23,7 +23,7 @@ revived g c =
     revives_restored g.K.ChannelPort lines it bytes c.in-Ok.life device (subst (λ (n : ℕ). FindsRestored n it bytes device) c.lines-lines.ensures.is finds) c.in-Ok.ensures.begins
 
 pub begin-requires-clause-cut : goal.begin-requires-clause-cut
-begin-requires-clause-cut g c = let r = revived g (goal.at.begin-requires-clause-cut g c).In-Ok in r.stands.matches.cut ∙ sym r.stands.saved
+begin-requires-clause-cut g c = let r = revived g (goal.at.begin-requires-clause-cut g c).In-Ok in r.stands.matches.front.cut ∙ sym r.stands.saved
 
 pub begin-requires-clause-lives : goal.begin-requires-clause-lives
 begin-requires-clause-lives g c =

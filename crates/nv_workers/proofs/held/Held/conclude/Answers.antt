@@ -26,6 +26,6 @@ returns-clause-marks g c =
     let gives = c.into_iter-host-iterator.ensures.into_iter_gives in
     let whole = YieldsList-end (YieldsList-from_vec c.args.hosts.items gives.0 (omega (arith, gives.1, c.args.hosts.ok))) c.loop-host.yielded c.loop-host.host-iterator c.loop-host.yielded_by c.next.result c.next.new.self c.in-None.is c.next.ensures.steps in
     let all : c.loop-host.yielded ≡ c.args.hosts.items = sym (map-id c.loop-host.yielded) ∙ whole.0 in
-    let shown : c.args.self.seat.persisted ≡ c.args.self.recorded.running.persisted = ap (λ (m : SeenMarks). m.persisted) c.args.self.kept.shown in
-    subst (λ (hosts : List Client). All (λ (h : Client). h.persisted ≤ c.args.self.recorded.running.persisted) hosts) all
+    let shown : c.args.self.seat.persisted ≡ c.args.self.recorded.running.front.persisted = ap (λ (m : SeenMarks). m.persisted) c.args.self.kept.shown in
+    subst (λ (hosts : List Client). All (λ (h : Client). h.persisted ≤ c.args.self.recorded.running.front.persisted) hosts) all
     (subst (λ (p : ℕ). All (λ (h : Client). h.persisted ≤ p) c.loop-host.yielded) shown c.loop-host.invariant.3)

@@ -9,20 +9,20 @@ use Rattle.nv_workers.proofs.held.Held.move_to_newest.Goals as goal
 pub cut-requires-clause-from : goal.cut-requires-clause-from
 cut-requires-clause-from g c =
     let it = c.args.self.now in let starts = starts_with g.K.ChannelPort g.D.SaveDevice it.recorded it.kept.recorded in
-    let stored : it.recorded.running.terms.cut ≤ it.recorded.running.saved = it.recorded.running.stored in
+    let stored : it.recorded.running.front.terms.cut ≤ it.recorded.running.front.saved = it.recorded.running.front.stored in
     omega (arith, starts, stored, c.saved-at.ensures)
 
 pub cut-requires-clause-all : goal.cut-requires-clause-all
 cut-requires-clause-all g c =
     let it = c.args.self.now in let counts = counted_with g.K.ChannelPort g.D.SaveDevice it.recorded it.kept.recorded in
-    let settled : it.recorded.running.saved ≤ it.recorded.running.accepted = it.recorded.running.settled in
+    let settled : it.recorded.running.front.saved ≤ it.recorded.running.front.accepted = it.recorded.running.front.settled in
     omega (arith, counts, settled, c.saved-at.ensures)
 
 pub invariant_of-self : goal.invariant_of-self
 invariant_of-self g c =
     let it = c.args.self.now in let K = g.K.ChannelPort in let D = g.D.SaveDevice in
     let after = record it.recorded { running = c.cut-gone.new.self; history = c.cut.new.self } in
-    let records : c.cut.new.self ≡ cut_at it.recorded.running.saved it.recorded.history = c.cut.ensures ∙ ap (λ (k : ℕ). cut_at k it.recorded.history) c.saved-at.ensures in
+    let records : c.cut.new.self ≡ cut_at it.recorded.running.front.saved it.recorded.history = c.cut.ensures ∙ ap (λ (k : ℕ). cut_at k it.recorded.history) c.saved-at.ensures in
     let moves : MovesToNewest K it.recorded after = record { only = c.cut-gone.ensures.cuts; newest = c.cut-gone.ensures.to; history = records; device = refl; energy = refl } in
     record {
       kept = record {
@@ -38,5 +38,5 @@ invariant_of-self g c =
 pub returns-clause-moves : goal.returns-clause-moves
 returns-clause-moves g c =
     let it = c.args.self.now in
-    let records : c.cut.new.self ≡ cut_at it.recorded.running.saved it.recorded.history = c.cut.ensures ∙ ap (λ (k : ℕ). cut_at k it.recorded.history) c.saved-at.ensures in
+    let records : c.cut.new.self ≡ cut_at it.recorded.running.front.saved it.recorded.history = c.cut.ensures ∙ ap (λ (k : ℕ). cut_at k it.recorded.history) c.saved-at.ensures in
     record { only = c.cut-gone.ensures.cuts; newest = c.cut-gone.ensures.to; history = records; device = refl; energy = refl }
