@@ -1,5 +1,6 @@
 -- What a part stands for after its calls.
 use Rattle.std.specs.Option.{ForSome}
+use Rattle.std.specs.Prelude.{IfNone, IfSome}
 use Rattle.std.proofs.Common.{arith, ◌≡◌, ◌+◌, ◌-◌, ◌≤◌, ℕ, sym, ap, subst, ◌∙◌, List, [], ◌∷◌, ◌++◌, length, Option, Some, None, true}
 use Rattle.std.proofs.lemmas.List.{length-append}
 use Rattle.std.proofs.lemmas.List.Elements.{All-weaker}
@@ -11,14 +12,18 @@ use Rattle.line_memory.specs.Parts.{AreBefore, numbered}
 use Rattle.channel_log.specs.declared.entry.LogEntry.{LogEntry}
 use Rattle.channel_log.specs.declared.entry.LogEntry.TheVariants.{Wrote, TookBack, HeldFrom, Released, Ended}
 use Rattle.channel_log.specs.Log.{Told, log_tells, told_after, untold}
+use Rattle.channel_port.specs.declared.answers.Done.{Done}
 use Rattle.channel_port.specs.declared.port.ChannelPort.{Ghosts}
+use Rattle.channel_port.specs.Answers.{IsServed}
 use Rattle.channel_port.specs.Carried.{KeepsCarried, WaitFrom}
 use Rattle.channel_port.specs.View.{PortView, with_write}
 use Rattle.channel_port.specs.Waits.{IsPending, Remain}
 use Rattle.channel_set.specs.Carrying.{WaitAmong}
+use Rattle.channel_set.proofs.Answered.{work-remain}
+use Rattle.channel_set.proofs.Piles.{remain-same}
 use Rattle.channel_part.specs.declared.part.Part.{Part}
 use Rattle.channel_part.specs.Stands.{PartStands, PortStands, SameButPort, StandsStill, StandsWith, queue_of}
-use Rattle.channel_part.proofs.Queueing.{KeepsFrom, put_among, put_held}
+use Rattle.channel_part.proofs.Queueing.{KeepsFrom, put_among, put_held, worked_held}
 
 abbrev credits_told : Told → ℕ
 credits_told t = length t.written - t.taken
@@ -34,6 +39,31 @@ module _ {K : Type 0} (L : Ghosts K) where
     pub keeps : KeepsCarried (L.carries old) (L.carries new)
     pub remain : Remain (L.view old).waits.writes (L.view new).waits.writes
     pub held : ForSome (L.view old).hold (λ n. KeepsFrom n (L.view old).waits.writes (L.view new).waits.writes)
+
+  -- a port in which the same writes wait
+  pub quiet_port : (old new : K) (seen : PortView) → L.view new ≡ seen → seen.number ≡ (L.view old).number → seen.hold ≡ (L.view old).hold → seen.waits.writes ≡ (L.view old).waits.writes
+      → KeepsCarried (L.carries old) (L.carries new) → KeptPort old new
+  quiet_port old new seen is number hold writes keeps =
+      let same : (L.view new).waits.writes ≡ (L.view old).waits.writes = ap (λ (v : PortView). v.waits.writes) is ∙ writes in
+      record {
+        number = ap (λ (v : PortView). v.number) is ∙ number;
+        hold = ap (λ (v : PortView). v.hold) is ∙ hold;
+        keeps = keeps;
+        remain = remain-same (L.view old).waits.writes (L.view new).waits.writes same;
+        held = λ n some k from waits. subst (IsPending k) (sym same) waits;
+      }
+
+  -- a port after a command, where it had one
+  pub worked_port : (old new : K) (result : Option Done) → L.view new ≡ record (L.view old) { waits = (L.view new).waits; stored = (L.view new).stored }
+      → IfSome result (λ done. IsServed (L.view old).hold (L.view old).number done.served (L.view old).waits (L.view new).waits) → IfNone result (L.view new ≡ L.view old)
+      → KeepsCarried (L.carries old) (L.carries new) → KeptPort old new
+  worked_port old new result rest served stays keeps = record {
+    number = ap (λ (v : PortView). v.number) rest;
+    hold = ap (λ (v : PortView). v.hold) rest;
+    keeps = keeps;
+    remain = work-remain L (L.view old).hold (L.view old).number old new result served stays;
+    held = worked_held (L.view old) (L.view new) (L.view old).number result served stays;
+  }
 
   kept_port : (old new : K) → KeptPort old new → (channel : ℕ) (base : List (List ℕ)) (told : Told) → PortStands L old channel base told → PortStands L new channel base told
   kept_port old new kept channel base told s = record {

@@ -1,8 +1,7 @@
 use Rattle.std.proofs.Common.{arith, refl, sym, ap, ◌∙◌}
 use Rattle.channel_port.specs.View.{PortView}
-use Rattle.channel_set.proofs.Answered.{work-remain}
-use Rattle.channel_part.proofs.Queueing.{worked_held, worked_length, worked_order}
-use Rattle.channel_part.proofs.Standing.{still}
+use Rattle.channel_part.proofs.Queueing.{worked_length, worked_order}
+use Rattle.channel_part.proofs.Standing.{still, worked_port}
 use Rattle.channel_part.proofs.part.Part.work.Goals as goal
 
 pub invariant_of-self : goal.invariant_of-self
@@ -14,7 +13,7 @@ invariant_of-self g c =
     let w = L.view c.work.new.self in
     let fewer = worked_length v w v.number c.work.result did.served did.stays in
     record {
-      here = part.here ∙ sym (ap (λ (x : PortView). x.number) did.rest);
+      here = part.here ∙ sym (worked_port L part.port c.work.new.self c.work.result did.rest did.served did.stays did.keeps).number;
       ordered = worked_order v w v.number c.work.result did.served did.stays part.ordered;
       covered = (let covered = part.covered in omega (arith, covered, fewer));
       mains = λ running. ap (λ (x : PortView). x.stage) did.rest ∙ part.mains running;
@@ -35,12 +34,4 @@ returns-clause-stands g c =
     let L = g.K.ChannelPort in
     let part = c.args.self.now in
     let did = c.work.ensures in
-    let v = L.view part.port in
-    let w = L.view c.work.new.self in
-    still L part _ (record { channel = refl; credits = refl; ended = refl }) (record {
-      number = ap (λ (x : PortView). x.number) did.rest;
-      hold = ap (λ (x : PortView). x.hold) did.rest;
-      keeps = did.keeps;
-      remain = work-remain L v.hold v.number part.port c.work.new.self c.work.result did.served did.stays;
-      held = worked_held v w v.number c.work.result did.served did.stays;
-    })
+    still L part _ (record { channel = refl; credits = refl; ended = refl }) (worked_port L part.port c.work.new.self c.work.result did.rest did.served did.stays did.keeps)
