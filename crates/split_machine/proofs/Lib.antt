@@ -1,10 +1,9 @@
--- lists without some of their elements
-pub mod Leaving
--- sums over channels
+-- counts, and sums over channels
+pub mod Counted
 pub mod Summing
--- credits that are taken back
-pub mod TakenBack
--- what is told of a channel
+-- what the logs tell of a machine
 pub mod ToldOf
--- the machine where the channels' queues wait
-pub mod Queues
+-- writes and reads that a channel is given
+pub mod GivenTo
+-- a channel's own steps as events
+pub mod OwnRuns

@@ -1,150 +1,75 @@
--- What is told of a channel: after a write, and what all logs come to.
-use Rattle.std.proofs.Common.{All, List, [], ap, arith, inl, inr, length, refl, subst, suc, sym, zero, ℕ, ◌++◌, ◌+◌, ◌<◌, ◌∙◌, ◌∷◌, ◌≡◌, ◌≢◌, ◌≤◌, ◌⊎◌, ⊎_elim}
-use Rattle.std.specs.Prelude.{count_by, insert, slice_index_or, take, drop, ◌==◌, ◌-◌}
-use Rattle.std.proofs.lemmas.Bool.{cases_lt, eq-eqb, ne_eqb}
-use Rattle.std.proofs.lemmas.List.{length-append}
-use Rattle.std.proofs.lemmas.List.Sums.{sum_by-insert}
-use Rattle.std.proofs.lemmas.Option.{same_Some}
+-- What the logs tell of a machine, and what a further note tells.
+use Rattle.std.proofs.Common.{All, Bool, List, Some, [], ap, arith, false, inl, inr, length, refl, subst, suc, sym, true, zero, ℕ, ◌++◌, ◌+◌, ◌-◌, ◌<◌, ◌∙◌, ◌∷◌, ◌≡◌, ◌≢◌, ◌≤◌, ◌⊎◌, ⊎_elim}
+use Rattle.std.specs.Prelude.{if◌then◌else◌, count_by, slice_get, slice_index_or, slice_set, ◌==◌}
+use Rattle.std.proofs.lemmas.Bool.{cases_eq, eq-eqb, eqb-true}
+use Rattle.std.proofs.lemmas.List.{get_or-set_other, get_or-set_same, length-set, map-set}
+use Rattle.std.proofs.lemmas.List.Sums.{fold_push}
+use Rattle.std.proofs.lemmas.Option.{same_Some, slice_get_within}
 use Rattle.line_memory.specs.Memory.{after, line_of}
 use Rattle.line_memory.specs.Parts.{below, numbered, writes_of, written_on}
 use Rattle.line_memory.specs.declared.Write.{Write}
 use Rattle.line_memory.specs.declared.parts.Numbered.{Numbered}
 use Rattle.line_memory.proofs.Parting as parting
-use Rattle.channel_port.specs.Waits.{Has, is_write_on, waiting, writes_on, writes_up_to}
+use Rattle.channel_port.specs.Carried.{WaitFrom}
+use Rattle.channel_port.specs.Waits.{Has, IsPending, OpenRead, Waits, is_read_on, is_write_on, reads_on, writes_on}
 use Rattle.channel_port.specs.declared.waiting.Waiting.{Waiting}
 use Rattle.channel_set.specs.Carrying.{WaitsFrom}
-use Rattle.channel_set.proofs.Lists.{all-at, all-of}
-use Rattle.arm_state.specs.Modes.{has_ended}
-use Rattle.channel_set.proofs.Piles.{any-found, any-has, has-before, has-behind, has-either}
-use Rattle.channel_set.proofs.Written.{written-else, written-here, written-is}
-use Rattle.channel_log.specs.Log.{Told, credits_of, credits_out, log_tells, told_after}
+use Rattle.channel_set.proofs.Lists.{all-at, all-of, at-within}
+use Rattle.channel_set.proofs.Piles.{any-found, any-has, count-on, from-pile, has-pile}
+use Rattle.channel_log.specs.Log.{IsLogOf, LogNote, Told, credits_of, credits_out, log_tells, note_of, told_after, untold}
 use Rattle.channel_log.specs.declared.entry.LogEntry.{LogEntry}
-use Rattle.nv_machine.specs.Machine.{Accepts}
-use Rattle.nv_machine.specs.State.{Machine, Setup, all_of, base_of_life, hold_of, memory_after, pending_of, start_of_life}
-use Rattle.nv_machine.specs.WaitingOrder.{IsInOrder}
-use Rattle.nv_machine.specs.declared.events.Accepted.{Accepted}
-use Rattle.split_machine.specs.Telling.{AreLogsOf, IsToldOf, WaitAsGiven, times_in, times_told, written_in}
-use Rattle.split_machine.proofs.Leaving.{one_if}
+use Rattle.nv_machine.specs.State.{Machine, Setup, all_of, base_of_life, memory_after, pending_of, start_of_life}
+use Rattle.split_machine.specs.OwnEvents.{looked}
+use Rattle.split_machine.specs.Telling.{AreLogsOf, AreOwn, IsToldOf, laid_out, times_in, times_told, waits_told, with_note}
 use Rattle.split_machine.proofs.Summing.{all_waiting, never_after, never_before, once, sum_upward, times, upward}
 
--- what is among the first, or among the others, is among all
-has_taken : {X : Type 0} (x : X) (n : ℕ) (xs : List X) → Has x (take n xs) → Has x xs
-has_taken x zero xs (k, at) = absurd cc
-has_taken x (suc n) [] has = has
-has_taken x (suc n) (y ∷ xs) (zero, at) = (zero, at)
-has_taken x (suc n) (y ∷ xs) (suc k, at) = let (j, there) = has_taken x n xs (k, at) in (suc j, there)
+pub told_push : (log : List LogNote) (note : LogNote) → log_tells (log ++ note ∷ []) ≡ told_after (log_tells log) note
+told_push log note = fold_push told_after untold log note
 
-has_dropped : {X : Type 0} (x : X) (n : ℕ) (xs : List X) → Has x (drop n xs) → Has x xs
-has_dropped x zero xs has = has
-has_dropped x (suc n) [] has = has
-has_dropped x (suc n) (y ∷ xs) has = let (k, at) = has_dropped x n xs has in (suc k, at)
-
--- what one more element makes of what a list has
-had_or_new : {X : Type 0} (x y : X) (n : ℕ) (xs : List X) → Has x (insert xs n y) → Has x xs ⊎ (y ≡ x)
-had_or_new x y n xs has = elim (has-either x (take n xs) (y ∷ drop n xs) has) [
-  | inl first ↦ inl (has_taken x n xs first)
-  | inr (zero, at) ↦ inr (same_Some y x at)
-  | inr (suc k, at) ↦ inl (has_dropped x n xs (k, at))
-]
-
-has_new : {X : Type 0} (y : X) (n : ℕ) (xs : List X) → Has y (insert xs n y)
-has_new y n xs = has-behind y (take n xs) (y ∷ drop n xs) (zero, refl)
-
-has_old : {X : Type 0} (x y : X) (n : ℕ) (xs : List X) → Has x xs → Has x (insert xs n y)
-has_old x y zero xs (k, at) = (suc k, at)
-has_old x y (suc n) [] (k, at) = absurd cc
-has_old x y (suc n) (z ∷ xs) (zero, at) = (zero, at)
-has_old x y (suc n) (z ∷ xs) (suc k, at) = let (j, there) = has_old x y n xs (k, at) in (suc j, there)
-
--- A write was accepted.
-module _ (setup : Setup) (m : Machine) (write : Write) (accepted : Accepted) (n : Machine) (it : Accepts setup m write accepted n) where
-  abbrev here : ℕ
-  here = setup.shape.channel_of write.line
-
-  abbrev v : Waiting
-  v = waiting (all_of m) here
-
-  abbrev place : ℕ
-  place = writes_up_to here m.waits.writes
-
-  same_opened : n.life.opened ≡ m.life.opened
-  same_opened = ap (λ (x : Machine). x.life.opened) it.is
-
-  more : n.life.writes ≡ m.life.writes ++ write ∷ []
-  more = ap (λ (x : Machine). x.life.writes) it.is
-
-  all_more : all_of n ≡ all_of m + 1
-  all_more = ap all_of it.is ∙ (let size = length-append m.life.writes (write ∷ []) in omega (arith, size))
-
-  written_later : (channel : ℕ) → written_in setup n channel ≡ written_on setup.shape.channel_of channel (start_of_life m.life) (m.life.writes ++ write ∷ [])
-  written_later channel = ap (λ (x : Machine). written_in setup x channel) it.is
-
-  counted_later : (channel : ℕ) → writes_on channel n.waits.writes ≡ writes_on channel m.waits.writes + one_if (is_write_on channel v)
-  counted_later channel = ap (writes_on channel) it.puts.joins ∙ sum_by-insert (λ w. one_if (is_write_on channel w)) m.waits.writes place v
-
-  pub written_told_here : (told : Told) → IsToldOf setup m here told → IsToldOf setup n here (told_after told (LogEntry.Wrote (numbered (all_of m) write)))
-  written_told_here told is = record {
-    written = ap (λ ws. ws ++ numbered (all_of m) write ∷ []) is.written
-        ∙ sym (written-here setup.shape.channel_of here (start_of_life m.life) m.life.writes write (all_of m) refl refl) ∙ sym (written_later here);
-    credits =
-        let one : one_if (is_write_on here v) ≡ 1 = ap one_if (eq-eqb here here refl) in
-        omega (arith, is.credits, counted_later here, one, length-append told.written (numbered (all_of m) write ∷ []));
-    hold = is.hold ∙ sym (ap (λ (x : Machine). hold_of x.store.saving) it.is);
-    ended = is.ended ∙ sym (ap (λ (x : Machine). has_ended x.mode) it.is);
-  }
-
-  pub written_told_elsewhere : (other : ℕ) (told : Told) → here ≢ other → IsToldOf setup m other told → IsToldOf setup n other told
-  written_told_elsewhere other told apart is = record {
-    written = is.written ∙ sym (written-else setup.shape.channel_of other (start_of_life m.life) m.life.writes write apart) ∙ sym (written_later other);
-    credits =
-        let none : one_if (is_write_on other v) ≡ 0 = ap one_if (ne_eqb here other apart) in
-        omega (arith, is.credits, counted_later other, none);
-    hold = is.hold ∙ sym (ap (λ (x : Machine). hold_of x.store.saving) it.is);
-    ended = is.ended ∙ sym (ap (λ (x : Machine). has_ended x.mode) it.is);
-  }
-
-  -- what lay on a channel does so still, and the write lies on its own
-  lay_on : (channel : ℕ) (w : Numbered) → Has w (written_in setup m channel) → Has w (written_in setup n channel)
-  lay_on channel w has =
-      subst (Has w) (sym (parting.push setup.shape.channel_of channel (start_of_life m.life) m.life.writes write) ∙ sym (written_later channel))
-      (has-before w (written_in setup m channel) _ has)
-
-  lies_here : Has (numbered (all_of m) write) (written_in setup n here)
-  lies_here =
-      subst (Has (numbered (all_of m) write)) (sym (written-here setup.shape.channel_of here (start_of_life m.life) m.life.writes write (all_of m) refl refl) ∙ sym (written_later here))
-      (has-behind (numbered (all_of m) write) (written_in setup m here) (numbered (all_of m) write ∷ []) (zero, refl))
-
-  still_given : WaitAsGiven setup m → (w : Waiting) → Has w n.waits.writes → (x : Numbered) × Has x (written_in setup n w.channel) × (x.number ≡ w.number)
-  still_given given w has = elim (had_or_new w v place m.waits.writes (subst (Has w) it.puts.joins has)) [
-    | inl old ↦ let was = given.given w old in (was.0, lay_on w.channel was.0 was.1, was.2)
-    | inr new ↦
-        subst (λ (y : Waiting). (x : Numbered) × Has x (written_in setup n y.channel) × (x.number ≡ y.number)) new
-        (numbered (all_of m) write, lies_here, refl)
-  ]
-
-  still_waits : (k : ℕ) → WaitsFrom k (all_of m) m.waits.writes → WaitsFrom k (all_of n) n.waits.writes
-  still_waits k waits number from within =
-      let named = λ (w : Waiting). w.number == number in
-      ⊎_elim
-      (λ (less : number < all_of m).
-      let found = any-found named m.waits.writes (waits number from less) in
-      any-has named n.waits.writes found.it (subst (Has found.it) (sym it.puts.joins) (has_old found.it v place m.waits.writes found.has)) found.passes)
-      (λ (most : all_of m ≤ number).
-      let last : all_of m ≡ number = omega (arith, within, most, all_more) in
-      any-has named n.waits.writes v (subst (Has v) (sym it.puts.joins) (has_new v place m.waits.writes)) (eq-eqb (all_of m) number last))
-      (cases_lt number (all_of m))
-
-  pub written_given : WaitAsGiven setup m → IsInOrder n → WaitAsGiven setup n
-  written_given given order = record {
-    given = still_given given;
-    order = order;
-    held = λ k is. still_waits k (given.held k (sym (ap (λ (x : Machine). hold_of x.store.saving) it.is) ∙ is));
-  }
+-- what all logs tell to wait, after one more note
+pub waits_noted : (logs : List (List LogNote)) (channel : ℕ) (log : List LogNote) (note : LogNote) → waits_told (with_note channel log note logs) ≡ slice_set (waits_told logs) channel note.waits
+waits_noted logs channel log note =
+    map-set (λ (l : List LogNote). (log_tells l).waits) logs channel (log ++ note ∷ [])
+    ∙ ap (λ (t : Told). slice_set (waits_told logs) channel t.waits) (told_push log note)
 
 -- What all logs come to.
-module _ (setup : Setup) (m : Machine) (logs : List (List LogEntry)) (are : AreLogsOf setup m logs) where
-  abbrev log_at : ℕ → List LogEntry
+module _ (setup : Setup) (m : Machine) (logs : List (List LogNote)) (are : AreLogsOf setup m logs) where
+  abbrev log_at : ℕ → List LogNote
   log_at channel = slice_index_or logs channel []
+
+  size : length (waits_told logs) ≡ length logs
+  size = told_size logs
+    where
+      told_size : (logs : List (List LogNote)) → length (waits_told logs) ≡ length logs
+      told_size [] = refl
+      told_size (l ∷ logs) = ap suc (told_size logs)
+
+  -- what waits on a channel
+  pub waits_at : (channel : ℕ) → channel < length logs → slice_get (waits_told logs) channel ≡ Some (log_tells (log_at channel)).waits
+  waits_at channel less = at logs channel less
+    where
+      at : (logs : List (List LogNote)) (i : ℕ) → i < length logs → slice_get (waits_told logs) i ≡ Some (log_tells (slice_index_or logs i [])).waits
+      at [] i less = absurd (omega (arith, less))
+      at (l ∷ logs) zero less = refl
+      at (l ∷ logs) (suc i) less = at logs i (omega (arith, less))
+
+  -- and is that channel's own
+  pub own_at : (j : ℕ) (w : Waits) → slice_get (waits_told logs) j ≡ Some w → AreOwn j w
+  own_at j w at =
+      let less : j < length logs = (let within = slice_get_within (waits_told logs) j w at in omega (arith, within, size)) in
+      subst (AreOwn j) (same_Some (log_tells (log_at j)).waits w (sym (waits_at j less) ∙ at)) (are.told j less).own
+
+  pub full_told : (channel : ℕ) → channel < length logs → writes_on channel m.waits.writes ≡ length (log_tells (log_at channel)).waits.writes
+  full_told channel less =
+      ap (λ (w : Waits). writes_on channel w.writes) are.waits
+      ∙ count-on (is_write_on channel) (λ (w : Waits). w.writes) (waits_told logs) channel (log_tells (log_at channel)).waits (waits_at channel less)
+      (λ j w v at has. ap (λ c. c == channel) (all-at (λ (x : Waiting). x.channel ≡ j) w.writes v (own_at j w at).writes has))
+
+  pub full_of_reads_told : (channel : ℕ) → channel < length logs → reads_on channel m.waits.reads ≡ length (log_tells (log_at channel)).waits.reads
+  full_of_reads_told channel less =
+      ap (λ (w : Waits). reads_on channel w.reads) are.waits
+      ∙ count-on (is_read_on channel) (λ (w : Waits). w.reads) (waits_told logs) channel (log_tells (log_at channel)).waits (waits_at channel less)
+      (λ j w r at has. ap (λ c. c == channel) (all-at (λ (x : OpenRead). x.ticket.channel ≡ j) w.reads r (own_at j w at).reads has))
 
   -- each write of the life lies on a channel that has a log
   lie_within : All (λ (w : Write). setup.shape.channel_of w.line < length logs) m.life.writes
@@ -171,21 +96,101 @@ module _ (setup : Setup) (m : Machine) (logs : List (List LogEntry)) (are : AreL
       parting.told setup.shape.channel_of (start_of_life m.life) n line (base_of_life m.life) m.life.writes
       ∙ ap (λ (ws : List Numbered). line_of (after (base_of_life m.life) (writes_of (below n ws))) line) (sym (are.told (setup.shape.channel_of line) less).written)
 
-  -- a write that waits does so on one of the channels
-  pub waits_within : WaitAsGiven setup m → (v : Waiting) → Has v m.waits.writes → v.channel < setup.shape.channels
-  waits_within given v has =
-      let (w, on, named) = given.given v has in
-      let is = written-is setup.shape.channel_of v.channel (start_of_life m.life) m.life.writes w on in
-      let within : setup.shape.channel_of w.write.line < setup.shape.channels = all-at (λ (x : Write). setup.shape.channel_of x.line < setup.shape.channels) m.life.writes w.write are.lie (w.number - start_of_life m.life, is.stands) in
-      let same = is.here in omega (arith, within, same)
+  writes_laid : All (λ (v : Waiting). v.channel < length logs) (laid_out (waits_told logs)).writes
+  writes_laid = all-of (λ (v : Waiting). v.channel < length logs) (laid_out (waits_told logs)).writes (λ k v at.
+      let pile = from-pile (λ (w : Waits). w.writes) (waits_told logs) v (k, at) in
+      let channel = all-at (λ (x : Waiting). x.channel ≡ pile.place) pile.pile.writes v (own_at pile.place pile.pile pile.at).writes pile.has in
+      let within = slice_get_within (waits_told logs) pile.place pile.pile pile.at in
+      omega (arith, channel, within, size))
 
-  pub credits_told : WaitAsGiven setup m → credits_out logs ≡ pending_of m
-  credits_told given =
-      let enough = are.enough in
+  pub credits_told : credits_out logs ≡ pending_of m
+  credits_told =
       sum_upward credits_of (λ c. writes_on c m.waits.writes) [] logs 0
       (λ i less.
       let same : i ≡ 0 + i = omega arith in
-      let credits = (are.told i less).credits in
-      let one : credits_of (log_at i) ≡ writes_on i m.waits.writes = omega (arith, credits) in
-      one ∙ ap (λ c. writes_on c m.waits.writes) same)
-      ∙ all_waiting (length logs) m.waits.writes (all-of (λ v. v.channel < length logs) m.waits.writes (λ k v at. let less = waits_within given v (k, at) in omega (arith, less, enough)))
+      sym (full_told i less) ∙ ap (λ c. writes_on c m.waits.writes) same)
+      ∙ all_waiting (length logs) m.waits.writes (subst (λ (w : Waits). All (λ (v : Waiting). v.channel < length logs) w.writes) (sym are.waits) writes_laid)
+
+  -- a write of the life lies on its channel
+  lies_on : (start : ℕ) (ws : List Write) (k : ℕ) (w : Write) → slice_get ws k ≡ Some w → Has (numbered (start + k) w) (written_on setup.shape.channel_of (setup.shape.channel_of w.line) start ws)
+  lies_on start [] k w at = absurd cc
+  lies_on start (x ∷ ws) zero w at =
+      let none : start ≡ start + 0 = omega arith in
+      subst (λ (b : Bool). Has (numbered (start + 0) w) (if b then numbered start x ∷ written_on setup.shape.channel_of (setup.shape.channel_of w.line) (start + 1) ws else written_on setup.shape.channel_of (setup.shape.channel_of w.line) (start + 1) ws))
+      (sym (eq-eqb (setup.shape.channel_of x.line) (setup.shape.channel_of w.line) (ap (λ (y : Write). setup.shape.channel_of y.line) (same_Some x w at))))
+      (zero, ap Some (ap (λ n. numbered n x) none ∙ ap (numbered (start + 0)) (same_Some x w at)))
+  lies_on start (x ∷ ws) (suc k) w at =
+      let next : start + 1 + k ≡ start + suc k = omega arith in
+      behind (setup.shape.channel_of x.line == setup.shape.channel_of w.line) (subst (λ n. Has (numbered n w) (written_on setup.shape.channel_of (setup.shape.channel_of w.line) (start + 1) ws)) next (lies_on (start + 1) ws k w at))
+    where
+      behind : (b : Bool) → Has (numbered (start + suc k) w) (written_on setup.shape.channel_of (setup.shape.channel_of w.line) (start + 1) ws)
+          → Has (numbered (start + suc k) w) (if b then numbered start x ∷ written_on setup.shape.channel_of (setup.shape.channel_of w.line) (start + 1) ws else written_on setup.shape.channel_of (setup.shape.channel_of w.line) (start + 1) ws)
+      behind true (j, there) = (suc j, there)
+      behind false has = has
+
+  -- where on each channel each of its writes from n on waits, all of the life's do
+  pub held_told : (n : ℕ) → start_of_life m.life ≤ n → ((channel : ℕ) → channel < length logs → WaitFrom n (log_tells (log_at channel)).written (log_tells (log_at channel)).waits.writes)
+      → WaitsFrom n (all_of m) m.waits.writes
+  held_told n least held number from within =
+      let k = number - start_of_life m.life in
+      let found = at-within m.life.writes k (omega (arith, least, from, within)) in
+      let channel = setup.shape.channel_of found.it.line in
+      let enough = are.enough in
+      let lies : channel < length logs = (let lies = all-at (λ (w : Write). setup.shape.channel_of w.line < setup.shape.channels) m.life.writes found.it are.lie (k, found.stands) in omega (arith, lies, enough)) in
+      let named : start_of_life m.life + k ≡ number = omega (arith, least, from) in
+      let told = log_tells (log_at channel) in
+      let has : Has (numbered (start_of_life m.life + k) found.it) told.written = subst (Has (numbered (start_of_life m.life + k) found.it)) (sym (are.told channel lies).written) (lies_on (start_of_life m.life) m.life.writes k found.it found.stands) in
+      let pending : IsPending (start_of_life m.life + k) told.waits.writes =
+      all-at (λ (w : Numbered). n ≤ w.number → IsPending w.number told.waits.writes) told.written (numbered (start_of_life m.life + k) found.it) (held channel lies) has (omega (arith, from, named)) in
+      let it = any-found (λ (v : Waiting). v.number == start_of_life m.life + k) told.waits.writes pending in
+      subst (λ (w : Waits). IsPending number w.writes) (sym are.waits)
+      (any-has (λ (v : Waiting). v.number == number) (laid_out (waits_told logs)).writes it.it
+      (has-pile (λ (w : Waits). w.writes) (waits_told logs) channel told.waits it.it (waits_at channel lies) it.has)
+      (eq-eqb it.it.number number (eqb-true it.it.number (start_of_life m.life + k) it.passes ∙ named)))
+
+  -- One more note of a channel.
+  module _ (channel : ℕ) (log : List LogNote) (of : IsLogOf logs channel log) (note : LogNote) (n : Machine) where
+    abbrev noted : List (List LogNote)
+    noted = with_note channel log note logs
+
+    size_noted : length noted ≡ length logs
+    size_noted = length-set logs channel (log ++ note ∷ [])
+
+    told_noted : IsToldOf setup n channel (told_after (log_tells log) note) → ((other : ℕ) → channel ≢ other → other < length logs → IsToldOf setup n other (log_tells (log_at other)))
+        → (other : ℕ) → other < length noted → IsToldOf setup n other (log_tells (slice_index_or noted other []))
+    told_noted here elsewhere other less =
+        ⊎_elim
+        (λ (e : channel ≡ other).
+        subst (λ c. IsToldOf setup n c (log_tells (slice_index_or noted c []))) e
+        (subst (λ (l : List LogNote). IsToldOf setup n channel (log_tells l)) (sym (get_or-set_same logs channel (log ++ note ∷ []) [] of.there)) (subst (IsToldOf setup n channel) (sym (told_push log note)) here)))
+        (λ (apart : channel ≢ other).
+        subst (λ (l : List LogNote). IsToldOf setup n other (log_tells l)) (sym (get_or-set_other logs channel other (log ++ note ∷ []) [] (λ e. apart (sym e))))
+        (elsewhere other apart (omega (arith, less, size_noted))))
+        (cases_eq channel other)
+
+    pub logs_noted : IsToldOf setup n channel (told_after (log_tells log) note) → ((other : ℕ) → channel ≢ other → other < length logs → IsToldOf setup n other (log_tells (log_at other)))
+        → n.waits ≡ laid_out (waits_told noted) → All (λ (w : Write). setup.shape.channel_of w.line < setup.shape.channels) n.life.writes → AreLogsOf setup n noted
+    logs_noted here elsewhere waits lie = record {
+      told = told_noted here elsewhere;
+      waits = waits;
+      enough = (let enough = are.enough in omega (arith, enough, size_noted));
+      lie = lie;
+    }
+
+  -- what is told of the channel whose log this is
+  pub told_of_log : (channel : ℕ) (log : List LogNote) → IsLogOf logs channel log → IsToldOf setup m channel (log_tells log)
+  told_of_log channel log of = subst (λ (l : List LogNote). IsToldOf setup m channel (log_tells l)) of.same (are.told channel of.there)
+
+  pub waits_of_log : (channel : ℕ) (log : List LogNote) → IsLogOf logs channel log → slice_get (waits_told logs) channel ≡ Some (log_tells log).waits
+  waits_of_log channel log of = waits_at channel of.there ∙ ap (λ (l : List LogNote). Some (log_tells l).waits) of.same
+
+  -- Nothing but what waits on the channel was seen to change.
+  pub logs_looked : (channel : ℕ) (log : List LogNote) → IsLogOf logs channel log → (waits : Waits) → AreOwn channel waits
+      → AreLogsOf setup (record m { waits = laid_out (waits_told (looked channel log waits logs)) }) (looked channel log waits logs)
+  logs_looked channel log of waits own =
+      let n : Machine = record m { waits = laid_out (waits_told (looked channel log waits logs)) } in
+      let was = told_of_log channel log of in
+      logs_noted channel log of (note_of LogEntry.Looked waits) n
+      (record { written = was.written; hold = was.hold; ended = was.ended; own = own })
+      (λ other apart less. let it = are.told other less in record { written = it.written; hold = it.hold; ended = it.ended; own = it.own })
+      refl are.lie

@@ -1,3 +1,2 @@
 pub mod Telling
-pub mod TakingBack
-pub mod Gathering
+pub mod OwnEvents

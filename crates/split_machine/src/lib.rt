@@ -1,15 +1,13 @@
-//! What a machine says of each channel, where a write waits in it until its credit was taken back. No code, but definitions and laws.
+//! What a machine says of each channel, and what the channels' logs tell of it. No code, but definitions and laws.
 //!
-//! Who holds the board's lock alone doesn't know which writes of a channel are in its array by now. What he knows is a machine, and
-//! the log of each channel, which tells what this machine says of the channel (`specs/Telling.antt`). Who holds the channel's lock
-//! too takes its returned credits back: the machine goes on by work (`specs/TakingBack.antt`). Who holds all of them finds in the
-//! queues what waits in truth (`specs/Gathering.antt`).
+//! Who holds the board's lock alone knows a machine in which what waits on a channel is what waited there when that channel's lock
+//! was last held too: its log tells it (`specs/Telling.antt`). Meanwhile the channel has done more, under its own lock alone. Who
+//! holds both sees what waits by now, and each step by which it came there is an event of the machine (`specs/OwnEvents.antt`). So
+//! the machine goes on to where the channel is, write by write and read by read, and a life so far goes on with it.
 #![tactic(auto)]
 
-mod gathering;
-mod taking;
-mod told;
+mod own;
+mod telling;
 
-pub use gathering::{gathered_machines, returned_credits_are_landed};
-pub use taking::{credits_come_of_work, taking_back_leaves};
-pub use told::{a_write_is_told, logs_tell_the_history};
+pub use own::own_steps_are_events;
+pub use telling::{a_read_is_told, a_write_is_told, logs_tell_the_history, logs_tell_what_waits};
