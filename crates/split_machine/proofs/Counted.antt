@@ -16,4 +16,3 @@ module _ {X : Type 0} where
 
   pub counted_no : (test : X → Bool) (x : X) (xs : List X) → test x ≡ false → count_by test (x ∷ xs) ≡ count_by test xs
   counted_no test x xs is = let none : one_if (test x) ≡ 0 = ap one_if is in omega (arith, counted test x xs, none)
-
