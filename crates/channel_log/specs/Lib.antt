@@ -1,3 +1,4 @@
 pub mod Log
+pub mod Between
 pub mod LogRule
 pub mod Seats

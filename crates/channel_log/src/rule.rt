@@ -1,16 +1,19 @@
 // The rule that each step keeps, and what a step tells its seat.
 use crate::entry::LogEntry;
+use crate::standing::Standing;
 use atomic_table::{Join, Play, Split, TableRule};
-use std::collections::LinkedList;
+use std::marker::{Model, PhantomData};
 
 /// What a seat knows: all logs, as the front's seat does, and the log of one channel, as that channel's seat does. It exists
 /// in contracts alone. A seat has both only within a call.
-pub struct LogView {
-    pub has_all: bool,
-    pub logs: LinkedList<LinkedList<LogEntry>>,
-    pub has_one: bool,
-    pub channel: u64,
-    pub log: LinkedList<LogEntry>,
+pub struct LogView {}
+
+impl Model for LogView {
+    ghost use Rattle.channel_log.specs.LogRule.{SeatView, first_view};
+
+    ghost Value = { SeatView };
+
+    ghost view = { λ _. first_view };
 }
 
 /// One seat knows all logs, and one seat for each channel the channel's log.
@@ -24,13 +27,15 @@ impl TableRule<LogEntry, LogView, u64> for LogRule {
     ghost first = { λ _. first_view };
 }
 
-/// An entry goes behind the log of a channel.
-pub struct NoteEntry;
+/// An entry goes behind the log of a channel, with what waits on it from then on.
+pub struct NoteEntry<W> {
+    of: PhantomData<W>,
+}
 
-impl Play<LogEntry, LogView> for NoteEntry {
+impl<W: Standing> Play<LogEntry, LogView> for NoteEntry<W> {
     ghost use Rattle.channel_log.specs.LogRule.{NotesEntry};
 
-    ghost then = { NotesEntry };
+    ghost then = { NotesEntry W.waits };
 }
 
 /// A seat that knows both learns that they are the same.

@@ -1,13 +1,14 @@
 // The seats, and what they note.
 ghost use Rattle.std.specs.Prelude.{◌≡◌, ◌+◌, ◌<◌, ◌≤◌, ◌++◌, [], ◌∷◌, AllPairs, length, true, false, Some, None};
 ghost use Rattle.line_memory.specs.Parts.{AreBefore};
-ghost use Rattle.channel_log.specs.declared.entry.LogEntry.TheVariants.{Wrote, TookBack, HeldFrom, Released, Ended};
-ghost use Rattle.channel_log.specs.Log.{IsLogOf, MayFollow, credits_of, credits_out, log_tells};
+ghost use Rattle.channel_log.specs.declared.entry.LogEntry.TheVariants.{Wrote, Looked, HeldFrom, Released, Ended};
+ghost use Rattle.channel_log.specs.Log.{IsLogOf, MayFollow, credits_of, credits_out, log_tells, note_of};
 ghost use Rattle.channel_log.specs.LogRule.{both_halves, channel_half, front_half, noted_view};
 ghost use Rattle.channel_log.specs.Seats.{AreOf, IsNoted, all_logs, one_log};
 
 use crate::entry::LogEntry;
 use crate::rule::{CompareLogs, DealChannel, EnterSeat, LeaveSeat, LogView, NoteEntry};
+use crate::standing::Standing;
 use crate::table::ChannelLogs;
 use atomic_table::Seat;
 use line_memory::Numbered;
@@ -68,16 +69,16 @@ fn hand_over(
 }
 
 // An entry goes behind the log of the seat's channel.
-fn note_at(logs: &ChannelLogs, seat: &mut Seat<LogEntry, LogView>, entry: &LogEntry)
+fn note_at<W: Standing>(logs: &ChannelLogs, seat: &mut Seat<LogEntry, LogView>, entry: &LogEntry)
     requires table { seat.old.table_id ≡ logs.now }
     requires knows { (seat.old.me.0.has_all ≡ true) × (seat.old.me.0.has_one ≡ true) }
     requires slots { seat.old.me.1 ≡ [] }
     ensures table { seat.new.table_id ≡ seat.old.table_id }
-    ensures seat { seat.new.me ≡ (noted_view entry.now seat.old.me.0, []) }
+    ensures seat { seat.new.me ≡ (noted_view (note_of entry.now W.waits) seat.old.me.0, []) }
     ensures agreed { IsLogOf seat.old.me.0.logs seat.old.me.0.channel seat.old.me.0.log }
 {
     let table = &logs.table.shared;
-    table.compare_exchange_with::<NoteEntry>(seat, 0, 0, 0, entry);
+    table.compare_exchange_with::<NoteEntry<W>>(seat, 0, 0, 0, entry);
 }
 
 // The seat learns that what it knows of its channel and what it knows of all is the same.
@@ -117,84 +118,106 @@ impl FrontSeat {
     }
 
     // Both seats note an entry of the channel.
-    #[tactic(auto, using(crate::proofs::Telling::following_log))]
-    fn note(&mut self, logs: &ChannelLogs, seat: &mut ChannelSeat, entry: LogEntry)
+    fn note<W: Standing>(&mut self, logs: &ChannelLogs, seat: &mut ChannelSeat, entry: LogEntry)
         requires tables { AreOf logs.now self.old seat.old }
         requires follows { MayFollow seat.old.log entry }
-        ensures { IsNoted entry self.old seat.old self.new seat.new }
+        ensures { IsNoted (note_of entry W.waits) self.old seat.old self.new seat.new }
     {
         hand_over(logs, &mut self.seat, &mut seat.seat);
-        note_at(logs, &mut seat.seat, &entry);
+        note_at::<W>(logs, &mut seat.seat, &entry);
         hand_over(logs, &mut seat.seat, &mut self.seat);
     }
 
-    /// Notes that the channel was given a write, whose number is above those of its writes so far. One more credit is out.
-    pub fn write(&mut self, logs: &ChannelLogs, seat: &mut ChannelSeat, write: Numbered)
+    /// Notes that the channel was given a write, whose number is above those of its writes so far.
+    pub fn write<W: Standing>(
+        &mut self,
+        logs: &ChannelLogs,
+        seat: &mut ChannelSeat,
+        write: Numbered,
+    )
         requires tables { AreOf logs.now self.old seat.old }
         requires number { AreBefore write.number (log_tells seat.old.log).written }
-        ensures noted { IsNoted (Wrote write) self.old seat.old self.new seat.new }
+        ensures noted { IsNoted (note_of (Wrote write) W.waits) self.old seat.old
+            self.new seat.new }
         ensures told { log_tells seat.new.log ≡ record (log_tells seat.old.log) {
           written = (log_tells seat.old.log).written ++ write ∷ [];
+          waits = W.waits;
         } }
-        ensures credits { credits_of seat.new.log ≡ credits_of seat.old.log + 1 }
-        ensures out { credits_out self.new.logs ≡ credits_out self.old.logs + 1 }
+        ensures out { credits_out self.new.logs + credits_of seat.old.log
+            ≡ credits_out self.old.logs + length W.waits.writes }
     {
-        seat.always();
-        self.note(logs, seat, LogEntry::Wrote(write));
+        self.note::<W>(logs, seat, LogEntry::Wrote(write));
     }
 
-    /// Notes that so many of the credits that are out on the channel were taken back.
-    pub fn take_back(&mut self, logs: &ChannelLogs, seat: &mut ChannelSeat, count: u64)
-        requires tables { AreOf logs.now self.old seat.old }
-        requires credits { count ≤ credits_of seat.old.log }
-        ensures noted { IsNoted (TookBack count) self.old seat.old self.new seat.new }
+    /// Notes what waits on the channel, and nothing else.
+    pub fn look<W: Standing>(&mut self, logs: &ChannelLogs, seat: &mut ChannelSeat)
+        requires { AreOf logs.now self.old seat.old }
+        ensures noted { IsNoted (note_of Looked W.waits) self.old seat.old self.new seat.new }
         ensures told { log_tells seat.new.log ≡ record (log_tells seat.old.log) {
-          taken = (log_tells seat.old.log).taken + count;
+          waits = W.waits;
         } }
-        ensures credits { credits_of seat.new.log + count ≡ credits_of seat.old.log }
-        ensures out { credits_out self.new.logs + count ≡ credits_out self.old.logs }
+        ensures out { credits_out self.new.logs + credits_of seat.old.log
+            ≡ credits_out self.old.logs + length W.waits.writes }
     {
-        self.note(logs, seat, LogEntry::TookBack(count));
+        self.note::<W>(logs, seat, LogEntry::Looked);
     }
 
     /// Notes that the channel's writes from a number on are held back from its array.
-    pub fn hold_from(&mut self, logs: &ChannelLogs, seat: &mut ChannelSeat, number: u64)
+    pub fn hold_from<W: Standing>(
+        &mut self,
+        logs: &ChannelLogs,
+        seat: &mut ChannelSeat,
+        number: u64,
+    )
         requires { AreOf logs.now self.old seat.old }
-        ensures noted { IsNoted (HeldFrom number) self.old seat.old self.new seat.new }
+        ensures noted { IsNoted (note_of (HeldFrom number) W.waits) self.old seat.old
+            self.new seat.new }
         ensures told { log_tells seat.new.log ≡ record (log_tells seat.old.log) {
           hold = Some number;
+          waits = W.waits;
         } }
+        ensures out { credits_out self.new.logs + credits_of seat.old.log
+            ≡ credits_out self.old.logs + length W.waits.writes }
     {
-        self.note(logs, seat, LogEntry::HeldFrom(number));
+        self.note::<W>(logs, seat, LogEntry::HeldFrom(number));
     }
 
     /// Notes that no write of the channel is held back any more.
-    pub fn release(&mut self, logs: &ChannelLogs, seat: &mut ChannelSeat)
+    pub fn release<W: Standing>(&mut self, logs: &ChannelLogs, seat: &mut ChannelSeat)
         requires { AreOf logs.now self.old seat.old }
-        ensures noted { IsNoted Released self.old seat.old self.new seat.new }
-        ensures told { log_tells seat.new.log ≡ record (log_tells seat.old.log) { hold = None } }
+        ensures noted { IsNoted (note_of Released W.waits) self.old seat.old
+            self.new seat.new }
+        ensures told { log_tells seat.new.log ≡ record (log_tells seat.old.log) {
+          hold = None;
+          waits = W.waits;
+        } }
+        ensures out { credits_out self.new.logs + credits_of seat.old.log
+            ≡ credits_out self.old.logs + length W.waits.writes }
     {
-        self.note(logs, seat, LogEntry::Released);
+        self.note::<W>(logs, seat, LogEntry::Released);
     }
 
     /// Notes at the channel that the life has ended.
-    pub fn end(&mut self, logs: &ChannelLogs, seat: &mut ChannelSeat)
+    pub fn end<W: Standing>(&mut self, logs: &ChannelLogs, seat: &mut ChannelSeat)
         requires { AreOf logs.now self.old seat.old }
-        ensures noted { IsNoted Ended self.old seat.old self.new seat.new }
-        ensures told { log_tells seat.new.log ≡ record (log_tells seat.old.log) { ended = true } }
+        ensures noted { IsNoted (note_of Ended W.waits) self.old seat.old self.new seat.new }
+        ensures told { log_tells seat.new.log ≡ record (log_tells seat.old.log) {
+          ended = true;
+          waits = W.waits;
+        } }
+        ensures out { credits_out self.new.logs + credits_of seat.old.log
+            ≡ credits_out self.old.logs + length W.waits.writes }
     {
-        self.note(logs, seat, LogEntry::Ended);
+        self.note::<W>(logs, seat, LogEntry::Ended);
     }
 }
 
 impl ChannelSeat {
-    /// What is true of each log: its numbers rise, so that none is given twice, and no more credits were taken back than given.
+    /// What is true of each log: its numbers rise, so that none is given twice.
     pub fn always(&self)
-        ensures rise { AllPairs (λ v w. v.number < w.number) (log_tells self.now.log).written }
-        ensures taken { (log_tells self.now.log).taken
-            ≤ length (log_tells self.now.log).written }
+        ensures { AllPairs (λ v w. v.number < w.number) (log_tells self.now.log).written }
     {
-        // a log keeps both clauses by the invariant of its seat, so there is nothing to do
+        // a log keeps it by the invariant of its seat, so there is nothing to do
         let _ = &self.seat;
     }
 }

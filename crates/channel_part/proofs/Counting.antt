@@ -2,11 +2,10 @@
 use Rattle.std.specs.Prelude.{All, AllPairs, map, nat_eq, nat_le, not}
 use Rattle.std.specs.List.{AllByRecursion, IsDistinct, list_any}
 use Rattle.std.specs.Set.{is_member}
-use Rattle.std.proofs.Common.{arith, ◌≡◌, ◌==◌, ◌||◌, ◌+◌, ◌<◌, ◌≤◌, ℕ, zero, suc, Bool, true, false, cond, refl, sym, ap, subst, ◌∙◌, List, [], ◌∷◌, count_by, filter, length, inl, inr}
-use Rattle.std.proofs.lemmas.Bool.{cases_order, eq-eqb, eqb-true, leb-true, ne_eqb}
+use Rattle.std.proofs.Common.{arith, ◌≡◌, ◌==◌, ◌||◌, ◌<◌, ◌≤◌, ℕ, zero, suc, Bool, true, false, cond, refl, sym, ap, subst, ◌∙◌, List, [], ◌∷◌, count_by, filter, length, inl, inr}
+use Rattle.std.proofs.lemmas.Bool.{cases_order, eqb-true, leb-true, ne_eqb}
 use Rattle.std.proofs.lemmas.Cmp.{nat_eq_equiv}
 use Rattle.std.proofs.lemmas.List.{length-map}
-use Rattle.std.proofs.lemmas.List.Filters.{length-filter_both}
 use Rattle.std.proofs.lemmas.List.Kept.{AllPairs-filter}
 use Rattle.std.proofs.lemmas.List.Sums.{length-filter}
 use Rattle.std.proofs.lemmas.Map.Made.{length-le_from_is_member}
@@ -18,8 +17,8 @@ use Rattle.channel_port.specs.Carried.{WaitFrom}
 use Rattle.channel_port.specs.Waits.{AllBelow, Has, IsPending}
 use Rattle.channel_set.specs.Carrying.{WaitAmong}
 use Rattle.channel_set.proofs.Lists.{all-at, all-of}
-use Rattle.channel_set.proofs.Piles.{any-found, any-has}
-use Rattle.channel_part.specs.Queue.{OldestFirst, waits_no_more}
+use Rattle.channel_set.proofs.Piles.{any-found}
+use Rattle.channel_part.specs.Queue.{waits_no_more}
 
 -- what passes a filter
 filtered : {X : Type 0} (p : X → Bool) (xs : List X) (x : X) → Has x (filter p xs) → (p x ≡ true) × Has x xs
@@ -30,16 +29,6 @@ filtered p (y ∷ xs) x has = by (p y) refl has (filtered p xs x)
     by true is (zero, at) rest = (ap p (sym (same_Some y x at)) ∙ is, (zero, at))
     by true is (suc k, at) rest = let (passes, (j, there)) = rest (k, at) in (passes, (suc j, there))
     by false is has rest = let (passes, (j, there)) = rest has in (passes, (suc j, there))
-
-passes_filter : {X : Type 0} (p : X → Bool) (xs : List X) (x : X) → Has x xs → p x ≡ true → Has x (filter p xs)
-passes_filter p [] x (k, at) passes = absurd cc
-passes_filter p (y ∷ xs) x has passes = by (p y) refl has (λ has. passes_filter p xs x has passes)
-  where
-    by : (b : Bool) → p y ≡ b → Has x (y ∷ xs) → (Has x xs → Has x (filter p xs)) → Has x (cond b (y ∷ filter p xs) (filter p xs))
-    by true is (zero, at) rest = (zero, at)
-    by true is (suc k, at) rest = let (j, there) = rest (k, at) in (suc j, there)
-    by false is (zero, at) rest = absurd (let same : p y ≡ p x = ap p (same_Some y x at) in let bad : ⊥ = cc in bad)
-    by false is (suc k, at) rest = rest (k, at)
 
 -- numbers that rise are distinct
 module _ {X : Type 0} (number : X → ℕ) where
@@ -86,19 +75,6 @@ module _ (mine : List Numbered) (rise : AllPairs (λ v w. v.number < w.number) m
       all-at (λ w. n ≤ w.number → IsPending w.number writes) mine w held there (leb-true n w.number passes)) in
       let count = length-filter from mine in
       omega (arith, few, count)
-
-  -- and all others wait no more
-  pub gone_count : OldestFirst writes → WaitAmong mine writes → count_by (waits_no_more writes) mine + length writes ≡ length mine
-  gone_count order among =
-      let waits = λ (w : Numbered). list_any (λ v. v.number == w.number) writes in
-      let most = fewer (λ w. w.number) (λ v. v.number) (filter waits mine) writes (AllPairs-filter (λ v w. v.number < w.number) waits mine rise) (λ w has. (filtered waits mine w has).0) in
-      let least = fewer (λ v. v.number) (λ w. w.number) writes (filter waits mine) order (λ v has.
-      let (w, there, named) = among v has in
-      let pending = any-has (λ u. u.number == w.number) writes v has (eq-eqb v.number w.number (sym named)) in
-      any-has (λ u. u.number == v.number) (filter waits mine) w (passes_filter waits mine w there pending) (eq-eqb w.number v.number named)) in
-      let both = length-filter_both waits (waits_no_more writes) (λ w. refl) mine in
-      let count = length-filter (waits_no_more writes) mine in
-      omega (arith, most, least, both, count)
 
 -- each write that waits no more is below the hold
 pub gone_below : (n : ℕ) (w : Numbered) (writes : List Waiting) → (n ≤ w.number → IsPending w.number writes) → waits_no_more writes w ≡ true → w.number < n

@@ -1,11 +1,10 @@
 -- What a command leaves of the writes that wait in a channel, and what a further write makes of them.
 use Rattle.std.specs.Prelude.{IfNone, IfSome, remove}
 use Rattle.std.specs.Option.{ForSome}
-use Rattle.std.proofs.Common.{arith, ◌≡◌, ◌≢◌, ◌==◌, ◌+◌, ◌<◌, ◌≤◌, ℕ, zero, suc, refl, sym, ap, subst, ◌∙◌, List, [], ◌∷◌, ◌++◌, length, slice_get, Option, Some, None, inl, inr}
+use Rattle.std.proofs.Common.{arith, ◌≡◌, ◌≢◌, ◌==◌, ◌+◌, ◌<◌, ◌≤◌, ℕ, zero, suc, refl, sym, ap, subst, ◌∙◌, List, [], ◌∷◌, ◌++◌, length, slice_get, Option, Some, None, inl, inr, false}
 use Rattle.std.proofs.lemmas.Bool.{eq-eqb, eqb-true}
 use Rattle.std.proofs.lemmas.List.Edits.{length-remove}
 use Rattle.std.proofs.lemmas.List.Elements.{All-append, All-cons, All-nil, All-weaker}
-use Rattle.std.proofs.lemmas.List.Quantifiers.{all_pairs_push, all_pairs_remove}
 use Rattle.std.proofs.lemmas.Option.{same_Some, slice_get_within}
 use Rattle.line_memory.specs.declared.Write.{Write}
 use Rattle.line_memory.specs.declared.parts.Numbered.{Numbered}
@@ -20,10 +19,12 @@ use Rattle.channel_port.specs.declared.waiting.Waiting.{Waiting}
 use Rattle.channel_port.specs.Answers.{IsBelowHold, IsCollected, IsServed}
 use Rattle.channel_port.specs.Carried.{WaitFrom}
 use Rattle.channel_port.specs.View.{PortView}
-use Rattle.channel_port.specs.Waits.{AllBelow, Goes, Has, IsPending, Waits, waiting}
+use Rattle.channel_port.specs.Waits.{Goes, Has, IsPending, Waits, waiting}
+use Rattle.channel_log.specs.Between.{CameOf, OwnStep}
+use Rattle.channel_log.specs.Log.{Told}
 use Rattle.channel_set.specs.Carrying.{WaitAmong}
 use Rattle.channel_set.proofs.Piles.{any-found, any-has, has-before, has-behind, has-either}
-use Rattle.channel_part.specs.Queue.{OldestFirst, returned_by, returned_for}
+use Rattle.channel_part.specs.Queue.{returned_by, returned_for}
 
 -- what waits from a number on waits still
 abbrev pub KeepsFrom : ℕ → List Waiting → List Waiting → Type 0
@@ -55,13 +56,6 @@ served_held hold channel (Some (served.Write number)) old new lands n some k fro
     pending_still k (waiting number channel) old.writes new.writes lands.goes (λ e. absurd (let same : number ≡ k = e in omega arith)) waits
 served_held hold channel (Some (served.Read ticket)) old new answered n some k from waits = subst (IsPending k) (sym answered.writes) waits
 
-served_order : (hold : Option ℕ) (channel : ℕ) (s : Option Served) (old new : Waits) → IsServed hold channel s old new → OldestFirst old.writes → OldestFirst new.writes
-served_order hold channel None old new is order = subst (λ (w : Waits). OldestFirst w.writes) (sym is) order
-served_order hold channel (Some (served.Write number)) old new lands order =
-    let (place, stands, is) = lands.goes in
-    subst OldestFirst (sym is) (all_pairs_remove (λ v w. v.number < w.number) old.writes place (slice_get_within old.writes place (waiting number channel) stands) order)
-served_order hold channel (Some (served.Read ticket)) old new answered order = subst OldestFirst (sym answered.writes) order
-
 served_length : (hold : Option ℕ) (channel : ℕ) (s : Option Served) (old new : Waits) → IsServed hold channel s old new → length new.writes + returned_for s ≡ length old.writes
 served_length hold channel None old new is = let same = ap (λ (w : Waits). length w.writes) is in omega (arith, same)
 served_length hold channel (Some (served.Write number)) old new lands =
@@ -76,13 +70,31 @@ module _ (v w : PortView) (channel : ℕ) where
   worked_held None is stays = λ n some k from waits. subst (λ (x : PortView). IsPending k x.waits.writes) (sym stays) waits
   worked_held (Some done) is stays = served_held v.hold channel done.served v.waits w.waits is
 
-  pub worked_order : (result : Option Done) → IfSome result (λ done. IsServed v.hold channel done.served v.waits w.waits) → IfNone result (w ≡ v) → OldestFirst v.waits.writes → OldestFirst w.waits.writes
-  worked_order None is stays order = subst (λ (x : PortView). OldestFirst x.waits.writes) (sym stays) order
-  worked_order (Some done) is stays order = served_order v.hold channel done.served v.waits w.waits is order
-
   pub worked_length : (result : Option Done) → IfSome result (λ done. IsServed v.hold channel done.served v.waits w.waits) → IfNone result (w ≡ v) → length w.waits.writes + returned_by result ≡ length v.waits.writes
   worked_length None is stays = omega (arith, ap (λ (x : PortView). length x.waits.writes) stays)
   worked_length (Some done) is stays = served_length v.hold channel done.served v.waits w.waits is
+
+-- What waits came by one more step, or is as it was.
+came_same : (channel : ℕ) (told : Told) (old new : Waits) → new ≡ old → CameOf channel told old → CameOf channel told new
+came_same channel told old new same came = subst (CameOf channel told) (sym same) came
+
+came_on : (channel : ℕ) (told : Told) (old new : Waits) → OwnStep channel told old new → CameOf channel told old → CameOf channel told new
+came_on channel told old new step came = record { count = suc came.count; steps = (old, came.steps, step) }
+
+pub served_came : (channel : ℕ) (told : Told) (s : Option Served) (old new : Waits) → told.ended ≡ false → IsServed told.hold channel s old new → CameOf channel told old → CameOf channel told new
+served_came channel told None old new runs is came = came_same channel told old new is came
+served_came channel told (Some s) old new runs is came = came_on channel told old new (inl (record { runs = runs; served = s; is = is })) came
+
+pub collected_came : (channel : ℕ) (told : Told) (ticket : Ticket) (r : Collected) (old new : Waits) → IsCollected ticket r old new → CameOf channel told old → CameOf channel told new
+collected_came channel told ticket (Data line bytes at) old new is came = came_on channel told old new (inr (record { ticket = ticket; line = line; bytes = bytes; at = at; is = is })) came
+collected_came channel told ticket Pending old new (read, has, named, waited, same) came = came_same channel told old new same came
+collected_came channel told ticket Unknown old new (fresh, same) came = came_same channel told old new same came
+
+pub worked_came : (v w : PortView) (channel : ℕ) (told : Told) (result : Option Done) → IfSome result (λ done. IsServed v.hold channel done.served v.waits w.waits) → IfNone result (w ≡ v)
+    → v.hold ≡ told.hold → told.ended ≡ false → CameOf channel told v.waits → CameOf channel told w.waits
+worked_came v w channel told None served stays hold runs came = came_same channel told v.waits w.waits (ap (λ (x : PortView). x.waits) stays) came
+worked_came v w channel told (Some done) served stays hold runs came =
+    served_came channel told done.served v.waits w.waits runs (subst (λ h. IsServed h channel done.served v.waits w.waits) hold served) came
 
 -- a read that is collected leaves the writes
 pub collected_writes : (ticket : Ticket) (r : Collected) (old new : Waits) → IsCollected ticket r old new → new.writes ≡ old.writes
@@ -91,9 +103,6 @@ collected_writes ticket Pending old new (read, has, named, waited, same) = ap (�
 collected_writes ticket Unknown old new (fresh, same) = ap (λ (w : Waits). w.writes) same
 
 -- A write is put.
-
-pub put_order : (number channel : ℕ) (old : List Waiting) → AllBelow number old → OldestFirst old → OldestFirst (old ++ waiting number channel ∷ [])
-put_order number channel old below order = all_pairs_push (λ v w. v.number < w.number) old (waiting number channel) order below
 
 pub put_among : (number channel : ℕ) (write : Write) (mine : List Numbered) (old : List Waiting) → WaitAmong mine old → WaitAmong (mine ++ numbered number write ∷ []) (old ++ waiting number channel ∷ [])
 put_among number channel write mine old among v has = elim (has-either v old (waiting number channel ∷ []) has) [

@@ -1,8 +1,7 @@
 -- What a part stands for after its calls.
 use Rattle.std.specs.Option.{ForSome}
 use Rattle.std.specs.Prelude.{IfNone, IfSome}
-use Rattle.std.proofs.Common.{arith, ◌≡◌, ◌+◌, ◌-◌, ◌≤◌, ℕ, sym, ap, subst, ◌∙◌, List, [], ◌∷◌, ◌++◌, length, Option, Some, None, true}
-use Rattle.std.proofs.lemmas.List.{length-append}
+use Rattle.std.proofs.Common.{◌≡◌, ◌≤◌, ℕ, refl, sym, ap, subst, ◌∙◌, List, [], ◌∷◌, ◌++◌, length, Option, Some, None, true}
 use Rattle.std.proofs.lemmas.List.Elements.{All-weaker}
 use Rattle.std.proofs.lemmas.List.Sums.{fold_push}
 use Rattle.std.proofs.lemmas.Option.{same_Some}
@@ -10,26 +9,28 @@ use Rattle.line_memory.specs.declared.Write.{Write}
 use Rattle.line_memory.specs.declared.parts.Numbered.{Numbered}
 use Rattle.line_memory.specs.Parts.{AreBefore, numbered}
 use Rattle.channel_log.specs.declared.entry.LogEntry.{LogEntry}
-use Rattle.channel_log.specs.declared.entry.LogEntry.TheVariants.{Wrote, TookBack, HeldFrom, Released, Ended}
-use Rattle.channel_log.specs.Log.{Told, log_tells, told_after, untold}
+use Rattle.channel_log.specs.declared.entry.LogEntry.TheVariants.{Wrote, Looked, HeldFrom, Released, Ended}
+use Rattle.channel_log.specs.Between.{CameOf}
+use Rattle.channel_log.specs.Log.{LogNote, Told, log_tells, note_of, told_after, untold}
 use Rattle.channel_port.specs.declared.answers.Done.{Done}
 use Rattle.channel_port.specs.declared.port.ChannelPort.{Ghosts}
 use Rattle.channel_port.specs.Answers.{IsServed}
 use Rattle.channel_port.specs.Carried.{KeepsCarried, WaitFrom}
 use Rattle.channel_port.specs.View.{PortView, with_write}
 use Rattle.channel_port.specs.Waits.{IsPending, Remain}
-use Rattle.channel_set.specs.Carrying.{WaitAmong}
+use Rattle.channel_set.specs.Carrying.{CarriesOwn, WaitAmong}
 use Rattle.channel_set.proofs.Answered.{work-remain}
 use Rattle.channel_set.proofs.Piles.{remain-same}
 use Rattle.channel_part.specs.declared.part.Part.{Part}
 use Rattle.channel_part.specs.Stands.{PartStands, PortStands, SameButPort, StandsStill, StandsWith, queue_of}
 use Rattle.channel_part.proofs.Queueing.{KeepsFrom, put_among, put_held, worked_held}
 
-abbrev credits_told : Told → ℕ
-credits_told t = length t.written - t.taken
+told_push : (log : List LogNote) (note : LogNote) → log_tells (log ++ note ∷ []) ≡ told_after (log_tells log) note
+told_push log note = fold_push told_after untold log note
 
-told_push : (log : List LogEntry) (entry : LogEntry) → log_tells (log ++ entry ∷ []) ≡ told_after (log_tells log) entry
-told_push log entry = fold_push told_after untold log entry
+-- what was noted just now came of itself
+noted : (channel : ℕ) (told : Told) → CameOf channel told told.waits
+noted channel told = record { count = 0; steps = refl }
 
 module _ {K : Type 0} (L : Ghosts K) where
   -- a port that carries what it did, with the same hold, and in which no write is new and each held one waits still
@@ -65,52 +66,76 @@ module _ {K : Type 0} (L : Ghosts K) where
     held = worked_held (L.view old) (L.view new) (L.view old).number result served stays;
   }
 
-  kept_port : (old new : K) → KeptPort old new → (channel : ℕ) (base : List (List ℕ)) (told : Told) → PortStands L old channel base told → PortStands L new channel base told
-  kept_port old new kept channel base told s = record {
+  kept_port : (old new : K) → KeptPort old new → (channel : ℕ) (base : List (List ℕ)) (told : Told) → PortStands L old channel base told → CameOf channel told (L.view new).waits → PortStands L new channel base told
+  kept_port old new kept channel base told s came = record {
     number = kept.number ∙ s.number;
     own = record { carries = kept.keeps base told.written s.own.carries; given = λ v has. s.own.given v (kept.remain v has) };
     hold = kept.hold ∙ s.hold;
     held = λ n some.
         All-weaker (λ w. n ≤ w.number → IsPending w.number (L.view old).waits.writes) (λ w. n ≤ w.number → IsPending w.number (L.view new).waits.writes)
         (λ w waits from. kept.held n (s.hold ∙ some) w.number from (waits from)) told.written (s.held n some);
+    came = came;
   }
 
-  pub still : (old new : Part K L) → SameButPort L old new → KeptPort old.port new.port → StandsStill L old new
-  still old new same kept channel base log s = record {
-    port = kept_port old.port new.port kept channel base (log_tells log) s.port;
+  -- what waits in the one came of what waits in the other, by the steps that are the channel's own
+  abbrev pub ComesOn : Part K L → Part K L → Type 0
+  ComesOn old new = (channel : ℕ) (told : Told) → (L.view old.port).number ≡ channel → (L.view old.port).hold ≡ told.hold → old.ended ≡ told.ended
+      → CameOf channel told (L.view old.port).waits → CameOf channel told (L.view new.port).waits
+
+  pub still : (old new : Part K L) → SameButPort L old new → KeptPort old.port new.port → ComesOn old new → StandsStill L old new
+  still old new same kept comes channel base log s = record {
+    port = kept_port old.port new.port kept channel base (log_tells log) s.port (comes channel (log_tells log) s.port.number s.port.hold s.ended s.port.came);
     credits = same.credits ∙ s.credits;
     ended = same.ended ∙ s.ended;
   }
 
-  -- for the log with one more entry
-  with_entry : (part : Part K L) (channel : ℕ) (base : List (List ℕ)) (log : List LogEntry) (entry : LogEntry) → PortStands L part.port channel base (told_after (log_tells log) entry)
-      → part.credits ≡ credits_told (told_after (log_tells log) entry) → part.ended ≡ (told_after (log_tells log) entry).ended → PartStands L part channel base (log ++ entry ∷ [])
+  -- for the log with one more entry, and what waits now
+  abbrev told_now : Part K L → List LogNote → LogEntry → Told
+  told_now part log entry = told_after (log_tells log) (note_of entry (L.view part.port).waits)
+
+  with_entry : (part : Part K L) (channel : ℕ) (base : List (List ℕ)) (log : List LogNote) (entry : LogEntry) → PortStands L part.port channel base (told_now part log entry)
+      → part.credits ≡ length (queue_of L part) → part.ended ≡ (told_now part log entry).ended → PartStands L part channel base (log ++ note_of entry (L.view part.port).waits ∷ [])
   with_entry part channel base log entry port credits ended =
-      let told = sym (told_push log entry) in
+      let told = sym (told_push log (note_of entry (L.view part.port).waits)) in
       record {
         port = subst (PortStands L part.port channel base) told port;
-        credits = credits ∙ ap credits_told told;
+        credits = credits ∙ ap (λ (t : Told). length t.waits.writes) told;
         ended = ended ∙ ap (λ (t : Told). t.ended) told;
       }
 
-  pub took_back : (old new : Part K L) (count : ℕ) → new.port ≡ old.port → new.credits + count ≡ old.credits → new.ended ≡ old.ended → StandsWith L (TookBack count) old new
-  took_back old new count port credits ended channel base log s is may =
-      let s' = s.port in
-      let out : old.credits ≡ credits_told (log_tells log) = s.credits in
-      with_entry new channel base log (TookBack count)
-      (subst (λ p. PortStands L p channel base (told_after (log_tells log) (TookBack count))) (sym port) (record { number = s'.number; own = s'.own; hold = s'.hold; held = s'.held }))
-      (omega (arith, credits, out)) (ended ∙ s.ended)
+  -- a port that has kept what it carries stands for what is told of the same writes and the same hold, once what waits is noted
+  kept_now : (old new : Part K L) → KeptPort old.port new.port → (channel : ℕ) (base : List (List ℕ)) (told now : Told) → now.written ≡ told.written → now.hold ≡ told.hold → now.waits ≡ (L.view new.port).waits
+      → PortStands L old.port channel base told → PortStands L new.port channel base now
+  kept_now old new kept channel base told now written hold waits s = record {
+    number = kept.number ∙ s.number;
+    own = subst (CarriesOwn L new.port base) (sym written) (record { carries = kept.keeps base told.written s.own.carries; given = λ v has. s.own.given v (kept.remain v has) });
+    hold = kept.hold ∙ s.hold ∙ sym hold;
+    held = λ n some.
+        subst (λ mine. WaitFrom n mine (L.view new.port).waits.writes) (sym written)
+        (All-weaker (λ w. n ≤ w.number → IsPending w.number (L.view old.port).waits.writes) (λ w. n ≤ w.number → IsPending w.number (L.view new.port).waits.writes)
+        (λ w waits from. kept.held n (s.hold ∙ sym hold ∙ some) w.number from (waits from)) told.written (s.held n (sym hold ∙ some)));
+    came = subst (CameOf channel now) waits (noted channel now);
+  }
+
+  -- its port has kept what it carries, and what waits in it is noted
+  pub looked : (old new : Part K L) → KeptPort old.port new.port → new.credits ≡ length (queue_of L new) → new.ended ≡ old.ended → StandsWith L Looked old new
+  looked old new kept credits ended channel base log s is may =
+      let told = log_tells log in
+      let now = told_now new log Looked in
+      with_entry new channel base log Looked (kept_now old new kept channel base told now refl refl refl s.port) credits (ended ∙ s.ended)
+
+  pub ended : (old new : Part K L) → KeptPort old.port new.port → new.credits ≡ length (queue_of L new) → new.ended ≡ true → StandsWith L Ended old new
+  ended old new kept credits over channel base log s is may =
+      let told = log_tells log in
+      let now = told_now new log Ended in
+      with_entry new channel base log Ended (kept_now old new kept channel base told now refl refl refl s.port) credits over
 
   pub wrote : (old new : Part K L) (number : ℕ) (write : Write) → L.view new.port ≡ with_write number (L.view old.port)
       → ((base : List (List ℕ)) (mine : List Numbered) → L.carries old.port base mine → AreBefore number mine → L.carries new.port base (mine ++ numbered number write ∷ []))
-      → new.credits ≡ old.credits + 1 → new.ended ≡ old.ended → StandsWith L (Wrote (numbered number write)) old new
+      → new.credits ≡ length (queue_of L new) → new.ended ≡ old.ended → StandsWith L (Wrote (numbered number write)) old new
   wrote old new number write puts carries credits ended channel base log s is may =
       let told = log_tells log in
-      let v = with_write number (L.view old.port) in
       let w = numbered number write in
-      let out : old.credits ≡ credits_told told = s.credits in
-      let size = length-append told.written (w ∷ []) in
-      let taken = is.taken in
       with_entry new channel base log (Wrote w)
       (record {
         number = ap (λ (x : PortView). x.number) puts ∙ s.port.number;
@@ -122,8 +147,9 @@ module _ {K : Type 0} (L : Ghosts K) where
         held = λ n some.
             subst (λ (x : PortView). WaitFrom n (told.written ++ w ∷ []) x.waits.writes) (sym puts)
             (put_held n number (L.view old.port).number write told.written (queue_of L old) (s.port.held n some));
+        came = noted channel (told_now new log (Wrote w));
       })
-      (omega (arith, credits, out, size, taken)) (ended ∙ s.ended)
+      credits (ended ∙ s.ended)
 
   -- a port with another hold, and the same with all its writes
   pub record HoldsPort (hold : Option ℕ) (old new : K) : Type 0 where
@@ -131,7 +157,7 @@ module _ {K : Type 0} (L : Ghosts K) where
     pub keeps : KeepsCarried (L.carries old) (L.carries new)
 
   held_port : (old new : K) (hold : Option ℕ) → HoldsPort hold old new → (channel : ℕ) (base : List (List ℕ)) (told : Told) → PortStands L old channel base told
-      → ForSome hold (λ n. WaitFrom n told.written (L.view old).waits.writes) → PortStands L new channel base (record told { hold = hold })
+      → ForSome hold (λ n. WaitFrom n told.written (L.view old).waits.writes) → PortStands L new channel base (record told { hold = hold; waits = (L.view new).waits })
   held_port old new hold holds channel base told s held = record {
     number = ap (λ (x : PortView). x.number) holds.is ∙ s.number;
     own = record {
@@ -140,20 +166,17 @@ module _ {K : Type 0} (L : Ghosts K) where
     };
     hold = ap (λ (x : PortView). x.hold) holds.is;
     held = λ n some. subst (λ (x : PortView). WaitFrom n told.written x.waits.writes) (sym holds.is) (held n some);
+    came = noted channel (record told { hold = hold; waits = (L.view new).waits });
   }
 
-  pub held_from : (old new : Part K L) (number : ℕ) → SameButPort L old new → HoldsPort (Some number) old.port new.port → (channel : ℕ) (base : List (List ℕ)) (log : List LogEntry) → PartStands L old channel base log
-      → WaitFrom number (log_tells log).written (queue_of L old) → PartStands L new channel base (log ++ HeldFrom number ∷ [])
-  held_from old new number same holds channel base log s held =
+  pub held_from : (old new : Part K L) (number : ℕ) → HoldsPort (Some number) old.port new.port → new.credits ≡ length (queue_of L new) → new.ended ≡ old.ended
+      → (channel : ℕ) (base : List (List ℕ)) (log : List LogNote) → PartStands L old channel base log
+      → WaitFrom number (log_tells log).written (queue_of L old) → PartStands L new channel base (log ++ note_of (HeldFrom number) (L.view new.port).waits ∷ [])
+  held_from old new number holds credits ended channel base log s held =
       with_entry new channel base log (HeldFrom number)
       (held_port old.port new.port (Some number) holds channel base (log_tells log) s.port (λ n some. subst (λ k. WaitFrom k (log_tells log).written (queue_of L old)) (same_Some number n some) held))
-      (same.credits ∙ s.credits) (same.ended ∙ s.ended)
+      credits (ended ∙ s.ended)
 
-  pub released : (old new : Part K L) → SameButPort L old new → HoldsPort None old.port new.port → StandsWith L Released old new
-  released old new same holds channel base log s is may =
-      with_entry new channel base log Released (held_port old.port new.port None holds channel base (log_tells log) s.port (λ n some. absurd cc)) (same.credits ∙ s.credits) (same.ended ∙ s.ended)
-
-  pub ended : (old new : Part K L) → KeptPort old.port new.port → new.credits ≡ old.credits → new.ended ≡ true → StandsWith L Ended old new
-  ended old new kept credits over channel base log s is may =
-      let p = kept_port old.port new.port kept channel base (log_tells log) s.port in
-      with_entry new channel base log Ended (record { number = p.number; own = p.own; hold = p.hold; held = p.held }) (credits ∙ s.credits) over
+  pub released : (old new : Part K L) → HoldsPort None old.port new.port → new.credits ≡ length (queue_of L new) → new.ended ≡ old.ended → StandsWith L Released old new
+  released old new holds credits ended channel base log s is may =
+      with_entry new channel base log Released (held_port old.port new.port None holds channel base (log_tells log) s.port (λ n some. absurd cc)) credits (ended ∙ s.ended)

@@ -1,15 +1,11 @@
 -- The writes that wait in a channel, and the credits that a command of it returns.
-use Rattle.std.specs.Prelude.{◌==◌, ℕ, ◌<◌, AllPairs, Bool, List, Option, Some, None, not}
+use Rattle.std.specs.Prelude.{◌==◌, ℕ, Bool, List, Option, Some, None, not}
 use Rattle.std.specs.List.{list_any}
 use Rattle.line_memory.specs.declared.parts.Numbered.{Numbered}
 use Rattle.channel_port.specs.declared.answers.Done.{Done}
 use Rattle.channel_port.specs.declared.answers.Served.{Served}
 use Rattle.channel_port.specs.declared.answers.Served.TheVariants as served
 use Rattle.channel_port.specs.declared.waiting.Waiting.{Waiting}
-
--- They wait by their numbers, so that no two have one number.
-abbrev pub OldestFirst : List Waiting → Type 0
-OldestFirst writes = AllPairs (λ v w. v.number < w.number) writes
 
 -- whether a write isn't one of those that wait
 abbrev pub waits_no_more : List Waiting → Numbered → Bool

@@ -1,10 +1,9 @@
 // The part of a channel, and what is asked of it.
 ghost use Rattle.std.specs.Prelude.{◌≡◌, ◌==◌, ◌<◌, ◌≤◌, ℕ, List, [], length, true, false, None};
-ghost use Rattle.channel_log.specs.declared.entry.LogEntry.{LogEntry};
-ghost use Rattle.channel_log.specs.Log.{credits_of, log_tells};
+ghost use Rattle.channel_log.specs.Log.{LogNote, credits_of, log_tells};
 ghost use Rattle.channel_port.specs.View.{is_full_of_reads};
+ghost use Rattle.channel_port.specs.Waits.{nothing};
 ghost use Rattle.channel_port.specs.declared.stage.Stage.TheVariants.{OnMains};
-ghost use Rattle.channel_part.specs.Queue.{OldestFirst};
 
 use channel_port::ChannelPort;
 use ddr4_timing::place::Place;
@@ -19,7 +18,6 @@ pub struct Part<K: ChannelPort> {
     /// Whether mains were lost.
     pub(crate) ended: bool,
     ghost here: { channel ≡ (K.view port).number },
-    ghost ordered: { OldestFirst (K.view port).waits.writes },
     ghost covered: { length (K.view port).waits.writes ≤ credits },
     ghost mains: { ended ≡ false → (K.view port).stage ≡ OnMains },
 }
@@ -31,18 +29,17 @@ impl<K: ChannelPort> Part<K> {
     /// as writes wait in the port.
     pub fn of(channel: u64, port: K, ended: bool) -> Part<K>
         requires here { channel ≡ (K.view port).number }
-        requires order { OldestFirst (K.view port).waits.writes }
         requires mains { ended ≡ false → (K.view port).stage ≡ OnMains }
         ensures channel { result.channel ≡ channel }
         ensures port { result.port ≡ port }
         ensures ended { result.ended ≡ ended }
         ensures credits { result.credits ≡ length (K.view port).waits.writes }
-        ensures stands { (base : List (List ℕ)) (log : List LogEntry)
+        ensures stands { (base : List (List ℕ)) (log : List LogNote)
             → PortStands K.ChannelPort port channel base (log_tells log)
             → credits_of log ≡ length (K.view port).waits.writes → ended ≡ (log_tells log).ended
             → PartStands K.ChannelPort result channel base log }
         ensures begins { (base : List (List ℕ)) → K.carries port base []
-            → (K.view port).waits.writes ≡ [] → (K.view port).hold ≡ None → ended ≡ false
+            → (K.view port).waits ≡ nothing → (K.view port).hold ≡ None → ended ≡ false
             → PartStands K.ChannelPort result channel base [] }
     {
         let credits = port.pending() as u64;
@@ -58,10 +55,10 @@ impl<K: ChannelPort> Part<K> {
     pub fn into_port(self) -> K
         requires { returned_of K.ChannelPort self ≡ 0 }
         ensures port { result ≡ self.port }
-        ensures stands { (channel : ℕ) (base : List (List ℕ)) (log : List LogEntry)
+        ensures stands { (channel : ℕ) (base : List (List ℕ)) (log : List LogNote)
             → PartStands K.ChannelPort self channel base log
             → PortStands K.ChannelPort result channel base (log_tells log) }
-        ensures credits { (channel : ℕ) (base : List (List ℕ)) (log : List LogEntry)
+        ensures credits { (channel : ℕ) (base : List (List ℕ)) (log : List LogNote)
             → PartStands K.ChannelPort self channel base log
             → credits_of log ≡ length (K.view result).waits.writes }
     {

@@ -3,9 +3,8 @@ ghost use Rattle.std.specs.Prelude.{◌≡◌, ◌≢◌, ◌==◌, ◌+◌, ◌
 ghost use Rattle.std.specs.Option.{option_map};
 ghost use Rattle.line_memory.specs.Memory.{after, line_of};
 ghost use Rattle.line_memory.specs.Parts.{numbered, writes_of};
-ghost use Rattle.channel_log.specs.declared.entry.LogEntry.{LogEntry};
-ghost use Rattle.channel_log.specs.declared.entry.LogEntry.TheVariants.{Wrote, TookBack};
-ghost use Rattle.channel_log.specs.Log.{log_tells};
+ghost use Rattle.channel_log.specs.declared.entry.LogEntry.TheVariants.{Wrote, Looked};
+ghost use Rattle.channel_log.specs.Log.{LogNote, log_tells};
 ghost use Rattle.channel_port.specs.declared.answers.Collected.TheVariants.{Unknown};
 ghost use Rattle.channel_port.specs.Answers.{IsCollected, IsGot, IsServed};
 ghost use Rattle.channel_port.specs.View.{is_full_of_reads, with_write};
@@ -20,7 +19,7 @@ use line_memory::Write;
 impl<K: ChannelPort> Part<K> {
     ghost use Rattle.channel_part.specs.Stands.{PartStands, SameButPort, StandsStill, StandsWith, queue_of, returned_of};
 
-    /// Takes all returned credits back, and says how many.
+    /// Takes all returned credits back, and says how many. What waits is noted.
     pub fn take_back(&mut self) -> u64
         ensures all { result ≡ returned_of K.ChannelPort self.old }
         ensures none { returned_of K.ChannelPort self.new ≡ 0 }
@@ -28,7 +27,7 @@ impl<K: ChannelPort> Part<K> {
         ensures port { self.new.port ≡ self.old.port }
         ensures channel { self.new.channel ≡ self.old.channel }
         ensures ended { self.new.ended ≡ self.old.ended }
-        ensures stands { StandsWith K.ChannelPort (TookBack result) self.old self.new }
+        ensures stands { StandsWith K.ChannelPort Looked self.old self.new }
     {
         let returned = self.returned();
         self.credits -= returned;
@@ -56,14 +55,16 @@ impl<K: ChannelPort> Part<K> {
         self.credits = self.port.pending() as u64;
     }
 
-    /// Answers a read of one of the channel's lines, at once or with a ticket; `at` is the number of writes accepted before it.
+    /// Answers a read of one of the channel's lines, at once or with a ticket; `at` is the number of writes accepted before it. No
+    /// returned credit is left, and what waits is noted.
     pub fn read(&mut self, line: u64, place: Place, at: u64) -> Got
         requires running { self.old.ended ≡ false }
         requires line { line < (K.view self.old.port).lines }
         requires place { place ≡ (K.view self.old.port).place_of line }
         requires here { place.channel ≡ self.old.channel }
+        requires taken { returned_of K.ChannelPort self.old ≡ 0 }
         requires room { is_full_of_reads (K.view self.old.port) ≡ false }
-        ensures got { (channel : ℕ) (base : List (List ℕ)) (log : List LogEntry)
+        ensures got { (channel : ℕ) (base : List (List ℕ)) (log : List LogNote)
             → PartStands K.ChannelPort self.old channel base log
             → IsGot (line_of (after base (writes_of (log_tells log).written)) line) line at channel
             result (K.view self.old.port).waits (K.view self.new.port).waits }
@@ -72,7 +73,7 @@ impl<K: ChannelPort> Part<K> {
           waits = (K.view self.new.port).waits;
         } }
         ensures same { SameButPort K.ChannelPort self.old self.new }
-        ensures stands { StandsStill K.ChannelPort self.old self.new }
+        ensures stands { StandsWith K.ChannelPort Looked self.old self.new }
     {
         self.port.get(line, place, at)
     }

@@ -1,10 +1,10 @@
-use Rattle.std.proofs.Common.{arith, ◌<◌, ◌≤◌, ◌-◌, ◌≡◌, length, true}
+use Rattle.std.proofs.Common.{arith, ◌<◌, ◌≤◌, ◌≡◌, true}
 use Rattle.std.proofs.lemmas.List.Elements.{All-weaker}
 use Rattle.channel_log.specs.Log.{log_tells}
 use Rattle.channel_port.specs.Waits.{IsPending}
 use Rattle.channel_part.specs.Queue.{waits_no_more}
 use Rattle.channel_part.specs.Stands.{queue_of}
-use Rattle.channel_part.proofs.Counting.{all_above, gone_below, gone_count, held_count}
+use Rattle.channel_part.proofs.Counting.{all_above, gone_below, held_count}
 use Rattle.channel_part.proofs.laws.credits_tell_what_waits.Goals as goal
 
 pub returns-clause-above : goal.returns-clause-above
@@ -15,15 +15,6 @@ returns-clause-held g c = λ part channel base log s is n some.
     let few = held_count (log_tells log).written is.rise (queue_of g.K.ChannelPort part) n (s.port.held n some) in
     let covered = part.covered in
     omega (arith, few, covered)
-
-pub returns-clause-gone : goal.returns-clause-gone
-returns-clause-gone g c = λ part channel base log s is.
-    let mine = (log_tells log).written in
-    let gone = gone_count mine is.rise (queue_of g.K.ChannelPort part) part.ordered s.port.own.given in
-    let out : part.credits ≡ length mine - (log_tells log).taken = s.credits in
-    let covered = part.covered in
-    let taken = is.taken in
-    omega (arith, gone, out, covered, taken)
 
 pub returns-clause-below : goal.returns-clause-below
 returns-clause-below g c = λ part channel base log s n some.

@@ -1,0 +1,9 @@
+-- counts, and sums over channels
+pub mod Counted
+pub mod Summing
+-- what the logs tell of a machine
+pub mod ToldOf
+-- writes and reads that a channel is given
+pub mod GivenTo
+-- a channel's own steps as events
+pub mod OwnRuns
