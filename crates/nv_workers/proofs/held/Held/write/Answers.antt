@@ -9,7 +9,7 @@ use Rattle.nv_workers.proofs.held.Held.write.Goals as goal
 pub note-requires-clause-room : goal.note-requires-clause-room
 note-requires-clause-room g c =
     let it = c.args.self.now in let call = c.write-reply in let after = record it.recorded { running = call.new.self } in
-    has_room g.K.ChannelPort g.D.SaveDevice g.E.Energy c.args.write call.result it.recorded after it.kept.recorded (call.ensures.answers _ _) call.ensures.setup call.ensures.stored.cut call.new.self.kept
+    has_room g.K.ChannelPort g.D.SaveDevice g.E.Energy c.args.write call.result it.recorded after it.kept.recorded (call.ensures.answers _ _) call.ensures.setup call.ensures.stored.cut call.new.self.front.kept
 
 pub publish-requires-clause-shown : goal.publish-requires-clause-shown
 publish-requires-clause-shown g c =
