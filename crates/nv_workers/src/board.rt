@@ -8,7 +8,7 @@ use crate::held::Held;
 use crate::host::{Receipt, Seen};
 use crate::lent::BoardLookout;
 use crate::saver::Saving;
-use crate::worker::Working;
+use crate::shift::Working;
 use arm_state::{ArmRefusal, ArmReply, DisarmReply, Loss, ReadRefusal};
 use channel_port::{ChannelPort, Collected, Ticket};
 use energy_budget::Energy;

@@ -7,7 +7,7 @@ ghost use Rattle.nv_workers.specs.Savers.{needs_save, turn_at, turn_of, turn_tak
 
 use crate::board_name::BoardName;
 use crate::held::Held;
-use crate::worker::Working;
+use crate::shift::Working;
 use arm_state::{ArmRefusal, Mode, SaveState};
 use channel_port::ChannelPort;
 use energy_budget::Energy;

@@ -1,13 +1,23 @@
 // What a worker is lent.
-use crate::worker::Working;
 use worker_gate::Turn;
+
+/// What a worker did at its turn.
+#[derive(Clone, Copy, Debug, PartialEq, Eq)]
+pub enum Working {
+    /// Something, and it goes on at once.
+    Worked,
+    /// Nothing: there was nothing to do, or it has to wait.
+    Rested,
+    /// Nothing any more: mains were lost.
+    Closed,
+}
 
 /// What a worker is lent: a gate to ask, its turns, and what it does behind one in which there was nothing to do. Its members say
 /// what each call comes to, so whatever is lent, the turns of a worker are known by them.
 pub trait Shift {
     ghost use Rattle.std.specs.Prelude.{◌≡◌, ℕ, ◌+◌, ◌-◌, ◌^◌, min};
     ghost use Rattle.worker_gate.specs.declared.Turn.{Turn};
-    ghost use Rattle.nv_workers.specs.declared.worker.Working.{Working};
+    ghost use Rattle.nv_workers.specs.declared.shift.Working.{Working};
 
     /// It may be lent to the worker of this number.
     ghost is_of: { ℕ → Type 0 };

@@ -1,10 +1,17 @@
 // The turns of a worker.
 ghost use Rattle.nv_workers.specs.Shifts.{WorksUntil};
 
-use crate::gate::Ended;
-use crate::shift::Shift;
-use crate::worker::Working;
+use crate::shift::{Shift, Working};
 use worker_gate::Turn;
+
+/// What ended a worker.
+#[derive(Clone, Copy, Debug, PartialEq, Eq)]
+pub enum Ended {
+    /// The gate said so.
+    Stopped,
+    /// Mains were lost.
+    Closed,
+}
 
 /// Asks the gate before each turn, counted from 0, and takes one turn at each `Go`, until the gate says stop or mains were lost.
 /// Behind a turn that was held, or in which there was nothing to do, it gives way.

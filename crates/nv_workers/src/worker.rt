@@ -4,20 +4,10 @@ ghost use Rattle.module_core.specs.Stands.{setup_of};
 
 use crate::board_name::BoardName;
 use crate::held::Held;
+use crate::shift::Working;
 use channel_port::ChannelPort;
 use energy_budget::Energy;
 use save_device::SaveDevice;
-
-/// What a worker did at its turn.
-#[derive(Clone, Copy, Debug, PartialEq, Eq)]
-pub enum Working {
-    /// A channel issued a command, or a saver began a save or made a step.
-    Worked,
-    /// Nothing: there was nothing to do, or a step has to wait.
-    Rested,
-    /// Nothing any more: mains were lost.
-    Closed,
-}
 
 impl<K: ChannelPort, D: SaveDevice, E: Energy, B: BoardName> Held<K, D, E, B> {
     ghost use Rattle.module_core.specs.Stands.{HasChannel};
