@@ -20,9 +20,9 @@ use Rattle.nv_workers.specs.declared.held.Held.{Held}
 use Rattle.nv_workers.specs.declared.host.Receipt.{Receipt}
 use Rattle.nv_workers.specs.declared.host.Seen.{Seen}
 use Rattle.nv_workers.specs.declared.saver.Saving.{Saving}
-use Rattle.nv_workers.specs.declared.shift.Working.{Working}
+use Rattle.worker_loops.specs.declared.shift.Working.{Working}
 use Rattle.nv_workers.specs.Cutting.{CutsOrNames}
-use Rattle.nv_workers.specs.Lookouts.{EndsWaiting}
+use Rattle.worker_loops.specs.Lookouts.{EndsWaiting}
 use Rattle.nv_workers.specs.Savers.{turn_of, turn_taken, working_of}
 use Rattle.nv_workers.specs.Serving.{ReadsServed}
 use Rattle.nv_workers.specs.Steps.{Steps}

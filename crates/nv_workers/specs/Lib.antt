@@ -5,12 +5,10 @@ pub mod Ending
 pub mod Kept
 pub mod Lent
 pub mod Lived
-pub mod Lookouts
 pub mod Marks
 pub mod Opening
 pub mod Savers
 pub mod Serving
-pub mod Shifts
 pub mod Steps
 pub mod Turns
 pub mod Writing

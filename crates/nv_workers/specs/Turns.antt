@@ -11,8 +11,8 @@ use Rattle.nv_workers.specs.declared.board_name.BoardName.{Ghosts as NameGhosts}
 use Rattle.nv_workers.specs.declared.held.Held.{Held}
 use Rattle.nv_workers.specs.declared.saver.Saving.{Saving}
 use Rattle.nv_workers.specs.declared.saver.Saving.TheVariants.{Began, Stepped, Rested, Closed}
-use Rattle.nv_workers.specs.declared.shift.Working.{Working}
-use Rattle.nv_workers.specs.declared.shift.Working.TheVariants as working
+use Rattle.worker_loops.specs.declared.shift.Working.{Working}
+use Rattle.worker_loops.specs.declared.shift.Working.TheVariants as working
 use Rattle.nv_workers.specs.Steps.{Steps}
 
 module _ {K D E B : Type 0} (L : Ghosts K) (M : DeviceGhosts D) (N : GaugeGhosts E) (O : NameGhosts B) where

@@ -1,14 +1,12 @@
 // The lock.
 ghost use Rattle.std.specs.Prelude.{◌<◌};
 
-use crate::awaiting::await_bytes;
 use crate::board_name::BoardName;
 use crate::checking::{Cut, Stranger};
 use crate::held::Held;
 use crate::host::{Receipt, Seen};
 use crate::lent::BoardLookout;
 use crate::saver::Saving;
-use crate::shift::Working;
 use arm_state::{ArmRefusal, ArmReply, DisarmReply, Loss, ReadRefusal};
 use channel_port::{ChannelPort, Collected, Ticket};
 use energy_budget::Energy;
@@ -19,6 +17,7 @@ use save_device::SaveDevice;
 use std::sync::{Mutex, Wait};
 use std::thread::Threads;
 use worker_gate::Gate;
+use worker_loops::{Working, await_bytes};
 
 /// A module that threads share, and a book of notices behind a lock of its own. No call takes both locks.
 #[derive(Drop)]

@@ -4,7 +4,6 @@ ghost use Rattle.std.specs.Prelude.{◌≡◌, ◌<◌};
 use crate::board::Board;
 use crate::board_name::BoardName;
 use crate::lent::{ChannelShift, SaverShift};
-use crate::turns::{Ended, take_turns};
 use channel_port::ChannelPort;
 use energy_budget::Energy;
 use notice_book::Notices;
@@ -12,6 +11,7 @@ use save_device::SaveDevice;
 use std::sync::Wait;
 use std::time::Clock;
 use worker_gate::Gate;
+use worker_loops::{Ended, take_turns};
 
 /// Issues one command of a channel at each `Go`, until the gate says stop or mains were lost, as `take_turns`. Behind a turn that
 /// was held or found no command it gives its processor away, and behind 16 of them in a row it sleeps, three milliseconds at most.

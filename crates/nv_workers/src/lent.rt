@@ -1,10 +1,7 @@
 // What a board lends its workers, and a read that waits.
 use crate::board::Board;
 use crate::board_name::BoardName;
-use crate::idle::give_way;
-use crate::lookout::Lookout;
 use crate::saver::working_of;
-use crate::shift::{Shift, Working};
 use channel_port::{ChannelPort, Collected, Ticket};
 use energy_budget::Energy;
 use notice_book::Notices;
@@ -13,6 +10,7 @@ use std::sync::Wait;
 use std::thread;
 use std::time::Clock;
 use worker_gate::{Gate, Turn};
+use worker_loops::{Lookout, Shift, Working, give_way};
 
 // To the worker of a channel.
 #[derive(Drop)]

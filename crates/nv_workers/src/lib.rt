@@ -5,7 +5,6 @@
 //! and reads under the lock, and loads the marks without it.
 #![tactic(auto)]
 
-mod awaiting;
 mod board;
 mod board_name;
 mod checking;
@@ -14,22 +13,17 @@ mod ending;
 mod gate;
 mod held;
 mod host;
-mod idle;
 mod laws;
 mod lent;
-mod lookout;
 mod opening;
 mod recorded_module;
 mod saver;
 mod serving;
-mod shift;
 mod starting;
 mod tally;
 mod telling;
-mod turns;
 mod worker;
 
-pub use awaiting::await_bytes;
 pub use board::Board;
 pub use board_name::BoardName;
 pub use checking::{Cut, Stranger};
@@ -38,11 +32,9 @@ pub use gate::{channel_worker, saver_worker};
 pub use held::Held;
 pub use host::{Behind, GotAt, Host, Receipt, Seen};
 pub use laws::{boards_keep_lives, records_tell_lives};
-pub use lookout::Lookout;
 pub use opening::Opening;
 pub use recorded_module::RecordedModule;
 pub use saver::{SaverTurn, Saving};
-pub use shift::{Shift, Working};
 pub use starting::{NotStarted, Started, start};
-pub use turns::{Ended, take_turns};
 pub use worker_gate::{Always, Gate, Turn};
+pub use worker_loops::{Ended, Working};

@@ -7,12 +7,12 @@ ghost use Rattle.nv_workers.specs.Savers.{needs_save, turn_at, turn_of, turn_tak
 
 use crate::board_name::BoardName;
 use crate::held::Held;
-use crate::shift::Working;
 use arm_state::{ArmRefusal, Mode, SaveState};
 use channel_port::ChannelPort;
 use energy_budget::Energy;
 use nv_machine::StepReply;
 use save_device::SaveDevice;
+use worker_loops::Working;
 
 /// What a saver is to do.
 #[derive(Clone, Copy, Debug, PartialEq, Eq)]

@@ -4,10 +4,10 @@ ghost use Rattle.module_core.specs.Stands.{setup_of};
 
 use crate::board_name::BoardName;
 use crate::held::Held;
-use crate::shift::Working;
 use channel_port::ChannelPort;
 use energy_budget::Energy;
 use save_device::SaveDevice;
+use worker_loops::Working;
 
 impl<K: ChannelPort, D: SaveDevice, E: Energy, B: BoardName> Held<K, D, E, B> {
     ghost use Rattle.module_core.specs.Stands.{HasChannel};

@@ -1,12 +1,12 @@
 -- The turns of a worker, by what it is lent.
 use Rattle.std.specs.Prelude.{◌≡◌, ◌⊎◌, ℕ, zero, suc, ◌+◌, ◌-◌, ◌^◌, min}
-use Rattle.nv_workers.specs.declared.turns.Ended.{Ended}
-use Rattle.nv_workers.specs.declared.turns.Ended.TheVariants as ended
+use Rattle.worker_loops.specs.declared.turns.Ended.{Ended}
+use Rattle.worker_loops.specs.declared.turns.Ended.TheVariants as ended
 use Rattle.worker_gate.specs.declared.Turn.{Turn}
 use Rattle.worker_gate.specs.declared.Turn.TheVariants.{Go, Hold, Stop}
-use Rattle.nv_workers.specs.declared.shift.Shift.{Ghosts}
-use Rattle.nv_workers.specs.declared.shift.Working.{Working}
-use Rattle.nv_workers.specs.declared.shift.Working.TheVariants.{Worked, Rested, Closed}
+use Rattle.worker_loops.specs.declared.shift.Shift.{Ghosts}
+use Rattle.worker_loops.specs.declared.shift.Working.{Working}
+use Rattle.worker_loops.specs.declared.shift.Working.TheVariants.{Worked, Rested, Closed}
 
 module _ {S : Type 0} (G : Ghosts S) where
   -- it gave way behind so many idle turns in a row, which are one more now

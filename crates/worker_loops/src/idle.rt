@@ -20,8 +20,9 @@ fn sleep_after(idle: u64) -> Option<u64>
     Some(beyond.min(LONGEST_SLEEP - 1) + 1)
 }
 
-/// Gives way behind an idle turn, after so many idle ones in a row. It answers how many they are now.
-pub(crate) fn give_way(clock: &impl Clock, idle: u64) -> u64
+/// Gives way behind an idle turn, after so many idle ones in a row: it gives its processor away behind the first 16, and sleeps behind
+/// each further one, three milliseconds at most. It answers how many they are now.
+pub fn give_way(clock: &impl Clock, idle: u64) -> u64
     ensures { result ≡ min (idle + 1) (2 ^ 64 - 1) }
 {
     match sleep_after(idle) {

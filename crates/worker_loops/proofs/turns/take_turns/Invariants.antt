@@ -1,5 +1,5 @@
-use Rattle.nv_workers.specs.Shifts.{TurnByTurn}
-use Rattle.nv_workers.proofs.turns.take_turns.Given as goal
+use Rattle.worker_loops.specs.Shifts.{TurnByTurn}
+use Rattle.worker_loops.proofs.turns.take_turns.Given as goal
 
 abbrev pub invariant-loop-turn : goal.invariant-loop-turn
 invariant-loop-turn g l = TurnByTurn g.S.Shift l.fn.worker l.turn l.idle l.fn.shift l.shift

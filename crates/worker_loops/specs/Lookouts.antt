@@ -5,7 +5,7 @@ use Rattle.arm_state.specs.declared.refusal.ReadRefusal.TheVariants as refusals
 use Rattle.channel_port.specs.declared.answers.Collected.{Collected}
 use Rattle.channel_port.specs.declared.answers.Collected.TheVariants.{Data, Pending, Unknown}
 use Rattle.channel_port.specs.declared.answers.Ticket.{Ticket}
-use Rattle.nv_workers.specs.declared.lookout.Lookout.{Ghosts}
+use Rattle.worker_loops.specs.declared.lookout.Lookout.{Ghosts}
 
 -- How a wait ends, by what there was for its ticket at last: the bytes, or nothing any more.
 abbrev pub EndsWaiting : (Collected → Type 0) → Result (List ℕ) ReadRefusal → Type 0

@@ -17,7 +17,7 @@ pub enum Working {
 pub trait Shift {
     ghost use Rattle.std.specs.Prelude.{◌≡◌, ℕ, ◌+◌, ◌-◌, ◌^◌, min};
     ghost use Rattle.worker_gate.specs.declared.Turn.{Turn};
-    ghost use Rattle.nv_workers.specs.declared.shift.Working.{Working};
+    ghost use Rattle.worker_loops.specs.declared.shift.Working.{Working};
 
     /// It may be lent to the worker of this number.
     ghost is_of: { ℕ → Type 0 };

@@ -1,5 +1,5 @@
 // The turns of a worker.
-ghost use Rattle.nv_workers.specs.Shifts.{WorksUntil};
+ghost use Rattle.worker_loops.specs.Shifts.{WorksUntil};
 
 use crate::shift::{Shift, Working};
 use worker_gate::Turn;

@@ -1,5 +1,5 @@
 // A read that waits for its bytes.
-ghost use Rattle.nv_workers.specs.Lookouts.{Awaits};
+ghost use Rattle.worker_loops.specs.Lookouts.{Awaits};
 
 use crate::lookout::Lookout;
 use arm_state::ReadRefusal;

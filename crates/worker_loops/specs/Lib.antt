@@ -1,0 +1,2 @@
+pub mod Lookouts
+pub mod Shifts

@@ -1,0 +1,15 @@
+//! The loops of threads that work for others, over whatever they are lent: a worker's turns at a gate (`take_turns`, lent a
+//! `Shift`), and a read that waits for its bytes (`await_bytes`, lent a `Lookout`). Between two turns a thread gives way.
+#![tactic(auto)]
+
+mod awaiting;
+mod idle;
+mod lookout;
+mod shift;
+mod turns;
+
+pub use awaiting::await_bytes;
+pub use idle::give_way;
+pub use lookout::Lookout;
+pub use shift::{Shift, Working};
+pub use turns::{Ended, take_turns};
