@@ -1,0 +1,165 @@
+-- The machine of a front, with the part of one channel.
+use Rattle.std.proofs.Common.{Bool, List, None, [], ap, arith, length, refl, subst, sym, ℕ, ◌++◌, ◌+◌, ◌<◌, ◌∙◌, ◌∷◌, ◌≡◌}
+use Rattle.std.specs.Prelude.{Ok, slice_index_or, ◌==◌}
+use Rattle.std.proofs.lemmas.List.Edits.{length-insert}
+use Rattle.std.proofs.lemmas.List.Sums.{count_by-le-length, sum_by-set}
+use Rattle.line_memory.proofs.MemoryLaws.{after-push, after_write-IsMemory}
+use Rattle.line_memory.specs.Memory.{IsMemory}
+use Rattle.line_memory.specs.Parts.{numbered}
+use Rattle.line_memory.specs.declared.Write.{Write}
+use Rattle.energy_budget.specs.declared.costs.Costs.{Costs}
+use Rattle.energy_budget.specs.Sums.{needed_level}
+use Rattle.channel_log.specs.declared.entry.LogEntry.{LogEntry}
+use Rattle.channel_log.specs.Log.{IsLogOf, LogNote, Told, credits_of, credits_out, log_tells, note_of}
+use Rattle.channel_part.specs.declared.part.Part.{Part}
+use Rattle.channel_part.specs.Stands.{PartStands, queue_of, returned_of}
+use Rattle.channel_port.specs.Answers.{Puts}
+use Rattle.channel_port.specs.Shape.{Shape}
+use Rattle.channel_port.specs.View.{PortView, with_write}
+use Rattle.channel_port.specs.Waits.{Waits, is_write_up_to, waiting, writes_on, writes_up_to}
+use Rattle.channel_port.specs.declared.port.ChannelPort.{Ghosts}
+use Rattle.module_core.specs.declared.opening.LifeTerms.{LifeTerms}
+use Rattle.module_core.specs.declared.front.Front.{Front}
+use Rattle.module_core.specs.Fronts.{AcceptsOne, FrontMatches, TellsWrite, setup_in}
+use Rattle.nv_machine.specs.Machine.{WriteStep}
+use Rattle.nv_machine.specs.Moves.{written}
+use Rattle.nv_machine.specs.Refusals.{write_refusal}
+use Rattle.nv_machine.specs.State.{Machine, Setup, all_of, base_of_life, memory_of, pending_of}
+use Rattle.nv_machine.specs.declared.events.Accepted.{Accepted}
+use Rattle.split_machine.specs.OwnEvents.{looked}
+use Rattle.split_machine.specs.Telling.{AreLogsOf, AreOwn, laid_out, waits_told, with_note, with_waiting}
+use Rattle.split_machine.proofs.GivenTo.{logs_wrote, puts_told}
+use Rattle.split_machine.proofs.ToldOf.{credits_told, full_told, logs_looked, told_push}
+use Rattle.split_module.specs.declared.front.SplitFront.{SplitFront}
+use Rattle.split_module.specs.Lending.{IsSeen, SplitStands, WroteOn}
+
+-- a front knows nothing of what waits
+matches_waits : (front : Front) (m : Machine) (waits : Waits) → FrontMatches front m → FrontMatches front (record m { waits = waits })
+matches_waits front m waits h = record {
+  mode = h.mode;
+  reading = h.reading;
+  start = h.start;
+  cut = h.cut;
+  accepted = h.accepted;
+  persisted = h.persisted;
+  knows = h.knows;
+  saving = h.saving;
+}
+
+-- the credits that are out after one more note
+out_noted : (logs : List (List LogNote)) (channel : ℕ) (log : List LogNote) (note : LogNote) → IsLogOf logs channel log
+    → credits_out (with_note channel log note logs) + credits_of log ≡ credits_out logs + length note.waits.writes
+out_noted logs channel log note of =
+    let all = sum_by-set credits_of logs channel (log ++ note ∷ []) [] of.there in
+    let new : credits_of (log ++ note ∷ []) ≡ length note.waits.writes = ap (λ (t : Told). length t.waits.writes) (told_push log note) in
+    let old : credits_of (slice_index_or logs channel []) ≡ credits_of log = ap credits_of of.same in
+    omega (arith, all, new, old)
+
+module _ {K : Type 0} (L : Ghosts K) where
+  -- all returned credits of a channel were taken back
+  module _ (old new : SplitFront) (part later : Part K L) (front : new.front ≡ old.front) (lines : new.lines ≡ old.lines) (costs : new.costs ≡ old.costs)
+      (out : new.out + returned_of L part ≡ old.out) (port : later.port ≡ part.port) where
+    pub looks : (shape : Shape) (m : Machine) (logs : List (List LogNote)) (base : List (List ℕ)) (log : List LogNote) → SplitStands shape logs old m → IsLogOf logs part.channel log
+        → PartStands L part part.channel base log → AreOwn part.channel (L.view later.port).waits
+        → let noted = looked part.channel log (L.view later.port).waits logs in SplitStands shape noted new (record m { waits = laid_out (waits_told noted) })
+    looks shape m logs base log s of stands own =
+        let waits = (L.view later.port).waits in
+        let noted = looked part.channel log waits logs in
+        let setup = setup_in shape old.front in
+        let n : Machine = record m { waits = laid_out (waits_told noted) } in
+        let told : AreLogsOf setup n noted = logs_looked setup m logs s.told part.channel log of waits own in
+        let before = credits_told setup m logs s.told in
+        let after = credits_told setup n noted told in
+        let change = out_noted logs part.channel log (note_of LogEntry.Looked waits) of in
+        let queue : length waits.writes ≡ length (queue_of L part) = ap (λ p. length (L.view p).waits.writes) port in
+        let covered = part.covered in
+        let credits = stands.credits in
+        let was = s.out in
+        record {
+          matches = subst (λ f. FrontMatches f n) (sym front) (matches_waits old.front m n.waits s.matches);
+          out = omega (arith, before, after, change, queue, covered, credits, was, out);
+          lines = lines ∙ s.lines;
+          costs = costs ∙ s.costs;
+          memory = s.memory;
+          told = subst (λ f. AreLogsOf (setup_in shape f) n noted) (sym front) told;
+        }
+
+  -- a write of a channel that was looked at
+  module _ (old new : SplitFront) (part later : Part K L) (write : Write) (accepted : Accepted) (accepts : AcceptsOne old.front accepted new.front) (lines : new.lines ≡ old.lines) (costs : new.costs ≡ old.costs)
+      (out : new.out ≡ old.out + 1) (puts : L.view later.port ≡ with_write accepted.number (L.view part.port)) (long : length write.«data» ≡ 64) where
+    module _ (shape : Shape) (m : Machine) (logs : List (List LogNote)) (log : List LogNote) (s : SplitStands shape logs old m) (of : IsLogOf logs part.channel log) (seen : IsSeen L shape part log)
+        (on : shape.channel_of write.line ≡ part.channel) where
+      abbrev setup : Setup
+      setup = setup_in shape old.front
+
+      abbrev waits : Waits
+      waits = (log_tells log).waits
+
+      abbrev later_waits : Waits
+      later_waits = with_waiting (all_of m) part.channel waits
+
+      abbrev note : LogNote
+      note = note_of (LogEntry.Wrote (numbered (all_of m) write)) later_waits
+
+      abbrev noted : List (List LogNote)
+      noted = with_note part.channel log note logs
+
+      abbrev n : Machine
+      n = record m { life = written m.mode m.life write; waits = laid_out (waits_told noted) }
+
+      number : accepted.number ≡ all_of m
+      number = accepts.number ∙ s.matches.accepted
+
+      note_is : note_of (LogEntry.Wrote (numbered accepted.number write)) (L.view later.port).waits ≡ note
+      note_is =
+          ap (λ (w : Waits). note_of (LogEntry.Wrote (numbered accepted.number write)) w)
+          (ap (λ (v : PortView). v.waits) puts
+          ∙ ap (λ c. with_waiting accepted.number c (L.view part.port).waits) (sym part.here)
+          ∙ ap (λ (w : Waits). with_waiting accepted.number part.channel w) (sym seen.waits))
+          ∙ ap (λ k. note_of (LogEntry.Wrote (numbered k write)) (with_waiting k part.channel waits)) number
+
+      joins : Puts (all_of m) part.channel m.waits n.waits
+      joins = puts_told setup m logs s.told part.channel log of write
+
+      one_more : pending_of n ≡ pending_of m + 1
+      one_more =
+          ap length joins.joins
+          ∙ length-insert m.waits.writes (writes_up_to part.channel m.waits.writes) (waiting (all_of m) part.channel) (count_by-le-length (is_write_up_to part.channel) m.waits.writes)
+
+      front_matches : FrontMatches new.front n
+      front_matches = accepts.matches m write n.waits s.matches
+
+      same_setup : setup_in shape new.front ≡ setup
+      same_setup = ap (λ (t : LifeTerms). record { shape = shape; trail = t.trail }) accepts.terms
+
+      stands : SplitStands shape noted new n
+      stands = record {
+        matches = front_matches;
+        out = (let was = s.out in omega (arith, out, was, one_more));
+        lines = lines ∙ s.lines;
+        costs = costs ∙ s.costs;
+        memory = subst (IsMemory shape.lines) (sym (after-push (base_of_life m.life) m.life.writes write)) (after_write-IsMemory shape.lines (memory_of m) write long s.memory);
+        told = subst (λ (x : Setup). AreLogsOf x n noted) (sym same_setup) (logs_wrote setup m logs s.told part.channel log of write on seen.known);
+      }
+
+      pub wrote : write_refusal setup m write.line ≡ None → WroteOn L shape old part write (Ok accepted) new later m logs log
+      wrote unrefused =
+          subst (λ (x : LogNote). (n : Machine) × WriteStep setup write (Ok accepted) m n × SplitStands shape (with_note part.channel log x logs) new n) (sym note_is)
+          (n, (unrefused, record { number = number; mark = accepts.mark ∙ front_matches.persisted; puts = subst (λ c. Puts (all_of m) c m.waits n.waits) (sym on) joins; is = refl }), stands)
+
+  -- what the channel tells for a write to one of its lines
+  pub tells_write : (old : SplitFront) (part : Part K L) (write : Write) (is_full : Bool) (need : ℕ) → returned_of L part ≡ 0 → is_full ≡ (part.credits == (L.view part.port).depth) → need ≡ needed_level old.costs (old.out + 1)
+      → write.line < old.lines → (shape : Shape) (m : Machine) (logs : List (List LogNote)) (log : List LogNote) → SplitStands shape logs old m → IsLogOf logs part.channel log → IsSeen L shape part log
+      → shape.channel_of write.line ≡ part.channel → TellsWrite (setup_in shape old.front) m write.line is_full need
+  tells_write old part write is_full need taken full needed within shape m logs log s of seen on =
+      let covered = part.covered in
+      let few : part.credits ≡ length (queue_of L part) = omega (arith, covered, taken) in
+      let counted = full_told (setup_in shape old.front) m logs s.told part.channel of.there in
+      let told : length (log_tells (slice_index_or logs part.channel [])).waits.writes ≡ length (log_tells log).waits.writes = ap (λ (l : List LogNote). length (log_tells l).waits.writes) of.same in
+      let same : part.credits ≡ writes_on (shape.channel_of write.line) m.waits.writes =
+      few ∙ ap (λ (w : Waits). length w.writes) (sym seen.waits) ∙ sym told ∙ sym counted ∙ ap (λ c. writes_on c m.waits.writes) (sym on) in
+      record {
+        within = subst (λ k. write.line < k) s.lines within;
+        full = full ∙ ap (λ k. k == (L.view part.port).depth) same ∙ ap (λ k. writes_on (shape.channel_of write.line) m.waits.writes == k) seen.depth;
+        needed = needed ∙ ap (λ (c : Costs). needed_level c (old.out + 1)) s.costs ∙ ap (λ k. needed_level shape.costs (k + 1)) s.out;
+      }

@@ -1,0 +1,2 @@
+-- the machine of a front with one channel's part
+pub mod Lent

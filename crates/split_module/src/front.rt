@@ -1,0 +1,13 @@
+// The front of a module whose channels are behind locks of their own.
+use energy_budget::Costs;
+use module_core::Front;
+
+/// The front of a module without its channels, and what it has to know of them: how many credits are out on all of them, how many
+/// lines they have, and what a closing save costs.
+#[derive(Drop)]
+pub struct SplitFront {
+    pub(crate) front: Front,
+    pub(crate) out: u64,
+    pub(crate) lines: u64,
+    pub(crate) costs: Costs,
+}

@@ -1,0 +1,65 @@
+// What becomes of a front with the part of one channel.
+ghost use Rattle.std.specs.Prelude.{◌≡◌, ◌+◌, ◌<◌, ◌≤◌, IfErr, IfOk};
+ghost use Rattle.arm_state.specs.Modes.{has_ended};
+ghost use Rattle.channel_log.specs.declared.entry.LogEntry.TheVariants.{Looked, Wrote};
+ghost use Rattle.channel_port.specs.Waits.{AllBelow};
+ghost use Rattle.line_memory.specs.Parts.{numbered};
+ghost use Rattle.channel_part.specs.Stands.{StandsWith, queue_of, returned_of};
+ghost use Rattle.split_module.specs.Lending.{LooksAt, WritesOn};
+
+use crate::SplitFront;
+use arm_state::WriteRefusal;
+use channel_part::Part;
+use channel_port::ChannelPort;
+use line_memory::Write;
+use nv_machine::Accepted;
+
+/// Takes all returned credits of a channel back. The machine that the front stood for goes on to what waits on the channel now.
+pub fn take_back<K: ChannelPort>(front: &mut SplitFront, part: &mut Part<K>) -> u64
+    requires out { returned_of K.ChannelPort part.old ≤ front.old.out }
+    ensures all { result ≡ returned_of K.ChannelPort part.old }
+    ensures none { returned_of K.ChannelPort part.new ≡ 0 }
+    ensures looks { LooksAt K.ChannelPort front.old part.old front.new part.new }
+    ensures stands { StandsWith K.ChannelPort Looked part.old part.new }
+{
+    let returned = part.take_back();
+    front.out -= returned;
+    returned
+}
+
+/// Accepts a write to a line of the part's channel, of which all returned credits were taken back; or answers why it isn't
+/// accepted. A line that there isn't is refused whatever the part is.
+pub fn write_on<K: ChannelPort>(
+    front: &mut SplitFront,
+    part: &mut Part<K>,
+    write: Write,
+) -> Result<Accepted, WriteRefusal>
+    requires taken { returned_of K.ChannelPort part.old ≡ 0 }
+    requires few { front.old.out < 1024 }
+    requires lines { (K.view part.old.port).lines ≡ front.old.lines }
+    requires here { write.line < front.old.lines
+        → ((K.view part.old.port).place_of write.line).channel ≡ part.old.channel }
+    requires ended { part.old.ended ≡ has_ended front.old.front.mode }
+    requires below { AllBelow front.old.front.accepted (queue_of K.ChannelPort part.old) }
+    ensures writes { WritesOn K.ChannelPort front.old part.old write result front.new part.new }
+    ensures stands { IfOk result (λ accepted. StandsWith K.ChannelPort
+        (Wrote (numbered accepted.number write)) part.old part.new) }
+    ensures taken { returned_of K.ChannelPort part.new ≡ 0 }
+    ensures same_front { IfErr result (λ refusal. front.new ≡ front.old) }
+    ensures same_part { IfErr result (λ refusal. part.new ≡ part.old) }
+{
+    if write.line >= front.lines {
+        return Err(WriteRefusal::NoSuchLine);
+    }
+    let need = front.costs.need(front.out + 1);
+    match front.front.write_refusal(part.is_full(), need) {
+        Some(refusal) => Err(refusal),
+        None => {
+            let place = part.place(write.line);
+            let accepted = front.front.accept();
+            part.write(accepted.number, write, place);
+            front.out += 1;
+            Ok(accepted)
+        }
+    }
+}
