@@ -22,7 +22,7 @@ use Rattle.channel_set.specs.Carrying.{CarriesOwn, WaitAmong}
 use Rattle.channel_set.proofs.Answered.{work-remain}
 use Rattle.channel_set.proofs.Piles.{remain-same}
 use Rattle.channel_part.specs.declared.part.Part.{Part}
-use Rattle.channel_part.specs.Stands.{PartStands, PortStands, SameButPort, StandsStill, StandsWith, queue_of}
+use Rattle.channel_part.specs.Stands.{PartStands, PortStands, SameButPort, StandsStill, StandsNoted, queue_of}
 use Rattle.channel_part.proofs.Queueing.{KeepsFrom, put_among, put_held, worked_held}
 
 told_push : (log : List LogNote) (note : LogNote) → log_tells (log ++ note ∷ []) ≡ told_after (log_tells log) note
@@ -118,13 +118,13 @@ module _ {K : Type 0} (L : Ghosts K) where
   }
 
   -- its port has kept what it carries, and what waits in it is noted
-  pub looked : (old new : Part K L) → KeptPort old.port new.port → new.credits ≡ length (queue_of L new) → new.ended ≡ old.ended → StandsWith L Looked old new
+  pub looked : (old new : Part K L) → KeptPort old.port new.port → new.credits ≡ length (queue_of L new) → new.ended ≡ old.ended → StandsNoted L Looked old new
   looked old new kept credits ended channel base log s is may =
       let told = log_tells log in
       let now = told_now new log Looked in
       with_entry new channel base log Looked (kept_now old new kept channel base told now refl refl refl s.port) credits (ended ∙ s.ended)
 
-  pub ended : (old new : Part K L) → KeptPort old.port new.port → new.credits ≡ length (queue_of L new) → new.ended ≡ true → StandsWith L Ended old new
+  pub ended : (old new : Part K L) → KeptPort old.port new.port → new.credits ≡ length (queue_of L new) → new.ended ≡ true → StandsNoted L Ended old new
   ended old new kept credits over channel base log s is may =
       let told = log_tells log in
       let now = told_now new log Ended in
@@ -132,7 +132,7 @@ module _ {K : Type 0} (L : Ghosts K) where
 
   pub wrote : (old new : Part K L) (number : ℕ) (write : Write) → L.view new.port ≡ with_write number (L.view old.port)
       → ((base : List (List ℕ)) (mine : List Numbered) → L.carries old.port base mine → AreBefore number mine → L.carries new.port base (mine ++ numbered number write ∷ []))
-      → new.credits ≡ length (queue_of L new) → new.ended ≡ old.ended → StandsWith L (Wrote (numbered number write)) old new
+      → new.credits ≡ length (queue_of L new) → new.ended ≡ old.ended → StandsNoted L (Wrote (numbered number write)) old new
   wrote old new number write puts carries credits ended channel base log s is may =
       let told = log_tells log in
       let w = numbered number write in
@@ -177,6 +177,6 @@ module _ {K : Type 0} (L : Ghosts K) where
       (held_port old.port new.port (Some number) holds channel base (log_tells log) s.port (λ n some. subst (λ k. WaitFrom k (log_tells log).written (queue_of L old)) (same_Some number n some) held))
       credits (ended ∙ s.ended)
 
-  pub released : (old new : Part K L) → HoldsPort None old.port new.port → new.credits ≡ length (queue_of L new) → new.ended ≡ old.ended → StandsWith L Released old new
+  pub released : (old new : Part K L) → HoldsPort None old.port new.port → new.credits ≡ length (queue_of L new) → new.ended ≡ old.ended → StandsNoted L Released old new
   released old new holds credits ended channel base log s is may =
       with_entry new channel base log Released (held_port old.port new.port None holds channel base (log_tells log) s.port (λ n some. absurd cc)) credits (ended ∙ s.ended)

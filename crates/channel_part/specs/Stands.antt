@@ -41,8 +41,8 @@ module _ {K : Type 0} (L : Ghosts K) where
   StandsStill old new = (channel : ℕ) (base : List (List ℕ)) (log : List LogNote) → PartStands old channel base log → PartStands new channel base log
 
   -- It stands for each log for which it stood with this entry behind it, where the entry may follow. What waits is noted anew.
-  abbrev pub StandsWith : LogEntry → Part K L → Part K L → Type 0
-  StandsWith entry old new = (channel : ℕ) (base : List (List ℕ)) (log : List LogNote) → PartStands old channel base log
+  abbrev pub StandsNoted : LogEntry → Part K L → Part K L → Type 0
+  StandsNoted entry old new = (channel : ℕ) (base : List (List ℕ)) (log : List LogNote) → PartStands old channel base log
       → IsLog log → MayFollow log entry → PartStands new channel base (log ++ note_of entry (L.view new.port).waits ∷ [])
 
   -- nothing but the port has changed

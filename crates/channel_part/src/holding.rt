@@ -9,7 +9,7 @@ use crate::part::Part;
 use channel_port::ChannelPort;
 
 impl<K: ChannelPort> Part<K> {
-    ghost use Rattle.channel_part.specs.Stands.{PartStands, SameButPort, StandsWith, queue_of, returned_of};
+    ghost use Rattle.channel_part.specs.Stands.{PartStands, SameButPort, StandsNoted, queue_of, returned_of};
 
     /// From now on writes from this number on stay out of the channel's array. What is held is to wait: so the part stands for the
     /// log that tells of the hold where each of its writes from this number on waits.
@@ -34,7 +34,7 @@ impl<K: ChannelPort> Part<K> {
         ensures held { K.view self.new.port ≡ record (K.view self.old.port) { hold = None } }
         ensures cost { K.drain_cost self.new.port ≡ K.drain_cost self.old.port }
         ensures same { SameButPort K.ChannelPort self.old self.new }
-        ensures stands { StandsWith K.ChannelPort Released self.old self.new }
+        ensures stands { StandsNoted K.ChannelPort Released self.old self.new }
     {
         self.port.hold(None);
     }
@@ -48,7 +48,7 @@ impl<K: ChannelPort> Part<K> {
         ensures channel { self.new.channel ≡ self.old.channel }
         ensures credits { self.new.credits ≡ self.old.credits }
         ensures cost { K.drain_cost self.new.port ≡ K.drain_cost self.old.port }
-        ensures stands { StandsWith K.ChannelPort Ended self.old self.new }
+        ensures stands { StandsNoted K.ChannelPort Ended self.old self.new }
     {
         self.port.lose_mains();
         self.ended = true;

@@ -104,4 +104,11 @@ impl<K: ChannelPort> Part<K> {
     {
         self.port.is_full_of_reads()
     }
+
+    /// Were mains lost?
+    pub fn has_ended(&self) -> bool
+        ensures { result ≡ self.now.ended }
+    {
+        self.ended
+    }
 }

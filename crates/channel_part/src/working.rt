@@ -17,7 +17,7 @@ use ddr4_timing::place::Place;
 use line_memory::Write;
 
 impl<K: ChannelPort> Part<K> {
-    ghost use Rattle.channel_part.specs.Stands.{PartStands, SameButPort, StandsStill, StandsWith, queue_of, returned_of};
+    ghost use Rattle.channel_part.specs.Stands.{PartStands, SameButPort, StandsStill, StandsNoted, queue_of, returned_of};
 
     /// Takes all returned credits back, and says how many. What waits is noted.
     pub fn take_back(&mut self) -> u64
@@ -27,7 +27,7 @@ impl<K: ChannelPort> Part<K> {
         ensures port { self.new.port ≡ self.old.port }
         ensures channel { self.new.channel ≡ self.old.channel }
         ensures ended { self.new.ended ≡ self.old.ended }
-        ensures stands { StandsWith K.ChannelPort Looked self.old self.new }
+        ensures stands { StandsNoted K.ChannelPort Looked self.old self.new }
     {
         let returned = self.returned();
         self.credits -= returned;
@@ -48,7 +48,7 @@ impl<K: ChannelPort> Part<K> {
         ensures taken { returned_of K.ChannelPort self.new ≡ 0 }
         ensures channel { self.new.channel ≡ self.old.channel }
         ensures ended { self.new.ended ≡ self.old.ended }
-        ensures stands { StandsWith K.ChannelPort (Wrote (numbered number write))
+        ensures stands { StandsNoted K.ChannelPort (Wrote (numbered number write))
             self.old self.new }
     {
         self.port.put(number, write, place);
@@ -73,7 +73,7 @@ impl<K: ChannelPort> Part<K> {
           waits = (K.view self.new.port).waits;
         } }
         ensures same { SameButPort K.ChannelPort self.old self.new }
-        ensures stands { StandsWith K.ChannelPort Looked self.old self.new }
+        ensures stands { StandsNoted K.ChannelPort Looked self.old self.new }
     {
         self.port.get(line, place, at)
     }

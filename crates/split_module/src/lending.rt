@@ -4,7 +4,7 @@ ghost use Rattle.arm_state.specs.Modes.{has_ended};
 ghost use Rattle.channel_log.specs.declared.entry.LogEntry.TheVariants.{Looked, Wrote};
 ghost use Rattle.channel_port.specs.Waits.{AllBelow};
 ghost use Rattle.line_memory.specs.Parts.{numbered};
-ghost use Rattle.channel_part.specs.Stands.{StandsWith, queue_of, returned_of};
+ghost use Rattle.channel_part.specs.Stands.{StandsNoted, queue_of, returned_of};
 ghost use Rattle.split_module.specs.Lending.{LooksAt, WritesOn};
 
 use crate::SplitFront;
@@ -20,7 +20,7 @@ pub fn take_back<K: ChannelPort>(front: &mut SplitFront, part: &mut Part<K>) -> 
     ensures all { result ≡ returned_of K.ChannelPort part.old }
     ensures none { returned_of K.ChannelPort part.new ≡ 0 }
     ensures looks { LooksAt K.ChannelPort front.old part.old front.new part.new }
-    ensures stands { StandsWith K.ChannelPort Looked part.old part.new }
+    ensures stands { StandsNoted K.ChannelPort Looked part.old part.new }
 {
     let returned = part.take_back();
     front.out -= returned;
@@ -42,7 +42,7 @@ pub fn write_on<K: ChannelPort>(
     requires ended { part.old.ended ≡ has_ended front.old.front.mode }
     requires below { AllBelow front.old.front.accepted (queue_of K.ChannelPort part.old) }
     ensures writes { WritesOn K.ChannelPort front.old part.old write result front.new part.new }
-    ensures stands { IfOk result (λ accepted. StandsWith K.ChannelPort
+    ensures stands { IfOk result (λ accepted. StandsNoted K.ChannelPort
         (Wrote (numbered accepted.number write)) part.old part.new) }
     ensures taken { returned_of K.ChannelPort part.new ≡ 0 }
     ensures same_front { IfErr result (λ refusal. front.new ≡ front.old) }

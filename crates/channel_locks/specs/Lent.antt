@@ -1,0 +1,33 @@
+-- What was done while a channel's lock lent what lies behind it. Which value it lent no clause can name, so these say that there is
+-- one.
+use Rattle.std.specs.Prelude.{◌≡◌, ℕ, Option}
+use Rattle.std.specs.Option.{ForSome}
+use Rattle.channel_port.specs.declared.answers.Collected.{Collected}
+use Rattle.channel_port.specs.declared.answers.Ticket.{Ticket}
+use Rattle.channel_port.specs.declared.port.ChannelPort.{Ghosts}
+use Rattle.channel_part.specs.declared.part.Part.{Part}
+use Rattle.channel_locks.specs.declared.gate_inside.GateInside.{Ghosts as GateGhosts}
+use Rattle.channel_locks.specs.declared.turns.ChannelTurn.{ChannelTurn}
+use Rattle.channel_locks.specs.Alone.{CollectsAlone, WorksAlone, ended_in}
+use Rattle.channel_locks.specs.Inside.{AwaitsInside}
+
+module _ {K : Type 0} (L : Ghosts K) where
+  -- what was lent is of this channel
+  abbrev pub IsOfChannel : ℕ → Option (Part K L) → Type 0
+  IsOfChannel channel lent = ForSome lent (λ (part : Part K L). part.channel ≡ channel)
+
+  -- the channel was worked once, behind the gate that was asked with the lock held
+  pub record LentTurn {G : Type 0} (H : GateGhosts G) (channel : ℕ) (gate : G) (turn : ChannelTurn) : Type 0 where
+    pub before : Option (Part K L)
+    pub after : Option (Part K L)
+    pub asked : AwaitsInside H channel gate
+    pub here : IsOfChannel channel before
+    pub works : WorksAlone L turn.done before after
+    pub ended : turn.ended ≡ ended_in L after
+
+  -- a ticket was answered so by its channel
+  pub record LentCollect (ticket : Ticket) (answer : Collected) : Type 0 where
+    pub before : Option (Part K L)
+    pub after : Option (Part K L)
+    pub here : IsOfChannel ticket.channel before
+    pub collects : CollectsAlone L ticket answer before after

@@ -1,0 +1,5 @@
+pub mod Alone
+pub mod Inside
+pub mod Lent
+pub mod PortMakes
+pub mod Slots

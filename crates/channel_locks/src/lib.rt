@@ -1,0 +1,22 @@
+//! The locks of a board's channels: what lies behind each, and what is done under that lock alone.
+//!
+//! A `Slot` has the part of its channel and the seat that knows the channel's log. The part is there whenever the lock is free, and
+//! it stands for the log (`specs/Slots.antt`), whoever had the lock meanwhile: a worker, a read that is served, or one who held the
+//! board's lock too. Under a channel's lock alone its log stays as it is.
+#![tactic(auto)]
+
+mod gate_inside;
+mod inside;
+mod locks;
+mod parts_name;
+mod serving;
+mod slot;
+mod turns;
+mod working;
+
+pub use gate_inside::GateInside;
+pub use inside::await_inside;
+pub use locks::{collect_at, take_lock, turn_at};
+pub use parts_name::PartsName;
+pub use slot::Slot;
+pub use turns::ChannelTurn;

@@ -1,0 +1,49 @@
+// A channel's lock, and what is done under it alone.
+ghost use Rattle.std.specs.Prelude.{◌≡◌};
+ghost use Rattle.channel_locks.specs.Lent.{LentCollect, LentTurn};
+
+use crate::gate_inside::GateInside;
+use crate::parts_name::PartsName;
+use crate::slot::Slot;
+use crate::turns::ChannelTurn;
+use channel_port::{ChannelPort, Collected, Ticket};
+use std::sync::{Mutex, MutexGuard, Wait};
+use std::thread;
+
+/// How often a lock that is held is tried before a thread sleeps until it is free.
+const TRIES: u64 = 200;
+
+/// Takes a lock. While another thread has it, it is tried again behind the other threads, since a thread that sleeps for it costs
+/// each who lets it go a call of the system.
+pub fn take_lock<'a, T, R: Wait>(rt: &R, lock: &'a Mutex<T>) -> MutexGuard<'a, T> {
+    for _ in 0..TRIES {
+        if let Some(guard) = lock.try_lock() {
+            return guard;
+        }
+        thread::yield_now();
+    }
+    lock.lock(rt)
+}
+
+/// Takes a turn of the worker of the channel whose lock this is, under that lock alone. The gate is asked while it is held.
+pub fn turn_at<K: ChannelPort, B: PartsName, G: GateInside, R: Wait, const CHANNEL: u64>(
+    rt: &R,
+    lock: &Mutex<Slot<K, B, CHANNEL>>,
+    gate: &G,
+) -> ChannelTurn
+    ensures { LentTurn K.ChannelPort G.GateInside.own CHANNEL gate.now result }
+{
+    take_lock(rt, lock).take_turn(gate)
+}
+
+/// What there is for a ticket of the channel whose lock this is, under that lock alone.
+pub fn collect_at<K: ChannelPort, B: PartsName, R: Wait, const CHANNEL: u64>(
+    rt: &R,
+    lock: &Mutex<Slot<K, B, CHANNEL>>,
+    ticket: Ticket,
+) -> Collected
+    requires { ticket.channel ≡ CHANNEL }
+    ensures { LentCollect K.ChannelPort ticket result }
+{
+    take_lock(rt, lock).collect(ticket)
+}
