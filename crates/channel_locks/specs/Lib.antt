@@ -1,5 +1,6 @@
 pub mod Alone
 pub mod Inside
 pub mod Lent
+pub mod Lines
 pub mod PortMakes
 pub mod Slots

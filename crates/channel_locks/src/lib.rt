@@ -7,6 +7,7 @@
 
 mod gate_inside;
 mod inside;
+mod line_channels;
 mod locks;
 mod parts_name;
 mod serving;
@@ -16,6 +17,7 @@ mod working;
 
 pub use gate_inside::GateInside;
 pub use inside::await_inside;
+pub use line_channels::LineChannels;
 pub use locks::{collect_at, take_lock, turn_at};
 pub use parts_name::PartsName;
 pub use slot::Slot;
