@@ -3,17 +3,19 @@ use Rattle.std.specs.Prelude.{◌≡◌, ℕ, ◌<◌, List, Result, Ok, Err}
 use Rattle.line_memory.specs.declared.Write.{Write}
 use Rattle.line_memory.specs.Memory.{IsMemory}
 use Rattle.line_memory.specs.Parts.{numbered}
+use Rattle.arm_state.specs.declared.refusal.ReadRefusal.{ReadRefusal}
 use Rattle.arm_state.specs.declared.refusal.WriteRefusal.{WriteRefusal}
 use Rattle.channel_log.specs.declared.entry.LogEntry.TheVariants.{Wrote}
 use Rattle.channel_log.specs.Log.{IsLogOf, LogNote, log_tells, note_of}
 use Rattle.channel_part.specs.declared.part.Part.{Part}
 use Rattle.channel_part.specs.Stands.{PartStands}
+use Rattle.channel_port.specs.declared.answers.Got.{Got}
 use Rattle.channel_port.specs.declared.port.ChannelPort.{Ghosts}
 use Rattle.channel_port.specs.Shape.{Shape}
 use Rattle.module_core.specs.Fronts.{FrontMatches, setup_in}
 use Rattle.nv_machine.specs.declared.events.Accepted.{Accepted}
-use Rattle.nv_machine.specs.Machine.{WriteStep}
-use Rattle.nv_machine.specs.State.{Machine, memory_of, pending_of}
+use Rattle.nv_machine.specs.Machine.{ReadStep, WriteStep}
+use Rattle.nv_machine.specs.State.{Machine, base_of_life, memory_of, pending_of}
 use Rattle.split_machine.specs.OwnEvents.{looked}
 use Rattle.split_machine.specs.Telling.{AreLogsOf, laid_out, waits_told, with_note}
 use Rattle.split_module.specs.declared.front.SplitFront.{SplitFront}
@@ -56,3 +58,18 @@ module _ {K : Type 0} (L : Ghosts K) where
       → SplitStands shape logs old m → IsLogOf logs part.channel log → IsSeen shape part log
       → (write.line < shape.lines → shape.channel_of write.line ≡ part.channel)
       → WroteOn shape old part write result new later m logs log
+
+  -- what a read of a line of the part's channel makes of the machine
+  abbrev pub HasReadOn : Shape → SplitFront → Part K L → ℕ → Result Got ReadRefusal → Part K L → Machine → List (List LogNote) → List LogNote → Type 0
+  HasReadOn shape front part line (Ok got) later m logs log =
+      let noted = looked part.channel log (L.view later.port).waits logs in
+      (n : Machine) × ReadStep (setup_in shape front.front) line (Ok got) m n × SplitStands shape noted front n
+  HasReadOn shape front part line (Err refusal) later m logs log = ReadStep (setup_in shape front.front) line (Err refusal) m m
+
+  -- A read is one step of whichever machine the front stood for, with what waits noted behind it.
+  abbrev pub ReadsOn : SplitFront → Part K L → ℕ → Result Got ReadRefusal → Part K L → Type 0
+  ReadsOn front part line result later = (shape : Shape) (m : Machine) (logs : List (List LogNote)) (log : List LogNote)
+      → SplitStands shape logs front m → IsLogOf logs part.channel log → IsSeen shape part log
+      → PartStands L part part.channel (base_of_life m.life) log
+      → (line < shape.lines → shape.channel_of line ≡ part.channel)
+      → HasReadOn shape front part line result later m logs log

@@ -5,12 +5,12 @@ ghost use Rattle.channel_log.specs.declared.entry.LogEntry.TheVariants.{Looked, 
 ghost use Rattle.channel_port.specs.Waits.{AllBelow};
 ghost use Rattle.line_memory.specs.Parts.{numbered};
 ghost use Rattle.channel_part.specs.Stands.{StandsNoted, queue_of, returned_of};
-ghost use Rattle.split_module.specs.Lending.{LooksAt, WritesOn};
+ghost use Rattle.split_module.specs.Lending.{LooksAt, ReadsOn, WritesOn};
 
 use crate::SplitFront;
-use arm_state::WriteRefusal;
+use arm_state::{ReadRefusal, WriteRefusal};
 use channel_part::Part;
-use channel_port::ChannelPort;
+use channel_port::{ChannelPort, Got};
 use line_memory::Write;
 use nv_machine::Accepted;
 
@@ -60,6 +60,35 @@ pub fn write_on<K: ChannelPort>(
             part.write(accepted.number, write, place);
             front.out += 1;
             Ok(accepted)
+        }
+    }
+}
+
+/// Reads a line of the part's channel, of which all returned credits were taken back, as the memory is after all accepted writes;
+/// or answers why it isn't read. A line that there isn't is refused whatever the part is.
+pub fn read_on<K: ChannelPort>(
+    front: &SplitFront,
+    part: &mut Part<K>,
+    line: u64,
+) -> Result<Got, ReadRefusal>
+    requires taken { returned_of K.ChannelPort part.old ≡ 0 }
+    requires lines { (K.view part.old.port).lines ≡ front.now.lines }
+    requires here { line < front.now.lines
+        → ((K.view part.old.port).place_of line).channel ≡ part.old.channel }
+    requires ended { part.old.ended ≡ has_ended front.now.front.mode }
+    ensures reads { ReadsOn K.ChannelPort front.now part.old line result part.new }
+    ensures stands { IfOk result (λ got. StandsNoted K.ChannelPort Looked part.old part.new) }
+    ensures taken { returned_of K.ChannelPort part.new ≡ 0 }
+    ensures same { IfErr result (λ refusal. part.new ≡ part.old) }
+{
+    if line >= front.lines {
+        return Err(ReadRefusal::NoSuchLine);
+    }
+    match front.front.read_refusal(part.is_full_of_reads()) {
+        Some(refusal) => Err(refusal),
+        None => {
+            let place = part.place(line);
+            Ok(part.read(line, place, front.front.accepted()))
         }
     }
 }

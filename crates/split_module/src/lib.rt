@@ -1,7 +1,7 @@
 //! A module in pieces: its front, and what becomes of it with the part of one channel.
 //!
 //! The front lies behind the board's lock, and each part behind its channel's. Who holds the board's lock and one channel's takes
-//! the channel's returned credits back, and then writes (`src/lending.rt`). Each is one step of whichever machine the front
+//! the channel's returned credits back, and then writes or reads (`src/lending.rt`). Each is one step of whichever machine the front
 //! stands for by the logs of the channels (`specs/Lending.antt`); and no other channel's part is asked.
 #![tactic(auto)]
 
@@ -9,4 +9,4 @@ mod front;
 mod lending;
 
 pub use front::SplitFront;
-pub use lending::{take_back, write_on};
+pub use lending::{read_on, take_back, write_on};
