@@ -7,7 +7,7 @@ use Rattle.module_core.specs.Fronts.{FrontMoves, TellsWrite}
 use Rattle.module_core.specs.Stands.{IsCarried, MovesOn}
 use Rattle.nv_machine.specs.Refusals.{need_for}
 use Rattle.std.specs.Prelude.{◌==◌}
-use Rattle.module_core.proofs.Common.{ℕ, ◌+◌, ◌<◌, ◌∙◌, ◌≡◌, Bool, ChannelsView, Ghosts, IsMemory, Machine, Matches, Mode, Module, Some, Waits, WaitsFrom, all_of, ap, base_of_life, begun_save, length, lines_of_module, made_of, memory_of, refl, setup_of, shape_of, start_of_life, subst, sym, view_of}
+use Rattle.module_core.proofs.Common.{false, ℕ, ◌+◌, ◌<◌, ◌∙◌, ◌≡◌, Bool, ChannelsView, Ghosts, IsMemory, Machine, Matches, Mode, Module, Some, Waits, WaitsFrom, all_of, ap, base_of_life, begun_save, length, lines_of_module, made_of, memory_of, refl, setup_of, shape_of, start_of_life, subst, sym, view_of}
 use Rattle.module_core.proofs.Emptied.{all_wait}
 
 module _ {K : Type 0} (L : Ghosts K) where
@@ -33,9 +33,12 @@ module _ {K : Type 0} (L : Ghosts K) where
           ∙ ap (λ (w : Waits). reads_on ((shape_of L it.channels).channel_of line) w.reads == (shape_of L it.channels).reads) h.carried.waits
 
       pub tells_write : line < lines_of_module L it → (is_full : Bool) → is_full ≡ (writes_on place.channel (view_of L it.channels).waits.writes == (shape_of L it.channels).depth)
-          → (pending need : ℕ) → pending ≡ length (view_of L it.channels).waits.writes → need ≡ need_for (setup_of L it) (pending + 1) → TellsWrite (setup_of L it) m line is_full need
-      tells_write within is_full full pending need is needed =
-          record { within = within; full = told_full is_full full; needed = needed ∙ ap (λ (k : ℕ). need_for (setup_of L it) (k + 1)) (told_pending pending is) }
+          → (need : ℕ) → (is_full ≡ false → need ≡ need_for (setup_of L it) (length (view_of L it.channels).waits.writes + 1)) → TellsWrite (setup_of L it) m line is_full need
+      tells_write within is_full full need needed = record {
+        within = within;
+        full = told_full is_full full;
+        needed = λ room. needed room ∙ ap (λ (k : ℕ). need_for (setup_of L it) (k + 1)) (told_pending (length (view_of L it.channels).waits.writes) refl);
+      }
 
   -- a save of all accepted writes was begun, and the channels hold back the later ones
   abbrev pub with_save : Machine → Mode → Bool → Machine

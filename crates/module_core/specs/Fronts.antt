@@ -1,5 +1,5 @@
 -- Which machine a front stands for, a module's life without its channels, and what its calls make of it.
-use Rattle.std.specs.Prelude.{◌≡◌, ℕ, ◌+◌, ◌<◌, ◌^◌, Bool, if◌then◌else◌}
+use Rattle.std.specs.Prelude.{◌≡◌, ℕ, ◌+◌, ◌<◌, ◌^◌, Bool, false, if◌then◌else◌}
 use Rattle.arm_state.specs.Modes.{is_armed}
 use Rattle.channel_port.specs.Shape.{Shape, is_full_at}
 use Rattle.channel_port.specs.Waits.{Waits}
@@ -45,11 +45,12 @@ pub record FrontMoves (lines : ℕ) (m : Machine) (old : Front) (later : Machine
   pub matches : FrontMatches new later
   pub moves : StoreMoves lines m.store old.saves later.store new.saves
 
--- What the channels tell for a write: whether the line's channel is full, and what the gauge has to show with one write more.
+-- What the channels tell for a write: whether the line's channel is full, and where it isn't, what the gauge has to show with one
+-- write more.
 pub record TellsWrite (setup : Setup) (m : Machine) (line : ℕ) (is_full : Bool) (need : ℕ) : Type 0 where
   pub within : line < setup.shape.lines
   pub full : is_full ≡ is_full_at setup.shape m.waits line
-  pub needed : need ≡ need_for setup (pending_of m + 1)
+  pub needed : is_full ≡ false → need ≡ need_for setup (pending_of m + 1)
 
 -- one write more may be stored, and has a number
 pub record HasRoom (front : Front) : Type 0 where

@@ -1,5 +1,5 @@
 // The module, and its calls that ask nothing of the device.
-ghost use Rattle.std.specs.Prelude.{◌≡◌, ◌==◌, ◌+◌, ◌-◌, ◌<◌, ◌≤◌, ◌^◌, true, false, nat_le, None, Some, IfErr, IfOk};
+ghost use Rattle.std.specs.Prelude.{◌≡◌, ◌==◌, ◌+◌, ◌-◌, ◌<◌, ◌≤◌, ◌^◌, true, false, length, nat_le, None, Some, IfErr, IfOk};
 ghost use Rattle.save_device.specs.Device.{DeviceState};
 ghost use Rattle.arm_state.specs.Modes.{is_armed, has_ended};
 ghost use Rattle.channel_port.specs.Waits.{AllBelow, reads_on, writes_on};
@@ -41,6 +41,18 @@ impl<K: ChannelPort> Module<K> {
         self.channels.costs().need(pending)
     }
 
+    // What the gauge has to show while one write more waits, where its channel has room for it.
+    fn need_of_one_more(&self, is_full: bool) -> u64
+        ensures { is_full ≡ false → result ≡ need_for (setup_of K.ChannelPort self.now)
+            (length (view_of K.ChannelPort self.now.channels).waits.writes + 1) }
+    {
+        if is_full {
+            0
+        } else {
+            self.need_for(self.channels.pending() + 1)
+        }
+    }
+
     // Where an accepted write goes, or why it isn't accepted.
     fn admit_write(&self, line: u64) -> Result<Place, WriteRefusal>
         ensures refusal { IfErr result (λ refusal. (m : Machine) → Matches K.ChannelPort self.now m
@@ -60,7 +72,7 @@ impl<K: ChannelPort> Module<K> {
             return Err(WriteRefusal::NoSuchLine);
         };
         let is_full = self.channels.is_full(place.channel);
-        let need = self.need_for(self.channels.pending() + 1);
+        let need = self.need_of_one_more(is_full);
         match self.front.write_refusal(is_full, need) {
             Some(refusal) => Err(refusal),
             None => Ok(place),

@@ -166,7 +166,7 @@ module _ {K : Type 0} (L : Ghosts K) where
       record {
         within = subst (λ k. write.line < k) s.lines within;
         full = full ∙ ap (λ k. k == (L.view part.port).depth) same ∙ ap (λ k. writes_on (shape.channel_of write.line) m.waits.writes == k) seen.depth;
-        needed = needed ∙ ap (λ (c : Costs). needed_level c (old.out + 1)) s.costs ∙ ap (λ k. needed_level shape.costs (k + 1)) s.out;
+        needed = λ room. needed ∙ ap (λ (c : Costs). needed_level c (old.out + 1)) s.costs ∙ ap (λ k. needed_level shape.costs (k + 1)) s.out;
       }
 
   -- what the channel tells for a read of one of its lines
