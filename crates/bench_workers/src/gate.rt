@@ -31,11 +31,17 @@ impl Gate for UntilDone {
     // Any answer may come at any turn.
     ghost says = { λ _ _ _ _. ⊤ };
 
+    ghost says_inside = { λ _ _ _ _. ⊤ };
+
     fn pass(&self, _worker: u64, turn: u64) -> Turn {
         if turn >= TURNS || self.done.load(Ordering::SeqCst) {
             Turn::Stop
         } else {
             Turn::Go
         }
+    }
+
+    fn inside(&self, _worker: u64, _turn: u64) -> Turn {
+        Turn::Go
     }
 }

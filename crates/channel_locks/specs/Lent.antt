@@ -6,10 +6,10 @@ use Rattle.channel_port.specs.declared.answers.Collected.{Collected}
 use Rattle.channel_port.specs.declared.answers.Ticket.{Ticket}
 use Rattle.channel_port.specs.declared.port.ChannelPort.{Ghosts}
 use Rattle.channel_part.specs.declared.part.Part.{Part}
-use Rattle.channel_locks.specs.declared.gate_inside.GateInside.{Ghosts as GateGhosts}
+use Rattle.worker_gate.specs.declared.Gate.{Ghosts as GateGhosts}
 use Rattle.channel_locks.specs.declared.turns.ChannelTurn.{ChannelTurn}
 use Rattle.channel_locks.specs.Alone.{CollectsAlone, WorksAlone, ended_in}
-use Rattle.channel_locks.specs.Inside.{AwaitsInside}
+use Rattle.worker_gate.specs.Inside.{AwaitsInside}
 
 module _ {K : Type 0} (L : Ghosts K) where
   -- what was lent is of this channel

@@ -1,5 +1,4 @@
 pub mod Alone
-pub mod Inside
 pub mod Lent
 pub mod Lines
 pub mod PortMakes

@@ -5,8 +5,6 @@
 //! board's lock too. Under a channel's lock alone its log stays as it is.
 #![tactic(auto)]
 
-mod gate_inside;
-mod inside;
 mod line_channels;
 mod locks;
 mod parts_name;
@@ -15,8 +13,6 @@ mod slot;
 mod turns;
 mod working;
 
-pub use gate_inside::GateInside;
-pub use inside::await_inside;
 pub use line_channels::LineChannels;
 pub use locks::{collect_at, take_lock, turn_at};
 pub use parts_name::PartsName;

@@ -2,13 +2,13 @@
 ghost use Rattle.std.specs.Prelude.{◌≡◌};
 ghost use Rattle.channel_locks.specs.Lent.{LentCollect, LentTurn};
 
-use crate::gate_inside::GateInside;
 use crate::parts_name::PartsName;
 use crate::slot::Slot;
 use crate::turns::ChannelTurn;
 use channel_port::{ChannelPort, Collected, Ticket};
 use std::sync::{Mutex, MutexGuard, Wait};
 use std::thread;
+use worker_gate::Gate;
 
 /// How often a lock that is held is tried before a thread sleeps until it is free.
 const TRIES: u64 = 200;
@@ -26,12 +26,12 @@ pub fn take_lock<'a, T, R: Wait>(rt: &R, lock: &'a Mutex<T>) -> MutexGuard<'a, T
 }
 
 /// Takes a turn of the worker of the channel whose lock this is, under that lock alone. The gate is asked while it is held.
-pub fn turn_at<K: ChannelPort, B: PartsName, G: GateInside, R: Wait, const CHANNEL: u64>(
+pub fn turn_at<K: ChannelPort, B: PartsName, G: Gate, R: Wait, const CHANNEL: u64>(
     rt: &R,
     lock: &Mutex<Slot<K, B, CHANNEL>>,
     gate: &G,
 ) -> ChannelTurn
-    ensures { LentTurn K.ChannelPort G.GateInside.own CHANNEL gate.now result }
+    ensures { LentTurn K.ChannelPort G.Gate CHANNEL gate.now result }
 {
     take_lock(rt, lock).take_turn(gate)
 }

@@ -41,9 +41,15 @@ impl Gate for Told {
     // Any answer may come at any turn.
     ghost says = { λ _ _ _ _. ⊤ };
 
+    ghost says_inside = { λ _ _ _ _. ⊤ };
+
     fn pass(&self, _worker: u64, _turn: u64) -> Turn {
         self.asked.fetch_add(1, Ordering::SeqCst);
         self.told
+    }
+
+    fn inside(&self, _worker: u64, _turn: u64) -> Turn {
+        Turn::Go
     }
 }
 
@@ -134,6 +140,8 @@ impl<C: Clock> Gate for BothAsked<C> {
     // Any answer may come at any turn.
     ghost says = { λ _ _ _ _. ⊤ };
 
+    ghost says_inside = { λ _ _ _ _. ⊤ };
+
     fn pass(&self, worker: u64, turn: u64) -> Turn {
         let (own, other) = if worker == 0 {
             (&self.first, &self.second)
@@ -150,6 +158,10 @@ impl<C: Clock> Gate for BothAsked<C> {
         }
         thread::sleep(&self.clock, Duration::from_millis(1));
         Turn::Hold
+    }
+
+    fn inside(&self, _worker: u64, _turn: u64) -> Turn {
+        Turn::Go
     }
 }
 

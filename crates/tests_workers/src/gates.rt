@@ -17,12 +17,18 @@ impl Gate for Turns {
     // Any answer may come at any turn.
     ghost says = { λ _ _ _ _. ⊤ };
 
+    ghost says_inside = { λ _ _ _ _. ⊤ };
+
     fn pass(&self, worker: u64, turn: u64) -> Turn {
         if worker == self.worker && turn < self.most {
             Turn::Go
         } else {
             Turn::Stop
         }
+    }
+
+    fn inside(&self, _worker: u64, _turn: u64) -> Turn {
+        Turn::Go
     }
 }
 
@@ -61,6 +67,8 @@ impl Gate for EachTurn {
     // Any answer may come at any turn.
     ghost says = { λ _ _ _ _. ⊤ };
 
+    ghost says_inside = { λ _ _ _ _. ⊤ };
+
     fn pass(&self, _worker: u64, turn: u64) -> Turn {
         if self.asked.fetch_add(1, Ordering::SeqCst) != turn {
             self.astray.store(true, Ordering::SeqCst);
@@ -70,6 +78,10 @@ impl Gate for EachTurn {
         } else {
             Turn::Stop
         }
+    }
+
+    fn inside(&self, _worker: u64, _turn: u64) -> Turn {
+        Turn::Go
     }
 }
 
@@ -111,6 +123,8 @@ impl<C: Clock> Gate for HeldUntil<C> {
     // Any answer may come at any turn.
     ghost says = { λ _ _ _ _. ⊤ };
 
+    ghost says_inside = { λ _ _ _ _. ⊤ };
+
     fn pass(&self, _worker: u64, turn: u64) -> Turn {
         if self.answered.load(Ordering::SeqCst) {
             return Turn::Stop;
@@ -121,6 +135,10 @@ impl<C: Clock> Gate for HeldUntil<C> {
         }
         thread::sleep(&self.clock, Duration::from_millis(1));
         Turn::Hold
+    }
+
+    fn inside(&self, _worker: u64, _turn: u64) -> Turn {
+        Turn::Go
     }
 }
 
@@ -170,6 +188,8 @@ impl<C: Clock> Gate for OtherFirst<C> {
     // Any answer may come at any turn.
     ghost says = { λ _ _ _ _. ⊤ };
 
+    ghost says_inside = { λ _ _ _ _. ⊤ };
+
     fn pass(&self, worker: u64, turn: u64) -> Turn {
         let answered = self.answered.load(Ordering::SeqCst);
         if worker == 0 {
@@ -185,6 +205,10 @@ impl<C: Clock> Gate for OtherFirst<C> {
         if self.worked.swap(true, Ordering::SeqCst) {
             return Turn::Stop;
         }
+        Turn::Go
+    }
+
+    fn inside(&self, _worker: u64, _turn: u64) -> Turn {
         Turn::Go
     }
 }

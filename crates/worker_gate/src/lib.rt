@@ -1,8 +1,10 @@
 //! The gate that whoever works at once with others asks before each turn.
 #![tactic(auto)]
 
+mod inside;
 mod waiting;
 
+pub use inside::await_inside;
 pub use waiting::await_turn;
 
 /// What a worker is told at its turn: to take it, to ask again, or to return.
@@ -22,10 +24,18 @@ pub trait Gate {
     /// A worker was told so at this turn.
     ghost says: { ℕ → ℕ → Turn → Self → Type 0 };
 
+    /// A worker was told so at this question, while it held its channel's lock.
+    ghost says_inside: { ℕ → ℕ → Turn → Self → Type 0 };
+
     /// `worker` is the channel's number, and the number of channels for the saver; `turn` counts from 0 for each worker, one
     /// more at each question.
     fn pass(&self, worker: u64, turn: u64) -> Turn
         ensures { says worker turn result self.now };
+
+    /// Asked once more by a channel's worker, while it holds its channel's lock. `worker` is the channel's number; `turn` counts the
+    /// questions in one hold of the lock, from 0 on. At Hold it is asked again with the lock held; Stop counts as Go.
+    fn inside(&self, worker: u64, turn: u64) -> Turn
+        ensures { says_inside worker turn result self.now };
 }
 
 /// Lets each go, at every turn.
@@ -37,7 +47,13 @@ impl Gate for Always {
 
     ghost says = { λ _ _ told _. told ≡ Go };
 
+    ghost says_inside = { λ _ _ told _. told ≡ Go };
+
     fn pass(&self, _worker: u64, _turn: u64) -> Turn {
         Turn::Go
+    }
+
+    fn inside(&self, worker: u64, turn: u64) -> Turn {
+        self.pass(worker, turn)
     }
 }

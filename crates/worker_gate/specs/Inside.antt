@@ -1,7 +1,7 @@
 -- A wait at a gate while a lock is held.
 use Rattle.std.specs.Prelude.{◌≡◌, ◌⊎◌, ℕ, ◌-◌, ◌<◌, ◌^◌}
 use Rattle.worker_gate.specs.declared.Turn.TheVariants.{Go, Hold, Stop}
-use Rattle.channel_locks.specs.declared.gate_inside.GateInside.{Ghosts}
+use Rattle.worker_gate.specs.declared.Gate.{Ghosts}
 
 module _ {G : Type 0} (K : Ghosts G) where
   -- It was told to go on; stop counts as that.

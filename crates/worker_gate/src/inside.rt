@@ -1,14 +1,13 @@
 // A wait at a gate while a lock is held.
-ghost use Rattle.channel_locks.specs.Inside.{AwaitsInside};
+ghost use Rattle.worker_gate.specs.Inside.{AwaitsInside};
 
-use crate::gate_inside::GateInside;
+use crate::{Gate, Turn};
 use std::thread;
-use worker_gate::Turn;
 
 /// Asks the gate for a worker that holds its channel's lock, until it says Go or Stop. Behind each Hold it gives its processor away,
 /// and keeps the lock.
-pub fn await_inside<G: GateInside>(gate: &G, worker: u64)
-    ensures { AwaitsInside G.GateInside.own worker gate.now }
+pub fn await_inside<G: Gate>(gate: &G, worker: u64)
+    ensures { AwaitsInside G.Gate worker gate.now }
 {
     for turn in 0..u64::MAX {
         match gate.inside(worker, turn) {
