@@ -4,6 +4,7 @@
 //! (`specs/Carrying.antt`): the sentence on the whole memory, which follows from what each port carries.
 #![tactic(auto)]
 
+mod apart;
 mod asking;
 mod at_once;
 mod draining;
@@ -12,6 +13,7 @@ mod set;
 mod terms;
 mod working;
 
+pub use apart::SetApart;
 pub use laws::arrays_settle;
 pub use set::ChannelSet;
 pub use terms::PortTerms;

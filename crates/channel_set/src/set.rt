@@ -34,6 +34,9 @@ impl<K: ChannelPort> ChannelSet<K> {
         requires shape { IsShape
             (shape_with K.ChannelPort terms costs ports.items) }
         requires costs { AreReckonedFor terms.checked costs }
+        ensures ports { result.ports ≡ ports }
+        ensures terms { result.terms ≡ terms }
+        ensures costs { result.costs ≡ costs }
         ensures shape { shape_of K.ChannelPort result
             ≡ shape_with K.ChannelPort terms costs ports.items }
         ensures hold { (view_of K.ChannelPort result).hold ≡ terms.hold }
