@@ -98,13 +98,6 @@ impl Front {
         None
     }
 
-    /// How many writes were accepted, counted from the first life on.
-    pub fn accepted(&self) -> u64
-        ensures { result ≡ self.now.accepted }
-    {
-        self.accepted
-    }
-
     /// Accepts a write: it has the next number, and while armed it is persistent at once.
     pub fn accept(&mut self) -> Accepted
         requires { HasRoom self.old }

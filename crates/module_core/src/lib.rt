@@ -12,6 +12,7 @@ mod laws;
 mod losing;
 mod marks;
 mod module;
+mod numbers;
 mod opening;
 mod parts;
 mod running;

@@ -34,6 +34,6 @@ returns-in-None-clause-reads g c = λ shape m logs log s of seen stands on.
       given = subst (λ n. All (λ t. t.channel ≡ n) (L.view later.port).waits.given) here (g.met.K.ChannelPort.own_tickets later.port);
     } in
     let bytes = line_of (after (base_of_life m.life) (writes_of (log_tells log).written)) c.args.line in
-    let got = subst (λ k. IsGot bytes c.args.line k part.channel c.read.result (L.view part.port).waits (L.view later.port).waits) c.accepted.ensures (c.read.ensures.got part.channel (base_of_life m.life) log stands) in
+    let got = subst (λ k. IsGot bytes c.args.line k part.channel c.read.result (L.view part.port).waits (L.view later.port).waits) c.accepted.ensures.is (c.read.ensures.got part.channel (base_of_life m.life) log stands) in
     read L front part later c.args.line c.read.result c.read.ensures.writes shape m logs log s of seen (on least) own got
     (sym (c.read_refusal.ensures.refusal shape m c.args.line s.matches least full) ∙ c.in-None.is)
