@@ -6,8 +6,8 @@ use module_core::Front;
 /// lines they have, and what a closing save costs.
 #[derive(Drop)]
 pub struct SplitFront {
-    pub(crate) front: Front,
-    pub(crate) out: u64,
-    pub(crate) lines: u64,
-    pub(crate) costs: Costs,
+    pub front: Front,
+    pub out: u64,
+    pub lines: u64,
+    pub costs: Costs,
 }

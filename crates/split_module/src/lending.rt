@@ -5,6 +5,7 @@ ghost use Rattle.channel_log.specs.declared.entry.LogEntry.TheVariants.{Looked, 
 ghost use Rattle.channel_port.specs.Waits.{AllBelow};
 ghost use Rattle.line_memory.specs.Parts.{numbered};
 ghost use Rattle.channel_part.specs.Stands.{StandsNoted, queue_of, returned_of};
+ghost use Rattle.module_core.specs.Fronts.{AcceptsOne};
 ghost use Rattle.split_module.specs.Lending.{LooksAt, ReadsOn, WritesOn};
 
 use crate::SplitFront;
@@ -19,6 +20,8 @@ pub fn take_back<K: ChannelPort>(front: &mut SplitFront, part: &mut Part<K>) -> 
     requires out { returned_of K.ChannelPort part.old ≤ front.old.out }
     ensures all { result ≡ returned_of K.ChannelPort part.old }
     ensures none { returned_of K.ChannelPort part.new ≡ 0 }
+    ensures front { front.new.front ≡ front.old.front }
+    ensures costs { front.new.costs ≡ front.old.costs }
     ensures looks { LooksAt K.ChannelPort front.old part.old front.new part.new }
     ensures stands { StandsNoted K.ChannelPort Looked part.old part.new }
 {
@@ -45,6 +48,9 @@ pub fn write_on<K: ChannelPort>(
     ensures stands { IfOk result (λ accepted. StandsNoted K.ChannelPort
         (Wrote (numbered accepted.number write)) part.old part.new) }
     ensures taken { returned_of K.ChannelPort part.new ≡ 0 }
+    ensures accepts { IfOk result (λ accepted.
+        AcceptsOne front.old.front accepted front.new.front) }
+    ensures costs { front.new.costs ≡ front.old.costs }
     ensures same_front { IfErr result (λ refusal. front.new ≡ front.old) }
     ensures same_part { IfErr result (λ refusal. part.new ≡ part.old) }
 {
