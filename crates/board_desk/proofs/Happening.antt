@@ -1,5 +1,5 @@
 -- An event of the machine for which a desk stands, by which the store stays as it is.
-use Rattle.std.proofs.Common.{Bool, List, Option, None, Some, [], ap, arith, false, inr, refl, subst, sym, length, ℕ, ◌++◌, ◌+◌, ◌-◌, ◌∙◌, ◌∷◌, ◌≡◌, ◌≤◌}
+use Rattle.std.proofs.Common.{Option, None, Some, [], ap, arith, false, inr, subst, sym, length, ℕ, ◌++◌, ◌-◌, ◌∙◌, ◌∷◌, ◌≡◌, ◌≤◌}
 use Rattle.std.specs.Option.{ForSome}
 use Rattle.std.specs.Prelude.{◌≢◌}
 use Rattle.line_memory.specs.History.{Recorded, recorded}
@@ -13,7 +13,6 @@ use Rattle.slot_store.specs.declared.saving.SaveRun.{SaveRun}
 use Rattle.channel_locks.specs.declared.parts_name.PartsName.{Ghosts as PartsGhosts}
 use Rattle.channel_port.specs.Shape.{IsShape}
 use Rattle.module_core.specs.Device.{Holds, HoldsWhile}
-use Rattle.module_core.specs.declared.front.Front.{Front}
 use Rattle.module_core.specs.declared.saves.Saves.{Saves}
 use Rattle.nv_machine.specs.declared.events.Event.{Event}
 use Rattle.nv_machine.specs.declared.events.Reply.{Reply}
@@ -21,7 +20,7 @@ use Rattle.nv_machine.specs.Guard.{IsGuarded}
 use Rattle.nv_machine.specs.Headline.{Happens, RecoversMeanwhile, marks}
 use Rattle.nv_machine.specs.Machine.{MachineStep}
 use Rattle.nv_machine.specs.Rising.{added}
-use Rattle.nv_machine.specs.State.{Machine, RunningSave, Setup, Store, World, newest_of, start_of_life, stored_base, stored_writes, base_of_life}
+use Rattle.nv_machine.specs.State.{Machine, RunningSave, Setup, Store, World, start_of_life, stored_base, stored_writes}
 use Rattle.nv_machine.proofs.Backing.{IsKnown}
 use Rattle.nv_machine.proofs.EachEvent.{KeepsLife, event_keeps, guarded_event}
 use Rattle.nv_machine.proofs.Guarded.{cut_below}
@@ -31,7 +30,7 @@ use Rattle.nv_machine.proofs.Leaving.{left_after, left_before}
 use Rattle.nv_workers.proofs.Stored.{stored_grows}
 use Rattle.save_image.specs.Image.{Image}
 use Rattle.split_module.specs.Lending.{SplitStands}
-use Rattle.board_desk.proofs.Settling.{leaves}
+use Rattle.board_desk.proofs.Settled.{leaves}
 use Rattle.board_desk.specs.Desk.{AreFew, DeskStands, DeskView, setup_at, shape_at, world_at}
 use Rattle.board_desk.specs.LivedUntil.{LivedUntil}
 

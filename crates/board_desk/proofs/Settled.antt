@@ -1,7 +1,7 @@
 -- A channel that was looked at: the machine of the desk went on by the channel's own events.
-use Rattle.std.proofs.Common.{List, [], ap, arith, refl, subst, sym, length, ℕ, ◌++◌, ◌+◌, ◌∙◌, ◌∷◌, ◌≡◌, ◌≤◌, ⊎_elim}
+use Rattle.std.proofs.Common.{List, [], true, ap, arith, subst, sym, length, ℕ, ◌++◌, ◌∙◌, ◌∷◌, ◌≡◌, ◌≤◌}
 use Rattle.std.proofs.lemmas.List.{length-set}
-use Rattle.std.proofs.lemmas.List.Elements.{All-set}
+use Rattle.std.proofs.lemmas.List.Elements.{All-nil, All-set}
 use Rattle.channel_locks.specs.declared.parts_name.PartsName.{Ghosts as PartsGhosts}
 use Rattle.channel_log.specs.Between.{CameOf}
 use Rattle.channel_log.specs.Log.{IsLogOf, LogNote, Told, credits_of, log_tells, note_of}
@@ -12,11 +12,12 @@ use Rattle.module_core.specs.declared.front.Front.{Front}
 use Rattle.channel_log.specs.declared.entry.LogEntry.{LogEntry}
 use Rattle.channel_port.specs.Waits.{Waits}
 use Rattle.module_core.proofs.StoreSteps.{stop_now}
-use Rattle.nv_machine.proofs.JoinedRuns.{join_runs}
+use Rattle.nv_machine.proofs.JoinedRuns.{join_runs, rests_here}
+use Rattle.nv_machine.specs.declared.events.Event.{Event}
 use Rattle.nv_machine.specs.State.{Machine, Setup, World}
 use Rattle.split_machine.proofs.OwnRuns.{came_run, guarded_waits}
 use Rattle.split_machine.proofs.ToldOf.{told_push}
-use Rattle.split_machine.specs.OwnEvents.{ComesOfOwn, LeavesCandidates, looked}
+use Rattle.split_machine.specs.OwnEvents.{ComesOfOwn, LeavesCandidates, is_own, looked}
 use Rattle.split_machine.specs.Telling.{laid_out, waits_told, with_note}
 use Rattle.split_module.specs.declared.front.SplitFront.{SplitFront}
 use Rattle.split_module.specs.Lending.{SplitStands}
@@ -37,6 +38,10 @@ lived_on setup channel old new lived comes = record {
   opened = lived.opened;
   run = join_runs setup lived.events lived.replies comes.events comes.replies lived.first old new lived.run comes.run;
 }
+
+-- no event leads from a world to itself
+pub comes_of_none : (setup : Setup) (channel : ℕ) (world : World) → ComesOfOwn setup channel world world
+comes_of_none setup channel world = record { events = []; replies = []; own = All-nil (λ (e : Event). is_own channel e ≡ true); run = rests_here world; fewer = omega arith }
 
 -- with one more note of a channel, on which at most 64 writes wait, few credits are out still
 pub few_noted : (logs : List (List LogNote)) (channel : ℕ) (log : List LogNote) (note : LogNote) → length note.waits.writes ≤ 64 → AreFew logs → AreFew (with_note channel log note logs)

@@ -1,5 +1,5 @@
 -- What lies behind the board's lock, and for which machine it stands.
-use Rattle.std.specs.Prelude.{◌≡◌, ℕ, ◌≤◌, All, List, length}
+use Rattle.std.specs.Prelude.{◌≡◌, ◌≤◌, All, List, length}
 use Rattle.line_memory.specs.History.{Recorded, recorded}
 use Rattle.save_device.specs.Device.{DeviceState}
 use Rattle.energy_budget.specs.Gauge.{Gauge}
