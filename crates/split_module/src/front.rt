@@ -1,4 +1,6 @@
 // The front of a module whose channels are behind locks of their own.
+ghost use Rattle.module_core.specs.Saving.{IsOfLines};
+
 use energy_budget::Costs;
 use module_core::Front;
 
@@ -10,4 +12,5 @@ pub struct SplitFront {
     pub out: u64,
     pub lines: u64,
     pub costs: Costs,
+    pub ghost running: { IsOfLines lines front.saves.saving },
 }
