@@ -11,6 +11,7 @@ use Rattle.slot_store.specs.Rest.{IsAmong}
 use Rattle.slot_store.specs.declared.plan.Step.TheVariants.{Done}
 use Rattle.slot_store.specs.declared.saving.SaveRun.{SaveRun}
 use Rattle.channel_locks.specs.declared.parts_name.PartsName.{Ghosts as PartsGhosts}
+use Rattle.channel_set.specs.declared.terms.PortTerms.{PortTerms}
 use Rattle.channel_port.specs.Shape.{IsShape}
 use Rattle.module_core.specs.Device.{Holds, HoldsWhile}
 use Rattle.module_core.specs.declared.saves.Saves.{Saves}
@@ -20,7 +21,7 @@ use Rattle.nv_machine.specs.Guard.{IsGuarded}
 use Rattle.nv_machine.specs.Headline.{Happens, RecoversMeanwhile, marks}
 use Rattle.nv_machine.specs.Machine.{MachineStep}
 use Rattle.nv_machine.specs.Rising.{added}
-use Rattle.nv_machine.specs.State.{Machine, RunningSave, Setup, Store, World, start_of_life, stored_base, stored_writes}
+use Rattle.nv_machine.specs.State.{hold_of, Machine, RunningSave, Setup, Store, World, start_of_life, stored_base, stored_writes}
 use Rattle.nv_machine.proofs.Backing.{IsKnown}
 use Rattle.nv_machine.proofs.EachEvent.{KeepsLife, event_keeps, guarded_event}
 use Rattle.nv_machine.proofs.Guarded.{cut_below}
@@ -31,7 +32,7 @@ use Rattle.nv_workers.proofs.Stored.{stored_grows}
 use Rattle.save_image.specs.Image.{Image}
 use Rattle.split_module.specs.Lending.{SplitStands}
 use Rattle.board_desk.proofs.Settled.{leaves}
-use Rattle.board_desk.specs.Desk.{AreFew, DeskStands, DeskView, setup_at, shape_at, world_at}
+use Rattle.board_desk.specs.Desk.{AreBoardLogs, DeskStands, DeskView, setup_at, shape_at, world_at}
 use Rattle.board_desk.specs.LivedUntil.{LivedUntil}
 
 -- the step of a save that runs is one that the lines have, and comes still
@@ -99,7 +100,7 @@ module _ {B : Type 0} (P : PartsGhosts B) (old : DeskView) (m : Machine) (s : De
       honest = λ honest backed. honest_event (setup_at P old) event reply (world_at old m) (world_at old n) step known honest backed;
     }
 
-    module _ (new : DeskView) (setup : setup_at P new ≡ setup_at P old) (saves : new.split.front.saves ≡ old.split.front.saves) (saved : new.split.front.saved ≡ old.split.front.saved) (device : new.device ≡ old.device)
+    module _ (new : DeskView) (setup : setup_at P new ≡ setup_at P old) (saves : new.split.front.saves ≡ old.split.front.saves) (saved : new.split.front.saved ≡ old.split.front.saved) (ports : new.terms ≡ old.terms) (device : new.device ≡ old.device)
         (gauge : new.gauge ≡ old.gauge) (history : new.history ≡ record old.history { writes = old.history.writes ++ added event reply }) where
       same_world : world_at old n ≡ world_at new n
       same_world = ap (λ (d : DeviceState). record (world_at old n) { device = d }) (sym device) ∙ ap (λ g. record (world_at new n) { gauge = g }) (sym gauge)
@@ -112,10 +113,11 @@ module _ {B : Type 0} (P : PartsGhosts B) (old : DeskView) (m : Machine) (s : De
           history ∙ ap (λ (h : Recorded). record h { writes = h.writes ++ added event reply }) s.stored ∙ sym grows in
           whole ∙ ap (λ (r : ℕ). recorded (stored_base n) n.cut (stored_writes n) r) (sym (ap (λ (h : Recorded). h.room) whole))
 
-      pub stands_after : SplitStands (shape_at P new) new.logs new.split n → AreFew new.logs → DeskStands P new n
-      stands_after stands few = record {
+      pub stands_after : SplitStands (shape_at P new) new.logs new.split n → AreBoardLogs P.ports new.logs → DeskStands P new n
+      stands_after stands logs = record {
         stands = stands;
-        few = few;
+        logs_are = logs;
+        hold = ap (λ (t : PortTerms). t.hold) ports ∙ s.hold ∙ ap (λ (x : Store). hold_of x.saving) (sym store);
         holds = subst (λ (x : Store). Holds P.make.lines x new.split.front.saves.saving new.device) (sym store)
             (subst (λ (x : Saves). Holds P.make.lines m.store x.saving new.device) (sym saves) (subst (λ (d : DeviceState). Holds P.make.lines m.store old.split.front.saves.saving d) (sym device) s.holds));
         guarded = guarded;

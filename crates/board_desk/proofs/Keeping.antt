@@ -5,6 +5,7 @@ use Rattle.atomic_table.specs.Seated.{TableId}
 use Rattle.channel_locks.specs.declared.parts_name.PartsName.{Ghosts as PartsGhosts}
 use Rattle.channel_log.specs.Log.{LogNote}
 use Rattle.channel_port.specs.Shape.{IsShape}
+use Rattle.energy_budget.specs.Costs.{AreReckonedFor}
 use Rattle.energy_budget.specs.declared.costs.Costs.{Costs}
 use Rattle.mark_board.specs.SeenMarks.{SeenMarks, seen_marks}
 use Rattle.module_core.specs.declared.front.Front.{Front}
@@ -24,6 +25,9 @@ module _ {B : Type 0} (O : BoardGhosts B) (P : PartsGhosts B) where
     logs_is = kept.logs_is;
     known_is = same ∙ kept.known_is;
     channels = kept.channels;
+    terms = kept.terms;
+    reckoned = subst (λ (c : Costs). AreReckonedFor old.terms.checked c) (sym costs) kept.reckoned;
+    memory = kept.memory;
     shape = subst (λ (c : Costs). IsShape (shape_named P c)) (sym costs) kept.shape;
     shown = kept.shown ∙ ap (λ (f : Front). seen_marks O.board f.accepted f.persisted) (sym front);
     counted = subst (λ (f : Front). f.accepted ≡ f.terms.start + O.before + written) (sym front) kept.counted;

@@ -67,6 +67,6 @@ module _ {B : Type 0} (P : PartsGhosts B) where
         (λ h.
         let here : PartStands L part part.channel P.base log = subst (λ c. PartStands L part c P.base log) (sym own) h.1.stands in
         let came = subst (λ p. CameOf channel (log_tells log) (L.view p).waits) (sym port) h.1.stands.port.came in
-        settled P old m s channel log waits of came most split front costs
+        settled P old m s channel log waits of came h.0 most split front costs
         (subst (λ c. SplitStands (shape_at P old) (looked c log waits old.logs) split (record m { waits = laid_out (waits_told (looked c log waits old.logs)) })) own
         (looks (shape_at P old) m old.logs P.base log s.stands (subst (λ c. IsLogOf old.logs c log) (sym own) of) here))))

@@ -1,6 +1,6 @@
 -- A channel that was looked at: the machine of the desk went on by the channel's own events.
-use Rattle.std.proofs.Common.{List, [], true, ap, arith, subst, sym, length, ℕ, ◌++◌, ◌∙◌, ◌∷◌, ◌≡◌, ◌≤◌}
-use Rattle.std.proofs.lemmas.List.{length-set}
+use Rattle.std.proofs.Common.{List, [], true, ap, arith, subst, sym, length, ℕ, ◌++◌, ◌∙◌, ◌∷◌, ◌≡◌, ◌<◌, ◌≤◌}
+use Rattle.std.proofs.lemmas.List.{get_or-set_other, length-set}
 use Rattle.std.proofs.lemmas.List.Elements.{All-nil, All-set}
 use Rattle.channel_locks.specs.declared.parts_name.PartsName.{Ghosts as PartsGhosts}
 use Rattle.channel_log.specs.Between.{CameOf}
@@ -22,7 +22,7 @@ use Rattle.split_machine.specs.Telling.{laid_out, waits_told, with_note}
 use Rattle.split_module.specs.declared.front.SplitFront.{SplitFront}
 use Rattle.split_module.specs.Lending.{SplitStands}
 use Rattle.board_desk.specs.Answering.{GoesOn}
-use Rattle.board_desk.specs.Desk.{AreFew, DeskStands, DeskView, setup_at, shape_at, shape_named, world_at}
+use Rattle.board_desk.specs.Desk.{AreBoardLogs, DeskStands, DeskView, setup_at, shape_at, shape_named, world_at}
 use Rattle.board_desk.specs.LivedUntil.{LivedUntil}
 
 -- a life so far goes on by own events of a channel
@@ -43,15 +43,13 @@ lived_on setup channel old new lived comes = record {
 pub comes_of_none : (setup : Setup) (channel : ℕ) (world : World) → ComesOfOwn setup channel world world
 comes_of_none setup channel world = record { events = []; replies = []; own = All-nil (λ (e : Event). is_own channel e ≡ true); run = rests_here world; fewer = omega arith }
 
--- with one more note of a channel, on which at most 64 writes wait, few credits are out still
-pub few_noted : (logs : List (List LogNote)) (channel : ℕ) (log : List LogNote) (note : LogNote) → length note.waits.writes ≤ 64 → AreFew logs → AreFew (with_note channel log note logs)
-few_noted logs channel log note most few =
-    let size = length-set logs channel (log ++ note ∷ []) in
-    let eight = few.eight in
-    record {
-      eight = omega (arith, size, eight);
-      each = All-set (λ (l : List LogNote). credits_of l ≤ 64) logs channel (log ++ note ∷ []) (subst (λ k. k ≤ 64) (sym (ap (λ (t : Told). length t.waits.writes) (told_push log note))) most) few.each;
-    }
+-- with one more note of a channel that the board has, on which at most 64 writes wait, the logs are the board's still
+pub logs_with : (ports : ℕ) (logs : List (List LogNote)) (channel : ℕ) (log : List LogNote) (note : LogNote) → channel < ports → length note.waits.writes ≤ 64 → AreBoardLogs ports logs → AreBoardLogs ports (with_note channel log note logs)
+logs_with ports logs channel log note known most are = record {
+  eight = length-set logs channel (log ++ note ∷ []) ∙ are.eight;
+  few = All-set (λ (l : List LogNote). credits_of l ≤ 64) logs channel (log ++ note ∷ []) (subst (λ k. k ≤ 64) (sym (ap (λ (t : Told). length t.waits.writes) (told_push log note))) most) are.few;
+  none = λ other beyond. ap (λ (l : List LogNote). (log_tells l).waits) (get_or-set_other logs channel other (log ++ note ∷ []) [] (λ e. omega (arith, e, beyond, known))) ∙ are.none other beyond;
+}
 
 module _ {B : Type 0} (P : PartsGhosts B) where
   -- what a stop now leaves is among the images that the machine says
@@ -63,7 +61,7 @@ module _ {B : Type 0} (P : PartsGhosts B) where
   same_setup old new front costs = ap (λ (c : Costs). setup_in (shape_named P c) new.split.front) costs ∙ ap (λ (f : Front). setup_in (shape_at P old) f) front
 
   module _ (old : DeskView) (m : Machine) (s : DeskStands P old m) (channel : ℕ) (log : List LogNote) (waits : Waits) (of : IsLogOf old.logs channel log) (came : CameOf channel (log_tells log) waits)
-      (most : length waits.writes ≤ 64) (split : SplitFront) (front : split.front ≡ old.split.front) (costs : split.costs ≡ old.split.costs) where
+      (known : channel < P.ports) (most : length waits.writes ≤ 64) (split : SplitFront) (front : split.front ≡ old.split.front) (costs : split.costs ≡ old.split.costs) where
     abbrev noted : List (List LogNote)
     noted = looked channel log waits old.logs
 
@@ -82,7 +80,8 @@ module _ {B : Type 0} (P : PartsGhosts B) where
       comes = comes;
       stands = record {
         stands = subst (λ c. SplitStands (shape_named P c) noted split seen) (sym costs) stands;
-        few = few_noted old.logs channel log (note_of LogEntry.Looked waits) most s.few;
+        logs_are = logs_with P.ports old.logs channel log (note_of LogEntry.Looked waits) known most s.logs_are;
+        hold = s.hold;
         holds = subst (λ (f : Front). Holds P.make.lines m.store f.saves.saving old.device) (sym front) s.holds;
         guarded = guarded_waits m (laid_out (waits_told noted)) s.guarded;
         saved = ap (λ (f : Front). f.saved) front ∙ s.saved;

@@ -10,12 +10,14 @@ use Rattle.board_desk.specs.Desk.{DeskView, desk_view}
 
 module _ {K D E B : Type 0} (L : Ghosts K) (M : DeviceGhosts D) (N : GaugeGhosts E) (O : BoardGhosts B) (P : PartsGhosts B) where
   abbrev pub view_of : Desk K D E B L M N O P → DeskView
-  view_of desk = desk_view desk.split (M.state desk.device) (N.gauge desk.energy) desk.history desk.known.logs
+  view_of desk = desk_view desk.split desk.terms (M.state desk.device) (N.gauge desk.energy) desk.history desk.known.logs
 
   -- nothing has changed but which credits are out, and what is known of the channels
   pub record SameButCounts (old new : Desk K D E B L M N O P) : Type 0 where
     pub front : new.split.front ≡ old.split.front
     pub costs : new.split.costs ≡ old.split.costs
+    pub terms : new.terms ≡ old.terms
+    pub room : new.room ≡ old.room
     pub device : new.device ≡ old.device
     pub energy : new.energy ≡ old.energy
     pub history : new.history ≡ old.history

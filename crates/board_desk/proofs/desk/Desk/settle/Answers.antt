@@ -60,17 +60,15 @@ invariant_of-slot-2 g c =
           });
     }
 
-pub invariant_of-self : goal.invariant_of-self
-invariant_of-self g c =
+pub invariant_of-self-clause-kept : goal.invariant_of-self-clause-kept
+invariant_of-self-clause-kept g c =
     let desk = c.args.self.now in
     let slot = c.args.slot.now in
-    let at = goal.at.invariant_of-self g c in
-    record {
-      kept = kept_settled g.B.BoardName g.B.PartsName (view_of g.K.ChannelPort g.D.SaveDevice g.E.Energy g.B.BoardName g.B.PartsName desk) _ desk.seat _ desk.logs desk.known.table desk.kept c.take_back.new.front c.look_at.new.known.logs
-          c.look_at.new.known.table c.take_back.ensures.front c.take_back.ensures.costs
-          (ap (λ (f : AllLogs). f.table) (front_noted (note g at.After-look_at) c.compare.new.self desk.known c.look_at.new.known c.compare.new.seat slot.seat c.look_at.new.seat c.look_at.ensures.noted c.compare.ensures.front c.compare.ensures.seat))
-          g.row.CHANNEL (settles g at.After-look_at);
-    }
+    let at = goal.at.invariant_of-self-clause-kept g c in
+    kept_settled g.B.BoardName g.B.PartsName (view_of g.K.ChannelPort g.D.SaveDevice g.E.Energy g.B.BoardName g.B.PartsName desk) _ desk.seat _ desk.logs desk.known.table desk.kept c.take_back.new.front c.look_at.new.known.logs
+    c.look_at.new.known.table c.take_back.ensures.front c.take_back.ensures.costs
+    (ap (λ (f : AllLogs). f.table) (front_noted (note g at.After-look_at) c.compare.new.self desk.known c.look_at.new.known c.compare.new.seat slot.seat c.look_at.new.seat c.look_at.ensures.noted c.compare.ensures.front c.compare.ensures.seat))
+    g.row.CHANNEL (settles g at.After-look_at)
 
 pub returns-clause-settles : goal.returns-clause-settles
 returns-clause-settles g c = let at = goal.at.returns-clause-settles g c in settles g at.After-look_at
