@@ -9,6 +9,7 @@
 mod desk;
 mod noting;
 mod settling;
+mod writing;
 
 pub use desk::Desk;
 pub use noting::{look_at, note_write};
