@@ -6,3 +6,4 @@ pub mod Noted
 pub mod Keeping
 pub mod Asked
 pub mod Wrote
+pub mod Ticketed

@@ -8,6 +8,7 @@
 
 mod desk;
 mod noting;
+mod reading;
 mod settling;
 mod writing;
 
