@@ -5,6 +5,7 @@
 //! board's lock too. Under a channel's lock alone its log stays as it is.
 #![tactic(auto)]
 
+mod channel_name;
 mod line_channels;
 mod locks;
 mod parts_name;
@@ -13,6 +14,10 @@ mod slot;
 mod turns;
 mod working;
 
+pub use channel_name::{
+    ChannelFive, ChannelFour, ChannelName, ChannelOne, ChannelSeven, ChannelSix, ChannelThree,
+    ChannelTwo, ChannelZero,
+};
 pub use line_channels::LineChannels;
 pub use locks::{collect_at, take_lock, turn_at};
 pub use parts_name::PartsName;

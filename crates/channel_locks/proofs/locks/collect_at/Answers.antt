@@ -10,6 +10,6 @@ returns g c =
       before = lent.part;
       after = c.collect.new.self.part;
       here = subst (λ (channel : ℕ). IsOfChannel g.K.ChannelPort channel lent.part) (sym c.requires)
-          (part_of_channel g.K.ChannelPort g.B.PartsName lent.part g.row.CHANNEL lent.seat.log lent.kept.part_is);
+          (part_of_channel g.K.ChannelPort g.B.PartsName lent.part g.C.ChannelName.NUMBER lent.seat.log lent.kept.part_is);
       collects = told.collects;
     }

@@ -8,7 +8,7 @@ returns g c =
       before = lent.part;
       after = c.take_turn.new.self.part;
       asked = told.asked;
-      here = part_of_channel g.K.ChannelPort g.B.PartsName lent.part g.row.CHANNEL lent.seat.log lent.kept.part_is;
+      here = part_of_channel g.K.ChannelPort g.B.PartsName lent.part g.C.ChannelName.NUMBER lent.seat.log lent.kept.part_is;
       works = told.works;
       ended = told.ended;
     }
