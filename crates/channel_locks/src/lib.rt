@@ -6,6 +6,7 @@
 #![tactic(auto)]
 
 mod channel_name;
+mod channels;
 mod line_channels;
 mod locks;
 mod parts_name;
@@ -18,8 +19,9 @@ pub use channel_name::{
     ChannelFive, ChannelFour, ChannelName, ChannelOne, ChannelSeven, ChannelSix, ChannelThree,
     ChannelTwo, ChannelZero,
 };
+pub use channels::{AllSlots, ChannelLocks};
 pub use line_channels::LineChannels;
-pub use locks::{collect_at, take_lock, turn_at};
+pub use locks::{collect_at, make_room_at, serve_at, take_lock, turn_at};
 pub use parts_name::PartsName;
 pub use slot::Slot;
 pub use turns::ChannelTurn;

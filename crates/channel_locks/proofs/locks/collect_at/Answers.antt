@@ -1,15 +1,13 @@
 use Rattle.std.proofs.Common.{ℕ, subst, sym}
-use Rattle.channel_locks.specs.Lent.{IsOfChannel}
-use Rattle.channel_locks.proofs.Parts.{part_of_channel}
+use Rattle.channel_locks.specs.Lent.{IsLentBy}
 use Rattle.channel_locks.proofs.locks.collect_at.Goals as goal
 
 pub returns : goal.returns
 returns g c =
-    let lent = c.deref_mut.result.now in let told = c.collect.ensures in
+    let slot = c.deref_mut.result.now in
     record {
-      before = lent.part;
+      before = slot.part;
       after = c.collect.new.self.part;
-      here = subst (λ (channel : ℕ). IsOfChannel g.K.ChannelPort channel lent.part) (sym c.requires)
-          (part_of_channel g.K.ChannelPort g.B.PartsName lent.part g.C.ChannelName.NUMBER lent.seat.log lent.kept.part_is);
-      collects = told.collects;
+      lent = subst (λ (channel : ℕ). IsLentBy g.K.ChannelPort g.B.PartsName channel slot.part) (sym c.requires) (slot.seat.log, slot.kept.part_is);
+      collects = c.collect.ensures.collects;
     }
