@@ -1,12 +1,13 @@
 // The locks of all channels of a board.
-ghost use Rattle.std.specs.Prelude.{◌<◌};
-ghost use Rattle.channel_locks.specs.Lent.{LentCollect, LentRoom, LentServe, LentTurn};
+ghost use Rattle.std.specs.Prelude.{◌≡◌, ◌<◌, ◌≤◌};
+ghost use Rattle.channel_port.specs.declared.answers.Collected.TheVariants.{Unknown};
+ghost use Rattle.channel_locks.specs.Lent.{LentRoom, LentServe, LentTurn};
 
 use crate::channel_name::{
     ChannelFive, ChannelFour, ChannelOne, ChannelSeven, ChannelSix, ChannelThree, ChannelTwo,
     ChannelZero,
 };
-use crate::locks::{collect_at, make_room_at, serve_at, take_lock, turn_at};
+use crate::locks::{make_room_at, serve_at, take_lock, turn_at};
 use crate::parts_name::PartsName;
 use crate::slot::Slot;
 use crate::turns::ChannelTurn;
@@ -72,27 +73,11 @@ impl<K: ChannelPort, B: PartsName> ChannelLocks<K, B> {
         }
     }
 
-    /// What there is for a ticket, under its channel's lock alone, as `Slot::collect`.
-    pub fn collect<R: Wait>(&self, rt: &R, ticket: Ticket) -> Collected
-        requires { ticket.channel < 8 }
-        ensures { LentCollect K.ChannelPort B.PartsName ticket result }
-    {
-        match ticket.channel {
-            0 => collect_at(rt, &self.zero, ticket),
-            1 => collect_at(rt, &self.one, ticket),
-            2 => collect_at(rt, &self.two, ticket),
-            3 => collect_at(rt, &self.three, ticket),
-            4 => collect_at(rt, &self.four, ticket),
-            5 => collect_at(rt, &self.five, ticket),
-            6 => collect_at(rt, &self.six, ticket),
-            _ => collect_at(rt, &self.seven, ticket),
-        }
-    }
-
-    /// What there is for a ticket, under its channel's lock alone. While that is nothing the channel works, as `Slot::serve`.
+    /// What there is for a ticket, under its channel's lock alone. While that is nothing the channel works, as `Slot::serve`. It is
+    /// `Unknown` for one of no channel.
     pub fn serve<R: Wait>(&self, rt: &R, ticket: Ticket) -> Collected
-        requires { ticket.channel < 8 }
-        ensures { LentServe K.ChannelPort B.PartsName ticket result }
+        ensures lent { ticket.channel < 8 → LentServe K.ChannelPort B.PartsName ticket result }
+        ensures none { 8 ≤ ticket.channel → result ≡ Unknown }
     {
         match ticket.channel {
             0 => serve_at(rt, &self.zero, ticket),
@@ -102,7 +87,8 @@ impl<K: ChannelPort, B: PartsName> ChannelLocks<K, B> {
             4 => serve_at(rt, &self.four, ticket),
             5 => serve_at(rt, &self.five, ticket),
             6 => serve_at(rt, &self.six, ticket),
-            _ => serve_at(rt, &self.seven, ticket),
+            7 => serve_at(rt, &self.seven, ticket),
+            _ => Collected::Unknown,
         }
     }
 

@@ -21,7 +21,7 @@ pub use channel_name::{
 };
 pub use channels::{AllSlots, ChannelLocks};
 pub use line_channels::LineChannels;
-pub use locks::{collect_at, make_room_at, serve_at, take_lock, turn_at};
+pub use locks::{make_room_at, serve_at, take_lock, turn_at};
 pub use parts_name::PartsName;
 pub use slot::Slot;
 pub use turns::ChannelTurn;

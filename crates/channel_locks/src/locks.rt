@@ -1,6 +1,6 @@
 // A channel's lock, and what is done under it alone.
 ghost use Rattle.std.specs.Prelude.{◌≡◌};
-ghost use Rattle.channel_locks.specs.Lent.{LentCollect, LentRoom, LentServe, LentTurn};
+ghost use Rattle.channel_locks.specs.Lent.{LentRoom, LentServe, LentTurn};
 
 use crate::channel_name::ChannelName;
 use crate::parts_name::PartsName;
@@ -35,18 +35,6 @@ pub fn turn_at<K: ChannelPort, B: PartsName, G: Gate, R: Wait, C: ChannelName>(
     ensures { LentTurn K.ChannelPort B.PartsName G.Gate C.NUMBER gate.now result }
 {
     take_lock(rt, lock).take_turn(gate)
-}
-
-/// What there is for a ticket of the channel whose lock this is, under that lock alone.
-pub fn collect_at<K: ChannelPort, B: PartsName, R: Wait, C: ChannelName>(
-    rt: &R,
-    lock: &Mutex<Slot<K, B, C>>,
-    ticket: Ticket,
-) -> Collected
-    requires { ticket.channel ≡ C.NUMBER }
-    ensures { LentCollect K.ChannelPort B.PartsName ticket result }
-{
-    take_lock(rt, lock).collect(ticket)
 }
 
 /// What there is for a ticket of the channel whose lock this is, under that lock alone; while that is nothing the channel works.
