@@ -7,6 +7,7 @@
 
 mod awaiting;
 mod board;
+mod dealing;
 mod locked_desk;
 mod telling;
 mod working;
