@@ -1,7 +1,7 @@
 -- What each call keeps behind the lock.
 use Rattle.std.proofs.Common.{◌≡◌, ℕ, ◌+◌, List, [], ◌++◌, length, ap, sym, ◌∙◌, arith}
 use Rattle.std.proofs.lemmas.List.{append-nil}
-use Rattle.nv_workers.proofs.Common.{Ghosts as GaugeGhosts, RecordedModule, SeenMarks, ShowsNoMore, StepsTo, marks_of, setup_of}
+use Rattle.nv_workers.proofs.Common.{Ghosts as GaugeGhosts, RecordedModule, SeenMarks, ShowsNoMore, StepsTo, marks_of, seen_marks, setup_of}
 use Rattle.atomic_table.specs.Seated.{TableId}
 use Rattle.line_memory.specs.declared.Write as line_write
 use Rattle.save_device.specs.declared.device.SaveDevice.{Ghosts as DeviceGhosts}
@@ -16,10 +16,14 @@ use Rattle.nv_workers.proofs.Keeping.{counted_on, keeps_on, recorded_after}
 use Rattle.nv_workers.proofs.Living.{lives_on}
 use Rattle.nv_workers.proofs.Quiet.{IsQuiet, same_marks}
 
+-- marks that show what two numbers were told to be
+pub marks_told : {shown : SeenMarks} {board : TableId} {accepted persisted a p : ℕ} → shown ≡ seen_marks board a p → a ≡ accepted → p ≡ persisted → shown ≡ seen_marks board accepted persisted
+marks_told {board = board} {accepted = accepted} {p = p} is same mark = is ∙ ap (λ (n : ℕ). seen_marks board n p) same ∙ ap (λ (n : ℕ). seen_marks board accepted n) mark
+
 module _ {K D E B : Type 0} {L : Ghosts K} {M : DeviceGhosts D} {N : GaugeGhosts E} {O : NameGhosts B} {words : TableId} {marks : SeenMarks} {total : ℕ}
     (event : Event) (reply : Reply) (old new : RecordedModule K D E L) (kept : IsBoardKept L M N O old words marks total) (steps : StepsTo L M N event reply old new) where
   -- the marks of before aren't above the module's numbers after an event
-  pub event_shows_no_more : ShowsNoMore L new.running marks
+  pub event_shows_no_more : ShowsNoMore new.running.front.accepted new.running.front.persisted marks
   event_shows_no_more = shows_no_more_after L M N event reply old new kept.recorded steps O.board marks kept.shown
 
   module _ (setup : setup_of L new.running ≡ setup_of L old.running) (uncut : new.running.front.terms.cut ≡ old.running.front.terms.cut) where

@@ -41,10 +41,10 @@ module _ {K D E : Type 0} (L : Ghosts K) (M : DeviceGhosts D) (it : RecordedModu
   has_device = ∥∥₁_elim kept.stands (ℕ_set _ _) (λ s. right_size _ s.0.store _ _ (M.state it.device) s.1.stands.holds)
 
   -- words that show no more than is persistent aren't above the module's two numbers
-  pub opening_shows_no_more : (board : TableId) (mark : ℕ) → mark ≤ it.running.front.persisted → ShowsNoMore L it.running (seen_marks board mark mark)
+  pub opening_shows_no_more : (board : TableId) (mark : ℕ) → mark ≤ it.running.front.persisted → ShowsNoMore it.running.front.accepted it.running.front.persisted (seen_marks board mark mark)
   opening_shows_no_more board mark least =
       let ordered : it.running.front.persisted ≤ it.running.front.accepted = ∥∥₁_elim kept.stands le_prop (λ s. in_order L it.running (M.state it.device) s.0 s.1.stands) in
-      record { accepted = omega (arith, least, ordered); persisted = least; ordered = ordered }
+      record { accepted_shown = omega (arith, least, ordered); persisted_shown = least; ordered = ordered }
 
 module _ {K D E : Type 0} (L : Ghosts K) (M : DeviceGhosts D) (N : GaugeGhosts E) (event : Event) (reply : Reply) (old new : RecordedModule K D E L) (kept : IsRecordKept L M old)
     (steps : StepsTo L M N event reply old new) where
@@ -54,11 +54,11 @@ module _ {K D E : Type 0} (L : Ghosts K) (M : DeviceGhosts D) (N : GaugeGhosts E
       event_rises (setup_of L old.running) event reply (world_of L (assembly_of L M N old) m) (world_of L (assembly_of L M N new) next.0) next.2.happens.step with.stands.guarded
 
   -- the marks of before aren't above the module's numbers after an event
-  pub shows_no_more_after : (board : TableId) (marks : SeenMarks) → marks ≡ marks_of L board old.running → ShowsNoMore L new.running marks
+  pub shows_no_more_after : (board : TableId) (marks : SeenMarks) → marks ≡ marks_of L board old.running → ShowsNoMore new.running.front.accepted new.running.front.persisted marks
   shows_no_more_after board marks shown =
-      subst (λ (m : SeenMarks). ShowsNoMore L new.running m) (sym shown)
+      subst (λ (m : SeenMarks). ShowsNoMore new.running.front.accepted new.running.front.persisted m) (sym shown)
       (record {
-        accepted = ∥∥₁_elim kept.stands le_prop (λ s. omega (arith, (rises s.0 s.1).accepted, s.1.stands.matches.front.accepted, (steps s.0 s.1.stands).1.matches.front.accepted));
-        persisted = ∥∥₁_elim kept.stands le_prop (λ s. omega (arith, (rises s.0 s.1).persisted, s.1.stands.matches.front.persisted, (steps s.0 s.1.stands).1.matches.front.persisted));
+        accepted_shown = ∥∥₁_elim kept.stands le_prop (λ s. omega (arith, (rises s.0 s.1).accepted, s.1.stands.matches.front.accepted, (steps s.0 s.1.stands).1.matches.front.accepted));
+        persisted_shown = ∥∥₁_elim kept.stands le_prop (λ s. omega (arith, (rises s.0 s.1).persisted, s.1.stands.matches.front.persisted, (steps s.0 s.1.stands).1.matches.front.persisted));
         ordered = ∥∥₁_elim kept.stands le_prop (λ s. let next = steps s.0 s.1.stands in in_order L new.running (M.state new.device) next.0 next.1);
       })

@@ -10,6 +10,12 @@ use Rattle.nv_machine.specs.declared.events.Accepted.{Accepted}
 abbrev pub told_at : ℕ → ℕ → Accepted
 told_at number mark = record { number = number; mark = mark }
 
+-- so many writes were accepted and so many of them are persistent, and the marks show no more of either
+pub record ShowsNoMore (accepted persisted : ℕ) (marks : SeenMarks) : Type 0 where
+  pub accepted_shown : marks.accepted ≤ accepted
+  pub persisted_shown : marks.persisted ≤ persisted
+  pub ordered : persisted ≤ accepted
+
 module _ {K : Type 0} (L : Ghosts K) where
   -- An accepted write has the number of all that were accepted before it and tells how many are persistent then; it is one
   -- more.
@@ -21,9 +27,3 @@ module _ {K : Type 0} (L : Ghosts K) where
   -- what the board's seat sees where the marks are the module's two numbers
   abbrev pub marks_of : TableId → Module K L → SeenMarks
   marks_of board it = seen_marks board it.front.accepted it.front.persisted
-
-  -- the marks aren't above the module's two numbers, which are in order
-  pub record ShowsNoMore (it : Module K L) (marks : SeenMarks) : Type 0 where
-    pub accepted : marks.accepted ≤ it.front.accepted
-    pub persisted : marks.persisted ≤ it.front.persisted
-    pub ordered : it.front.persisted ≤ it.front.accepted

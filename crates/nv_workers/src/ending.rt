@@ -57,8 +57,8 @@ pub struct NotClosed<K: ChannelPort, D: SaveDevice, E: Energy, B: BoardName, N: 
     pub hosts: Vec<Host<B>>,
 }
 
-// Ends a host, whose share goes to the others'. It has seen no mark above the words.
-fn end_host<B: BoardName>(
+/// Ends a host, whose share goes to the others'. It has seen no mark above the words.
+pub fn end_host<B: BoardName>(
     marks: &MarkBoard,
     seat: &mut BoardSeat,
     rest: &mut Share<B>,

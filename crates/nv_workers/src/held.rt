@@ -1,6 +1,6 @@
 // What lies behind the lock.
 ghost use Rattle.std.specs.Prelude.{◌≡◌, ◌+◌, ◌<◌, ◌++◌, length, IfOk};
-ghost use Rattle.mark_board.specs.SeenMarks.{IsNotAbove};
+ghost use Rattle.mark_board.specs.SeenMarks.{IsNotAbove, seen_marks};
 ghost use Rattle.std.specs.Arc.{arc_value};
 ghost use Rattle.nv_machine.specs.Rising.{added};
 ghost use Rattle.module_core.specs.Stands.{setup_of};
@@ -16,7 +16,6 @@ use channel_port::{ChannelPort, Collected, Done, Got, Ticket};
 use energy_budget::Energy;
 use line_memory::{History, Write};
 use mark_board::{BoardSeat, HostSeat, MarkBoard};
-use module_core::Module;
 use nv_machine::{Accepted, Event, Reply, StepReply};
 use save_device::SaveDevice;
 use std::alloc::Global;
@@ -29,11 +28,11 @@ use worker_gate::Gate;
 /// life's writes are the hosts'. It keeps that some life so far leads to where module, device and gauge stand.
 #[derive(Drop)]
 pub struct Held<K: ChannelPort, D: SaveDevice, E: Energy, B: BoardName> {
-    pub(crate) recorded: RecordedModule<K, D, E>,
-    pub(crate) marks: Arc<MarkBoard, Global>,
-    pub(crate) seat: BoardSeat,
-    pub(crate) tally: Tally<B>,
-    ghost kept: { IsBoardKept K.ChannelPort D.SaveDevice E.Energy B.BoardName
+    pub recorded: RecordedModule<K, D, E>,
+    pub marks: Arc<MarkBoard, Global>,
+    pub seat: BoardSeat,
+    pub tally: Tally<B>,
+    pub ghost kept: { IsBoardKept K.ChannelPort D.SaveDevice E.Energy B.BoardName
         recorded (arc_value marks) seat tally.book.total },
 }
 
@@ -43,14 +42,14 @@ pub(crate) struct ReadAt {
     pub(crate) at: u64,
 }
 
-// The marks follow the module.
-pub(crate) fn publish<K: ChannelPort>(marks: &MarkBoard, seat: &mut BoardSeat, running: &Module<K>)
+/// Moves the words to how many writes were accepted, and how many of them are persistent. They show no more before.
+pub fn publish(marks: &MarkBoard, seat: &mut BoardSeat, accepted: u64, persisted: u64)
     requires board { seat.old.board ≡ marks.now }
-    requires shown { ShowsNoMore K.ChannelPort running.now seat.old }
-    ensures { seat.new ≡ marks_of K.ChannelPort marks.now running.now }
+    requires shown { ShowsNoMore accepted persisted seat.old }
+    ensures { seat.new ≡ seen_marks marks.now accepted persisted }
 {
-    seat.accept(marks, running.accepted());
-    seat.raise(marks, running.mark());
+    seat.accept(marks, accepted);
+    seat.raise(marks, persisted);
 }
 
 impl<K: ChannelPort, D: SaveDevice, E: Energy, B: BoardName> Held<K, D, E, B> {
@@ -58,8 +57,8 @@ impl<K: ChannelPort, D: SaveDevice, E: Energy, B: BoardName> Held<K, D, E, B> {
     ghost use Rattle.nv_workers.specs.Steps.{Steps};
     ghost use Rattle.module_core.specs.Stands.{HasChannel};
 
-    // Puts a module with its record together with the words and the seat that shows its two numbers.
-    pub(crate) fn new(
+    /// Puts a module with its record together with the words, the seat that shows its two numbers, and the count of the hosts' writes.
+    pub fn new(
         recorded: RecordedModule<K, D, E>,
         marks: Arc<MarkBoard, Global>,
         seat: BoardSeat,
@@ -111,7 +110,12 @@ impl<K: ChannelPort, D: SaveDevice, E: Energy, B: BoardName> Held<K, D, E, B> {
         let reply = self.recorded.running.write(write);
         self.tally
             .note(&mut self.recorded.history, share, write, reply);
-        publish(&self.marks, &mut self.seat, &self.recorded.running);
+        publish(
+            &self.marks,
+            &mut self.seat,
+            self.recorded.running.accepted(),
+            self.recorded.running.mark(),
+        );
         self.seat.inform(&self.marks, host);
         reply
     }
@@ -173,7 +177,12 @@ impl<K: ChannelPort, D: SaveDevice, E: Energy, B: BoardName> Held<K, D, E, B> {
             ≡ setup_of K.ChannelPort self.old.recorded.running }
     {
         let reply = self.recorded.running.sense(&mut self.recorded.energy);
-        publish(&self.marks, &mut self.seat, &self.recorded.running);
+        publish(
+            &self.marks,
+            &mut self.seat,
+            self.recorded.running.accepted(),
+            self.recorded.running.mark(),
+        );
         reply
     }
 
@@ -188,7 +197,12 @@ impl<K: ChannelPort, D: SaveDevice, E: Energy, B: BoardName> Held<K, D, E, B> {
             .recorded
             .running
             .arm(&mut self.recorded.device, &mut self.recorded.energy);
-        publish(&self.marks, &mut self.seat, &self.recorded.running);
+        publish(
+            &self.marks,
+            &mut self.seat,
+            self.recorded.running.accepted(),
+            self.recorded.running.mark(),
+        );
         reply
     }
 
@@ -202,7 +216,12 @@ impl<K: ChannelPort, D: SaveDevice, E: Energy, B: BoardName> Held<K, D, E, B> {
             ≡ setup_of K.ChannelPort self.old.recorded.running }
     {
         let reply = self.recorded.running.disarm();
-        publish(&self.marks, &mut self.seat, &self.recorded.running);
+        publish(
+            &self.marks,
+            &mut self.seat,
+            self.recorded.running.accepted(),
+            self.recorded.running.mark(),
+        );
         reply
     }
 
@@ -216,7 +235,12 @@ impl<K: ChannelPort, D: SaveDevice, E: Energy, B: BoardName> Held<K, D, E, B> {
             ≡ setup_of K.ChannelPort self.old.recorded.running }
     {
         let reply = self.recorded.running.save_begin();
-        publish(&self.marks, &mut self.seat, &self.recorded.running);
+        publish(
+            &self.marks,
+            &mut self.seat,
+            self.recorded.running.accepted(),
+            self.recorded.running.mark(),
+        );
         reply
     }
 
@@ -231,7 +255,12 @@ impl<K: ChannelPort, D: SaveDevice, E: Energy, B: BoardName> Held<K, D, E, B> {
             .recorded
             .running
             .save_step(&mut self.recorded.device, &mut self.recorded.energy);
-        publish(&self.marks, &mut self.seat, &self.recorded.running);
+        publish(
+            &self.marks,
+            &mut self.seat,
+            self.recorded.running.accepted(),
+            self.recorded.running.mark(),
+        );
         reply
     }
 }
@@ -255,7 +284,12 @@ impl<K: ChannelPort, D: SaveDevice, E: Energy, B: BoardName> Held<K, D, E, B> {
             &mut self.recorded.energy,
             gate,
         );
-        publish(&self.marks, &mut self.seat, &self.recorded.running);
+        publish(
+            &self.marks,
+            &mut self.seat,
+            self.recorded.running.accepted(),
+            self.recorded.running.mark(),
+        );
         reply
     }
 }

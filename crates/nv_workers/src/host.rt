@@ -60,10 +60,10 @@ pub struct Behind {
 /// deliveries.
 #[derive(Drop)]
 pub struct Host<B: BoardName> {
-    pub(crate) marks: Arc<MarkBoard, Global>,
-    pub(crate) seat: HostSeat,
-    pub(crate) share: Share<B>,
-    pub(crate) delivered: Trace<u64>,
+    pub marks: Arc<MarkBoard, Global>,
+    pub seat: HostSeat,
+    pub share: Share<B>,
+    pub delivered: Trace<u64>,
 }
 
 impl<B: BoardName> Model for Host<B> {
@@ -81,8 +81,8 @@ impl<B: BoardName> Model for Host<B> {
 }
 
 impl<B: BoardName> Host<B> {
-    // A host with a seat of the board and one part of its ledger.
-    pub(crate) fn new(marks: Arc<MarkBoard, Global>, seat: HostSeat, share: Share<B>) -> Host<B>
+    /// A host with a seat of the board and one part of its ledger.
+    pub fn new(marks: Arc<MarkBoard, Global>, seat: HostSeat, share: Share<B>) -> Host<B>
         requires board { arc_value marks ≡ B.board }
         requires seat { seat.board ≡ B.board }
         requires part { share.parts ≡ 1 }

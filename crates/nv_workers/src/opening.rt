@@ -11,11 +11,11 @@ use std::sync::ledger::Blank;
 /// Contracts see which ledger and which words these are, for how many hosts, and what the words show.
 #[derive(Drop)]
 pub struct Opening {
-    pub(crate) blank: Blank,
-    pub(crate) marks: MarkBoard,
-    pub(crate) seat: BoardSeat,
-    pub(crate) seats: Vec<HostSeat>,
-    pub(crate) mark: u64,
+    pub blank: Blank,
+    pub marks: MarkBoard,
+    pub seat: BoardSeat,
+    pub seats: Vec<HostSeat>,
+    pub mark: u64,
 }
 
 impl Model for Opening {

@@ -48,8 +48,8 @@ fn needs_save(mode: Mode, unsettled: bool, saved: u64, accepted: u64) -> bool
     }
 }
 
-// What a saver is to do, where the newest image has `saved` of the accepted writes.
-fn turn_at(mode: Mode, saves: SaveState, saved: u64, accepted: u64) -> SaverTurn
+/// What a saver is to do, where the newest image has `saved` of the accepted writes.
+pub fn turn_at(mode: Mode, saves: SaveState, saved: u64, accepted: u64) -> SaverTurn
     ensures { result ≡ turn_at mode saves saved accepted }
 {
     if mode.has_ended() {
@@ -64,8 +64,8 @@ fn turn_at(mode: Mode, saves: SaveState, saved: u64, accepted: u64) -> SaverTurn
     SaverTurn::Rest
 }
 
-// How a saver goes on behind its turn.
-pub(crate) fn working_of(saving: Saving) -> Working
+/// How a saver goes on behind its turn.
+pub fn working_of(saving: Saving) -> Working
     ensures { result ≡ working_of saving }
 {
     match saving {

@@ -23,8 +23,8 @@ use std::alloc::{AllocError, Global};
 use std::sync::Arc;
 use std::sync::ledger::Share;
 
-// A host for each seat, each with one part of the ledger.
-fn seated<B: BoardName>(
+/// A host for each seat, each with one part of the ledger. It refuses only where there is no memory for them.
+pub fn seated<B: BoardName>(
     alloc: Global,
     marks: &Arc<MarkBoard, Global>,
     seats: Vec<HostSeat>,
@@ -109,7 +109,12 @@ pub fn start<K: ChannelPort, D: SaveDevice, E: Energy, B: BoardName, N: Notices>
             notices,
         });
     };
-    publish(&marks, &mut seat, &recorded.running);
+    publish(
+        &marks,
+        &mut seat,
+        recorded.running.accepted(),
+        recorded.running.mark(),
+    );
     let held = Held::new(recorded, marks, seat, Tally { book, rest });
     Ok(Started {
         board: Board::new(held, notices),

@@ -14,15 +14,15 @@ use std::sync::ledger::{Book, Share};
 /// see the book's total, how many writes of the hosts were accepted.
 #[derive(Drop)]
 pub struct Tally<B: BoardName> {
-    pub(crate) book: Book<B>,
-    pub(crate) rest: Share<B>,
-    ghost parts: { rest.parts ≡ 0 },
-    ghost amount: { rest.amount ≡ 0 },
+    pub book: Book<B>,
+    pub rest: Share<B>,
+    pub ghost parts: { rest.parts ≡ 0 },
+    pub ghost amount: { rest.amount ≡ 0 },
 }
 
 impl<B: BoardName> Tally<B> {
-    // Takes note of a write where it was accepted: in the history, and in the share of the host that wrote it.
-    pub(crate) fn note(
+    /// Takes note of a write where it was accepted: in the history, and in the share of the host that wrote it.
+    pub fn note(
         &mut self,
         history: &mut History,
         share: &mut Share<B>,

@@ -1,4 +1,6 @@
 // The front of a module whose channels are behind locks of their own.
+ghost use Rattle.module_core.specs.Saving.{IsOfLines};
+
 use energy_budget::Costs;
 use module_core::Front;
 
@@ -6,8 +8,9 @@ use module_core::Front;
 /// lines they have, and what a closing save costs.
 #[derive(Drop)]
 pub struct SplitFront {
-    pub(crate) front: Front,
-    pub(crate) out: u64,
-    pub(crate) lines: u64,
-    pub(crate) costs: Costs,
+    pub front: Front,
+    pub out: u64,
+    pub lines: u64,
+    pub costs: Costs,
+    pub ghost running: { IsOfLines lines front.saves.saving },
 }

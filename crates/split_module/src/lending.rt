@@ -4,7 +4,9 @@ ghost use Rattle.arm_state.specs.Modes.{has_ended};
 ghost use Rattle.channel_log.specs.declared.entry.LogEntry.TheVariants.{Looked, Wrote};
 ghost use Rattle.channel_port.specs.Waits.{AllBelow};
 ghost use Rattle.line_memory.specs.Parts.{numbered};
-ghost use Rattle.channel_part.specs.Stands.{StandsNoted, queue_of, returned_of};
+ghost use Rattle.channel_part.specs.Stands.{SameButPort, StandsNoted, queue_of, returned_of};
+ghost use Rattle.channel_port.specs.View.{with_write};
+ghost use Rattle.module_core.specs.Fronts.{AcceptsOne};
 ghost use Rattle.split_module.specs.Lending.{LooksAt, ReadsOn, WritesOn};
 
 use crate::SplitFront;
@@ -19,6 +21,11 @@ pub fn take_back<K: ChannelPort>(front: &mut SplitFront, part: &mut Part<K>) -> 
     requires out { returned_of K.ChannelPort part.old ≤ front.old.out }
     ensures all { result ≡ returned_of K.ChannelPort part.old }
     ensures none { returned_of K.ChannelPort part.new ≡ 0 }
+    ensures port { part.new.port ≡ part.old.port }
+    ensures channel { part.new.channel ≡ part.old.channel }
+    ensures ended { part.new.ended ≡ part.old.ended }
+    ensures front { front.new.front ≡ front.old.front }
+    ensures costs { front.new.costs ≡ front.old.costs }
     ensures looks { LooksAt K.ChannelPort front.old part.old front.new part.new }
     ensures stands { StandsNoted K.ChannelPort Looked part.old part.new }
 {
@@ -45,6 +52,13 @@ pub fn write_on<K: ChannelPort>(
     ensures stands { IfOk result (λ accepted. StandsNoted K.ChannelPort
         (Wrote (numbered accepted.number write)) part.old part.new) }
     ensures taken { returned_of K.ChannelPort part.new ≡ 0 }
+    ensures puts { IfOk result (λ accepted. K.view part.new.port
+        ≡ with_write accepted.number (K.view part.old.port)) }
+    ensures channel { part.new.channel ≡ part.old.channel }
+    ensures ended { part.new.ended ≡ part.old.ended }
+    ensures accepts { IfOk result (λ accepted.
+        AcceptsOne front.old.front accepted front.new.front) }
+    ensures costs { front.new.costs ≡ front.old.costs }
     ensures same_front { IfErr result (λ refusal. front.new ≡ front.old) }
     ensures same_part { IfErr result (λ refusal. part.new ≡ part.old) }
 {
@@ -79,6 +93,10 @@ pub fn read_on<K: ChannelPort>(
     ensures reads { ReadsOn K.ChannelPort front.now part.old line result part.new }
     ensures stands { IfOk result (λ got. StandsNoted K.ChannelPort Looked part.old part.new) }
     ensures taken { returned_of K.ChannelPort part.new ≡ 0 }
+    ensures rest { K.view part.new.port ≡ record (K.view part.old.port) {
+      waits = (K.view part.new.port).waits;
+    } }
+    ensures kept { SameButPort K.ChannelPort part.old part.new }
     ensures same { IfErr result (λ refusal. part.new ≡ part.old) }
 {
     if line >= front.lines {

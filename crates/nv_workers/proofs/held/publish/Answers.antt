@@ -1,11 +1,11 @@
-use Rattle.std.proofs.Common.{◌≡◌, refl, max, arith}
-use Rattle.nv_workers.specs.Marks.{marks_of}
+use Rattle.std.proofs.Common.{◌≡◌, max, refl, arith}
+use Rattle.mark_board.specs.SeenMarks.{seen_marks}
 use Rattle.nv_workers.proofs.held.publish.Goals as goal
 
 pub accept-requires : goal.accept-requires
-accept-requires g c = record { board = c.requires.board; rises = rw c.accepted.ensures.is c.requires.shown.accepted }
+accept-requires c = record { board = c.requires.board; rises = c.requires.shown.accepted_shown }
 
 pub returns : goal.returns
-returns g c =
-    let most : max c.args.seat.now.persisted c.args.running.now.front.persisted ≡ c.args.running.now.front.persisted = omega (arith, c.requires.shown.persisted) in
-    rw (c.raise.ensures, c.accept.ensures, c.accepted.ensures.is, c.mark.ensures, most) (refl {a = marks_of g.K.ChannelPort c.args.marks.now c.args.running.now})
+returns c =
+    let most : max c.args.seat.now.persisted c.args.persisted ≡ c.args.persisted = omega (arith, c.requires.shown.persisted_shown) in
+    rw (c.raise.ensures, c.accept.ensures, most) (refl {a = seen_marks c.args.marks.now c.args.accepted c.args.persisted})

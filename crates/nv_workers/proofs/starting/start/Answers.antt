@@ -10,8 +10,9 @@ pub publish-requires-clause-shown : goal.publish-requires-clause-shown
 publish-requires-clause-shown g c =
     let it = c.args.recorded in let inside = c.opening.inside in
     let least = subst (λ (o : OpeningView). o.mark ≤ it.running.front.persisted) (sym c.opening.view_is) c.requires.mark in
-    subst (λ (m : SeenMarks). ShowsNoMore g.K.ChannelPort it.running m) (sym c.opening.invariant.0)
-    (opening_shows_no_more g.K.ChannelPort g.D.SaveDevice it c.requires.kept inside.marks inside.mark least)
+    rw (c.accepted.ensures.is, c.mark.ensures)
+    (subst (λ (m : SeenMarks). ShowsNoMore it.running.front.accepted it.running.front.persisted m) (sym c.opening.invariant.0)
+    (opening_shows_no_more g.K.ChannelPort g.D.SaveDevice it c.requires.kept inside.marks inside.mark least))
 
 pub returns-clause-hosts : goal.returns-clause-hosts
 returns-clause-hosts g c = subst (λ (o : OpeningView). All (λ (h : Client). h ≡ client o.mark o.mark 0 []) c.in-Ok-seated.hosts.items) c.opening.view_is c.in-Ok-seated.ensures.hosts

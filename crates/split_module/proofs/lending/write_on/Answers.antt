@@ -1,8 +1,7 @@
 -- A write to a line of a channel that was looked at.
-use Rattle.std.proofs.Common.{arith, length, refl, subst, sym, ◌+◌, ◌<◌, ◌∙◌, ◌≡◌}
+use Rattle.std.proofs.Common.{arith, length, refl, subst, sym, ◌<◌, ◌∙◌, ◌≡◌}
 use Rattle.channel_part.specs.Stands.{queue_of}
 use Rattle.channel_port.specs.Waits.{AllBelow}
-use Rattle.split_module.specs.declared.front.SplitFront.{SplitFront}
 use Rattle.split_module.proofs.Lent.{tells_write, wrote}
 use Rattle.split_module.proofs.lending.write_on.Goals as goal
 
@@ -29,7 +28,6 @@ returns-in-None-clause-writes g c = λ shape m logs log s of seen on.
     let within : write.line < old.lines = omega arith in
     let here = on (subst (λ k. write.line < k) s.lines within) in
     let told = tells_write L old part write c.is_full.result c.need-need.result c.requires.taken c.is_full.ensures c.need-need.ensures.value within shape m logs log s of seen here in
-    let new : SplitFront = record old { front = c.accept-accepted.new.self; out = old.out + 1 } in
     let long : length write.«data» ≡ 64 = omega arith in
-    wrote L old new part c.write.new.self write c.accept-accepted.result c.accept-accepted.ensures.accepts refl refl refl c.write.ensures.puts long shape m logs log s of seen here
+    wrote L old _ part c.write.new.self write c.accept-accepted.result c.accept-accepted.ensures.accepts refl refl refl c.write.ensures.puts long shape m logs log s of seen here
     (sym (c.write_refusal.ensures.refusal shape m write.line s.matches told) ∙ c.in-None.is)

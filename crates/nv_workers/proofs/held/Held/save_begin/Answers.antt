@@ -1,18 +1,18 @@
 use Rattle.std.proofs.Common.{refl}
 use Rattle.nv_machine.specs.declared.events.Event.TheVariants as events
 use Rattle.nv_machine.specs.declared.events.Reply.TheVariants as replies
-use Rattle.nv_workers.proofs.BoardsKept.{event_shows_no_more, kept_same}
+use Rattle.nv_workers.proofs.BoardsKept.{event_shows_no_more, kept_same, marks_told}
 use Rattle.nv_workers.proofs.held.Held.save_begin.Goals as goal
 
 pub publish-requires-clause-shown : goal.publish-requires-clause-shown
 publish-requires-clause-shown g c =
     let it = c.args.self.now in let call = c.save_begin-reply in
-    event_shows_no_more events.SaveBegin (replies.SaveBegin call.result) it.recorded (record it.recorded { running = call.new.self }) it.kept (call.ensures.answers _ _)
+    rw (c.accepted.ensures.is, c.mark.ensures) (event_shows_no_more events.SaveBegin (replies.SaveBegin call.result) it.recorded (record it.recorded { running = call.new.self }) it.kept (call.ensures.answers _ _))
 
 pub invariant_of-self : goal.invariant_of-self
 invariant_of-self g c =
     let it = c.args.self.now in let call = c.save_begin-reply in
-    record { kept = kept_same events.SaveBegin (replies.SaveBegin call.result) it.recorded (record it.recorded { running = call.new.self }) it.kept (call.ensures.answers _ _) call.ensures.setup call.ensures.stored.cut refl refl _ _ c.deref.ensures c.publish.ensures }
+    record { kept = kept_same events.SaveBegin (replies.SaveBegin call.result) it.recorded (record it.recorded { running = call.new.self }) it.kept (call.ensures.answers _ _) call.ensures.setup call.ensures.stored.cut refl refl _ _ c.deref.ensures (marks_told c.publish.ensures c.accepted.ensures.is c.mark.ensures) }
 
 pub returns-clause-steps : goal.returns-clause-steps
 returns-clause-steps g c = c.save_begin-reply.ensures.answers _ _

@@ -1,7 +1,7 @@
 use Rattle.std.proofs.Common.{◌∙◌}
 use Rattle.nv_machine.specs.declared.events.Event.TheVariants as events
 use Rattle.nv_machine.specs.declared.events.Reply.TheVariants as replies
-use Rattle.nv_workers.proofs.BoardsKept.{event_shows_no_more, kept_on}
+use Rattle.nv_workers.proofs.BoardsKept.{event_shows_no_more, kept_on, marks_told}
 use Rattle.nv_workers.proofs.Keeping.{has_room}
 use Rattle.nv_workers.proofs.Quiet.{told_counted}
 use Rattle.nv_workers.proofs.held.Held.write.Goals as goal
@@ -14,14 +14,14 @@ note-requires-clause-room g c =
 pub publish-requires-clause-shown : goal.publish-requires-clause-shown
 publish-requires-clause-shown g c =
     let it = c.args.self.now in let call = c.write-reply in
-    event_shows_no_more (events.Write c.args.write) (replies.Write call.result) it.recorded (record it.recorded { running = call.new.self }) it.kept (call.ensures.answers _ _)
+    rw (c.accepted.ensures.is, c.mark.ensures) (event_shows_no_more (events.Write c.args.write) (replies.Write call.result) it.recorded (record it.recorded { running = call.new.self }) it.kept (call.ensures.answers _ _))
 
 pub invariant_of-self : goal.invariant_of-self
 invariant_of-self g c =
     let it = c.args.self.now in let call = c.write-reply in
     record {
       kept = kept_on (events.Write c.args.write) (replies.Write call.result) it.recorded (record it.recorded { running = call.new.self; history = c.note.new.history }) it.kept (call.ensures.answers _ _) call.ensures.setup call.ensures.stored.cut
-          _ c.note.ensures.history c.note.ensures.total _ _ c.deref.ensures (c.inform.ensures.same ∙ c.publish.ensures);
+          _ c.note.ensures.history c.note.ensures.total _ _ c.deref.ensures (marks_told (c.inform.ensures.same ∙ c.publish.ensures) c.accepted.ensures.is c.mark.ensures);
     }
 
 pub returns-clause-steps : goal.returns-clause-steps

@@ -1,0 +1,6 @@
+pub mod Settled
+pub mod Happening
+pub mod Followed
+pub mod Lending
+pub mod Noted
+pub mod Keeping

@@ -1,0 +1,60 @@
+-- What becomes of a desk with the part of one channel, whichever machine it stood for.
+use Rattle.std.specs.Prelude.{◌≡◌, ◌≢◌, ℕ, List, [], slice_index_or, Option, Some, None}
+use Rattle.channel_log.specs.Log.{IsLogOf, LogNote, log_tells}
+use Rattle.channel_locks.specs.declared.parts_name.PartsName.{Ghosts as PartsGhosts}
+use Rattle.channel_part.specs.declared.part.Part.{Part}
+use Rattle.channel_part.specs.Stands.{returned_of}
+use Rattle.channel_port.specs.declared.port.ChannelPort.{Ghosts}
+use Rattle.nv_machine.specs.declared.events.Event.{Event}
+use Rattle.nv_machine.specs.declared.events.Reply.{Reply}
+use Rattle.nv_machine.specs.Headline.{Happens}
+use Rattle.nv_machine.specs.State.{Machine}
+use Rattle.split_machine.specs.OwnEvents.{ComesOfOwn}
+use Rattle.board_desk.specs.Desk.{DeskStands, DeskView, setup_at, world_at}
+
+module _ {B : Type 0} (P : PartsGhosts B) where
+  -- The channel's own events led from a machine, for which the desk stood, to one for which it stands.
+  pub record GoesOn (channel : ℕ) (old new : DeskView) (m : Machine) : Type 0 where
+    pub seen : Machine
+    pub comes : ComesOfOwn (setup_at P old) channel (world_at old m) (world_at old seen)
+    pub stands : DeskStands P new seen
+
+  abbrev pub Settles : ℕ → DeskView → DeskView → Type 0
+  Settles channel old new = (m : Machine) → DeskStands P old m → ∥ GoesOn channel old new m ∥₁
+
+  -- Behind the channel's own events this one had this reply, and led to a machine for which the desk stands.
+  pub record GoesOnWith (channel : ℕ) (event : Event) (reply : Reply) (old new : DeskView) (m : Machine) : Type 0 where
+    pub seen : Machine
+    pub comes : ComesOfOwn (setup_at P old) channel (world_at old m) (world_at old seen)
+    pub later : Machine
+    pub happens : Happens (setup_at P old) event reply (world_at old seen) (world_at new later)
+    pub stands : DeskStands P new later
+
+  abbrev pub DeskAnswers : ℕ → Event → Reply → DeskView → DeskView → Type 0
+  DeskAnswers channel event reply old new = (m : Machine) → DeskStands P old m → ∥ GoesOnWith channel event reply old new m ∥₁
+
+-- what is known of the other channels has not changed
+abbrev pub SameElsewhere : ℕ → List (List LogNote) → List (List LogNote) → Type 0
+SameElsewhere channel old new = (other : ℕ) → other ≢ channel → slice_index_or new other [] ≡ slice_index_or old other []
+
+module _ {K : Type 0} (L : Ghosts K) where
+  -- No credit of the part is a returned one, and its log, which the desk knows, tells what waits.
+  pub record IsSettledPart (logs : List (List LogNote)) (part : Part K L) (log : List LogNote) : Type 0 where
+    pub taken : returned_of L part ≡ 0
+    pub waits : (log_tells log).waits ≡ (L.view part.port).waits
+    pub agreed : IsLogOf logs part.channel log
+
+  -- the same of what lies behind the channel's lock, where the board has the channel
+  abbrev pub IsSettled : List (List LogNote) → Option (Part K L) → List LogNote → Type 0
+  IsSettled logs None log = Unit {0}
+  IsSettled logs (Some part) log = IsSettledPart logs part log
+
+  -- of the part only the credits have changed
+  pub record SameButCredits (old new : Part K L) : Type 0 where
+    pub channel : new.channel ≡ old.channel
+    pub port : new.port ≡ old.port
+    pub ended : new.ended ≡ old.ended
+
+  abbrev pub SettlesPart : Option (Part K L) → Option (Part K L) → Type 0
+  SettlesPart None new = new ≡ None
+  SettlesPart (Some old) new = (later : Part K L) × (new ≡ Some later) × SameButCredits old later

@@ -1,0 +1,5 @@
+pub mod LivedUntil
+pub mod Desk
+pub mod Kept
+pub mod Answering
+pub mod Views

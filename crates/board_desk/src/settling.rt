@@ -1,0 +1,36 @@
+// A channel is settled: the desk sees what it has done under its own lock.
+ghost use Rattle.std.specs.Prelude.{◌≡◌};
+
+use crate::desk::Desk;
+use crate::noting::look_at;
+use channel_locks::{PartsName, Slot};
+use channel_port::ChannelPort;
+use energy_budget::Energy;
+use nv_workers::BoardName;
+use save_device::SaveDevice;
+use split_module::take_back;
+use std::marker::Brand;
+
+impl<K: ChannelPort, D: SaveDevice, E: Energy, B: BoardName + PartsName> Desk<K, D, E, B> {
+    ghost use Rattle.board_desk.specs.Answering.{IsSettled, SameElsewhere, Settles, SettlesPart};
+    ghost use Rattle.board_desk.specs.Views.{SameButCounts, view_of};
+
+    /// Takes all returned credits of a channel back, and notes what waits on it. A channel that the board lacks has none.
+    pub fn settle<const CHANNEL: u64>(&mut self, slot: &mut Slot<K, B, CHANNEL>)
+        ensures settles { Settles B.PartsName.own CHANNEL
+            (view_of K.ChannelPort D.SaveDevice E.Energy B.BoardName.own B.PartsName.own self.old)
+            (view_of K.ChannelPort D.SaveDevice E.Energy B.BoardName.own B.PartsName.own self.new) }
+        ensures same { SameButCounts K.ChannelPort D.SaveDevice E.Energy B.BoardName.own B.PartsName.own self.old self.new }
+        ensures elsewhere { SameElsewhere CHANNEL self.old.known.logs self.new.known.logs }
+        ensures settled { IsSettled K.ChannelPort self.new.known.logs slot.new.part slot.new.seat.log }
+        ensures part { SettlesPart K.ChannelPort slot.old.part slot.new.part }
+    {
+        let Some(part) = &mut slot.part else {
+            return;
+        };
+        slot.seat.always();
+        self.known.compare(&self.logs, &mut slot.seat);
+        take_back(&mut self.split, part);
+        look_at::<Brand, K>(&self.logs, &mut self.known, &mut slot.seat, part);
+    }
+}
