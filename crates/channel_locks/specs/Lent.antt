@@ -1,14 +1,17 @@
 -- What was done while a channel's lock lent what lies behind it. Which value it lent no clause can name, so these say that there is
 -- one.
-use Rattle.std.specs.Prelude.{◌≡◌, ℕ, Option}
+use Rattle.std.specs.Prelude.{◌≡◌, ℕ, List, Option}
 use Rattle.std.specs.Option.{ForSome}
+use Rattle.channel_log.specs.Log.{LogNote}
 use Rattle.channel_port.specs.declared.answers.Collected.{Collected}
 use Rattle.channel_port.specs.declared.answers.Ticket.{Ticket}
 use Rattle.channel_port.specs.declared.port.ChannelPort.{Ghosts}
 use Rattle.channel_part.specs.declared.part.Part.{Part}
 use Rattle.worker_gate.specs.declared.Gate.{Ghosts as GateGhosts}
+use Rattle.channel_locks.specs.declared.parts_name.PartsName.{Ghosts as NameGhosts}
 use Rattle.channel_locks.specs.declared.turns.ChannelTurn.{ChannelTurn}
-use Rattle.channel_locks.specs.Alone.{CollectsAlone, WorksAlone, ended_in}
+use Rattle.channel_locks.specs.Alone.{MakesRoomAlone, ServesAlone, WorksAlone, ended_in}
+use Rattle.channel_locks.specs.Slots.{IsPartWhereDue}
 use Rattle.worker_gate.specs.Inside.{AwaitsInside}
 
 module _ {K : Type 0} (L : Ghosts K) where
@@ -16,18 +19,30 @@ module _ {K : Type 0} (L : Ghosts K) where
   abbrev pub IsOfChannel : ℕ → Option (Part K L) → Type 0
   IsOfChannel channel lent = ForSome lent (λ (part : Part K L). part.channel ≡ channel)
 
+module _ {K B : Type 0} (L : Ghosts K) (O : NameGhosts B) where
+  -- The lock of this channel lent it: the part that is due there by some log, or none where the board lacks the channel.
+  abbrev pub IsLentBy : ℕ → Option (Part K L) → Type 0
+  IsLentBy channel lent = (log : List LogNote) × ∥ IsPartWhereDue L O lent channel log ∥₁
+
   -- the channel was worked once, behind the gate that was asked with the lock held
   pub record LentTurn {G : Type 0} (H : GateGhosts G) (channel : ℕ) (gate : G) (turn : ChannelTurn) : Type 0 where
     pub before : Option (Part K L)
     pub after : Option (Part K L)
     pub asked : AwaitsInside H channel gate
-    pub here : IsOfChannel channel before
+    pub lent : IsLentBy channel before
     pub works : WorksAlone L turn.done before after
     pub ended : turn.ended ≡ ended_in L after
 
-  -- a ticket was answered so by its channel
-  pub record LentCollect (ticket : Ticket) (answer : Collected) : Type 0 where
+  -- a ticket was served so by its channel
+  pub record LentServe (ticket : Ticket) (answer : Collected) : Type 0 where
     pub before : Option (Part K L)
     pub after : Option (Part K L)
-    pub here : IsOfChannel ticket.channel before
-    pub collects : CollectsAlone L ticket answer before after
+    pub lent : IsLentBy ticket.channel before
+    pub serves : ServesAlone L ticket answer before after
+
+  -- a channel was worked while it had no room for a write
+  pub record LentRoom (channel : ℕ) : Type 0 where
+    pub before : Option (Part K L)
+    pub after : Option (Part K L)
+    pub lent : IsLentBy channel before
+    pub room : MakesRoomAlone L before after

@@ -5,6 +5,8 @@
 //! board's lock too. Under a channel's lock alone its log stays as it is.
 #![tactic(auto)]
 
+mod channel_name;
+mod channels;
 mod line_channels;
 mod locks;
 mod parts_name;
@@ -13,8 +15,13 @@ mod slot;
 mod turns;
 mod working;
 
+pub use channel_name::{
+    ChannelFive, ChannelFour, ChannelName, ChannelOne, ChannelSeven, ChannelSix, ChannelThree,
+    ChannelTwo, ChannelZero,
+};
+pub use channels::{AllSlots, ChannelLocks};
 pub use line_channels::LineChannels;
-pub use locks::{collect_at, take_lock, turn_at};
+pub use locks::{make_room_at, serve_at, take_lock, turn_at};
 pub use parts_name::PartsName;
 pub use slot::Slot;
 pub use turns::ChannelTurn;

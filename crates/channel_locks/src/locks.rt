@@ -1,7 +1,8 @@
 // A channel's lock, and what is done under it alone.
 ghost use Rattle.std.specs.Prelude.{◌≡◌};
-ghost use Rattle.channel_locks.specs.Lent.{LentCollect, LentTurn};
+ghost use Rattle.channel_locks.specs.Lent.{LentRoom, LentServe, LentTurn};
 
+use crate::channel_name::ChannelName;
 use crate::parts_name::PartsName;
 use crate::slot::Slot;
 use crate::turns::ChannelTurn;
@@ -26,24 +27,34 @@ pub fn take_lock<'a, T, R: Wait>(rt: &R, lock: &'a Mutex<T>) -> MutexGuard<'a, T
 }
 
 /// Takes a turn of the worker of the channel whose lock this is, under that lock alone. The gate is asked while it is held.
-pub fn turn_at<K: ChannelPort, B: PartsName, G: Gate, R: Wait, const CHANNEL: u64>(
+pub fn turn_at<K: ChannelPort, B: PartsName, G: Gate, R: Wait, C: ChannelName>(
     rt: &R,
-    lock: &Mutex<Slot<K, B, CHANNEL>>,
+    lock: &Mutex<Slot<K, B, C>>,
     gate: &G,
 ) -> ChannelTurn
-    ensures { LentTurn K.ChannelPort G.Gate CHANNEL gate.now result }
+    ensures { LentTurn K.ChannelPort B.PartsName G.Gate C.NUMBER gate.now result }
 {
     take_lock(rt, lock).take_turn(gate)
 }
 
-/// What there is for a ticket of the channel whose lock this is, under that lock alone.
-pub fn collect_at<K: ChannelPort, B: PartsName, R: Wait, const CHANNEL: u64>(
+/// What there is for a ticket of the channel whose lock this is, under that lock alone; while that is nothing the channel works.
+pub fn serve_at<K: ChannelPort, B: PartsName, R: Wait, C: ChannelName>(
     rt: &R,
-    lock: &Mutex<Slot<K, B, CHANNEL>>,
+    lock: &Mutex<Slot<K, B, C>>,
     ticket: Ticket,
 ) -> Collected
-    requires { ticket.channel ≡ CHANNEL }
-    ensures { LentCollect K.ChannelPort ticket result }
+    requires { ticket.channel ≡ C.NUMBER }
+    ensures { LentServe K.ChannelPort B.PartsName ticket result }
 {
-    take_lock(rt, lock).collect(ticket)
+    take_lock(rt, lock).serve(ticket)
+}
+
+/// While the channel whose lock this is has no room for a write it works, under that lock alone.
+pub fn make_room_at<K: ChannelPort, B: PartsName, R: Wait, C: ChannelName>(
+    rt: &R,
+    lock: &Mutex<Slot<K, B, C>>,
+)
+    ensures { LentRoom K.ChannelPort B.PartsName C.NUMBER }
+{
+    take_lock(rt, lock).make_room();
 }

@@ -1,6 +1,7 @@
 // A read that waits, and a write that finds no room, have their channel worked under its lock alone.
 ghost use Rattle.std.specs.Prelude.{◌≡◌};
 
+use crate::channel_name::ChannelName;
 use crate::parts_name::PartsName;
 use crate::slot::Slot;
 use channel_port::{ChannelPort, Collected, Ticket};
@@ -8,7 +9,7 @@ use channel_port::{ChannelPort, Collected, Ticket};
 /// How many commands a read or a write has its channel issue at most, in one hold of the lock.
 const MOST_COMMANDS: u64 = 64;
 
-impl<K: ChannelPort, B: PartsName, const CHANNEL: u64> Slot<K, B, CHANNEL> {
+impl<K: ChannelPort, B: PartsName, C: ChannelName> Slot<K, B, C> {
     ghost use Rattle.channel_locks.specs.Alone.{MakesRoomAlone, ServesAlone, crowded_in};
 
     /// What there is for a ticket. While that is nothing the channel issues commands, 64 at most.

@@ -2,6 +2,7 @@
 ghost use Rattle.std.specs.Prelude.{◌≡◌};
 ghost use Rattle.worker_gate.specs.Inside.{AwaitsInside};
 
+use crate::channel_name::ChannelName;
 use crate::parts_name::PartsName;
 use crate::slot::Slot;
 use channel_port::{ChannelPort, Done};
@@ -14,17 +15,17 @@ pub struct ChannelTurn {
     pub ended: bool,
 }
 
-impl<K: ChannelPort, B: PartsName, const CHANNEL: u64> Slot<K, B, CHANNEL> {
+impl<K: ChannelPort, B: PartsName, C: ChannelName> Slot<K, B, C> {
     ghost use Rattle.channel_locks.specs.Alone.{WorksAlone, ended_in};
 
     /// Takes a turn of the channel's worker: the gate is asked once more, and then the channel issues one command, if it has one.
     pub fn take_turn<G: Gate>(&mut self, gate: &G) -> ChannelTurn
-        ensures asked { AwaitsInside G.Gate CHANNEL gate.now }
+        ensures asked { AwaitsInside G.Gate C.NUMBER gate.now }
         ensures works { WorksAlone K.ChannelPort result.done self.old.part self.new.part }
         ensures ended { result.ended ≡ ended_in K.ChannelPort self.new.part }
         ensures seat { self.new.seat ≡ self.old.seat }
     {
-        await_inside(gate, CHANNEL);
+        await_inside(gate, C::NUMBER);
         let done = self.work();
         let ended = self.has_ended();
         ChannelTurn { done, ended }

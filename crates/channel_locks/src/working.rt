@@ -1,11 +1,12 @@
 // What a channel does under its lock alone.
 ghost use Rattle.std.specs.Prelude.{◌≡◌};
 
+use crate::channel_name::ChannelName;
 use crate::parts_name::PartsName;
 use crate::slot::Slot;
 use channel_port::{ChannelPort, Collected, Done, Ticket};
 
-impl<K: ChannelPort, B: PartsName, const CHANNEL: u64> Slot<K, B, CHANNEL> {
+impl<K: ChannelPort, B: PartsName, C: ChannelName> Slot<K, B, C> {
     ghost use Rattle.channel_locks.specs.Alone.{CollectsAlone, WorksAlone, ended_in};
 
     /// Issues one command of the channel, where mains are there and it has one.

@@ -3,7 +3,6 @@ ghost use Rattle.std.specs.Prelude.{◌≡◌, ◌+◌, ◌≤◌, [], length, v
 ghost use Rattle.module_core.specs.Stands.{HasDevice, setup_of};
 ghost use Rattle.nv_workers.specs.Client.{client};
 ghost use Rattle.nv_workers.specs.Kept.{IsRecordKept};
-ghost use Rattle.nv_workers.specs.Lived.{HasSomeLife};
 
 use channel_port::ChannelPort;
 use energy_budget::Energy;
@@ -21,8 +20,7 @@ pub struct Ready<K: ChannelPort, D: SaveDevice, E: Energy> {
     pub channels: u64,
     ghost counted: { channels ≡ (setup_of K.ChannelPort recorded.running).shape.channels },
     ghost sized: { HasDevice K.ChannelPort recorded.running (D.state recorded.device) },
-    ghost kept: { IsRecordKept K.ChannelPort D.SaveDevice recorded },
-    ghost lived: { HasSomeLife K.ChannelPort D.SaveDevice E.Energy recorded },
+    ghost kept: { IsRecordKept K.ChannelPort D.SaveDevice E.Energy recorded },
     ghost mark: { opening.mark ≤ recorded.running.front.persisted },
     ghost uncut: { recorded.running.front.accepted
         ≡ recorded.running.front.terms.start + length recorded.history.writes },

@@ -13,7 +13,6 @@ use Rattle.nv_workers.specs.declared.board_name.BoardName.{Ghosts as NameGhosts}
 use Rattle.nv_workers.specs.Kept.{IsBoardKept}
 use Rattle.nv_workers.proofs.Holding.{same_channels, shows_no_more_after}
 use Rattle.nv_workers.proofs.Keeping.{counted_on, keeps_on, recorded_after}
-use Rattle.nv_workers.proofs.Living.{lives_on}
 use Rattle.nv_workers.proofs.Quiet.{IsQuiet, same_marks}
 
 -- marks that show what two numbers were told to be
@@ -34,7 +33,6 @@ module _ {K D E B : Type 0} {L : Ghosts K} {M : DeviceGhosts D} {N : GaugeGhosts
       board = kept.board;
       channels = same_channels L old.running new.running O.channels kept.channels setup;
       recorded = keeps_on L M N event reply old new kept.recorded steps setup uncut records;
-      lived = lives_on L M N event reply old new kept.lived steps setup;
       shown = is ∙ ap (λ (b : TableId). marks_of L b new.running) (named ∙ kept.board);
       counted = counted_on L M N event reply old new kept.recorded steps O.before total later kept.counted adds;
     }

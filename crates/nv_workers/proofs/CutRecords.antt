@@ -1,19 +1,19 @@
--- A cut keeps the record, and the life of a module goes on through it.
-use Rattle.std.proofs.Common.{◌≡◌, ℕ, ◌+◌, ◌≤◌, [], refl, ap, sym, subst, ◌∙◌, arith}
-use Rattle.nv_workers.proofs.Common.{Ghosts as GaugeGhosts, HasSomeLife, IsRecordKept, Machine, ModuleStands, RecordedModule, StandsWith, assembly_of, marks_of, ∥∥₁_map}
+-- A cut keeps the record, and the life so far goes on through it.
+use Rattle.std.proofs.Common.{◌≡◌, ℕ, ◌+◌, ◌≤◌, refl, ap, sym, subst, ◌∙◌, arith}
+use Rattle.nv_workers.proofs.Common.{Ghosts as GaugeGhosts, IsRecordKept, LivedUntil, Machine, ModuleStands, RecordedModule, Setup, StandsWith, World, marks_of, world_at, setup_of, ∥∥₁_map}
 use Rattle.atomic_table.specs.Seated.{TableId}
 use Rattle.line_memory.specs.History.{Recorded, TellsSameFrom, cut_at, recorded}
 use Rattle.line_memory.proofs.Moving.{cut_again, told_the_same}
 use Rattle.save_device.specs.declared.device.SaveDevice.{Ghosts as DeviceGhosts}
 use Rattle.channel_port.specs.declared.port.ChannelPort.{Ghosts}
 use Rattle.nv_machine.proofs.Guarded.{cut_below}
+use Rattle.nv_machine.specs.Headline.{Rests}
 use Rattle.nv_machine.specs.State.{stored_base, stored_writes}
-use Rattle.module_core.specs.ModuleLives.{LifeSoFar}
-use Rattle.module_core.specs.Stands.{assembly}
 use Rattle.module_core.specs.declared.opening.LifeTerms.{LifeTerms}
-use Rattle.module_core.proofs.CallsInTurn.{cuts_in_turn, life_on}
-use Rattle.module_core.proofs.RunsOn.{cut_stands}
+use Rattle.module_core.proofs.CallsInTurn.{cut_setup}
+use Rattle.module_core.proofs.RunsOn.{cut_rests, cut_stands}
 use Rattle.nv_workers.proofs.Keeping.{begins_within}
+use Rattle.nv_workers.proofs.Living.{lived_pause}
 use Rattle.nv_workers.specs.Cutting.{MovesToNewest}
 use Rattle.nv_workers.specs.Kept.{whole_record}
 
@@ -44,12 +44,6 @@ module _ {K D E : Type 0} (L : Ghosts K) (M : DeviceGhosts D) (old new : Recorde
         stored = whole ∙ ap (λ (r : ℕ). recorded (stored_base n) n.cut (stored_writes n) r) (sym (ap (λ (h : Recorded). h.room) whole));
       }
 
-  pub kept_cut : IsRecordKept L M old → IsRecordKept L M new
-  kept_cut kept = record {
-    stands = ∥∥₁_map kept.stands (λ s. (record s.0 { cut = new.running.front.terms.cut }, stands_cut s.0 s.1));
-    room = omega (arith, kept.room, same_trail, ap (λ (h : Recorded). h.room) moves.history);
-  }
-
   -- the hosts' writes are those of the life still
   pub counted_cut : (before total : ℕ) → old.running.front.accepted ≡ old.running.front.terms.start + before + total → new.running.front.accepted ≡ new.running.front.terms.start + before + total
   counted_cut before total was = omega (arith, was, moves.only.accepted, ap (λ (t : LifeTerms). t.start) moves.only.terms)
@@ -58,12 +52,20 @@ module _ {K D E : Type 0} (L : Ghosts K) (M : DeviceGhosts D) (old new : Recorde
   marks_cut board = rw (moves.only.accepted, moves.only.persisted) refl
 
   module _ (N : GaugeGhosts E) where
-    pub lives_cut : HasSomeLife L M N old → HasSomeLife L M N new
-    lives_cut lived =
-        let calls = cuts_in_turn L old.running new.running (M.state old.device) (N.gauge old.energy) moves.only in
-        subst (λ (e : E). ∥ LifeSoFar L (assembly new.running (M.state new.device) (N.gauge e)) ∥₁) (sym moves.energy)
-        (subst (λ (d : D). ∥ LifeSoFar L (assembly new.running (M.state d) (N.gauge old.energy)) ∥₁) (sym moves.device)
-        (∥∥₁_map lived
-        (λ (so : LifeSoFar L (assembly_of L M N old)).
-        let a = so.answered.runs in
-        life_on L (assembly_of L M N old) (assembly new.running (M.state old.device) (N.gauge old.energy)) so [] [] calls.setup (calls.answers a.last a.stands))))
+    -- it is a pause
+    lives_cut : (m : Machine) → StandsWith L M old m → LivedUntil (setup_of L old.running) (world_at L M N old m)
+        → LivedUntil (setup_of L new.running) (world_at L M N new (record m { cut = new.running.front.terms.cut }))
+    lives_cut m with so =
+        let n : Machine = record m { cut = new.running.front.terms.cut } in let setup : Setup = setup_of L old.running in
+        let later : World = world_at L M N (record new { device = old.device; energy = old.energy }) n in
+        let rests : Rests (world_at L M N old m) later = record { may = (cut_rests L old.running new.running (M.state old.device) (N.gauge old.energy) m moves.only with.stands).may; is = refl } in
+        subst (λ (s : Setup). LivedUntil s (world_at L M N new n)) (sym (cut_setup L old.running new.running moves.only))
+        (subst (λ (e : E). LivedUntil setup (world_at L M N (record new { energy = e }) n)) (sym moves.energy)
+        (subst (λ (d : D). LivedUntil setup (world_at L M N (record new { device = d; energy = old.energy }) n)) (sym moves.device)
+        (lived_pause setup (world_at L M N old m) later so rests)))
+
+    pub kept_cut : IsRecordKept L M N old → IsRecordKept L M N new
+    kept_cut kept = record {
+      stands = ∥∥₁_map kept.stands (λ s. (record s.0 { cut = new.running.front.terms.cut }, stands_cut s.0 s.1, lives_cut s.0 s.1 s.2));
+      room = omega (arith, kept.room, same_trail, ap (λ (h : Recorded). h.room) moves.history);
+    }

@@ -35,7 +35,7 @@ module _ {K : Type 0} (L : Ghosts K) where
   in_order : (it : Module K L) (device : DeviceState) (m : Machine) → ModuleStands L it device m → it.front.persisted ≤ it.front.accepted
   in_order it device m stands = omega (arith, stands.matches.front.accepted, stands.matches.front.persisted, persisted_accepted m stands.guarded)
 
-module _ {K D E : Type 0} (L : Ghosts K) (M : DeviceGhosts D) (it : RecordedModule K D E L) (kept : IsRecordKept L M it) where
+module _ {K D E : Type 0} (L : Ghosts K) (M : DeviceGhosts D) (N : GaugeGhosts E) (it : RecordedModule K D E L) (kept : IsRecordKept L M N it) where
   -- the device has the module's size
   pub has_device : HasDevice L it.running (M.state it.device)
   has_device = ∥∥₁_elim kept.stands (ℕ_set _ _) (λ s. right_size _ s.0.store _ _ (M.state it.device) s.1.stands.holds)
@@ -46,7 +46,7 @@ module _ {K D E : Type 0} (L : Ghosts K) (M : DeviceGhosts D) (it : RecordedModu
       let ordered : it.running.front.persisted ≤ it.running.front.accepted = ∥∥₁_elim kept.stands le_prop (λ s. in_order L it.running (M.state it.device) s.0 s.1.stands) in
       record { accepted_shown = omega (arith, least, ordered); persisted_shown = least; ordered = ordered }
 
-module _ {K D E : Type 0} (L : Ghosts K) (M : DeviceGhosts D) (N : GaugeGhosts E) (event : Event) (reply : Reply) (old new : RecordedModule K D E L) (kept : IsRecordKept L M old)
+module _ {K D E : Type 0} (L : Ghosts K) (M : DeviceGhosts D) (N : GaugeGhosts E) (event : Event) (reply : Reply) (old new : RecordedModule K D E L) (kept : IsRecordKept L M N old)
     (steps : StepsTo L M N event reply old new) where
   rises : (m : Machine) (with : StandsWith L M old m) → Rises m (steps m with.stands).0
   rises m with =

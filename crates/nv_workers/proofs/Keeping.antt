@@ -1,10 +1,10 @@
 -- Each event keeps the record of the life, with the write that it accepted, and the count of the newest image.
-use Rattle.std.proofs.Common.{◌≡◌, ℕ, ◌+◌, ◌-◌, ◌<◌, ◌≤◌, List, [], ◌∷◌, ◌++◌, length, refl, ap, sym, ◌∙◌, arith}
+use Rattle.std.proofs.Common.{◌≡◌, ℕ, ◌+◌, ◌-◌, ◌<◌, ◌≤◌, List, [], ◌∷◌, ◌++◌, length, refl, ap, subst, sym, ◌∙◌, arith}
 use Rattle.std.specs.Result.{IsOk}
 use Rattle.std.proofs.Math.Nat.{ℕ_set}
 use Rattle.std.proofs.lemmas.List.{length-append, length-drop}
 use Rattle.nv_workers.proofs.Common.{Err, Ghosts as GaugeGhosts, IsRecordKept, Machine, ModuleStands, Ok, RecordedModule, Result}
-use Rattle.nv_workers.proofs.Common.{Setup, StandsWith, StepsTo, assembly_of, setup_of, world_of, ∥∥₁_elim, ∥∥₁_map}
+use Rattle.nv_workers.proofs.Common.{LivedUntil, Setup, StandsWith, StepsTo, assembly_of, world_at, setup_of, world_of, ∥∥₁_elim, ∥∥₁_map}
 use Rattle.save_image.specs.Image.{Image}
 use Rattle.save_device.specs.declared.device.SaveDevice.{Ghosts as DeviceGhosts}
 use Rattle.line_memory.specs.declared.Write as line_write
@@ -20,6 +20,7 @@ use Rattle.nv_machine.specs.Rising.{added}
 use Rattle.nv_machine.proofs.EachEvent.{KeepsLife, event_keeps}
 use Rattle.nv_machine.proofs.Guarded.{cut_below}
 use Rattle.nv_machine.specs.State.{start_of_life, stored_base, stored_writes}
+use Rattle.nv_workers.proofs.Living.{lived_event}
 use Rattle.nv_workers.proofs.Stored.{stored_grows}
 
 -- the record with the write that an event accepted
@@ -39,23 +40,23 @@ module _ {K D E : Type 0} (L : Ghosts K) (M : DeviceGhosts D) where
       let settled : it.running.front.saved ≤ it.running.front.accepted = it.running.front.settled in
       (opened, omega (arith, stored, settled, stands.matches.front.cut, stands.matches.front.accepted))
 
+module _ {K D E : Type 0} (L : Ghosts K) (M : DeviceGhosts D) (N : GaugeGhosts E) where
   -- the record begins where the module's stored writes do
-  pub starts_with : (it : RecordedModule K D E L) → IsRecordKept L M it → it.history.start ≡ it.running.front.terms.cut
+  pub starts_with : (it : RecordedModule K D E L) → IsRecordKept L M N it → it.history.start ≡ it.running.front.terms.cut
   starts_with it kept = ∥∥₁_elim kept.stands (ℕ_set _ _) (λ s. ap (λ (h : Recorded). h.start) s.1.stored ∙ sym s.1.stands.matches.front.cut)
 
   -- how many writes the module has accepted
-  pub counted_with : (it : RecordedModule K D E L) → IsRecordKept L M it → it.running.front.accepted ≡ it.history.start + length it.history.writes
+  pub counted_with : (it : RecordedModule K D E L) → IsRecordKept L M N it → it.running.front.accepted ≡ it.history.start + length it.history.writes
   counted_with it kept =
       ∥∥₁_elim kept.stands (ℕ_set _ _)
       (λ s.
-      let m : Machine = s.0 in let within = begins_within it m s.1.stands in
+      let m : Machine = s.0 in let within = begins_within L M it m s.1.stands in
       let size : length it.history.writes ≡ length m.life.writes - (m.cut - start_of_life m.life) =
       ap (λ (h : Recorded). length h.writes) s.1.stored ∙ length-drop (m.cut - start_of_life m.life) m.life.writes in
       let start : it.history.start ≡ m.cut = ap (λ (h : Recorded). h.start) s.1.stored in
       omega (arith, s.1.stands.matches.front.accepted, start, size, within.0, within.1))
 
-module _ {K D E : Type 0} (L : Ghosts K) (M : DeviceGhosts D) (N : GaugeGhosts E) where
-  module _ (event : Event) (reply : Reply) (old new : RecordedModule K D E L) (kept : IsRecordKept L M old) (steps : StepsTo L M N event reply old new) where
+  module _ (event : Event) (reply : Reply) (old new : RecordedModule K D E L) (kept : IsRecordKept L M N old) (steps : StepsTo L M N event reply old new) where
     life_kept : (m : Machine) (with : StandsWith L M old m) → KeepsLife event reply m (steps m with.stands).0
     life_kept m with =
         let next = steps m with.stands in
@@ -96,21 +97,27 @@ module _ {K D E : Type 0} (L : Ghosts K) (M : DeviceGhosts D) (N : GaugeGhosts E
           stored = whole ∙ ap (λ (r : ℕ). recorded (stored_base n) n.cut (stored_writes n) r) (sym (ap (λ (h : Recorded). h.room) whole));
         }
 
-    pub keeps_on : setup_of L new.running ≡ setup_of L old.running → new.running.front.terms.cut ≡ old.running.front.terms.cut → new.history ≡ recorded_after event reply old.history → IsRecordKept L M new
+    lives_on : setup_of L new.running ≡ setup_of L old.running → (m : Machine) (with : StandsWith L M old m) → LivedUntil (setup_of L old.running) (world_at L M N old m)
+        → LivedUntil (setup_of L new.running) (world_at L M N new (steps m with.stands).0)
+    lives_on setup m with so =
+        let next = steps m with.stands in
+        subst (λ (s : Setup). LivedUntil s (world_at L M N new next.0)) (sym setup) (lived_event (setup_of L old.running) (world_at L M N old m) (world_at L M N new next.0) so event reply next.2.happens)
+
+    pub keeps_on : setup_of L new.running ≡ setup_of L old.running → new.running.front.terms.cut ≡ old.running.front.terms.cut → new.history ≡ recorded_after event reply old.history → IsRecordKept L M N new
     keeps_on setup uncut records = record {
-      stands = ∥∥₁_map kept.stands (λ s. ((steps s.0 s.1.stands).0, stands_on uncut records s.0 s.1));
+      stands = ∥∥₁_map kept.stands (λ s. ((steps s.0 s.1.stands).0, stands_on uncut records s.0 s.1, lives_on setup s.0 s.1 s.2));
       room =
           let trail : new.running.front.terms.trail ≡ old.running.front.terms.trail = ap (λ (s : Setup). s.trail) setup in omega (arith, kept.room, trail, ap (λ (h : Recorded). h.room) records);
     }
 
   -- a write that was accepted had room in the record
-  pub has_room : (write : line_write.Write) (result : Result Accepted WriteRefusal) (old new : RecordedModule K D E L) → IsRecordKept L M old
+  pub has_room : (write : line_write.Write) (result : Result Accepted WriteRefusal) (old new : RecordedModule K D E L) → IsRecordKept L M N old
       → StepsTo L M N (events.Write write) (replies.Write result) old new → setup_of L new.running ≡ setup_of L old.running
       → new.running.front.terms.cut ≡ old.running.front.terms.cut → new.running.front.accepted ≤ new.running.front.terms.cut + new.running.front.terms.trail → IsOk result → length old.history.writes < old.history.room
   has_room write (Ok accepted) old new kept steps setup uncut within ok =
       let noted : RecordedModule K D E L = record new { history = recorded_after (events.Write write) (replies.Write (Ok accepted)) old.history } in
       let later = keeps_on (events.Write write) (replies.Write (Ok accepted)) old noted kept steps setup uncut refl in
-      let count = counted_with L M noted later in let start = starts_with L M noted later in
+      let count = counted_with noted later in let start = starts_with noted later in
       let size = length-append old.history.writes (write ∷ []) in
       omega (arith, within, later.room, count, start, size)
   has_room write (Err refusal) old new kept steps setup uncut within ok = absurd (let bad : ⊥ = cc in bad)

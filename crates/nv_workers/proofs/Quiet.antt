@@ -41,7 +41,7 @@ work_is_quiet channel None setup old new step = ap life_of step.1
 work_is_quiet channel (Some done) setup old new step = ap life_of step.1.2
 
 module _ {K D E : Type 0} (L : Ghosts K) (M : DeviceGhosts D) (N : GaugeGhosts E) where
-  module _ (event : Event) (reply : Reply) (old new : RecordedModule K D E L) (kept : IsRecordKept L M old) (steps : StepsTo L M N event reply old new) where
+  module _ (event : Event) (reply : Reply) (old new : RecordedModule K D E L) (kept : IsRecordKept L M N old) (steps : StepsTo L M N event reply old new) where
     -- as many writes are accepted as before, where the event adds none
     pub same_accepted : added event reply ≡ [] → new.running.front.accepted ≡ old.running.front.accepted
     same_accepted none = omega (arith, counts_on L M N event reply old new kept steps, ap length none)
@@ -57,7 +57,7 @@ module _ {K D E : Type 0} (L : Ghosts K) (M : DeviceGhosts D) (N : GaugeGhosts E
     pub same_marks : IsQuiet event reply → added event reply ≡ [] → (board : TableId) → marks_of L board old.running ≡ marks_of L board new.running
     same_marks quiet none board = rw (same_accepted none, same_persisted quiet) refl
 
-  module _ (write : line_write.Write) (old new : RecordedModule K D E L) (kept : IsRecordKept L M old) where
+  module _ (write : line_write.Write) (old new : RecordedModule K D E L) (kept : IsRecordKept L M N old) where
     counted : (accepted : Accepted) → StepsTo L M N (events.Write write) (replies.Write (Ok accepted)) old new → IsCounted L accepted old.running new.running
     counted accepted steps =
         let number : accepted.number ≡ old.running.front.accepted = ∥∥₁_elim kept.stands (ℕ_set _ _) (λ s. (steps s.0 s.1.stands).2.happens.step.1.1.number ∙ sym s.1.stands.matches.front.accepted) in

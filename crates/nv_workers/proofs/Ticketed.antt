@@ -16,7 +16,7 @@ line_below : (setup : Setup) (m : Machine) (line : ℕ) → read_refusal setup m
 line_below setup m line unrefused = grind arith
 
 module _ {K D E : Type 0} (L : Ghosts K) (M : DeviceGhosts D) (N : GaugeGhosts E) where
-  pub ticket_known : (line : ℕ) (got : Got) (old new : RecordedModule K D E L) → IsRecordKept L M old → StepsTo L M N (events.Read line) (replies.Read (Ok got)) old new
+  pub ticket_known : (line : ℕ) (got : Got) (old new : RecordedModule K D E L) → IsRecordKept L M N old → StepsTo L M N (events.Read line) (replies.Read (Ok got)) old new
       → IsOfChannels (setup_of L old.running).shape.channels got
   ticket_known line (Now bytes) old new kept steps = tt
   ticket_known line (Later ticket) old new kept steps =
@@ -27,7 +27,7 @@ module _ {K D E : Type 0} (L : Ghosts K) (M : DeviceGhosts D) (N : GaugeGhosts E
       omega (arith, known, step.1.0))
 
   -- the same of a read's reply, for a board of so many channels
-  pub known_where_ok : (line : ℕ) (result : Result Got ReadRefusal) (old new : RecordedModule K D E L) → IsRecordKept L M old → StepsTo L M N (events.Read line) (replies.Read result) old new
+  pub known_where_ok : (line : ℕ) (result : Result Got ReadRefusal) (old new : RecordedModule K D E L) → IsRecordKept L M N old → StepsTo L M N (events.Read line) (replies.Read result) old new
       → (channels : ℕ) → (setup_of L old.running).shape.channels ≡ channels → IfOk result (IsOfChannels channels)
   known_where_ok line (Ok got) old new kept steps channels is = subst (λ n. IsOfChannels n got) is (ticket_known line got old new kept steps)
   known_where_ok line (Err refusal) old new kept steps channels is = tt

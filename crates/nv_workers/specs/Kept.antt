@@ -10,7 +10,7 @@ use Rattle.nv_machine.specs.State.{Machine, base_of_life, start_of_life, stored_
 use Rattle.module_core.specs.Stands.{ModuleStands, setup_of}
 use Rattle.nv_workers.specs.declared.board_name.BoardName.{Ghosts as NameGhosts}
 use Rattle.nv_workers.specs.declared.recorded_module.RecordedModule.{RecordedModule}
-use Rattle.nv_workers.specs.Lived.{HasSomeLife}
+use Rattle.nv_workers.specs.Lived.{LivedUntil, world_at}
 use Rattle.nv_workers.specs.Marks.{marks_of}
 
 -- the record of a whole life, as if none of its writes had been cut off
@@ -27,20 +27,20 @@ module _ {K D E : Type 0} (L : Ghosts K) (M : DeviceGhosts D) where
   abbrev pub HasRoomForAll : RecordedModule K D E L → Type 0
   HasRoomForAll it = it.running.front.terms.trail ≤ it.history.room
 
-  -- What is true between two events: the record is that of some machine that the module and its device stand for, and there is
-  -- room.
+module _ {K D E : Type 0} (L : Ghosts K) (M : DeviceGhosts D) (N : GaugeGhosts E) where
+  -- What is true between two events: the record is that of some machine that the module and its device stand for, a life so far
+  -- leads to this machine, and there is room.
   pub record IsRecordKept (it : RecordedModule K D E L) : Type 0 where
-    pub stands : ∥ ((m : Machine) × StandsWith it m) ∥₁
-    pub room : HasRoomForAll it
+    pub stands : ∥ ((m : Machine) × StandsWith L M it m × LivedUntil (setup_of L it.running) (world_at L M N it m)) ∥₁
+    pub room : HasRoomForAll L M it
 
 module _ {K D E B : Type 0} (L : Ghosts K) (M : DeviceGhosts D) (N : GaugeGhosts E) (O : NameGhosts B) where
   -- What is true behind the lock between two events: the words and the channels are those that the board's name says; the record
-  -- is kept; some life so far leads to where module, device and gauge stand; the marks are the module's two numbers; and the
-  -- hosts have written all that was accepted since the board was opened, so many.
+  -- is kept, with the life so far; the marks are the module's two numbers; and the hosts have written all that was accepted since
+  -- the board was opened, so many.
   pub record IsBoardKept (it : RecordedModule K D E L) (words : TableId) (marks : SeenMarks) (written : ℕ) : Type 0 where
     pub board : words ≡ O.board
     pub channels : (setup_of L it.running).shape.channels ≡ O.channels
-    pub recorded : IsRecordKept L M it
-    pub lived : HasSomeLife L M N it
+    pub recorded : IsRecordKept L M N it
     pub shown : marks ≡ marks_of L O.board it.running
     pub counted : it.running.front.accepted ≡ it.running.front.terms.start + O.before + written

@@ -1,16 +1,70 @@
 -- What a module with its device and its gauge has lived through.
+use Rattle.std.specs.Prelude.{◌≡◌, ℕ, Bool, List, None}
+use Rattle.save_image.specs.Image.{Image}
+use Rattle.save_device.specs.Device.{present, faults_of, StopsWithin}
 use Rattle.save_device.specs.declared.device.SaveDevice.{Ghosts as DeviceGhosts}
+use Rattle.slot_store.specs.declared.slots.Slot.{Slot}
+use Rattle.slot_store.specs.Outcomes.{Found, restored}
+use Rattle.energy_budget.specs.Gauge.{IsHonestThrough}
 use Rattle.energy_budget.specs.declared.energy.Energy.{Ghosts as GaugeGhosts}
 use Rattle.channel_port.specs.declared.port.ChannelPort.{Ghosts}
-use Rattle.module_core.specs.ModuleLives.{LifeSoFar}
-use Rattle.module_core.specs.Stands.{Assembly, assembly}
+use Rattle.nv_machine.specs.declared.events.Event.{Event}
+use Rattle.nv_machine.specs.declared.events.Reply.{Reply}
+use Rattle.nv_machine.specs.Headline.{IsBacked, Run}
+use Rattle.nv_machine.specs.Honesty.{SavesAllAlong}
+use Rattle.nv_machine.specs.Lives.{IsLived, Lived}
+use Rattle.nv_machine.specs.Opening.{new_life}
+use Rattle.nv_machine.specs.State.{Machine, Setup, World}
+use Rattle.module_core.specs.Stands.{Assembly, assembly, world_of}
 use Rattle.nv_workers.specs.declared.recorded_module.RecordedModule.{RecordedModule}
+
+-- A life so far, which leads here: its machine was new at first, its device held the image that it was opened with, and its events
+-- are a run to this moment.
+pub record LivedUntil (setup : Setup) (now : World) : Type 0 where
+  pub slot : Slot
+  pub closed : Bool
+  pub image : Image
+  pub events : List Event
+  pub replies : List Reply
+  pub first : World
+  pub begins : first.machine ≡ new_life slot closed image
+  pub opened : StopsWithin (λ bytes. restored setup.shape.lines bytes ≡ Found slot image) (present first.device)
+  pub run : Run setup events replies first now
+
+module _ (setup : Setup) (now : World) (so : LivedUntil setup now) where
+  -- the life that ends where a stop leaves these bytes now, with no event unanswered
+  abbrev pub life_until : List ℕ → Lived
+  life_until bytes = record {
+    setup = setup;
+    slot = so.slot;
+    closed = so.closed;
+    image = so.image;
+    events = so.events;
+    replies = so.replies;
+    first = so.first;
+    last = now;
+    unanswered = None;
+    bytes = bytes;
+  }
+
+  -- Since the life began neither the gauge nor the device has counted a fault, and the gauge's leak isn't above that of the costs.
+  pub record HasBeenFaultless : Type 0 where
+    pub gauge : IsHonestThrough setup.shape.costs.numbers.leak so.first.gauge now.gauge
+    pub device : faults_of now.device ≡ faults_of so.first.device
+
+-- A life leads here, and whatever a stop leaves now ends it. Where gauge and device have been faultless since it began, the gauge
+-- backs what was acknowledged, and a loss of mains while acknowledged writes were to be saved has saved all that were accepted.
+pub record IsInLife (setup : Setup) (now : World) : Type 0 where
+  pub so : LivedUntil setup now
+  pub ends : StopsWithin (λ bytes. IsLived (life_until setup now so bytes)) (present now.device)
+  pub backed : HasBeenFaultless setup now so → IsBacked setup now.machine now.gauge
+  pub saves : HasBeenFaultless setup now so → SavesAllAlong setup so.events so.replies so.first now so.run
 
 module _ {K D E : Type 0} (L : Ghosts K) (M : DeviceGhosts D) (N : GaugeGhosts E) where
   -- the module, and what is known of its device and of its gauge
   abbrev pub assembly_of : RecordedModule K D E L → Assembly L
   assembly_of it = assembly it.running (M.state it.device) (N.gauge it.energy)
 
-  -- some life so far leads to where they stand
-  abbrev pub HasSomeLife : RecordedModule K D E L → Type 0
-  HasSomeLife it = ∥ LifeSoFar L (assembly_of it) ∥₁
+  -- the world in which they stand for a machine
+  abbrev pub world_at : RecordedModule K D E L → Machine → World
+  world_at it m = world_of L (assembly_of it) m

@@ -2,7 +2,6 @@
 ghost use Rattle.std.specs.Prelude.{◌≡◌, ◌+◌, ◌≤◌, All, length, sum_by, IfOk, IfErr};
 ghost use Rattle.nv_workers.specs.declared.held.Held.{Held};
 ghost use Rattle.nv_workers.specs.Kept.{IsRecordKept};
-ghost use Rattle.nv_workers.specs.Lived.{HasSomeLife};
 ghost use Rattle.nv_workers.specs.Ending.{HasChecked, HasStranger, cut};
 
 use crate::board::Board;
@@ -90,8 +89,7 @@ impl<K: ChannelPort, D: SaveDevice, E: Energy, B: BoardName> Held<K, D, E, B> {
         E: Drop,
         requires { length hosts.items ≡ B.parts }
         ensures same { result ≡ self.recorded }
-        ensures kept { IsRecordKept K.ChannelPort D.SaveDevice result }
-        ensures lived { HasSomeLife K.ChannelPort D.SaveDevice E.Energy result }
+        ensures kept { IsRecordKept K.ChannelPort D.SaveDevice E.Energy result }
         ensures shares { result.running.front.accepted
             ≡ result.running.front.terms.start + B.before + sum_by (λ h. h.writes) hosts.items }
         ensures marks { All (λ h. h.persisted ≤ result.running.front.persisted) hosts.items }
@@ -132,9 +130,8 @@ impl<K: ChannelPort, D: SaveDevice, E: Energy, B: BoardName> Held<K, D, E, B> {
             ≡ c.recorded.running.front.terms.start + B.before + sum_by (λ h. h.writes) hosts.items) }
         ensures marks { IfOk result (λ c.
             All (λ h. h.persisted ≤ c.recorded.running.front.persisted) hosts.items) }
-        ensures kept { IfOk result (λ c. IsRecordKept K.ChannelPort D.SaveDevice c.recorded) }
-        ensures lived { IfOk result (λ c.
-            HasSomeLife K.ChannelPort D.SaveDevice E.Energy c.recorded) }
+        ensures kept { IfOk result (λ c.
+            IsRecordKept K.ChannelPort D.SaveDevice E.Energy c.recorded) }
         ensures stranger { IfErr result (λ left.
             HasStranger K.ChannelPort self.recorded receipts.now answers.now left.stranger) }
         ensures same { IfErr result (λ left. left.held ≡ self) }
@@ -185,8 +182,7 @@ where
         ≡ c.recorded.running.front.terms.start + B.before + sum_by (λ h. h.writes) hosts.items) }
     ensures marks { IfOk result (λ c.
         All (λ h. h.persisted ≤ c.recorded.running.front.persisted) hosts.items) }
-    ensures kept { IfOk result (λ c. IsRecordKept K.ChannelPort D.SaveDevice c.recorded) }
-    ensures lived { IfOk result (λ c. HasSomeLife K.ChannelPort D.SaveDevice E.Energy c.recorded) }
+    ensures kept { IfOk result (λ c. IsRecordKept K.ChannelPort D.SaveDevice E.Energy c.recorded) }
     ensures hosts { IfErr result (λ left. left.hosts ≡ hosts) }
     ensures stranger { IfErr result (λ left.
         (held : Held K D E B K.ChannelPort D.SaveDevice E.Energy B.BoardName.own)

@@ -5,7 +5,6 @@ ghost use Rattle.std.specs.Arc.{arc_value};
 ghost use Rattle.nv_machine.specs.Rising.{added};
 ghost use Rattle.module_core.specs.Stands.{setup_of};
 ghost use Rattle.nv_workers.specs.Kept.{IsBoardKept, IsRecordKept};
-ghost use Rattle.nv_workers.specs.Lived.{HasSomeLife};
 ghost use Rattle.nv_workers.specs.Marks.{IsCounted, ShowsNoMore, marks_of};
 
 use crate::board_name::BoardName;
@@ -67,8 +66,7 @@ impl<K: ChannelPort, D: SaveDevice, E: Energy, B: BoardName> Held<K, D, E, B> {
         requires board { arc_value marks ≡ B.board }
         requires channels { (setup_of K.ChannelPort recorded.running).shape.channels
             ≡ B.channels }
-        requires kept { IsRecordKept K.ChannelPort D.SaveDevice recorded }
-        requires lived { HasSomeLife K.ChannelPort D.SaveDevice E.Energy recorded }
+        requires kept { IsRecordKept K.ChannelPort D.SaveDevice E.Energy recorded }
         requires seat { seat ≡ marks_of K.ChannelPort B.board recorded.running }
         requires counted { recorded.running.front.accepted
             ≡ recorded.running.front.terms.start + B.before + tally.book.total }

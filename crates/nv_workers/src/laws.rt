@@ -4,18 +4,23 @@ ghost use Rattle.line_memory.specs.History.{TellsSameFrom};
 ghost use Rattle.nv_machine.specs.State.{Machine};
 ghost use Rattle.nv_workers.specs.declared.recorded_module.RecordedModule.{RecordedModule};
 ghost use Rattle.nv_workers.specs.Kept.{StandsWith, whole_record};
-ghost use Rattle.nv_workers.specs.Lived.{HasSomeLife};
+ghost use Rattle.nv_workers.specs.Lived.{IsInLife, world_at};
+ghost use Rattle.module_core.specs.Stands.{ModuleStands, setup_of};
 
 use crate::board_name::BoardName;
 use channel_port::ChannelPort;
 use energy_budget::Energy;
 use save_device::SaveDevice;
 
-/// What lies behind the lock has answered some events since its life began, with its device and its gauge. So whoever holds the
-/// lock has what the laws of lives say of them, and what `honest_modules` says of a gauge that is honest.
+/// What lies behind the lock is in a life, with its device and its gauge: it has answered some events since a machine that was new,
+/// and whatever a stop leaves of the device now ends this life, of which `survives_any_stop` speaks. Where neither gauge nor device
+/// has counted a fault since the life began, the gauge backs what was acknowledged, and no loss of mains has lost any of it.
 pub fn boards_keep_lives<K: ChannelPort, D: SaveDevice, E: Energy, B: BoardName>()
     ensures { (held : Held K D E B K.ChannelPort D.SaveDevice E.Energy B.BoardName.own)
-        → HasSomeLife K.ChannelPort D.SaveDevice E.Energy held.recorded }
+        → ∥ ((m : Machine)
+        × ModuleStands K.ChannelPort held.recorded.running (D.state held.recorded.device) m
+        × IsInLife (setup_of K.ChannelPort held.recorded.running)
+        (world_at K.ChannelPort D.SaveDevice E.Energy held.recorded m)) ∥₁ }
 {}
 
 /// What is recorded of a life tells of each number from its beginning on what the whole life tells, whatever was cut off it: the

@@ -5,7 +5,6 @@ ghost use Rattle.mark_board.specs.SeenMarks.{AllHaveSeen, seen_marks};
 ghost use Rattle.module_core.specs.Stands.{setup_of};
 ghost use Rattle.nv_workers.specs.Client.{client};
 ghost use Rattle.nv_workers.specs.Kept.{IsRecordKept};
-ghost use Rattle.nv_workers.specs.Lived.{HasSomeLife};
 
 use crate::board::Board;
 use crate::board_name::BoardName;
@@ -78,8 +77,7 @@ pub fn start<K: ChannelPort, D: SaveDevice, E: Energy, B: BoardName, N: Notices>
     requires board { opening.board ≡ B.board }
     requires mark { opening.mark ≤ recorded.running.front.persisted }
     requires before { recorded.running.front.accepted ≡ recorded.running.front.terms.start + B.before }
-    requires kept { IsRecordKept K.ChannelPort D.SaveDevice recorded }
-    requires lived { HasSomeLife K.ChannelPort D.SaveDevice E.Energy recorded }
+    requires kept { IsRecordKept K.ChannelPort D.SaveDevice E.Energy recorded }
     requires channels { (setup_of K.ChannelPort recorded.running).shape.channels ≡ B.channels }
     ensures number { IfOk result (λ s. vec_len s.hosts ≡ B.parts) }
     ensures hosts { IfOk result (λ s.

@@ -1,5 +1,4 @@
 use Rattle.std.proofs.Common.{◌≡◌, ◌∙◌, ℕ, ap, rules, subst, sym}
-use Rattle.std.proofs.lemmas.Grind.{merely}
 use Rattle.save_device.specs.Device.{DeviceState}
 use Rattle.save_image.specs.Image.{Image}
 use Rattle.slot_store.specs.Outcomes.{Found, restored}
@@ -9,7 +8,6 @@ use Rattle.slot_store.specs.Told.{image_of_restored}
 use Rattle.nv_machine.specs.State.{Setup}
 use Rattle.module_core.specs.Opening.{opened_with}
 use Rattle.module_core.specs.Stands.{ModuleStands}
-use Rattle.module_core.proofs.CallsInTurn.{life_begins}
 use Rattle.ddr4_boards.proofs.NewLives.{new_is_kept, new_is_whole}
 use Rattle.ddr4_boards.proofs.opening.open.Goals as goal
 use Rattle.ddr4_boards.proofs.opening.open.Goals.{In-Ok-begin}
@@ -28,7 +26,7 @@ begun_stands g c =
 pub invariant_of-result-clause-kept : goal.invariant_of-result-clause-kept
 invariant_of-result-clause-kept g c =
     let it = c.in-Ok.restored in
-    new_is_kept _ g.D.SaveDevice _ it.head (image_of_restored it c.in-Ok.ensures.found.arm) c.args.profile.now.sizes.trail
+    new_is_kept _ g.D.SaveDevice g.E.Energy _ it.head (image_of_restored it c.in-Ok.ensures.found.arm) c.args.profile.now.sizes.trail
     (begun_stands g (goal.at.invariant_of-result-clause-kept g c).In-Ok-begin) (search rules)
     (ap (λ (s : Setup). s.trail) c.in-Ok-begin.ensures.setup.is)
 
@@ -47,11 +45,6 @@ invariant_of-result-clause-sized g c =
 
 pub invariant_of-result-clause-counted : goal.invariant_of-result-clause-counted
 invariant_of-result-clause-counted g c = sym (ap (λ (s : Setup). s.shape.channels) c.in-Ok-begin.ensures.setup.is)
-
-pub invariant_of-result-clause-lived : goal.invariant_of-result-clause-lived
-invariant_of-result-clause-lived g c =
-    let it = c.in-Ok.restored in
-    merely (life_begins _ it.head (image_of_restored it c.in-Ok.ensures.found.arm) _ (begun_stands g (goal.at.invariant_of-result-clause-lived g c).In-Ok-begin))
 
 pub returns-clause-restored : goal.returns-clause-restored
 returns-clause-restored g c =

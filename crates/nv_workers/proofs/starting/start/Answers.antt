@@ -12,7 +12,7 @@ publish-requires-clause-shown g c =
     let least = subst (λ (o : OpeningView). o.mark ≤ it.running.front.persisted) (sym c.opening.view_is) c.requires.mark in
     rw (c.accepted.ensures.is, c.mark.ensures)
     (subst (λ (m : SeenMarks). ShowsNoMore it.running.front.accepted it.running.front.persisted m) (sym c.opening.invariant.0)
-    (opening_shows_no_more g.K.ChannelPort g.D.SaveDevice it c.requires.kept inside.marks inside.mark least))
+    (opening_shows_no_more g.K.ChannelPort g.D.SaveDevice g.E.Energy it c.requires.kept inside.marks inside.mark least))
 
 pub returns-clause-hosts : goal.returns-clause-hosts
 returns-clause-hosts g c = subst (λ (o : OpeningView). All (λ (h : Client). h ≡ client o.mark o.mark 0 []) c.in-Ok-seated.hosts.items) c.opening.view_is c.in-Ok-seated.ensures.hosts

@@ -10,7 +10,7 @@ invariant_of-self g c =
       kept = record {
         table = slot.kept.table;
         channel_is = slot.kept.channel_is;
-        part_is = still_due L g.B.PartsName slot.part part later (L.view later.port).waits (L.view part.port).stored g.row.CHANNEL slot.seat.log c.in-Some.is c.collect.ensures.stands c.collect.ensures.rest slot.kept.part_is;
+        part_is = still_due L g.B.PartsName slot.part part later (L.view later.port).waits (L.view part.port).stored g.C.ChannelName.NUMBER slot.seat.log c.in-Some.is c.collect.ensures.stands c.collect.ensures.rest slot.kept.part_is;
       };
     }
 

@@ -10,7 +10,7 @@ invariant_of-self g c =
       kept = record {
         table = slot.kept.table;
         channel_is = slot.kept.channel_is;
-        part_is = still_due L g.B.PartsName slot.part c.in-Some.part later (L.view later.port).waits (L.view later.port).stored g.row.CHANNEL slot.seat.log c.in-Some.is c.work.ensures.stands c.work.ensures.rest slot.kept.part_is;
+        part_is = still_due L g.B.PartsName slot.part c.in-Some.part later (L.view later.port).waits (L.view later.port).stored g.C.ChannelName.NUMBER slot.seat.log c.in-Some.is c.work.ensures.stands c.work.ensures.rest slot.kept.part_is;
       };
     }
 

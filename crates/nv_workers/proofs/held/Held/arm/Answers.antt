@@ -6,7 +6,7 @@ use Rattle.nv_workers.proofs.Holding.{has_device}
 use Rattle.nv_workers.proofs.held.Held.arm.Goals as goal
 
 pub arm-reply-requires : goal.arm-reply-requires
-arm-reply-requires g c = has_device g.K.ChannelPort g.D.SaveDevice c.args.self.now.recorded c.args.self.now.kept.recorded
+arm-reply-requires g c = has_device g.K.ChannelPort g.D.SaveDevice g.E.Energy c.args.self.now.recorded c.args.self.now.kept.recorded
 
 pub publish-requires-clause-shown : goal.publish-requires-clause-shown
 publish-requires-clause-shown g c =

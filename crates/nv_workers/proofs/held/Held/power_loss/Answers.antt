@@ -6,7 +6,7 @@ use Rattle.nv_workers.proofs.Holding.{has_device}
 use Rattle.nv_workers.proofs.held.Held.power_loss.Goals as goal
 
 pub power_loss_with-reply-requires-clause-size : goal.power_loss_with-reply-requires-clause-size
-power_loss_with-reply-requires-clause-size g c _ _ = has_device g.K.ChannelPort g.D.SaveDevice c.args.self.now.recorded c.args.self.now.kept.recorded
+power_loss_with-reply-requires-clause-size g c _ _ = has_device g.K.ChannelPort g.D.SaveDevice g.E.Energy c.args.self.now.recorded c.args.self.now.kept.recorded
 
 pub publish-requires-clause-shown : goal.publish-requires-clause-shown
 publish-requires-clause-shown g c =

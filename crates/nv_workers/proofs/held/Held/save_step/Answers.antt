@@ -6,7 +6,7 @@ use Rattle.nv_workers.proofs.Holding.{has_device}
 use Rattle.nv_workers.proofs.held.Held.save_step.Goals as goal
 
 pub save_step-reply-requires : goal.save_step-reply-requires
-save_step-reply-requires g c = record { size = has_device g.K.ChannelPort g.D.SaveDevice c.args.self.now.recorded c.args.self.now.kept.recorded }
+save_step-reply-requires g c = record { size = has_device g.K.ChannelPort g.D.SaveDevice g.E.Energy c.args.self.now.recorded c.args.self.now.kept.recorded }
 
 pub publish-requires-clause-shown : goal.publish-requires-clause-shown
 publish-requires-clause-shown g c =

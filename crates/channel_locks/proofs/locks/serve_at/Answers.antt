@@ -1,0 +1,13 @@
+use Rattle.std.proofs.Common.{ℕ, subst, sym}
+use Rattle.channel_locks.specs.Lent.{IsLentBy}
+use Rattle.channel_locks.proofs.locks.serve_at.Goals as goal
+
+pub returns : goal.returns
+returns g c =
+    let slot = c.deref_mut.result.now in
+    record {
+      before = slot.part;
+      after = c.serve.new.self.part;
+      lent = subst (λ (channel : ℕ). IsLentBy g.K.ChannelPort g.B.PartsName channel slot.part) (sym c.requires) (slot.seat.log, slot.kept.part_is);
+      serves = c.serve.ensures.serves;
+    }
