@@ -5,7 +5,7 @@ ghost use Rattle.mark_board.specs.SeenMarks.{IsNotAbove, seen_marks};
 use crate::desk::Desk;
 use crate::noting::look_at;
 use arm_state::ReadRefusal;
-use channel_locks::{PartsName, Slot};
+use channel_locks::{ChannelName, PartsName, Slot};
 use channel_port::ChannelPort;
 use energy_budget::Energy;
 use mark_board::HostSeat;
@@ -28,30 +28,30 @@ impl<K: ChannelPort, D: SaveDevice, E: Energy, B: BoardName + PartsName> Desk<K,
 
     /// Reads a line of the slot's channel for a host, whose seat then sees the marks: the bytes or a ticket, and how many writes were
     /// accepted before. What the channel did since both locks were held is seen before, and its returned credits are taken back.
-    pub fn read<const CHANNEL: u64>(
+    pub fn read<C: ChannelName>(
         &mut self,
-        slot: &mut Slot<K, B, CHANNEL>,
+        slot: &mut Slot<K, B, C>,
         host: &mut HostSeat,
         line: u64,
     ) -> Result<GotAt, ReadRefusal>
-        requires has { CHANNEL < B.ports }
-        requires here { line < B.make.lines → (B.make.place_of line).channel ≡ CHANNEL }
+        requires has { C.NUMBER < B.ports }
+        requires here { line < B.make.lines → (B.make.place_of line).channel ≡ C.NUMBER }
         requires host { host.old.board ≡ B.board }
-        ensures ok { IfOk result (λ r. DeskAnswers B.PartsName.own CHANNEL
+        ensures ok { IfOk result (λ r. DeskAnswers B.PartsName.own C.NUMBER
             (Event.Read line) (Reply.Read (Ok r.got))
             (view_of K.ChannelPort D.SaveDevice E.Energy B.BoardName.own B.PartsName.own self.old)
             (view_of K.ChannelPort D.SaveDevice E.Energy B.BoardName.own B.PartsName.own
             self.new)) }
-        ensures err { IfErr result (λ refusal. DeskAnswers B.PartsName.own CHANNEL
+        ensures err { IfErr result (λ refusal. DeskAnswers B.PartsName.own C.NUMBER
             (Event.Read line) (Reply.Read (Err refusal))
             (view_of K.ChannelPort D.SaveDevice E.Energy B.BoardName.own B.PartsName.own self.old)
             (view_of K.ChannelPort D.SaveDevice E.Energy B.BoardName.own B.PartsName.own
             self.new)) }
-        ensures ticket { IfOk result (λ r. IsTicketOf CHANNEL r.got) }
+        ensures ticket { IfOk result (λ r. IsTicketOf C.NUMBER r.got) }
         ensures at { IfOk result (λ r. r.at ≡ self.old.split.front.accepted) }
         ensures same { SameButCounts K.ChannelPort D.SaveDevice E.Energy B.BoardName.own
             B.PartsName.own self.old self.new }
-        ensures elsewhere { SameElsewhere CHANNEL self.old.known.logs self.new.known.logs }
+        ensures elsewhere { SameElsewhere C.NUMBER self.old.known.logs self.new.known.logs }
         ensures seen { host.new ≡ seen_marks B.board
             self.old.split.front.accepted self.old.split.front.persisted }
         ensures rises { IsNotAbove host.old host.new }

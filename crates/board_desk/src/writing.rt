@@ -8,7 +8,7 @@ ghost use Rattle.nv_workers.specs.Marks.{ShowsNoMore};
 use crate::desk::Desk;
 use crate::noting::note_write;
 use arm_state::WriteRefusal;
-use channel_locks::{PartsName, Slot};
+use channel_locks::{ChannelName, PartsName, Slot};
 use channel_port::ChannelPort;
 use energy_budget::Energy;
 use line_memory::Write;
@@ -36,19 +36,19 @@ impl<K: ChannelPort, D: SaveDevice, E: Energy, B: BoardName + PartsName> Desk<K,
 
     /// Writes a line of the slot's channel for a host, whose share counts the write if it was accepted, and whose seat then sees the
     /// marks. What the channel did since both locks were held is seen before, and its returned credits are taken back.
-    pub fn write<const CHANNEL: u64>(
+    pub fn write<C: ChannelName>(
         &mut self,
-        slot: &mut Slot<K, B, CHANNEL>,
+        slot: &mut Slot<K, B, C>,
         host: &mut HostSeat,
         share: &mut Share<B>,
         write: Write,
     ) -> Result<Accepted, WriteRefusal>
-        requires has { CHANNEL < B.ports }
+        requires has { C.NUMBER < B.ports }
         requires here { write.line < B.make.lines
-            → (B.make.place_of write.line).channel ≡ CHANNEL }
+            → (B.make.place_of write.line).channel ≡ C.NUMBER }
         requires host { host.old.board ≡ B.board }
         requires part { 0 < share.old.parts }
-        ensures answers { DeskAnswers B.PartsName.own CHANNEL
+        ensures answers { DeskAnswers B.PartsName.own C.NUMBER
             (Event.Write write) (Reply.Write result)
             (view_of K.ChannelPort D.SaveDevice E.Energy B.BoardName.own B.PartsName.own self.old)
             (view_of K.ChannelPort D.SaveDevice E.Energy B.BoardName.own B.PartsName.own self.new) }
@@ -56,7 +56,7 @@ impl<K: ChannelPort, D: SaveDevice, E: Energy, B: BoardName + PartsName> Desk<K,
             AcceptsOne self.old.split.front accepted self.new.split.front) }
         ensures rest { KeepsAround K.ChannelPort D.SaveDevice E.Energy B.BoardName.own
             B.PartsName.own self.old self.new }
-        ensures elsewhere { SameElsewhere CHANNEL self.old.known.logs self.new.known.logs }
+        ensures elsewhere { SameElsewhere C.NUMBER self.old.known.logs self.new.known.logs }
         ensures history { self.new.history.writes
             ≡ self.old.history.writes ++ added (Event.Write write) (Reply.Write result) }
         ensures seen { host.new ≡ seen_marks B.board

@@ -33,7 +33,7 @@ use Rattle.board_desk.proofs.desk.Desk.read.Goals as goal
 pub unreachable-requires : goal.unreachable-requires
 unreachable-requires g c =
     let slot = c.settle.new.slot in
-    let beyond = none_due g.B.PartsName g.K.ChannelPort slot.part g.row.CHANNEL slot.seat.log c.in_default.is slot.kept.part_is in
+    let beyond = none_due g.B.PartsName g.K.ChannelPort slot.part g.C.ChannelName.NUMBER slot.seat.log c.in_default.is slot.kept.part_is in
     let has = c.requires.has in
     absurd (omega (arith, beyond, has))
 
@@ -44,37 +44,37 @@ module _ (g : Over) (c : After-inform g) where
   abbrev mid : DeskView
   mid = view_of g.K.ChannelPort g.D.SaveDevice g.E.Energy g.B.BoardName g.B.PartsName c.settle.new.self
 
-  due : IsDue P g.K.ChannelPort c.in-Some.part g.row.CHANNEL c.settle.new.slot.seat.log
-  due = let slot = c.settle.new.slot in due_part P g.K.ChannelPort slot.part c.in-Some.part g.row.CHANNEL slot.seat.log c.in-Some.is slot.kept.part_is
+  due : IsDue P g.K.ChannelPort c.in-Some.part g.C.ChannelName.NUMBER c.settle.new.slot.seat.log
+  due = let slot = c.settle.new.slot in due_part P g.K.ChannelPort slot.part c.in-Some.part g.C.ChannelName.NUMBER slot.seat.log c.in-Some.is slot.kept.part_is
 
   settled : IsSettledPart g.K.ChannelPort c.settle.new.self.known.logs c.in-Some.part c.settle.new.slot.seat.log
   settled = subst (λ p. IsSettled g.K.ChannelPort c.settle.new.self.known.logs p c.settle.new.slot.seat.log) c.in-Some.is c.settle.ensures.settled
 
-  own : c.in-Some.part.channel ≡ g.row.CHANNEL
-  own = channel_due P g.K.ChannelPort c.in-Some.part g.row.CHANNEL c.settle.new.slot.seat.log due
+  own : c.in-Some.part.channel ≡ g.C.ChannelName.NUMBER
+  own = channel_due P g.K.ChannelPort c.in-Some.part g.C.ChannelName.NUMBER c.settle.new.slot.seat.log due
 
-  of : IsLogOf c.settle.new.self.known.logs g.row.CHANNEL c.settle.new.slot.seat.log
+  of : IsLogOf c.settle.new.self.known.logs g.C.ChannelName.NUMBER c.settle.new.slot.seat.log
   of = subst (λ k. IsLogOf c.settle.new.self.known.logs k c.settle.new.slot.seat.log) own settled.agreed
 
 pub read_on-requires-clause-lines : goal.read_on-requires-clause-lines
 read_on-requires-clause-lines g c =
     let at = goal.at.read_on-requires-clause-lines g c in
     let it = at.After-inform in
-    part_lines g.B.PartsName (mid g it) c.settle.new.self.kept.stands g.K.ChannelPort c.in-Some.part g.row.CHANNEL c.settle.new.slot.seat.log (due g it) (of g it)
+    part_lines g.B.PartsName (mid g it) c.settle.new.self.kept.stands g.K.ChannelPort c.in-Some.part g.C.ChannelName.NUMBER c.settle.new.slot.seat.log (due g it) (of g it)
 
 pub read_on-requires-clause-here : goal.read_on-requires-clause-here
 read_on-requires-clause-here g c = λ less.
     let at = goal.at.read_on-requires-clause-here g c in
     let it = at.After-inform in
     let stands = c.settle.new.self.kept.stands in
-    part_place g.B.PartsName (mid g it) stands g.K.ChannelPort c.in-Some.part g.row.CHANNEL c.settle.new.slot.seat.log (due g it) (of g it) c.args.line
+    part_place g.B.PartsName (mid g it) stands g.K.ChannelPort c.in-Some.part g.C.ChannelName.NUMBER c.settle.new.slot.seat.log (due g it) (of g it) c.args.line
     (c.requires.here (subst (λ n. c.args.line < n) (lines_are g.B.PartsName (mid g it) stands) less))
 
 pub read_on-requires-clause-ended : goal.read_on-requires-clause-ended
 read_on-requires-clause-ended g c =
     let at = goal.at.read_on-requires-clause-ended g c in
     let it = at.After-inform in
-    part_ended g.B.PartsName (mid g it) c.settle.new.self.kept.stands g.K.ChannelPort c.in-Some.part g.row.CHANNEL c.settle.new.slot.seat.log (due g it) (of g it)
+    part_ended g.B.PartsName (mid g it) c.settle.new.self.kept.stands g.K.ChannelPort c.in-Some.part g.C.ChannelName.NUMBER c.settle.new.slot.seat.log (due g it) (of g it)
 
 -- The read was answered, and what waits then was noted.
 module _ (g : Over) (c : After-look_at g) where
@@ -87,16 +87,16 @@ module _ (g : Over) (c : After-look_at g) where
   abbrev note : LogNote
   note = note_of Looked (g.K.ChannelPort.view c.read_on.new.part.port).waits
 
-  part_due : IsDue g.B.PartsName g.K.ChannelPort c.in-Some.part g.row.CHANNEL c.settle.new.slot.seat.log
-  part_due = let slot = c.settle.new.slot in due_part g.B.PartsName g.K.ChannelPort slot.part c.in-Some.part g.row.CHANNEL slot.seat.log c.in-Some.is slot.kept.part_is
+  part_due : IsDue g.B.PartsName g.K.ChannelPort c.in-Some.part g.C.ChannelName.NUMBER c.settle.new.slot.seat.log
+  part_due = let slot = c.settle.new.slot in due_part g.B.PartsName g.K.ChannelPort slot.part c.in-Some.part g.C.ChannelName.NUMBER slot.seat.log c.in-Some.is slot.kept.part_is
 
   part_settled : IsSettledPart g.K.ChannelPort c.settle.new.self.known.logs c.in-Some.part c.settle.new.slot.seat.log
   part_settled = subst (λ p. IsSettled g.K.ChannelPort c.settle.new.self.known.logs p c.settle.new.slot.seat.log) c.in-Some.is c.settle.ensures.settled
 
-  part_own : c.in-Some.part.channel ≡ g.row.CHANNEL
-  part_own = channel_due g.B.PartsName g.K.ChannelPort c.in-Some.part g.row.CHANNEL c.settle.new.slot.seat.log part_due
+  part_own : c.in-Some.part.channel ≡ g.C.ChannelName.NUMBER
+  part_own = channel_due g.B.PartsName g.K.ChannelPort c.in-Some.part g.C.ChannelName.NUMBER c.settle.new.slot.seat.log part_due
 
-  part_of : IsLogOf c.settle.new.self.known.logs g.row.CHANNEL c.settle.new.slot.seat.log
+  part_of : IsLogOf c.settle.new.self.known.logs g.C.ChannelName.NUMBER c.settle.new.slot.seat.log
   part_of = subst (λ k. IsLogOf c.settle.new.self.known.logs k c.settle.new.slot.seat.log) part_own part_settled.agreed
 
   -- it is one event of whichever machine the desk stood for
@@ -106,7 +106,7 @@ module _ (g : Over) (c : After-look_at g) where
       let slot = c.settle.new.slot in
       let log = slot.seat.log in
       let part = c.in-Some.part in
-      let seen = part_seen g.B.PartsName before desk.kept.stands g.K.ChannelPort part g.row.CHANNEL log part_due part_of part_settled.waits in
+      let seen = part_seen g.B.PartsName before desk.kept.stands g.K.ChannelPort part g.C.ChannelName.NUMBER log part_due part_of part_settled.waits in
       let logs = logs_noted note desk.known desk.known c.look_at.new.known slot.seat slot.seat c.look_at.new.seat c.look_at.ensures.noted refl refl part.channel (slot.kept.channel_is ∙ sym part_own) in
       ∥∥₁_map part_due
       (λ h.
@@ -114,7 +114,7 @@ module _ (g : Over) (c : After-look_at g) where
       subst (λ b. PartStands g.K.ChannelPort part part.channel b log) (sym s.base) (subst (λ k. PartStands g.K.ChannelPort part k g.B.PartsName.base log) (sym part_own) h.1.stands) in
       let read = c.in-Ok.ensures.reads (shape_at g.B.PartsName before) m before.logs log s.stands part_settled.agreed seen here (λ less. c.requires.here less ∙ sym part_own) in
       read_answered g.B.PartsName before m s desk.kept.shape now refl refl refl refl refl refl refl g.K.ChannelPort part c.read_on.new.part log
-      (has_channel g.B.PartsName before desk.kept.stands g.K.ChannelPort part g.row.CHANNEL log part_due part_of) c.args.line c.in-Ok.got read refl logs c.look_at.ensures.most refl)
+      (has_channel g.B.PartsName before desk.kept.stands g.K.ChannelPort part g.C.ChannelName.NUMBER log part_due part_of) c.args.line c.in-Ok.got read refl logs c.look_at.ensures.most refl)
 
 pub invariant_of-slot : goal.invariant_of-slot
 invariant_of-slot g c =
@@ -124,12 +124,12 @@ invariant_of-slot g c =
     let slot = c.settle.new.slot in
     let later = c.read_on.new.part in
     record {
-      kept = subst (λ (s : OneLog). IsSlotKept L g.B.PartsName (Some later) s g.row.CHANNEL)
+      kept = subst (λ (s : OneLog). IsSlotKept L g.B.PartsName (Some later) s g.C.ChannelName.NUMBER)
           (sym (seat_noted (note g it) c.settle.new.self.known c.settle.new.self.known c.look_at.new.known slot.seat slot.seat c.look_at.new.seat c.look_at.ensures.noted refl refl))
           (record {
             table = slot.kept.table;
             channel_is = slot.kept.channel_is;
-            part_is = due_noted g.B.PartsName L Looked c.in-Some.part later g.row.CHANNEL slot.seat.log c.in-Ok.ensures.stands (record { rise = c.always.ensures }) tt (ap (λ (v : PortView). make_of v) c.in-Ok.ensures.rest) (part_due g it);
+            part_is = due_noted g.B.PartsName L Looked c.in-Some.part later g.C.ChannelName.NUMBER slot.seat.log c.in-Ok.ensures.stands (record { rise = c.always.ensures }) tt (ap (λ (v : PortView). make_of v) c.in-Ok.ensures.rest) (part_due g it);
           });
     }
 
@@ -156,15 +156,15 @@ returns-in-Ok-clause-ok g c = λ m s.
     (λ on.
     ∥∥₁_map (followed g it on.seen on.stands)
     (λ f.
-    behind g.B.PartsName g.row.CHANNEL (Event.Read c.args.line) (Reply.Read (Ok c.in-Ok.got)) old (before g it) (now g it) m same.front same.costs (ap g.D.SaveDevice.state same.device) (ap g.E.Energy.gauge same.energy) on f))
+    behind g.B.PartsName g.C.ChannelName.NUMBER (Event.Read c.args.line) (Reply.Read (Ok c.in-Ok.got)) old (before g it) (now g it) m same.front same.costs (ap g.D.SaveDevice.state same.device) (ap g.E.Energy.gauge same.energy) on f))
 
 pub returns-in-Ok-clause-ticket : goal.returns-in-Ok-clause-ticket
 returns-in-Ok-clause-ticket g c =
     let at = goal.at.returns-in-Ok-clause-ticket g c in
     let it = at.After-look_at in
-    ticket_of c.in-Ok.got g.row.CHANNEL
+    ticket_of c.in-Ok.got g.C.ChannelName.NUMBER
     (∥∥₁_elim c.settle.new.self.kept.stands ∥∥₁_prop
-    (λ s. ∥∥₁_map (followed g it s.0 s.1) (λ f. ticket_stepped (setup_at g.B.PartsName (before g it)) s.0 f.later c.args.line c.in-Ok.got g.row.CHANNEL f.happens.step.1 c.requires.here)))
+    (λ s. ∥∥₁_map (followed g it s.0 s.1) (λ f. ticket_stepped (setup_at g.B.PartsName (before g it)) s.0 f.later c.args.line c.in-Ok.got g.C.ChannelName.NUMBER f.happens.step.1 c.requires.here)))
 
 pub returns-in-Ok-clause-elsewhere : goal.returns-in-Ok-clause-elsewhere
 returns-in-Ok-clause-elsewhere g c = λ other apart.
@@ -172,12 +172,12 @@ returns-in-Ok-clause-elsewhere g c = λ other apart.
     let it = at.After-look_at in
     let desk = c.settle.new.self in
     let slot = c.settle.new.slot in
-    elsewhere_noted (note g it) desk.known desk.known c.look_at.new.known slot.seat slot.seat c.look_at.new.seat c.look_at.ensures.noted refl refl g.row.CHANNEL slot.kept.channel_is other apart ∙ c.settle.ensures.elsewhere other apart
+    elsewhere_noted (note g it) desk.known desk.known c.look_at.new.known slot.seat slot.seat c.look_at.new.seat c.look_at.ensures.noted refl refl g.C.ChannelName.NUMBER slot.kept.channel_is other apart ∙ c.settle.ensures.elsewhere other apart
 
 pub invariant_of-slot-in-Err-1 : goal.invariant_of-slot-in-Err-1
 invariant_of-slot-in-Err-1 g c =
     let slot = c.settle.new.slot in
-    record { kept = subst (λ part. IsSlotKept g.K.ChannelPort g.B.PartsName part slot.seat g.row.CHANNEL) (c.in-Some.is ∙ sym (ap Some c.in-Err.ensures.same)) slot.kept }
+    record { kept = subst (λ part. IsSlotKept g.K.ChannelPort g.B.PartsName part slot.seat g.C.ChannelName.NUMBER) (c.in-Some.is ∙ sym (ap Some c.in-Err.ensures.same)) slot.kept }
 
 pub returns-in-Err-clause-err : goal.returns-in-Err-clause-err
 returns-in-Err-clause-err g c = λ m s.
@@ -193,10 +193,10 @@ returns-in-Err-clause-err g c = λ m s.
     (λ on.
     ∥∥₁_map (due g it)
     (λ h.
-    let seen = part_seen P (mid g it) desk.kept.stands g.K.ChannelPort part g.row.CHANNEL log (due g it) (of g it) (settled g it).waits in
+    let seen = part_seen P (mid g it) desk.kept.stands g.K.ChannelPort part g.C.ChannelName.NUMBER log (due g it) (of g it) (settled g it).waits in
     let here : PartStands g.K.ChannelPort part part.channel (base_of_life on.seen.life) log =
     subst (λ b. PartStands g.K.ChannelPort part part.channel b log) (sym on.stands.base) (subst (λ k. PartStands g.K.ChannelPort part k P.base log) (sym (own g it)) h.1.stands) in
     let read = c.in-Err.ensures.reads (shape_at P (mid g it)) on.seen desk.known.logs log on.stands.stands (settled g it).agreed seen here (λ less. c.requires.here less ∙ sym (own g it)) in
-    behind P g.row.CHANNEL (Event.Read c.args.line) (Reply.Read (Err c.in-Err.refusal)) old (mid g it) (mid g it) m same.front same.costs (ap g.D.SaveDevice.state same.device) (ap g.E.Energy.gauge same.energy) on
+    behind P g.C.ChannelName.NUMBER (Event.Read c.args.line) (Reply.Read (Err c.in-Err.refusal)) old (mid g it) (mid g it) m same.front same.costs (ap g.D.SaveDevice.state same.device) (ap g.E.Energy.gauge same.energy) on
     (read_refused P (mid g it) on.seen on.stands desk.kept.shape (mid g it) refl refl refl refl refl refl refl g.K.ChannelPort part c.read_on.new.part log
-    (has_channel P (mid g it) desk.kept.stands g.K.ChannelPort part g.row.CHANNEL log (due g it) (of g it)) c.args.line c.in-Err.refusal read refl refl refl)))
+    (has_channel P (mid g it) desk.kept.stands g.K.ChannelPort part g.C.ChannelName.NUMBER log (due g it) (of g it)) c.args.line c.in-Err.refusal read refl refl refl)))
