@@ -18,7 +18,7 @@ use Rattle.module_core.specs.Stands.{ModuleStands, lines_of_module, setup_of}
 use Rattle.module_core.proofs.StoreSteps.{stop_now}
 use Rattle.nv_workers.specs.declared.recorded_module.RecordedModule.{RecordedModule}
 use Rattle.nv_workers.specs.Kept.{IsRecordKept}
-use Rattle.nv_workers.specs.Lived.{world_at}
+use Rattle.nv_workers.specs.Lived.{world_for}
 use Rattle.nv_workers.proofs.Living.{lived_first}
 
 -- a life without a write
@@ -57,7 +57,7 @@ module _ {K D E : Type 0} (L : Ghosts K) (M : DeviceGhosts D) (N : GaugeGhosts E
         stands = stands;
         stored = history ∙ recorded_new image room ∙ ap (λ (r : ℕ). recorded (memory_at image.memory image.count no_write image.count) image.count (drop (image.count - image.count) no_write) r) (sym (ap (λ (h : Recorded). h.room) history));
       },
-      lived_first (setup_of L it.running) found.newest.slot found.closed image (world_at L M N it (opened_with found image)) refl (opened_on L found image it.running (M.state it.device) stands),
+      lived_first (setup_of L it.running) found.newest.slot found.closed image (world_for L M N it (opened_with found image)) refl (opened_on L found image it.running (M.state it.device) stands),
     );
     room = omega (arith, trail, ap (λ (h : Recorded). h.room) history);
   }

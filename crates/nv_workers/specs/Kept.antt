@@ -10,7 +10,7 @@ use Rattle.nv_machine.specs.State.{Machine, base_of_life, start_of_life, stored_
 use Rattle.module_core.specs.Stands.{ModuleStands, setup_of}
 use Rattle.nv_workers.specs.declared.board_name.BoardName.{Ghosts as NameGhosts}
 use Rattle.nv_workers.specs.declared.recorded_module.RecordedModule.{RecordedModule}
-use Rattle.nv_workers.specs.Lived.{LivedUntil, world_at}
+use Rattle.nv_workers.specs.Lived.{LivedUntil, world_for}
 use Rattle.nv_workers.specs.Marks.{marks_of}
 
 -- the record of a whole life, as if none of its writes had been cut off
@@ -31,7 +31,7 @@ module _ {K D E : Type 0} (L : Ghosts K) (M : DeviceGhosts D) (N : GaugeGhosts E
   -- What is true between two events: the record is that of some machine that the module and its device stand for, a life so far
   -- leads to this machine, and there is room.
   pub record IsRecordKept (it : RecordedModule K D E L) : Type 0 where
-    pub stands : ∥ ((m : Machine) × StandsWith L M it m × LivedUntil (setup_of L it.running) (world_at L M N it m)) ∥₁
+    pub stands : ∥ ((m : Machine) × StandsWith L M it m × LivedUntil (setup_of L it.running) (world_for L M N it m)) ∥₁
     pub room : HasRoomForAll L M it
 
 module _ {K D E B : Type 0} (L : Ghosts K) (M : DeviceGhosts D) (N : GaugeGhosts E) (O : NameGhosts B) where
