@@ -7,3 +7,4 @@ pub mod Keeping
 pub mod Asked
 pub mod Wrote
 pub mod Ticketed
+pub mod Recorded
