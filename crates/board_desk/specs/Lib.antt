@@ -1,5 +1,5 @@
-pub mod LivedUntil
 pub mod Desk
 pub mod Kept
 pub mod Answering
 pub mod Views
+pub mod Hosting

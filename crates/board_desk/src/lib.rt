@@ -7,8 +7,14 @@
 #![tactic(auto)]
 
 mod desk;
+mod hosting;
+mod laws;
 mod noting;
+mod reading;
+mod resting;
 mod settling;
+mod writing;
 
 pub use desk::Desk;
+pub use laws::{desks_keep_lives, desks_tell_lives};
 pub use noting::{look_at, note_write};

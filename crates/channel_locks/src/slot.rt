@@ -26,7 +26,7 @@ impl<K: ChannelPort, B: PartsName, C: ChannelName> Slot<K, B, C> {
     pub fn new(part: Option<Part<K>>, seat: ChannelSeat) -> Slot<K, B, C>
         requires table { seat.table ≡ B.logs }
         requires channel { seat.channel ≡ C.NUMBER }
-        requires part { IsPartWhereDue K.ChannelPort B.PartsName part C.NUMBER seat.log }
+        requires part { ∥ IsPartWhereDue K.ChannelPort B.PartsName part C.NUMBER seat.log ∥₁ }
         ensures part { result.part ≡ part }
         ensures seat { result.seat ≡ seat }
     {

@@ -1,0 +1,33 @@
+-- What a worker and a read that waits do under one channel's lock alone.
+use Rattle.std.specs.Prelude.{◌≡◌, ℕ, ◌<◌, ◌≤◌, List, Result, if◌then◌else◌}
+use Rattle.std.specs.Option.{is_some}
+use Rattle.arm_state.specs.declared.refusal.ReadRefusal.{ReadRefusal}
+use Rattle.channel_port.specs.declared.answers.Collected.{Collected}
+use Rattle.channel_port.specs.declared.answers.Collected.TheVariants.{Unknown}
+use Rattle.channel_port.specs.declared.answers.Ticket.{Ticket}
+use Rattle.channel_port.specs.declared.port.ChannelPort.{Ghosts}
+use Rattle.channel_locks.specs.declared.parts_name.PartsName.{Ghosts as PartsGhosts}
+use Rattle.channel_locks.specs.declared.turns.ChannelTurn.{ChannelTurn}
+use Rattle.channel_locks.specs.Lent.{LentServe, LentTurn}
+use Rattle.worker_gate.specs.declared.Gate.{Ghosts as GateGhosts}
+use Rattle.worker_loops.specs.declared.shift.Working.{Working}
+use Rattle.worker_loops.specs.declared.shift.Working.TheVariants.{Worked, Rested, Closed}
+use Rattle.worker_loops.specs.Lookouts.{EndsWaiting}
+
+-- how a channel's worker goes on behind its turn
+abbrev pub going_on : ChannelTurn → Working
+going_on turn = if turn.ended then Closed else if is_some turn.done then Worked else Rested
+
+module _ {K B : Type 0} (L : Ghosts K) (P : PartsGhosts B) where
+  -- The worker of a channel took one turn under the channel's lock, and goes on so.
+  abbrev pub TakesChannelTurn : {G : Type 0} → GateGhosts G → ℕ → G → Working → Type 0
+  TakesChannelTurn H channel gate working = (turn : ChannelTurn) × LentTurn L P H channel gate turn × (working ≡ going_on turn)
+
+  -- A ticket was served so under its channel's lock; one of no channel is unknown.
+  pub record LooksFor (ticket : Ticket) (answer : Collected) : Type 0 where
+    pub lent : ticket.channel < 8 → LentServe L P ticket answer
+    pub none : 8 ≤ ticket.channel → answer ≡ Unknown
+
+  -- a ticket was answered by these bytes, or there was nothing for it any more
+  abbrev pub AwaitsBytes : Ticket → Result (List ℕ) ReadRefusal → Type 0
+  AwaitsBytes ticket result = EndsWaiting (LooksFor ticket) result

@@ -1,0 +1,56 @@
+// A read that waits.
+use crate::board::Board;
+use arm_state::ReadRefusal;
+use channel_locks::{ChannelLocks, PartsName};
+use channel_port::{ChannelPort, Collected, Ticket};
+use energy_budget::Energy;
+use line_memory::Line;
+use notice_book::Notices;
+use nv_workers::BoardName;
+use save_device::SaveDevice;
+use std::sync::Wait;
+use std::thread;
+use worker_loops::{Lookout, await_bytes};
+
+// What a board lends a read that waits.
+#[derive(Drop)]
+struct TicketLookout<'a, K: ChannelPort, B: PartsName, R> {
+    rt: &'a R,
+    channels: &'a ChannelLocks<K, B>,
+}
+
+impl<K: ChannelPort, B: PartsName, R: Wait> Lookout for TicketLookout<'_, K, B, R> {
+    ghost use Rattle.std.specs.Prelude.{◌≡◌};
+    ghost use Rattle.split_board.specs.Turns.{LooksFor};
+
+    ghost looks = { λ ticket answer old new. LooksFor K.ChannelPort B.PartsName ticket answer };
+
+    ghost waits = { λ old new. new ≡ old };
+
+    fn look(&mut self, ticket: Ticket) -> Collected {
+        self.channels.serve(self.rt, ticket)
+    }
+
+    fn wait(&mut self) {
+        thread::yield_now();
+    }
+}
+
+impl<K: ChannelPort, D: SaveDevice, E: Energy, B: BoardName + PartsName, N: Notices> Board<
+    K,
+    D,
+    E,
+    B,
+    N,
+> {
+    ghost use Rattle.split_board.specs.Turns.{AwaitsBytes};
+
+    /// Waits for the bytes of a read that was answered by a ticket. It works the ticket's channel meanwhile, under that channel's lock
+    /// alone, 64 commands at most before it gives way. A loss of mains ends it.
+    pub fn await_line<R: Wait>(&self, rt: &R, ticket: Ticket) -> Result<Line, ReadRefusal>
+        ensures { AwaitsBytes K.ChannelPort B.PartsName ticket result }
+    {
+        let channels = &self.channels;
+        await_bytes(rt, &mut TicketLookout { rt, channels }, ticket)
+    }
+}

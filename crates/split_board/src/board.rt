@@ -1,0 +1,57 @@
+// The locks.
+ghost use Rattle.std.specs.Prelude.{◌<◌};
+ghost use Rattle.split_board.specs.Lines.{AreLinesOf};
+
+use crate::locked_desk::LockedDesk;
+use board_desk::Desk;
+use channel_locks::{ChannelLocks, LineChannels, PartsName};
+use channel_port::ChannelPort;
+use energy_budget::Energy;
+use notice_book::Notices;
+use nv_workers::BoardName;
+use save_device::SaveDevice;
+use std::sync::Mutex;
+
+/// A module that threads share: the board's lock, a lock for each channel, and a book of notices behind a lock of its own. Who takes
+/// the board's lock and channels' takes the board's first. No call takes the lock of the notices beside another.
+#[derive(Drop)]
+pub struct Board<K: ChannelPort, D: SaveDevice, E: Energy, B: BoardName + PartsName, N: Notices> {
+    pub(crate) desk: Mutex<LockedDesk<K, D, E, B>>,
+    pub(crate) channels: ChannelLocks<K, B>,
+    pub(crate) lines: LineChannels,
+    pub(crate) notices: Mutex<N>,
+    ghost laid: { AreLinesOf B.BoardName B.PartsName lines },
+}
+
+impl<K: ChannelPort, D: SaveDevice, E: Energy, B: BoardName + PartsName, N: Notices> Board<
+    K,
+    D,
+    E,
+    B,
+    N,
+> {
+    /// Puts a desk, its channels and a book of notices behind their locks.
+    pub fn new(
+        desk: Desk<K, D, E, B>,
+        channels: ChannelLocks<K, B>,
+        lines: LineChannels,
+        notices: N,
+    ) -> Board<K, D, E, B, N>
+        requires { AreLinesOf B.BoardName.own B.PartsName lines }
+    {
+        Board {
+            desk: Mutex::new(LockedDesk { desk: Some(desk) }),
+            channels,
+            lines,
+            notices: Mutex::new(notices),
+        }
+    }
+
+    // The channel of a line; 0 where there is no such line.
+    pub(crate) fn channel_of(&self, line: u64) -> u64
+        ensures known { result < B.ports }
+        ensures eight { result < 8 }
+    {
+        self.lines.channel_of(line)
+    }
+}
