@@ -4,3 +4,5 @@ pub mod Followed
 pub mod Lending
 pub mod Noted
 pub mod Keeping
+pub mod Lent
+pub mod Restored

@@ -3,3 +3,4 @@ pub mod Desk
 pub mod Kept
 pub mod Answering
 pub mod Views
+pub mod Loans

@@ -7,6 +7,7 @@
 #![tactic(auto)]
 
 mod desk;
+mod loans;
 mod noting;
 mod settling;
 
