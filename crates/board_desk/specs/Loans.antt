@@ -25,16 +25,16 @@ module _ {K : Type 0} (L : Ghosts K) where
   IsReadyToLend (Some part) log = (returned_of L part ≡ 0) × ((log_tells log).waits ≡ (L.view part.port).waits)
 
   module _ {B : Type 0} (P : PartsGhosts B) where
-    -- A port that its channel has lent is one of the board's, and stands for the channel's log, which tells what waits in it.
+    -- A port that its channel has lent stands for the channel's log, which tells what waits in it. On mains it is on mains.
     pub record IsLent (told : Told) (number : ℕ) (port : K) : Type 0 where
       pub stands : PortStands L port number P.base told
       pub waits : told.waits ≡ (L.view port).waits
-      pub made : make_of (L.view port) ≡ P.make
       pub stage : told.ended ≡ false → (L.view port).stage ≡ OnMains
 
     -- The channels below a number have lent their ports, those that the board has.
     pub record HaveLent (logs : List (List LogNote)) (number : ℕ) (ports : List K) : Type 0 where
       pub count : length ports ≡ min number P.ports
+      pub made : (i : ℕ) (port : K) → slice_get ports i ≡ Some port → make_of (L.view port) ≡ P.make
       pub each : (i : ℕ) (port : K) → slice_get ports i ≡ Some port → IsLent (log_tells (slice_index_or logs i [])) i port
 
     -- A channel's port, where the board has the channel, may come back to it, where writes are held back from a number on and the

@@ -1,10 +1,12 @@
 // Ports are lent by their channels to a whole module, and come back, one channel after another.
-ghost use Rattle.std.specs.Prelude.{◌≡◌, ◌+◌, ◌<◌, ◌≤◌, None, length, min, slice_get, slice_set, take, true, vec_capacity, vec_len};
+ghost use Rattle.std.specs.Prelude.{◌≡◌, ◌+◌, ◌<◌, ◌≤◌, IfSome, None, length, min, slice_get, slice_set, take, true, vec_capacity, vec_len};
 ghost use Rattle.channel_log.specs.Log.{IsLogOf, credits_of, log_tells};
 ghost use Rattle.channel_log.specs.Seats.{AreOf};
+ghost use Rattle.channel_locks.specs.PortMakes.{make_of};
 ghost use Rattle.channel_locks.specs.Slots.{IsSlotKept};
 ghost use Rattle.board_desk.specs.Loans.{ComesBack, HaveLent, IsReadyToLend, restated, waits_of_port};
 
+use crate::board_port::BoardPort;
 use channel_locks::{ChannelName, PartsName};
 use channel_log::{ChannelLogs, ChannelSeat, FrontSeat, Standing};
 use channel_part::Part;
@@ -15,7 +17,7 @@ use std::marker::Brand;
 pub(crate) fn lend<K: ChannelPort, B: PartsName, C: ChannelName>(
     logs: &ChannelLogs,
     known: &mut FrontSeat,
-    ports: &mut Vec<K>,
+    ports: &mut Vec<BoardPort<K, B>>,
     part: &mut Option<Part<K>>,
     seat: &mut ChannelSeat,
 )
@@ -35,7 +37,7 @@ pub(crate) fn lend<K: ChannelPort, B: PartsName, C: ChannelName>(
 {
     known.compare(logs, seat);
     if let Some(lent) = part.take() {
-        ports.push_reserved(lent.into_port());
+        ports.push_reserved(BoardPort::of(lent.into_port()));
     }
 }
 
@@ -123,7 +125,10 @@ fn note_back<W: Standing, K: ChannelPort>(
 }
 
 // The port of this number, which is the last one, where there is one.
-fn pop_at<K>(ports: &mut Vec<K>, number: u64) -> Option<K>
+fn pop_at<K: ChannelPort, B: PartsName>(
+    ports: &mut Vec<BoardPort<K, B>>,
+    number: u64,
+) -> Option<BoardPort<K, B>>
     requires { vec_len ports.old ≤ number + 1 }
     ensures port { result ≡ slice_get ports.old.items number }
     ensures rest { ports.new.items ≡ take number ports.old.items }
@@ -136,11 +141,22 @@ fn pop_at<K>(ports: &mut Vec<K>, number: u64) -> Option<K>
     }
 }
 
+// The port itself, where there is one.
+fn unpack<K: ChannelPort, B: PartsName>(port: Option<BoardPort<K, B>>) -> Option<K>
+    ensures same { result ≡ port }
+    ensures made { IfSome result (λ it. ∥ make_of (K.view it) ≡ B.make ∥₁) }
+{
+    match port {
+        Some(port) => Some(port.into_port()),
+        None => None,
+    }
+}
+
 // A channel's port comes back from the end of those that were lent, where the board has the channel.
 pub(crate) fn restore<K: ChannelPort + Drop, B: PartsName, C: ChannelName>(
     logs: &ChannelLogs,
     known: &mut FrontSeat,
-    ports: &mut Vec<K>,
+    ports: &mut Vec<BoardPort<K, B>>,
     hold: Option<u64>,
     ended: bool,
     part: &mut Option<Part<K>>,
@@ -166,7 +182,7 @@ pub(crate) fn restore<K: ChannelPort + Drop, B: PartsName, C: ChannelName>(
         (waits_of_port K.ChannelPort (slice_get ports.old.items C.NUMBER)) (log_tells seat.old.log) }
     ensures few { credits_of seat.new.log ≤ 64 }
 {
-    let port = pop_at(ports, C::NUMBER);
+    let port = unpack(pop_at(ports, C::NUMBER));
     note_back::<Brand, K>(logs, known, seat, &port, hold, ended);
     if let Some(port) = port {
         *part = Some(Part::of(C::NUMBER, port, ended));
