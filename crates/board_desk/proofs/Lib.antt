@@ -6,3 +6,6 @@ pub mod Noted
 pub mod Keeping
 pub mod Lent
 pub mod Restored
+pub mod Asked
+pub mod Wrote
+pub mod Ticketed

@@ -10,7 +10,9 @@ mod board_port;
 mod desk;
 mod loans;
 mod noting;
+mod reading;
 mod settling;
+mod writing;
 
 pub use board_port::BoardPort;
 pub use desk::Desk;
