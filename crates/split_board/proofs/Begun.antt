@@ -48,7 +48,7 @@ get_same (suc n) (suc i) x = get_same n i x
 
 module _ {K : Type 0} (L : Ghosts K) where
   module _ (it : Module K L) (fresh : IsFresh L it) (m : Machine) (matches : Matches L it m) where
-    wrote_none : m.life.writes ≡ []
+    pub wrote_none : m.life.writes ≡ []
     wrote_none = no_writes m.life.writes (omega (arith, matches.front.accepted, matches.front.start, fresh.accepted))
 
     none_saves : hold_of m.store.saving ≡ None
@@ -70,13 +70,13 @@ module _ {K : Type 0} (L : Ghosts K) where
       lie = subst (λ (writes : List Write). All (λ w. (setup_of L it).shape.channel_of w.line < (setup_of L it).shape.channels) writes) (sym wrote_none) (All-nil _);
     }
 
-    base_is : stored_base m ≡ base_of_life m.life
+    pub base_is : stored_base m ≡ base_of_life m.life
     base_is =
         ap (λ (writes : List Write). after (base_of_life m.life) (take (m.cut - start_of_life m.life) writes)) wrote_none
         ∙ ap (after (base_of_life m.life)) (take_of_none (m.cut - start_of_life m.life))
 
 -- what the ports have in common, and how many they are, is the board's shape
-same_shape : {K B : Type 0} (L : Ghosts K) (P : PartsGhosts B) (pieces : SplitModule K) → make_with L pieces.terms pieces.ports.items ≡ P.make
+pub same_shape : {K B : Type 0} (L : Ghosts K) (P : PartsGhosts B) (pieces : SplitModule K) → make_with L pieces.terms pieces.ports.items ≡ P.make
     → length pieces.ports.items ≡ P.ports → shape_in L pieces ≡ shape_named P pieces.front.costs
 same_shape L P pieces made count i = record {
   lines = (made i).lines;
@@ -112,7 +112,7 @@ module _ {K D E B : Type 0} (L : Ghosts K) (M : DeviceGhosts D) (N : GaugeGhosts
     few : length it.running.channels.ports.items ≤ 8
     few = subst (λ (items : List K). length items ≤ 8) (λ i. (of_it.ports i).items) fit.are_ports.few
 
-    lines_are : it.running.channels.terms.lines ≡ P.make.lines
+    pub lines_are : it.running.channels.terms.lines ≡ P.make.lines
     lines_are = ap (λ (terms : PortTerms). terms.lines) (sym of_it.terms) ∙ ap (λ (make : PortMake). make.lines) made
 
     pub begins : (m : Machine) → StandsWith L M it m → LivedUntil (setup_of L it.running) (world_at L M N it m) → DeskStands P desk m
