@@ -26,14 +26,14 @@ use Rattle.nv_machine.proofs.Backing.{IsKnown}
 use Rattle.nv_machine.proofs.EachEvent.{KeepsLife, event_keeps, guarded_event}
 use Rattle.nv_machine.proofs.Guarded.{cut_below}
 use Rattle.nv_machine.proofs.HonestEvents.{honest_event}
-use Rattle.nv_machine.proofs.JoinedRuns.{happens_now, join_runs, rests_here}
 use Rattle.nv_machine.proofs.Leaving.{left_after, left_before}
 use Rattle.nv_workers.proofs.Stored.{stored_grows}
 use Rattle.save_image.specs.Image.{Image}
 use Rattle.split_module.specs.Lending.{SplitStands}
 use Rattle.board_desk.proofs.Settled.{leaves}
 use Rattle.board_desk.specs.Desk.{AreBoardLogs, DeskStands, DeskView, setup_at, shape_at, world_at}
-use Rattle.board_desk.specs.LivedUntil.{LivedUntil}
+use Rattle.nv_workers.proofs.Living.{lived_event}
+use Rattle.nv_workers.specs.Lived.{LivedUntil}
 
 -- the step of a save that runs is one that the lines have, and comes still
 reaches : (lines : ℕ) (s : Store) (saving : Option RunningSave) (run : Option SaveRun) (device : DeviceState) → HoldsWhile saving run lines s device → ForSome saving (λ save. reach_of save.next ≤ lines)
@@ -45,20 +45,6 @@ goes_on : (lines : ℕ) (s : Store) (saving : Option RunningSave) (run : Option 
 goes_on lines s None run device holds save is = absurd cc
 goes_on lines s (Some it) (Some run) device holds save is = grind (arith, is, holds.going)
 goes_on lines s (Some it) None device holds save is = absurd holds
-
--- a life so far goes on by one event
-pub lived_one : (setup : Setup) (event : Event) (reply : Reply) (old new : World) → LivedUntil setup old → Happens setup event reply old new → LivedUntil setup new
-lived_one setup event reply old new lived happens = record {
-  slot = lived.slot;
-  closed = lived.closed;
-  image = lived.image;
-  events = lived.events ++ event ∷ [];
-  replies = lived.replies ++ reply ∷ [];
-  first = lived.first;
-  begins = lived.begins;
-  opened = lived.opened;
-  run = join_runs setup lived.events lived.replies (event ∷ []) (reply ∷ []) lived.first old new lived.run (new, happens_now setup event reply old new happens, rests_here new);
-}
 
 module _ {B : Type 0} (P : PartsGhosts B) (old : DeskView) (m : Machine) (s : DeskStands P old m) (shape : IsShape (shape_at P old)) where
   known : IsKnown (setup_at P old) m
@@ -124,7 +110,7 @@ module _ {B : Type 0} (P : PartsGhosts B) (old : DeskView) (m : Machine) (s : De
         saved = saved ∙ s.saved ∙ ap (λ (x : Store). x.maybe.newest.count) (sym store);
         stored = stored;
         base = ap (λ (i : Image). i.memory) keeps.opened ∙ s.base;
-        lived = subst (λ x. LivedUntil x (world_at new n)) (sym setup) (subst (LivedUntil (setup_at P old)) same_world (lived_one (setup_at P old) event reply (world_at old m) (world_at old n) s.lived happens));
+        lived = subst (λ x. LivedUntil x (world_at new n)) (sym setup) (subst (LivedUntil (setup_at P old)) same_world (lived_event (setup_at P old) (world_at old m) (world_at old n) s.lived event reply happens));
       }
 
       -- the event, with what is known of the device and of the gauge then

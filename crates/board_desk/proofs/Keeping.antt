@@ -1,5 +1,5 @@
 -- What is kept behind the board's lock.
-use Rattle.std.proofs.Common.{List, ap, subst, sym, ℕ, ◌+◌, ◌∙◌, ◌≡◌, ◌≤◌}
+use Rattle.std.proofs.Common.{List, arith, ap, subst, sym, ℕ, ◌+◌, ◌∙◌, ◌≡◌, ◌≤◌}
 use Rattle.std.proofs.Math.Logic.{∥∥₁_elim, ∥∥₁_map, ∥∥₁_prop}
 use Rattle.atomic_table.specs.Seated.{TableId}
 use Rattle.channel_locks.specs.declared.parts_name.PartsName.{Ghosts as PartsGhosts}
@@ -9,11 +9,14 @@ use Rattle.energy_budget.specs.Costs.{AreReckonedFor}
 use Rattle.energy_budget.specs.declared.costs.Costs.{Costs}
 use Rattle.mark_board.specs.SeenMarks.{SeenMarks, seen_marks}
 use Rattle.module_core.specs.declared.front.Front.{Front}
+use Rattle.nv_machine.specs.State.{Machine}
 use Rattle.nv_workers.specs.declared.board_name.BoardName.{Ghosts as BoardGhosts}
 use Rattle.split_module.specs.declared.front.SplitFront.{SplitFront}
 use Rattle.board_desk.specs.Answering.{Settles}
-use Rattle.board_desk.specs.Desk.{DeskView, shape_named}
-use Rattle.board_desk.specs.Kept.{IsDeskKept}
+use Rattle.board_desk.specs.Desk.{DeskStands, DeskView, shape_named}
+use Rattle.board_desk.specs.Kept.{AreTermsOf, IsDeskKept}
+use Rattle.channel_set.specs.declared.terms.PortTerms.{PortTerms}
+use Rattle.module_core.specs.declared.opening.LifeTerms.{LifeTerms}
 
 module _ {B : Type 0} (O : BoardGhosts B) (P : PartsGhosts B) where
   -- of a channel that was settled
@@ -33,4 +36,30 @@ module _ {B : Type 0} (O : BoardGhosts B) (P : PartsGhosts B) where
     counted = subst (λ (f : Front). f.accepted ≡ f.terms.start + O.before + written) (sym front) kept.counted;
     room = subst (λ (f : Front). f.terms.trail ≤ old.history.room) (sym front) kept.room;
     stands = ∥∥₁_elim kept.stands ∥∥₁_prop (λ s. ∥∥₁_map (settles s.0 s.1) (λ on. (on.seen, on.stands)));
+  }
+
+  -- of an event that left the rest as it was
+  pub kept_after : (old : DeskView) (words : TableId) (marks : SeenMarks) (written : ℕ) (logs known : TableId) → IsDeskKept O P old words marks written logs known
+      → (new : DeskView) (shown : SeenMarks) (more : ℕ) (later : TableId) → new.split.front.terms ≡ old.split.front.terms → new.split.costs ≡ old.split.costs → new.terms ≡ old.terms → new.history.room ≡ old.history.room
+      → new.split.front.accepted ≡ old.split.front.accepted + more → shown ≡ seen_marks words new.split.front.accepted new.split.front.persisted → later ≡ known
+      → ∥ ((m : Machine) × DeskStands P new m) ∥₁ → (total : ℕ) → total ≡ written + more → IsDeskKept O P new words shown total logs later
+  kept_after old words marks written logs known kept new shown more later life costs terms room accepted shown_is same stands total adds = record {
+    board = kept.board;
+    logs_is = kept.logs_is;
+    known_is = same ∙ kept.known_is;
+    channels = kept.channels;
+    terms = subst (AreTermsOf P.make) (sym terms) kept.terms;
+    reckoned = subst (λ (t : PortTerms). AreReckonedFor t.checked new.split.costs) (sym terms) (subst (λ (c : Costs). AreReckonedFor old.terms.checked c) (sym costs) kept.reckoned);
+    memory = kept.memory;
+    shape = subst (λ (c : Costs). IsShape (shape_named P c)) (sym costs) kept.shape;
+    shown = shown_is ∙ ap (λ (b : TableId). seen_marks b new.split.front.accepted new.split.front.persisted) kept.board;
+    counted =
+        let start = ap (λ (t : LifeTerms). t.start) life in
+        let was = kept.counted in
+        omega (arith, start, was, accepted, adds);
+    room =
+        let trail = ap (λ (t : LifeTerms). t.trail) life in
+        let was = kept.room in
+        omega (arith, trail, was, room);
+    stands = stands;
   }

@@ -1,5 +1,6 @@
 -- What is known behind a channel's lock of its part, and behind the board's of what is out on all channels.
-use Rattle.std.proofs.Common.{List, Option, Some, [], arith, subst, sym, length, ℕ, ◌++◌, ◌∙◌, ◌∷◌, ◌≡◌, ◌≤◌}
+use Rattle.std.proofs.Common.{None, List, Option, Some, [], arith, subst, sym, length, ℕ, ◌++◌, ◌∙◌, ◌∷◌, ◌≡◌, ◌≤◌}
+use Rattle.std.proofs.Math.Bridge.{le_prop}
 use Rattle.std.proofs.Math.Logic.{∥∥₁_elim, ∥∥₁_map}
 use Rattle.std.proofs.Math.Nat.{ℕ_set}
 use Rattle.channel_locks.specs.declared.parts_name.PartsName.{Ghosts as PartsGhosts}
@@ -34,6 +35,10 @@ module _ {B : Type 0} (P : PartsGhosts B) where
 
     pub due_part : (lent : Option (Part K L)) (part : Part K L) (channel : ℕ) (log : List LogNote) → lent ≡ Some part → ∥ IsPartWhereDue L P lent channel log ∥₁ → IsDue part channel log
     due_part lent part channel log is due = subst (λ it. ∥ IsPartWhereDue L P it channel log ∥₁) is due
+
+    -- the board lacks a channel that has no part
+    pub none_due : (lent : Option (Part K L)) (channel : ℕ) (log : List LogNote) → lent ≡ None → ∥ IsPartWhereDue L P lent channel log ∥₁ → P.ports ≤ channel
+    none_due lent channel log is due = ∥∥₁_elim (subst (λ it. ∥ IsPartWhereDue L P it channel log ∥₁) is due) le_prop (λ beyond. beyond)
 
     pub channel_due : (part : Part K L) (channel : ℕ) (log : List LogNote) → IsDue part channel log → part.channel ≡ channel
     channel_due part channel log due = ∥∥₁_elim due (ℕ_set _ _) (λ h. part.here ∙ h.1.stands.port.number)

@@ -4,3 +4,6 @@ pub mod Followed
 pub mod Lending
 pub mod Noted
 pub mod Keeping
+pub mod Asked
+pub mod Wrote
+pub mod Ticketed

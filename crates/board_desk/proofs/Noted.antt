@@ -1,11 +1,12 @@
 -- What both seats know once a note was made of a channel.
-use Rattle.std.proofs.Common.{[], ap, arith, subst, sym, ℕ, ◌++◌, ◌∙◌, ◌∷◌, ◌≡◌}
-use Rattle.std.specs.Prelude.{slice_set}
-use Rattle.std.proofs.lemmas.List.{get_or-set_same, length-set}
+use Rattle.std.proofs.Common.{List, [], ap, arith, subst, sym, ℕ, ◌++◌, ◌∙◌, ◌∷◌, ◌≡◌}
+use Rattle.std.specs.Prelude.{slice_index_or, slice_set}
+use Rattle.std.proofs.lemmas.List.{get_or-set_other, get_or-set_same, length-set}
 use Rattle.channel_log.specs.Log.{IsLogOf, LogNote, Told, log_tells}
 use Rattle.channel_log.specs.Seats.{AllLogs, IsNoted, OneLog}
 use Rattle.split_machine.proofs.ToldOf.{told_push}
 use Rattle.split_machine.specs.Telling.{with_note}
+use Rattle.board_desk.specs.Answering.{SameElsewhere}
 
 module _ (note : LogNote) (front seat_front new_front : AllLogs) (seat own new_seat : OneLog) (noted : IsNoted note front seat new_front new_seat) (front_is : front ≡ seat_front) (seat_is : seat ≡ own) where
   pub seat_noted : new_seat ≡ record own { log = own.log ++ note ∷ [] }
@@ -32,3 +33,9 @@ module _ (note : LogNote) (front seat_front new_front : AllLogs) (seat own new_s
       subst (λ ls. IsLogOf ls channel new_seat.log) (sym (logs_noted channel is))
       (subst (λ (s : OneLog). IsLogOf (with_note channel own.log note seat_front.logs) channel s.log) (sym seat_noted)
       (record { there = omega (arith, size, there); same = get_or-set_same seat_front.logs channel (own.log ++ note ∷ []) [] of.there }))
+
+  -- what is known of another channel is what was known
+  pub elsewhere_noted : (channel : ℕ) → own.channel ≡ channel → SameElsewhere channel seat_front.logs new_front.logs
+  elsewhere_noted channel is other apart =
+      ap (λ (ls : List (List LogNote)). slice_index_or ls other []) (logs_noted channel is)
+      ∙ get_or-set_other seat_front.logs channel other (own.log ++ note ∷ []) [] apart

@@ -12,7 +12,7 @@ use Rattle.module_core.specs.declared.front.Front.{Front}
 use Rattle.channel_log.specs.declared.entry.LogEntry.{LogEntry}
 use Rattle.channel_port.specs.Waits.{Waits}
 use Rattle.module_core.proofs.StoreSteps.{stop_now}
-use Rattle.nv_machine.proofs.JoinedRuns.{join_runs, rests_here}
+use Rattle.nv_machine.proofs.JoinedRuns.{rests_here}
 use Rattle.nv_machine.specs.declared.events.Event.{Event}
 use Rattle.nv_machine.specs.State.{Machine, Setup, World}
 use Rattle.split_machine.proofs.OwnRuns.{came_run, guarded_waits}
@@ -23,21 +23,8 @@ use Rattle.split_module.specs.declared.front.SplitFront.{SplitFront}
 use Rattle.split_module.specs.Lending.{SplitStands}
 use Rattle.board_desk.specs.Answering.{GoesOn}
 use Rattle.board_desk.specs.Desk.{AreBoardLogs, DeskStands, DeskView, setup_at, shape_at, shape_named, world_at}
-use Rattle.board_desk.specs.LivedUntil.{LivedUntil}
-
--- a life so far goes on by own events of a channel
-pub lived_on : (setup : Setup) (channel : ℕ) (old new : World) → LivedUntil setup old → ComesOfOwn setup channel old new → LivedUntil setup new
-lived_on setup channel old new lived comes = record {
-  slot = lived.slot;
-  closed = lived.closed;
-  image = lived.image;
-  events = lived.events ++ comes.events;
-  replies = lived.replies ++ comes.replies;
-  first = lived.first;
-  begins = lived.begins;
-  opened = lived.opened;
-  run = join_runs setup lived.events lived.replies comes.events comes.replies lived.first old new lived.run comes.run;
-}
+use Rattle.nv_workers.proofs.Living.{lived_run}
+use Rattle.nv_workers.specs.Lived.{LivedUntil}
 
 -- no event leads from a world to itself
 pub comes_of_none : (setup : Setup) (channel : ℕ) (world : World) → ComesOfOwn setup channel world world
@@ -87,6 +74,6 @@ module _ {B : Type 0} (P : PartsGhosts B) where
         saved = ap (λ (f : Front). f.saved) front ∙ s.saved;
         stored = s.stored;
         base = s.base;
-        lived = subst (λ x. LivedUntil x (world_at old seen)) (sym (same_setup old new front costs)) (lived_on (setup_at P old) channel (world_at old m) (world_at old seen) s.lived comes);
+        lived = subst (λ x. LivedUntil x (world_at old seen)) (sym (same_setup old new front costs)) (lived_run (setup_at P old) (world_at old m) (world_at old seen) s.lived comes.events comes.replies comes.run);
       };
     }

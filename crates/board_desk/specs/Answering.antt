@@ -4,6 +4,8 @@ use Rattle.channel_log.specs.Log.{IsLogOf, LogNote, log_tells}
 use Rattle.channel_locks.specs.declared.parts_name.PartsName.{Ghosts as PartsGhosts}
 use Rattle.channel_part.specs.declared.part.Part.{Part}
 use Rattle.channel_part.specs.Stands.{returned_of}
+use Rattle.channel_port.specs.declared.answers.Got.{Got}
+use Rattle.channel_port.specs.declared.answers.Got.TheVariants.{Now, Later}
 use Rattle.channel_port.specs.declared.port.ChannelPort.{Ghosts}
 use Rattle.nv_machine.specs.declared.events.Event.{Event}
 use Rattle.nv_machine.specs.declared.events.Reply.{Reply}
@@ -58,3 +60,8 @@ module _ {K : Type 0} (L : Ghosts K) where
   abbrev pub SettlesPart : Option (Part K L) → Option (Part K L) → Type 0
   SettlesPart None new = new ≡ None
   SettlesPart (Some old) new = (later : Part K L) × (new ≡ Some later) × SameButCredits old later
+
+-- the ticket of an answer is this channel's, where it has one
+abbrev pub IsTicketOf : ℕ → Got → Type 0
+IsTicketOf channel (Now bytes) = Unit {0}
+IsTicketOf channel (Later ticket) = ticket.channel ≡ channel

@@ -1,4 +1,3 @@
-pub mod LivedUntil
 pub mod Desk
 pub mod Kept
 pub mod Answering

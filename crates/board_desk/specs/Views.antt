@@ -25,3 +25,13 @@ module _ {K D E B : Type 0} (L : Ghosts K) (M : DeviceGhosts D) (N : GaugeGhosts
     pub seat : new.seat ≡ old.seat
     pub tally : new.tally ≡ old.tally
     pub logs : new.logs ≡ old.logs
+
+  -- nothing has changed but the front's numbers, the record, the marks, and what is known of the channels
+  pub record KeepsAround (old new : Desk K D E B L M N O P) : Type 0 where
+    pub life : new.split.front.terms ≡ old.split.front.terms
+    pub costs : new.split.costs ≡ old.split.costs
+    pub terms : new.terms ≡ old.terms
+    pub device : new.device ≡ old.device
+    pub energy : new.energy ≡ old.energy
+    pub marks : new.marks ≡ old.marks
+    pub logs : new.logs ≡ old.logs

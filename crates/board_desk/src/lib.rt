@@ -8,7 +8,9 @@
 
 mod desk;
 mod noting;
+mod reading;
 mod settling;
+mod writing;
 
 pub use desk::Desk;
 pub use noting::{look_at, note_write};

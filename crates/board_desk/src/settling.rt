@@ -3,7 +3,7 @@ ghost use Rattle.std.specs.Prelude.{◌≡◌};
 
 use crate::desk::Desk;
 use crate::noting::look_at;
-use channel_locks::{PartsName, Slot};
+use channel_locks::{ChannelName, PartsName, Slot};
 use channel_port::ChannelPort;
 use energy_budget::Energy;
 use nv_workers::BoardName;
@@ -16,12 +16,12 @@ impl<K: ChannelPort, D: SaveDevice, E: Energy, B: BoardName + PartsName> Desk<K,
     ghost use Rattle.board_desk.specs.Views.{SameButCounts, view_of};
 
     /// Takes all returned credits of a channel back, and notes what waits on it. A channel that the board lacks has none.
-    pub fn settle<const CHANNEL: u64>(&mut self, slot: &mut Slot<K, B, CHANNEL>)
-        ensures settles { Settles B.PartsName.own CHANNEL
+    pub fn settle<C: ChannelName>(&mut self, slot: &mut Slot<K, B, C>)
+        ensures settles { Settles B.PartsName.own C.NUMBER
             (view_of K.ChannelPort D.SaveDevice E.Energy B.BoardName.own B.PartsName.own self.old)
             (view_of K.ChannelPort D.SaveDevice E.Energy B.BoardName.own B.PartsName.own self.new) }
         ensures same { SameButCounts K.ChannelPort D.SaveDevice E.Energy B.BoardName.own B.PartsName.own self.old self.new }
-        ensures elsewhere { SameElsewhere CHANNEL self.old.known.logs self.new.known.logs }
+        ensures elsewhere { SameElsewhere C.NUMBER self.old.known.logs self.new.known.logs }
         ensures settled { IsSettled K.ChannelPort self.new.known.logs slot.new.part slot.new.seat.log }
         ensures part { SettlesPart K.ChannelPort slot.old.part slot.new.part }
     {

@@ -2,7 +2,7 @@
 ghost use Rattle.std.specs.Prelude.{◌≡◌, ◌+◌, ◌≤◌, [], length, vec_len, All, IfOk};
 ghost use Rattle.module_core.specs.Stands.{HasDevice, setup_of};
 ghost use Rattle.nv_workers.specs.Client.{client};
-ghost use Rattle.nv_workers.specs.Kept.{IsRecordKept};
+ghost use Rattle.nv_workers.specs.Kept.{IsFresh, IsRecordKept};
 
 use channel_port::ChannelPort;
 use energy_budget::Energy;
@@ -11,18 +11,19 @@ use nv_workers::{BoardName, NotStarted, Opening, RecordedModule, Started, start}
 use save_device::SaveDevice;
 use std::alloc::Global;
 
-/// A module that has begun, with its record, and the words and seats of its board. Contracts see both, and how many channels the
-/// module has. Nothing was cut off its record.
+/// A module that has just begun, with its record, and the words and seats of its board. Contracts see both, and how many channels
+/// the module has. No event was asked of it yet.
 #[derive(Drop)]
 pub struct Ready<K: ChannelPort, D: SaveDevice, E: Energy> {
     pub opening: Opening,
     pub recorded: RecordedModule<K, D, E>,
     pub channels: u64,
-    ghost counted: { channels ≡ (setup_of K.ChannelPort recorded.running).shape.channels },
-    ghost sized: { HasDevice K.ChannelPort recorded.running (D.state recorded.device) },
-    ghost kept: { IsRecordKept K.ChannelPort D.SaveDevice E.Energy recorded },
-    ghost mark: { opening.mark ≤ recorded.running.front.persisted },
-    ghost uncut: { recorded.running.front.accepted
+    pub ghost counted: { channels ≡ (setup_of K.ChannelPort recorded.running).shape.channels },
+    pub ghost sized: { HasDevice K.ChannelPort recorded.running (D.state recorded.device) },
+    pub ghost fresh: { IsFresh K.ChannelPort D.SaveDevice recorded },
+    pub ghost kept: { IsRecordKept K.ChannelPort D.SaveDevice E.Energy recorded },
+    pub ghost mark: { opening.mark ≤ recorded.running.front.persisted },
+    pub ghost uncut: { recorded.running.front.accepted
         ≡ recorded.running.front.terms.start + length recorded.history.writes },
 }
 

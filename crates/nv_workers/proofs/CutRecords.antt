@@ -1,6 +1,6 @@
 -- A cut keeps the record, and the life so far goes on through it.
 use Rattle.std.proofs.Common.{◌≡◌, ℕ, ◌+◌, ◌≤◌, refl, ap, sym, subst, ◌∙◌, arith}
-use Rattle.nv_workers.proofs.Common.{Ghosts as GaugeGhosts, IsRecordKept, LivedUntil, Machine, ModuleStands, RecordedModule, Setup, StandsWith, World, marks_of, world_at, setup_of, ∥∥₁_map}
+use Rattle.nv_workers.proofs.Common.{Ghosts as GaugeGhosts, IsRecordKept, LivedUntil, Machine, ModuleStands, RecordedModule, Setup, StandsWith, World, marks_of, world_for, setup_of, ∥∥₁_map}
 use Rattle.atomic_table.specs.Seated.{TableId}
 use Rattle.line_memory.specs.History.{Recorded, TellsSameFrom, cut_at, recorded}
 use Rattle.line_memory.proofs.Moving.{cut_again, told_the_same}
@@ -53,16 +53,16 @@ module _ {K D E : Type 0} (L : Ghosts K) (M : DeviceGhosts D) (old new : Recorde
 
   module _ (N : GaugeGhosts E) where
     -- it is a pause
-    lives_cut : (m : Machine) → StandsWith L M old m → LivedUntil (setup_of L old.running) (world_at L M N old m)
-        → LivedUntil (setup_of L new.running) (world_at L M N new (record m { cut = new.running.front.terms.cut }))
+    lives_cut : (m : Machine) → StandsWith L M old m → LivedUntil (setup_of L old.running) (world_for L M N old m)
+        → LivedUntil (setup_of L new.running) (world_for L M N new (record m { cut = new.running.front.terms.cut }))
     lives_cut m with so =
         let n : Machine = record m { cut = new.running.front.terms.cut } in let setup : Setup = setup_of L old.running in
-        let later : World = world_at L M N (record new { device = old.device; energy = old.energy }) n in
-        let rests : Rests (world_at L M N old m) later = record { may = (cut_rests L old.running new.running (M.state old.device) (N.gauge old.energy) m moves.only with.stands).may; is = refl } in
-        subst (λ (s : Setup). LivedUntil s (world_at L M N new n)) (sym (cut_setup L old.running new.running moves.only))
-        (subst (λ (e : E). LivedUntil setup (world_at L M N (record new { energy = e }) n)) (sym moves.energy)
-        (subst (λ (d : D). LivedUntil setup (world_at L M N (record new { device = d; energy = old.energy }) n)) (sym moves.device)
-        (lived_pause setup (world_at L M N old m) later so rests)))
+        let later : World = world_for L M N (record new { device = old.device; energy = old.energy }) n in
+        let rests : Rests (world_for L M N old m) later = record { may = (cut_rests L old.running new.running (M.state old.device) (N.gauge old.energy) m moves.only with.stands).may; is = refl } in
+        subst (λ (s : Setup). LivedUntil s (world_for L M N new n)) (sym (cut_setup L old.running new.running moves.only))
+        (subst (λ (e : E). LivedUntil setup (world_for L M N (record new { energy = e }) n)) (sym moves.energy)
+        (subst (λ (d : D). LivedUntil setup (world_for L M N (record new { device = d; energy = old.energy }) n)) (sym moves.device)
+        (lived_pause setup (world_for L M N old m) later so rests)))
 
     pub kept_cut : IsRecordKept L M N old → IsRecordKept L M N new
     kept_cut kept = record {

@@ -4,7 +4,7 @@ use Rattle.std.specs.Result.{IsOk}
 use Rattle.std.proofs.Math.Nat.{ℕ_set}
 use Rattle.std.proofs.lemmas.List.{length-append, length-drop}
 use Rattle.nv_workers.proofs.Common.{Err, Ghosts as GaugeGhosts, IsRecordKept, Machine, ModuleStands, Ok, RecordedModule, Result}
-use Rattle.nv_workers.proofs.Common.{LivedUntil, Setup, StandsWith, StepsTo, assembly_of, world_at, setup_of, world_of, ∥∥₁_elim, ∥∥₁_map}
+use Rattle.nv_workers.proofs.Common.{LivedUntil, Setup, StandsWith, StepsTo, assembly_of, world_for, setup_of, world_of, ∥∥₁_elim, ∥∥₁_map}
 use Rattle.save_image.specs.Image.{Image}
 use Rattle.save_device.specs.declared.device.SaveDevice.{Ghosts as DeviceGhosts}
 use Rattle.line_memory.specs.declared.Write as line_write
@@ -97,11 +97,11 @@ module _ {K D E : Type 0} (L : Ghosts K) (M : DeviceGhosts D) (N : GaugeGhosts E
           stored = whole ∙ ap (λ (r : ℕ). recorded (stored_base n) n.cut (stored_writes n) r) (sym (ap (λ (h : Recorded). h.room) whole));
         }
 
-    lives_on : setup_of L new.running ≡ setup_of L old.running → (m : Machine) (with : StandsWith L M old m) → LivedUntil (setup_of L old.running) (world_at L M N old m)
-        → LivedUntil (setup_of L new.running) (world_at L M N new (steps m with.stands).0)
+    lives_on : setup_of L new.running ≡ setup_of L old.running → (m : Machine) (with : StandsWith L M old m) → LivedUntil (setup_of L old.running) (world_for L M N old m)
+        → LivedUntil (setup_of L new.running) (world_for L M N new (steps m with.stands).0)
     lives_on setup m with so =
         let next = steps m with.stands in
-        subst (λ (s : Setup). LivedUntil s (world_at L M N new next.0)) (sym setup) (lived_event (setup_of L old.running) (world_at L M N old m) (world_at L M N new next.0) so event reply next.2.happens)
+        subst (λ (s : Setup). LivedUntil s (world_for L M N new next.0)) (sym setup) (lived_event (setup_of L old.running) (world_for L M N old m) (world_for L M N new next.0) so event reply next.2.happens)
 
     pub keeps_on : setup_of L new.running ≡ setup_of L old.running → new.running.front.terms.cut ≡ old.running.front.terms.cut → new.history ≡ recorded_after event reply old.history → IsRecordKept L M N new
     keeps_on setup uncut records = record {

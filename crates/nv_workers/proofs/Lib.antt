@@ -1,3 +1,4 @@
+pub mod Beginning
 pub mod BoardsKept
 pub mod Common
 pub mod CutRecords

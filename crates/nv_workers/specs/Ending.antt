@@ -54,19 +54,27 @@ IsFirstStranger below history receipts answers stranger =
 abbrev pub cut : ℕ → ℕ → ℕ → Cut
 cut from checked past = record { from = from; checked = checked; past = past }
 
+-- Where writes of a life that began at this number were cut off, whatever lies below the stored ones is past. Before a cut nothing
+-- is.
+abbrev pub past_below : ℕ → Recorded → ℕ
+past_below start history = if nat_lt start history.start then history.start else 0
+
+-- No stranger is among these receipts and answers of such a life: each is past or was checked, and this is told of it.
+pub record AreChecked (start : ℕ) (history : Recorded) (receipts : List Receipt) (answers : List Seen) (told : Cut) : Type 0 where
+  pub starts : told.from ≡ history.start
+  pub past : told.past ≡ past_among (past_below start history) receipts answers
+  pub counted : told.checked + told.past ≡ length receipts + length answers
+  pub stand : All (StandsOrIsPast (past_below start history) history) receipts
+  pub borne_out : All (IsBorneOutOrPast (past_below start history) history) answers
+
+-- this one is the first stranger among them
+abbrev pub IsStranger : ℕ → Recorded → List Receipt → List Seen → Stranger → Type 0
+IsStranger start history receipts answers stranger = IsFirstStranger (past_below start history) history receipts answers stranger
+
 module _ {K D E : Type 0} (L : Ghosts K) where
-  -- Where writes of the life were cut off, whatever lies below the stored ones is past. Before a cut nothing is.
-  abbrev pub past_below : RecordedModule K D E L → ℕ
-  past_below it = if nat_lt it.running.front.terms.start it.history.start then it.history.start else 0
+  -- the same of a module with its record
+  abbrev pub HasChecked : RecordedModule K D E L → List Receipt → List Seen → Cut → Type 0
+  HasChecked it receipts answers told = AreChecked it.running.front.terms.start it.history receipts answers told
 
-  -- No stranger is among these receipts and answers: each is past or was checked, and this is told of it.
-  pub record HasChecked (it : RecordedModule K D E L) (receipts : List Receipt) (answers : List Seen) (told : Cut) : Type 0 where
-    pub starts : told.from ≡ it.history.start
-    pub past : told.past ≡ past_among (past_below it) receipts answers
-    pub counted : told.checked + told.past ≡ length receipts + length answers
-    pub stand : All (StandsOrIsPast (past_below it) it.history) receipts
-    pub borne_out : All (IsBorneOutOrPast (past_below it) it.history) answers
-
-  -- this one is the first stranger among them
   abbrev pub HasStranger : RecordedModule K D E L → List Receipt → List Seen → Stranger → Type 0
-  HasStranger it receipts answers stranger = IsFirstStranger (past_below it) it.history receipts answers stranger
+  HasStranger it receipts answers stranger = IsStranger it.running.front.terms.start it.history receipts answers stranger

@@ -66,5 +66,5 @@ module _ {K D E : Type 0} (L : Ghosts K) (M : DeviceGhosts D) (N : GaugeGhosts E
   assembly_of it = assembly it.running (M.state it.device) (N.gauge it.energy)
 
   -- the world in which they stand for a machine
-  abbrev pub world_at : RecordedModule K D E L → Machine → World
-  world_at it m = world_of L (assembly_of it) m
+  abbrev pub world_for : RecordedModule K D E L → Machine → World
+  world_for it m = world_of L (assembly_of it) m

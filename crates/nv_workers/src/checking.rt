@@ -2,15 +2,10 @@
 ghost use Rattle.std.specs.Prelude.{◌≡◌, ◌≤◌, ◌+◌, ◌↔◌, All, Some, count_by, length, nat_lt, IfOk, IfErr, IfSome, IfNone, IsTrue};
 ghost use Rattle.line_memory.specs.History.{Recorded};
 ghost use Rattle.line_memory.specs.declared.Write.{Write};
-ghost use Rattle.nv_workers.specs.Ending.{HasChecked, HasStranger, IsBorneOut, IsBorneOutOrPast, IsFirstStranger, IsFirstWithout, StandsIn, StandsOrIsPast, past_below, receipted};
+ghost use Rattle.nv_workers.specs.Ending.{AreChecked, IsBorneOut, IsBorneOutOrPast, IsFirstStranger, IsFirstWithout, IsStranger, StandsIn, StandsOrIsPast, past_below, receipted};
 
-use crate::board_name::BoardName;
-use crate::held::Held;
 use crate::host::{Receipt, Seen};
-use channel_port::ChannelPort;
-use energy_budget::Energy;
 use line_memory::{History, Write};
-use save_device::SaveDevice;
 
 /// What a cut tells. The stored writes go from the number `from` on now, so that receipts with numbers below it and answers given
 /// behind fewer writes need not be kept any more. So many receipts and answers were checked against the writes that were stored
@@ -118,35 +113,35 @@ fn past_answers(below: u64, answers: &[Seen]) -> usize
     answers.iter().filter(|answer| answer.at < below).count()
 }
 
-impl<K: ChannelPort, D: SaveDevice, E: Energy, B: BoardName> Held<K, D, E, B> {
-    // Below which number receipts and answers are past.
-    fn past_below(&self) -> u64
-        ensures { result ≡ past_below K.ChannelPort self.now.recorded }
-    {
-        let from = self.recorded.history.start();
-        if self.recorded.running.start() < from {
-            from
-        } else {
-            0
-        }
-    }
+// Below which number receipts and answers are past, of a life whose first write has the number `start`.
+fn past_below(history: &History, start: u64) -> u64
+    ensures { result ≡ past_below start history.now }
+{
+    let from = history.start();
+    if start < from { from } else { 0 }
+}
 
-    // Checks receipts and answers against what is stored.
-    pub(crate) fn check(&self, receipts: &[Receipt], answers: &[Seen]) -> Result<Cut, Stranger>
-        ensures checked { IfOk result (λ told.
-            HasChecked K.ChannelPort self.now.recorded receipts.now answers.now told) }
-        ensures stranger { IfErr result (λ stranger.
-            HasStranger K.ChannelPort self.now.recorded receipts.now answers.now stranger) }
-    {
-        let below = self.past_below();
-        if let Some(stranger) = find_stranger(&self.recorded.history, below, receipts, answers) {
-            return Err(stranger);
-        }
-        let (past, seen) = (past_receipts(below, receipts), past_answers(below, answers));
-        Ok(Cut {
-            from: self.recorded.history.start(),
-            checked: (receipts.len() - past) as u64 + (answers.len() - seen) as u64,
-            past: past as u64 + seen as u64,
-        })
+/// Checks receipts and answers against what is stored of a life whose first write has the number `start`. Those that are past are
+/// counted, and not checked. A stranger among the others is named.
+pub fn check(
+    history: &History,
+    start: u64,
+    receipts: &[Receipt],
+    answers: &[Seen],
+) -> Result<Cut, Stranger>
+    ensures checked { IfOk result (λ told.
+        AreChecked start history.now receipts.now answers.now told) }
+    ensures stranger { IfErr result (λ stranger.
+        IsStranger start history.now receipts.now answers.now stranger) }
+{
+    let below = past_below(history, start);
+    if let Some(stranger) = find_stranger(history, below, receipts, answers) {
+        return Err(stranger);
     }
+    let (past, seen) = (past_receipts(below, receipts), past_answers(below, answers));
+    Ok(Cut {
+        from: history.start(),
+        checked: (receipts.len() - past) as u64 + (answers.len() - seen) as u64,
+        past: past as u64 + seen as u64,
+    })
 }

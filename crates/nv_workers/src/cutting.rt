@@ -4,7 +4,7 @@ ghost use Rattle.module_core.specs.Stands.{setup_of};
 ghost use Rattle.nv_workers.specs.Cutting.{CutsOrNames, MovesToNewest};
 
 use crate::board_name::BoardName;
-use crate::checking::{Cut, Stranger};
+use crate::checking::{Cut, Stranger, check};
 use crate::held::Held;
 use crate::host::{Receipt, Seen};
 use channel_port::ChannelPort;
@@ -32,7 +32,8 @@ impl<K: ChannelPort, D: SaveDevice, E: Energy, B: BoardName> Held<K, D, E, B> {
         ensures setup { setup_of K.ChannelPort self.new.recorded.running
             ≡ setup_of K.ChannelPort self.old.recorded.running }
     {
-        let told = self.check(receipts, answers)?;
+        let start = self.recorded.running.start();
+        let told = check(&self.recorded.history, start, receipts, answers)?;
         self.move_to_newest();
         let from = self.recorded.history.start();
         Ok(Cut { from, ..told })

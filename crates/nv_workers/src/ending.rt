@@ -6,7 +6,7 @@ ghost use Rattle.nv_workers.specs.Ending.{HasChecked, HasStranger, cut};
 
 use crate::board::Board;
 use crate::board_name::BoardName;
-use crate::checking::{Cut, Stranger};
+use crate::checking::{Cut, Stranger, check};
 use crate::held::Held;
 use crate::host::{Host, Receipt, Seen};
 use crate::recorded_module::RecordedModule;
@@ -137,7 +137,8 @@ impl<K: ChannelPort, D: SaveDevice, E: Energy, B: BoardName> Held<K, D, E, B> {
         ensures same { IfErr result (λ left. left.held ≡ self) }
         ensures hosts { IfErr result (λ left. left.hosts ≡ hosts) }
     {
-        match self.check(receipts, answers) {
+        let start = self.recorded.running.start();
+        match check(&self.recorded.history, start, receipts, answers) {
             Err(stranger) => Err(NotEnded {
                 stranger,
                 held: self,

@@ -4,7 +4,7 @@ ghost use Rattle.line_memory.specs.History.{TellsSameFrom};
 ghost use Rattle.nv_machine.specs.State.{Machine};
 ghost use Rattle.nv_workers.specs.declared.recorded_module.RecordedModule.{RecordedModule};
 ghost use Rattle.nv_workers.specs.Kept.{StandsWith, whole_record};
-ghost use Rattle.nv_workers.specs.Lived.{IsInLife, world_at};
+ghost use Rattle.nv_workers.specs.Lived.{IsInLife, world_for};
 ghost use Rattle.module_core.specs.Stands.{ModuleStands, setup_of};
 
 use crate::board_name::BoardName;
@@ -20,7 +20,7 @@ pub fn boards_keep_lives<K: ChannelPort, D: SaveDevice, E: Energy, B: BoardName>
         → ∥ ((m : Machine)
         × ModuleStands K.ChannelPort held.recorded.running (D.state held.recorded.device) m
         × IsInLife (setup_of K.ChannelPort held.recorded.running)
-        (world_at K.ChannelPort D.SaveDevice E.Energy held.recorded m)) ∥₁ }
+        (world_for K.ChannelPort D.SaveDevice E.Energy held.recorded m)) ∥₁ }
 {}
 
 /// What is recorded of a life tells of each number from its beginning on what the whole life tells, whatever was cut off it: the

@@ -26,7 +26,7 @@ mod worker;
 
 pub use board::Board;
 pub use board_name::BoardName;
-pub use checking::{Cut, Stranger};
+pub use checking::{Cut, Stranger, check};
 pub use ending::{Closed, EndedLife, NotClosed, NotEnded, close, end_host};
 pub use gate::{channel_worker, saver_worker};
 pub use held::{Held, publish};

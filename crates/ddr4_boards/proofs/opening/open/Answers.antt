@@ -1,14 +1,21 @@
-use Rattle.std.proofs.Common.{◌≡◌, ◌∙◌, ℕ, ap, rules, subst, sym}
+use Rattle.std.proofs.Common.{◌≡◌, ◌∙◌, ℕ, [], ap, arith, subst, sym}
+use Rattle.std.proofs.lemmas.Grind.{merely}
+use Rattle.line_memory.specs.History.{Recorded, recorded}
 use Rattle.save_device.specs.Device.{DeviceState}
 use Rattle.save_image.specs.Image.{Image}
 use Rattle.slot_store.specs.Outcomes.{Found, restored}
 use Rattle.slot_store.specs.Rest.{IsAtRestOn}
 use Rattle.slot_store.specs.Slots.{HasSize}
 use Rattle.slot_store.specs.Told.{image_of_restored}
+use Rattle.slot_store.specs.declared.head.Head.{Head}
+use Rattle.channel_port.specs.declared.port.ChannelPort.{Ghosts}
+use Rattle.save_device.specs.declared.device.SaveDevice.{Ghosts as DeviceGhosts}
 use Rattle.nv_machine.specs.State.{Setup}
+use Rattle.nv_workers.specs.declared.recorded_module.RecordedModule.{RecordedModule}
 use Rattle.module_core.specs.Opening.{opened_with}
 use Rattle.module_core.specs.Stands.{ModuleStands}
-use Rattle.ddr4_boards.proofs.NewLives.{new_is_kept, new_is_whole}
+use Rattle.nv_workers.specs.Kept.{HasJustBegun}
+use Rattle.nv_workers.proofs.Beginning.{begun_is_kept, begun_is_whole}
 use Rattle.ddr4_boards.proofs.opening.open.Goals as goal
 use Rattle.ddr4_boards.proofs.opening.open.Goals.{In-Ok-begin}
 
@@ -23,18 +30,37 @@ begun_stands g c =
     c.in-Ok-begin.ensures.begins read.found.arm device
     (subst (λ (lines : ℕ). IsAtRestOn it.head.newest.slot image lines it.head.closed device) c.capacity_of-lines.ensures.is (read.at_rest image read.found.newest))
 
+-- a life that has just begun, with room for so many writes
+just_begun : {K D E : Type 0} (L : Ghosts K) (M : DeviceGhosts D) (it : RecordedModule K D E L) (found : Head) (image : Image) (room : ℕ)
+    → ModuleStands L it.running (M.state it.device) (opened_with found image) → it.history ≡ recorded image.memory image.count [] room → HasJustBegun L M it found image
+just_begun L M it found image room stands records =
+    let same : room ≡ it.history.room = sym (ap (λ (h : Recorded). h.room) records) in
+    record { stands = stands; recorded_is = subst (λ (r : ℕ). it.history ≡ recorded image.memory image.count [] r) same records }
+
+has_begun : (g : _) (c : In-Ok-begin g)
+    → HasJustBegun _ g.D.SaveDevice (record { running = c.in-Ok-begin.begun.running; device = c.restore.new.device; energy = c.args.energy; history = c.in-Ok-begin.begun.history })
+    c.in-Ok.restored.head (image_of_restored c.in-Ok.restored c.in-Ok.ensures.found.arm)
+has_begun g c =
+    let image : Image = image_of_restored c.in-Ok.restored c.in-Ok.ensures.found.arm in
+    just_begun _ g.D.SaveDevice (record { running = c.in-Ok-begin.begun.running; device = c.restore.new.device; energy = c.args.energy; history = c.in-Ok-begin.begun.history })
+    c.in-Ok.restored.head image c.args.profile.now.sizes.trail (begun_stands g c) c.in-Ok-begin.ensures.history
+
+pub invariant_of-result-clause-fresh : goal.invariant_of-result-clause-fresh
+invariant_of-result-clause-fresh g c =
+    let it = c.in-Ok.restored in
+    merely (it.head, image_of_restored it c.in-Ok.ensures.found.arm, has_begun g (goal.at.invariant_of-result-clause-fresh g c).In-Ok-begin)
+
 pub invariant_of-result-clause-kept : goal.invariant_of-result-clause-kept
 invariant_of-result-clause-kept g c =
     let it = c.in-Ok.restored in
-    new_is_kept _ g.D.SaveDevice g.E.Energy _ it.head (image_of_restored it c.in-Ok.ensures.found.arm) c.args.profile.now.sizes.trail
-    (begun_stands g (goal.at.invariant_of-result-clause-kept g c).In-Ok-begin) (search rules)
-    (ap (λ (s : Setup). s.trail) c.in-Ok-begin.ensures.setup.is)
+    let trail = ap (λ (s : Setup). s.trail) c.in-Ok-begin.ensures.setup.is in
+    let room = ap (λ (h : Recorded). h.room) c.in-Ok-begin.ensures.history in
+    begun_is_kept _ g.D.SaveDevice _ it.head (image_of_restored it c.in-Ok.ensures.found.arm) (has_begun g (goal.at.invariant_of-result-clause-kept g c).In-Ok-begin) g.E.Energy (omega (arith, trail, room))
 
 pub invariant_of-result-clause-uncut : goal.invariant_of-result-clause-uncut
 invariant_of-result-clause-uncut g c =
     let it = c.in-Ok.restored in
-    new_is_whole _ c.in-Ok-begin.begun.running (g.D.SaveDevice.state c.restore.new.device) it.head (image_of_restored it c.in-Ok.ensures.found.arm) c.in-Ok-begin.begun.history c.args.profile.now.sizes.trail
-    (begun_stands g (goal.at.invariant_of-result-clause-uncut g c).In-Ok-begin) c.in-Ok-begin.ensures.history
+    begun_is_whole _ g.D.SaveDevice _ it.head (image_of_restored it c.in-Ok.ensures.found.arm) (has_begun g (goal.at.invariant_of-result-clause-uncut g c).In-Ok-begin)
 
 pub invariant_of-result-clause-sized : goal.invariant_of-result-clause-sized
 invariant_of-result-clause-sized g c =

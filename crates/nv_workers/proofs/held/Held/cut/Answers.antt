@@ -1,6 +1,6 @@
-use Rattle.std.proofs.Common.{List, refl}
+use Rattle.std.proofs.Common.{List, refl, subst, ℕ}
 use Rattle.channel_port.specs.declared.port.ChannelPort.{Ghosts}
-use Rattle.nv_workers.specs.Ending.{HasChecked}
+use Rattle.nv_workers.specs.Ending.{AreChecked, HasChecked}
 use Rattle.nv_workers.specs.declared.checking.Cut.{Cut}
 use Rattle.nv_workers.specs.declared.host.Receipt.{Receipt}
 use Rattle.nv_workers.specs.declared.host.Seen.{Seen}
@@ -14,7 +14,8 @@ checked_at_start L it receipts answers told checked = record { starts = refl; pa
 
 pub returns-clause-cuts : goal.returns-clause-cuts
 returns-clause-cuts g c = (
-  checked_at_start g.K.ChannelPort c.args.self.now.recorded c.args.receipts.now c.args.answers.now c.in_ok-told.told c.in_ok-told.ensures.checked,
+  checked_at_start g.K.ChannelPort c.args.self.now.recorded c.args.receipts.now c.args.answers.now c.in_ok-told.told
+      (subst (λ (start : ℕ). AreChecked start c.args.self.now.recorded.history c.args.receipts.now c.args.answers.now c.in_ok-told.told) c.start-start.ensures c.in_ok-told.ensures.checked),
   c.start-from.ensures,
   c.move_to_newest.ensures.moves,
 )

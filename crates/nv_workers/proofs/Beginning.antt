@@ -1,6 +1,7 @@
--- A module that has just begun on what a device restored to.
-use Rattle.std.proofs.Common.{◌≡◌, ◌∙◌, ℕ, zero, suc, ◌+◌, ◌-◌, List, [], length, take, drop, refl, sym, ap, arith}
+-- A module whose life has just begun.
+use Rattle.std.proofs.Common.{◌≡◌, ◌∙◌, ℕ, zero, suc, ◌+◌, ◌-◌, ◌≤◌, List, [], length, take, drop, refl, sym, ap, arith}
 use Rattle.std.proofs.lemmas.Grind.{merely}
+use Rattle.nv_workers.proofs.Common.{Ghosts as GaugeGhosts, IsRecordKept, LivedUntil, ModuleStands, RecordedModule, StandsWith, setup_of, world_for}
 use Rattle.line_memory.specs.declared.Write as line_write
 use Rattle.line_memory.specs.Memory.{after, memory_at}
 use Rattle.line_memory.specs.History.{Recorded, recorded}
@@ -10,15 +11,12 @@ use Rattle.save_image.specs.Image.{Image}
 use Rattle.slot_store.specs.declared.head.Head.{Head}
 use Rattle.slot_store.specs.Outcomes.{Found, restored}
 use Rattle.slot_store.proofs.Resting.{found_only}
-use Rattle.energy_budget.specs.declared.energy.Energy.{Ghosts as GaugeGhosts}
 use Rattle.channel_port.specs.declared.port.ChannelPort.{Ghosts}
 use Rattle.module_core.specs.declared.module.Module.{Module}
 use Rattle.module_core.specs.Opening.{opened_with}
-use Rattle.module_core.specs.Stands.{ModuleStands, lines_of_module, setup_of}
+use Rattle.module_core.specs.Stands.{lines_of_module}
 use Rattle.module_core.proofs.StoreSteps.{stop_now}
-use Rattle.nv_workers.specs.declared.recorded_module.RecordedModule.{RecordedModule}
-use Rattle.nv_workers.specs.Kept.{IsRecordKept}
-use Rattle.nv_workers.specs.Lived.{world_at}
+use Rattle.nv_workers.specs.Kept.{HasJustBegun}
 use Rattle.nv_workers.proofs.Living.{lived_first}
 
 -- a life without a write
@@ -46,24 +44,24 @@ opened_on : {K : Type 0} (L : Ghosts K) (found : Head) (image : Image) (it : Mod
 opened_on L found image it device stands bytes left =
     found_only found.newest.slot image (restored (lines_of_module L it) bytes) (stop_now (lines_of_module L it) (opened_with found image).store it.front.saves.saving device stands.holds bytes left)
 
-module _ {K D E : Type 0} (L : Ghosts K) (M : DeviceGhosts D) (N : GaugeGhosts E) where
-  -- a module that stands for a new life, with a record of its memory and no write, and with room for all that it may store
-  pub new_is_kept : (it : RecordedModule K D E L) (found : Head) (image : Image) (room : ℕ) → ModuleStands L it.running (M.state it.device) (opened_with found image)
-      → it.history ≡ recorded image.memory image.count [] room → it.running.front.terms.trail ≡ room → IsRecordKept L M N it
-  new_is_kept it found image room stands history trail = record {
-    stands = merely (
-      opened_with found image,
-      record {
-        stands = stands;
-        stored = history ∙ recorded_new image room ∙ ap (λ (r : ℕ). recorded (memory_at image.memory image.count no_write image.count) image.count (drop (image.count - image.count) no_write) r) (sym (ap (λ (h : Recorded). h.room) history));
-      },
-      lived_first (setup_of L it.running) found.newest.slot found.closed image (world_at L M N it (opened_with found image)) refl (opened_on L found image it.running (M.state it.device) stands),
-    );
-    room = omega (arith, trail, ap (λ (h : Recorded). h.room) history);
-  }
+module _ {K D E : Type 0} (L : Ghosts K) (M : DeviceGhosts D) (it : RecordedModule K D E L) (found : Head) (image : Image) (begun : HasJustBegun L M it found image) where
+  -- the new machine is the one whose life is recorded
+  pub begun_stands : StandsWith L M it (opened_with found image)
+  begun_stands = record { stands = begun.stands; stored = begun.recorded_is ∙ recorded_new image it.history.room }
 
--- it has accepted no write
-pub new_is_whole : {K : Type 0} (L : Ghosts K) (running : Module K L) (device : DeviceState) (found : Head) (image : Image) (history : Recorded) (room : ℕ)
-    → ModuleStands L running device (opened_with found image) → history ≡ recorded image.memory image.count [] room → running.front.accepted ≡ running.front.terms.start + length history.writes
-new_is_whole L running device found image history room stands is =
-    let none : length history.writes ≡ 0 = ap (λ (h : Recorded). length h.writes) is in omega (arith, none, stands.matches.front.accepted, stands.matches.front.start)
+  -- it has accepted no write
+  pub begun_is_whole : it.running.front.accepted ≡ it.running.front.terms.start + length it.history.writes
+  begun_is_whole =
+      let none : length it.history.writes ≡ 0 = ap (λ (h : Recorded). length h.writes) begun.recorded_is in
+      omega (arith, none, begun.stands.matches.front.accepted, begun.stands.matches.front.start)
+
+  module _ (N : GaugeGhosts E) where
+    -- a life leads to it
+    pub begun_lives : LivedUntil (setup_of L it.running) (world_for L M N it (opened_with found image))
+    begun_lives =
+        lived_first (setup_of L it.running) found.newest.slot found.closed image (world_for L M N it (opened_with found image)) refl
+        (opened_on L found image it.running (M.state it.device) begun.stands)
+
+    -- so record and life are kept
+    pub begun_is_kept : it.running.front.terms.trail ≤ it.history.room → IsRecordKept L M N it
+    begun_is_kept room = record { stands = merely (opened_with found image, begun_stands, begun_lives); room = room }

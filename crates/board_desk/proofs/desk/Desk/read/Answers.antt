@@ -1,0 +1,202 @@
+-- A host reads.
+use Rattle.std.proofs.Common.{Err, Ok, Some, ap, arith, refl, subst, sym, ℕ, ◌+◌, ◌<◌, ◌∙◌, ◌≡◌}
+use Rattle.std.proofs.Math.Logic.{∥∥₁_elim, ∥∥₁_map, ∥∥₁_prop}
+use Rattle.std.proofs.Math.Nat.{ℕ_set}
+use Rattle.std.specs.Arc.{arc_value}
+use Rattle.atomic_table.specs.Seated.{TableId}
+use Rattle.channel_locks.specs.declared.parts_name.PartsName.{Ghosts as PartsGhosts}
+use Rattle.channel_locks.specs.PortMakes.{make_of}
+use Rattle.channel_locks.specs.Slots.{IsSlotKept}
+use Rattle.channel_log.specs.Log.{IsLogOf, LogNote, note_of}
+use Rattle.channel_log.specs.Seats.{AllLogs, OneLog}
+use Rattle.channel_log.specs.declared.entry.LogEntry.TheVariants.{Looked}
+use Rattle.channel_part.specs.Stands.{PartStands}
+use Rattle.channel_part.specs.declared.part.Part.{Part}
+use Rattle.channel_port.specs.View.{PortView}
+use Rattle.mark_board.specs.SeenMarks.{seen_marks}
+use Rattle.nv_machine.specs.State.{Machine, base_of_life}
+use Rattle.nv_machine.specs.declared.events.Event.{Event}
+use Rattle.nv_machine.specs.declared.events.Reply.{Reply}
+use Rattle.board_desk.specs.Answering.{IsSettled, IsSettledPart, IsTicketOf}
+use Rattle.board_desk.specs.Desk.{DeskStands, DeskView, setup_at, shape_at}
+use Rattle.board_desk.specs.Views.{view_of}
+use Rattle.board_desk.proofs.Asked.{has_channel, lines_are, part_ended, part_lines, part_place, part_seen}
+use Rattle.board_desk.proofs.Followed.{Follows, behind, read_answered, read_refused}
+use Rattle.board_desk.proofs.Keeping.{kept_after}
+use Rattle.board_desk.proofs.Lending.{IsDue, channel_due, due_noted, due_part, none_due}
+use Rattle.board_desk.proofs.Noted.{elsewhere_noted, front_noted, logs_noted, seat_noted}
+use Rattle.board_desk.proofs.Ticketed.{ticket_of, ticket_stepped}
+use Rattle.board_desk.proofs.desk.Desk.read.Given.{Over}
+use Rattle.board_desk.proofs.desk.Desk.read.Goals.{After-inform, After-look_at}
+use Rattle.board_desk.proofs.desk.Desk.read.Goals as goal
+
+pub unreachable-requires : goal.unreachable-requires
+unreachable-requires g c =
+    let slot = c.settle.new.slot in
+    let beyond = none_due g.B.PartsName g.K.ChannelPort slot.part g.C.ChannelName.NUMBER slot.seat.log c.in_default.is slot.kept.part_is in
+    let has = c.requires.has in
+    absurd (omega (arith, beyond, has))
+
+module _ (g : Over) (c : After-inform g) where
+  abbrev P : PartsGhosts g.row.B.Denot
+  P = g.B.PartsName
+
+  abbrev mid : DeskView
+  mid = view_of g.K.ChannelPort g.D.SaveDevice g.E.Energy g.B.BoardName g.B.PartsName c.settle.new.self
+
+  due : IsDue P g.K.ChannelPort c.in-Some.part g.C.ChannelName.NUMBER c.settle.new.slot.seat.log
+  due = let slot = c.settle.new.slot in due_part P g.K.ChannelPort slot.part c.in-Some.part g.C.ChannelName.NUMBER slot.seat.log c.in-Some.is slot.kept.part_is
+
+  settled : IsSettledPart g.K.ChannelPort c.settle.new.self.known.logs c.in-Some.part c.settle.new.slot.seat.log
+  settled = subst (λ p. IsSettled g.K.ChannelPort c.settle.new.self.known.logs p c.settle.new.slot.seat.log) c.in-Some.is c.settle.ensures.settled
+
+  own : c.in-Some.part.channel ≡ g.C.ChannelName.NUMBER
+  own = channel_due P g.K.ChannelPort c.in-Some.part g.C.ChannelName.NUMBER c.settle.new.slot.seat.log due
+
+  of : IsLogOf c.settle.new.self.known.logs g.C.ChannelName.NUMBER c.settle.new.slot.seat.log
+  of = subst (λ k. IsLogOf c.settle.new.self.known.logs k c.settle.new.slot.seat.log) own settled.agreed
+
+pub read_on-requires-clause-lines : goal.read_on-requires-clause-lines
+read_on-requires-clause-lines g c =
+    let at = goal.at.read_on-requires-clause-lines g c in
+    let it = at.After-inform in
+    part_lines g.B.PartsName (mid g it) c.settle.new.self.kept.stands g.K.ChannelPort c.in-Some.part g.C.ChannelName.NUMBER c.settle.new.slot.seat.log (due g it) (of g it)
+
+pub read_on-requires-clause-here : goal.read_on-requires-clause-here
+read_on-requires-clause-here g c = λ less.
+    let at = goal.at.read_on-requires-clause-here g c in
+    let it = at.After-inform in
+    let stands = c.settle.new.self.kept.stands in
+    part_place g.B.PartsName (mid g it) stands g.K.ChannelPort c.in-Some.part g.C.ChannelName.NUMBER c.settle.new.slot.seat.log (due g it) (of g it) c.args.line
+    (c.requires.here (subst (λ n. c.args.line < n) (lines_are g.B.PartsName (mid g it) stands) less))
+
+pub read_on-requires-clause-ended : goal.read_on-requires-clause-ended
+read_on-requires-clause-ended g c =
+    let at = goal.at.read_on-requires-clause-ended g c in
+    let it = at.After-inform in
+    part_ended g.B.PartsName (mid g it) c.settle.new.self.kept.stands g.K.ChannelPort c.in-Some.part g.C.ChannelName.NUMBER c.settle.new.slot.seat.log (due g it) (of g it)
+
+-- The read was answered, and what waits then was noted.
+module _ (g : Over) (c : After-look_at g) where
+  abbrev before : DeskView
+  before = view_of g.K.ChannelPort g.D.SaveDevice g.E.Energy g.B.BoardName g.B.PartsName c.settle.new.self
+
+  abbrev now : DeskView
+  now = record before { logs = c.look_at.new.known.logs }
+
+  abbrev note : LogNote
+  note = note_of Looked (g.K.ChannelPort.view c.read_on.new.part.port).waits
+
+  part_due : IsDue g.B.PartsName g.K.ChannelPort c.in-Some.part g.C.ChannelName.NUMBER c.settle.new.slot.seat.log
+  part_due = let slot = c.settle.new.slot in due_part g.B.PartsName g.K.ChannelPort slot.part c.in-Some.part g.C.ChannelName.NUMBER slot.seat.log c.in-Some.is slot.kept.part_is
+
+  part_settled : IsSettledPart g.K.ChannelPort c.settle.new.self.known.logs c.in-Some.part c.settle.new.slot.seat.log
+  part_settled = subst (λ p. IsSettled g.K.ChannelPort c.settle.new.self.known.logs p c.settle.new.slot.seat.log) c.in-Some.is c.settle.ensures.settled
+
+  part_own : c.in-Some.part.channel ≡ g.C.ChannelName.NUMBER
+  part_own = channel_due g.B.PartsName g.K.ChannelPort c.in-Some.part g.C.ChannelName.NUMBER c.settle.new.slot.seat.log part_due
+
+  part_of : IsLogOf c.settle.new.self.known.logs g.C.ChannelName.NUMBER c.settle.new.slot.seat.log
+  part_of = subst (λ k. IsLogOf c.settle.new.self.known.logs k c.settle.new.slot.seat.log) part_own part_settled.agreed
+
+  -- it is one event of whichever machine the desk stood for
+  followed : (m : Machine) → DeskStands g.B.PartsName before m → ∥ Follows g.B.PartsName (Event.Read c.args.line) (Reply.Read (Ok c.in-Ok.got)) before now m ∥₁
+  followed m s =
+      let desk = c.settle.new.self in
+      let slot = c.settle.new.slot in
+      let log = slot.seat.log in
+      let part = c.in-Some.part in
+      let seen = part_seen g.B.PartsName before desk.kept.stands g.K.ChannelPort part g.C.ChannelName.NUMBER log part_due part_of part_settled.waits in
+      let logs = logs_noted note desk.known desk.known c.look_at.new.known slot.seat slot.seat c.look_at.new.seat c.look_at.ensures.noted refl refl part.channel (slot.kept.channel_is ∙ sym part_own) in
+      ∥∥₁_map part_due
+      (λ h.
+      let here : PartStands g.K.ChannelPort part part.channel (base_of_life m.life) log =
+      subst (λ b. PartStands g.K.ChannelPort part part.channel b log) (sym s.base) (subst (λ k. PartStands g.K.ChannelPort part k g.B.PartsName.base log) (sym part_own) h.1.stands) in
+      let read = c.in-Ok.ensures.reads (shape_at g.B.PartsName before) m before.logs log s.stands part_settled.agreed seen here (λ less. c.requires.here less ∙ sym part_own) in
+      read_answered g.B.PartsName before m s desk.kept.shape now refl refl refl refl refl refl refl g.K.ChannelPort part c.read_on.new.part log
+      (has_channel g.B.PartsName before desk.kept.stands g.K.ChannelPort part g.C.ChannelName.NUMBER log part_due part_of) c.args.line c.in-Ok.got read refl logs c.look_at.ensures.most refl)
+
+pub invariant_of-slot : goal.invariant_of-slot
+invariant_of-slot g c =
+    let at = goal.at.invariant_of-slot g c in
+    let it = at.After-look_at in
+    let L = g.K.ChannelPort in
+    let slot = c.settle.new.slot in
+    let later = c.read_on.new.part in
+    record {
+      kept = subst (λ (s : OneLog). IsSlotKept L g.B.PartsName (Some later) s g.C.ChannelName.NUMBER)
+          (sym (seat_noted (note g it) c.settle.new.self.known c.settle.new.self.known c.look_at.new.known slot.seat slot.seat c.look_at.new.seat c.look_at.ensures.noted refl refl))
+          (record {
+            table = slot.kept.table;
+            channel_is = slot.kept.channel_is;
+            part_is = due_noted g.B.PartsName L Looked c.in-Some.part later g.C.ChannelName.NUMBER slot.seat.log c.in-Ok.ensures.stands (record { rise = c.always.ensures }) tt (ap (λ (v : PortView). make_of v) c.in-Ok.ensures.rest) (part_due g it);
+          });
+    }
+
+pub invariant_of-self-clause-kept : goal.invariant_of-self-clause-kept
+invariant_of-self-clause-kept g c =
+    let at = goal.at.invariant_of-self-clause-kept g c in
+    let it = at.After-look_at in
+    let desk = c.settle.new.self in
+    let front = desk.split.front in
+    let words = arc_value desk.marks in
+    let slot = c.settle.new.slot in
+    kept_after g.B.BoardName g.B.PartsName (before g it) words desk.seat desk.tally.book.total desk.logs desk.known.table desk.kept (now g it) _ 0 c.look_at.new.known.table refl refl refl refl (omega arith)
+    (c.inform.ensures.same ∙ desk.kept.shown ∙ ap (λ (b : TableId). seen_marks b front.accepted front.persisted) (sym desk.kept.board))
+    (ap (λ (f : AllLogs). f.table) (front_noted (note g it) desk.known desk.known c.look_at.new.known slot.seat slot.seat c.look_at.new.seat c.look_at.ensures.noted refl refl))
+    (∥∥₁_elim desk.kept.stands ∥∥₁_prop (λ s. ∥∥₁_map (followed g it s.0 s.1) (λ f. (f.later, f.stands)))) _ (omega arith)
+
+pub returns-in-Ok-clause-ok : goal.returns-in-Ok-clause-ok
+returns-in-Ok-clause-ok g c = λ m s.
+    let at = goal.at.returns-in-Ok-clause-ok g c in
+    let it = at.After-look_at in
+    let same = c.settle.ensures.same in
+    let old = view_of g.K.ChannelPort g.D.SaveDevice g.E.Energy g.B.BoardName g.B.PartsName c.args.self.now in
+    ∥∥₁_elim (c.settle.ensures.settles m s) ∥∥₁_prop
+    (λ on.
+    ∥∥₁_map (followed g it on.seen on.stands)
+    (λ f.
+    behind g.B.PartsName g.C.ChannelName.NUMBER (Event.Read c.args.line) (Reply.Read (Ok c.in-Ok.got)) old (before g it) (now g it) m same.front same.costs (ap g.D.SaveDevice.state same.device) (ap g.E.Energy.gauge same.energy) on f))
+
+pub returns-in-Ok-clause-ticket : goal.returns-in-Ok-clause-ticket
+returns-in-Ok-clause-ticket g c =
+    let at = goal.at.returns-in-Ok-clause-ticket g c in
+    let it = at.After-look_at in
+    ticket_of c.in-Ok.got g.C.ChannelName.NUMBER
+    (∥∥₁_elim c.settle.new.self.kept.stands ∥∥₁_prop
+    (λ s. ∥∥₁_map (followed g it s.0 s.1) (λ f. ticket_stepped (setup_at g.B.PartsName (before g it)) s.0 f.later c.args.line c.in-Ok.got g.C.ChannelName.NUMBER f.happens.step.1 c.requires.here)))
+
+pub returns-in-Ok-clause-elsewhere : goal.returns-in-Ok-clause-elsewhere
+returns-in-Ok-clause-elsewhere g c = λ other apart.
+    let at = goal.at.returns-in-Ok-clause-elsewhere g c in
+    let it = at.After-look_at in
+    let desk = c.settle.new.self in
+    let slot = c.settle.new.slot in
+    elsewhere_noted (note g it) desk.known desk.known c.look_at.new.known slot.seat slot.seat c.look_at.new.seat c.look_at.ensures.noted refl refl g.C.ChannelName.NUMBER slot.kept.channel_is other apart ∙ c.settle.ensures.elsewhere other apart
+
+pub invariant_of-slot-in-Err-1 : goal.invariant_of-slot-in-Err-1
+invariant_of-slot-in-Err-1 g c =
+    let slot = c.settle.new.slot in
+    record { kept = subst (λ part. IsSlotKept g.K.ChannelPort g.B.PartsName part slot.seat g.C.ChannelName.NUMBER) (c.in-Some.is ∙ sym (ap Some c.in-Err.ensures.same)) slot.kept }
+
+pub returns-in-Err-clause-err : goal.returns-in-Err-clause-err
+returns-in-Err-clause-err g c = λ m s.
+    let at = goal.at.returns-in-Err-clause-err g c in
+    let it = at.After-inform in
+    let P = g.B.PartsName in
+    let same = c.settle.ensures.same in
+    let desk = c.settle.new.self in
+    let log = c.settle.new.slot.seat.log in
+    let part = c.in-Some.part in
+    let old = view_of g.K.ChannelPort g.D.SaveDevice g.E.Energy g.B.BoardName P c.args.self.now in
+    ∥∥₁_elim (c.settle.ensures.settles m s) ∥∥₁_prop
+    (λ on.
+    ∥∥₁_map (due g it)
+    (λ h.
+    let seen = part_seen P (mid g it) desk.kept.stands g.K.ChannelPort part g.C.ChannelName.NUMBER log (due g it) (of g it) (settled g it).waits in
+    let here : PartStands g.K.ChannelPort part part.channel (base_of_life on.seen.life) log =
+    subst (λ b. PartStands g.K.ChannelPort part part.channel b log) (sym on.stands.base) (subst (λ k. PartStands g.K.ChannelPort part k P.base log) (sym (own g it)) h.1.stands) in
+    let read = c.in-Err.ensures.reads (shape_at P (mid g it)) on.seen desk.known.logs log on.stands.stands (settled g it).agreed seen here (λ less. c.requires.here less ∙ sym (own g it)) in
+    behind P g.C.ChannelName.NUMBER (Event.Read c.args.line) (Reply.Read (Err c.in-Err.refusal)) old (mid g it) (mid g it) m same.front same.costs (ap g.D.SaveDevice.state same.device) (ap g.E.Energy.gauge same.energy) on
+    (read_refused P (mid g it) on.seen on.stands desk.kept.shape (mid g it) refl refl refl refl refl refl refl g.K.ChannelPort part c.read_on.new.part log
+    (has_channel P (mid g it) desk.kept.stands g.K.ChannelPort part g.C.ChannelName.NUMBER log (due g it) (of g it)) c.args.line c.in-Err.refusal read refl refl refl)))

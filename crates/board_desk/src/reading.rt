@@ -1,0 +1,74 @@
+// A host's read, with the part of its line's channel.
+ghost use Rattle.std.specs.Prelude.{◌≡◌, ◌<◌, IfErr, IfOk, Err, Ok};
+ghost use Rattle.mark_board.specs.SeenMarks.{IsNotAbove, seen_marks};
+
+use crate::desk::Desk;
+use crate::noting::look_at;
+use arm_state::ReadRefusal;
+use channel_locks::{ChannelName, PartsName, Slot};
+use channel_port::ChannelPort;
+use energy_budget::Energy;
+use mark_board::HostSeat;
+use nv_machine::{Event, Reply};
+use nv_workers::{BoardName, GotAt};
+use save_device::SaveDevice;
+use split_module::{SplitFront, read_on};
+use std::marker::Brand;
+
+// How many writes were accepted.
+fn accepted_by(split: &SplitFront) -> u64
+    ensures { result ≡ split.now.front.accepted }
+{
+    split.front.accepted()
+}
+
+impl<K: ChannelPort, D: SaveDevice, E: Energy, B: BoardName + PartsName> Desk<K, D, E, B> {
+    ghost use Rattle.board_desk.specs.Answering.{DeskAnswers, IsTicketOf, SameElsewhere};
+    ghost use Rattle.board_desk.specs.Views.{SameButCounts, view_of};
+
+    /// Reads a line of the slot's channel for a host, whose seat then sees the marks: the bytes or a ticket, and how many writes were
+    /// accepted before. What the channel did since both locks were held is seen before, and its returned credits are taken back.
+    pub fn read<C: ChannelName>(
+        &mut self,
+        slot: &mut Slot<K, B, C>,
+        host: &mut HostSeat,
+        line: u64,
+    ) -> Result<GotAt, ReadRefusal>
+        requires has { C.NUMBER < B.ports }
+        requires here { line < B.make.lines → (B.make.place_of line).channel ≡ C.NUMBER }
+        requires host { host.old.board ≡ B.board }
+        ensures ok { IfOk result (λ r. DeskAnswers B.PartsName.own C.NUMBER
+            (Event.Read line) (Reply.Read (Ok r.got))
+            (view_of K.ChannelPort D.SaveDevice E.Energy B.BoardName.own B.PartsName.own self.old)
+            (view_of K.ChannelPort D.SaveDevice E.Energy B.BoardName.own B.PartsName.own
+            self.new)) }
+        ensures err { IfErr result (λ refusal. DeskAnswers B.PartsName.own C.NUMBER
+            (Event.Read line) (Reply.Read (Err refusal))
+            (view_of K.ChannelPort D.SaveDevice E.Energy B.BoardName.own B.PartsName.own self.old)
+            (view_of K.ChannelPort D.SaveDevice E.Energy B.BoardName.own B.PartsName.own
+            self.new)) }
+        ensures ticket { IfOk result (λ r. IsTicketOf C.NUMBER r.got) }
+        ensures at { IfOk result (λ r. r.at ≡ self.old.split.front.accepted) }
+        ensures same { SameButCounts K.ChannelPort D.SaveDevice E.Energy B.BoardName.own
+            B.PartsName.own self.old self.new }
+        ensures elsewhere { SameElsewhere C.NUMBER self.old.known.logs self.new.known.logs }
+        ensures seen { host.new ≡ seen_marks B.board
+            self.old.split.front.accepted self.old.split.front.persisted }
+        ensures rises { IsNotAbove host.old host.new }
+    {
+        self.settle(slot);
+        let Some(part) = &mut slot.part else {
+            unreachable!();
+        };
+        slot.seat.always();
+        let at = accepted_by(&self.split);
+        self.seat.inform(&self.marks, host);
+        match read_on(&self.split, part, line) {
+            Ok(got) => {
+                look_at::<Brand, K>(&self.logs, &mut self.known, &mut slot.seat, part);
+                Ok(GotAt { got, at })
+            }
+            Err(refusal) => Err(refusal),
+        }
+    }
+}
