@@ -9,10 +9,12 @@ mod awaiting;
 mod board;
 mod dealing;
 mod locked_desk;
+mod reading;
 mod starting;
 mod tables;
 mod telling;
 mod working;
+mod writing;
 
 pub use board::Board;
 pub use locked_desk::LockedDesk;
