@@ -2,3 +2,4 @@ pub mod Desk
 pub mod Kept
 pub mod Answering
 pub mod Views
+pub mod Hosting

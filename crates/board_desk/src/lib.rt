@@ -7,6 +7,7 @@
 #![tactic(auto)]
 
 mod desk;
+mod hosting;
 mod noting;
 mod reading;
 mod settling;
