@@ -1,8 +1,8 @@
 //! What lies behind the board's lock, where each channel has a lock of its own, and what is done with it and the part of one
 //! channel.
 //!
-//! A `Desk` has the front of the module, the device, the gauge, the record of the life, the marks, and what is known of each channel
-//! by its log. It stands for some machine whenever its lock is free (`specs/Desk.antt`, `specs/Kept.antt`). Who holds the board's
+//! A `Desk` has the front of the module, the device, the gauge, the record of the life, the marks, and what is known of each
+//! channel by its log. It stands for some machine whenever its lock is free (`specs/Desk.antt`, `specs/Kept.antt`). Who holds the board's
 //! lock and one channel's settles that channel first, and then writes or reads; of no other channel is anything asked.
 #![tactic(auto)]
 
