@@ -6,12 +6,15 @@
 //! lock and one channel's settles that channel first, and then writes or reads; of no other channel is anything asked.
 #![tactic(auto)]
 
+mod board_port;
 mod desk;
 mod hosting;
+mod loans;
 mod noting;
 mod reading;
 mod settling;
 mod writing;
 
+pub use board_port::BoardPort;
 pub use desk::Desk;
 pub use noting::{look_at, note_write};
