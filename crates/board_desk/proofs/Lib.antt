@@ -9,3 +9,4 @@ pub mod Restored
 pub mod Asked
 pub mod Wrote
 pub mod Ticketed
+pub mod Recorded

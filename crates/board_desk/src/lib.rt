@@ -9,12 +9,15 @@
 mod board_port;
 mod desk;
 mod hosting;
+mod laws;
 mod loans;
 mod noting;
 mod reading;
+mod resting;
 mod settling;
 mod writing;
 
 pub use board_port::BoardPort;
 pub use desk::Desk;
+pub use laws::{desks_keep_lives, desks_tell_lives};
 pub use noting::{look_at, note_write};
