@@ -7,6 +7,7 @@
 #![tactic(auto)]
 
 mod board_port;
+mod calling;
 mod desk;
 mod loans;
 mod noting;
@@ -15,5 +16,8 @@ mod settling;
 mod writing;
 
 pub use board_port::BoardPort;
+pub use calling::{
+    ArmCall, DisarmCall, LossCall, SaveBeginCall, SaveStepCall, SenseCall, WholeCall,
+};
 pub use desk::Desk;
 pub use noting::{look_at, note_write};
