@@ -126,8 +126,9 @@ impl<K: ChannelPort, D: SaveDevice, E: Energy> WholeCall<K, D, E> for SaveStepCa
     }
 }
 
-// Mains are lost.
-fn lose_mains<K, D, E, G, R>(rt: &R, it: &mut RecordedModule<K, D, E>, gate: &G) -> Loss
+/// Mains were lost: where acknowledged writes are to be saved, the channels are drained at once and all accepted writes saved, as
+/// `Module::power_loss_with`.
+pub(crate) fn lose_mains<K, D, E, G, R>(rt: &R, it: &mut RecordedModule<K, D, E>, gate: &G) -> Loss
 where
     K: ChannelPort + Send,
     D: SaveDevice,
@@ -140,34 +141,4 @@ where
 {
     it.running
         .power_loss_with(rt, &mut it.device, &mut it.energy, gate)
-}
-
-/// Mains were lost: where acknowledged writes are to be saved, the channels are drained at once and all accepted writes saved, as
-/// `Module::power_loss_with`.
-#[derive(Drop)]
-pub struct LossCall<'a, G, R> {
-    pub rt: &'a R,
-    pub gate: &'a G,
-}
-
-impl<'a, K, D, E, G, R> WholeCall<K, D, E> for LossCall<'a, G, R>
-where
-    K: ChannelPort + Send,
-    D: SaveDevice,
-    E: Energy,
-    G: Gate + Sync,
-    R: Threads + Sync,
-{
-    type Answer = Loss;
-
-    ghost use Rattle.std.specs.Prelude.{refl};
-    ghost use Rattle.board_desk.specs.Calling.{loss_course};
-
-    ghost course = { loss_course };
-
-    ghost adds_none = { λ answer. refl };
-
-    fn call(self, it: &mut RecordedModule<K, D, E>) -> Loss {
-        lose_mains(self.rt, it, self.gate)
-    }
 }

@@ -13,11 +13,12 @@ mod loans;
 mod noting;
 mod reading;
 mod settling;
+
 mod writing;
 
 pub use board_port::BoardPort;
 pub use calling::{
-    ArmCall, DisarmCall, LossCall, SaveBeginCall, SaveStepCall, SenseCall, WholeCall,
+    ArmCall, DisarmCall, SaveBeginCall, SaveStepCall, SenseCall, WholeCall,
 };
 pub use desk::Desk;
 pub use noting::{look_at, note_write};
