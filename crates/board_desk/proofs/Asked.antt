@@ -1,13 +1,13 @@
 -- What a write or a read asks of a desk and of a part, of which both locks are held.
-use Rattle.std.proofs.Common.{List, Option, Some, [], ap, arith, refl, subst, sym, length, ℕ, ◌+◌, ◌-◌, ◌*◌, ◌<◌, ◌∙◌, ◌≡◌, ◌≤◌}
+use Rattle.std.proofs.Common.{List, ap, arith, subst, sym, length, ℕ, ◌+◌, ◌-◌, ◌*◌, ◌<◌, ◌∙◌, ◌≡◌, ◌≤◌, ⊎_elim}
 use Rattle.std.proofs.Math.Bool.{Bool-set}
 use Rattle.std.proofs.Math.Bridge.{le_prop}
 use Rattle.std.proofs.Math.Logic.{∥∥₁_elim}
 use Rattle.std.proofs.Math.Nat.{ℕ_set}
+use Rattle.std.proofs.lemmas.Bool.{cases_lt}
 use Rattle.std.proofs.lemmas.List.{length-drop}
 use Rattle.std.proofs.lemmas.List.Sums.{sum_by-le}
 use Rattle.arm_state.specs.Modes.{has_ended}
-use Rattle.arm_state.specs.declared.mode.Mode.{Mode}
 use Rattle.channel_locks.specs.declared.parts_name.PartsName.{Ghosts as PartsGhosts}
 use Rattle.channel_locks.specs.PortMakes.{PortMake}
 use Rattle.channel_log.specs.Log.{IsLogOf, LogNote, credits_of, log_tells}
@@ -15,17 +15,27 @@ use Rattle.channel_part.proofs.Counting.{all_above}
 use Rattle.channel_part.specs.declared.part.Part.{Part}
 use Rattle.channel_part.specs.Stands.{queue_of}
 use Rattle.channel_port.specs.declared.port.ChannelPort.{Ghosts}
+use Rattle.channel_port.specs.Shape.{IsShape}
 use Rattle.channel_port.specs.Waits.{AllBelow}
+use Rattle.energy_budget.specs.declared.costs.Costs.{Costs}
 use Rattle.channel_set.proofs.Written.{numbers-before}
 use Rattle.line_memory.specs.History.{Recorded}
 use Rattle.line_memory.specs.Parts.{AreBefore}
-use Rattle.line_memory.specs.declared.parts.Numbered.{Numbered}
 use Rattle.nv_machine.proofs.Guarded.{cut_below, persisted_accepted}
 use Rattle.nv_machine.specs.State.{Machine, start_of_life}
 use Rattle.split_machine.proofs.ToldOf.{told_of_log}
 use Rattle.split_module.specs.Lending.{IsSeen}
 use Rattle.board_desk.proofs.Lending.{IsDue, channel_due, out_told}
-use Rattle.board_desk.specs.Desk.{DeskStands, DeskView, setup_at, shape_at}
+use Rattle.board_desk.specs.Answering.{IsAskedFor}
+use Rattle.board_desk.specs.Desk.{DeskStands, DeskView, setup_at, shape_at, shape_named}
+
+-- a channel that is asked for a line is one of the board's
+pub asked_has : {B : Type 0} (P : PartsGhosts B) (costs : Costs) (line channel : ℕ) → IsShape (shape_named P costs) → IsAskedFor P.make line channel → channel < P.ports
+asked_has P costs line channel shape asked =
+    ⊎_elim
+    (λ (less : line < P.make.lines). let known = shape.known line less in let is = asked.here less in omega (arith, known, is))
+    (λ (more : P.make.lines ≤ line). let is = asked.beyond more in let some = shape.some in let first = shape.known 0 (omega (arith, some)) in omega (arith, is, first))
+    (cases_lt line P.make.lines)
 
 module _ {B : Type 0} (P : PartsGhosts B) (desk : DeskView) (stands : ∥ ((m : Machine) × DeskStands P desk m) ∥₁) where
   -- few credits are out

@@ -1,5 +1,5 @@
 -- An event of the machine for which a desk stands, by which the store stays as it is.
-use Rattle.std.proofs.Common.{Option, None, Some, [], ap, arith, false, inr, subst, sym, length, ℕ, ◌++◌, ◌-◌, ◌∙◌, ◌∷◌, ◌≡◌, ◌≤◌}
+use Rattle.std.proofs.Common.{Option, None, Some, ap, arith, false, inr, subst, sym, length, ℕ, ◌++◌, ◌-◌, ◌∙◌, ◌≡◌, ◌≤◌}
 use Rattle.std.specs.Option.{ForSome}
 use Rattle.std.specs.Prelude.{◌≢◌}
 use Rattle.line_memory.specs.History.{Recorded, recorded}
@@ -21,7 +21,7 @@ use Rattle.nv_machine.specs.Guard.{IsGuarded}
 use Rattle.nv_machine.specs.Headline.{Happens, RecoversMeanwhile, marks}
 use Rattle.nv_machine.specs.Machine.{MachineStep}
 use Rattle.nv_machine.specs.Rising.{added}
-use Rattle.nv_machine.specs.State.{hold_of, Machine, RunningSave, Setup, Store, World, start_of_life, stored_base, stored_writes}
+use Rattle.nv_machine.specs.State.{hold_of, Machine, RunningSave, Store, start_of_life, stored_base, stored_writes}
 use Rattle.nv_machine.proofs.Backing.{IsKnown}
 use Rattle.nv_machine.proofs.EachEvent.{KeepsLife, event_keeps, guarded_event}
 use Rattle.nv_machine.proofs.Guarded.{cut_below}

@@ -10,3 +10,4 @@ pub mod Restored
 pub mod Asked
 pub mod Wrote
 pub mod Ticketed
+pub mod Recorded

@@ -39,11 +39,13 @@ module _ {K B : Type 0} (L : Ghosts K) (P : PartsGhosts B) where
     pub part_back : (part : Part K L) (log : List LogNote) → log_tells log ≡ restated hold ended (L.view port).waits told → number < P.ports
         → ((base : List (List ℕ)) (log : List LogNote) → PortStands L port number base (log_tells log) → credits_of log ≡ length (L.view port).waits.writes → ended ≡ (log_tells log).ended → PartStands L part number base log)
         → part.port ≡ port → ∥ make_of (L.view port) ≡ P.make ∥₁ → ∥ IsPartWhereDue L P (Some part) number log ∥₁
-    part_back part log told_is here stands same made = ∥∥₁_elim made ∥∥₁_prop (λ make. ∥∥₁_map back (λ lent.
-        (here, record {
-          stands = stands P.base log (subst (PortStands L port number P.base) (sym told_is) lent.stands) (ap (λ (t : Told). length t.waits.writes) told_is) (sym (ap (λ (t : Told). t.ended) told_is));
-          made = ap (λ (p : K). make_of (L.view p)) same ∙ make;
-        })))
+    part_back part log told_is here stands same made = ∥∥₁_elim made ∥∥₁_prop (λ make. ∥∥₁_map back (λ lent. (
+      here,
+      record {
+        stands = stands P.base log (subst (PortStands L port number P.base) (sym told_is) lent.stands) (ap (λ (t : Told). length t.waits.writes) told_is) (sym (ap (λ (t : Told). t.ended) told_is));
+        made = ap (λ (p : K). make_of (L.view p)) same ∙ make;
+      },
+    )))
 
 module _ {K : Type 0} (L : Ghosts K) where
   pub fits_lent : (pieces : SplitModule K) → ∥ FitAsModule L pieces ∥₁ → FitAsModule L pieces

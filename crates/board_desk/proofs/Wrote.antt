@@ -1,5 +1,5 @@
 -- A write at a part of which both locks are held, whether it was accepted or not.
-use Rattle.std.proofs.Common.{Err, IfErr, IfOk, IsOk, List, Ok, Result, Some, [], ap, append-nil, arith, cond, false, refl, subst, sym, length, true, ℕ, ◌++◌, ◌+◌, ◌<◌, ◌∙◌, ◌∷◌, ◌≡◌, ◌≢◌, ◌≤◌}
+use Rattle.std.proofs.Common.{Err, IfErr, IfOk, IsOk, List, Ok, Result, Some, [], ap, append-nil, arith, false, refl, subst, sym, length, true, ℕ, ◌++◌, ◌+◌, ◌<◌, ◌∙◌, ◌∷◌, ◌≡◌, ◌≤◌}
 use Rattle.std.specs.Prelude.{Bool, slice_index_or, if◌then◌else◌}
 use Rattle.std.proofs.lemmas.List.{get_or-set_other}
 use Rattle.arm_state.specs.Modes.{is_armed}
@@ -15,7 +15,6 @@ use Rattle.channel_part.specs.Stands.{StandsNoted}
 use Rattle.channel_port.specs.Shape.{IsShape}
 use Rattle.channel_port.specs.declared.port.ChannelPort.{Ghosts}
 use Rattle.channel_port.specs.View.{PortView, with_write}
-use Rattle.channel_set.specs.declared.terms.PortTerms.{PortTerms}
 use Rattle.line_memory.specs.History.{Recorded}
 use Rattle.line_memory.specs.Parts.{AreBefore, numbered}
 use Rattle.line_memory.specs.declared.Write as line_write
@@ -32,7 +31,6 @@ use Rattle.nv_workers.specs.Marks.{ShowsNoMore}
 use Rattle.split_machine.specs.Telling.{with_note}
 use Rattle.split_module.specs.Lending.{WroteOn}
 use Rattle.split_module.specs.declared.front.SplitFront.{SplitFront}
-use Rattle.board_desk.proofs.Asked.{in_order, many_recorded}
 use Rattle.board_desk.proofs.Followed.{Follows, write_accepted, write_refused}
 use Rattle.board_desk.proofs.Lending.{IsDue, due_noted}
 use Rattle.board_desk.proofs.Noted.{front_noted, logs_noted, seat_noted}

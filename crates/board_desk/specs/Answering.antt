@@ -1,6 +1,7 @@
 -- What becomes of a desk with the part of one channel, whichever machine it stood for.
-use Rattle.std.specs.Prelude.{◌≡◌, ◌≢◌, ℕ, List, [], slice_index_or, Option, Some, None}
+use Rattle.std.specs.Prelude.{◌≡◌, ◌≢◌, ◌<◌, ◌≤◌, ℕ, List, [], slice_index_or, Option, Some, None}
 use Rattle.channel_log.specs.Log.{IsLogOf, LogNote, log_tells}
+use Rattle.channel_locks.specs.PortMakes.{PortMake}
 use Rattle.channel_locks.specs.declared.parts_name.PartsName.{Ghosts as PartsGhosts}
 use Rattle.channel_part.specs.declared.part.Part.{Part}
 use Rattle.channel_part.specs.Stands.{returned_of}
@@ -34,6 +35,11 @@ module _ {B : Type 0} (P : PartsGhosts B) where
 
   abbrev pub DeskAnswers : ℕ → Event → Reply → DeskView → DeskView → Type 0
   DeskAnswers channel event reply old new = (m : Machine) → DeskStands P old m → ∥ GoesOnWith channel event reply old new m ∥₁
+
+-- this channel is asked for a line: its own, or the first one where there is no such line
+pub record IsAskedFor (make : PortMake) (line channel : ℕ) : Type 0 where
+  pub here : line < make.lines → (make.place_of line).channel ≡ channel
+  pub beyond : make.lines ≤ line → channel ≡ 0
 
 -- what is known of the other channels has not changed
 abbrev pub SameElsewhere : ℕ → List (List LogNote) → List (List LogNote) → Type 0

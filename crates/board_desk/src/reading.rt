@@ -23,19 +23,18 @@ fn accepted_by(split: &SplitFront) -> u64
 }
 
 impl<K: ChannelPort, D: SaveDevice, E: Energy, B: BoardName + PartsName> Desk<K, D, E, B> {
-    ghost use Rattle.board_desk.specs.Answering.{DeskAnswers, IsTicketOf, SameElsewhere};
+    ghost use Rattle.board_desk.specs.Answering.{DeskAnswers, IsAskedFor, IsTicketOf, SameElsewhere};
     ghost use Rattle.board_desk.specs.Views.{SameButCounts, view_of};
 
-    /// Reads a line of the slot's channel for a host, whose seat then sees the marks: the bytes or a ticket, and how many writes were
-    /// accepted before. What the channel did since both locks were held is seen before, and its returned credits are taken back.
+    /// Reads a line of the slot's channel for a host, whose seat then sees the marks: the bytes or a ticket, and how many writes
+    /// were accepted before. What the channel did since both locks were held is seen before, and its returned credits are taken back.
     pub fn read<C: ChannelName>(
         &mut self,
         slot: &mut Slot<K, B, C>,
         host: &mut HostSeat,
         line: u64,
     ) -> Result<GotAt, ReadRefusal>
-        requires has { C.NUMBER < B.ports }
-        requires here { line < B.make.lines → (B.make.place_of line).channel ≡ C.NUMBER }
+        requires asked { IsAskedFor B.make line C.NUMBER }
         requires host { host.old.board ≡ B.board }
         ensures ok { IfOk result (λ r. DeskAnswers B.PartsName.own C.NUMBER
             (Event.Read line) (Reply.Read (Ok r.got))

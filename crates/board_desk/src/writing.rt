@@ -31,11 +31,11 @@ fn show(marks: &MarkBoard, seat: &mut BoardSeat, split: &SplitFront)
 }
 
 impl<K: ChannelPort, D: SaveDevice, E: Energy, B: BoardName + PartsName> Desk<K, D, E, B> {
-    ghost use Rattle.board_desk.specs.Answering.{DeskAnswers, SameElsewhere};
+    ghost use Rattle.board_desk.specs.Answering.{DeskAnswers, IsAskedFor, SameElsewhere};
     ghost use Rattle.board_desk.specs.Views.{KeepsAround, view_of};
 
-    /// Writes a line of the slot's channel for a host, whose share counts the write if it was accepted, and whose seat then sees the
-    /// marks. What the channel did since both locks were held is seen before, and its returned credits are taken back.
+    /// Writes a line of the slot's channel for a host, whose share counts the write if it was accepted, and whose seat then sees
+    /// the marks. What the channel did since both locks were held is seen before, and its returned credits are taken back.
     pub fn write<C: ChannelName>(
         &mut self,
         slot: &mut Slot<K, B, C>,
@@ -43,9 +43,7 @@ impl<K: ChannelPort, D: SaveDevice, E: Energy, B: BoardName + PartsName> Desk<K,
         share: &mut Share<B>,
         write: Write,
     ) -> Result<Accepted, WriteRefusal>
-        requires has { C.NUMBER < B.ports }
-        requires here { write.line < B.make.lines
-            → (B.make.place_of write.line).channel ≡ C.NUMBER }
+        requires asked { IsAskedFor B.make write.line C.NUMBER }
         requires host { host.old.board ≡ B.board }
         requires part { 0 < share.old.parts }
         ensures answers { DeskAnswers B.PartsName.own C.NUMBER

@@ -1,0 +1,4 @@
+mod Lists
+mod Fresh
+mod Begun
+mod Beginning

@@ -1,3 +1,4 @@
 pub mod Lines
 pub mod Starting
 pub mod Turns
+pub mod Hosts

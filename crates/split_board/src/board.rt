@@ -1,5 +1,6 @@
 // The locks.
 ghost use Rattle.std.specs.Prelude.{◌<◌};
+ghost use Rattle.board_desk.specs.Answering.{IsAskedFor};
 ghost use Rattle.split_board.specs.Lines.{AreLinesOf};
 
 use crate::locked_desk::LockedDesk;
@@ -49,7 +50,7 @@ impl<K: ChannelPort, D: SaveDevice, E: Energy, B: BoardName + PartsName, N: Noti
 
     // The channel of a line; 0 where there is no such line.
     pub(crate) fn channel_of(&self, line: u64) -> u64
-        ensures known { result < B.ports }
+        ensures asked { IsAskedFor B.make line result }
         ensures eight { result < 8 }
     {
         self.lines.channel_of(line)

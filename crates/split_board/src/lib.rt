@@ -9,9 +9,15 @@ mod awaiting;
 mod board;
 mod dealing;
 mod locked_desk;
+mod reading;
+mod starting;
+mod tables;
 mod telling;
 mod working;
+mod writing;
 
 pub use board::Board;
 pub use locked_desk::LockedDesk;
+pub use starting::{Started, start};
+pub use tables::BoardTables;
 pub use working::channel_worker;

@@ -1,7 +1,6 @@
 -- A host reads.
-use Rattle.std.proofs.Common.{Err, Ok, Some, ap, arith, refl, subst, sym, ℕ, ◌+◌, ◌<◌, ◌∙◌, ◌≡◌}
+use Rattle.std.proofs.Common.{Err, Ok, Some, ap, arith, refl, subst, sym, ◌<◌, ◌∙◌, ◌≡◌}
 use Rattle.std.proofs.Math.Logic.{∥∥₁_elim, ∥∥₁_map, ∥∥₁_prop}
-use Rattle.std.proofs.Math.Nat.{ℕ_set}
 use Rattle.std.specs.Arc.{arc_value}
 use Rattle.atomic_table.specs.Seated.{TableId}
 use Rattle.channel_locks.specs.declared.parts_name.PartsName.{Ghosts as PartsGhosts}
@@ -11,16 +10,15 @@ use Rattle.channel_log.specs.Log.{IsLogOf, LogNote, note_of}
 use Rattle.channel_log.specs.Seats.{AllLogs, OneLog}
 use Rattle.channel_log.specs.declared.entry.LogEntry.TheVariants.{Looked}
 use Rattle.channel_part.specs.Stands.{PartStands}
-use Rattle.channel_part.specs.declared.part.Part.{Part}
 use Rattle.channel_port.specs.View.{PortView}
 use Rattle.mark_board.specs.SeenMarks.{seen_marks}
 use Rattle.nv_machine.specs.State.{Machine, base_of_life}
 use Rattle.nv_machine.specs.declared.events.Event.{Event}
 use Rattle.nv_machine.specs.declared.events.Reply.{Reply}
-use Rattle.board_desk.specs.Answering.{IsSettled, IsSettledPart, IsTicketOf}
+use Rattle.board_desk.specs.Answering.{IsSettled, IsSettledPart}
 use Rattle.board_desk.specs.Desk.{DeskStands, DeskView, setup_at, shape_at}
 use Rattle.board_desk.specs.Views.{view_of}
-use Rattle.board_desk.proofs.Asked.{has_channel, lines_are, part_ended, part_lines, part_place, part_seen}
+use Rattle.board_desk.proofs.Asked.{asked_has, has_channel, lines_are, part_ended, part_lines, part_place, part_seen}
 use Rattle.board_desk.proofs.Followed.{Follows, behind, read_answered, read_refused}
 use Rattle.board_desk.proofs.Keeping.{kept_after}
 use Rattle.board_desk.proofs.Lending.{IsDue, channel_due, due_noted, due_part, none_due}
@@ -34,7 +32,7 @@ pub unreachable-requires : goal.unreachable-requires
 unreachable-requires g c =
     let slot = c.settle.new.slot in
     let beyond = none_due g.B.PartsName g.K.ChannelPort slot.part g.C.ChannelName.NUMBER slot.seat.log c.in_default.is slot.kept.part_is in
-    let has = c.requires.has in
+    let has = asked_has g.B.PartsName c.settle.new.self.split.costs c.args.line g.C.ChannelName.NUMBER c.settle.new.self.kept.shape c.requires.asked in
     absurd (omega (arith, beyond, has))
 
 module _ (g : Over) (c : After-inform g) where
@@ -68,7 +66,7 @@ read_on-requires-clause-here g c = λ less.
     let it = at.After-inform in
     let stands = c.settle.new.self.kept.stands in
     part_place g.B.PartsName (mid g it) stands g.K.ChannelPort c.in-Some.part g.C.ChannelName.NUMBER c.settle.new.slot.seat.log (due g it) (of g it) c.args.line
-    (c.requires.here (subst (λ n. c.args.line < n) (lines_are g.B.PartsName (mid g it) stands) less))
+    (c.requires.asked.here (subst (λ n. c.args.line < n) (lines_are g.B.PartsName (mid g it) stands) less))
 
 pub read_on-requires-clause-ended : goal.read_on-requires-clause-ended
 read_on-requires-clause-ended g c =
@@ -112,7 +110,7 @@ module _ (g : Over) (c : After-look_at g) where
       (λ h.
       let here : PartStands g.K.ChannelPort part part.channel (base_of_life m.life) log =
       subst (λ b. PartStands g.K.ChannelPort part part.channel b log) (sym s.base) (subst (λ k. PartStands g.K.ChannelPort part k g.B.PartsName.base log) (sym part_own) h.1.stands) in
-      let read = c.in-Ok.ensures.reads (shape_at g.B.PartsName before) m before.logs log s.stands part_settled.agreed seen here (λ less. c.requires.here less ∙ sym part_own) in
+      let read = c.in-Ok.ensures.reads (shape_at g.B.PartsName before) m before.logs log s.stands part_settled.agreed seen here (λ less. c.requires.asked.here less ∙ sym part_own) in
       read_answered g.B.PartsName before m s desk.kept.shape now refl refl refl refl refl refl refl g.K.ChannelPort part c.read_on.new.part log
       (has_channel g.B.PartsName before desk.kept.stands g.K.ChannelPort part g.C.ChannelName.NUMBER log part_due part_of) c.args.line c.in-Ok.got read refl logs c.look_at.ensures.most refl)
 
@@ -164,7 +162,7 @@ returns-in-Ok-clause-ticket g c =
     let it = at.After-look_at in
     ticket_of c.in-Ok.got g.C.ChannelName.NUMBER
     (∥∥₁_elim c.settle.new.self.kept.stands ∥∥₁_prop
-    (λ s. ∥∥₁_map (followed g it s.0 s.1) (λ f. ticket_stepped (setup_at g.B.PartsName (before g it)) s.0 f.later c.args.line c.in-Ok.got g.C.ChannelName.NUMBER f.happens.step.1 c.requires.here)))
+    (λ s. ∥∥₁_map (followed g it s.0 s.1) (λ f. ticket_stepped (setup_at g.B.PartsName (before g it)) s.0 f.later c.args.line c.in-Ok.got g.C.ChannelName.NUMBER f.happens.step.1 c.requires.asked.here)))
 
 pub returns-in-Ok-clause-elsewhere : goal.returns-in-Ok-clause-elsewhere
 returns-in-Ok-clause-elsewhere g c = λ other apart.
@@ -196,7 +194,7 @@ returns-in-Err-clause-err g c = λ m s.
     let seen = part_seen P (mid g it) desk.kept.stands g.K.ChannelPort part g.C.ChannelName.NUMBER log (due g it) (of g it) (settled g it).waits in
     let here : PartStands g.K.ChannelPort part part.channel (base_of_life on.seen.life) log =
     subst (λ b. PartStands g.K.ChannelPort part part.channel b log) (sym on.stands.base) (subst (λ k. PartStands g.K.ChannelPort part k P.base log) (sym (own g it)) h.1.stands) in
-    let read = c.in-Err.ensures.reads (shape_at P (mid g it)) on.seen desk.known.logs log on.stands.stands (settled g it).agreed seen here (λ less. c.requires.here less ∙ sym (own g it)) in
+    let read = c.in-Err.ensures.reads (shape_at P (mid g it)) on.seen desk.known.logs log on.stands.stands (settled g it).agreed seen here (λ less. c.requires.asked.here less ∙ sym (own g it)) in
     behind P g.C.ChannelName.NUMBER (Event.Read c.args.line) (Reply.Read (Err c.in-Err.refusal)) old (mid g it) (mid g it) m same.front same.costs (ap g.D.SaveDevice.state same.device) (ap g.E.Energy.gauge same.energy) on
     (read_refused P (mid g it) on.seen on.stands desk.kept.shape (mid g it) refl refl refl refl refl refl refl g.K.ChannelPort part c.read_on.new.part log
     (has_channel P (mid g it) desk.kept.stands g.K.ChannelPort part g.C.ChannelName.NUMBER log (due g it) (of g it)) c.args.line c.in-Err.refusal read refl refl refl)))

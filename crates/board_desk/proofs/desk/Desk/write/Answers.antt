@@ -1,5 +1,5 @@
 -- A host writes.
-use Rattle.std.proofs.Common.{Err, IfOk, Ok, Result, ap, arith, length, refl, subst, sym, ℕ, ◌<◌, ◌∙◌, ◌≡◌, ◌≤◌}
+use Rattle.std.proofs.Common.{Err, IfOk, Ok, Result, ap, arith, length, refl, subst, sym, ℕ, ◌<◌, ◌∙◌, ◌≡◌}
 use Rattle.std.proofs.Math.Logic.{∥∥₁_map}
 use Rattle.std.specs.Arc.{arc_value}
 use Rattle.atomic_table.specs.Seated.{TableId}
@@ -16,10 +16,10 @@ use Rattle.module_core.specs.declared.front.Front.{Front}
 use Rattle.nv_machine.specs.declared.events.Accepted.{Accepted}
 use Rattle.nv_machine.specs.declared.events.Event.{Event}
 use Rattle.nv_machine.specs.declared.events.Reply.{Reply}
-use Rattle.board_desk.specs.Answering.{DeskAnswers, IsSettled, IsSettledPart}
+use Rattle.board_desk.specs.Answering.{IsSettled, IsSettledPart}
 use Rattle.board_desk.specs.Desk.{DeskStands, DeskView, shape_at}
 use Rattle.board_desk.specs.Views.{view_of}
-use Rattle.board_desk.proofs.Asked.{accepted_before, few_out, has_channel, in_order, lines_are, many_recorded, part_ended, part_lines, part_place, part_seen, waiting_below}
+use Rattle.board_desk.proofs.Asked.{accepted_before, asked_has, few_out, has_channel, in_order, lines_are, many_recorded, part_ended, part_lines, part_place, part_seen, waiting_below}
 use Rattle.board_desk.proofs.Followed.{Follows, behind}
 use Rattle.board_desk.proofs.Keeping.{kept_after}
 use Rattle.board_desk.proofs.Lending.{IsDue, channel_due, due_part, none_due}
@@ -32,7 +32,7 @@ pub unreachable-requires : goal.unreachable-requires
 unreachable-requires g c =
     let slot = c.settle.new.slot in
     let beyond = none_due g.B.PartsName g.K.ChannelPort slot.part g.C.ChannelName.NUMBER slot.seat.log c.in_default.is slot.kept.part_is in
-    let has = c.requires.has in
+    let has = asked_has g.B.PartsName c.settle.new.self.split.costs c.args.write.line g.C.ChannelName.NUMBER c.settle.new.self.kept.shape c.requires.asked in
     absurd (omega (arith, beyond, has))
 
 module _ (g : Over) (c : After-always g) where
@@ -64,7 +64,7 @@ write_on-reply-requires-clause-here g c = λ less.
     let at = goal.at.write_on-reply-requires-clause-here g c in
     let stands = c.settle.new.self.kept.stands in
     part_place g.B.PartsName (mid g at.After-always) stands g.K.ChannelPort c.in-Some.part g.C.ChannelName.NUMBER c.settle.new.slot.seat.log (due g at.After-always) (of g at.After-always) c.args.write.line
-    (c.requires.here (subst (λ n. c.args.write.line < n) (lines_are g.B.PartsName (mid g at.After-always) stands) less))
+    (c.requires.asked.here (subst (λ n. c.args.write.line < n) (lines_are g.B.PartsName (mid g at.After-always) stands) less))
 
 pub write_on-reply-requires-clause-ended : goal.write_on-reply-requires-clause-ended
 write_on-reply-requires-clause-ended g c =
@@ -130,7 +130,7 @@ module _ (g : Over) (c : After-note g) where
       let log = c.settle.new.slot.seat.log in
       let part = c.in-Some.part in
       let seen = part_seen P before desk.kept.stands g.K.ChannelPort part g.C.ChannelName.NUMBER log part_due part_of part_settled.waits in
-      let wrote = c.write_on-reply.ensures.writes (shape_at P before) m before.logs log s.stands part_settled.agreed seen (λ less. c.requires.here less ∙ sym part_own) in
+      let wrote = c.write_on-reply.ensures.writes (shape_at P before) m before.logs log s.stands part_settled.agreed seen (λ less. c.requires.asked.here less ∙ sym part_own) in
       follows g.K.ChannelPort P g.C.ChannelName.NUMBER part c.write_on-reply.new.part c.args.write desk.known c.note_write.new.known c.settle.new.slot.seat c.note_write.new.seat c.settle.new.slot.kept.channel_is
       before m s desk.kept.shape now c.write_on-reply.ensures.costs refl refl refl (has_channel P before desk.kept.stands g.K.ChannelPort part g.C.ChannelName.NUMBER log part_due part_of) (sym part_own) refl refl
       c.write_on-reply.result written is_noted wrote c.note_write.ensures.most c.note.ensures.history

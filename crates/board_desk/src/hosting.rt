@@ -1,0 +1,76 @@
+// A host's write and read at a desk, as the host is told of them.
+ghost use Rattle.std.specs.Prelude.{◌≡◌, IfErr, IfOk, Err, Ok};
+ghost use Rattle.nv_workers.specs.Client.{SeesNoLess};
+
+use crate::desk::Desk;
+use arm_state::{ReadRefusal, WriteRefusal};
+use channel_locks::{ChannelName, PartsName, Slot};
+use channel_port::ChannelPort;
+use energy_budget::Energy;
+use line_memory::Write;
+use nv_machine::{Event, Reply};
+use nv_workers::{BoardName, GotAt, Host, Receipt};
+use save_device::SaveDevice;
+
+impl<K: ChannelPort, D: SaveDevice, E: Energy, B: BoardName + PartsName> Desk<K, D, E, B> {
+    ghost use Rattle.board_desk.specs.Answering.{DeskAnswers, IsAskedFor, IsTicketOf, SameElsewhere};
+    ghost use Rattle.board_desk.specs.Hosting.{HostWritesAtDesk};
+    ghost use Rattle.board_desk.specs.Views.{KeepsAround, SameButCounts, view_of};
+
+    /// Writes a line for a host, with what lies behind the lock of the line's channel.
+    pub fn write_in<C: ChannelName>(
+        &mut self,
+        slot: &mut Slot<K, B, C>,
+        host: &mut Host<B>,
+        write: Write,
+    ) -> Result<Receipt, WriteRefusal>
+        requires asked { IsAskedFor B.make write.line C.NUMBER }
+        ensures writes { HostWritesAtDesk K.ChannelPort D.SaveDevice E.Energy B.BoardName.own
+            B.PartsName.own C.NUMBER write result host.old host.new self.old self.new }
+        ensures rises { SeesNoLess host.old host.new }
+        ensures rest { KeepsAround K.ChannelPort D.SaveDevice E.Energy B.BoardName.own
+            B.PartsName.own self.old self.new }
+        ensures elsewhere { SameElsewhere C.NUMBER self.old.known.logs self.new.known.logs }
+    {
+        let data = write.data;
+        match self.write(slot, &mut host.seat, &mut host.share, write) {
+            Ok(accepted) => Ok(Receipt {
+                number: accepted.number,
+                line: write.line,
+                data,
+            }),
+            Err(refusal) => Err(refusal),
+        }
+    }
+
+    /// Reads a line for a host, with what lies behind the lock of the line's channel: the bytes or a ticket of that channel, and
+    /// how many writes were accepted before.
+    pub fn read_in<C: ChannelName>(
+        &mut self,
+        slot: &mut Slot<K, B, C>,
+        host: &mut Host<B>,
+        line: u64,
+    ) -> Result<GotAt, ReadRefusal>
+        requires asked { IsAskedFor B.make line C.NUMBER }
+        ensures ok { IfOk result (λ r. DeskAnswers B.PartsName.own C.NUMBER
+            (Event.Read line) (Reply.Read (Ok r.got))
+            (view_of K.ChannelPort D.SaveDevice E.Energy B.BoardName.own B.PartsName.own self.old)
+            (view_of K.ChannelPort D.SaveDevice E.Energy B.BoardName.own B.PartsName.own
+            self.new)) }
+        ensures err { IfErr result (λ refusal. DeskAnswers B.PartsName.own C.NUMBER
+            (Event.Read line) (Reply.Read (Err refusal))
+            (view_of K.ChannelPort D.SaveDevice E.Energy B.BoardName.own B.PartsName.own self.old)
+            (view_of K.ChannelPort D.SaveDevice E.Energy B.BoardName.own B.PartsName.own
+            self.new)) }
+        ensures ticket { IfOk result (λ r. IsTicketOf C.NUMBER r.got) }
+        ensures at { IfOk result (λ r. r.at ≡ self.old.split.front.accepted) }
+        ensures seen { IfOk result (λ r. r.at ≡ host.new.accepted) }
+        ensures rises { SeesNoLess host.old host.new }
+        ensures writes { host.new.writes ≡ host.old.writes }
+        ensures same { SameButCounts K.ChannelPort D.SaveDevice E.Energy B.BoardName.own
+            B.PartsName.own self.old self.new }
+        ensures elsewhere { SameElsewhere C.NUMBER self.old.known.logs self.new.known.logs }
+    {
+        self.read(slot, &mut host.seat, line)
+    }
+}

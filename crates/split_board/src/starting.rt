@@ -1,0 +1,172 @@
+// How a board begins.
+ghost use Rattle.std.specs.Prelude.{◌≡◌, ◌≤◌, [], vec_capacity, vec_len, All, IfOk, IfErr};
+ghost use Rattle.std.specs.Arc.{arc_value};
+ghost use Rattle.mark_board.specs.SeenMarks.{AllHaveSeen, seen_marks};
+ghost use Rattle.channel_log.specs.Seats.{all_logs};
+ghost use Rattle.channel_set.specs.Set.{shape_of};
+ghost use Rattle.channel_locks.specs.Lines.{channels_of_lines};
+ghost use Rattle.nv_workers.specs.Client.{client};
+ghost use Rattle.nv_workers.specs.Kept.{IsRecordKept};
+ghost use Rattle.split_board.specs.Starting.{IsFresh, make_with};
+
+use crate::board::Board;
+use crate::dealing::locks_of;
+use crate::tables::BoardTables;
+use board_desk::Desk;
+use channel_locks::{LineChannels, PartsName};
+use channel_port::ChannelPort;
+use channel_set::ChannelSet;
+use energy_budget::Energy;
+use mark_board::{HostSeat, MarkBoard};
+use notice_book::Notices;
+use nv_workers::{BoardName, Host, NotStarted, Opening, RecordedModule, Tally, publish, seated};
+use save_device::SaveDevice;
+use split_module::SplitModule;
+use std::alloc::{AllocError, Global};
+use std::sync::Arc;
+use std::sync::ledger::Share;
+
+/// A board that has begun, and its hosts.
+#[derive(Drop)]
+pub struct Started<K: ChannelPort, D: SaveDevice, E: Energy, B: BoardName + PartsName, N: Notices> {
+    pub board: Board<K, D, E, B, N>,
+    pub hosts: Vec<Host<B>>,
+}
+
+// What takes memory of a board.
+#[derive(Drop)]
+struct Prepared<K, B: BoardName> {
+    marks: Arc<MarkBoard, Global>,
+    hosts: Vec<Host<B>>,
+    lines: LineChannels,
+    room: Vec<K>,
+}
+
+// Makes the hosts, the table of the lines' channels, and room for the ports.
+fn prepare<K: ChannelPort + Drop, B: BoardName>(
+    alloc: Global,
+    marks: MarkBoard,
+    seats: Vec<HostSeat>,
+    whole: &mut Share<B>,
+    mark: u64,
+    set: &ChannelSet<K>,
+) -> Result<Prepared<K, B>, AllocError>
+    requires board { marks ≡ B.board }
+    requires seats { AllHaveSeen (seen_marks B.board mark mark) seats.items }
+    requires parts { whole.old.parts ≡ vec_len seats }
+    requires amount { whole.old.amount ≡ 0 }
+    ensures marks { IfOk result (λ made. arc_value made.marks ≡ B.board) }
+    ensures number { IfOk result (λ made. vec_len made.hosts ≡ vec_len seats) }
+    ensures hosts { IfOk result (λ made.
+        All (λ h. h ≡ client mark mark 0 []) made.hosts.items) }
+    ensures rest { IfOk result (λ _. whole.new.parts ≡ 0) }
+    ensures none { IfOk result (λ _. whole.new.amount ≡ 0) }
+    ensures lines { IfOk result (λ made.
+        made.lines ≡ channels_of_lines (shape_of K.ChannelPort set.now)) }
+    ensures empty { IfOk result (λ made. made.room.items ≡ []) }
+    ensures room { IfOk result (λ made. 8 ≤ vec_capacity made.room) }
+{
+    let marks = Arc::new(alloc, marks)?;
+    let hosts = seated(alloc, &marks, seats, whole, mark)?;
+    let lines = LineChannels::of(alloc, set)?;
+    let room = Vec::with_capacity(alloc, 8)?;
+    Ok(Prepared {
+        marks,
+        hosts,
+        lines,
+        room,
+    })
+}
+
+/// Puts a module with its record and a book of notices behind nine locks, with as many hosts as the opening has seats. The module
+/// has accepted no write yet in its life. The board's name is picked from the tables and the module: a caller is generic over it.
+/// It refuses only where there is no memory, and then gives module and book back.
+pub fn start<K, D, E, B, N>(
+    alloc: Global,
+    tables: BoardTables,
+    recorded: RecordedModule<K, D, E>,
+    notices: N,
+) -> Result<Started<K, D, E, B, N>, NotStarted<K, D, E, N>>
+where
+    K: ChannelPort + Drop,
+    D: SaveDevice,
+    E: Energy,
+    B: BoardName + PartsName,
+    N: Notices,
+    requires name { tables.opening.name ≡ B.name }
+    requires parts { tables.opening.parts ≡ B.parts }
+    requires board { tables.opening.board ≡ B.board }
+    requires mark { tables.opening.mark ≤ recorded.running.front.persisted }
+    requires logs { tables.logs ≡ B.logs }
+    requires before { B.before ≡ 0 }
+    requires channels { (shape_of K.ChannelPort recorded.running.channels).channels ≡ B.channels }
+    requires ports { (shape_of K.ChannelPort recorded.running.channels).channels ≡ B.ports }
+    requires made { make_with K.ChannelPort recorded.running.channels.terms
+        recorded.running.channels.ports.items ≡ B.make }
+    requires base { recorded.history.base ≡ B.base }
+    requires fresh { IsFresh K.ChannelPort recorded.running }
+    requires kept { IsRecordKept K.ChannelPort D.SaveDevice E.Energy recorded }
+    ensures number { IfOk result (λ s. vec_len s.hosts ≡ B.parts) }
+    ensures hosts { IfOk result (λ s.
+        All (λ h. h ≡ client tables.opening.mark tables.opening.mark 0 []) s.hosts.items) }
+    ensures recorded { IfErr result (λ left. left.recorded ≡ recorded) }
+    ensures notices { IfErr result (λ left. left.notices ≡ notices) }
+{
+    let BoardTables {
+        opening,
+        logs,
+        mut known,
+    } = tables;
+    let Opening {
+        blank,
+        marks,
+        mut seat,
+        seats,
+        mark,
+    } = opening;
+    let (book, mut rest) = blank.open::<B>();
+    let running = &recorded.running;
+    let Ok(made) = prepare(alloc, marks, seats, &mut rest, mark, running.channels()) else {
+        return Err(NotStarted {
+            why: AllocError,
+            recorded,
+            notices,
+        });
+    };
+    let Prepared {
+        marks,
+        hosts,
+        lines,
+        room,
+    } = made;
+    publish(&marks, &mut seat, running.accepted(), running.mark());
+    let RecordedModule {
+        running,
+        device,
+        energy,
+        history,
+    } = recorded;
+    let SplitModule {
+        front: split,
+        mut ports,
+        terms,
+    } = SplitModule::of(running);
+    let channels = locks_of(&logs, &mut known, &mut ports);
+    let desk = Desk {
+        split,
+        terms,
+        room,
+        device,
+        energy,
+        history,
+        marks,
+        seat,
+        tally: Tally { book, rest },
+        logs,
+        known,
+    };
+    Ok(Started {
+        board: Board::new(desk, channels, lines, notices),
+        hosts,
+    })
+}
