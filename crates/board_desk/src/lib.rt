@@ -16,13 +16,10 @@ mod noting;
 mod reading;
 mod resting;
 mod settling;
-
 mod writing;
 
 pub use board_port::BoardPort;
-pub use calling::{
-    ArmCall, DisarmCall, SaveBeginCall, SaveStepCall, SenseCall, WholeCall,
-};
+pub use calling::{ArmCall, DisarmCall, SaveBeginCall, SaveStepCall, SenseCall, WholeCall};
 pub use desk::Desk;
 pub use laws::{desks_keep_lives, desks_tell_lives};
 pub use noting::{look_at, note_write};
