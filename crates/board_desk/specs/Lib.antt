@@ -5,3 +5,4 @@ pub mod Views
 pub mod Hosting
 pub mod Loans
 pub mod Calling
+pub mod Whole
