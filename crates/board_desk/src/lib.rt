@@ -6,7 +6,9 @@
 //! lock and one channel's settles that channel first, and then writes or reads; of no other channel is anything asked.
 #![tactic(auto)]
 
+mod all_locks;
 mod board_port;
+mod calling;
 mod desk;
 mod hosting;
 mod laws;
@@ -18,6 +20,7 @@ mod settling;
 mod writing;
 
 pub use board_port::BoardPort;
+pub use calling::{ArmCall, DisarmCall, SaveBeginCall, SaveStepCall, SenseCall, WholeCall};
 pub use desk::Desk;
 pub use laws::{desks_keep_lives, desks_tell_lives};
 pub use noting::{look_at, note_write};
