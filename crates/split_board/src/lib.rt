@@ -7,10 +7,13 @@
 
 mod awaiting;
 mod board;
+mod calling;
 mod dealing;
 mod locked_desk;
 mod reading;
+mod saving;
 mod starting;
+mod stub;
 mod tables;
 mod telling;
 mod working;
@@ -18,6 +21,7 @@ mod writing;
 
 pub use board::Board;
 pub use locked_desk::LockedDesk;
+pub use saving::saver_worker;
 pub use starting::{Started, start};
 pub use tables::BoardTables;
 pub use working::channel_worker;

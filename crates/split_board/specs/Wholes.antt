@@ -1,0 +1,54 @@
+-- What a call of a whole module at a board comes to.
+use Rattle.std.specs.Prelude.{◌≡◌, ℕ, Option, Some}
+use Rattle.save_device.specs.declared.device.SaveDevice.{Ghosts as DeviceGhosts}
+use Rattle.energy_budget.specs.declared.energy.Energy.{Ghosts as GaugeGhosts}
+use Rattle.channel_port.specs.declared.port.ChannelPort.{Ghosts}
+use Rattle.channel_locks.specs.declared.parts_name.PartsName.{Ghosts as PartsGhosts}
+use Rattle.nv_machine.specs.State.{Machine}
+use Rattle.nv_workers.specs.declared.board_name.BoardName.{Ghosts as BoardGhosts}
+use Rattle.nv_workers.specs.declared.saver.Saving.{Saving}
+use Rattle.nv_workers.specs.declared.saver.Saving.TheVariants.{Began, Stepped, Rested, Closed}
+use Rattle.nv_workers.specs.Savers.{turn_of, turn_taken, working_of}
+use Rattle.worker_loops.specs.declared.shift.Working.{Working}
+use Rattle.board_desk.specs.declared.desk.Desk.{Desk}
+use Rattle.board_desk.specs.Calling.{Course, save_begin_course, save_step_course}
+use Rattle.board_desk.specs.Desk.{DeskStands}
+use Rattle.board_desk.specs.Views.{view_of}
+use Rattle.board_desk.specs.Whole.{WholeAnswers}
+
+module _ {K D E B : Type 0} (L : Ghosts K) (M : DeviceGhosts D) (N : GaugeGhosts E) (O : BoardGhosts B) (P : PartsGhosts B) where
+  -- A call of the whole module was this to the life.
+  abbrev pub Calls : Course → Desk K D E B L M N O P → Desk K D E B L M N O P → Type 0
+  Calls course old new = WholeAnswers P course (view_of L M N O P old) (view_of L M N O P new)
+
+  -- the same of what lies behind the board's lock
+  pub record CallsLocked (course : Course) (old new : Option (Desk K D E B L M N O P)) : Type 0 where
+    pub before : Desk K D E B L M N O P
+    pub after : Desk K D E B L M N O P
+    pub old_is : old ≡ Some before
+    pub new_is : new ≡ Some after
+    pub calls : Calls course before after
+
+  -- with all locks held it was this to the life
+  pub record LentWhole (course : Course) : Type 0 where
+    pub before : Desk K D E B L M N O P
+    pub after : Desk K D E B L M N O P
+    pub calls : Calls course before after
+
+  -- a save was begun or refused, a step of one was made, or nothing was done
+  abbrev pub TakesSaverTurn : Saving → Desk K D E B L M N O P → Desk K D E B L M N O P → Type 0
+  TakesSaverTurn (Began result) old new = Calls (save_begin_course result) old new
+  TakesSaverTurn (Stepped reply) old new = Calls (save_step_course reply) old new
+  TakesSaverTurn Rested old new = new ≡ old
+  TakesSaverTurn Closed old new = new ≡ old
+
+  -- A saver took its turn, by the desk alone where it rests.
+  pub record LentTurnOfSaver (saving : Saving) : Type 0 where
+    pub before : Desk K D E B L M N O P
+    pub after : Desk K D E B L M N O P
+    pub turn : (m : Machine) → DeskStands P (view_of L M N O P before) m → turn_taken saving ≡ turn_of m before.split.front.saved
+    pub steps : TakesSaverTurn saving before after
+
+  -- the same, by how it goes on
+  abbrev pub WorksAsSaver : Working → Type 0
+  WorksAsSaver done = (saving : Saving) × LentTurnOfSaver saving × (done ≡ working_of saving)

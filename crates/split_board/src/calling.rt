@@ -1,0 +1,185 @@
+// What is asked of a whole module, with all locks of its board held.
+ghost use Rattle.board_desk.specs.Calling.{arm_course, disarm_course, loss_course, save_begin_course, save_step_course, sense_course};
+ghost use Rattle.split_board.specs.Wholes.{CallsLocked, LentWhole};
+
+use crate::board::Board;
+use crate::locked_desk::LockedDesk;
+use crate::stub::{WholeDone, lose, whole};
+use arm_state::{ArmRefusal, ArmReply, DisarmReply, Loss};
+use board_desk::{
+    ArmCall, BoardPort, DisarmCall, SaveBeginCall, SaveStepCall, SenseCall, WholeCall,
+};
+use channel_locks::{AllSlots, ChannelLocks, PartsName, take_lock};
+use channel_port::ChannelPort;
+use energy_budget::Energy;
+use notice_book::Notices;
+use nv_machine::StepReply;
+use nv_workers::BoardName;
+use save_device::SaveDevice;
+use std::sync::Wait;
+use std::thread::Threads;
+use worker_gate::Gate;
+
+/// Makes a call of the whole module, with the board's lock held: takes the channels' locks in rising order.
+pub(crate) fn call_locked<K, D, E, B, W, R>(
+    rt: &R,
+    locked: &mut LockedDesk<K, D, E, B>,
+    channels: &ChannelLocks<K, B>,
+    call: W,
+) -> W::Answer
+where
+    K: ChannelPort + Drop,
+    D: SaveDevice + Drop,
+    E: Energy + Drop,
+    B: BoardName + PartsName,
+    W: WholeCall<BoardPort<K, B>, D, E>,
+    R: Wait,
+    ensures { CallsLocked K.ChannelPort D.SaveDevice E.Energy B.BoardName.own B.PartsName.own
+        (W.course result) locked.old.desk locked.new.desk }
+{
+    let AllSlots {
+        mut zero,
+        mut one,
+        mut two,
+        mut three,
+        mut four,
+        mut five,
+        mut six,
+        mut seven,
+    } = channels.take_all(rt);
+    let Some(desk) = locked.desk.take() else {
+        unreachable!();
+    };
+    let WholeDone { desk, answer } = whole(
+        desk,
+        &mut *zero,
+        &mut *one,
+        &mut *two,
+        &mut *three,
+        &mut *four,
+        &mut *five,
+        &mut *six,
+        &mut *seven,
+        call,
+    );
+    locked.desk = Some(desk);
+    answer
+}
+
+// Mains were lost, with the board's lock held: takes the channels' locks in rising order.
+fn lose_locked<K, D, E, B, G, R>(
+    rt: &R,
+    locked: &mut LockedDesk<K, D, E, B>,
+    channels: &ChannelLocks<K, B>,
+    gate: &G,
+) -> Loss
+where
+    K: ChannelPort + Drop + Send,
+    D: SaveDevice + Drop,
+    E: Energy + Drop,
+    B: BoardName + PartsName,
+    G: Gate + Sync,
+    R: Threads + Wait + Sync,
+    ensures { CallsLocked K.ChannelPort D.SaveDevice E.Energy B.BoardName.own B.PartsName.own
+        (loss_course result) locked.old.desk locked.new.desk }
+{
+    let AllSlots {
+        mut zero,
+        mut one,
+        mut two,
+        mut three,
+        mut four,
+        mut five,
+        mut six,
+        mut seven,
+    } = channels.take_all(rt);
+    let Some(desk) = locked.desk.take() else {
+        unreachable!();
+    };
+    let WholeDone { desk, answer } = lose(
+        desk,
+        &mut *zero,
+        &mut *one,
+        &mut *two,
+        &mut *three,
+        &mut *four,
+        &mut *five,
+        &mut *six,
+        &mut *seven,
+        rt,
+        gate,
+    );
+    locked.desk = Some(desk);
+    answer
+}
+
+impl<K, D, E, B, N> Board<K, D, E, B, N>
+where
+    K: ChannelPort + Drop,
+    D: SaveDevice + Drop,
+    E: Energy + Drop,
+    B: BoardName + PartsName,
+    N: Notices,
+{
+    // Makes a call of the whole module, with all locks held.
+    fn call<W: WholeCall<BoardPort<K, B>, D, E>, R: Wait>(&self, rt: &R, call: W) -> W::Answer
+        ensures { LentWhole K.ChannelPort D.SaveDevice E.Energy B.BoardName.own B.PartsName.own
+            (W.course result) }
+    {
+        let mut locked = take_lock(rt, &self.desk);
+        call_locked(rt, &mut *locked, &self.channels, call)
+    }
+
+    /// Arms the module.
+    pub fn arm<R: Wait>(&self, rt: &R) -> Result<ArmReply, ArmRefusal>
+        ensures { LentWhole K.ChannelPort D.SaveDevice E.Energy B.BoardName.own B.PartsName.own
+            (arm_course result) }
+    {
+        self.call(rt, ArmCall)
+    }
+
+    /// Begins the disarming of an armed module.
+    pub fn disarm<R: Wait>(&self, rt: &R) -> Result<DisarmReply, ArmRefusal>
+        ensures { LentWhole K.ChannelPort D.SaveDevice E.Energy B.BoardName.own B.PartsName.own
+            (disarm_course result) }
+    {
+        self.call(rt, DisarmCall)
+    }
+
+    /// Reads the gauge while disarmed or armed; while armed a low reading begins the disarming.
+    pub fn sense<R: Wait>(&self, rt: &R) -> u64
+        ensures { LentWhole K.ChannelPort D.SaveDevice E.Energy B.BoardName.own B.PartsName.own
+            (sense_course result) }
+    {
+        self.call(rt, SenseCall)
+    }
+
+    /// Begins a save of all writes accepted so far.
+    pub fn save_begin<R: Wait>(&self, rt: &R) -> Result<(), ArmRefusal>
+        ensures { LentWhole K.ChannelPort D.SaveDevice E.Energy B.BoardName.own B.PartsName.own
+            (save_begin_course result) }
+    {
+        self.call(rt, SaveBeginCall)
+    }
+
+    /// Makes the coming step of the save that runs.
+    pub fn save_step<R: Wait>(&self, rt: &R) -> StepReply
+        ensures { LentWhole K.ChannelPort D.SaveDevice E.Energy B.BoardName.own B.PartsName.own
+            (save_step_course result) }
+    {
+        self.call(rt, SaveStepCall)
+    }
+
+    /// Mains were lost: where acknowledged writes are to be saved, the channels are drained at once, each when the gate lets it go,
+    /// and all accepted writes are saved. All locks are held meanwhile, so that a gate which waits for another call of the board
+    /// waits for ever.
+    pub fn power_loss<G: Gate + Sync, R: Threads + Wait + Sync>(&self, rt: &R, gate: &G) -> Loss
+    where
+        K: Send,
+        ensures { LentWhole K.ChannelPort D.SaveDevice E.Energy B.BoardName.own B.PartsName.own
+            (loss_course result) }
+    {
+        let mut locked = take_lock(rt, &self.desk);
+        lose_locked(rt, &mut *locked, &self.channels, gate)
+    }
+}

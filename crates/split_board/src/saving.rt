@@ -1,0 +1,120 @@
+// The saver.
+ghost use Rattle.std.specs.Prelude.{◌≡◌};
+ghost use Rattle.split_board.specs.Wholes.{LentTurnOfSaver};
+
+use crate::board::Board;
+use crate::calling::call_locked;
+use board_desk::{SaveBeginCall, SaveStepCall};
+use channel_locks::{PartsName, take_lock};
+use channel_port::ChannelPort;
+use energy_budget::Energy;
+use notice_book::Notices;
+use nv_workers::{BoardName, SaverTurn, Saving, working_of};
+use save_device::SaveDevice;
+use std::sync::Wait;
+use std::time::Clock;
+use worker_gate::{Gate, Turn};
+use worker_loops::{Ended, Shift, Working, give_way, take_turns};
+
+impl<K, D, E, B, N> Board<K, D, E, B, N>
+where
+    K: ChannelPort + Drop,
+    D: SaveDevice + Drop,
+    E: Energy + Drop,
+    B: BoardName + PartsName,
+    N: Notices,
+{
+    // One turn of a saver. It decides by the desk alone, and takes the channels' locks only where it saves.
+    fn save<R: Wait>(&self, rt: &R) -> Saving
+        ensures { LentTurnOfSaver K.ChannelPort D.SaveDevice E.Energy B.BoardName.own B.PartsName.own
+            result }
+    {
+        let mut locked = take_lock(rt, &self.desk);
+        let Some(desk) = &locked.desk else {
+            unreachable!();
+        };
+        match desk.saver_turn() {
+            SaverTurn::Begin => {
+                Saving::Began(call_locked(rt, &mut *locked, &self.channels, SaveBeginCall))
+            }
+            SaverTurn::Step => {
+                Saving::Stepped(call_locked(rt, &mut *locked, &self.channels, SaveStepCall))
+            }
+            SaverTurn::Rest => Saving::Rested,
+            SaverTurn::End => Saving::Closed,
+        }
+    }
+}
+
+// What a board lends the saver, whose number is that of the channels.
+#[derive(Drop)]
+struct SaverShift<'a, K, D, E, B, N, G, R>
+where
+    K: ChannelPort,
+    D: SaveDevice,
+    E: Energy,
+    B: BoardName + PartsName,
+    N: Notices,
+{
+    rt: &'a R,
+    board: &'a Board<K, D, E, B, N>,
+    gate: &'a G,
+}
+
+impl<K, D, E, B, N, G, R> Shift for SaverShift<'_, K, D, E, B, N, G, R>
+where
+    K: ChannelPort + Drop,
+    D: SaveDevice + Drop,
+    E: Energy + Drop,
+    B: BoardName + PartsName,
+    N: Notices,
+    G: Gate,
+    R: Wait + Clock,
+{
+    ghost use Rattle.std.specs.Prelude.{◌≡◌};
+    ghost use Rattle.split_board.specs.Wholes.{WorksAsSaver};
+
+    ghost is_of = { λ worker. worker ≡ B.channels };
+
+    ghost asks = { λ worker turn told old new. G.says worker turn told old.gate.now × (new ≡ old) };
+
+    ghost works = { λ worker done old new.
+        WorksAsSaver K.ChannelPort D.SaveDevice E.Energy B.BoardName.own B.PartsName.own done
+        × (new ≡ old) };
+
+    ghost rests = { λ idle old new. new ≡ old };
+
+    fn ask(&mut self, worker: u64, turn: u64) -> Turn {
+        self.gate.pass(worker, turn)
+    }
+
+    fn work(&mut self, _worker: u64) -> Working {
+        working_of(self.board.save(self.rt))
+    }
+
+    fn give_way(&mut self, idle: u64) -> u64 {
+        give_way(self.rt, idle)
+    }
+}
+
+/// Takes one turn of a saver at each `Go`, until the gate says stop or mains were lost, as `take_turns`. Behind a turn that was held
+/// or at rest, and behind a step that has to wait, it gives way as a channel's worker does. The gate is asked for it by the
+/// number of channels. A saver that rests takes the board's lock alone.
+pub fn saver_worker<K, D, E, B, N, G, R>(
+    rt: &R,
+    board: &Board<K, D, E, B, N>,
+    channels: u64,
+    gate: &G,
+) -> Ended
+where
+    K: ChannelPort + Drop,
+    D: SaveDevice + Drop,
+    E: Energy + Drop,
+    B: BoardName + PartsName,
+    N: Notices,
+    G: Gate,
+    R: Wait + Clock,
+    requires number { channels ≡ B.channels }
+{
+    take_turns(&mut SaverShift { rt, board, gate }, channels)
+}
