@@ -8,6 +8,7 @@ pub mod Lent
 pub mod Called
 pub mod Wholly
 pub mod Restored
+pub mod Returned
 pub mod Asked
 pub mod Wrote
 pub mod Ticketed

@@ -6,6 +6,7 @@
 //! lock and one channel's settles that channel first, and then writes or reads; of no other channel is anything asked.
 #![tactic(auto)]
 
+mod all_loans;
 mod all_locks;
 mod board_port;
 mod calling;
