@@ -9,6 +9,8 @@ pub mod Called
 pub mod Wholly
 pub mod Restored
 pub mod Returned
+pub mod Joined
+pub mod Parted
 pub mod Asked
 pub mod Wrote
 pub mod Ticketed

@@ -15,6 +15,7 @@ mod hosting;
 mod laws;
 mod loans;
 mod noting;
+mod pieces;
 mod reading;
 mod resting;
 mod settling;
