@@ -11,6 +11,7 @@ pub mod Restored
 pub mod Returned
 pub mod Joined
 pub mod Parted
+pub mod KeptWhole
 pub mod Asked
 pub mod Wrote
 pub mod Ticketed

@@ -38,7 +38,7 @@ pub(crate) fn lend_all<K: ChannelPort, B: PartsName>(
     requires tables { AreTables B.PartsName logs.now known.old.table }
     requires none { ports.old.items ≡ [] }
     requires few { B.ports ≤ 8 }
-    requires room { 8 ≤ vec_capacity ports.old }
+    requires room { B.ports ≤ vec_capacity ports.old }
     requires zero { CanLend K.ChannelPort B.PartsName zero.old zero_seat.old 0 }
     requires one { CanLend K.ChannelPort B.PartsName one.old one_seat.old 1 }
     requires two { CanLend K.ChannelPort B.PartsName two.old two_seat.old 2 }
