@@ -63,6 +63,7 @@ ended_stays setup event reply old new (closes order Loss.Fault done) ended = ap 
 pub record KeepsWritten (setup : Setup) (old new : World) : Type 0 where
   pub opened : new.machine.life.opened ≡ old.machine.life.opened
   pub writes : new.machine.life.writes ≡ old.machine.life.writes
+  pub persisted : old.machine.life.persisted ≤ new.machine.life.persisted
   pub ended : has_ended old.machine.mode ≡ true → has_ended new.machine.mode ≡ true
   pub lived : LivedUntil setup old → LivedUntil setup new
 
@@ -72,12 +73,14 @@ keeps_written setup (Answered event reply) old new none happens guarded =
     record {
       opened = keeps.opened;
       writes = keeps.writes ∙ ap (λ (ws : List line_write.Write). old.machine.life.writes ++ ws) none ∙ append-nil old.machine.life.writes;
+      persisted = keeps.persisted;
       ended = ended_stays setup event reply old new (effect setup old new event reply happens.step);
       lived = λ so. lived_event setup old new so event reply happens;
     }
 keeps_written setup Paused old new none paused guarded = record {
   opened = ap (λ (w : World). w.machine.life.opened) paused.is;
   writes = ap (λ (w : World). w.machine.life.writes) paused.is;
+  persisted = (let same = ap (λ (w : World). w.machine.life.persisted) paused.is in omega (arith, same));
   ended = λ ended. ap (λ (w : World). has_ended w.machine.mode) paused.is ∙ ended;
   lived = λ so. lived_pause setup old new so paused;
 }

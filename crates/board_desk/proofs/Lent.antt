@@ -4,11 +4,12 @@ use Rattle.std.proofs.Math.Logic.{∥∥₁_elim, ∥∥₁_map}
 use Rattle.std.specs.Coded.{le_prop}
 use Rattle.std.specs.Prelude.{slice_get, slice_index_or}
 use Rattle.std.proofs.lemmas.List.{length_push}
-use Rattle.std.proofs.lemmas.Option.{same_Some}
+use Rattle.std.proofs.lemmas.Option.{same_Some, slice_get_within}
 use Rattle.channel_locks.specs.declared.parts_name.PartsName.{Ghosts as PartsGhosts}
 use Rattle.channel_locks.specs.PortMakes.{make_of}
 use Rattle.channel_locks.specs.Slots.{IsPartWhereDue}
 use Rattle.channel_log.specs.Log.{IsLogOf, LogNote, log_tells}
+use Rattle.channel_log.specs.Seats.{AllLogs}
 use Rattle.channel_part.specs.declared.part.Part.{Part}
 use Rattle.channel_port.specs.declared.port.ChannelPort.{Ghosts}
 use Rattle.board_desk.specs.Loans.{HaveLent, IsLent, IsReadyToLend}
@@ -56,3 +57,18 @@ module _ {K B : Type 0} (L : Ghosts K) (P : PartsGhosts B) where
   pub made_part : (lent : Option (Part K L)) (part : Part K L) (port : K) (number : ℕ) (log : List LogNote) → lent ≡ Some part → port ≡ part.port → ∥ IsPartWhereDue L P lent number log ∥₁ → ∥ make_of (L.view port) ≡ P.make ∥₁
   made_part lent part port number log is same due =
       ∥∥₁_map (subst (λ p. ∥ IsPartWhereDue L P p number log ∥₁) is due) (λ h. ap (λ (p : K). make_of (L.view p)) same ∙ h.1.made)
+
+  -- no channel has lent its port
+  pub have_none_yet : (logs : List (List LogNote)) (ports : List K) → ports ≡ [] → ∥ HaveLent L P logs 0 ports ∥₁
+  have_none_yet logs ports none =
+      ∣ record {
+        count = (let size = ap length none in omega (arith, size));
+        made = λ i port at. absurd (let within = slice_get_within ports i port at in let size = ap length none in omega (arith, within, size));
+        each = λ i port at. absurd (let within = slice_get_within ports i port at in let size = ap length none in omega (arith, within, size));
+      } ∣₁
+
+  -- one more has, as the front's seat knows the logs that it knew
+  pub have_more : (number next : ℕ) (known later : AllLogs) (ports more : List K) → later ≡ known → (∥ HaveLent L P later.logs number ports ∥₁ → ∥ HaveLent L P later.logs next more ∥₁)
+      → ∥ HaveLent L P known.logs number ports ∥₁ → ∥ HaveLent L P known.logs next more ∥₁
+  have_more number next known later ports more same step have =
+      subst (λ (k : AllLogs). ∥ HaveLent L P k.logs next more ∥₁) same (step (subst (λ (k : AllLogs). ∥ HaveLent L P k.logs number ports ∥₁) (sym same) have))

@@ -8,6 +8,10 @@ pub mod Lent
 pub mod Called
 pub mod Wholly
 pub mod Restored
+pub mod Returned
+pub mod Joined
+pub mod Parted
+pub mod KeptWhole
 pub mod Asked
 pub mod Wrote
 pub mod Ticketed

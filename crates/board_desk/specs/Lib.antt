@@ -6,3 +6,4 @@ pub mod Hosting
 pub mod Loans
 pub mod Calling
 pub mod Whole
+pub mod Pieces

@@ -1,17 +1,29 @@
 // With all locks of a board held: its module is put together, asked, and taken apart again.
 ghost use Rattle.board_desk.specs.Loans.{IsReadyToLend};
 ghost use Rattle.board_desk.specs.Views.{SameButCounts, view_of};
-ghost use Rattle.board_desk.specs.Whole.{SettlesAll};
+ghost use Rattle.board_desk.specs.Whole.{SettlesAll, WholeAnswers};
 
+use crate::all_loans::{lend_all, restore_all};
+use crate::board_port::BoardPort;
+use crate::calling::WholeCall;
 use crate::desk::Desk;
+use crate::pieces::{CalledPieces, RecordedPieces};
 use channel_locks::{
     ChannelFive, ChannelFour, ChannelOne, ChannelSeven, ChannelSix, ChannelThree, ChannelTwo,
     ChannelZero, PartsName, Slot,
 };
 use channel_port::ChannelPort;
 use energy_budget::Energy;
-use nv_workers::BoardName;
+use nv_workers::{BoardName, publish};
 use save_device::SaveDevice;
+use split_module::SplitModule;
+
+/// A desk behind a call, and what the call answered.
+#[derive(Drop)]
+pub struct WholeDone<K: ChannelPort, D: SaveDevice, E: Energy, B: BoardName + PartsName, A> {
+    pub desk: Desk<K, D, E, B>,
+    pub answer: A,
+}
 
 // All channels are settled.
 fn settle_all<K: ChannelPort, D: SaveDevice, E: Energy, B: BoardName + PartsName>(
@@ -46,4 +58,131 @@ fn settle_all<K: ChannelPort, D: SaveDevice, E: Energy, B: BoardName + PartsName
     desk.settle(five);
     desk.settle(six);
     desk.settle(seven);
+}
+
+/// Makes a call of the whole module, with all nine locks held: each channel is settled and lends its port, the module is put
+/// together and asked, and the ports go back. It takes no memory.
+pub fn whole<
+    K: ChannelPort + Drop,
+    D: SaveDevice,
+    E: Energy,
+    B: BoardName + PartsName,
+    W: WholeCall<BoardPort<K, B>, D, E>,
+>(
+    mut desk: Desk<K, D, E, B>,
+    zero: &mut Slot<K, B, ChannelZero>,
+    one: &mut Slot<K, B, ChannelOne>,
+    two: &mut Slot<K, B, ChannelTwo>,
+    three: &mut Slot<K, B, ChannelThree>,
+    four: &mut Slot<K, B, ChannelFour>,
+    five: &mut Slot<K, B, ChannelFive>,
+    six: &mut Slot<K, B, ChannelSix>,
+    seven: &mut Slot<K, B, ChannelSeven>,
+    call: W,
+) -> WholeDone<K, D, E, B, W::Answer>
+    ensures answers { WholeAnswers B.PartsName.own (W.course result.answer)
+        (view_of K.ChannelPort D.SaveDevice E.Energy B.BoardName.own B.PartsName.own desk)
+        (view_of K.ChannelPort D.SaveDevice E.Energy B.BoardName.own B.PartsName.own result.desk) }
+{
+    settle_all(&mut desk, zero, one, two, three, four, five, six, seven);
+    let Desk {
+        split,
+        terms,
+        room: mut ports,
+        device,
+        energy,
+        history,
+        marks,
+        mut seat,
+        tally,
+        logs,
+        mut known,
+    } = desk;
+    lend_all(
+        &logs,
+        &mut known,
+        &mut ports,
+        &mut zero.part,
+        &mut zero.seat,
+        &mut one.part,
+        &mut one.seat,
+        &mut two.part,
+        &mut two.seat,
+        &mut three.part,
+        &mut three.seat,
+        &mut four.part,
+        &mut four.seat,
+        &mut five.part,
+        &mut five.seat,
+        &mut six.part,
+        &mut six.seat,
+        &mut seven.part,
+        &mut seven.seat,
+    );
+    let rest = RecordedPieces {
+        pieces: SplitModule {
+            front: split,
+            ports,
+            terms,
+        },
+        device,
+        energy,
+        history,
+    };
+    let CalledPieces { rest, answer } = rest.call(call);
+    let RecordedPieces {
+        pieces,
+        device,
+        energy,
+        history,
+    } = rest;
+    let SplitModule {
+        front: split,
+        mut ports,
+        terms,
+    } = pieces;
+    let ended = split.front.mode().has_ended();
+    restore_all(
+        &logs,
+        &mut known,
+        &mut ports,
+        terms.hold,
+        ended,
+        &mut zero.part,
+        &mut zero.seat,
+        &mut one.part,
+        &mut one.seat,
+        &mut two.part,
+        &mut two.seat,
+        &mut three.part,
+        &mut three.seat,
+        &mut four.part,
+        &mut four.seat,
+        &mut five.part,
+        &mut five.seat,
+        &mut six.part,
+        &mut six.seat,
+        &mut seven.part,
+        &mut seven.seat,
+    );
+    publish(
+        &marks,
+        &mut seat,
+        split.front.accepted(),
+        split.front.mark(),
+    );
+    let desk = Desk {
+        split,
+        terms,
+        room: ports,
+        device,
+        energy,
+        history,
+        marks,
+        seat,
+        tally,
+        logs,
+        known,
+    };
+    WholeDone { desk, answer }
 }

@@ -40,6 +40,14 @@ impl<K: ChannelPort, B: PartsName> BoardPort<K, B> {
         }
     }
 
+    /// It is one of the board's ports.
+    pub fn always(&self)
+        ensures { ∥ make_of (K.view self.now) ≡ B.make ∥₁ }
+    {
+        // the port keeps it by its type, so there is nothing to do
+        let _ = &self.port;
+    }
+
     /// The port, which is still one of the board's.
     pub fn into_port(self) -> K
         ensures port { result ≡ self }

@@ -25,7 +25,8 @@ pub trait WholeCall<K: ChannelPort, D: SaveDevice, E: Energy> {
     fn call(self, it: &mut RecordedModule<K, D, E>) -> Self::Answer
         requires { IsRecordKept K.ChannelPort D.SaveDevice E.Energy it.old }
         ensures goes { GoesBy K.ChannelPort D.SaveDevice E.Energy (course result) it.old it.new }
-        ensures setup { setup_of K.ChannelPort it.new.running ≡ setup_of K.ChannelPort it.old.running };
+        ensures setup { setup_of K.ChannelPort it.new.running ≡ setup_of K.ChannelPort it.old.running }
+        ensures room { it.new.history.room ≡ it.old.history.room };
 
     /// The life has the writes that it had.
     ghost adds_none: { (answer : Self.Answer) → AddsNone (course answer) };
@@ -138,6 +139,7 @@ where
     requires { IsRecordKept K.ChannelPort D.SaveDevice E.Energy it.old }
     ensures goes { GoesBy K.ChannelPort D.SaveDevice E.Energy (loss_course result) it.old it.new }
     ensures setup { setup_of K.ChannelPort it.new.running ≡ setup_of K.ChannelPort it.old.running }
+    ensures room { it.new.history.room ≡ it.old.history.room }
 {
     it.running
         .power_loss_with(rt, &mut it.device, &mut it.energy, gate)

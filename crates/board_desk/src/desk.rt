@@ -35,7 +35,7 @@ pub struct Desk<K: ChannelPort, D: SaveDevice, E: Energy, B: BoardName + PartsNa
     pub logs: ChannelLogs,
     pub known: FrontSeat,
     pub ghost empty: { room.items ≡ [] },
-    pub ghost spacious: { 8 ≤ vec_capacity room },
+    pub ghost spacious: { B.ports ≤ vec_capacity room },
     pub ghost kept: { IsDeskKept B.BoardName B.PartsName
         (desk_view split terms (D.state device) (E.gauge energy) history known.logs)
         (arc_value marks) seat tally.book.total logs known.table },

@@ -6,6 +6,7 @@
 //! lock and one channel's settles that channel first, and then writes or reads; of no other channel is anything asked.
 #![tactic(auto)]
 
+mod all_loans;
 mod all_locks;
 mod board_port;
 mod calling;
@@ -14,11 +15,13 @@ mod hosting;
 mod laws;
 mod loans;
 mod noting;
+mod pieces;
 mod reading;
 mod resting;
 mod settling;
 mod writing;
 
+pub use all_locks::{WholeDone, whole};
 pub use board_port::BoardPort;
 pub use calling::{ArmCall, DisarmCall, SaveBeginCall, SaveStepCall, SenseCall, WholeCall};
 pub use desk::Desk;

@@ -133,7 +133,7 @@ module _ {K : Type 0} (L : Ghosts K) where
       }
 
   -- the pieces of a module have its channels' shape
-  shape_made : (whole : Module K L) (pieces : SplitModule K) → IsMadeOf L whole pieces → shape_in L pieces ≡ shape_of L whole.channels
+  pub shape_made : (whole : Module K L) (pieces : SplitModule K) → IsMadeOf L whole pieces → shape_in L pieces ≡ shape_of L whole.channels
   shape_made whole pieces made =
       ap (λ (t : PortTerms). shape_with L t pieces.front.costs pieces.ports.items) made.terms
       ∙ ap (λ (c : Costs). shape_with L whole.channels.terms c pieces.ports.items) made.costs
@@ -176,13 +176,14 @@ module _ {K : Type 0} (L : Ghosts K) where
   }
 
   -- what the logs tell to wait is what waits in the ports
-  waits_gathered : (logs : List (List LogNote)) (ports : List K) (base : List (List ℕ)) → length ports ≤ length logs → ArePortsOf L base logs ports → laid_out (waits_told logs) ≡ waits_in L ports
-  waits_gathered logs ports base few are =
+  pub waits_gathered : (logs : List (List LogNote)) (ports : List K) → length ports ≤ length logs
+      → ((i : ℕ) (port : K) → slice_get ports i ≡ Some port → (log_tells (slice_index_or logs i [])).waits ≡ (L.view port).waits) → ((i : ℕ) → length ports ≤ i → (log_tells (slice_index_or logs i [])).waits ≡ nothing)
+      → laid_out (waits_told logs) ≡ waits_in L ports
+  waits_gathered logs ports few tells tell_none =
       let told = waits_told logs in
-      let view = λ (p : K). L.view p in
       let enough : length ports ≤ length told = (let size = told_size logs in omega (arith, few, size)) in
-      let here : (i : ℕ) (p : K) → slice_get ports i ≡ Some p → slice_index_or told i nothing ≡ (L.view p).waits = λ i p at. told_at logs i ∙ are.told i p at in
-      let none : (i : ℕ) → length ports ≤ i → slice_index_or told i nothing ≡ nothing = λ i most. told_at logs i ∙ are.none i most in
+      let here : (i : ℕ) (p : K) → slice_get ports i ≡ Some p → slice_index_or told i nothing ≡ (L.view p).waits = λ i p at. told_at logs i ∙ tells i p at in
+      let none : (i : ℕ) → length ports ≤ i → slice_index_or told i nothing ≡ nothing = λ i most. told_at logs i ∙ tell_none i most in
       let writes = piled (λ (p : K). (L.view p).waits.writes) (λ (w : Waits). w.writes) nothing ports told enough (λ i p at. ap (λ (w : Waits). w.writes) (here i p at)) (λ i most. ap (λ (w : Waits). w.writes) (none i most)) in
       let reads = piled (λ (p : K). (L.view p).waits.reads) (λ (w : Waits). w.reads) nothing ports told enough (λ i p at. ap (λ (w : Waits). w.reads) (here i p at)) (λ i most. ap (λ (w : Waits). w.reads) (none i most)) in
       let given = piled (λ (p : K). (L.view p).waits.given) (λ (w : Waits). w.given) nothing ports told enough (λ i p at. ap (λ (w : Waits). w.given) (here i p at)) (λ i most. ap (λ (w : Waits). w.given) (none i most)) in
@@ -219,7 +220,7 @@ module _ {K : Type 0} (L : Ghosts K) where
           sym (fit.are_ports.each first found.it found.stands).hold ∙ (are.stand first found.it found.stands).hold ∙ (of_port first found.it found.stands).hold
 
       waits_are : waits_in L pieces.ports.items ≡ m.waits
-      waits_are = sym (waits_gathered logs pieces.ports.items (base_of_life m.life) enough are) ∙ sym s.told.waits
+      waits_are = sym (waits_gathered logs pieces.ports.items enough are.told are.none) ∙ sym s.told.waits
 
       held_at : (n : ℕ) → hold_of m.store.saving ≡ Some n → (channel : ℕ) → channel < length logs → WaitFrom n (log_tells (log_at channel)).written (log_tells (log_at channel)).waits.writes
       held_at n some channel less = ⊎_elim
