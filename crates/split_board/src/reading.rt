@@ -3,7 +3,8 @@ ghost use Rattle.std.specs.Prelude.{◌≡◌, ◌<◌, IfErr, IfOk, Err, Ok};
 ghost use Rattle.board_desk.specs.Answering.{IsAskedFor, IsTicketOf};
 ghost use Rattle.nv_workers.specs.Client.{SeesNoLess};
 ghost use Rattle.nv_workers.specs.Serving.{told_for};
-ghost use Rattle.split_board.specs.Hosts.{HasLostLine, HasReadLine, LentRead, ReadsAtBoard, RefusedAtBoard, ServesFirst};
+ghost use Rattle.split_board.specs.Turns.{ServesFirst};
+ghost use Rattle.split_board.specs.Hosts.{HasLostLine, HasReadLine, LentRead, ReadsAtBoard, RefusedAtBoard};
 
 use crate::board::Board;
 use crate::locked_desk::LockedDesk;
@@ -94,10 +95,14 @@ where
         unreachable!();
     };
     let mut slot = take_lock(rt, channel);
-    let GotAt { got, at } = desk.read_in(&mut *slot, host, line)?;
-    drop(locked);
-    let got = served(&mut *slot, got);
-    Ok(GotAt { got, at })
+    match desk.read_in(&mut *slot, host, line) {
+        Ok(GotAt { got, at }) => {
+            drop(locked);
+            let got = served(&mut *slot, got);
+            Ok(GotAt { got, at })
+        }
+        Err(refusal) => Err(refusal),
+    }
 }
 
 impl<K: ChannelPort, D: SaveDevice, E: Energy, B: BoardName + PartsName, N: Notices> Board<
@@ -134,13 +139,14 @@ impl<K: ChannelPort, D: SaveDevice, E: Energy, B: BoardName + PartsName, N: Noti
             4 => read_at(rt, desk, &channels.four, host, line),
             5 => read_at(rt, desk, &channels.five, host, line),
             6 => read_at(rt, desk, &channels.six, host, line),
-            _ => read_at(rt, desk, &channels.seven, host, line),
+            7 => read_at(rt, desk, &channels.seven, host, line),
+            _ => unreachable!(),
         }
     }
 
-    /// Reads a line for a host, and waits for the answer. The board's lock and the line's channel's are taken; the board's is let go once
-    /// the read was answered. Where it has to wait its channel is worked under its lock alone, 64 commands at most before the lock is let
-    /// go, again and again.
+    /// Reads a line for a host, and waits for the answer. The board's lock and the line's channel's are taken; the board's is let
+    /// go once the read was answered. Where it has to wait its channel is worked under its lock alone, 64 commands at most before
+    /// the lock is let go, again and again.
     pub fn read<R: Wait>(&self, rt: &R, host: &mut Host<B>, line: u64) -> Result<Seen, ReadRefusal>
         ensures line { IfOk result (λ s. s.line ≡ line) }
         ensures at { IfOk result (λ s. s.at ≡ host.new.accepted) }
@@ -177,7 +183,8 @@ impl<K: ChannelPort, D: SaveDevice, E: Energy, B: BoardName + PartsName, N: Noti
             4 => ask_at(rt, desk, &channels.four, host, line),
             5 => ask_at(rt, desk, &channels.five, host, line),
             6 => ask_at(rt, desk, &channels.six, host, line),
-            _ => ask_at(rt, desk, &channels.seven, host, line),
+            7 => ask_at(rt, desk, &channels.seven, host, line),
+            _ => unreachable!(),
         }
     }
 }

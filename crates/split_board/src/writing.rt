@@ -74,12 +74,13 @@ impl<K: ChannelPort, D: SaveDevice, E: Energy, B: BoardName + PartsName, N: Noti
             4 => write_at(rt, desk, &channels.four, host, write),
             5 => write_at(rt, desk, &channels.five, host, write),
             6 => write_at(rt, desk, &channels.six, host, write),
-            _ => write_at(rt, desk, &channels.seven, host, write),
+            7 => write_at(rt, desk, &channels.seven, host, write),
+            _ => unreachable!(),
         }
     }
 
-    /// Writes a line for a host. While its channel has no room the channel issues commands under its own lock alone, 64 at most; then
-    /// the board's lock and the channel's are taken, and the host writes. A line that isn't there is refused at channel 0.
+    /// Writes a line for a host. While its channel has no room the channel issues commands under its own lock alone, 64 at most;
+    /// then the board's lock and the channel's are taken, and the host writes. A line that isn't there is refused at channel 0.
     pub fn write<R: Wait>(
         &self,
         rt: &R,
