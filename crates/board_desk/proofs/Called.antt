@@ -1,5 +1,5 @@
 -- A call of a whole module.
-use Rattle.std.proofs.Common.{Bool, List, [], ap, arith, false, refl, rules, sym, true, ℕ, ◌++◌, ◌+◌, ◌-◌, ◌∙◌, ◌≡◌, ◌≤◌}
+use Rattle.std.proofs.Common.{List, [], ap, arith, rules, sym, true, ℕ, ◌++◌, ◌∙◌, ◌≡◌, ◌≤◌}
 use Rattle.std.proofs.lemmas.List.{append-nil}
 use Rattle.arm_state.specs.Modes.{has_ended}
 use Rattle.arm_state.specs.Moves.{mode_after}
@@ -8,14 +8,10 @@ use Rattle.arm_state.specs.declared.mode.Mode.{Mode}
 use Rattle.arm_state.specs.declared.moves.Move.{Move}
 use Rattle.arm_state.specs.declared.moves.Move.TheVariants.{EndSave, FailSave}
 use Rattle.channel_port.specs.declared.port.ChannelPort.{Ghosts}
-use Rattle.channel_port.specs.Draining.{DrainOrder}
 use Rattle.energy_budget.specs.declared.energy.Energy.{Ghosts as GaugeGhosts}
 use Rattle.line_memory.specs.declared.Write as line_write
 use Rattle.module_core.specs.Stands.{setup_of}
 use Rattle.nv_machine.specs.Guard.{IsGuarded}
-use Rattle.nv_machine.specs.Headline.{Happens}
-use Rattle.nv_machine.specs.Losses.{LoseStep}
-use Rattle.nv_machine.specs.Machine.{MachineStep}
 use Rattle.nv_machine.specs.Rising.{added}
 use Rattle.nv_machine.specs.State.{Machine, Setup, World, stored_base, stored_writes}
 use Rattle.nv_machine.specs.declared.events.Event.{Event}
@@ -23,7 +19,6 @@ use Rattle.nv_machine.specs.declared.events.Reply.{Reply}
 use Rattle.nv_machine.proofs.EachEvent.{event_keeps}
 use Rattle.nv_machine.proofs.Refusing.{arms_where}
 use Rattle.nv_machine.proofs.Effects.{Effect, rests, shows, runs_low, disarms, accepts, begins, arms, fails_to_arm, steps, ends, repeats, fails, closes, effect}
-use Rattle.nv_workers.specs.Kept.{StandsWith}
 use Rattle.nv_workers.specs.Steps.{StepsTo}
 use Rattle.nv_workers.specs.declared.recorded_module.RecordedModule.{RecordedModule}
 use Rattle.line_memory.specs.History.{Recorded, recorded}

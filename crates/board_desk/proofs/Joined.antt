@@ -1,20 +1,15 @@
 -- The pieces of a board's module fit together, and what the module stands for that they make.
-use Rattle.std.proofs.Common.{List, None, Option, Some, [], ap, arith, length, min, refl, subst, sym, ℕ, ◌+◌, ◌<◌, ◌∙◌, ◌∷◌, ◌≡◌, ◌≤◌}
-use Rattle.std.proofs.Math.Logic.{∥∥₁_elim, ∥∥₁_map, ∥∥₁_prop}
-use Rattle.std.proofs.Props.{props}
-use Rattle.std.specs.Coded.{le_prop}
-use Rattle.std.specs.Global.{Global}
-use Rattle.std.specs.Prelude.{Vec, false, slice_get, slice_index_or}
-use Rattle.std.proofs.lemmas.Option.{same_Some, slice_get_past, slice_get_within}
+use Rattle.std.proofs.Common.{List, Some, [], ap, arith, length, refl, subst, sym, ℕ, ◌<◌, ◌∙◌, ◌∷◌, ◌≡◌, ◌≤◌}
+use Rattle.std.specs.Prelude.{slice_get, slice_index_or}
+use Rattle.std.proofs.lemmas.Option.{same_Some, slice_get_within}
 use Rattle.arm_state.specs.Modes.{has_ended}
 use Rattle.channel_locks.specs.PortMakes.{PortMake, make_of}
 use Rattle.channel_locks.specs.declared.parts_name.PartsName.{Ghosts as PartsGhosts}
-use Rattle.channel_log.specs.Log.{LogNote, log_tells}
+use Rattle.channel_log.specs.Log.{log_tells}
 use Rattle.channel_part.specs.Stands.{PortStands}
-use Rattle.channel_port.specs.Shape.{IsShape, Shape}
+use Rattle.channel_port.specs.Shape.{IsShape}
 use Rattle.channel_port.specs.Waits.{AllBelow, Has, Waits}
 use Rattle.channel_port.specs.declared.port.ChannelPort.{Ghosts}
-use Rattle.channel_port.specs.declared.stage.Stage.TheVariants.{OnMains}
 use Rattle.channel_port.specs.declared.waiting.Waiting.{Waiting}
 use Rattle.channel_set.specs.Carrying.{CarriesOwn}
 use Rattle.channel_set.specs.Ports.{ArePorts, IsPort, places_of, shape_with, waits_in}
@@ -25,15 +20,13 @@ use Rattle.channel_set.proofs.Piles.{from-pile}
 use Rattle.channel_set.proofs.Written.{written-before}
 use Rattle.ddr4_timing.specs.declared.place.Place.{Place}
 use Rattle.energy_budget.specs.Costs.{AreReckonedFor}
-use Rattle.line_memory.specs.Memory.{IsMemory}
 use Rattle.line_memory.specs.declared.parts.Numbered.{Numbered}
-use Rattle.nv_machine.specs.State.{Machine, base_of_life, hold_of, start_of_life}
+use Rattle.nv_machine.specs.State.{Machine, base_of_life, start_of_life}
 use Rattle.split_machine.specs.Telling.{IsToldOf}
 use Rattle.split_module.specs.Gathering.{ArePortsOf, FitAsModule, shape_in}
 use Rattle.split_module.specs.declared.gathering.SplitModule.{SplitModule}
 use Rattle.split_module.proofs.Gathered.{waits_gathered}
 use Rattle.board_desk.specs.Desk.{DeskStands, DeskView, setup_at, shape_at}
-use Rattle.board_desk.specs.Kept.{AreTermsOf}
 use Rattle.board_desk.specs.Loans.{HaveLent}
 use Rattle.board_desk.specs.Pieces.{ArePiecesKept}
 

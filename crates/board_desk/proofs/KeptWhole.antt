@@ -1,22 +1,20 @@
 -- What is kept behind the board's lock in a call of the whole module.
-use Rattle.std.proofs.Common.{Bool, List, Some, [], ap, arith, length, refl, subst, sym, true, ℕ, ◌+◌, ◌∙◌, ◌≡◌, ◌≤◌}
+use Rattle.std.proofs.Common.{List, ap, arith, length, subst, sym, ℕ, ◌∙◌, ◌≡◌}
 use Rattle.std.proofs.Math.Logic.{∥∥₁_elim, ∥∥₁_map, ∥∥₁_prop}
 use Rattle.std.proofs.Math.Nat.{ℕ_set}
 use Rattle.arm_state.specs.Modes.{has_ended}
 use Rattle.atomic_table.specs.Seated.{TableId}
 use Rattle.channel_locks.specs.declared.parts_name.PartsName.{Ghosts as PartsGhosts}
-use Rattle.channel_log.specs.Log.{LogNote}
-use Rattle.channel_log.specs.Seats.{AllLogs}
-use Rattle.channel_port.specs.Shape.{IsShape, Shape}
+use Rattle.channel_port.specs.Shape.{IsShape}
 use Rattle.channel_port.specs.declared.port.ChannelPort.{Ghosts}
 use Rattle.mark_board.specs.SeenMarks.{SeenMarks, seen_marks}
-use Rattle.nv_machine.specs.State.{Machine, Setup, World}
+use Rattle.nv_machine.specs.State.{Setup, World}
 use Rattle.nv_workers.specs.Marks.{ShowsNoMore}
 use Rattle.nv_workers.specs.declared.board_name.BoardName.{Ghosts as BoardGhosts}
 use Rattle.board_desk.specs.Calling.{Course, LeadsTo}
-use Rattle.board_desk.specs.Desk.{DeskStands, DeskView, setup_at, shape_at, world_at}
+use Rattle.board_desk.specs.Desk.{DeskView, setup_at, world_at}
 use Rattle.board_desk.specs.Kept.{IsDeskKept}
-use Rattle.board_desk.specs.Loans.{AllComeBack, AreRestated, EndStays, HaveLent}
+use Rattle.board_desk.specs.Loans.{AreRestated, HaveLent}
 use Rattle.board_desk.specs.Pieces.{ArePiecesKept, CallDid}
 use Rattle.board_desk.specs.Whole.{SettlesAll, WholeAnswers}
 use Rattle.board_desk.proofs.Wholly.{SameWorld, world_of_same}

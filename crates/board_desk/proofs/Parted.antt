@@ -1,11 +1,11 @@
 -- A module that the pieces made was asked, and taken apart again.
-use Rattle.std.proofs.Common.{All, Bool, List, None, Option, Some, [], ap, arith, length, refl, subst, suc, sym, true, zero, ℕ, ⊎_elim, ◌+◌, ◌<◌, ◌∙◌, ◌∷◌, ◌≡◌, ◌≤◌}
+use Rattle.std.proofs.Common.{All, Bool, List, None, Option, Some, [], ap, arith, length, refl, subst, suc, sym, zero, ℕ, ⊎_elim, ◌<◌, ◌∙◌, ◌∷◌, ◌≡◌, ◌≤◌}
 use Rattle.std.proofs.Math.Logic.{∥∥₁_elim, ∥∥₁_map, ∥∥₁_prop}
 use Rattle.std.proofs.Math.Nat.{ℕ_set}
 use Rattle.std.proofs.Props.{props}
 use Rattle.std.specs.Coded.{le_prop}
 use Rattle.std.specs.Global.{Global}
-use Rattle.std.specs.Prelude.{Vec, false, slice_get, slice_index_or}
+use Rattle.std.specs.Prelude.{Vec, slice_get, slice_index_or}
 use Rattle.std.proofs.lemmas.Bool.{cases_lt}
 use Rattle.std.proofs.lemmas.Option.{get_or_from_slice_get, slice_get_past, slice_get_within}
 use Rattle.arm_state.specs.Modes.{has_ended}
@@ -14,15 +14,12 @@ use Rattle.channel_locks.specs.declared.parts_name.PartsName.{Ghosts as PartsGho
 use Rattle.channel_log.specs.Log.{LogNote, Told, credits_of, log_tells}
 use Rattle.channel_part.specs.Stands.{PortStands}
 use Rattle.channel_port.specs.Shape.{Shape}
-use Rattle.channel_port.specs.Waits.{OpenRead, Waits, nothing}
-use Rattle.channel_port.specs.declared.answers.Ticket.{Ticket}
+use Rattle.channel_port.specs.Waits.{Waits, nothing}
 use Rattle.channel_port.specs.declared.port.ChannelPort.{Ghosts}
-use Rattle.channel_port.specs.declared.waiting.Waiting.{Waiting}
 use Rattle.channel_set.specs.Ports.{waits_in}
 use Rattle.channel_set.specs.Set.{shape_of}
 use Rattle.channel_set.specs.declared.terms.PortTerms.{PortTerms}
 use Rattle.channel_set.proofs.Lists.{all-of, at-within}
-use Rattle.energy_budget.specs.Gauge.{Gauge}
 use Rattle.energy_budget.specs.declared.costs.Costs.{Costs}
 use Rattle.energy_budget.specs.declared.energy.Energy.{Ghosts as GaugeGhosts}
 use Rattle.line_memory.specs.History.{Recorded, recorded}
@@ -33,27 +30,25 @@ use Rattle.module_core.specs.Device.{Holds}
 use Rattle.module_core.specs.Fronts.{setup_in}
 use Rattle.module_core.specs.Stands.{setup_of}
 use Rattle.module_core.specs.declared.front.Front.{Front}
-use Rattle.nv_machine.specs.State.{Machine, Setup, World, all_of, base_of_life, hold_of, start_of_life, stored_base, stored_writes}
+use Rattle.nv_machine.specs.State.{Machine, Setup, World, base_of_life, hold_of, start_of_life, stored_base, stored_writes}
 use Rattle.nv_machine.proofs.Guarded.{persisted_accepted}
 use Rattle.nv_workers.specs.Kept.{IsRecordKept, StandsWith}
 use Rattle.nv_workers.specs.Lived.{LivedUntil, world_for}
 use Rattle.nv_workers.specs.declared.recorded_module.RecordedModule.{RecordedModule}
-use Rattle.save_device.specs.Device.{DeviceState}
 use Rattle.save_device.specs.declared.device.SaveDevice.{Ghosts as DeviceGhosts}
 use Rattle.save_image.specs.Image.{Image}
 use Rattle.split_machine.specs.Telling.{AreLogsOf, AreOwn, IsToldOf, laid_out, waits_told, written_in}
 use Rattle.split_module.specs.Gathering.{FitAsModule, IsMadeOf, StandsGathered, StandsSplit, shape_in}
 use Rattle.split_module.specs.Lending.{SplitStands}
-use Rattle.split_module.specs.declared.front.SplitFront.{SplitFront}
 use Rattle.split_module.specs.declared.gathering.SplitModule.{SplitModule}
 use Rattle.split_module.proofs.Gathered.{shape_made, waits_gathered}
 use Rattle.board_desk.specs.Calling.{AddsNone, Course, GoesBy, LeadsTo}
-use Rattle.board_desk.specs.Desk.{AreBoardLogs, DeskStands, DeskView, desk_view, setup_at, shape_at, shape_named, world_at}
+use Rattle.board_desk.specs.Desk.{DeskStands, DeskView, desk_view, setup_at, shape_at, shape_named, world_at}
 use Rattle.board_desk.specs.Kept.{AreTermsOf}
 use Rattle.board_desk.specs.Loans.{AllComeBack, AreRestated, EndStays, HaveLent, restated, waits_of_port}
 use Rattle.board_desk.specs.Pieces.{ArePiecesKept, CallDid, CallLed}
 use Rattle.board_desk.proofs.Called.{KeepsWritten, keeps_written}
-use Rattle.board_desk.proofs.Joined.{count_named, fits_named, ports_named, shape_named_so}
+use Rattle.board_desk.proofs.Joined.{ports_named, shape_named_so}
 
 index_past : {X : Type 0} (xs : List X) (i : ℕ) (d : X) → length xs ≤ i → slice_index_or xs i d ≡ d
 index_past [] i d most = refl

@@ -1,5 +1,5 @@
 -- What is stored of a life begins within it, and tells what the whole life does.
-use Rattle.std.proofs.Common.{arith, length, subst, sym, ℕ, ◌+◌, ◌≡◌, ◌≤◌}
+use Rattle.std.proofs.Common.{arith, length, subst, sym, ◌+◌, ◌≡◌, ◌≤◌}
 use Rattle.channel_locks.specs.declared.parts_name.PartsName.{Ghosts as PartsGhosts}
 use Rattle.line_memory.proofs.Moving.{told_the_same}
 use Rattle.line_memory.specs.History.{Recorded, TellsSameFrom, cut_at}

@@ -1,11 +1,11 @@
 -- Ports that come back to their channels.
-use Rattle.std.proofs.Common.{List, Option, None, Some, [], ap, arith, false, length, min, refl, subst, suc, sym, take, zero, ℕ, ◌+◌, ◌<◌, ◌∙◌, ◌∷◌, ◌≡◌, ◌≤◌}
+use Rattle.std.proofs.Common.{List, Option, None, Some, [], ap, arith, false, length, subst, suc, sym, zero, ℕ, ◌<◌, ◌∙◌, ◌∷◌, ◌≡◌, ◌≤◌}
 use Rattle.std.proofs.Math.Logic.{∥∥₁_elim, ∥∥₁_map, ∥∥₁_prop}
 use Rattle.std.proofs.Math.Nat.{ℕ_set}
 use Rattle.std.proofs.Props.{props}
 use Rattle.split_module.specs.Gathering.{FitAsModule}
 use Rattle.split_module.specs.declared.gathering.SplitModule.{SplitModule}
-use Rattle.std.specs.Prelude.{Bool, slice_get, slice_set}
+use Rattle.std.specs.Prelude.{Bool, slice_get}
 use Rattle.channel_locks.specs.declared.parts_name.PartsName.{Ghosts as PartsGhosts}
 use Rattle.channel_locks.specs.PortMakes.{make_of}
 use Rattle.channel_locks.specs.Slots.{IsPartWhereDue, IsSlotKept}

@@ -1,11 +1,11 @@
 -- The ports come back to their channels, from the last one on.
-use Rattle.std.proofs.Common.{List, None, Option, Some, [], ap, arith, length, refl, subst, suc, sym, take, zero, ℕ, ⊎_elim, ◌+◌, ◌<◌, ◌∙◌, ◌∷◌, ◌≡◌, ◌≢◌, ◌≤◌}
+use Rattle.std.proofs.Common.{List, Option, [], ap, arith, length, refl, subst, suc, sym, take, zero, ℕ, ⊎_elim, ◌+◌, ◌<◌, ◌∙◌, ◌∷◌, ◌≡◌, ◌≢◌, ◌≤◌}
 use Rattle.std.proofs.Math.Logic.{∥∥₁_map}
 use Rattle.std.specs.Prelude.{Bool, slice_get, slice_index_or, slice_set}
 use Rattle.std.proofs.lemmas.Bool.{cases_eq}
 use Rattle.std.proofs.lemmas.List.{get_or-set_other, get_or-set_same, length-set}
 use Rattle.channel_locks.specs.declared.parts_name.PartsName.{Ghosts as PartsGhosts}
-use Rattle.channel_log.specs.Log.{IsLogOf, LogNote, Told, credits_of, log_tells}
+use Rattle.channel_log.specs.Log.{IsLogOf, LogNote, credits_of, log_tells}
 use Rattle.channel_port.specs.declared.port.ChannelPort.{Ghosts}
 use Rattle.board_desk.specs.Loans.{AllComeBack, AreRestated, ComesBack, IsLent, restated, waits_of_port}
 

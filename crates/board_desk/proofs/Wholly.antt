@@ -1,5 +1,5 @@
 -- All channels are settled, one after another.
-use Rattle.std.proofs.Common.{List, Option, None, Some, [], ap, arith, false, refl, rules, subst, sym, true, ℕ, ◌++◌, ◌∙◌, ◌∷◌, ◌≡◌}
+use Rattle.std.proofs.Common.{List, Option, None, Some, [], ap, arith, refl, rules, subst, true, ℕ, ◌++◌, ◌∙◌, ◌≡◌}
 use Rattle.std.proofs.Math.Logic.{∥∥₁_elim, ∥∥₁_map, ∥∥₁_prop}
 use Rattle.std.proofs.lemmas.List.Elements.{All-append, All-weaker}
 use Rattle.channel_locks.specs.declared.parts_name.PartsName.{Ghosts as PartsGhosts}
@@ -16,7 +16,7 @@ use Rattle.save_device.specs.Device.{DeviceState}
 use Rattle.save_device.specs.declared.device.SaveDevice.{Ghosts as DeviceGhosts}
 use Rattle.split_machine.specs.OwnEvents.{ComesOfOwn, is_own}
 use Rattle.board_desk.specs.Answering.{IsSettled, Settles}
-use Rattle.board_desk.specs.Desk.{DeskStands, DeskView, setup_at, world_at}
+use Rattle.board_desk.specs.Desk.{DeskView, setup_at, world_at}
 use Rattle.board_desk.specs.Loans.{IsReadyToLend}
 use Rattle.board_desk.specs.Views.{SameButCounts, view_of}
 use Rattle.board_desk.specs.declared.desk.Desk.{Desk}

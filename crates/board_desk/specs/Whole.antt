@@ -1,5 +1,5 @@
 -- A call of a whole module, to who holds all locks of its board.
-use Rattle.std.specs.Prelude.{◌≡◌, ℕ, ◌≤◌, All, Bool, true, false, List}
+use Rattle.std.specs.Prelude.{◌≡◌, All, Bool, true, false, List}
 use Rattle.channel_locks.specs.declared.parts_name.PartsName.{Ghosts as PartsGhosts}
 use Rattle.nv_machine.specs.declared.events.Event.{Event}
 use Rattle.nv_machine.specs.declared.events.Event.TheVariants as events

@@ -136,7 +136,7 @@ where
     E: Energy,
     G: Gate + Sync,
     R: Threads + Sync,
-    requires { IsRecordKept K.ChannelPort D.SaveDevice E.Energy it.old }
+    requires kept { IsRecordKept K.ChannelPort D.SaveDevice E.Energy it.old }
     ensures goes { GoesBy K.ChannelPort D.SaveDevice E.Energy (loss_course result) it.old it.new }
     ensures setup { setup_of K.ChannelPort it.new.running ≡ setup_of K.ChannelPort it.old.running }
     ensures room { it.new.history.room ≡ it.old.history.room }

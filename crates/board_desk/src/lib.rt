@@ -21,7 +21,7 @@ mod resting;
 mod settling;
 mod writing;
 
-pub use all_locks::{WholeDone, whole};
+pub use all_locks::{WholeDone, lose, whole};
 pub use board_port::BoardPort;
 pub use calling::{ArmCall, DisarmCall, SaveBeginCall, SaveStepCall, SenseCall, WholeCall};
 pub use desk::Desk;

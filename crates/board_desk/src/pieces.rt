@@ -3,11 +3,13 @@ ghost use Rattle.std.specs.Prelude.{◌≡◌, Some, List, slice_get};
 ghost use Rattle.channel_locks.specs.PortMakes.{make_of};
 ghost use Rattle.channel_log.specs.Log.{LogNote};
 ghost use Rattle.split_module.specs.Gathering.{FitAsModule, IsMadeOf, StandsGathered, StandsSplit};
+ghost use Rattle.board_desk.specs.Calling.{loss_course};
 ghost use Rattle.board_desk.specs.Desk.{desk_view};
 ghost use Rattle.board_desk.specs.Pieces.{ArePiecesKept, CallDid};
 
 use crate::board_port::BoardPort;
-use crate::calling::WholeCall;
+use crate::calling::{WholeCall, lose_mains};
+use arm_state::Loss;
 use channel_locks::PartsName;
 use channel_port::ChannelPort;
 use energy_budget::Energy;
@@ -15,6 +17,8 @@ use line_memory::History;
 use nv_workers::RecordedModule;
 use save_device::SaveDevice;
 use split_module::SplitModule;
+use std::thread::Threads;
+use worker_gate::Gate;
 
 /// A board's module in pieces, with its device, its gauge and its record.
 #[derive(Drop)]
@@ -96,6 +100,34 @@ impl<K: ChannelPort, D: SaveDevice, E: Energy, B: PartsName> RecordedPieces<K, D
     {
         let mut it = self.gather();
         let answer = call.call(&mut it);
+        let rest = RecordedPieces::of(it);
+        rest.always();
+        CalledPieces { rest, answer }
+    }
+
+    /// Mains were lost, as `lose_mains`.
+    pub(crate) fn lose<G: Gate + Sync, R: Threads + Sync>(
+        self,
+        rt: &R,
+        gate: &G,
+    ) -> CalledPieces<K, D, E, B, Loss>
+    where
+        K: Send,
+        B: Send,
+        requires kept { ∥ ((logs : List (List LogNote)) × ArePiecesKept K.ChannelPort B.PartsName
+            (desk_view self.pieces.front self.pieces.terms (D.state self.device)
+            (E.gauge self.energy) self.history logs) self.pieces.ports.items) ∥₁ }
+        ensures did { (logs : List (List LogNote)) → ArePiecesKept K.ChannelPort B.PartsName
+            (desk_view self.pieces.front self.pieces.terms (D.state self.device)
+            (E.gauge self.energy) self.history logs) self.pieces.ports.items
+            → CallDid K.ChannelPort B.PartsName (loss_course result.answer)
+            (desk_view self.pieces.front self.pieces.terms (D.state self.device)
+            (E.gauge self.energy) self.history logs)
+            (desk_view result.rest.pieces.front result.rest.pieces.terms (D.state result.rest.device)
+            (E.gauge result.rest.energy) result.rest.history logs) result.rest.pieces.ports.items }
+    {
+        let mut it = self.gather();
+        let answer = lose_mains(rt, &mut it, gate);
         let rest = RecordedPieces::of(it);
         rest.always();
         CalledPieces { rest, answer }

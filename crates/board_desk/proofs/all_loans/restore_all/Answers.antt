@@ -1,5 +1,5 @@
 -- All channels have their ports back.
-use Rattle.std.proofs.Common.{ap, arith, ◌<◌, ◌≤◌}
+use Rattle.std.proofs.Common.{ap, arith}
 use Rattle.channel_log.specs.Seats.{AllLogs}
 use Rattle.board_desk.proofs.Returned.{HaveBack, all_back, comes_due, none_back, one_back}
 use Rattle.board_desk.proofs.all_loans.restore_all.Goals as goal

@@ -1,11 +1,11 @@
 -- A call of the whole module, with all locks held.
-use Rattle.std.proofs.Common.{List, Some, [], ap, arith, length, refl, rules, subst, sym, ℕ, ◌∙◌, ◌≡◌, ◌≤◌}
+use Rattle.std.proofs.Common.{List, ap, length, rules, subst, sym, ◌∙◌}
 use Rattle.arm_state.specs.Modes.{has_ended}
 use Rattle.channel_log.specs.Log.{LogNote}
 use Rattle.channel_log.specs.Seats.{AllLogs}
 use Rattle.mark_board.specs.SeenMarks.{seen_marks}
 use Rattle.board_desk.specs.Desk.{DeskView, desk_view}
-use Rattle.board_desk.specs.Loans.{AllComeBack, AreRestated, EndStays, HaveLent}
+use Rattle.board_desk.specs.Loans.{AllComeBack, AreRestated, EndStays}
 use Rattle.board_desk.specs.Pieces.{CallDid}
 use Rattle.board_desk.specs.Views.{view_of}
 use Rattle.board_desk.proofs.KeptWhole.{answers_whole, eight_logs, kept_whole, pieces_kept, shows_whole}

@@ -6,7 +6,7 @@ use Rattle.board_desk.proofs.Called.{goes_by_event}
 use Rattle.board_desk.proofs.calling.lose_mains.Goals as goal
 
 pub power_loss_with-requires-clause-size : goal.power_loss_with-requires-clause-size
-power_loss_with-requires-clause-size g c _ _ = has_device g.K.ChannelPort g.D.SaveDevice g.E.Energy c.args.it.now c.requires
+power_loss_with-requires-clause-size g c _ _ = has_device g.K.ChannelPort g.D.SaveDevice g.E.Energy c.args.it.now c.requires.kept
 
 pub returns-clause-goes : goal.returns-clause-goes
 returns-clause-goes g c =

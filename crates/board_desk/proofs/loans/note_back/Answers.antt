@@ -1,5 +1,5 @@
 -- What is known of a channel is noted.
-use Rattle.std.proofs.Common.{ap, sym, ◌∙◌}
+use Rattle.std.proofs.Common.{ap, ◌∙◌}
 use Rattle.std.specs.Prelude.{slice_set}
 use Rattle.channel_log.specs.Seats.{AllLogs, OneLog}
 use Rattle.std.proofs.lemmas.List.{set-set}

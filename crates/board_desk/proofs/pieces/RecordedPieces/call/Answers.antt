@@ -2,8 +2,6 @@
 use Rattle.std.proofs.Common.{refl}
 use Rattle.std.proofs.Math.Logic.{∥∥₁_elim, ∥∥₁_map, ∥∥₁_prop}
 use Rattle.std.proofs.Props.{props}
-use Rattle.split_machine.specs.Telling.{AreOwn}
-use Rattle.split_module.specs.Gathering.{FitAsModule}
 use Rattle.board_desk.proofs.Joined.{fits_named}
 use Rattle.board_desk.proofs.Parted.{did, record_joined}
 use Rattle.board_desk.proofs.Restored.{fits_lent}
