@@ -1,13 +1,12 @@
 -- A life that has just begun has accepted no write.
-use Rattle.std.proofs.Common.{◌≡◌, ◌∙◌, ℕ, ◌+◌, List, [], ◌∷◌, false, length, Option, Some, None, ap, arith, refl, sym}
+use Rattle.std.proofs.Common.{◌≡◌, List, [], ◌∷◌, length, Option, Some, None, ap, arith, refl}
 use Rattle.std.proofs.Props.{props}
 use Rattle.std.proofs.Math.Logic.{∥∥₁_elim, ∥∥₁_map}
 use Rattle.std.proofs.Math.Nat.{ℕ_set}
 use Rattle.arm_state.specs.Modes.{has_ended}
 use Rattle.channel_port.specs.declared.port.ChannelPort.{Ghosts}
-use Rattle.channel_port.specs.Waits.{Waits, nothing}
+use Rattle.channel_port.specs.Waits.{Waits}
 use Rattle.channel_set.specs.Set.{view_of}
-use Rattle.module_core.specs.declared.front.Front.{Front}
 use Rattle.module_core.specs.Saving.{AreSameSave}
 use Rattle.save_device.specs.declared.device.SaveDevice.{Ghosts as DeviceGhosts}
 use Rattle.slot_store.specs.declared.saving.SaveRun.{SaveRun}

@@ -4,10 +4,10 @@ ghost use Rattle.split_board.specs.Wholes.{CallsLocked, LentWhole};
 
 use crate::board::Board;
 use crate::locked_desk::LockedDesk;
-use crate::stub::{WholeDone, lose, whole};
 use arm_state::{ArmRefusal, ArmReply, DisarmReply, Loss};
 use board_desk::{
-    ArmCall, BoardPort, DisarmCall, SaveBeginCall, SaveStepCall, SenseCall, WholeCall,
+    ArmCall, BoardPort, DisarmCall, SaveBeginCall, SaveStepCall, SenseCall, WholeCall, WholeDone,
+    lose, whole,
 };
 use channel_locks::{AllSlots, ChannelLocks, PartsName, take_lock};
 use channel_port::ChannelPort;
@@ -77,7 +77,7 @@ where
     K: ChannelPort + Drop + Send,
     D: SaveDevice + Drop,
     E: Energy + Drop,
-    B: BoardName + PartsName,
+    B: BoardName + PartsName + Send,
     G: Gate + Sync,
     R: Threads + Wait + Sync,
     ensures { CallsLocked K.ChannelPort D.SaveDevice E.Energy B.BoardName.own B.PartsName.own
@@ -176,6 +176,7 @@ where
     pub fn power_loss<G: Gate + Sync, R: Threads + Wait + Sync>(&self, rt: &R, gate: &G) -> Loss
     where
         K: Send,
+        B: Send,
         ensures { LentWhole K.ChannelPort D.SaveDevice E.Energy B.BoardName.own B.PartsName.own
             (loss_course result) }
     {

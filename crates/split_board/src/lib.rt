@@ -13,7 +13,6 @@ mod locked_desk;
 mod reading;
 mod saving;
 mod starting;
-mod stub;
 mod tables;
 mod telling;
 mod working;

@@ -4,8 +4,9 @@ ghost use Rattle.split_board.specs.Wholes.{LentTurnOfSaver};
 
 use crate::board::Board;
 use crate::calling::call_locked;
+use crate::locked_desk::LockedDesk;
 use board_desk::{SaveBeginCall, SaveStepCall};
-use channel_locks::{PartsName, take_lock};
+use channel_locks::{ChannelLocks, PartsName, take_lock};
 use channel_port::ChannelPort;
 use energy_budget::Energy;
 use notice_book::Notices;
@@ -16,33 +17,29 @@ use std::time::Clock;
 use worker_gate::{Gate, Turn};
 use worker_loops::{Ended, Shift, Working, give_way, take_turns};
 
-impl<K, D, E, B, N> Board<K, D, E, B, N>
+// One turn of a saver, with the board's lock held. It decides by the desk alone, and the channels' locks are taken only where it saves.
+fn save_locked<K, D, E, B, R>(
+    rt: &R,
+    locked: &mut LockedDesk<K, D, E, B>,
+    channels: &ChannelLocks<K, B>,
+) -> Saving
 where
     K: ChannelPort + Drop,
     D: SaveDevice + Drop,
     E: Energy + Drop,
     B: BoardName + PartsName,
-    N: Notices,
+    R: Wait,
+    ensures { LentTurnOfSaver K.ChannelPort D.SaveDevice E.Energy B.BoardName.own B.PartsName.own
+        result }
 {
-    // One turn of a saver. It decides by the desk alone, and takes the channels' locks only where it saves.
-    fn save<R: Wait>(&self, rt: &R) -> Saving
-        ensures { LentTurnOfSaver K.ChannelPort D.SaveDevice E.Energy B.BoardName.own B.PartsName.own
-            result }
-    {
-        let mut locked = take_lock(rt, &self.desk);
-        let Some(desk) = &locked.desk else {
-            unreachable!();
-        };
-        match desk.saver_turn() {
-            SaverTurn::Begin => {
-                Saving::Began(call_locked(rt, &mut *locked, &self.channels, SaveBeginCall))
-            }
-            SaverTurn::Step => {
-                Saving::Stepped(call_locked(rt, &mut *locked, &self.channels, SaveStepCall))
-            }
-            SaverTurn::Rest => Saving::Rested,
-            SaverTurn::End => Saving::Closed,
-        }
+    let Some(desk) = &locked.desk else {
+        unreachable!();
+    };
+    match desk.saver_turn() {
+        SaverTurn::Begin => Saving::Began(call_locked(rt, locked, channels, SaveBeginCall)),
+        SaverTurn::Step => Saving::Stepped(call_locked(rt, locked, channels, SaveStepCall)),
+        SaverTurn::Rest => Saving::Rested,
+        SaverTurn::End => Saving::Closed,
     }
 }
 
@@ -89,7 +86,8 @@ where
     }
 
     fn work(&mut self, _worker: u64) -> Working {
-        working_of(self.board.save(self.rt))
+        let mut locked = take_lock(self.rt, &self.board.desk);
+        working_of(save_locked(self.rt, &mut *locked, &self.board.channels))
     }
 
     fn give_way(&mut self, idle: u64) -> u64 {

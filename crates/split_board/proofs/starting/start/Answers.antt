@@ -1,4 +1,4 @@
-use Rattle.std.proofs.Common.{◌≡◌, ◌≤◌, ◌∙◌, All, List, [], ap, map, subst, sym}
+use Rattle.std.proofs.Common.{◌≡◌, ◌≤◌, ◌∙◌, ℕ, All, List, [], ap, arith, length, map, subst, sym}
 use Rattle.atomic_table.specs.Seated.{TableId}
 use Rattle.mark_board.specs.SeenMarks.{AllHaveSeen, SeenMarks, seen_marks}
 use Rattle.std.specs.Arc.{arc_value}
@@ -52,9 +52,10 @@ invariant_of-desk-2 g c =
     let kept = desk_kept L M N O P it pieces (unwritten g.K.ChannelPort g.D.SaveDevice c.args.recorded asked.fresh) split.pieces split.stands split.fit asked.made asked.ports asked.base asked.kept
     (arc_value c.in-Ok.made.marks) c.args.tables.logs known.table marks c.open-book.result.0.total
     c.in-Ok.ensures.marks asked.logs (ap (λ (k : AllLogs). k.table) told) (sym asked.channels ∙ asked.ports) shown asked.before c.open-book.ensures.total in
+    let few = subst (λ (n : ℕ). n ≤ 8) ((λ i. length (split.pieces.ports i).items) ∙ asked.ports) split.fit.are_ports.few in
     record {
       empty = c.in-Ok.ensures.empty;
-      spacious = c.in-Ok.ensures.room;
+      spacious = omega (arith, c.in-Ok.ensures.room, few);
       kept = subst (λ (logs : List (List LogNote)). IsDeskKept O P (desk_view pieces.front pieces.terms (M.state it.device) (N.gauge it.energy) it.history logs)
           (arc_value c.in-Ok.made.marks) marks c.open-book.result.0.total c.args.tables.logs known.table) (sym (ap (λ (k : AllLogs). k.logs) told)) kept;
     }

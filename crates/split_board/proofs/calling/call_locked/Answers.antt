@@ -1,0 +1,11 @@
+use Rattle.std.proofs.Common.{◌∙◌, refl, sym}
+use Rattle.split_board.proofs.calling.call_locked.Goals as goal
+
+pub returns : goal.returns
+returns g c = record {
+  before = c.in-Some.desk;
+  after = c.whole-desk.result.desk;
+  old_is = sym c.take.ensures.value ∙ c.in-Some.is;
+  new_is = refl;
+  calls = c.whole-desk.ensures.answers;
+}
