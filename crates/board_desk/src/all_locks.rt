@@ -87,6 +87,7 @@ pub fn whole<
     ensures answers { WholeAnswers B.PartsName.own (W.course result.answer)
         (view_of K.ChannelPort D.SaveDevice E.Energy B.BoardName.own B.PartsName.own desk)
         (view_of K.ChannelPort D.SaveDevice E.Energy B.BoardName.own B.PartsName.own result.desk) }
+    ensures told { W.told result.answer desk.split.front.saved desk.history result.desk.history }
 {
     settle_all(&mut desk, zero, one, two, three, four, five, six, seven);
     let Desk {

@@ -23,7 +23,9 @@ mod writing;
 
 pub use all_locks::{WholeDone, lose, whole};
 pub use board_port::BoardPort;
-pub use calling::{ArmCall, DisarmCall, SaveBeginCall, SaveStepCall, SenseCall, WholeCall};
+pub use calling::{
+    ArmCall, CutCall, DisarmCall, SaveBeginCall, SaveStepCall, SenseCall, WholeCall,
+};
 pub use desk::Desk;
 pub use laws::{desks_keep_lives, desks_tell_lives};
 pub use noting::{look_at, note_write};

@@ -97,6 +97,8 @@ impl<K: ChannelPort, D: SaveDevice, E: Energy, B: PartsName> RecordedPieces<K, D
             (E.gauge self.energy) self.history logs)
             (desk_view result.rest.pieces.front result.rest.pieces.terms (D.state result.rest.device)
             (E.gauge result.rest.energy) result.rest.history logs) result.rest.pieces.ports.items }
+        ensures told { W.told result.answer self.pieces.front.front.saved self.history
+            result.rest.history }
     {
         let mut it = self.gather();
         let answer = call.call(&mut it);
