@@ -30,7 +30,7 @@ pub struct WholeDone<K: ChannelPort, D: SaveDevice, E: Energy, B: BoardName + Pa
 }
 
 // All channels are settled.
-fn settle_all<K: ChannelPort, D: SaveDevice, E: Energy, B: BoardName + PartsName>(
+pub(crate) fn settle_all<K: ChannelPort, D: SaveDevice, E: Energy, B: BoardName + PartsName>(
     desk: &mut Desk<K, D, E, B>,
     zero: &mut Slot<K, B, ChannelZero>,
     one: &mut Slot<K, B, ChannelOne>,

@@ -37,8 +37,8 @@ pub(crate) struct CalledPieces<K: ChannelPort, D: SaveDevice, E: Energy, B: Part
 }
 
 impl<K: ChannelPort, D: SaveDevice, E: Energy, B: PartsName> RecordedPieces<K, D, E, B> {
-    // The module put together, with its record.
-    fn gather(self) -> RecordedModule<BoardPort<K, B>, D, E>
+    /// The module put together, with its record.
+    pub(crate) fn gather(self) -> RecordedModule<BoardPort<K, B>, D, E>
         requires { FitAsModule ⟦<BoardPort<K, B> as ChannelPort>⟧ self.pieces }
         ensures pieces { IsMadeOf ⟦<BoardPort<K, B> as ChannelPort>⟧ result.running self.pieces }
         ensures stands { StandsGathered ⟦<BoardPort<K, B> as ChannelPort>⟧ self.pieces result.running }

@@ -89,9 +89,9 @@ pub returns-clause-answers : goal.returns-clause-answers
 returns-clause-answers g c =
     let at = goal.at.returns-clause-answers g c in
     answers_whole g.K.ChannelPort g.B.BoardName g.B.PartsName (settled g at.After-call-rest) _ c.settle_all.new.desk.seat _ _ _ c.settle_all.new.desk.kept (g.W.WholeCall.course c.call-rest.result.answer)
-          (then_with g at.After-call-rest c.restore_all.new.known.logs) c.call-rest.result.rest.pieces.ports.items (did g at.After-call-rest) (restated_then g at.After-restore_all)
-          (view_of g.K.ChannelPort g.D.SaveDevice g.E.Energy g.B.BoardName g.B.PartsName c.args.desk) c.settle_all.ensures.settles
-          (same_world g.K.ChannelPort g.D.SaveDevice g.E.Energy g.B.BoardName g.B.PartsName c.args.desk c.settle_all.new.desk c.settle_all.ensures.same)
+    (then_with g at.After-call-rest c.restore_all.new.known.logs) c.call-rest.result.rest.pieces.ports.items (did g at.After-call-rest) (restated_then g at.After-restore_all)
+    (view_of g.K.ChannelPort g.D.SaveDevice g.E.Energy g.B.BoardName g.B.PartsName c.args.desk) c.settle_all.ensures.settles
+    (same_world g.K.ChannelPort g.D.SaveDevice g.E.Energy g.B.BoardName g.B.PartsName c.args.desk c.settle_all.new.desk c.settle_all.ensures.same)
 
 pub returns-clause-told : goal.returns-clause-told
 returns-clause-told g c =
