@@ -1,5 +1,5 @@
 -- A cut of a module with its record is a pause of its life.
-use Rattle.std.proofs.Common.{ap, arith, refl, subst, sym, ℕ, ◌+◌, ◌∙◌, ◌≡◌, ◌≤◌}
+use Rattle.std.proofs.Common.{ap, arith, refl, sym, ℕ, ◌∙◌, ◌≡◌, ◌≤◌}
 use Rattle.channel_port.specs.declared.port.ChannelPort.{Ghosts}
 use Rattle.energy_budget.specs.declared.energy.Energy.{Ghosts as GaugeGhosts}
 use Rattle.line_memory.specs.History.{Recorded, cut_at, recorded}
@@ -9,7 +9,7 @@ use Rattle.module_core.proofs.RunsOn.{cut_rests, cut_stands}
 use Rattle.module_core.specs.declared.module.Module.{Module}
 use Rattle.nv_machine.proofs.Guarded.{cut_below}
 use Rattle.nv_machine.specs.State.{Machine, stored_base, stored_writes}
-use Rattle.nv_workers.specs.Kept.{StandsWith, whole_record}
+use Rattle.nv_workers.specs.Kept.{whole_record}
 use Rattle.nv_workers.specs.declared.recorded_module.RecordedModule.{RecordedModule}
 use Rattle.save_device.specs.declared.device.SaveDevice.{Ghosts as DeviceGhosts}
 use Rattle.board_desk.specs.Calling.{GoesBy, Paused}

@@ -1,4 +1,4 @@
-use Rattle.std.proofs.Common.{ap, arith, refl, ℕ, ◌∙◌, ◌≡◌, ◌≤◌}
+use Rattle.std.proofs.Common.{ap, arith, ℕ, ◌∙◌, ◌≤◌}
 use Rattle.line_memory.specs.History.{cut_at}
 use Rattle.nv_workers.proofs.Keeping.{counted_with, starts_with}
 use Rattle.board_desk.proofs.CutCalled.{goes_by_cut}
