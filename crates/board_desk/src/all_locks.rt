@@ -275,13 +275,13 @@ where
         mut ports,
         terms,
     } = pieces;
-    let ended = split.front.mode().has_ended();
+    let lost = split.front.mode().has_ended();
     restore_all(
         &logs,
         &mut known,
         &mut ports,
         terms.hold,
-        ended,
+        lost,
         &mut zero.part,
         &mut zero.seat,
         &mut one.part,
