@@ -6,6 +6,7 @@ pub mod Noted
 pub mod Keeping
 pub mod Lent
 pub mod Called
+pub mod CutCalled
 pub mod Wholly
 pub mod Restored
 pub mod Returned

@@ -6,6 +6,7 @@ use Rattle.arm_state.specs.declared.refusal.ArmReply.{ArmReply}
 use Rattle.arm_state.specs.declared.refusal.DisarmReply.{DisarmReply}
 use Rattle.channel_port.specs.declared.port.ChannelPort.{Ghosts}
 use Rattle.energy_budget.specs.declared.energy.Energy.{Ghosts as GaugeGhosts}
+use Rattle.line_memory.specs.History.{Recorded, cut_at}
 use Rattle.module_core.specs.Stands.{setup_of}
 use Rattle.nv_machine.specs.Headline.{Happens, Rests}
 use Rattle.nv_machine.specs.Rising.{added}
@@ -53,6 +54,13 @@ LeadsTo Paused setup old new = Rests old new
 abbrev pub AddsNone : Course → Type 0
 AddsNone (Answered event reply) = added event reply ≡ []
 AddsNone Paused = Unit {0}
+
+-- of the record nothing has changed, or it was cut to the end of the newest image
+abbrev pub same_record : ℕ → Recorded → Recorded → Type 0
+same_record saved old new = new ≡ old
+
+abbrev pub cut_record : ℕ → ℕ → Recorded → Recorded → Type 0
+cut_record from saved old new = (from ≡ saved) × (new ≡ cut_at from old)
 
 module _ {K D E : Type 0} (L : Ghosts K) (M : DeviceGhosts D) (N : GaugeGhosts E) where
   -- Whichever machine module and record stood for, they stand for one to which this course leads.

@@ -30,7 +30,7 @@ pub struct WholeDone<K: ChannelPort, D: SaveDevice, E: Energy, B: BoardName + Pa
 }
 
 // All channels are settled.
-fn settle_all<K: ChannelPort, D: SaveDevice, E: Energy, B: BoardName + PartsName>(
+pub(crate) fn settle_all<K: ChannelPort, D: SaveDevice, E: Energy, B: BoardName + PartsName>(
     desk: &mut Desk<K, D, E, B>,
     zero: &mut Slot<K, B, ChannelZero>,
     one: &mut Slot<K, B, ChannelOne>,
@@ -87,6 +87,7 @@ pub fn whole<
     ensures answers { WholeAnswers B.PartsName.own (W.course result.answer)
         (view_of K.ChannelPort D.SaveDevice E.Energy B.BoardName.own B.PartsName.own desk)
         (view_of K.ChannelPort D.SaveDevice E.Energy B.BoardName.own B.PartsName.own result.desk) }
+    ensures told { W.told result.answer desk.split.front.saved desk.history result.desk.history }
 {
     settle_all(&mut desk, zero, one, two, three, four, five, six, seven);
     let Desk {
@@ -274,13 +275,13 @@ where
         mut ports,
         terms,
     } = pieces;
-    let ended = split.front.mode().has_ended();
+    let lost = split.front.mode().has_ended();
     restore_all(
         &logs,
         &mut known,
         &mut ports,
         terms.hold,
-        ended,
+        lost,
         &mut zero.part,
         &mut zero.seat,
         &mut one.part,

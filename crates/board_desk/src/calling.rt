@@ -1,5 +1,6 @@
 // What is asked of a whole module, with all locks of its board held.
-ghost use Rattle.std.specs.Prelude.{◌≡◌};
+ghost use Rattle.std.specs.Prelude.{◌≡◌, ℕ};
+ghost use Rattle.line_memory.specs.History.{Recorded};
 ghost use Rattle.module_core.specs.Stands.{setup_of};
 ghost use Rattle.nv_workers.specs.Kept.{IsRecordKept};
 ghost use Rattle.board_desk.specs.Calling.{AddsNone, Course, GoesBy, loss_course};
@@ -21,12 +22,16 @@ pub trait WholeCall<K: ChannelPort, D: SaveDevice, E: Energy> {
     /// What it is to the life, with this answer.
     ghost course: { Self.Answer → Course };
 
+    /// What its answer tells of the record, where the newest image holds so many writes before the call.
+    ghost told: { Self.Answer → ℕ → Recorded → Recorded → Type 0 };
+
     /// Makes the call.
     fn call(self, it: &mut RecordedModule<K, D, E>) -> Self::Answer
         requires { IsRecordKept K.ChannelPort D.SaveDevice E.Energy it.old }
         ensures goes { GoesBy K.ChannelPort D.SaveDevice E.Energy (course result) it.old it.new }
         ensures setup { setup_of K.ChannelPort it.new.running ≡ setup_of K.ChannelPort it.old.running }
-        ensures room { it.new.history.room ≡ it.old.history.room };
+        ensures room { it.new.history.room ≡ it.old.history.room }
+        ensures told { told result it.old.running.front.saved it.old.history it.new.history };
 
     /// The life has the writes that it had.
     ghost adds_none: { (answer : Self.Answer) → AddsNone (course answer) };
@@ -40,9 +45,11 @@ impl<K: ChannelPort, D: SaveDevice, E: Energy> WholeCall<K, D, E> for ArmCall {
     type Answer = Result<ArmReply, ArmRefusal>;
 
     ghost use Rattle.std.specs.Prelude.{refl};
-    ghost use Rattle.board_desk.specs.Calling.{arm_course};
+    ghost use Rattle.board_desk.specs.Calling.{arm_course, same_record};
 
     ghost course = { arm_course };
+
+    ghost told = { λ answer. same_record };
 
     ghost adds_none = { λ answer. refl };
 
@@ -59,9 +66,11 @@ impl<K: ChannelPort, D: SaveDevice, E: Energy> WholeCall<K, D, E> for DisarmCall
     type Answer = Result<DisarmReply, ArmRefusal>;
 
     ghost use Rattle.std.specs.Prelude.{refl};
-    ghost use Rattle.board_desk.specs.Calling.{disarm_course};
+    ghost use Rattle.board_desk.specs.Calling.{disarm_course, same_record};
 
     ghost course = { disarm_course };
+
+    ghost told = { λ answer. same_record };
 
     ghost adds_none = { λ answer. refl };
 
@@ -78,9 +87,11 @@ impl<K: ChannelPort, D: SaveDevice, E: Energy> WholeCall<K, D, E> for SenseCall 
     type Answer = u64;
 
     ghost use Rattle.std.specs.Prelude.{refl};
-    ghost use Rattle.board_desk.specs.Calling.{sense_course};
+    ghost use Rattle.board_desk.specs.Calling.{sense_course, same_record};
 
     ghost course = { sense_course };
+
+    ghost told = { λ answer. same_record };
 
     ghost adds_none = { λ answer. refl };
 
@@ -97,9 +108,11 @@ impl<K: ChannelPort, D: SaveDevice, E: Energy> WholeCall<K, D, E> for SaveBeginC
     type Answer = Result<(), ArmRefusal>;
 
     ghost use Rattle.std.specs.Prelude.{refl};
-    ghost use Rattle.board_desk.specs.Calling.{save_begin_course};
+    ghost use Rattle.board_desk.specs.Calling.{save_begin_course, same_record};
 
     ghost course = { save_begin_course };
+
+    ghost told = { λ answer. same_record };
 
     ghost adds_none = { λ answer. refl };
 
@@ -116,14 +129,40 @@ impl<K: ChannelPort, D: SaveDevice, E: Energy> WholeCall<K, D, E> for SaveStepCa
     type Answer = StepReply;
 
     ghost use Rattle.std.specs.Prelude.{refl};
-    ghost use Rattle.board_desk.specs.Calling.{save_step_course};
+    ghost use Rattle.board_desk.specs.Calling.{save_step_course, same_record};
 
     ghost course = { save_step_course };
+
+    ghost told = { λ answer. same_record };
 
     ghost adds_none = { λ answer. refl };
 
     fn call(self, it: &mut RecordedModule<K, D, E>) -> StepReply {
         it.running.save_step(&mut it.device, &mut it.energy)
+    }
+}
+
+/// Takes off the stored writes that the newest image holds: they go into the record's memory. It answers with which number the stored
+/// writes begin then.
+#[derive(Drop)]
+pub struct CutCall;
+
+impl<K: ChannelPort, D: SaveDevice, E: Energy> WholeCall<K, D, E> for CutCall {
+    type Answer = u64;
+
+    ghost use Rattle.board_desk.specs.Calling.{Paused, cut_record};
+
+    ghost course = { λ from. Paused };
+
+    ghost told = { cut_record };
+
+    ghost adds_none = { λ from. tt };
+
+    fn call(self, it: &mut RecordedModule<K, D, E>) -> u64 {
+        let from = it.running.saved();
+        it.history.cut(from);
+        let _gone = it.running.cut();
+        from
     }
 }
 

@@ -10,6 +10,7 @@ mod all_loans;
 mod all_locks;
 mod board_port;
 mod calling;
+mod closing;
 mod desk;
 mod hosting;
 mod laws;
@@ -23,7 +24,10 @@ mod writing;
 
 pub use all_locks::{WholeDone, lose, whole};
 pub use board_port::BoardPort;
-pub use calling::{ArmCall, DisarmCall, SaveBeginCall, SaveStepCall, SenseCall, WholeCall};
+pub use calling::{
+    ArmCall, CutCall, DisarmCall, SaveBeginCall, SaveStepCall, SenseCall, WholeCall,
+};
+pub use closing::gather_all;
 pub use desk::Desk;
 pub use laws::{desks_keep_lives, desks_tell_lives};
 pub use noting::{look_at, note_write};

@@ -37,8 +37,8 @@ pub(crate) struct CalledPieces<K: ChannelPort, D: SaveDevice, E: Energy, B: Part
 }
 
 impl<K: ChannelPort, D: SaveDevice, E: Energy, B: PartsName> RecordedPieces<K, D, E, B> {
-    // The module put together, with its record.
-    fn gather(self) -> RecordedModule<BoardPort<K, B>, D, E>
+    /// The module put together, with its record.
+    pub(crate) fn gather(self) -> RecordedModule<BoardPort<K, B>, D, E>
         requires { FitAsModule ⟦<BoardPort<K, B> as ChannelPort>⟧ self.pieces }
         ensures pieces { IsMadeOf ⟦<BoardPort<K, B> as ChannelPort>⟧ result.running self.pieces }
         ensures stands { StandsGathered ⟦<BoardPort<K, B> as ChannelPort>⟧ self.pieces result.running }
@@ -97,6 +97,8 @@ impl<K: ChannelPort, D: SaveDevice, E: Energy, B: PartsName> RecordedPieces<K, D
             (E.gauge self.energy) self.history logs)
             (desk_view result.rest.pieces.front result.rest.pieces.terms (D.state result.rest.device)
             (E.gauge result.rest.energy) result.rest.history logs) result.rest.pieces.ports.items }
+        ensures told { W.told result.answer self.pieces.front.front.saved self.history
+            result.rest.history }
     {
         let mut it = self.gather();
         let answer = call.call(&mut it);

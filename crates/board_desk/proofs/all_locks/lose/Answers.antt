@@ -49,15 +49,15 @@ restore_all-requires-clause-eight g c =
 pub restore_all-requires-clause-stays : goal.restore_all-requires-clause-stays
 restore_all-requires-clause-stays g c =
     let at = goal.at.restore_all-requires-clause-stays g c in
-    subst (λ (f : AllLogs). EndStays c.has_ended-ended.result f.logs) (sym c.lend_all.ensures.known)
-    (subst (λ b. EndStays b c.settle_all.new.desk.known.logs) (sym (c.has_ended-ended.ensures ∙ ap has_ended c.mode.ensures)) (did g at.After-lose-rest).stays)
+    subst (λ (f : AllLogs). EndStays c.has_ended-lost.result f.logs) (sym c.lend_all.ensures.known)
+    (subst (λ b. EndStays b c.settle_all.new.desk.known.logs) (sym (c.has_ended-lost.ensures ∙ ap has_ended c.mode.ensures)) (did g at.After-lose-rest).stays)
 
 pub restore_all-requires-clause-due : goal.restore_all-requires-clause-due
 restore_all-requires-clause-due g c =
     let at = goal.at.restore_all-requires-clause-due g c in
     let rest = c.lose-rest.result.rest in
-    subst (λ (f : AllLogs). ∥ AllComeBack g.K.ChannelPort g.B.PartsName rest.pieces.terms.hold c.has_ended-ended.result f.logs rest.pieces.ports.items ∥₁) (sym c.lend_all.ensures.known)
-    (subst (λ b. ∥ AllComeBack g.K.ChannelPort g.B.PartsName rest.pieces.terms.hold b c.settle_all.new.desk.known.logs rest.pieces.ports.items ∥₁) (sym (c.has_ended-ended.ensures ∙ ap has_ended c.mode.ensures)) (did g at.After-lose-rest).due)
+    subst (λ (f : AllLogs). ∥ AllComeBack g.K.ChannelPort g.B.PartsName rest.pieces.terms.hold c.has_ended-lost.result f.logs rest.pieces.ports.items ∥₁) (sym c.lend_all.ensures.known)
+    (subst (λ b. ∥ AllComeBack g.K.ChannelPort g.B.PartsName rest.pieces.terms.hold b c.settle_all.new.desk.known.logs rest.pieces.ports.items ∥₁) (sym (c.has_ended-lost.ensures ∙ ap has_ended c.mode.ensures)) (did g at.After-lose-rest).due)
 
 pub publish-requires-clause-shown : goal.publish-requires-clause-shown
 publish-requires-clause-shown g c =
@@ -70,7 +70,7 @@ module _ (g : Over) (c : After-restore_all g) where
   restated_then : AreRestated g.K.ChannelPort c.lose-rest.result.rest.pieces.terms.hold (has_ended c.lose-rest.result.rest.pieces.front.front.mode) c.lose-rest.result.rest.pieces.ports.items c.settle_all.new.desk.known.logs c.restore_all.new.known.logs
   restated_then =
       subst (λ (f : AllLogs). AreRestated g.K.ChannelPort c.lose-rest.result.rest.pieces.terms.hold (has_ended c.lose-rest.result.rest.pieces.front.front.mode) c.lose-rest.result.rest.pieces.ports.items f.logs c.restore_all.new.known.logs) c.lend_all.ensures.known
-      (subst (λ b. AreRestated g.K.ChannelPort c.lose-rest.result.rest.pieces.terms.hold b c.lose-rest.result.rest.pieces.ports.items c.lend_all.new.known.logs c.restore_all.new.known.logs) (c.has_ended-ended.ensures ∙ ap has_ended c.mode.ensures) c.restore_all.ensures.restated)
+      (subst (λ b. AreRestated g.K.ChannelPort c.lose-rest.result.rest.pieces.terms.hold b c.lose-rest.result.rest.pieces.ports.items c.lend_all.new.known.logs c.restore_all.new.known.logs) (c.has_ended-lost.ensures ∙ ap has_ended c.mode.ensures) c.restore_all.ensures.restated)
 
 pub invariant_of-desk : goal.invariant_of-desk
 invariant_of-desk g c =

@@ -1,6 +1,8 @@
 -- A call of the whole module, with all locks held.
 use Rattle.std.proofs.Common.{List, ap, length, rules, subst, sym, ◌∙◌}
 use Rattle.arm_state.specs.Modes.{has_ended}
+use Rattle.line_memory.specs.History.{Recorded}
+use Rattle.module_core.specs.declared.front.Front.{Front}
 use Rattle.channel_log.specs.Log.{LogNote}
 use Rattle.channel_log.specs.Seats.{AllLogs}
 use Rattle.mark_board.specs.SeenMarks.{seen_marks}
@@ -83,12 +85,18 @@ invariant_of-desk g c =
           c.restore_all.new.known.table (c.restore_all.ensures.table ∙ ap (λ (f : AllLogs). f.table) c.lend_all.ensures.known);
     }
 
-pub returns : goal.returns
-returns g c =
-    let at = goal.at.returns g c in
-    record {
-      answers = answers_whole g.K.ChannelPort g.B.BoardName g.B.PartsName (settled g at.After-call-rest) _ c.settle_all.new.desk.seat _ _ _ c.settle_all.new.desk.kept (g.W.WholeCall.course c.call-rest.result.answer)
-          (then_with g at.After-call-rest c.restore_all.new.known.logs) c.call-rest.result.rest.pieces.ports.items (did g at.After-call-rest) (restated_then g at.After-restore_all)
-          (view_of g.K.ChannelPort g.D.SaveDevice g.E.Energy g.B.BoardName g.B.PartsName c.args.desk) c.settle_all.ensures.settles
-          (same_world g.K.ChannelPort g.D.SaveDevice g.E.Energy g.B.BoardName g.B.PartsName c.args.desk c.settle_all.new.desk c.settle_all.ensures.same);
-    }
+pub returns-clause-answers : goal.returns-clause-answers
+returns-clause-answers g c =
+    let at = goal.at.returns-clause-answers g c in
+    answers_whole g.K.ChannelPort g.B.BoardName g.B.PartsName (settled g at.After-call-rest) _ c.settle_all.new.desk.seat _ _ _ c.settle_all.new.desk.kept (g.W.WholeCall.course c.call-rest.result.answer)
+    (then_with g at.After-call-rest c.restore_all.new.known.logs) c.call-rest.result.rest.pieces.ports.items (did g at.After-call-rest) (restated_then g at.After-restore_all)
+    (view_of g.K.ChannelPort g.D.SaveDevice g.E.Energy g.B.BoardName g.B.PartsName c.args.desk) c.settle_all.ensures.settles
+    (same_world g.K.ChannelPort g.D.SaveDevice g.E.Energy g.B.BoardName g.B.PartsName c.args.desk c.settle_all.new.desk c.settle_all.ensures.same)
+
+pub returns-clause-told : goal.returns-clause-told
+returns-clause-told g c =
+    let told = g.W.WholeCall.told in
+    let rest = c.call-rest.result in
+    let same = c.settle_all.ensures.same in
+    subst (λ (h : Recorded). told rest.answer c.args.desk.split.front.saved h rest.rest.history) same.history
+    (subst (λ (f : Front). told rest.answer f.saved c.settle_all.new.desk.history rest.rest.history) same.front c.call-rest.ensures.told)
