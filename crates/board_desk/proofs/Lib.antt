@@ -4,6 +4,9 @@ pub mod Followed
 pub mod Lending
 pub mod Noted
 pub mod Keeping
+pub mod Lent
+pub mod Restored
 pub mod Asked
 pub mod Wrote
 pub mod Ticketed
+pub mod Recorded

@@ -3,3 +3,4 @@ pub mod Kept
 pub mod Answering
 pub mod Views
 pub mod Hosting
+pub mod Loans

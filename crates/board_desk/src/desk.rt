@@ -4,6 +4,7 @@ ghost use Rattle.std.specs.Arc.{arc_value};
 ghost use Rattle.board_desk.specs.Desk.{desk_view};
 ghost use Rattle.board_desk.specs.Kept.{IsDeskKept};
 
+use crate::board_port::BoardPort;
 use channel_locks::PartsName;
 use channel_log::{ChannelLogs, FrontSeat};
 use channel_port::ChannelPort;
@@ -24,7 +25,7 @@ pub struct Desk<K: ChannelPort, D: SaveDevice, E: Energy, B: BoardName + PartsNa
     pub split: SplitFront,
     pub terms: PortTerms,
     /// Room for the ports, where they are gathered.
-    pub room: Vec<K>,
+    pub room: Vec<BoardPort<K, B>>,
     pub device: D,
     pub energy: E,
     pub history: History,

@@ -6,12 +6,18 @@
 //! lock and one channel's settles that channel first, and then writes or reads; of no other channel is anything asked.
 #![tactic(auto)]
 
+mod board_port;
 mod desk;
 mod hosting;
+mod laws;
+mod loans;
 mod noting;
 mod reading;
+mod resting;
 mod settling;
 mod writing;
 
+pub use board_port::BoardPort;
 pub use desk::Desk;
+pub use laws::{desks_keep_lives, desks_tell_lives};
 pub use noting::{look_at, note_write};

@@ -1,4 +1,5 @@
 mod Lists
+mod Laid
 mod Fresh
 mod Begun
 mod Beginning

@@ -5,13 +5,12 @@ use Rattle.save_device.specs.declared.device.SaveDevice.{Ghosts as DeviceGhosts}
 use Rattle.energy_budget.specs.declared.energy.Energy.{Ghosts as GaugeGhosts}
 use Rattle.arm_state.specs.declared.refusal.ReadRefusal.{ReadRefusal}
 use Rattle.arm_state.specs.declared.refusal.WriteRefusal.{WriteRefusal}
-use Rattle.channel_port.specs.declared.answers.Collected.{Collected}
 use Rattle.channel_port.specs.declared.answers.Got.{Got}
 use Rattle.channel_port.specs.declared.answers.Got.TheVariants.{Now, Later}
 use Rattle.channel_port.specs.declared.answers.Ticket.{Ticket}
 use Rattle.channel_port.specs.declared.port.ChannelPort.{Ghosts}
 use Rattle.channel_locks.specs.declared.parts_name.PartsName.{Ghosts as PartsGhosts}
-use Rattle.channel_locks.specs.Lent.{LentRoom, LentServe}
+use Rattle.channel_locks.specs.Lent.{LentRoom}
 use Rattle.nv_machine.specs.declared.events.Event.{Event}
 use Rattle.nv_machine.specs.declared.events.Event.TheVariants as events
 use Rattle.nv_machine.specs.declared.events.Reply.{Reply}
@@ -19,12 +18,11 @@ use Rattle.nv_machine.specs.declared.events.Reply.TheVariants as replies
 use Rattle.nv_workers.specs.declared.board_name.BoardName.{Ghosts as BoardGhosts}
 use Rattle.nv_workers.specs.declared.host.Receipt.{Receipt}
 use Rattle.nv_workers.specs.Client.{Client}
-use Rattle.nv_workers.specs.Serving.{told_for}
 use Rattle.board_desk.specs.declared.desk.Desk.{Desk}
 use Rattle.board_desk.specs.Answering.{DeskAnswers, IsAskedFor}
 use Rattle.board_desk.specs.Hosting.{HostWritesAtDesk}
 use Rattle.board_desk.specs.Views.{view_of}
-use Rattle.split_board.specs.Turns.{AwaitsBytes}
+use Rattle.split_board.specs.Turns.{AwaitsBytes, ServesFirst}
 
 module _ {K D E B : Type 0} (L : Ghosts K) (M : DeviceGhosts D) (N : GaugeGhosts E) (O : BoardGhosts B) (P : PartsGhosts B) where
   -- Under the board's lock and this channel's a write was answered so.
@@ -47,18 +45,13 @@ module _ {K D E B : Type 0} (L : Ghosts K) (M : DeviceGhosts D) (N : GaugeGhosts
     pub reads : DeskAnswers P channel (events.Read line) (replies.Read answer) (view_of L M N O P before) (view_of L M N O P after)
     pub counted : at ≡ before.split.front.accepted
 
-  -- A read's first answer, and what the host is told once the read was served under its channel's lock.
-  abbrev pub ServesFirst : Got → Got → Type 0
-  ServesFirst (Now bytes) told = told ≡ Now bytes
-  ServesFirst (Later ticket) told = (answer : Collected) × LentServe L P ticket answer × (told ≡ told_for ticket answer)
-
   -- A line was read at its channel, and served where it had to wait.
   pub record ReadsAtBoard (line : ℕ) (told : Got) (at : ℕ) : Type 0 where
     pub channel : ℕ
     pub asked : IsAskedFor P.make line channel
     pub first : Got
     pub lent : LentRead channel line (Ok first) at
-    pub serves : ServesFirst first told
+    pub serves : ServesFirst L P first told
 
   -- the read of a line was refused at its channel
   pub record RefusedAtBoard (line : ℕ) (refusal : ReadRefusal) : Type 0 where

@@ -4,6 +4,8 @@ use Rattle.std.specs.Option.{is_some}
 use Rattle.arm_state.specs.declared.refusal.ReadRefusal.{ReadRefusal}
 use Rattle.channel_port.specs.declared.answers.Collected.{Collected}
 use Rattle.channel_port.specs.declared.answers.Collected.TheVariants.{Unknown}
+use Rattle.channel_port.specs.declared.answers.Got.{Got}
+use Rattle.channel_port.specs.declared.answers.Got.TheVariants.{Now, Later}
 use Rattle.channel_port.specs.declared.answers.Ticket.{Ticket}
 use Rattle.channel_port.specs.declared.port.ChannelPort.{Ghosts}
 use Rattle.channel_locks.specs.declared.parts_name.PartsName.{Ghosts as PartsGhosts}
@@ -12,6 +14,7 @@ use Rattle.channel_locks.specs.Lent.{LentServe, LentTurn}
 use Rattle.worker_gate.specs.declared.Gate.{Ghosts as GateGhosts}
 use Rattle.worker_loops.specs.declared.shift.Working.{Working}
 use Rattle.worker_loops.specs.declared.shift.Working.TheVariants.{Worked, Rested, Closed}
+use Rattle.nv_workers.specs.Serving.{told_for}
 use Rattle.worker_loops.specs.Lookouts.{EndsWaiting}
 
 -- how a channel's worker goes on behind its turn
@@ -31,3 +34,8 @@ module _ {K B : Type 0} (L : Ghosts K) (P : PartsGhosts B) where
   -- a ticket was answered by these bytes, or there was nothing for it any more
   abbrev pub AwaitsBytes : Ticket → Result (List ℕ) ReadRefusal → Type 0
   AwaitsBytes ticket result = EndsWaiting (LooksFor ticket) result
+
+  -- A read's first answer, and what the host is told once the read was served under its channel's lock.
+  abbrev pub ServesFirst : Got → Got → Type 0
+  ServesFirst (Now bytes) told = told ≡ Now bytes
+  ServesFirst (Later ticket) told = (answer : Collected) × LentServe L P ticket answer × (told ≡ told_for ticket answer)

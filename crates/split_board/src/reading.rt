@@ -3,7 +3,8 @@ ghost use Rattle.std.specs.Prelude.{◌≡◌, ◌<◌, IfErr, IfOk, Err, Ok};
 ghost use Rattle.board_desk.specs.Answering.{IsAskedFor, IsTicketOf};
 ghost use Rattle.nv_workers.specs.Client.{SeesNoLess};
 ghost use Rattle.nv_workers.specs.Serving.{told_for};
-ghost use Rattle.split_board.specs.Hosts.{HasLostLine, HasReadLine, LentRead, ReadsAtBoard, RefusedAtBoard, ServesFirst};
+ghost use Rattle.split_board.specs.Turns.{ServesFirst};
+ghost use Rattle.split_board.specs.Hosts.{HasLostLine, HasReadLine, LentRead, ReadsAtBoard, RefusedAtBoard};
 
 use crate::board::Board;
 use crate::locked_desk::LockedDesk;
@@ -94,10 +95,14 @@ where
         unreachable!();
     };
     let mut slot = take_lock(rt, channel);
-    let GotAt { got, at } = desk.read_in(&mut *slot, host, line)?;
-    drop(locked);
-    let got = served(&mut *slot, got);
-    Ok(GotAt { got, at })
+    match desk.read_in(&mut *slot, host, line) {
+        Ok(GotAt { got, at }) => {
+            drop(locked);
+            let got = served(&mut *slot, got);
+            Ok(GotAt { got, at })
+        }
+        Err(refusal) => Err(refusal),
+    }
 }
 
 impl<K: ChannelPort, D: SaveDevice, E: Energy, B: BoardName + PartsName, N: Notices> Board<
@@ -134,7 +139,8 @@ impl<K: ChannelPort, D: SaveDevice, E: Energy, B: BoardName + PartsName, N: Noti
             4 => read_at(rt, desk, &channels.four, host, line),
             5 => read_at(rt, desk, &channels.five, host, line),
             6 => read_at(rt, desk, &channels.six, host, line),
-            _ => read_at(rt, desk, &channels.seven, host, line),
+            7 => read_at(rt, desk, &channels.seven, host, line),
+            _ => unreachable!(),
         }
     }
 
@@ -177,7 +183,8 @@ impl<K: ChannelPort, D: SaveDevice, E: Energy, B: BoardName + PartsName, N: Noti
             4 => ask_at(rt, desk, &channels.four, host, line),
             5 => ask_at(rt, desk, &channels.five, host, line),
             6 => ask_at(rt, desk, &channels.six, host, line),
-            _ => ask_at(rt, desk, &channels.seven, host, line),
+            7 => ask_at(rt, desk, &channels.seven, host, line),
+            _ => unreachable!(),
         }
     }
 }

@@ -12,7 +12,7 @@ ghost use Rattle.split_board.specs.Starting.{IsFresh, make_with};
 use crate::board::Board;
 use crate::dealing::locks_of;
 use crate::tables::BoardTables;
-use board_desk::Desk;
+use board_desk::{BoardPort, Desk};
 use channel_locks::{LineChannels, PartsName};
 use channel_port::ChannelPort;
 use channel_set::ChannelSet;
@@ -35,15 +35,15 @@ pub struct Started<K: ChannelPort, D: SaveDevice, E: Energy, B: BoardName + Part
 
 // What takes memory of a board.
 #[derive(Drop)]
-struct Prepared<K, B: BoardName> {
+struct Prepared<K: ChannelPort, B: BoardName + PartsName> {
     marks: Arc<MarkBoard, Global>,
     hosts: Vec<Host<B>>,
     lines: LineChannels,
-    room: Vec<K>,
+    room: Vec<BoardPort<K, B>>,
 }
 
 // Makes the hosts, the table of the lines' channels, and room for the ports.
-fn prepare<K: ChannelPort + Drop, B: BoardName>(
+fn prepare<K: ChannelPort + Drop, B: BoardName + PartsName>(
     alloc: Global,
     marks: MarkBoard,
     seats: Vec<HostSeat>,

@@ -74,7 +74,8 @@ impl<K: ChannelPort, D: SaveDevice, E: Energy, B: BoardName + PartsName, N: Noti
             4 => write_at(rt, desk, &channels.four, host, write),
             5 => write_at(rt, desk, &channels.five, host, write),
             6 => write_at(rt, desk, &channels.six, host, write),
-            _ => write_at(rt, desk, &channels.seven, host, write),
+            7 => write_at(rt, desk, &channels.seven, host, write),
+            _ => unreachable!(),
         }
     }
 

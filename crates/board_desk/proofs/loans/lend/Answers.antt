@@ -1,0 +1,45 @@
+-- A port is lent.
+use Rattle.std.proofs.Common.{[], ap, arith, rules, subst, sym, ◌+◌, ◌++◌, ◌∙◌, ◌∷◌}
+use Rattle.std.proofs.Math.Logic.{∥∥₁_elim, ∥∥₁_map, ∥∥₁_prop}
+use Rattle.channel_locks.specs.Slots.{IsPartWhereDue}
+use Rattle.channel_log.specs.Log.{IsLogOf}
+use Rattle.board_desk.specs.Loans.{HaveLent, IsReadyToLend}
+use Rattle.board_desk.proofs.Lent.{beyond, have_none, have_one, made_part, within}
+use Rattle.board_desk.proofs.loans.lend.Goals as goal
+
+pub returns-in-Some-clause-have : goal.returns-in-Some-clause-have
+returns-in-Some-clause-have g c = λ have.
+    let L = g.K.ChannelPort in
+    let P = g.B.PartsName in
+    let number = g.C.ChannelName.NUMBER in
+    let logs = c.args.known.now.logs in
+    let log = c.args.seat.now.log in
+    let part = c.in-Some.lent in
+    let is = c.in-Some.is in
+    let was = c.take.ensures.value in
+    subst (λ ports. ∥ HaveLent L P logs (number + 1) ports ∥₁) (ap (λ p. c.args.ports.now.items ++ p ∷ []) (sym c.into_port.ensures.port ∙ sym c.of.ensures) ∙ sym c.push_reserved.ensures.items)
+    (∥∥₁_elim (subst (λ p. ∥ IsPartWhereDue L P p number log ∥₁) (sym was ∙ is) c.requires.kept.part_is) ∥∥₁_prop (λ due.
+    ∥∥₁_map have (have_one L P logs number c.args.ports.now.items part log (subst (λ k. IsLogOf logs k log) c.requires.kept.channel_is c.compare.ensures.agreed)
+    (subst (λ p. IsReadyToLend L p log) (sym was ∙ is) c.requires.ready) due)))
+
+pub returns-in_default-clause-count : goal.returns-in_default-clause-count
+returns-in_default-clause-count g c =
+    let none = beyond g.K.ChannelPort g.B.PartsName c.args.part.now g.C.ChannelName.NUMBER c.args.seat.now.log (search rules) c.requires.kept.part_is in
+    let count = c.requires.count in
+    omega (arith, none, count)
+
+pub returns-in_default-clause-have : goal.returns-in_default-clause-have
+returns-in_default-clause-have g c = λ have.
+    let none = beyond g.K.ChannelPort g.B.PartsName c.args.part.now g.C.ChannelName.NUMBER c.args.seat.now.log (search rules) c.requires.kept.part_is in
+    ∥∥₁_map have (have_none g.K.ChannelPort g.B.PartsName c.args.known.now.logs g.C.ChannelName.NUMBER c.args.ports.now.items none)
+
+pub of-requires : goal.of-requires
+of-requires g c =
+    made_part g.K.ChannelPort g.B.PartsName c.args.part.now c.in-Some.lent c.into_port.result g.C.ChannelName.NUMBER c.args.seat.now.log (sym c.take.ensures.value ∙ c.in-Some.is) c.into_port.ensures.port c.requires.kept.part_is
+
+pub returns-in-Some-clause-count : goal.returns-in-Some-clause-count
+returns-in-Some-clause-count g c =
+    let here = within g.K.ChannelPort g.B.PartsName c.args.part.now c.in-Some.lent g.C.ChannelName.NUMBER c.args.seat.now.log (sym c.take.ensures.value ∙ c.in-Some.is) c.requires.kept.part_is in
+    let count = c.requires.count in
+    let more = c.push_reserved.ensures.len in
+    omega (arith, here, count, more)

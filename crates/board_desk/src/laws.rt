@@ -1,0 +1,32 @@
+// What a desk keeps of its life.
+ghost use Rattle.line_memory.specs.History.{TellsSameFrom};
+ghost use Rattle.nv_machine.specs.State.{Machine};
+ghost use Rattle.nv_workers.specs.Kept.{whole_record};
+ghost use Rattle.nv_workers.specs.Lived.{IsInLife};
+ghost use Rattle.board_desk.specs.declared.desk.Desk.{Desk};
+ghost use Rattle.board_desk.specs.Desk.{DeskStands, DeskView, setup_at, world_at};
+ghost use Rattle.board_desk.specs.Views.{view_of};
+
+use channel_locks::PartsName;
+use channel_port::ChannelPort;
+use energy_budget::Energy;
+use nv_workers::BoardName;
+use save_device::SaveDevice;
+
+/// What lies behind the board's lock is in a life, whatever the channels did since under their own locks: some events led from a
+/// machine that was new to one for which the desk stands, and whatever a stop leaves of the device now ends this life. Where
+/// neither gauge nor device has counted a fault since it began, the gauge backs what was acknowledged.
+pub fn desks_keep_lives<K: ChannelPort, D: SaveDevice, E: Energy, B: BoardName + PartsName>()
+    ensures { (desk : Desk K D E B K.ChannelPort D.SaveDevice E.Energy B.BoardName.own
+        B.PartsName.own)
+        → let view = view_of K.ChannelPort D.SaveDevice E.Energy B.BoardName.own
+        B.PartsName.own desk in
+        ∥ ((m : Machine) × DeskStands B.PartsName.own view m
+        × IsInLife (setup_at B.PartsName.own view) (world_at view m)) ∥₁ }
+{}
+
+/// What is recorded of a life tells of each number from its beginning on what the whole life tells, whatever was cut off it.
+pub fn desks_tell_lives<B: PartsName>()
+    ensures { (desk : DeskView) (m : Machine) → DeskStands B.PartsName.own desk m
+        → TellsSameFrom desk.history.start (whole_record m desk.history.room) desk.history }
+{}

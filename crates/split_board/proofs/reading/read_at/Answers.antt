@@ -1,0 +1,29 @@
+use Rattle.std.proofs.Common.{refl}
+use Rattle.split_board.proofs.reading.read_at.Goals as goal
+
+pub returns-in-Ok-clause-read : goal.returns-in-Ok-clause-read
+returns-in-Ok-clause-read g c = record {
+  channel = g.C.ChannelName.NUMBER;
+  asked = c.requires.asked;
+  first = c.in-Ok.field-0.got;
+  lent = record {
+    before = c.in-Some.desk;
+    after = c.read_in.new.self;
+    reads = c.in-Ok.ensures.ok;
+    counted = c.in-Ok.ensures.at;
+  };
+  serves = c.served-got.ensures;
+}
+
+pub returns-in-Err-clause-refused : goal.returns-in-Err-clause-refused
+returns-in-Err-clause-refused g c = record {
+  channel = g.C.ChannelName.NUMBER;
+  at = c.in-Some.desk.split.front.accepted;
+  asked = c.requires.asked;
+  lent = record {
+    before = c.in-Some.desk;
+    after = c.read_in.new.self;
+    reads = c.in-Err.ensures.err;
+    counted = refl;
+  };
+}
