@@ -5,6 +5,8 @@ pub mod Lending
 pub mod Noted
 pub mod Keeping
 pub mod Lent
+pub mod Called
+pub mod Wholly
 pub mod Restored
 pub mod Asked
 pub mod Wrote

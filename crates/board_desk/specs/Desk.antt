@@ -17,8 +17,8 @@ use Rattle.split_module.specs.declared.front.SplitFront.{SplitFront}
 use Rattle.split_module.specs.Lending.{SplitStands}
 use Rattle.nv_workers.specs.Lived.{LivedUntil}
 
--- the front, what the ports have in common, what is known of the device and of the gauge, the record of the life, and the log of each
--- channel
+-- the front, what the ports have in common, what is known of the device and of the gauge, the record of the life, and the log of
+-- each channel
 pub record DeskView : Type 0 where
   pub split : SplitFront
   pub terms : PortTerms
@@ -58,8 +58,9 @@ module _ {B : Type 0} (P : PartsGhosts B) where
   abbrev pub setup_at : DeskView → Setup
   setup_at desk = setup_in (shape_at desk) desk.split.front
 
-  -- The desk stands for this machine: its front does, by the logs of the channels; the ports hold back what its save is to have; the
-  -- device holds its store; what is stored of its life is recorded; and a life so far, which began with the board's memory, leads here.
+  -- The desk stands for this machine: its front does, by the logs of the channels; the ports hold back what its save is to have;
+  -- the device holds its store; what is stored of its life is recorded; and a life so far, which began with the board's memory,
+  -- leads here.
   pub record DeskStands (desk : DeskView) (m : Machine) : Type 0 where
     pub stands : SplitStands (shape_at desk) desk.logs desk.split m
     pub logs_are : AreBoardLogs P.ports desk.logs

@@ -4,3 +4,5 @@ pub mod Answering
 pub mod Views
 pub mod Hosting
 pub mod Loans
+pub mod Calling
+pub mod Whole

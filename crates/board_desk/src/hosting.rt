@@ -43,8 +43,8 @@ impl<K: ChannelPort, D: SaveDevice, E: Energy, B: BoardName + PartsName> Desk<K,
         }
     }
 
-    /// Reads a line for a host, with what lies behind the lock of the line's channel: the bytes or a ticket of that channel, and how
-    /// many writes were accepted before.
+    /// Reads a line for a host, with what lies behind the lock of the line's channel: the bytes or a ticket of that channel, and
+    /// how many writes were accepted before.
     pub fn read_in<C: ChannelName>(
         &mut self,
         slot: &mut Slot<K, B, C>,

@@ -1,12 +1,14 @@
 //! What lies behind the board's lock, where each channel has a lock of its own, and what is done with it and the part of one
 //! channel.
 //!
-//! A `Desk` has the front of the module, the device, the gauge, the record of the life, the marks, and what is known of each channel
-//! by its log. It stands for some machine whenever its lock is free (`specs/Desk.antt`, `specs/Kept.antt`). Who holds the board's
+//! A `Desk` has the front of the module, the device, the gauge, the record of the life, the marks, and what is known of each
+//! channel by its log. It stands for some machine whenever its lock is free (`specs/Desk.antt`, `specs/Kept.antt`). Who holds the board's
 //! lock and one channel's settles that channel first, and then writes or reads; of no other channel is anything asked.
 #![tactic(auto)]
 
+mod all_locks;
 mod board_port;
+mod calling;
 mod desk;
 mod hosting;
 mod laws;
@@ -18,6 +20,7 @@ mod settling;
 mod writing;
 
 pub use board_port::BoardPort;
+pub use calling::{ArmCall, DisarmCall, SaveBeginCall, SaveStepCall, SenseCall, WholeCall};
 pub use desk::Desk;
 pub use laws::{desks_keep_lives, desks_tell_lives};
 pub use noting::{look_at, note_write};

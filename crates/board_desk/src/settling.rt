@@ -20,9 +20,11 @@ impl<K: ChannelPort, D: SaveDevice, E: Energy, B: BoardName + PartsName> Desk<K,
         ensures settles { Settles B.PartsName.own C.NUMBER
             (view_of K.ChannelPort D.SaveDevice E.Energy B.BoardName.own B.PartsName.own self.old)
             (view_of K.ChannelPort D.SaveDevice E.Energy B.BoardName.own B.PartsName.own self.new) }
-        ensures same { SameButCounts K.ChannelPort D.SaveDevice E.Energy B.BoardName.own B.PartsName.own self.old self.new }
+        ensures same { SameButCounts K.ChannelPort D.SaveDevice E.Energy B.BoardName.own
+            B.PartsName.own self.old self.new }
         ensures elsewhere { SameElsewhere C.NUMBER self.old.known.logs self.new.known.logs }
-        ensures settled { IsSettled K.ChannelPort self.new.known.logs slot.new.part slot.new.seat.log }
+        ensures settled { IsSettled K.ChannelPort
+            self.new.known.logs slot.new.part slot.new.seat.log }
         ensures part { SettlesPart K.ChannelPort slot.old.part slot.new.part }
     {
         let Some(part) = &mut slot.part else {

@@ -34,8 +34,8 @@ impl<K: ChannelPort, D: SaveDevice, E: Energy, B: BoardName + PartsName> Desk<K,
     ghost use Rattle.board_desk.specs.Answering.{DeskAnswers, IsAskedFor, SameElsewhere};
     ghost use Rattle.board_desk.specs.Views.{KeepsAround, view_of};
 
-    /// Writes a line of the slot's channel for a host, whose share counts the write if it was accepted, and whose seat then sees the
-    /// marks. What the channel did since both locks were held is seen before, and its returned credits are taken back.
+    /// Writes a line of the slot's channel for a host, whose share counts the write if it was accepted, and whose seat then sees
+    /// the marks. What the channel did since both locks were held is seen before, and its returned credits are taken back.
     pub fn write<C: ChannelName>(
         &mut self,
         slot: &mut Slot<K, B, C>,

@@ -1,5 +1,5 @@
 -- What is true behind the locks of a board that begins.
-use Rattle.std.proofs.Common.{All, ◌≡◌, ◌∙◌, ℕ, ◌<◌, ◌≤◌, ◌+◌, suc, zero, List, [], ◌∷◌, ◌++◌, length, map, slice_get, slice_index_or, Option, Some, None, ap, arith, refl, subst, sym}
+use Rattle.std.proofs.Common.{All, ◌≡◌, ◌∙◌, ℕ, ◌<◌, ◌≤◌, ◌+◌, suc, zero, List, [], ◌∷◌, ◌++◌, length, map, slice_get, slice_index_or, Some, ap, arith, refl, subst, sym}
 use Rattle.std.specs.Option.{unwrap_or}
 use Rattle.std.specs.List.{flat_map, range_with_len}
 use Rattle.std.proofs.Props.{props}
@@ -15,25 +15,22 @@ use Rattle.line_memory.specs.Parts.{written_on}
 use Rattle.arm_state.specs.Modes.{has_ended}
 use Rattle.save_device.specs.declared.device.SaveDevice.{Ghosts as DeviceGhosts}
 use Rattle.energy_budget.specs.declared.energy.Energy.{Ghosts as GaugeGhosts}
-use Rattle.channel_log.specs.Log.{LogNote}
 use Rattle.channel_port.specs.declared.port.ChannelPort.{Ghosts}
-use Rattle.channel_port.specs.Shape.{IsShape, Shape}
+use Rattle.channel_port.specs.Shape.{IsShape}
 use Rattle.channel_port.specs.Waits.{Waits, nothing}
 use Rattle.channel_set.specs.declared.terms.PortTerms.{PortTerms}
 use Rattle.channel_set.specs.Ports.{waits_in}
 use Rattle.channel_set.specs.Set.{shape_of}
 use Rattle.module_core.specs.declared.front.Front.{Front}
-use Rattle.channel_locks.specs.PortMakes.{PortMake, make_of}
+use Rattle.channel_locks.specs.PortMakes.{PortMake}
 use Rattle.channel_locks.specs.declared.parts_name.PartsName.{Ghosts as PartsGhosts}
-use Rattle.module_core.specs.Stands.{setup_of}
 use Rattle.nv_machine.specs.State.{Machine, base_of_life, start_of_life}
-use Rattle.nv_workers.specs.Kept.{HasRoomForAll, IsRecordKept, StandsWith}
-use Rattle.nv_workers.specs.Lived.{LivedUntil, world_at}
+use Rattle.nv_workers.specs.Kept.{IsRecordKept, StandsWith}
 use Rattle.nv_workers.specs.declared.board_name.BoardName.{Ghosts as BoardGhosts}
 use Rattle.nv_workers.specs.declared.recorded_module.RecordedModule.{RecordedModule}
 use Rattle.split_module.specs.Gathering.{FitAsModule, IsMadeOf, StandsSplit, shape_in}
 use Rattle.split_module.specs.declared.gathering.SplitModule.{SplitModule}
-use Rattle.board_desk.specs.Desk.{DeskStands, DeskView, desk_view, shape_at, shape_named}
+use Rattle.board_desk.specs.Desk.{DeskView, desk_view, shape_at}
 use Rattle.board_desk.specs.Kept.{IsDeskKept}
 use Rattle.split_board.specs.Lines.{AreLinesOf}
 use Rattle.split_board.specs.Starting.{AreFreshPorts, IsFresh, empty_logs, make_with}

@@ -1,5 +1,5 @@
 -- The desk of a board that begins stands for the machine for which the module stood.
-use Rattle.std.proofs.Common.{All, ◌≡◌, ◌∙◌, ℕ, ◌<◌, ◌≤◌, ◌+◌, ◌-◌, suc, zero, List, [], ◌∷◌, length, replicate, slice_index_or, take, false, Option, Some, None, ap, arith, refl, subst, sym}
+use Rattle.std.proofs.Common.{All, ◌≡◌, ◌∙◌, ℕ, ◌<◌, ◌≤◌, ◌-◌, suc, zero, List, [], ◌∷◌, length, replicate, slice_index_or, take, None, ap, arith, refl, subst, sym}
 use Rattle.std.proofs.lemmas.List.Elements.{All-replicate, All-nil}
 use Rattle.line_memory.specs.declared.Write.{Write}
 use Rattle.line_memory.specs.History.{Recorded}
@@ -22,7 +22,7 @@ use Rattle.module_core.specs.Fronts.{setup_in}
 use Rattle.module_core.specs.Stands.{Matches, setup_of}
 use Rattle.nv_machine.specs.State.{Machine, Setup, base_of_life, hold_of, start_of_life, stored_base}
 use Rattle.nv_workers.specs.Kept.{StandsWith}
-use Rattle.nv_workers.specs.Lived.{LivedUntil, world_at}
+use Rattle.nv_workers.specs.Lived.{LivedUntil, world_for}
 use Rattle.nv_workers.specs.declared.recorded_module.RecordedModule.{RecordedModule}
 use Rattle.split_machine.specs.Telling.{AreLogsOf, IsToldOf}
 use Rattle.split_module.specs.Gathering.{FitAsModule, IsMadeOf, StandsSplit, shape_in}
@@ -115,7 +115,7 @@ module _ {K D E B : Type 0} (L : Ghosts K) (M : DeviceGhosts D) (N : GaugeGhosts
     pub lines_are : it.running.channels.terms.lines ≡ P.make.lines
     lines_are = ap (λ (terms : PortTerms). terms.lines) (sym of_it.terms) ∙ ap (λ (make : PortMake). make.lines) made
 
-    pub begins : (m : Machine) → StandsWith L M it m → LivedUntil (setup_of L it.running) (world_at L M N it m) → DeskStands P desk m
+    pub begins : (m : Machine) → StandsWith L M it m → LivedUntil (setup_of L it.running) (world_for L M N it m) → DeskStands P desk m
     begins m stands lived =
         let matches = stands.stands.matches in
         record {
@@ -128,5 +128,5 @@ module _ {K D E B : Type 0} (L : Ghosts K) (M : DeviceGhosts D) (N : GaugeGhosts
           saved = ap (λ (front : Front). front.saved) of_it.front ∙ stands.stands.saved;
           stored = stands.stored;
           base = sym (base_is L it.running fresh m matches) ∙ (sym (ap (λ (r : Recorded). r.base) stands.stored) ∙ base);
-          lived = subst (λ (setup : Setup). LivedUntil setup (world_at L M N it m)) setup_is lived;
+          lived = subst (λ (setup : Setup). LivedUntil setup (world_for L M N it m)) setup_is lived;
         }

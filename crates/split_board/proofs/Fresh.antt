@@ -1,5 +1,5 @@
 -- The part of a channel as a board begins.
-use Rattle.std.proofs.Common.{◌≡◌, ◌∙◌, ◌<◌, ℕ, List, [], false, Some, None, ap, refl}
+use Rattle.std.proofs.Common.{◌≡◌, ◌∙◌, ◌<◌, ℕ, List, [], Some, None, ap}
 use Rattle.std.proofs.Math.Logic.{∥∥₁_map}
 use Rattle.channel_port.specs.declared.port.ChannelPort.{Ghosts}
 use Rattle.channel_port.specs.Waits.{nothing}

@@ -45,8 +45,8 @@ impl<K: ChannelPort, D: SaveDevice, E: Energy, B: BoardName + PartsName, N: Noti
 > {
     ghost use Rattle.split_board.specs.Turns.{AwaitsBytes};
 
-    /// Waits for the bytes of a read that was answered by a ticket. It works the ticket's channel meanwhile, under that channel's lock
-    /// alone, 64 commands at most before it gives way. A loss of mains ends it.
+    /// Waits for the bytes of a read that was answered by a ticket. It works the ticket's channel meanwhile, under that channel's
+    /// lock alone, 64 commands at most before it gives way. A loss of mains ends it.
     pub fn await_line<R: Wait>(&self, rt: &R, ticket: Ticket) -> Result<Line, ReadRefusal>
         ensures { AwaitsBytes K.ChannelPort B.PartsName ticket result }
     {

@@ -13,8 +13,8 @@ use nv_workers::BoardName;
 use save_device::SaveDevice;
 use std::sync::Mutex;
 
-/// A module that threads share: the board's lock, a lock for each channel, and a book of notices behind a lock of its own. Who takes
-/// the board's lock and channels' takes the board's first. No call takes the lock of the notices beside another.
+/// A module that threads share: the board's lock, a lock for each channel, and a book of notices behind a lock of its own. Who
+/// takes the board's lock and channels' takes the board's first. No call takes the lock of the notices beside another.
 #[derive(Drop)]
 pub struct Board<K: ChannelPort, D: SaveDevice, E: Energy, B: BoardName + PartsName, N: Notices> {
     pub(crate) desk: Mutex<LockedDesk<K, D, E, B>>,

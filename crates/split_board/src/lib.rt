@@ -1,8 +1,8 @@
 //! A module that threads share, with a lock for each channel.
 //!
-//! A `Board` has nine locks: the board's, behind which lies a `Desk`, and one for each channel. Who takes several takes the board's
-//! first, and then the channels' in rising order. A worker, and a read that waits, take their channel's lock alone; a host that writes
-//! or reads takes the board's and its line's channel's; all other calls take all.
+//! A `Board` has nine locks: the board's, behind which lies a `Desk`, and one for each channel. Who takes several takes the
+//! board's first, and then the channels' in rising order. A worker, and a read that waits, take their channel's lock alone; a
+//! host that writes or reads takes the board's and its line's channel's; all other calls take all.
 #![tactic(auto)]
 
 mod awaiting;

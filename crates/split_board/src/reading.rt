@@ -144,9 +144,9 @@ impl<K: ChannelPort, D: SaveDevice, E: Energy, B: BoardName + PartsName, N: Noti
         }
     }
 
-    /// Reads a line for a host, and waits for the answer. The board's lock and the line's channel's are taken; the board's is let go once
-    /// the read was answered. Where it has to wait its channel is worked under its lock alone, 64 commands at most before the lock is let
-    /// go, again and again.
+    /// Reads a line for a host, and waits for the answer. The board's lock and the line's channel's are taken; the board's is let
+    /// go once the read was answered. Where it has to wait its channel is worked under its lock alone, 64 commands at most before
+    /// the lock is let go, again and again.
     pub fn read<R: Wait>(&self, rt: &R, host: &mut Host<B>, line: u64) -> Result<Seen, ReadRefusal>
         ensures line { IfOk result (λ s. s.line ≡ line) }
         ensures at { IfOk result (λ s. s.at ≡ host.new.accepted) }

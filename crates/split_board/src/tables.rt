@@ -6,8 +6,8 @@ use channel_log::{ChannelLogs, FrontSeat};
 use nv_workers::Opening;
 use std::alloc::{AllocError, Global};
 
-/// The words, the ledger and the channels' logs of a board that isn't there yet. No channel has a log yet. Its caller makes them, and
-/// then picks the board's name.
+/// The words, the ledger and the channels' logs of a board that isn't there yet. No channel has a log yet. Its caller makes them,
+/// and then picks the board's name.
 #[derive(Drop)]
 pub struct BoardTables {
     pub opening: Opening,

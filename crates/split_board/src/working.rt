@@ -68,8 +68,8 @@ where
 }
 
 /// Issues one command of a channel at each `Go`, under that channel's lock alone, until the gate says stop or mains were lost, as
-/// `take_turns`. With the lock held the gate is asked once more (`Gate::inside`). Behind a turn that was held or found no command it
-/// gives its processor away, and behind 16 of them in a row it sleeps, three milliseconds at most.
+/// `take_turns`. With the lock held the gate is asked once more (`Gate::inside`). Behind a turn that was held or found no command
+/// it gives its processor away, and behind 16 of them in a row it sleeps, three milliseconds at most.
 pub fn channel_worker<K, D, E, B, N, G, R>(
     rt: &R,
     board: &Board<K, D, E, B, N>,

@@ -79,8 +79,8 @@ impl<K: ChannelPort, D: SaveDevice, E: Energy, B: BoardName + PartsName, N: Noti
         }
     }
 
-    /// Writes a line for a host. While its channel has no room the channel issues commands under its own lock alone, 64 at most; then
-    /// the board's lock and the channel's are taken, and the host writes. A line that isn't there is refused at channel 0.
+    /// Writes a line for a host. While its channel has no room the channel issues commands under its own lock alone, 64 at most;
+    /// then the board's lock and the channel's are taken, and the host writes. A line that isn't there is refused at channel 0.
     pub fn write<R: Wait>(
         &self,
         rt: &R,

@@ -1,4 +1,4 @@
-use Rattle.std.proofs.Common.{◌≡◌, ◌∙◌, ◌<◌, ℕ, List, [], ◌∷◌, ◌++◌, length, slice_get, false, Some, None, ap, arith, refl, subst, sym}
+use Rattle.std.proofs.Common.{◌≡◌, ◌∙◌, ℕ, List, [], ◌∷◌, ◌++◌, length, slice_get, Some, None, arith, refl, subst, sym}
 use Rattle.channel_log.specs.Log.{LogNote}
 use Rattle.channel_port.specs.Waits.{nothing}
 use Rattle.channel_part.specs.Stands.{PartStands}

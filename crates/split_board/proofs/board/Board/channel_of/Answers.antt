@@ -1,4 +1,3 @@
-use Rattle.std.proofs.Common.{◌≡◌, ◌∙◌, ap, sym}
 use Rattle.split_board.proofs.board.Board.channel_of.Goals as goal
 use Rattle.split_board.proofs.Laid.{asked_for}
 

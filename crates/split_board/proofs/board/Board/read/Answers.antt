@@ -1,4 +1,4 @@
-use Rattle.std.proofs.Common.{inl, inr, subst}
+use Rattle.std.proofs.Common.{inr, subst}
 use Rattle.channel_port.specs.declared.answers.Got.{Got}
 use Rattle.split_board.specs.Hosts.{ReadsAtBoard}
 use Rattle.split_board.proofs.board.Board.read.Goals as goal

@@ -1,0 +1,110 @@
+-- All channels are settled, one after another.
+use Rattle.std.proofs.Common.{List, Option, None, Some, [], ap, arith, false, refl, rules, subst, sym, true, ℕ, ◌++◌, ◌∙◌, ◌∷◌, ◌≡◌}
+use Rattle.std.proofs.Math.Logic.{∥∥₁_elim, ∥∥₁_map, ∥∥₁_prop}
+use Rattle.std.proofs.lemmas.List.Elements.{All-append, All-weaker}
+use Rattle.channel_locks.specs.declared.parts_name.PartsName.{Ghosts as PartsGhosts}
+use Rattle.channel_log.specs.Log.{LogNote}
+use Rattle.channel_part.specs.declared.part.Part.{Part}
+use Rattle.channel_port.specs.declared.port.ChannelPort.{Ghosts}
+use Rattle.energy_budget.specs.Gauge.{Gauge}
+use Rattle.energy_budget.specs.declared.energy.Energy.{Ghosts as GaugeGhosts}
+use Rattle.nv_machine.specs.declared.events.Event.{Event}
+use Rattle.nv_machine.specs.State.{Machine, Setup, World}
+use Rattle.nv_machine.proofs.JoinedRuns.{join_runs, rests_here}
+use Rattle.nv_workers.specs.declared.board_name.BoardName.{Ghosts as BoardGhosts}
+use Rattle.save_device.specs.Device.{DeviceState}
+use Rattle.save_device.specs.declared.device.SaveDevice.{Ghosts as DeviceGhosts}
+use Rattle.split_machine.specs.OwnEvents.{ComesOfOwn, is_own}
+use Rattle.board_desk.specs.Answering.{IsSettled, Settles}
+use Rattle.board_desk.specs.Desk.{DeskStands, DeskView, setup_at, world_at}
+use Rattle.board_desk.specs.Loans.{IsReadyToLend}
+use Rattle.board_desk.specs.Views.{SameButCounts, view_of}
+use Rattle.board_desk.specs.declared.desk.Desk.{Desk}
+use Rattle.board_desk.specs.Whole.{ComesOfChannels, SettlesAll, is_of_channels}
+use Rattle.board_desk.proofs.Settled.{same_setup}
+
+own_of_channels : (channel : ℕ) (event : Event) → is_own channel event ≡ true → is_of_channels event ≡ true
+own_of_channels channel event own = search rules
+
+-- and then by own events of one channel more
+comes_more : (setup : Setup) (channel : ℕ) (first mid last : World) → ComesOfChannels setup first mid → ComesOfOwn setup channel mid last → ComesOfChannels setup first last
+comes_more setup channel first mid last old new = record {
+  events = old.events ++ new.events;
+  replies = old.replies ++ new.replies;
+  own = All-append (λ event. is_of_channels event ≡ true) old.events new.events old.own (All-weaker (λ event. is_own channel event ≡ true) (λ event. is_of_channels event ≡ true) (λ event. own_of_channels channel event) new.events new.own);
+  run = join_runs setup old.events old.replies new.events new.replies first mid last old.run new.run;
+}
+
+-- a part that was settled is ready to lend its port
+pub settled_ready : {K : Type 0} (L : Ghosts K) (logs : List (List LogNote)) (part : Option (Part K L)) (log : List LogNote) → IsSettled L logs part log → IsReadyToLend L part log
+settled_ready L logs None log settled = tt
+settled_ready L logs (Some part) log settled = (settled.taken, settled.waits)
+
+module _ {B : Type 0} (P : PartsGhosts B) where
+  -- the same setup, device and gauge
+  pub record SameWorld (old new : DeskView) : Type 0 where
+    pub setup : setup_at P new ≡ setup_at P old
+    pub device : new.device ≡ old.device
+    pub gauge : new.gauge ≡ old.gauge
+
+  pub world_of_same : (old new : DeskView) → SameWorld old new → (m : Machine) → world_at new m ≡ world_at old m
+  world_of_same old new same m = ap (λ (d : DeviceState). record (world_at new m) { device = d }) same.device ∙ ap (λ (e : Gauge). record (world_at old m) { gauge = e }) same.gauge
+
+  pub settles_none : (desk : DeskView) → SettlesAll P desk desk
+  settles_none desk m s = ∣ record { seen = m; comes = record { events = []; replies = []; own = λ k d less. absurd (omega (arith, less)); run = rests_here (world_at desk m) }; stands = s } ∣₁
+
+  pub settles_more : (channel : ℕ) (old mid new : DeskView) → SettlesAll P old mid → SameWorld old mid → Settles P channel mid new → SettlesAll P old new
+  settles_more channel old mid new first same more m s =
+      ∥∥₁_elim (first m s) ∥∥₁_prop (λ on. ∥∥₁_map (more on.seen on.stands) (λ next.
+      let own : ComesOfOwn (setup_at P old) channel (world_at old on.seen) (world_at old next.seen) =
+      subst (λ (x : Setup). ComesOfOwn x channel (world_at old on.seen) (world_at old next.seen)) same.setup
+      (subst (λ (w : World). ComesOfOwn (setup_at P mid) channel w (world_at old next.seen)) (world_of_same old mid same on.seen)
+      (subst (λ (w : World). ComesOfOwn (setup_at P mid) channel (world_at mid on.seen) w) (world_of_same old mid same next.seen) next.comes)) in
+      record {
+        seen = next.seen;
+        comes = comes_more (setup_at P old) channel (world_at old m) (world_at old on.seen) (world_at old next.seen) on.comes own;
+        stands = next.stands;
+      }))
+
+module _ {K D E B : Type 0} (L : Ghosts K) (M : DeviceGhosts D) (N : GaugeGhosts E) (O : BoardGhosts B) (P : PartsGhosts B) where
+  abbrev pub ADesk : Type 0
+  ADesk = Desk K D E B L M N O P
+
+  pub same_world : (old new : ADesk) → SameButCounts L M N O P old new → SameWorld P (view_of L M N O P old) (view_of L M N O P new)
+  same_world old new same = record {
+    setup = same_setup P (view_of L M N O P old) (view_of L M N O P new) same.front same.costs;
+    device = ap (λ (d : D). M.state d) same.device;
+    gauge = ap (λ (e : E). N.gauge e) same.energy;
+  }
+
+  pub same_more : (old mid new : ADesk) → SameButCounts L M N O P old mid → SameButCounts L M N O P mid new → SameButCounts L M N O P old new
+  same_more old mid new a b = record {
+    front = b.front ∙ a.front;
+    costs = b.costs ∙ a.costs;
+    terms = b.terms ∙ a.terms;
+    room = b.room ∙ a.room;
+    device = b.device ∙ a.device;
+    energy = b.energy ∙ a.energy;
+    history = b.history ∙ a.history;
+    marks = b.marks ∙ a.marks;
+    seat = b.seat ∙ a.seat;
+    tally = b.tally ∙ a.tally;
+    logs = b.logs ∙ a.logs;
+  }
+
+  -- so many channels were settled in turn
+  pub record SettledSoFar (old new : ADesk) : Type 0 where
+    pub settles : SettlesAll P (view_of L M N O P old) (view_of L M N O P new)
+    pub same : SameButCounts L M N O P old new
+
+  pub none_settled : (desk : ADesk) → SettledSoFar desk desk
+  none_settled desk = record {
+    settles = settles_none P (view_of L M N O P desk);
+    same = record { front = refl; costs = refl; terms = refl; room = refl; device = refl; energy = refl; history = refl; marks = refl; seat = refl; tally = refl; logs = refl };
+  }
+
+  pub one_settled : (channel : ℕ) (old mid new : ADesk) → SettledSoFar old mid → Settles P channel (view_of L M N O P mid) (view_of L M N O P new) → SameButCounts L M N O P mid new → SettledSoFar old new
+  one_settled channel old mid new so settles same = record {
+    settles = settles_more P channel (view_of L M N O P old) (view_of L M N O P mid) (view_of L M N O P new) so.settles (same_world old mid so.same) settles;
+    same = same_more old mid new so.same same;
+  }

@@ -1,0 +1,14 @@
+use Rattle.std.proofs.Common.{refl}
+use Rattle.nv_machine.specs.declared.events.Event.TheVariants as events
+use Rattle.nv_machine.specs.declared.events.Reply.TheVariants as replies
+use Rattle.nv_workers.proofs.Holding.{has_device}
+use Rattle.board_desk.proofs.Called.{goes_by_event}
+use Rattle.board_desk.proofs.calling.lose_mains.Goals as goal
+
+pub power_loss_with-requires-clause-size : goal.power_loss_with-requires-clause-size
+power_loss_with-requires-clause-size g c _ _ = has_device g.K.ChannelPort g.D.SaveDevice g.E.Energy c.args.it.now c.requires
+
+pub returns-clause-goes : goal.returns-clause-goes
+returns-clause-goes g c =
+    let it = c.args.it.now in
+    goes_by_event g.K.ChannelPort g.D.SaveDevice g.E.Energy events.Lose (replies.Lose c.power_loss_with.result) it (record it { running = c.power_loss_with.new.self; device = c.power_loss_with.new.device; energy = c.power_loss_with.new.energy }) refl c.power_loss_with.ensures.answers c.power_loss_with.ensures.stored.cut refl
