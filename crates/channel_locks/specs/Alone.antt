@@ -39,9 +39,9 @@ module _ {K : Type 0} (L : Ghosts K) where
   CollectsAlone ticket answer (Some old) new = (later : Part K L) × (new ≡ Some later) × CollectsPart ticket answer old later
 
   -- whether mains were lost
-  abbrev pub ended_in : Option (Part K L) → Bool
-  ended_in None = false
-  ended_in (Some part) = part.ended
+  abbrev pub lost_mains_in : Option (Part K L) → Bool
+  lost_mains_in None = false
+  lost_mains_in (Some part) = part.ended
 
   -- there was nothing for a ticket yet, and its channel was worked once
   pub record WorksForTicket (ticket : Ticket) (old new : Option (Part K L)) : Type 0 where

@@ -10,7 +10,7 @@ use Rattle.channel_part.specs.declared.part.Part.{Part}
 use Rattle.worker_gate.specs.declared.Gate.{Ghosts as GateGhosts}
 use Rattle.channel_locks.specs.declared.parts_name.PartsName.{Ghosts as NameGhosts}
 use Rattle.channel_locks.specs.declared.turns.ChannelTurn.{ChannelTurn}
-use Rattle.channel_locks.specs.Alone.{MakesRoomAlone, ServesAlone, WorksAlone, ended_in}
+use Rattle.channel_locks.specs.Alone.{MakesRoomAlone, ServesAlone, WorksAlone, lost_mains_in}
 use Rattle.channel_locks.specs.Slots.{IsPartWhereDue}
 use Rattle.worker_gate.specs.Inside.{AwaitsInside}
 
@@ -31,7 +31,7 @@ module _ {K B : Type 0} (L : Ghosts K) (O : NameGhosts B) where
     pub asked : AwaitsInside H channel gate
     pub lent : IsLentBy channel before
     pub works : WorksAlone L turn.done before after
-    pub ended : turn.ended ≡ ended_in L after
+    pub ended : turn.ended ≡ lost_mains_in L after
 
   -- a ticket was served so by its channel
   pub record LentServe (ticket : Ticket) (answer : Collected) : Type 0 where

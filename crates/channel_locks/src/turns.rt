@@ -16,13 +16,13 @@ pub struct ChannelTurn {
 }
 
 impl<K: ChannelPort, B: PartsName, C: ChannelName> Slot<K, B, C> {
-    ghost use Rattle.channel_locks.specs.Alone.{WorksAlone, ended_in};
+    ghost use Rattle.channel_locks.specs.Alone.{WorksAlone, lost_mains_in};
 
     /// Takes a turn of the channel's worker: the gate is asked once more, and then the channel issues one command, if it has one.
     pub fn take_turn<G: Gate>(&mut self, gate: &G) -> ChannelTurn
         ensures asked { AwaitsInside G.Gate C.NUMBER gate.now }
         ensures works { WorksAlone K.ChannelPort result.done self.old.part self.new.part }
-        ensures ended { result.ended ≡ ended_in K.ChannelPort self.new.part }
+        ensures ended { result.ended ≡ lost_mains_in K.ChannelPort self.new.part }
         ensures seat { self.new.seat ≡ self.old.seat }
     {
         await_inside(gate, C::NUMBER);

@@ -7,7 +7,7 @@ use crate::slot::Slot;
 use channel_port::{ChannelPort, Collected, Done, Ticket};
 
 impl<K: ChannelPort, B: PartsName, C: ChannelName> Slot<K, B, C> {
-    ghost use Rattle.channel_locks.specs.Alone.{CollectsAlone, WorksAlone, ended_in};
+    ghost use Rattle.channel_locks.specs.Alone.{CollectsAlone, WorksAlone, lost_mains_in};
 
     /// Issues one command of the channel, where mains are there and it has one.
     pub fn work(&mut self) -> Option<Done>
@@ -33,7 +33,7 @@ impl<K: ChannelPort, B: PartsName, C: ChannelName> Slot<K, B, C> {
 
     /// Were mains lost? False where the board lacks the channel.
     pub fn has_ended(&self) -> bool
-        ensures { result ≡ ended_in K.ChannelPort self.now.part }
+        ensures { result ≡ lost_mains_in K.ChannelPort self.now.part }
     {
         match &self.part {
             Some(part) => part.has_ended(),

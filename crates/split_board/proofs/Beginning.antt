@@ -32,8 +32,8 @@ use Rattle.split_module.specs.Gathering.{FitAsModule, IsMadeOf, StandsSplit, sha
 use Rattle.split_module.specs.declared.gathering.SplitModule.{SplitModule}
 use Rattle.board_desk.specs.Desk.{DeskView, desk_view, shape_at}
 use Rattle.board_desk.specs.Kept.{IsDeskKept}
-use Rattle.split_board.specs.Lines.{AreLinesOf}
-use Rattle.split_board.specs.Starting.{AreFreshPorts, IsFresh, empty_logs, make_with}
+use Rattle.split_board.specs.Lines.{AreLinesOfBoard}
+use Rattle.split_board.specs.Starting.{AreFreshPorts, IsUnwritten, empty_logs, make_with}
 use Rattle.split_board.proofs.Begun.{base_is, begins, lines_are, same_shape, wrote_none}
 
 -- where lists make none, each of them is none
@@ -54,7 +54,7 @@ memory_prop : (lines : ℕ) (memory : List (List ℕ)) → IsProp (IsMemory line
 memory_prop lines memory = hlevel props
 
 module _ {K D E B : Type 0} (L : Ghosts K) (M : DeviceGhosts D) (N : GaugeGhosts E) (O : BoardGhosts B) (P : PartsGhosts B) where
-  module _ (it : RecordedModule K D E L) (pieces : SplitModule K) (fresh : IsFresh L it.running) (of_it : IsMadeOf L it.running pieces)
+  module _ (it : RecordedModule K D E L) (pieces : SplitModule K) (fresh : IsUnwritten L it.running) (of_it : IsMadeOf L it.running pieces)
       (splits : StandsSplit L it.running pieces) (fit : FitAsModule L pieces)
       (it_made : make_with L it.running.channels.terms it.running.channels.ports.items ≡ P.make)
       (it_count : length it.running.channels.ports.items ≡ P.ports) (base : it.history.base ≡ P.base)
@@ -143,7 +143,7 @@ module _ {K D E B : Type 0} (L : Ghosts K) (M : DeviceGhosts D) (N : GaugeGhosts
         let small : k < P.make.lines = subst (λ (n : ℕ). k < n) (length-range_with_len 0 P.make.lines) within in
         subst (λ (line : ℕ). (P.make.place_of line).channel < P.ports) (sym (get_or-range_with_len 0 P.make.lines k d small ∙ omega arith)) (shaped.known k small)
 
-    pub lines_laid : (table : List ℕ) → table ≡ map (λ line. (P.make.place_of line).channel) (range_with_len 0 P.make.lines) → O.channels ≡ P.ports → AreLinesOf O P table
+    pub lines_laid : (table : List ℕ) → table ≡ map (λ line. (P.make.place_of line).channel) (range_with_len 0 P.make.lines) → O.channels ≡ P.ports → AreLinesOfBoard O P table
     lines_laid table laid channels = record {
       laid = laid;
       known = subst (All (λ channel. channel < P.ports)) (sym laid)

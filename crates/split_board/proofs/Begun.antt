@@ -29,7 +29,7 @@ use Rattle.split_module.specs.Gathering.{FitAsModule, IsMadeOf, StandsSplit, sha
 use Rattle.split_module.specs.Lending.{SplitStands}
 use Rattle.split_module.specs.declared.gathering.SplitModule.{SplitModule}
 use Rattle.board_desk.specs.Desk.{AreBoardLogs, DeskStands, DeskView, desk_view, setup_at, shape_at, shape_named}
-use Rattle.split_board.specs.Starting.{IsFresh, empty_logs, make_with}
+use Rattle.split_board.specs.Starting.{IsUnwritten, empty_logs, make_with}
 
 -- a list of no length, and what is taken of none
 no_writes : (writes : List Write) → length writes ≡ 0 → writes ≡ []
@@ -47,7 +47,7 @@ get_same (suc n) zero x = refl
 get_same (suc n) (suc i) x = get_same n i x
 
 module _ {K : Type 0} (L : Ghosts K) where
-  module _ (it : Module K L) (fresh : IsFresh L it) (m : Machine) (matches : Matches L it m) where
+  module _ (it : Module K L) (fresh : IsUnwritten L it) (m : Machine) (matches : Matches L it m) where
     pub wrote_none : m.life.writes ≡ []
     wrote_none = no_writes m.life.writes (omega (arith, matches.front.accepted, matches.front.start, fresh.accepted))
 
@@ -88,7 +88,7 @@ same_shape L P pieces made count i = record {
 }
 
 module _ {K D E B : Type 0} (L : Ghosts K) (M : DeviceGhosts D) (N : GaugeGhosts E) (P : PartsGhosts B) where
-  module _ (it : RecordedModule K D E L) (pieces : SplitModule K) (fresh : IsFresh L it.running) (of_it : IsMadeOf L it.running pieces)
+  module _ (it : RecordedModule K D E L) (pieces : SplitModule K) (fresh : IsUnwritten L it.running) (of_it : IsMadeOf L it.running pieces)
       (splits : StandsSplit L it.running pieces) (fit : FitAsModule L pieces)
       (made : make_with L pieces.terms pieces.ports.items ≡ P.make) (count : length pieces.ports.items ≡ P.ports) (base : it.history.base ≡ P.base) where
     abbrev desk : DeskView

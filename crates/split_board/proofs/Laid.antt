@@ -5,9 +5,9 @@ use Rattle.std.proofs.lemmas.List.{get_or_past}
 use Rattle.channel_locks.specs.declared.parts_name.PartsName.{Ghosts as PartsGhosts}
 use Rattle.nv_workers.specs.declared.board_name.BoardName.{Ghosts as BoardGhosts}
 use Rattle.board_desk.specs.Answering.{IsAskedFor}
-use Rattle.split_board.specs.Lines.{AreLinesOf}
+use Rattle.split_board.specs.Lines.{AreLinesOfBoard}
 
-module _ {B : Type 0} (O : BoardGhosts B) (P : PartsGhosts B) (table : List ℕ) (laid : AreLinesOf O P table) where
+module _ {B : Type 0} (O : BoardGhosts B) (P : PartsGhosts B) (table : List ℕ) (laid : AreLinesOfBoard O P table) where
   size : length table ≡ P.make.lines
   size = ap length laid.laid ∙ length-map-range_with_len (λ line. (P.make.place_of line).channel) 0 P.make.lines
 

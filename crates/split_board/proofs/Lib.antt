@@ -3,3 +3,4 @@ mod Laid
 mod Fresh
 mod Begun
 mod Beginning
+mod Unwritten

@@ -24,7 +24,7 @@ use Rattle.split_board.specs.Turns.{AwaitsBytes, ServesFirst}
 
 module _ {K D E B : Type 0} (L : Ghosts K) (M : DeviceGhosts D) (N : GaugeGhosts E) (O : BoardGhosts B) (P : PartsGhosts B) where
   -- Under the board's lock and this channel's a write was answered so.
-  pub record LentBoth (channel : ℕ) (write : Write) (result : Result Receipt WriteRefusal) (host told : Client) : Type 0 where
+  pub record LentForWrite (channel : ℕ) (write : Write) (result : Result Receipt WriteRefusal) (host told : Client) : Type 0 where
     pub before : Desk K D E B L M N O P
     pub after : Desk K D E B L M N O P
     pub writes : HostWritesAtDesk L M N O P channel write result host told before after
@@ -34,10 +34,10 @@ module _ {K D E B : Type 0} (L : Ghosts K) (M : DeviceGhosts D) (N : GaugeGhosts
     pub channel : ℕ
     pub asked : IsAskedFor P.make write.line channel
     pub room : LentRoom L P channel
-    pub lent : LentBoth channel write result host told
+    pub lent : LentForWrite channel write result host told
 
   -- Under the board's lock and this channel's a read had this answer, behind so many accepted writes.
-  pub record LentRead (channel line : ℕ) (answer : Result Got ReadRefusal) (at : ℕ) : Type 0 where
+  pub record LentForRead (channel line : ℕ) (answer : Result Got ReadRefusal) (at : ℕ) : Type 0 where
     pub before : Desk K D E B L M N O P
     pub after : Desk K D E B L M N O P
     pub reads : DeskAnswers P channel (events.Read line) (replies.Read answer) (view_of L M N O P before) (view_of L M N O P after)
@@ -48,7 +48,7 @@ module _ {K D E B : Type 0} (L : Ghosts K) (M : DeviceGhosts D) (N : GaugeGhosts
     pub channel : ℕ
     pub asked : IsAskedFor P.make line channel
     pub first : Got
-    pub lent : LentRead channel line (Ok first) at
+    pub lent : LentForRead channel line (Ok first) at
     pub serves : ServesFirst L P first told
 
   -- the read of a line was refused at its channel
@@ -56,7 +56,7 @@ module _ {K D E B : Type 0} (L : Ghosts K) (M : DeviceGhosts D) (N : GaugeGhosts
     pub channel : ℕ
     pub at : ℕ
     pub asked : IsAskedFor P.make line channel
-    pub lent : LentRead channel line (Err refusal) at
+    pub lent : LentForRead channel line (Err refusal) at
 
   -- its bytes were told at once, or are what its ticket had later
   abbrev pub HasReadLine : ℕ → List ℕ → ℕ → Type 0

@@ -28,7 +28,7 @@ module _ {K : Type 0} (L : Ghosts K) where
   }
 
   -- No write was accepted yet, nothing waits or is held back, no save runs, and mains are there.
-  pub record IsFresh (it : Module K L) : Type 0 where
+  pub record IsUnwritten (it : Module K L) : Type 0 where
     pub accepted : it.front.accepted ≡ it.front.terms.start
     pub waits : (view_of L it.channels).waits ≡ nothing
     pub hold : (view_of L it.channels).hold ≡ None

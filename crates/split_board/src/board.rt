@@ -1,7 +1,7 @@
 // The locks.
 ghost use Rattle.std.specs.Prelude.{◌<◌};
 ghost use Rattle.board_desk.specs.Answering.{IsAskedFor};
-ghost use Rattle.split_board.specs.Lines.{AreLinesOf};
+ghost use Rattle.split_board.specs.Lines.{AreLinesOfBoard};
 
 use crate::locked_desk::LockedDesk;
 use board_desk::Desk;
@@ -21,7 +21,7 @@ pub struct Board<K: ChannelPort, D: SaveDevice, E: Energy, B: BoardName + PartsN
     pub(crate) channels: ChannelLocks<K, B>,
     pub(crate) lines: LineChannels,
     pub(crate) notices: Mutex<N>,
-    ghost laid: { AreLinesOf B.BoardName B.PartsName lines },
+    ghost laid: { AreLinesOfBoard B.BoardName B.PartsName lines },
 }
 
 impl<K: ChannelPort, D: SaveDevice, E: Energy, B: BoardName + PartsName, N: Notices> Board<
@@ -38,7 +38,7 @@ impl<K: ChannelPort, D: SaveDevice, E: Energy, B: BoardName + PartsName, N: Noti
         lines: LineChannels,
         notices: N,
     ) -> Board<K, D, E, B, N>
-        requires { AreLinesOf B.BoardName.own B.PartsName lines }
+        requires { AreLinesOfBoard B.BoardName.own B.PartsName lines }
     {
         Board {
             desk: Mutex::new(LockedDesk { desk: Some(desk) }),

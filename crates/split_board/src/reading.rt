@@ -4,7 +4,7 @@ ghost use Rattle.board_desk.specs.Answering.{IsAskedFor, IsTicketOf};
 ghost use Rattle.nv_workers.specs.Client.{SeesNoLess};
 ghost use Rattle.nv_workers.specs.Serving.{told_for};
 ghost use Rattle.split_board.specs.Turns.{ServesFirst};
-ghost use Rattle.split_board.specs.Hosts.{HasLostLine, HasReadLine, LentRead, ReadsAtBoard, RefusedAtBoard};
+ghost use Rattle.split_board.specs.Hosts.{HasLostLine, HasReadLine, LentForRead, ReadsAtBoard, RefusedAtBoard};
 
 use crate::board::Board;
 use crate::locked_desk::LockedDesk;

@@ -6,8 +6,8 @@ ghost use Rattle.channel_log.specs.Seats.{all_logs};
 ghost use Rattle.channel_set.specs.Set.{shape_of};
 ghost use Rattle.channel_locks.specs.Lines.{channels_of_lines};
 ghost use Rattle.nv_workers.specs.Client.{client};
-ghost use Rattle.nv_workers.specs.Kept.{IsRecordKept};
-ghost use Rattle.split_board.specs.Starting.{IsFresh, make_with};
+ghost use Rattle.nv_workers.specs.Kept.{IsFresh, IsRecordKept};
+ghost use Rattle.split_board.specs.Starting.{make_with};
 
 use crate::board::Board;
 use crate::dealing::locks_of;
@@ -104,7 +104,7 @@ where
     requires made { make_with K.ChannelPort recorded.running.channels.terms
         recorded.running.channels.ports.items ≡ B.make }
     requires base { recorded.history.base ≡ B.base }
-    requires fresh { IsFresh K.ChannelPort recorded.running }
+    requires fresh { IsFresh K.ChannelPort D.SaveDevice recorded }
     requires kept { IsRecordKept K.ChannelPort D.SaveDevice E.Energy recorded }
     ensures number { IfOk result (λ s. vec_len s.hosts ≡ B.parts) }
     ensures hosts { IfOk result (λ s.

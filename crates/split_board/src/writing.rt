@@ -2,7 +2,7 @@
 ghost use Rattle.std.specs.Prelude.{◌<◌};
 ghost use Rattle.board_desk.specs.Answering.{IsAskedFor};
 ghost use Rattle.nv_workers.specs.Client.{SeesNoLess};
-ghost use Rattle.split_board.specs.Hosts.{LentBoth, WritesAtBoard};
+ghost use Rattle.split_board.specs.Hosts.{LentForWrite, WritesAtBoard};
 
 use crate::board::Board;
 use crate::locked_desk::LockedDesk;
@@ -32,7 +32,7 @@ where
     R: Wait,
     C: ChannelName,
     requires asked { IsAskedFor B.make write.line C.NUMBER }
-    ensures writes { LentBoth K.ChannelPort D.SaveDevice E.Energy B.BoardName.own B.PartsName.own
+    ensures writes { LentForWrite K.ChannelPort D.SaveDevice E.Energy B.BoardName.own B.PartsName.own
         C.NUMBER write result host.old host.new }
     ensures rises { SeesNoLess host.old host.new }
 {
@@ -61,7 +61,7 @@ impl<K: ChannelPort, D: SaveDevice, E: Energy, B: BoardName + PartsName, N: Noti
     ) -> Result<Receipt, WriteRefusal>
         requires channel { channel < 8 }
         requires asked { IsAskedFor B.make write.line channel }
-        ensures writes { LentBoth K.ChannelPort D.SaveDevice E.Energy B.BoardName.own B.PartsName.own
+        ensures writes { LentForWrite K.ChannelPort D.SaveDevice E.Energy B.BoardName.own B.PartsName.own
             channel write result host.old host.new }
         ensures rises { SeesNoLess host.old host.new }
     {

@@ -14,6 +14,7 @@ use Rattle.nv_workers.specs.Client.{Client, client}
 use Rattle.nv_workers.specs.Marks.{ShowsNoMore}
 use Rattle.nv_workers.specs.Opening.{OpeningView}
 use Rattle.nv_workers.proofs.Holding.{opening_shows_no_more}
+use Rattle.split_board.proofs.Unwritten.{unwritten}
 use Rattle.split_board.proofs.Beginning.{desk_kept, fresh_ports, lines_laid}
 use Rattle.split_board.proofs.starting.start.Goals as goal
 
@@ -38,7 +39,7 @@ pub locks_of-channels-requires-clause-fresh : goal.locks_of-channels-requires-cl
 locks_of-channels-requires-clause-fresh g c =
     let split = c.of-ports.ensures in let asked = c.requires in
     fresh_ports g.K.ChannelPort g.D.SaveDevice g.E.Energy g.B.BoardName g.B.PartsName c.args.recorded c.of-ports.result
-    asked.fresh split.pieces split.stands split.fit asked.made asked.ports asked.base asked.kept
+    (unwritten g.K.ChannelPort g.D.SaveDevice c.args.recorded asked.fresh) split.pieces split.stands split.fit asked.made asked.ports asked.base asked.kept
 
 pub invariant_of-desk-2 : goal.invariant_of-desk-2
 invariant_of-desk-2 g c =
@@ -48,7 +49,7 @@ invariant_of-desk-2 g c =
     let told = c.locks_of-channels.ensures.known in
     let shown : marks ≡ seen_marks O.board it.running.front.accepted it.running.front.persisted =
     c.publish.ensures ∙ (λ i. seen_marks ((c.deref.ensures ∙ c.in-Ok.ensures.marks) i) (c.accepted.ensures.is i) (c.mark.ensures i)) in
-    let kept = desk_kept L M N O P it pieces asked.fresh split.pieces split.stands split.fit asked.made asked.ports asked.base asked.kept
+    let kept = desk_kept L M N O P it pieces (unwritten g.K.ChannelPort g.D.SaveDevice c.args.recorded asked.fresh) split.pieces split.stands split.fit asked.made asked.ports asked.base asked.kept
     (arc_value c.in-Ok.made.marks) c.args.tables.logs known.table marks c.open-book.result.0.total
     c.in-Ok.ensures.marks asked.logs (ap (λ (k : AllLogs). k.table) told) (sym asked.channels ∙ asked.ports) shown asked.before c.open-book.ensures.total in
     record {
@@ -62,6 +63,6 @@ pub new-requires : goal.new-requires
 new-requires g c =
     let split = c.of-ports.ensures in let asked = c.requires in
     lines_laid g.K.ChannelPort g.D.SaveDevice g.E.Energy g.B.BoardName g.B.PartsName c.args.recorded c.of-ports.result
-    asked.fresh split.pieces split.stands split.fit asked.made asked.ports asked.base asked.kept c.in-Ok.made.lines
+    (unwritten g.K.ChannelPort g.D.SaveDevice c.args.recorded asked.fresh) split.pieces split.stands split.fit asked.made asked.ports asked.base asked.kept c.in-Ok.made.lines
     (c.in-Ok.ensures.lines ∙ (ap (λ (set : ChannelSet g.row.K.Denot g.K.ChannelPort). channels_of_lines (shape_of g.K.ChannelPort set)) c.channels.ensures
     ∙ (λ i. map (λ line. ((asked.made i).place_of line).channel) (range_with_len 0 (asked.made i).lines)))) (sym asked.channels ∙ asked.ports)
