@@ -1,4 +1,5 @@
 use Rattle.std.proofs.Common.{◌≡◌, ◌∙◌, ℕ, [], ap, arith, subst, sym}
+use Rattle.std.proofs.lemmas.Grind.{merely}
 use Rattle.line_memory.specs.History.{Recorded, recorded}
 use Rattle.save_device.specs.Device.{DeviceState}
 use Rattle.save_image.specs.Image.{Image}
@@ -15,7 +16,6 @@ use Rattle.module_core.specs.Opening.{opened_with}
 use Rattle.module_core.specs.Stands.{ModuleStands}
 use Rattle.nv_workers.specs.Kept.{HasJustBegun}
 use Rattle.nv_workers.proofs.Beginning.{begun_is_kept, begun_is_whole}
-use Rattle.ddr4_boards.proofs.Fresh.{begun_fresh}
 use Rattle.ddr4_boards.proofs.opening.open.Goals as goal
 use Rattle.ddr4_boards.proofs.opening.open.Goals.{In-Ok-begin}
 
@@ -47,8 +47,8 @@ has_begun g c =
 
 pub invariant_of-result-clause-fresh : goal.invariant_of-result-clause-fresh
 invariant_of-result-clause-fresh g c =
-    let it = c.in-Ok.restored in let inside = (goal.at.invariant_of-result-clause-fresh g c).In-Ok-begin in
-    begun_fresh _ inside.in-Ok-begin.begun.running (g.D.SaveDevice.state c.restore.new.device) it.head (image_of_restored it c.in-Ok.ensures.found.arm) (begun_stands g inside)
+    let it = c.in-Ok.restored in
+    merely (it.head, image_of_restored it c.in-Ok.ensures.found.arm, has_begun g (goal.at.invariant_of-result-clause-fresh g c).In-Ok-begin)
 
 pub invariant_of-result-clause-kept : goal.invariant_of-result-clause-kept
 invariant_of-result-clause-kept g c =
