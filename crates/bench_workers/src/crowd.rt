@@ -399,10 +399,10 @@ where
     D: SaveDevice + Drop + Send,
     B: BoardName + Send + Sync,
     R: Threads + Wait + Clock + Sync,
-    requires name { ready.opening.name ≡ B.name }
-    requires parts { ready.opening.parts ≡ B.parts }
+    requires name { ready.tables.opening.name ≡ B.name }
+    requires parts { ready.tables.opening.parts ≡ B.parts }
     requires hosts { B.parts ≡ plan.now.hosts }
-    requires board { ready.opening.board ≡ B.board }
+    requires board { ready.tables.opening.board ≡ B.board }
     requires before { length ready.recorded.history.writes ≡ B.before }
     requires channels { ready.channels ≡ B.channels }
 {

@@ -1,5 +1,5 @@
-//! Boards over DDR4 channels: a module on the image of a device, with the record of its life and the words of its marks, ready
-//! to be put behind a lock with hosts, workers and notices.
+//! Boards over DDR4 channels: a module on the image of a device, with the record of its life and the tables of its board, ready
+//! to be put behind its locks with hosts, workers and notices.
 #![tactic(auto)]
 
 mod opening;

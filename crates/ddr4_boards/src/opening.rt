@@ -31,6 +31,7 @@ use nv_profile::Profile;
 use nv_workers::{Opening, RecordedModule};
 use save_device::{MemoryDevice, SaveDevice};
 use slot_store::{RestoreError, Restored, device_size, format, restore};
+use split_board::BoardTables;
 use std::alloc::{AllocError, Global};
 
 /// Why no module was opened, as a restore says it, `Memory` also where there was none for the module; and the device and the gauge
@@ -81,14 +82,14 @@ fn record_of(alloc: Global, lines: &[Line], start: u64, trail: u64) -> Result<Hi
     }
 }
 
-// A module that has begun, the words of its board, and the record of its life.
+// A module that has begun, the tables of its board, and the record of its life.
 struct Begun<K: ChannelPort> {
-    opening: Opening,
+    tables: BoardTables,
     running: Module<K>,
     history: History,
 }
 
-// A module that begins with what a device restored to, with the words of its board and its record.
+// A module that begins with what a device restored to, with the tables of its board and its record.
 fn begin<'m, M: LineMap>(
     alloc: Global,
     map: &'m M,
@@ -100,8 +101,9 @@ fn begin<'m, M: LineMap>(
     requires geometry { M.geometry_of map.now ≡ profile.now.checked.geometry }
     requires memory { IsMemory (lines_of profile.now.checked.geometry) restored.lines.items }
     requires numbers { Fits restored.head.newest.generation restored.head.count }
-    ensures parts { IfOk result (λ begun. begun.opening.parts ≡ hosts) }
-    ensures mark { IfOk result (λ begun. begun.opening.mark ≡ begun.running.front.persisted) }
+    ensures parts { IfOk result (λ begun. begun.tables.opening.parts ≡ hosts) }
+    ensures mark { IfOk result (λ begun.
+        begun.tables.opening.mark ≡ begun.running.front.persisted) }
     ensures begins { IfOk result (λ begun. (arm : ℕ) (at : DeviceState)
         → IsAtRestOn restored.head.newest.slot (image_of_restored restored arm)
         (lines_of profile.now.checked.geometry) restored.head.closed at
@@ -124,14 +126,15 @@ fn begin<'m, M: LineMap>(
         Err((_, error)) => return Err(error),
     };
     let opening = Opening::new(alloc, running.mark(), hosts)?;
+    let tables = BoardTables::new(alloc, opening)?;
     Ok(Begun {
-        opening,
+        tables,
         running,
         history,
     })
 }
 
-/// A module of a profile over a lawful map of its geometry, with the memory that a device restores to, its record, and the words
+/// A module of a profile over a lawful map of its geometry, with the memory that a device restores to, its record, and the tables
 /// of its board for so many hosts. No byte of the device changes. Where none is opened the device and the gauge are given back.
 pub fn open<'m, M: LineMap, D: SaveDevice + Drop, E: Energy + Drop>(
     alloc: Global,
@@ -143,7 +146,7 @@ pub fn open<'m, M: LineMap, D: SaveDevice + Drop, E: Energy + Drop>(
 ) -> Result<Ready<Ddr4Port<'m, M>, D, E>, NotOpened<D, E>>
     requires lawful { M.is_lawful map.now }
     requires geometry { M.geometry_of map.now ≡ profile.now.checked.geometry }
-    ensures parts { IfOk result (λ ready. ready.opening.parts ≡ hosts) }
+    ensures parts { IfOk result (λ ready. ready.tables.opening.parts ≡ hosts) }
     ensures new { IfOk result (λ ready. ready.recorded.history.writes ≡ []) }
     ensures restored { IfOk result (λ ready. RecordsRestored
         (restored (lines_of profile.now.checked.geometry) (D.state device).bytes)
@@ -177,12 +180,12 @@ pub fn open<'m, M: LineMap, D: SaveDevice + Drop, E: Energy + Drop>(
         });
     };
     let Begun {
-        opening,
+        tables,
         running,
         history,
     } = begun;
     Ok(Ready {
-        opening,
+        tables,
         recorded: RecordedModule {
             running,
             device,

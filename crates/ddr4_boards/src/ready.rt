@@ -1,28 +1,31 @@
-// A module with its record and the words of its board, before the board has a name.
+// A module with its record and the tables of its board, before the board has a name.
 ghost use Rattle.std.specs.Prelude.{◌≡◌, ◌+◌, ◌≤◌, [], length, vec_len, All, IfOk};
 ghost use Rattle.module_core.specs.Stands.{HasDevice, setup_of};
 ghost use Rattle.nv_workers.specs.Client.{client};
 ghost use Rattle.nv_workers.specs.Kept.{IsFresh, IsRecordKept};
+ghost use Rattle.ddr4_boards.specs.Naming.{IsNamed};
 
+use channel_locks::PartsName;
 use channel_port::ChannelPort;
 use energy_budget::Energy;
 use notice_book::Notices;
-use nv_workers::{BoardName, NotStarted, Opening, RecordedModule, Started, start};
+use nv_workers::{BoardName, NotStarted, RecordedModule, Started, start};
 use save_device::SaveDevice;
+use split_board::BoardTables;
 use std::alloc::Global;
 
-/// A module that has just begun, with its record, and the words and seats of its board. Contracts see both, and how many channels
-/// the module has. No event was asked of it yet.
+/// A module that has just begun, with its record, and the tables of its board. Contracts see both, and how many channels the
+/// module has. No event was asked of it yet.
 #[derive(Drop)]
 pub struct Ready<K: ChannelPort, D: SaveDevice, E: Energy> {
-    pub opening: Opening,
+    pub tables: BoardTables,
     pub recorded: RecordedModule<K, D, E>,
     pub channels: u64,
     pub ghost counted: { channels ≡ (setup_of K.ChannelPort recorded.running).shape.channels },
     pub ghost sized: { HasDevice K.ChannelPort recorded.running (D.state recorded.device) },
     pub ghost fresh: { IsFresh K.ChannelPort D.SaveDevice recorded },
     pub ghost kept: { IsRecordKept K.ChannelPort D.SaveDevice E.Energy recorded },
-    pub ghost mark: { opening.mark ≤ recorded.running.front.persisted },
+    pub ghost mark: { tables.opening.mark ≤ recorded.running.front.persisted },
     pub ghost uncut: { recorded.running.front.accepted
         ≡ recorded.running.front.terms.start + length recorded.history.writes },
 }
@@ -35,20 +38,46 @@ impl<K: ChannelPort + Drop, D: SaveDevice + Drop, E: Energy + Drop> Ready<K, D, 
         alloc: Global,
         notices: N,
     ) -> Result<Started<K, D, E, B, N>, NotStarted<K, D, E, N>>
-        requires name { self.opening.name ≡ B.name }
-        requires parts { self.opening.parts ≡ B.parts }
-        requires board { self.opening.board ≡ B.board }
+        requires name { self.tables.opening.name ≡ B.name }
+        requires parts { self.tables.opening.parts ≡ B.parts }
+        requires board { self.tables.opening.board ≡ B.board }
         requires before { length self.recorded.history.writes ≡ B.before }
         requires channels { self.channels ≡ B.channels }
         ensures number { IfOk result (λ s. vec_len s.hosts ≡ B.parts) }
         ensures hosts { IfOk result (λ s.
-            All (λ h. h ≡ client self.opening.mark self.opening.mark 0 []) s.hosts.items) }
+            All (λ h. h ≡ client self.tables.opening.mark self.tables.opening.mark 0 []) s.hosts.items) }
     {
         let Ready {
-            opening,
+            tables,
             recorded,
             channels: _,
         } = self;
+        let BoardTables {
+            opening,
+            logs: _,
+            known: _,
+        } = tables;
         start::<K, D, E, B, N>(alloc, opening, recorded, notices)
+    }
+
+    /// The board with a lock for each channel, with a book of notices, and its hosts. It refuses only where there is no memory for
+    /// it, and then gives module and book back.
+    pub fn split<B: BoardName + PartsName, N: Notices + Drop>(
+        self,
+        alloc: Global,
+        notices: N,
+    ) -> Result<split_board::Started<K, D, E, B, N>, NotStarted<K, D, E, N>>
+        requires named { IsNamed K.ChannelPort B.Ledger B.BoardName.own B.PartsName.own
+            self.tables self.recorded }
+        ensures number { IfOk result (λ s. vec_len s.hosts ≡ B.parts) }
+        ensures hosts { IfOk result (λ s.
+            All (λ h. h ≡ client self.tables.opening.mark self.tables.opening.mark 0 []) s.hosts.items) }
+    {
+        let Ready {
+            tables,
+            recorded,
+            channels: _,
+        } = self;
+        split_board::start::<K, D, E, B, N>(alloc, tables, recorded, notices)
     }
 }

@@ -9,7 +9,6 @@ use crate::load::{Image, Load, restores_to};
 use arm_state::Loss;
 use ddr4_port::Ddr4Port;
 use interleave_map::ReadyMap;
-use nv_workers::{Gate, Turn};
 use save_device::MemoryDevice;
 use slot_store::Verdict;
 use std::alloc::Global;
@@ -18,6 +17,7 @@ use std::sync::atomic::{AtomicBool, AtomicU64, Ordering};
 use std::thread;
 use std::thread::Threads;
 use std::time::{Clock, Duration};
+use worker_gate::{Gate, Turn};
 
 // Tells each drain the same, and counts how often it was asked.
 #[derive(Drop)]

@@ -65,9 +65,9 @@ where
     E: Energy + Drop,
     B: BoardName,
     R: Threads + Wait + Clock + Abort + Sync,
-    requires name { ready.opening.name ≡ B.name }
-    requires parts { ready.opening.parts ≡ B.parts }
-    requires board { ready.opening.board ≡ B.board }
+    requires name { ready.tables.opening.name ≡ B.name }
+    requires parts { ready.tables.opening.parts ≡ B.parts }
+    requires board { ready.tables.opening.board ≡ B.board }
     requires before { length ready.recorded.history.writes ≡ B.before }
     requires number { ready.channels ≡ B.channels }
     requires channels { CHANNELS ≡ B.channels }
@@ -108,9 +108,9 @@ where
     E: Energy + Drop + Send,
     B: BoardName + Send + Sync,
     R: Threads + Wait + Clock + Abort + Copy + Send + Sync,
-    requires name { ready.opening.name ≡ B.name }
-    requires parts { ready.opening.parts ≡ B.parts }
-    requires board { ready.opening.board ≡ B.board }
+    requires name { ready.tables.opening.name ≡ B.name }
+    requires parts { ready.tables.opening.parts ≡ B.parts }
+    requires board { ready.tables.opening.board ≡ B.board }
     requires before { length ready.recorded.history.writes ≡ B.before }
     requires number { ready.channels ≡ B.channels }
     requires channels { CHANNELS ≡ B.channels }
@@ -135,9 +135,9 @@ where
     E: Energy + Drop + Send,
     B: BoardName + Send + Sync,
     R: Threads + Wait + Clock + Abort + Copy + Send + Sync,
-    requires name { ready.opening.name ≡ B.name }
-    requires parts { ready.opening.parts ≡ B.parts }
-    requires board { ready.opening.board ≡ B.board }
+    requires name { ready.tables.opening.name ≡ B.name }
+    requires parts { ready.tables.opening.parts ≡ B.parts }
+    requires board { ready.tables.opening.board ≡ B.board }
     requires before { length ready.recorded.history.writes ≡ B.before }
     requires number { ready.channels ≡ B.channels }
     requires hosts { B.parts ≡ 12 }

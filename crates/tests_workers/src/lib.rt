@@ -15,6 +15,10 @@ mod ends;
 #[cfg(test)]
 mod gates;
 #[cfg(test)]
+mod inside;
+#[cfg(test)]
+mod locks;
+#[cfg(test)]
 mod marks;
 #[cfg(test)]
 mod notices;

@@ -1,11 +1,12 @@
 use Rattle.std.proofs.Common.{◌∙◌, ℕ, List, [], ap, refl, subst, sym}
 use Rattle.line_memory.specs.History.{recorded}
 use Rattle.nv_machine.specs.State.{Setup}
+use Rattle.nv_workers.specs.Opening.{OpeningView}
 use Rattle.ddr4_boards.specs.Setup.{IsSetupOf}
 use Rattle.ddr4_boards.proofs.opening.begin.Goals as goal
 
 pub returns-clause-mark : goal.returns-clause-mark
-returns-clause-mark g c = c.in_ok-opening.ensures.mark ∙ c.mark.ensures
+returns-clause-mark g c = ap (λ (o : OpeningView). o.mark) c.in_ok-tables.ensures ∙ (c.in_ok-opening.ensures.mark ∙ c.mark.ensures)
 
 pub returns-clause-setup : goal.returns-clause-setup
 returns-clause-setup g c =
