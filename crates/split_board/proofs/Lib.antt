@@ -4,3 +4,4 @@ mod Fresh
 mod Begun
 mod Beginning
 mod Unwritten
+mod Strangers

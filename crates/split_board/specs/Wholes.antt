@@ -1,33 +1,44 @@
 -- What a call of a whole module at a board comes to.
-use Rattle.std.specs.Prelude.{◌≡◌, Option, Some}
+use Rattle.std.specs.Prelude.{◌≡◌, ℕ, List, Option, Some, Result, Ok, Err}
+use Rattle.line_memory.specs.History.{Recorded, cut_at}
 use Rattle.save_device.specs.declared.device.SaveDevice.{Ghosts as DeviceGhosts}
 use Rattle.energy_budget.specs.declared.energy.Energy.{Ghosts as GaugeGhosts}
 use Rattle.channel_port.specs.declared.port.ChannelPort.{Ghosts}
 use Rattle.channel_locks.specs.declared.parts_name.PartsName.{Ghosts as PartsGhosts}
 use Rattle.nv_machine.specs.State.{Machine}
 use Rattle.nv_workers.specs.declared.board_name.BoardName.{Ghosts as BoardGhosts}
+use Rattle.nv_workers.specs.declared.checking.Cut.{Cut}
+use Rattle.nv_workers.specs.declared.checking.Stranger.{Stranger}
+use Rattle.nv_workers.specs.declared.host.Receipt.{Receipt}
+use Rattle.nv_workers.specs.declared.host.Seen.{Seen}
 use Rattle.nv_workers.specs.declared.saver.Saving.{Saving}
 use Rattle.nv_workers.specs.declared.saver.Saving.TheVariants.{Began, Stepped, Rested, Closed}
+use Rattle.nv_workers.specs.Ending.{AreChecked, IsStranger}
 use Rattle.nv_workers.specs.Savers.{turn_of, turn_taken, working_of}
 use Rattle.worker_loops.specs.declared.shift.Working.{Working}
 use Rattle.board_desk.specs.declared.desk.Desk.{Desk}
-use Rattle.board_desk.specs.Calling.{Course, save_begin_course, save_step_course}
+use Rattle.board_desk.specs.Calling.{Course, Paused, save_begin_course, save_step_course}
 use Rattle.board_desk.specs.Desk.{DeskStands}
 use Rattle.board_desk.specs.Views.{view_of}
 use Rattle.board_desk.specs.Whole.{WholeAnswers}
+
+-- nothing is told of the record
+abbrev pub tells_nothing : ℕ → Recorded → Recorded → Type 0
+tells_nothing saved old new = Unit {0}
 
 module _ {K D E B : Type 0} (L : Ghosts K) (M : DeviceGhosts D) (N : GaugeGhosts E) (O : BoardGhosts B) (P : PartsGhosts B) where
   -- A call of the whole module was this to the life.
   abbrev pub Calls : Course → Desk K D E B L M N O P → Desk K D E B L M N O P → Type 0
   Calls course old new = WholeAnswers P course (view_of L M N O P old) (view_of L M N O P new)
 
-  -- the same of what lies behind the board's lock
-  pub record CallsLocked (course : Course) (old new : Option (Desk K D E B L M N O P)) : Type 0 where
+  -- the same of what lies behind the board's lock, with what the call's answer tells of the record
+  pub record CallsLocked (course : Course) (told : ℕ → Recorded → Recorded → Type 0) (old new : Option (Desk K D E B L M N O P)) : Type 0 where
     pub before : Desk K D E B L M N O P
     pub after : Desk K D E B L M N O P
     pub old_is : old ≡ Some before
     pub new_is : new ≡ Some after
     pub calls : Calls course before after
+    pub tells : told before.split.front.saved before.history after.history
 
   -- with all locks held it was this to the life
   pub record LentWhole (course : Course) : Type 0 where
@@ -52,3 +63,17 @@ module _ {K D E B : Type 0} (L : Ghosts K) (M : DeviceGhosts D) (N : GaugeGhosts
   -- the same, by how it goes on
   abbrev pub WorksAsSaver : Working → Type 0
   WorksAsSaver done = (saving : Saving) × LentTurnOfSaver saving × (done ≡ working_of saving)
+
+  -- Where there is no stranger among the receipts and answers they were checked, and then the stored writes that the newest image holds
+  -- went into the record's memory; told is where the stored ones begin from then on. A stranger is named, and nothing has changed.
+  abbrev pub CutsAtDesk : List Receipt → List Seen → Result Cut Stranger → Desk K D E B L M N O P → Desk K D E B L M N O P → Type 0
+  CutsAtDesk receipts answers (Ok told) old new =
+      AreChecked old.split.front.terms.start old.history receipts answers (record told { from = old.history.start })
+      × (told.from ≡ new.history.start) × (new.history ≡ cut_at old.split.front.saved old.history) × Calls Paused old new
+  CutsAtDesk receipts answers (Err stranger) old new = IsStranger old.split.front.terms.start old.history receipts answers stranger × (new ≡ old)
+
+  -- with all locks held receipts and answers were checked and it was cut, or a stranger was named
+  pub record LentForCut (receipts : List Receipt) (answers : List Seen) (result : Result Cut Stranger) : Type 0 where
+    pub before : Desk K D E B L M N O P
+    pub after : Desk K D E B L M N O P
+    pub cuts : CutsAtDesk receipts answers result before after

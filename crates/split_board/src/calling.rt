@@ -1,6 +1,7 @@
 // What is asked of a whole module, with all locks of its board held.
-ghost use Rattle.board_desk.specs.Calling.{arm_course, disarm_course, loss_course, save_begin_course, save_step_course, sense_course};
-ghost use Rattle.split_board.specs.Wholes.{CallsLocked, LentWhole};
+ghost use Rattle.board_desk.specs.Calling.{arm_course, disarm_course, loss_course};
+ghost use Rattle.board_desk.specs.Calling.{save_begin_course, save_step_course, sense_course};
+ghost use Rattle.split_board.specs.Wholes.{CallsLocked, LentWhole, tells_nothing};
 
 use crate::board::Board;
 use crate::locked_desk::LockedDesk;
@@ -35,7 +36,7 @@ where
     W: WholeCall<BoardPort<K, B>, D, E>,
     R: Wait,
     ensures { CallsLocked K.ChannelPort D.SaveDevice E.Energy B.BoardName.own B.PartsName.own
-        (W.course result) locked.old.desk locked.new.desk }
+        (W.course result) (W.told result) locked.old.desk locked.new.desk }
 {
     let AllSlots {
         mut zero,
@@ -81,7 +82,7 @@ where
     G: Gate + Sync,
     R: Threads + Wait + Sync,
     ensures { CallsLocked K.ChannelPort D.SaveDevice E.Energy B.BoardName.own B.PartsName.own
-        (loss_course result) locked.old.desk locked.new.desk }
+        (loss_course result) tells_nothing locked.old.desk locked.new.desk }
 {
     let AllSlots {
         mut zero,

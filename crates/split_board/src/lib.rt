@@ -8,7 +8,9 @@
 mod awaiting;
 mod board;
 mod calling;
+mod cutting;
 mod dealing;
+mod ending;
 mod locked_desk;
 mod reading;
 mod saving;
@@ -19,6 +21,7 @@ mod working;
 mod writing;
 
 pub use board::Board;
+pub use ending::{NotClosed, close};
 pub use locked_desk::LockedDesk;
 pub use saving::saver_worker;
 pub use starting::{Started, start};

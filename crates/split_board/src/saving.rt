@@ -17,7 +17,8 @@ use std::time::Clock;
 use worker_gate::{Gate, Turn};
 use worker_loops::{Ended, Shift, Working, give_way, take_turns};
 
-// One turn of a saver, with the board's lock held. It decides by the desk alone, and the channels' locks are taken only where it saves.
+// One turn of a saver, with the board's lock held. It decides by the desk alone, and the channels' locks are taken only where it
+// saves.
 fn save_locked<K, D, E, B, R>(
     rt: &R,
     locked: &mut LockedDesk<K, D, E, B>,
@@ -95,8 +96,8 @@ where
     }
 }
 
-/// Takes one turn of a saver at each `Go`, until the gate says stop or mains were lost, as `take_turns`. Behind a turn that was held
-/// or at rest, and behind a step that has to wait, it gives way as a channel's worker does. The gate is asked for it by the
+/// Takes one turn of a saver at each `Go`, until the gate says stop or mains were lost, as `take_turns`. Behind a turn that was
+/// held or at rest, and behind a step that has to wait, it gives way as a channel's worker does. The gate is asked for it by the
 /// number of channels. A saver that rests takes the board's lock alone.
 pub fn saver_worker<K, D, E, B, N, G, R>(
     rt: &R,

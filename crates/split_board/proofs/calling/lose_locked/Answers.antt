@@ -8,4 +8,5 @@ returns g c = record {
   old_is = sym c.take.ensures.value ∙ c.in-Some.is;
   new_is = refl;
   calls = c.lose-desk.ensures.answers;
+  tells = tt;
 }
