@@ -3,9 +3,7 @@
 //!
 //! A `Desk` has the front of the module, the device, the gauge, the record of the life, the marks, and what is known of each
 //! channel by its log. It stands for some machine whenever its lock is free (`specs/Desk.antt`, `specs/Kept.antt`). Who holds the board's
-//! lock and one channel's settles that channel first, and then writes or reads; of no other channel is anything asked. Who holds
-//! all nine locks makes a call of the whole module (`src/all_locks.rt`): each channel lends its port, the module is put together and
-//! asked, and the ports go back (`specs/Whole.antt`).
+//! lock and one channel's settles that channel first, and then writes or reads; of no other channel is anything asked.
 #![tactic(auto)]
 
 mod all_loans;
