@@ -50,10 +50,9 @@ where
     B: BoardName + PartsName,
     N: Notices,
 {
-    /// Checks receipts and answers against the stored writes, and then takes off those that the newest image holds, so that as
-    /// many more may be accepted: they go into the record's memory, in place. A stranger among the receipts and the answers is
-    /// named, and then nothing was cut. It may be called at any time, also while a save runs and after a loss of mains, and takes
-    /// no memory.
+    /// Checks receipts and answers against the stored writes, and then takes off those that the newest image holds, so that as many
+    /// more may be accepted: they go into the record's memory, in place. A stranger among the receipts and the answers is named, and
+    /// then nothing was cut. It may be called at any time, also while a save runs and after a loss of mains, and takes no memory.
     pub fn cut<R: Wait>(
         &self,
         rt: &R,
