@@ -1,60 +1,33 @@
 // Hosts that write and read at once.
-ghost use Rattle.std.specs.Prelude.{◌≡◌, ◌<◌, length};
+ghost use Rattle.std.specs.Prelude.{◌≡◌, ◌<◌};
+ghost use Rattle.ddr4_boards.specs.Naming.{IsNamed};
 
 use crate::gate::UntilDone;
-use arm_state::{ReadRefusal, WriteRefusal};
+use crate::hosting::{Kept, Told, busy};
+use crate::plans::{Cuts, Plan};
+use channel_locks::PartsName;
 use channel_port::ChannelPort;
 use ddr4_boards::Ready;
 use energy_budget::Meter;
-use line_memory::Write;
-use notice_book::{NoticeBook, Notices};
-use nv_workers::{
-    Always, Board, BoardName, Closed, Ended, Host, Receipt, RecordedModule, Seen, Started,
-    channel_worker, close, saver_worker,
-};
+use line_memory::History;
+use notice_book::Notices;
+use nv_workers::{BoardName, Closed, Ended, Host, RecordedModule, Seen};
 use save_device::SaveDevice;
+use split_board::{Board, Started, channel_worker, close, saver_worker};
 use std::alloc::{AllocError, Global};
 use std::sync::Wait;
 use std::thread;
 use std::thread::Threads;
-use std::time::{Clock, Duration, Instant};
+use std::time::{Clock, Instant};
 use thiserror::Error;
 
-/// How often a host tries its calls, all in all: where no thread is to be had, what it waits for doesn't come.
-const TRIES: u64 = 1 << 28;
-
-/// How many receipts a host holds before it cuts the history.
-const HELD: usize = 512;
-
-/// When the history of a board is cut.
-#[derive(Clone, Copy, PartialEq, Eq)]
-pub(crate) enum Cuts {
-    Never,
-    /// By each host, where it holds many receipts or the board has no room.
-    Along,
-    /// Once, when the hosts are done.
-    Last,
-}
-
-/// What each of so many hosts does: it rests, and then come its writes and its reads, over the first lines. A saver goes on beside
-/// them, where one is wanted. Mains are lost at the write of a number, where one is given; the module is armed then.
-#[derive(Clone, Copy)]
-pub(crate) struct Plan {
-    pub hosts: usize,
-    pub rest: Duration,
-    pub writes: u64,
-    pub reads: u64,
-    pub lines: u64,
-    pub saves: bool,
-    pub lost_at: Option<u64>,
-    pub cuts: Cuts,
-}
-
-/// What a crowd came to: the module with its record, how many receipts and answers were checked, how many were past, and how long
-/// the hosts and the last cut took in nanoseconds.
+/// What a crowd came to: the device and the record of the module's writes, how many it accepted, how many receipts and answers
+/// were checked, how many were past, and how long the hosts and the last cut took in nanoseconds.
 #[derive(Drop)]
-pub(crate) struct Outcome<K: ChannelPort, D> {
-    pub recorded: RecordedModule<K, D, Meter>,
+pub(crate) struct Outcome<D> {
+    pub device: D,
+    pub history: History,
+    pub accepted: u64,
     pub checked: u64,
     pub past: u64,
     pub nanos: u128,
@@ -70,163 +43,12 @@ pub(crate) enum Wrong {
     Stranger,
 }
 
-/// The receipts that a host holds, and what its cuts told of those before.
-#[derive(Drop)]
-struct Kept {
-    receipts: Vec<Receipt>,
-    checked: u64,
-    past: u64,
-}
-
-/// What one host was told.
-#[derive(Drop)]
-struct Told<B: BoardName> {
-    host: Host<B>,
-    kept: Kept,
-    answers: Vec<Seen>,
-}
-
 /// What all hosts were told.
 #[derive(Drop)]
 struct Gathered<B: BoardName> {
     hosts: Vec<Host<B>>,
     kept: Kept,
     answers: Vec<Seen>,
-}
-
-impl Plan {
-    // The line of a host's next call.
-    fn line(&self, count: u64) -> u64 {
-        let mixed = count.wrapping_mul(0x9E37_79B9_7F4A_7C15) >> 32;
-        mixed.checked_rem(self.lines).unwrap_or(0)
-    }
-
-    // A host's next write.
-    fn write(&self, count: u64, turn: u64) -> Write {
-        Write {
-            line: self.line(count),
-            data: [(turn % 256) as u8; 64],
-        }
-    }
-}
-
-// Cuts the history, where the plan is so. The receipts are let go that were checked or are past.
-fn cut_off<K, D, B, N, R>(rt: &R, board: &Board<K, D, Meter, B, N>, kept: &mut Kept, plan: &Plan)
-where
-    K: ChannelPort,
-    D: SaveDevice,
-    B: BoardName,
-    N: Notices,
-    R: Wait,
-{
-    if plan.cuts == Cuts::Along
-        && let Ok(cut) = board.cut(rt, kept.receipts.as_slice(), &[])
-    {
-        kept.checked = kept.checked.saturating_add(cut.checked);
-        kept.past = kept.past.saturating_add(cut.past);
-        kept.receipts.clear();
-    }
-}
-
-// The writes of a host. One that finds its channel or the board full is made again; a loss of mains ends them.
-fn write_all<K, D, B, N, R>(
-    rt: &R,
-    alloc: Global,
-    board: &Board<K, D, Meter, B, N>,
-    host: &mut Host<B>,
-    plan: &Plan,
-) -> Result<Kept, AllocError>
-where
-    K: ChannelPort + Send,
-    D: SaveDevice,
-    B: BoardName,
-    N: Notices,
-    R: Threads + Wait + Sync,
-{
-    let mut kept = Kept {
-        receipts: Vec::new(alloc),
-        checked: 0,
-        past: 0,
-    };
-    let mut made: u64 = 0;
-    for turn in 0..TRIES {
-        if made == plan.writes {
-            break;
-        }
-        match host.write(rt, board, plan.write(made, turn)) {
-            Ok(receipt) => {
-                made = made.saturating_add(1);
-                kept.receipts.push(receipt)?;
-                if plan.lost_at == Some(receipt.number) {
-                    board.power_loss(rt, &Always);
-                }
-                if kept.receipts.len() >= HELD {
-                    cut_off(rt, board, &mut kept, plan);
-                }
-            }
-            Err(WriteRefusal::Full) => thread::yield_now(),
-            Err(WriteRefusal::TrailFull) => {
-                cut_off(rt, board, &mut kept, plan);
-                thread::yield_now();
-            }
-            Err(_) => break,
-        }
-    }
-    Ok(kept)
-}
-
-// The reads of a host.
-fn read_all<K, D, B, N, R>(
-    rt: &R,
-    alloc: Global,
-    board: &Board<K, D, Meter, B, N>,
-    host: &mut Host<B>,
-    plan: &Plan,
-) -> Result<Vec<Seen>, AllocError>
-where
-    K: ChannelPort,
-    D: SaveDevice,
-    B: BoardName,
-    N: Notices,
-    R: Wait,
-{
-    let mut answers = Vec::new(alloc);
-    for _ in 0..TRIES {
-        if answers.len() as u64 == plan.reads {
-            break;
-        }
-        match host.read(rt, board, plan.line(answers.len() as u64)) {
-            Ok(seen) => answers.push(seen)?,
-            Err(ReadRefusal::Full) => thread::yield_now(),
-            Err(_) => break,
-        }
-    }
-    Ok(answers)
-}
-
-// All that a host does.
-fn busy<K, D, B, N, R>(
-    rt: &R,
-    alloc: Global,
-    board: &Board<K, D, Meter, B, N>,
-    mut host: Host<B>,
-    plan: &Plan,
-) -> Result<Told<B>, AllocError>
-where
-    K: ChannelPort + Send,
-    D: SaveDevice,
-    B: BoardName,
-    N: Notices,
-    R: Threads + Wait + Clock + Sync,
-{
-    thread::sleep(rt, plan.rest);
-    let kept = write_all(rt, alloc, board, &mut host, plan)?;
-    let answers = read_all(rt, alloc, board, &mut host, plan)?;
-    Ok(Told {
-        host,
-        kept,
-        answers,
-    })
 }
 
 // The hosts at once, with the workers beside them.
@@ -239,9 +61,9 @@ fn run<K, D, B, N, R>(
     plan: &Plan,
 ) -> Result<Vec<Result<Told<B>, AllocError>>, AllocError>
 where
-    K: ChannelPort + Send,
-    D: SaveDevice + Send,
-    B: BoardName + Send + Sync,
+    K: ChannelPort + Drop + Send,
+    D: SaveDevice + Drop + Send,
+    B: BoardName + PartsName + Send + Sync,
     N: Notices + Send,
     R: Threads + Wait + Clock + Sync,
     requires { channels ≡ B.channels }
@@ -270,9 +92,9 @@ fn host_all<K, D, B, N, R>(
     plan: &Plan,
 ) -> Result<Vec<Result<Told<B>, AllocError>>, AllocError>
 where
-    K: ChannelPort + Send,
-    D: SaveDevice + Send,
-    B: BoardName + Send + Sync,
+    K: ChannelPort + Drop + Send,
+    D: SaveDevice + Drop + Send,
+    B: BoardName + PartsName + Send + Sync,
     N: Notices + Send,
     R: Threads + Wait + Clock + Sync,
 {
@@ -294,9 +116,9 @@ fn work_one<K, D, B, N, R>(
     gate: &UntilDone,
 ) -> Ended
 where
-    K: ChannelPort,
-    D: SaveDevice,
-    B: BoardName,
+    K: ChannelPort + Drop,
+    D: SaveDevice + Drop,
+    B: BoardName + PartsName,
     N: Notices,
     R: Wait + Clock,
     requires { channels ≡ B.channels }
@@ -318,9 +140,9 @@ fn work_all<K, D, B, N, R>(
     plan: &Plan,
 ) -> Result<Vec<Ended>, AllocError>
 where
-    K: ChannelPort + Send,
-    D: SaveDevice + Send,
-    B: BoardName + Send + Sync,
+    K: ChannelPort + Drop + Send,
+    D: SaveDevice + Drop + Send,
+    B: BoardName + PartsName + Send + Sync,
     N: Notices + Send,
     R: Threads + Wait + Clock + Sync,
     requires { channels ≡ B.channels }
@@ -371,9 +193,9 @@ fn cut_last<K, D, B, N, R>(
     plan: &Plan,
 ) -> anyhow::Result<u128>
 where
-    K: ChannelPort,
-    D: SaveDevice,
-    B: BoardName,
+    K: ChannelPort + Drop,
+    D: SaveDevice + Drop,
+    B: BoardName + PartsName,
     N: Notices,
     R: Wait + Clock,
 {
@@ -388,27 +210,25 @@ where
 }
 
 /// A crowd on the board of a module, up to its end: each receipt and each answer was checked.
-pub(crate) fn crowd<K, D, B, R>(
+pub(crate) fn crowd<K, D, B, N, R>(
     rt: &R,
     alloc: Global,
     ready: Ready<K, D, Meter>,
+    notices: N,
     plan: &Plan,
-) -> anyhow::Result<Outcome<K, D>>
+) -> anyhow::Result<Outcome<D>>
 where
     K: ChannelPort + Drop + Send,
     D: SaveDevice + Drop + Send,
-    B: BoardName + Send + Sync,
+    B: BoardName + PartsName + Send + Sync,
+    N: Notices + Drop + Send,
     R: Threads + Wait + Clock + Sync,
-    requires name { ready.tables.opening.name ≡ B.name }
-    requires parts { ready.tables.opening.parts ≡ B.parts }
+    requires named { IsNamed K.ChannelPort B.Ledger B.BoardName.own B.PartsName.own
+        ready.tables ready.recorded }
     requires hosts { B.parts ≡ plan.now.hosts }
-    requires board { ready.tables.opening.board ≡ B.board }
-    requires before { length ready.recorded.history.writes ≡ B.before }
-    requires channels { ready.channels ≡ B.channels }
 {
     let channels = ready.channels;
-    let book = NoticeBook::with_room(alloc, 1)?;
-    let Ok(Started { board, hosts }) = ready.board::<B, NoticeBook>(alloc, book) else {
+    let Ok(Started { board, hosts }) = ready.board::<B, N>(alloc, notices) else {
         return Err(AllocError.into());
     };
     if plan.lost_at.is_some() {
@@ -430,13 +250,20 @@ where
     match close(board, hosts, kept.receipts.as_slice(), answers.as_slice()) {
         Ok(
             Closed {
-                recorded,
+                recorded: RecordedModule {
+                    running,
+                    device,
+                    history,
+                    ..
+                },
                 checked,
                 past,
                 ..
             },
         ) => Ok(Outcome {
-            recorded,
+            device,
+            history,
+            accepted: running.accepted(),
             checked: kept.checked.saturating_add(checked),
             past: kept.past.saturating_add(past),
             nanos,

@@ -1,11 +1,13 @@
 // Lives of a board over a map.
 ghost use Rattle.std.specs.Prelude.{◌≡◌};
 
-use crate::crowd::{Plan, crowd};
+use crate::crowd::crowd;
+use crate::plans::Plan;
 use ddr4_boards::{formatted, open};
 use energy_budget::Meter;
 use interleave_map::line_map::LineMap;
 use line_memory::History;
+use notice_book::NoticeBook;
 use nv_profile::Profile;
 use std::alloc::Global;
 use std::marker::Brand;
@@ -72,14 +74,14 @@ where
     let ready = open(alloc, map, profile, device, meter, plan.hosts).map_err(
         |refused| refused.why,
     )?;
-    let outcome = crowd::<_, _, Brand, R>(rt, alloc, ready, plan)?;
-    let earlier = outcome.recorded;
+    let book = NoticeBook::with_room(alloc, 1)?;
+    let earlier = crowd::<_, _, Brand, NoticeBook, R>(rt, alloc, ready, book, plan)?;
     let mut lived = Lived {
-        accepted: earlier.running.accepted(),
-        checked: outcome.checked,
-        past: outcome.past,
-        nanos: outcome.nanos,
-        cut_nanos: outcome.cut_nanos,
+        accepted: earlier.accepted,
+        checked: earlier.checked,
+        past: earlier.past,
+        nanos: earlier.nanos,
+        cut_nanos: earlier.cut_nanos,
         back: None,
     };
     if plan.saves || plan.lost_at.is_some() {

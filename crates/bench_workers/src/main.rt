@@ -21,11 +21,13 @@ ghost use Rattle.nv_profile.specs.Limits.{AreSizes};
 
 mod crowd;
 mod gate;
+mod hosting;
 mod life;
+mod plans;
 mod processor;
 
-use crate::crowd::{Cuts, Plan};
 use crate::life::{Back, Lived, life_over};
+use crate::plans::{Cuts, Plan};
 use crate::processor::{held_millis, peak_kib};
 use ddr4_timing::profiles::{SMALL, TINY, WIDEST};
 use ddr4_timing::timing::Checked;

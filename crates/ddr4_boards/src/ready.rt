@@ -9,9 +9,9 @@ use channel_locks::PartsName;
 use channel_port::ChannelPort;
 use energy_budget::Energy;
 use notice_book::Notices;
-use nv_workers::{BoardName, NotStarted, RecordedModule, Started, start};
+use nv_workers::{BoardName, NotStarted, RecordedModule};
 use save_device::SaveDevice;
-use split_board::BoardTables;
+use split_board::{BoardTables, Started, start};
 use std::alloc::Global;
 
 /// A module that has just begun, with its record, and the tables of its board. Contracts see both, and how many channels the
@@ -31,42 +31,13 @@ pub struct Ready<K: ChannelPort, D: SaveDevice, E: Energy> {
 }
 
 impl<K: ChannelPort + Drop, D: SaveDevice + Drop, E: Energy + Drop> Ready<K, D, E> {
-    /// The board with a book of notices, and its hosts. It refuses only where there is no memory for the hosts, and then gives
-    /// module and book back.
-    pub fn board<B: BoardName, N: Notices + Drop>(
+    /// The board with a lock for each channel, with a book of notices, and its hosts. It refuses only where there is no memory for
+    /// it, and then gives module and book back.
+    pub fn board<B: BoardName + PartsName, N: Notices + Drop>(
         self,
         alloc: Global,
         notices: N,
     ) -> Result<Started<K, D, E, B, N>, NotStarted<K, D, E, N>>
-        requires name { self.tables.opening.name ≡ B.name }
-        requires parts { self.tables.opening.parts ≡ B.parts }
-        requires board { self.tables.opening.board ≡ B.board }
-        requires before { length self.recorded.history.writes ≡ B.before }
-        requires channels { self.channels ≡ B.channels }
-        ensures number { IfOk result (λ s. vec_len s.hosts ≡ B.parts) }
-        ensures hosts { IfOk result (λ s.
-            All (λ h. h ≡ client self.tables.opening.mark self.tables.opening.mark 0 []) s.hosts.items) }
-    {
-        let Ready {
-            tables,
-            recorded,
-            channels: _,
-        } = self;
-        let BoardTables {
-            opening,
-            logs: _,
-            known: _,
-        } = tables;
-        start::<K, D, E, B, N>(alloc, opening, recorded, notices)
-    }
-
-    /// The board with a lock for each channel, with a book of notices, and its hosts. It refuses only where there is no memory for
-    /// it, and then gives module and book back.
-    pub fn split<B: BoardName + PartsName, N: Notices + Drop>(
-        self,
-        alloc: Global,
-        notices: N,
-    ) -> Result<split_board::Started<K, D, E, B, N>, NotStarted<K, D, E, N>>
         requires named { IsNamed K.ChannelPort B.Ledger B.BoardName.own B.PartsName.own
             self.tables self.recorded }
         ensures number { IfOk result (λ s. vec_len s.hosts ≡ B.parts) }
@@ -78,6 +49,6 @@ impl<K: ChannelPort + Drop, D: SaveDevice + Drop, E: Energy + Drop> Ready<K, D, 
             recorded,
             channels: _,
         } = self;
-        split_board::start::<K, D, E, B, N>(alloc, tables, recorded, notices)
+        start::<K, D, E, B, N>(alloc, tables, recorded, notices)
     }
 }

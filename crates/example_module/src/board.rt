@@ -1,8 +1,10 @@
 // A board that two hosts share, each in a thread of its own.
-ghost use Rattle.std.specs.Prelude.{◌≡◌, length};
+ghost use Rattle.std.specs.Prelude.{◌≡◌};
+ghost use Rattle.ddr4_boards.specs.Naming.{IsNamed};
 
 use crate::module::AMPLE;
 use arm_state::{ArmRefusal, ArmReply, Loss};
+use channel_locks::PartsName;
 use channel_port::ChannelPort;
 use ddr4_boards::{Ready, formatted, open};
 use energy_budget::Meter;
@@ -10,8 +12,9 @@ use interleave_map::ReadyMap;
 use line_memory::Write;
 use notice_book::{NoticeBook, Notices};
 use nv_profile::Profile;
-use nv_workers::{Always, Board, BoardName, Host, Receipt, Started, close};
+use nv_workers::{Always, BoardName, Host, Receipt};
 use save_device::{MemoryDevice, SaveDevice};
+use split_board::{Board, Started, close};
 use std::alloc::{AllocError, Global};
 use std::marker::Brand;
 use std::sync::Wait;
@@ -55,16 +58,16 @@ fn write_four<K, D, B, N, R>(
     mut host: Host<B>,
 ) -> Result<Told<B>, AllocError>
 where
-    K: ChannelPort,
-    D: SaveDevice,
-    B: BoardName,
+    K: ChannelPort + Drop,
+    D: SaveDevice + Drop,
+    B: BoardName + PartsName,
     N: Notices,
     R: Wait,
 {
     let mut receipts = Vec::new(alloc);
     for line in 0..4 {
         let data = [line as u8; 64];
-        if let Ok(receipt) = host.write(rt, board, Write { line, data }) {
+        if let Ok(receipt) = board.write(rt, &mut host, Write { line, data }) {
             receipts.push(receipt)?;
         }
     }
@@ -79,9 +82,9 @@ fn write_at_once<K, D, B, N, R>(
     hosts: Vec<Host<B>>,
 ) -> Result<Vec<Result<Told<B>, AllocError>>, AllocError>
 where
-    K: ChannelPort + Send,
-    D: SaveDevice + Send,
-    B: BoardName + Send + Sync,
+    K: ChannelPort + Drop + Send,
+    D: SaveDevice + Drop + Send,
+    B: BoardName + PartsName + Send + Sync,
     N: Notices + Send,
     R: Threads + Wait + Sync,
 {
@@ -116,24 +119,22 @@ fn gather<B: BoardName>(
 
 // The hosts write at once to an armed board, which then loses its mains. A cut looks for each receipt in the history of the life,
 // and then takes off what the image of the loss holds. So the board's end has no receipt left to look for.
-fn share<K, B, R>(
+fn share<K, B, N, R>(
     rt: &R,
     alloc: Global,
     ready: Ready<K, MemoryDevice, Meter>,
+    notices: N,
 ) -> anyhow::Result<Shared>
 where
     K: ChannelPort + Drop + Send,
-    B: BoardName + Send + Sync,
+    B: BoardName + PartsName + Send + Sync,
+    N: Notices + Drop + Send,
     R: Threads + Wait + Sync,
-    requires name { ready.tables.opening.name ≡ B.name }
-    requires parts { ready.tables.opening.parts ≡ B.parts }
+    requires named { IsNamed K.ChannelPort B.Ledger B.BoardName.own B.PartsName.own
+        ready.tables ready.recorded }
     requires hosts { B.parts ≡ HOSTS }
-    requires board { ready.tables.opening.board ≡ B.board }
-    requires before { length ready.recorded.history.writes ≡ B.before }
-    requires channels { ready.channels ≡ B.channels }
 {
-    let book = NoticeBook::with_room(alloc, 1)?;
-    let Ok(Started { board, hosts }) = ready.board::<B, NoticeBook>(alloc, book) else {
+    let Ok(Started { board, hosts }) = ready.board::<B, N>(alloc, notices) else {
         return Err(AllocError.into());
     };
     let armed = board.arm(rt);
@@ -168,5 +169,6 @@ pub(crate) fn share_a_board<R: Threads + Wait + Sync>(
     let device = formatted(alloc, profile)?;
     let meter = Meter::with(AMPLE, 1);
     let ready = open(alloc, map, profile, device, meter, HOSTS).map_err(|refused| refused.why)?;
-    share::<_, Brand, R>(rt, alloc, ready)
+    let book = NoticeBook::with_room(alloc, 1)?;
+    share::<_, Brand, NoticeBook, R>(rt, alloc, ready, book)
 }

@@ -6,16 +6,15 @@ use crate::check::same;
 use crate::ends::{cut_of, ends, is_strange};
 use crate::gates::{EachTurn, Turns};
 use arm_state::{ArmRefusal, ArmReply, DisarmReply, Loss, ReadRefusal, WriteRefusal};
+use channel_locks::PartsName;
 use channel_port::ChannelPort;
 use energy_budget::Energy;
 use notice_book::{Called, Notices, Persisted};
 use nv_machine::StepReply;
-use nv_workers::{
-    Always, Behind, Board, BoardName, Ended, Host, NotClosed, Receipt, Seen, Stranger, Turn,
-    channel_worker, saver_worker,
-};
+use nv_workers::{Always, Behind, BoardName, Ended, Host, Receipt, Seen, Stranger, Turn};
 use save_device::SaveDevice;
 use slot_store::Step;
+use split_board::{Board, NotClosed, channel_worker, saver_worker};
 use std::alloc::Global;
 use std::process::Abort;
 use std::sync::Wait;
@@ -34,10 +33,10 @@ pub(crate) fn first_receipt(line: u64) -> Receipt {
 /// So many turns of the saver, and how it ended.
 pub(crate) fn saved<K, D, E, B, N, R>(rt: &R, board: &Board<K, D, E, B, N>, most: u64) -> Ended
 where
-    K: ChannelPort,
-    D: SaveDevice,
-    E: Energy,
-    B: BoardName,
+    K: ChannelPort + Drop,
+    D: SaveDevice + Drop,
+    E: Energy + Drop,
+    B: BoardName + PartsName,
     N: Notices,
     R: Wait + Clock,
     requires { CHANNELS ≡ B.channels }
@@ -49,10 +48,10 @@ where
 /// So many turns of channel 0, and how its worker ended.
 pub(crate) fn worked<K, D, E, B, N, R>(rt: &R, board: &Board<K, D, E, B, N>, most: u64) -> Ended
 where
-    K: ChannelPort,
-    D: SaveDevice,
-    E: Energy,
-    B: BoardName,
+    K: ChannelPort + Drop,
+    D: SaveDevice + Drop,
+    E: Energy + Drop,
+    B: BoardName + PartsName,
     N: Notices,
     R: Wait + Clock,
     requires { CHANNELS ≡ B.channels }
@@ -68,10 +67,10 @@ fn told<K, D, E, B, N, R>(
     host: &mut Host<B>,
 ) -> Option<Called>
 where
-    K: ChannelPort,
-    D: SaveDevice,
-    E: Energy,
-    B: BoardName,
+    K: ChannelPort + Drop,
+    D: SaveDevice + Drop,
+    E: Energy + Drop,
+    B: BoardName + PartsName,
     N: Notices,
     R: Wait,
 {
@@ -89,10 +88,10 @@ pub(crate) fn write_disarmed<K, D, E, B, N, R>(
     notice: N::Notice,
 )
 where
-    K: ChannelPort,
-    D: SaveDevice,
-    E: Energy,
-    B: BoardName,
+    K: ChannelPort + Drop,
+    D: SaveDevice + Drop,
+    E: Energy + Drop,
+    B: BoardName + PartsName,
     N: Notices,
     N::Notice: Drop,
     R: Wait + Clock + Abort,
@@ -100,17 +99,17 @@ where
     requires notice { (number : ℕ) → N.is_callable number notice }
 {
     let receipt = first_receipt(0);
-    same(rt, first.write(rt, board, write_of(0, 11)), Ok(receipt));
+    same(rt, board.write(rt, first, write_of(0, 11)), Ok(receipt));
     let data = [11; 64];
     let seen = Seen {
         line: 0,
         data,
         at: 1,
     };
-    same(rt, second.read(rt, board, 0), Ok(seen));
+    same(rt, board.read(rt, second, 0), Ok(seen));
     let behind = Err(Behind { seen: 0, found: 0 });
     same(rt, first.check(&receipt), behind);
-    same(rt, first.notify(rt, board, &receipt, notice).is_ok(), true);
+    same(rt, board.notify(rt, &receipt, notice).is_ok(), true);
     same(rt, told(rt, alloc, board, first), None);
     let turns = (worked(rt, board, 2), saved(rt, board, 8));
     same(rt, turns, (Ended::Stopped, Ended::Stopped));
@@ -132,16 +131,16 @@ where
 /// Arms: a write is persistent at once, and a loss of mains saves it; from then on nothing is taken.
 pub(crate) fn lose_armed<K, D, E, B, N, R>(rt: &R, board: &Board<K, D, E, B, N>, host: &mut Host<B>)
 where
-    K: ChannelPort + Send,
-    D: SaveDevice,
-    E: Energy,
-    B: BoardName,
+    K: ChannelPort + Drop + Send,
+    D: SaveDevice + Drop,
+    E: Energy + Drop,
+    B: BoardName + PartsName + Send,
     N: Notices,
     R: Threads + Wait + Abort + Sync,
 {
     same(rt, board.arm(rt), Ok(ArmReply::Armed));
     let receipt = first_receipt(0);
-    same(rt, host.write(rt, board, write_of(0, 11)), Ok(receipt));
+    same(rt, board.write(rt, host, write_of(0, 11)), Ok(receipt));
     same(rt, host.mark(), 1);
     same(
         rt,
@@ -154,8 +153,8 @@ where
     };
     same(rt, board.power_loss(rt, &Always), saved);
     let closed = WriteRefusal::Closed;
-    same(rt, host.write(rt, board, write_of(0, 22)), Err(closed));
-    same(rt, host.read(rt, board, 0), Err(ReadRefusal::Closed));
+    same(rt, board.write(rt, host, write_of(0, 22)), Err(closed));
+    same(rt, board.read(rt, host, 0), Err(ReadRefusal::Closed));
     same(
         rt,
         (host.mark(), board.power_loss(rt, &Always)),
@@ -170,10 +169,10 @@ pub(crate) fn save_by_hand<K, D, E, B, N, R>(
     host: &mut Host<B>,
 )
 where
-    K: ChannelPort,
-    D: SaveDevice,
-    E: Energy,
-    B: BoardName,
+    K: ChannelPort + Drop,
+    D: SaveDevice + Drop,
+    E: Energy + Drop,
+    B: BoardName + PartsName,
     N: Notices,
     R: Wait + Clock + Abort,
     requires { CHANNELS ≡ B.channels }
@@ -192,12 +191,12 @@ where
     same(rt, board.arm(rt), Ok(ArmReply::Armed));
     same(
         rt,
-        host.write(rt, board, write_of(0, 11)),
+        board.write(rt, host, write_of(0, 11)),
         Ok(first_receipt(0)),
     );
     same(rt, board.disarm(rt), Ok(DisarmReply::Disarming));
     let disarming = Err(WriteRefusal::Disarming);
-    same(rt, host.write(rt, board, write_of(1, 44)), disarming);
+    same(rt, board.write(rt, host, write_of(1, 44)), disarming);
     let turns = (worked(rt, board, 2), saved(rt, board, 8));
     same(rt, turns, (Ended::Stopped, Ended::Stopped));
     same(rt, board.disarm(rt), Ok(DisarmReply::AlreadyDisarmed));
@@ -211,16 +210,16 @@ pub(crate) fn work_by_turns<K, D, E, B, N, R>(
     host: &mut Host<B>,
 )
 where
-    K: ChannelPort,
-    D: SaveDevice,
-    E: Energy,
-    B: BoardName,
+    K: ChannelPort + Drop,
+    D: SaveDevice + Drop,
+    E: Energy + Drop,
+    B: BoardName + PartsName,
     N: Notices,
     R: Wait + Clock + Abort,
     requires { CHANNELS ≡ B.channels }
 {
     let receipt = first_receipt(0);
-    same(rt, host.write(rt, board, write_of(0, 11)), Ok(receipt));
+    same(rt, board.write(rt, host, write_of(0, 11)), Ok(receipt));
     same(rt, saved(rt, board, 4), Ended::Stopped);
     for _ in 0..2 {
         same(rt, board.save_step(rt), StepReply::Waiting);
@@ -237,19 +236,19 @@ pub(crate) fn end_workers<K, D, E, B, N, R>(
     host: &mut Host<B>,
 )
 where
-    K: ChannelPort + Send,
-    D: SaveDevice,
-    E: Energy,
-    B: BoardName,
+    K: ChannelPort + Drop + Send,
+    D: SaveDevice + Drop,
+    E: Energy + Drop,
+    B: BoardName + PartsName + Send,
     N: Notices,
     R: Threads + Wait + Clock + Abort + Sync,
     requires { CHANNELS ≡ B.channels }
 {
     let nowhere = WriteRefusal::NoSuchLine;
-    same(rt, host.write(rt, board, write_of(128, 5)), Err(nowhere));
-    same(rt, host.read(rt, board, 128), Err(ReadRefusal::NoSuchLine));
+    same(rt, board.write(rt, host, write_of(128, 5)), Err(nowhere));
+    same(rt, board.read(rt, host, 128), Err(ReadRefusal::NoSuchLine));
     let receipt = first_receipt(0);
-    same(rt, host.write(rt, board, write_of(0, 11)), Ok(receipt));
+    same(rt, board.write(rt, host, write_of(0, 11)), Ok(receipt));
     let stopped = (Ended::Stopped, Ended::Stopped);
     same(rt, (worked(rt, board, 0), saved(rt, board, 0)), stopped);
     let (goes, holds) = (EachTurn::new(Turn::Go, 100), EachTurn::new(Turn::Hold, 100));
@@ -276,7 +275,7 @@ where
     K: ChannelPort + Drop,
     D: SaveDevice + Drop,
     E: Energy + Drop,
-    B: BoardName,
+    B: BoardName + PartsName,
     N: Notices + Drop,
     R: Abort,
     requires { length hosts.items ≡ B.parts }
@@ -317,16 +316,16 @@ pub(crate) fn write_armed<K, D, E, B, N, R>(
     host: &mut Host<B>,
 )
 where
-    K: ChannelPort,
-    D: SaveDevice,
-    E: Energy,
-    B: BoardName,
+    K: ChannelPort + Drop,
+    D: SaveDevice + Drop,
+    E: Energy + Drop,
+    B: BoardName + PartsName,
     N: Notices,
     R: Wait + Abort,
 {
     same(rt, board.arm(rt), Ok(ArmReply::Armed));
     let receipt = first_receipt(0);
-    same(rt, host.write(rt, board, write_of(0, 11)), Ok(receipt));
+    same(rt, board.write(rt, host, write_of(0, 11)), Ok(receipt));
 }
 
 /// Ends an armed board whose one write is that of line 0. A stranger leaves it armed, and a loss of mains saves the write.
@@ -335,7 +334,7 @@ where
     K: ChannelPort + Drop + Send,
     D: SaveDevice + Drop,
     E: Energy + Drop,
-    B: BoardName,
+    B: BoardName + PartsName + Send,
     N: Notices + Drop,
     R: Threads + Wait + Abort + Sync,
     requires { length hosts.items ≡ B.parts }

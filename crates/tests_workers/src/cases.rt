@@ -1,5 +1,6 @@
 // The cases, each on a board over the channels of the small profile, from a formatted device on.
-ghost use Rattle.std.specs.Prelude.{◌≡◌, length};
+ghost use Rattle.std.specs.Prelude.{◌≡◌, ℕ};
+ghost use Rattle.ddr4_boards.specs.Naming.{IsNamed};
 
 use crate::alone::{
     end_armed, end_with_strangers, end_workers, lose_armed, save_by_hand, work_by_turns,
@@ -10,15 +11,17 @@ use crate::cuts::{
 };
 use crate::silent::Silent;
 use crate::together::{lose_threads, read_beside_held, work_apart};
+use channel_locks::PartsName;
 use channel_port::ChannelPort;
 use ddr4_boards::{Ready, formatted, open};
 use energy_budget::{Energy, Meter};
 use interleave_map::{Interleaving, ReadyMap};
 use line_memory::Write;
-use notice_book::{Notice, NoticeBook, Persisted};
+use notice_book::{Notice, NoticeBook, Notices, Persisted};
 use nv_profile::{ModuleSizes, Profile, TINY, read_profile};
-use nv_workers::{BoardName, Started};
+use nv_workers::BoardName;
 use save_device::SaveDevice;
+use split_board::Started;
 use std::alloc::Global;
 use std::marker::Brand;
 use std::process::Abort;
@@ -28,6 +31,9 @@ use std::time::Clock;
 
 /// The channels of the small profile.
 pub(crate) const CHANNELS: u64 = 2;
+
+/// The lines of the small profile.
+pub(crate) const LINES: u64 = 128;
 
 /// More energy than any save takes, in units.
 pub(crate) const AMPLE: u64 = 1 << 62;
@@ -58,29 +64,34 @@ pub(crate) fn write_of(line: u64, byte: u8) -> Write {
 }
 
 // Tries a case of one thread.
-fn try_alone<K, D, E, B, R>(rt: &R, alloc: Global, ready: Ready<K, D, E>, case: Case)
+fn try_alone<K, D, E, B, N, R>(
+    rt: &R,
+    alloc: Global,
+    ready: Ready<K, D, E>,
+    notices: N,
+    notice: N::Notice,
+    case: Case,
+)
 where
     K: ChannelPort + Drop + Send,
     D: SaveDevice + Drop,
     E: Energy + Drop,
-    B: BoardName,
+    B: BoardName + PartsName + Send,
+    N: Notices + Drop,
+    N::Notice: Drop,
     R: Threads + Wait + Clock + Abort + Sync,
-    requires name { ready.tables.opening.name ≡ B.name }
-    requires parts { ready.tables.opening.parts ≡ B.parts }
-    requires board { ready.tables.opening.board ≡ B.board }
-    requires before { length ready.recorded.history.writes ≡ B.before }
-    requires number { ready.channels ≡ B.channels }
+    requires notice { (number : ℕ) → N.is_callable number notice }
+    requires named { IsNamed K.ChannelPort B.Ledger B.BoardName.own B.PartsName.own
+        ready.tables ready.recorded }
     requires channels { CHANNELS ≡ B.channels }
     requires hosts { B.parts ≡ 12 }
 {
-    let book = NoticeBook::with_room(alloc, 2).expect(rt, "memory");
-    let Ok(Started { board, mut hosts }) = ready.board::<B, NoticeBook>(alloc, book) else {
+    let Ok(Started { board, mut hosts }) = ready.board::<B, N>(alloc, notices) else {
         panic!(*rt; "memory");
     };
     let (first, rest) = hosts.as_mut_slice().split_at_mut(1);
     match case {
         Case::Disarmed => {
-            let notice: Notice = Box::new(alloc, |told: Persisted| told.mark).expect(rt, "memory");
             write_disarmed(rt, alloc, &board, &mut first[0], &mut rest[0], notice);
         }
         Case::Armed => lose_armed(rt, &board, &mut first[0]),
@@ -106,13 +117,10 @@ where
     K: ChannelPort + Drop + Send,
     D: SaveDevice + Drop + Send,
     E: Energy + Drop + Send,
-    B: BoardName + Send + Sync,
+    B: BoardName + PartsName + Send + Sync,
     R: Threads + Wait + Clock + Abort + Copy + Send + Sync,
-    requires name { ready.tables.opening.name ≡ B.name }
-    requires parts { ready.tables.opening.parts ≡ B.parts }
-    requires board { ready.tables.opening.board ≡ B.board }
-    requires before { length ready.recorded.history.writes ≡ B.before }
-    requires number { ready.channels ≡ B.channels }
+    requires named { IsNamed K.ChannelPort B.Ledger B.BoardName.own B.PartsName.own
+        ready.tables ready.recorded }
     requires channels { CHANNELS ≡ B.channels }
     requires hosts { B.parts ≡ 12 }
 {
@@ -133,13 +141,10 @@ where
     K: ChannelPort + Drop + Send,
     D: SaveDevice + Drop + Send,
     E: Energy + Drop + Send,
-    B: BoardName + Send + Sync,
+    B: BoardName + PartsName + Send + Sync,
     R: Threads + Wait + Clock + Abort + Copy + Send + Sync,
-    requires name { ready.tables.opening.name ≡ B.name }
-    requires parts { ready.tables.opening.parts ≡ B.parts }
-    requires board { ready.tables.opening.board ≡ B.board }
-    requires before { length ready.recorded.history.writes ≡ B.before }
-    requires number { ready.channels ≡ B.channels }
+    requires named { IsNamed K.ChannelPort B.Ledger B.BoardName.own B.PartsName.own
+        ready.tables ready.recorded }
     requires hosts { B.parts ≡ 12 }
 {
     if ready.channels != CHANNELS {
@@ -148,7 +153,9 @@ where
     if matches!(case, Case::Apart | Case::Parted | Case::Held) {
         try_threads::<K, D, E, B, R>(rt, alloc, ready, case);
     } else {
-        try_alone::<K, D, E, B, R>(rt, alloc, ready, case);
+        let book = NoticeBook::with_room(alloc, 2).expect(rt, "memory");
+        let notice: Notice = Box::new(alloc, |told: Persisted| told.mark).expect(rt, "memory");
+        try_alone::<K, D, E, B, NoticeBook, R>(rt, alloc, ready, book, notice, case);
     }
 }
 

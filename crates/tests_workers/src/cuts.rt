@@ -6,13 +6,15 @@ use crate::cases::{CHANNELS, write_of};
 use crate::check::same;
 use crate::ends::{cut_of, ends};
 use arm_state::{ArmReply, DisarmReply, Loss, WriteRefusal};
+use channel_locks::PartsName;
 use channel_port::ChannelPort;
 use energy_budget::Energy;
 use notice_book::Notices;
 use nv_machine::StepReply;
-use nv_workers::{Always, Board, BoardName, Ended, Host, Receipt, Seen, Stranger};
+use nv_workers::{Always, BoardName, Ended, Host, Receipt, Seen, Stranger};
 use save_device::SaveDevice;
 use slot_store::Step;
+use split_board::Board;
 use std::process::Abort;
 use std::sync::Wait;
 use std::thread::Threads;
@@ -35,24 +37,24 @@ fn write_next<K, D, E, B, N, R>(
     number: u64,
 )
 where
-    K: ChannelPort,
-    D: SaveDevice,
-    E: Energy,
-    B: BoardName,
+    K: ChannelPort + Drop,
+    D: SaveDevice + Drop,
+    E: Energy + Drop,
+    B: BoardName + PartsName,
     N: Notices,
     R: Wait + Abort,
 {
     let write = write_of(0, (number % 256) as u8);
-    same(rt, host.write(rt, board, write), Ok(receipt_of(number)));
+    same(rt, board.write(rt, host, write), Ok(receipt_of(number)));
 }
 
 // Turns in which a save is begun and ends.
 fn save_all<K, D, E, B, N, R>(rt: &R, board: &Board<K, D, E, B, N>)
 where
-    K: ChannelPort,
-    D: SaveDevice,
-    E: Energy,
-    B: BoardName,
+    K: ChannelPort + Drop,
+    D: SaveDevice + Drop,
+    E: Energy + Drop,
+    B: BoardName + PartsName,
     N: Notices,
     R: Wait + Clock + Abort,
     requires { CHANNELS ≡ B.channels }
@@ -69,10 +71,10 @@ pub(crate) fn cut_behind_saves<K, D, E, B, N, R>(
     host: &mut Host<B>,
 )
 where
-    K: ChannelPort,
-    D: SaveDevice,
-    E: Energy,
-    B: BoardName,
+    K: ChannelPort + Drop,
+    D: SaveDevice + Drop,
+    E: Energy + Drop,
+    B: BoardName + PartsName,
     N: Notices,
     R: Wait + Clock + Abort,
     requires { CHANNELS ≡ B.channels }
@@ -82,9 +84,9 @@ where
         write_next(rt, board, host, first);
         write_next(rt, board, host, second);
         let full = Err(WriteRefusal::TrailFull);
-        same(rt, host.write(rt, board, write_of(0, 99)), full);
+        same(rt, board.write(rt, host, write_of(0, 99)), full);
         save_all(rt, board);
-        same(rt, host.write(rt, board, write_of(0, 99)), full);
+        same(rt, board.write(rt, host, write_of(0, 99)), full);
         let receipts = [receipt_of(first), receipt_of(second)];
         same(
             rt,
@@ -104,7 +106,7 @@ where
     K: ChannelPort + Drop,
     D: SaveDevice + Drop,
     E: Energy + Drop,
-    B: BoardName,
+    B: BoardName + PartsName,
     N: Notices + Drop,
     R: Wait + Abort,
     requires hosts { length hosts.items ≡ B.parts }
@@ -135,10 +137,10 @@ pub(crate) fn cut_in_each_mode<K, D, E, B, N, R>(
     host: &mut Host<B>,
 )
 where
-    K: ChannelPort,
-    D: SaveDevice,
-    E: Energy,
-    B: BoardName,
+    K: ChannelPort + Drop,
+    D: SaveDevice + Drop,
+    E: Energy + Drop,
+    B: BoardName + PartsName,
     N: Notices,
     R: Wait + Clock + Abort,
     requires { CHANNELS ≡ B.channels }
@@ -166,10 +168,10 @@ where
 // A loss of mains saves a further write, and that goes too.
 fn cut_behind_a_loss<K, D, E, B, N, R>(rt: &R, board: &Board<K, D, E, B, N>, host: &mut Host<B>)
 where
-    K: ChannelPort + Send,
-    D: SaveDevice,
-    E: Energy,
-    B: BoardName,
+    K: ChannelPort + Drop + Send,
+    D: SaveDevice + Drop,
+    E: Energy + Drop,
+    B: BoardName + PartsName + Send,
     N: Notices,
     R: Threads + Wait + Abort + Sync,
 {
@@ -199,17 +201,17 @@ pub(crate) fn cut_beside_strangers<K, D, E, B, N, R>(
     host: &mut Host<B>,
 )
 where
-    K: ChannelPort + Send,
-    D: SaveDevice,
-    E: Energy,
-    B: BoardName,
+    K: ChannelPort + Drop + Send,
+    D: SaveDevice + Drop,
+    E: Energy + Drop,
+    B: BoardName + PartsName + Send,
     N: Notices,
     R: Threads + Wait + Clock + Abort + Sync,
     requires { CHANNELS ≡ B.channels }
 {
     same(
         rt,
-        host.write(rt, board, write_of(0, 11)),
+        board.write(rt, host, write_of(0, 11)),
         Ok(first_receipt(0)),
     );
     save_all(rt, board);
@@ -245,7 +247,7 @@ where
     K: ChannelPort + Drop,
     D: SaveDevice + Drop,
     E: Energy + Drop,
-    B: BoardName,
+    B: BoardName + PartsName,
     N: Notices + Drop,
     R: Abort,
     requires { length hosts.items ≡ B.parts }

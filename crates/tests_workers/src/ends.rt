@@ -2,11 +2,13 @@
 ghost use Rattle.std.specs.Prelude.{◌≡◌, length};
 
 use crate::check::same;
+use channel_locks::PartsName;
 use channel_port::ChannelPort;
 use energy_budget::Energy;
 use notice_book::Notices;
-use nv_workers::{Board, BoardName, Cut, Host, NotClosed, Receipt, Seen, Stranger, close};
+use nv_workers::{BoardName, Cut, Host, Receipt, Seen, Stranger};
 use save_device::SaveDevice;
+use split_board::{Board, NotClosed, close};
 use std::process::Abort;
 
 /// What was told of receipts and answers.
@@ -31,7 +33,7 @@ where
     K: ChannelPort + Drop,
     D: SaveDevice + Drop,
     E: Energy + Drop,
-    B: BoardName,
+    B: BoardName + PartsName,
     N: Notices + Drop,
     R: Abort,
     requires { length hosts.items ≡ B.parts }
@@ -59,7 +61,7 @@ where
     K: ChannelPort + Drop,
     D: SaveDevice + Drop,
     E: Energy + Drop,
-    B: BoardName,
+    B: BoardName + PartsName,
     N: Notices + Drop,
     R: Abort,
     requires { length hosts.items ≡ B.parts }

@@ -113,3 +113,72 @@ impl Gate for NeverInside {
         if turn < LIMIT { Turn::Hold } else { Turn::Stop }
     }
 }
+
+/// Holds each worker that has its channel's lock until mains are about to be lost, and then for some questions more.
+#[derive(Drop)]
+pub struct HeldAmid<C: Clock> {
+    clock: C,
+    entered: AtomicU64,
+    begun: AtomicBool,
+    late: AtomicBool,
+}
+
+impl<C: Clock> HeldAmid<C> {
+    /// Before any question.
+    pub(crate) fn new(clock: C) -> HeldAmid<C> {
+        HeldAmid {
+            clock,
+            entered: AtomicU64::new(0),
+            begun: AtomicBool::new(false),
+            late: AtomicBool::new(false),
+        }
+    }
+
+    /// Mains are about to be lost: two workers have their channels' locks by then.
+    pub(crate) fn begin(&self) {
+        for _ in 0..LIMIT {
+            if self.entered.load(Ordering::SeqCst) >= 2 {
+                break;
+            }
+            thread::sleep(&self.clock, Duration::from_millis(1));
+        }
+        self.begun.store(true, Ordering::SeqCst);
+    }
+
+    /// Was a worker let go before?
+    pub(crate) fn is_late(&self) -> bool {
+        self.late.load(Ordering::SeqCst)
+    }
+}
+
+impl<C: Clock> Gate for HeldAmid<C> {
+    ghost use Rattle.std.specs.Prelude.{⊤};
+
+    // Any answer may come at any turn.
+    ghost says = { λ _ _ _ _. ⊤ };
+
+    ghost says_inside = { λ _ _ _ _. ⊤ };
+
+    fn pass(&self, _worker: u64, turn: u64) -> Turn {
+        if turn < LIMIT { Turn::Go } else { Turn::Stop }
+    }
+
+    fn inside(&self, _worker: u64, turn: u64) -> Turn {
+        if turn == 0 {
+            self.entered.fetch_add(1, Ordering::SeqCst);
+        }
+        if self.begun.load(Ordering::SeqCst) {
+            return if turn % 16 == 15 {
+                Turn::Go
+            } else {
+                Turn::Hold
+            };
+        }
+        if turn >= LIMIT {
+            self.late.store(true, Ordering::SeqCst);
+            return Turn::Go;
+        }
+        thread::sleep(&self.clock, Duration::from_millis(1));
+        Turn::Hold
+    }
+}

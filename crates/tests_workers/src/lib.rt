@@ -5,6 +5,8 @@
 #[cfg(test)]
 mod alone;
 #[cfg(test)]
+mod amid;
+#[cfg(test)]
 mod cases;
 #[cfg(test)]
 mod check;

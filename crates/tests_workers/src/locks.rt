@@ -3,6 +3,7 @@ ghost use Rattle.std.specs.Prelude.{◌≡◌};
 ghost use Rattle.ddr4_boards.specs.Naming.{IsNamed};
 
 use crate::alone::first_receipt;
+use crate::amid::lose_beside_held;
 use crate::cases::{AMPLE, CHANNELS, write_of};
 use crate::check::same;
 use crate::inside::{InsideUntil, LIMIT, NeverInside};
@@ -41,6 +42,7 @@ enum Case {
     Beside,
     Never,
     Crowded,
+    Lost,
 }
 
 /// What a host was told while another channel's lock was held.
@@ -55,9 +57,9 @@ struct Told {
 // A write, and a read that has to wait, on channel 1, while channel 0's lock is held.
 fn call_beside_held<K, D, E, B, N, R>(rt: &R, board: &Board<K, D, E, B, N>, mut host: Host<B>)
 where
-    K: ChannelPort + Send,
-    D: SaveDevice + Send,
-    E: Energy + Send,
+    K: ChannelPort + Drop + Send,
+    D: SaveDevice + Drop + Send,
+    E: Energy + Drop + Send,
     B: BoardName + PartsName + Send + Sync,
     N: Notices + Send,
     R: Threads + Wait + Clock + Abort + Copy + Send + Sync,
@@ -97,9 +99,9 @@ where
 // A worker ends whose gate never lets it go while it has the lock.
 fn hold_inside<K, D, E, B, N, R>(rt: &R, board: &Board<K, D, E, B, N>)
 where
-    K: ChannelPort,
-    D: SaveDevice,
-    E: Energy,
+    K: ChannelPort + Drop,
+    D: SaveDevice + Drop,
+    E: Energy + Drop,
     B: BoardName + PartsName,
     N: Notices,
     R: Wait + Clock + Abort,
@@ -118,9 +120,9 @@ fn write_even<K, D, E, B, N, R>(
     mut host: Host<B>,
 ) -> Result<Vec<Receipt>, AllocError>
 where
-    K: ChannelPort,
-    D: SaveDevice,
-    E: Energy,
+    K: ChannelPort + Drop,
+    D: SaveDevice + Drop,
+    E: Energy + Drop,
     B: BoardName + PartsName,
     N: Notices,
     R: Wait,
@@ -162,9 +164,9 @@ fn crowd_one_channel<K, D, E, B, N, R>(
     hosts: Vec<Host<B>>,
 )
 where
-    K: ChannelPort + Send,
-    D: SaveDevice + Send,
-    E: Energy + Send,
+    K: ChannelPort + Drop + Send,
+    D: SaveDevice + Drop + Send,
+    E: Energy + Drop + Send,
     B: BoardName + PartsName + Send + Sync,
     N: Notices + Send,
     R: Threads + Wait + Abort + Sync,
@@ -196,13 +198,14 @@ where
         ready.tables ready.recorded }
     requires channels { CHANNELS ≡ B.channels }
 {
-    let Ok(Started { board, mut hosts }) = ready.split::<B, Silent>(alloc, Silent) else {
+    let Ok(Started { board, mut hosts }) = ready.board::<B, Silent>(alloc, Silent) else {
         panic!(*rt; "memory");
     };
     match case {
         Case::Beside => call_beside_held(rt, &board, hosts.pop().expect(rt, "a host")),
         Case::Never => hold_inside(rt, &board),
         Case::Crowded => crowd_one_channel(rt, alloc, &board, hosts),
+        Case::Lost => lose_beside_held(rt, &board, &mut hosts.pop().expect(rt, "a host")),
     }
 }
 
@@ -258,4 +261,9 @@ fn a_worker_that_is_held_inside_ends(rt: HostRuntime) {
 #[test]
 fn hosts_crowd_one_channel(rt: HostRuntime) {
     try_locks(&rt, rt.alloc(), Case::Crowded);
+}
+
+#[test]
+fn a_loss_waits_for_workers_that_hold_their_channels(rt: HostRuntime) {
+    try_locks(&rt, rt.alloc(), Case::Lost);
 }

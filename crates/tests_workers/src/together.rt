@@ -1,23 +1,25 @@
 // Boards whose hosts and workers are threads.
 ghost use Rattle.std.specs.Prelude.{◌≡◌};
 
-use crate::cases::{CHANNELS, write_of};
+use crate::cases::{CHANNELS, LINES, write_of};
 use crate::check::same;
 use crate::gates::{HeldUntil, OtherFirst};
 use arm_state::{Loss, ReadRefusal};
+use channel_locks::PartsName;
 use channel_port::{ChannelPort, Got, Ticket};
 use energy_budget::Energy;
-use line_memory::Line;
 use notice_book::Notices;
-use nv_workers::{
-    Always, Board, BoardName, Ended, GotAt, Host, Seen, channel_worker, saver_worker,
-};
+use nv_workers::{Always, BoardName, Ended, GotAt, Host, Seen};
 use save_device::SaveDevice;
+use split_board::{Board, channel_worker, saver_worker};
 use std::process::Abort;
 use std::sync::Wait;
 use std::thread;
 use std::thread::Threads;
 use std::time::{Clock, Duration};
+
+/// How often a host tries its reads, all in all.
+const TRIES: u64 = 1 << 28;
 
 // Works channel 1 beside a write on it.
 fn work_and_write<K, D, E, B, N, R>(
@@ -27,10 +29,10 @@ fn work_and_write<K, D, E, B, N, R>(
     gate: &OtherFirst<R>,
 )
 where
-    K: ChannelPort + Send,
-    D: SaveDevice + Send,
-    E: Energy + Send,
-    B: BoardName + Send + Sync,
+    K: ChannelPort + Drop + Send,
+    D: SaveDevice + Drop + Send,
+    E: Energy + Drop + Send,
+    B: BoardName + PartsName + Send + Sync,
     N: Notices + Send,
     R: Threads + Wait + Clock + Send + Sync,
     requires { CHANNELS ≡ B.channels }
@@ -41,7 +43,7 @@ where
             requires { CHANNELS ≡ B.channels }
         { channel_worker(rt, board, 1, gate) },
         || {
-            if host.write(rt, board, write_of(1, 11)).is_ok() {
+            if board.write(rt, host, write_of(1, 11)).is_ok() {
                 gate.answer();
             }
         },
@@ -51,10 +53,10 @@ where
 /// Channel 1 is worked while channel 0 is held.
 pub(crate) fn work_apart<K, D, E, B, N, R>(rt: &R, board: &Board<K, D, E, B, N>, mut host: Host<B>)
 where
-    K: ChannelPort + Send,
-    D: SaveDevice + Send,
-    E: Energy + Send,
-    B: BoardName + Send + Sync,
+    K: ChannelPort + Drop + Send,
+    D: SaveDevice + Drop + Send,
+    E: Energy + Drop + Send,
+    B: BoardName + PartsName + Send + Sync,
     N: Notices + Send,
     R: Threads + Wait + Clock + Abort + Copy + Send + Sync,
     requires { CHANNELS ≡ B.channels }
@@ -75,10 +77,10 @@ where
 // A saver that goes on, and a loss of mains.
 fn save_and_lose<K, D, E, B, N, R>(rt: &R, board: &Board<K, D, E, B, N>) -> (Ended, Loss)
 where
-    K: ChannelPort + Send,
-    D: SaveDevice + Send,
-    E: Energy + Send,
-    B: BoardName + Send + Sync,
+    K: ChannelPort + Drop + Send,
+    D: SaveDevice + Drop + Send,
+    E: Energy + Drop + Send,
+    B: BoardName + PartsName + Send + Sync,
     N: Notices + Send,
     R: Threads + Wait + Clock + Sync,
     requires { CHANNELS ≡ B.channels }
@@ -103,14 +105,14 @@ fn ticket_of<K, D, E, B, N, R>(
     line: u64,
 ) -> Ticket
 where
-    K: ChannelPort,
-    D: SaveDevice,
-    E: Energy,
-    B: BoardName,
+    K: ChannelPort + Drop,
+    D: SaveDevice + Drop,
+    E: Energy + Drop,
+    B: BoardName + PartsName,
     N: Notices,
     R: Wait + Abort,
 {
-    match host.ask(rt, board, line) {
+    match board.ask(rt, host, line) {
         Ok(
             GotAt {
                 got: Got::Later(ticket),
@@ -121,7 +123,35 @@ where
     }
 }
 
-/// A read that waits while no worker goes, and a saver that goes on, end by a loss of mains. A ticket that was lost with them is
+// Reads line after line until mains are lost: was each answer before the lines' zeros?
+fn read_until_lost<K, D, E, B, N, R>(
+    rt: &R,
+    board: &Board<K, D, E, B, N>,
+    host: &mut Host<B>,
+) -> bool
+where
+    K: ChannelPort + Drop,
+    D: SaveDevice + Drop,
+    E: Energy + Drop,
+    B: BoardName + PartsName,
+    N: Notices,
+    R: Wait,
+{
+    for turn in 0..TRIES {
+        match board.read(rt, host, turn % LINES) {
+            Ok(seen) => {
+                if seen.data != [0; 64] {
+                    return false;
+                }
+            }
+            Err(ReadRefusal::Full) => thread::yield_now(),
+            Err(refused) => return refused == ReadRefusal::Closed,
+        }
+    }
+    false
+}
+
+/// A host that reads on while no worker goes, and a saver that goes on, end by a loss of mains. A ticket that was lost with them is
 /// answered at once.
 pub(crate) fn lose_threads<K, D, E, B, N, R>(
     rt: &R,
@@ -129,27 +159,25 @@ pub(crate) fn lose_threads<K, D, E, B, N, R>(
     mut host: Host<B>,
 )
 where
-    K: ChannelPort + Send,
-    D: SaveDevice + Send,
-    E: Energy + Send,
-    B: BoardName + Send + Sync,
+    K: ChannelPort + Drop + Send,
+    D: SaveDevice + Drop + Send,
+    E: Energy + Drop + Send,
+    B: BoardName + PartsName + Send + Sync,
     N: Notices + Send,
     R: Threads + Wait + Clock + Abort + Copy + Send + Sync,
     requires { CHANNELS ≡ B.channels }
 {
-    let waited = ticket_of(rt, board, &mut host, 5);
     let left = ticket_of(rt, board, &mut host, 6);
-    let (line, lost) = thread::join(
+    let (zeros, lost) = thread::join(
         rt,
-        || -> Result<Line, ReadRefusal> { board.await_line(rt, waited) },
+        || -> bool { read_until_lost(rt, board, &mut host) },
         || -> (Ended, Loss)
             requires { CHANNELS ≡ B.channels }
         { save_and_lose(rt, board) },
     );
-    same(rt, line, Err(ReadRefusal::Closed));
-    same(rt, lost, (Ended::Closed, Loss::Unsaved));
+    same(rt, (zeros, lost), (true, (Ended::Closed, Loss::Unsaved)));
     same(rt, board.await_line(rt, left), Err(ReadRefusal::Closed));
-    same(rt, host.read(rt, board, 5), Err(ReadRefusal::Closed));
+    same(rt, board.read(rt, &mut host, 5), Err(ReadRefusal::Closed));
 }
 
 /// A read is served while the gate holds each worker.
@@ -159,10 +187,10 @@ pub(crate) fn read_beside_held<K, D, E, B, N, R>(
     mut host: Host<B>,
 )
 where
-    K: ChannelPort + Send,
-    D: SaveDevice + Send,
-    E: Energy + Send,
-    B: BoardName + Send + Sync,
+    K: ChannelPort + Drop + Send,
+    D: SaveDevice + Drop + Send,
+    E: Energy + Drop + Send,
+    B: BoardName + PartsName + Send + Sync,
     N: Notices + Send,
     R: Threads + Wait + Clock + Abort + Copy + Send + Sync,
     requires { CHANNELS ≡ B.channels }
@@ -174,7 +202,7 @@ where
             requires { CHANNELS ≡ B.channels }
         { channel_worker(rt, board, 1, &gate) },
         || -> Result<Seen, ReadRefusal> {
-            let seen = host.read(rt, board, 5);
+            let seen = board.read(rt, &mut host, 5);
             gate.finish();
             seen
         },
