@@ -10,6 +10,6 @@ pub use Rattle.nv_workers.specs.declared.recorded_module.RecordedModule.{Recorde
 pub use Rattle.nv_workers.specs.Client.{Client, client}
 pub use Rattle.nv_workers.specs.Kept.{IsRecordKept, StandsWith}
 pub use Rattle.nv_workers.specs.Marks.{IsCounted, ShowsNoMore, marks_of, told_at}
-pub use Rattle.nv_workers.specs.Serving.{IsOfChannels, ServesRead, WorksFullTimes, WorksTimes, WorksWhereFull, is_full_in, shape_in}
+pub use Rattle.nv_workers.specs.Serving.{IsOfChannels}
 pub use Rattle.nv_workers.specs.Lived.{LivedUntil, assembly_of, world_for}
 pub use Rattle.nv_workers.specs.Steps.{Steps, StepsTo}

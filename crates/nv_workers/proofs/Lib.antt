@@ -7,7 +7,5 @@ pub mod IfOkGives
 pub mod Keeping
 pub mod Living
 pub mod Quiet
-pub mod ReadLent
 pub mod Stored
 pub mod Ticketed
-pub mod Written

@@ -3,7 +3,6 @@ pub mod Client
 pub mod Cutting
 pub mod Ending
 pub mod Kept
-pub mod Lent
 pub mod Lived
 pub mod Marks
 pub mod Opening

@@ -1,9 +1,7 @@
--- What a saver's turn comes to, and a channel worker's.
-use Rattle.std.specs.Prelude.{◌≡◌, ℕ, true, false, Option, Some, None}
-use Rattle.arm_state.specs.Modes.{has_ended}
+-- What a saver's turn comes to.
+use Rattle.std.specs.Prelude.{◌≡◌}
 use Rattle.save_device.specs.declared.device.SaveDevice.{Ghosts as DeviceGhosts}
 use Rattle.energy_budget.specs.declared.energy.Energy.{Ghosts as GaugeGhosts}
-use Rattle.channel_port.specs.declared.answers.Done.{Done}
 use Rattle.channel_port.specs.declared.port.ChannelPort.{Ghosts}
 use Rattle.nv_machine.specs.declared.events.Event.TheVariants as events
 use Rattle.nv_machine.specs.declared.events.Reply.TheVariants as replies
@@ -11,8 +9,6 @@ use Rattle.nv_workers.specs.declared.board_name.BoardName.{Ghosts as NameGhosts}
 use Rattle.nv_workers.specs.declared.held.Held.{Held}
 use Rattle.nv_workers.specs.declared.saver.Saving.{Saving}
 use Rattle.nv_workers.specs.declared.saver.Saving.TheVariants.{Began, Stepped, Rested, Closed}
-use Rattle.worker_loops.specs.declared.shift.Working.{Working}
-use Rattle.worker_loops.specs.declared.shift.Working.TheVariants as working
 use Rattle.nv_workers.specs.Steps.{Steps}
 
 module _ {K D E B : Type 0} (L : Ghosts K) (M : DeviceGhosts D) (N : GaugeGhosts E) (O : NameGhosts B) where
@@ -22,12 +18,3 @@ module _ {K D E B : Type 0} (L : Ghosts K) (M : DeviceGhosts D) (N : GaugeGhosts
   TakesTurn (Stepped reply) old new = Steps L M N O events.SaveStep (replies.SaveStep reply) old new
   TakesTurn Rested old new = new ≡ old
   TakesTurn Closed old new = new ≡ old
-
-  -- a channel was worked once: it issued a command, or had none, or mains were lost
-  abbrev pub WorksOnce : ℕ → Working → Held K D E B L M N O → Held K D E B L M N O → Type 0
-  WorksOnce channel working.Worked old new =
-      (has_ended new.recorded.running.front.mode ≡ false) × (done : Done) × Steps L M N O (events.Work channel) (replies.Work (Some done)) old new
-  WorksOnce channel working.Rested old new =
-      (has_ended new.recorded.running.front.mode ≡ false) × Steps L M N O (events.Work channel) (replies.Work None) old new
-  WorksOnce channel working.Closed old new =
-      (has_ended new.recorded.running.front.mode ≡ true) × (done : Option Done) × Steps L M N O (events.Work channel) (replies.Work done) old new

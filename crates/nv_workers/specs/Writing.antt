@@ -5,7 +5,6 @@ use Rattle.energy_budget.specs.declared.energy.Energy.{Ghosts as GaugeGhosts}
 use Rattle.line_memory.specs.declared.Write.{Write}
 use Rattle.arm_state.specs.declared.refusal.WriteRefusal.{WriteRefusal}
 use Rattle.channel_port.specs.declared.port.ChannelPort.{Ghosts}
-use Rattle.nv_machine.specs.declared.events.Accepted.{Accepted}
 use Rattle.nv_machine.specs.declared.events.Event.TheVariants as events
 use Rattle.nv_machine.specs.declared.events.Reply.TheVariants as replies
 use Rattle.module_core.specs.Stands.{setup_of}
@@ -14,7 +13,6 @@ use Rattle.nv_workers.specs.declared.held.Held.{Held}
 use Rattle.nv_workers.specs.declared.host.Receipt.{Receipt}
 use Rattle.nv_workers.specs.Client.{Client}
 use Rattle.nv_workers.specs.Marks.{told_at}
-use Rattle.nv_workers.specs.Serving.{WritesServed}
 use Rattle.nv_workers.specs.Steps.{Steps}
 
 module _ {K D E B : Type 0} (L : Ghosts K) (M : DeviceGhosts D) (N : GaugeGhosts E) (O : NameGhosts B) where
@@ -38,25 +36,9 @@ module _ {K D E B : Type 0} (L : Ghosts K) (M : DeviceGhosts D) (N : GaugeGhosts
     pub energy : new.recorded.energy ≡ old.recorded.energy
     pub setup : setup_of L new.recorded.running ≡ setup_of L old.recorded.running
 
-  module _ (does : Write → Result Accepted WriteRefusal → Held K D E B L M N O → Held K D E B L M N O → Type 0) where
-    -- what was done, and told
-    abbrev pub WritesBy : Write → Result Receipt WriteRefusal → Client → Client → Held K D E B L M N O → Held K D E B L M N O → Type 0
-    WritesBy write (Ok receipt) host told old new =
-        does write (Ok (told_at receipt.number new.recorded.running.front.persisted)) old new × IsReceipted write receipt host told old new
-    WritesBy write (Err refusal) host told old new = does write (Err refusal) old new × IsTurnedAway host told old new
-
-  abbrev pub WritesOnce : Write → Result Accepted WriteRefusal → Held K D E B L M N O → Held K D E B L M N O → Type 0
-  WritesOnce write reply old new = Steps L M N O (events.Write write) (replies.Write reply) old new
-
   -- a write is one event
   abbrev pub HostWrites : Write → Result Receipt WriteRefusal → Client → Client → Held K D E B L M N O → Held K D E B L M N O → Type 0
-  HostWrites = WritesBy WritesOnce
-
-  -- room is made for it before
-  abbrev pub HostWritesServed : Write → Result Receipt WriteRefusal → Client → Client → Held K D E B L M N O → Held K D E B L M N O → Type 0
-  HostWritesServed = WritesBy (WritesServed L M N O)
-
-  -- a lock lent what lies behind it for such a write
-  abbrev pub LentWrite : Write → Result Receipt WriteRefusal → Client → Client → Type 0
-  LentWrite write result host told =
-      (before : Held K D E B L M N O) × (after : Held K D E B L M N O) × HostWritesServed write result host told before after
+  HostWrites write (Ok receipt) host told old new =
+      Steps L M N O (events.Write write) (replies.Write (Ok (told_at receipt.number new.recorded.running.front.persisted))) old new
+      × IsReceipted write receipt host told old new
+  HostWrites write (Err refusal) host told old new = Steps L M N O (events.Write write) (replies.Write (Err refusal)) old new × IsTurnedAway host told old new

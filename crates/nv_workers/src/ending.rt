@@ -1,10 +1,8 @@
 // The end of a board.
 ghost use Rattle.std.specs.Prelude.{◌≡◌, ◌+◌, ◌≤◌, All, length, sum_by, IfOk, IfErr};
-ghost use Rattle.nv_workers.specs.declared.held.Held.{Held};
 ghost use Rattle.nv_workers.specs.Kept.{IsRecordKept};
 ghost use Rattle.nv_workers.specs.Ending.{HasChecked, HasStranger, cut};
 
-use crate::board::Board;
 use crate::board_name::BoardName;
 use crate::checking::{Cut, Stranger, check};
 use crate::held::Held;
@@ -14,7 +12,6 @@ use crate::tally::Tally;
 use channel_port::ChannelPort;
 use energy_budget::Energy;
 use mark_board::{BoardSeat, MarkBoard};
-use notice_book::Notices;
 use save_device::SaveDevice;
 use std::sync::ledger::Share;
 
@@ -45,14 +42,6 @@ pub struct Closed<K: ChannelPort, D, E, N> {
 pub struct NotEnded<K: ChannelPort, D: SaveDevice, E: Energy, B: BoardName> {
     pub stranger: Stranger,
     pub held: Held<K, D, E, B>,
-    pub hosts: Vec<Host<B>>,
-}
-
-/// A board that wasn't closed, since a receipt or an answer is a stranger to its life. Its hosts are as they were.
-#[derive(Drop)]
-pub struct NotClosed<K: ChannelPort, D: SaveDevice, E: Energy, B: BoardName, N: Notices> {
-    pub stranger: Stranger,
-    pub board: Board<K, D, E, B, N>,
     pub hosts: Vec<Host<B>>,
 }
 
@@ -157,59 +146,5 @@ impl<K: ChannelPort, D: SaveDevice, E: Energy, B: BoardName> Held<K, D, E, B> {
                 past,
             }),
         }
-    }
-}
-
-/// Ends a board once all its threads were joined, with all its hosts, as `Held::end` what lay behind its lock: the receipts and the
-/// answers are checked against the history, and the module with its record and the notices come back. Where the board was cut,
-/// receipts with numbers below `from` and answers given behind fewer writes are past: they are counted, and not checked. A
-/// stranger among the others gives the board and the hosts back. It takes no memory.
-pub fn close<K, D, E, B, N>(
-    board: Board<K, D, E, B, N>,
-    hosts: Vec<Host<B>>,
-    receipts: &[Receipt],
-    answers: &[Seen],
-) -> Result<Closed<K, D, E, N>, NotClosed<K, D, E, B, N>>
-where
-    K: ChannelPort + Drop,
-    D: SaveDevice + Drop,
-    E: Energy + Drop,
-    B: BoardName,
-    N: Notices + Drop,
-    requires { length hosts.items ≡ B.parts }
-    ensures checked { IfOk result (λ c. HasChecked K.ChannelPort c.recorded
-        receipts.now answers.now (cut c.from c.checked c.past)) }
-    ensures shares { IfOk result (λ c. c.recorded.running.front.accepted
-        ≡ c.recorded.running.front.terms.start + B.before + sum_by (λ h. h.writes) hosts.items) }
-    ensures marks { IfOk result (λ c.
-        All (λ h. h.persisted ≤ c.recorded.running.front.persisted) hosts.items) }
-    ensures kept { IfOk result (λ c. IsRecordKept K.ChannelPort D.SaveDevice E.Energy c.recorded) }
-    ensures hosts { IfErr result (λ left. left.hosts ≡ hosts) }
-    ensures stranger { IfErr result (λ left.
-        (held : Held K D E B K.ChannelPort D.SaveDevice E.Energy B.BoardName.own)
-        × HasStranger K.ChannelPort held.recorded receipts.now answers.now left.stranger) }
-{
-    let Board { held, notices } = board;
-    let notices = notices.into_inner();
-    match held.into_inner().end(hosts, receipts, answers) {
-        Ok(
-            EndedLife {
-                recorded,
-                from,
-                checked,
-                past,
-            },
-        ) => Ok(Closed {
-            recorded,
-            notices,
-            from,
-            checked,
-            past,
-        }),
-        Err(left) => Err(NotClosed {
-            stranger: left.stranger,
-            board: Board::new(left.held, notices),
-            hosts: left.hosts,
-        }),
     }
 }

@@ -3,22 +3,19 @@ ghost use Rattle.std.specs.Prelude.{◌≡◌, ◌<◌, ◌≤◌, [], IfOk, IfE
 ghost use Rattle.std.specs.Arc.{arc_value};
 ghost use Rattle.module_core.specs.Stands.{setup_of};
 ghost use Rattle.nv_workers.specs.Client.{SeesNoLess, client};
-ghost use Rattle.nv_workers.specs.Lent.{LentLine, LentRead, LentRefusal, LentStep};
-ghost use Rattle.nv_workers.specs.Serving.{IsOfChannels, ReadsServed};
+ghost use Rattle.nv_workers.specs.Serving.{IsOfChannels};
 ghost use Rattle.nv_workers.specs.Steps.{Steps};
-ghost use Rattle.nv_workers.specs.Writing.{HostWrites, HostWritesServed, KeepsRest, LentWrite};
+ghost use Rattle.nv_workers.specs.Writing.{HostWrites, KeepsRest};
 
-use crate::board::Board;
 use crate::board_name::BoardName;
 use crate::held::{Held, ReadAt};
-use crate::serving::{make_room, serve, told_for};
 use arm_state::{ReadRefusal, WriteRefusal};
 use channel_port::{ChannelPort, Got};
 use energy_budget::Energy;
 use ghost_trace::Trace;
 use line_memory::{Line, Write};
 use mark_board::{HostSeat, MarkBoard};
-use notice_book::{Notices, Persisted};
+use notice_book::Persisted;
 use nv_machine::{Event, Reply};
 use save_device::SaveDevice;
 use std::alloc::Global;
@@ -119,38 +116,6 @@ impl<B: BoardName> Host<B> {
         }
     }
 
-    /// Writes a line at the module that is lent, as `write_in` does. Before that its channel issues commands while it has no room, 64 at
-    /// most.
-    pub fn write_served_in<K: ChannelPort, D: SaveDevice, E: Energy>(
-        &mut self,
-        held: &mut Held<K, D, E, B>,
-        write: Write,
-    ) -> Result<Receipt, WriteRefusal>
-        ensures writes { HostWritesServed K.ChannelPort D.SaveDevice E.Energy B.BoardName.own
-            write result self.old self.new held.old held.new }
-        ensures rises { SeesNoLess self.old self.new }
-        ensures rest { KeepsRest K.ChannelPort D.SaveDevice E.Energy B.BoardName.own
-            held.old held.new }
-    {
-        make_room(held, write.line);
-        self.write_in(held, write)
-    }
-
-    /// Writes a line. While its channel has no room the channel issues commands under the lock in which the host writes, 64 at most.
-    pub fn write<K: ChannelPort, D: SaveDevice, E: Energy, N: Notices>(
-        &mut self,
-        rt: &impl Wait,
-        board: &Board<K, D, E, B, N>,
-        write: Write,
-    ) -> Result<Receipt, WriteRefusal>
-        ensures writes { LentWrite K.ChannelPort D.SaveDevice E.Energy B.BoardName.own
-            write result self.old self.new }
-        ensures rises { SeesNoLess self.old self.new }
-    {
-        let mut held = board.held.lock(rt);
-        self.write_served_in(&mut *held, write)
-    }
-
     /// Reads a line at the module that is lent. The number is how many writes were accepted before it.
     pub fn read_in<K: ChannelPort, D: SaveDevice, E: Energy>(
         &mut self,
@@ -177,98 +142,6 @@ impl<B: BoardName> Host<B> {
             Ok(got) => Ok(GotAt { got, at }),
             Err(refusal) => Err(refusal),
         }
-    }
-
-    /// Reads a line at the module that is lent, as `read_in` does. Where the read has to wait, its line's channel issues
-    /// commands, 64 at most, until the bytes are there.
-    pub fn read_served_in<K: ChannelPort, D: SaveDevice, E: Energy>(
-        &mut self,
-        held: &mut Held<K, D, E, B>,
-        line: u64,
-    ) -> Result<GotAt, ReadRefusal>
-        ensures ok { IfOk result (λ r. ReadsServed K.ChannelPort D.SaveDevice E.Energy
-            B.BoardName.own line r.got held.old held.new) }
-        ensures err { IfErr result (λ refusal.
-            Steps K.ChannelPort D.SaveDevice E.Energy B.BoardName.own
-            (Event.Read line) (Reply.Read (Err refusal)) held.old held.new) }
-        ensures at { IfOk result (λ r. r.at ≡ held.old.recorded.running.front.accepted) }
-        ensures seen { IfOk result (λ r. r.at ≡ self.new.accepted) }
-        ensures rises { SeesNoLess self.old self.new }
-        ensures writes { self.new.writes ≡ self.old.writes }
-        ensures device { held.new.recorded.device ≡ held.old.recorded.device }
-        ensures energy { held.new.recorded.energy ≡ held.old.recorded.energy }
-        ensures setup { setup_of K.ChannelPort held.new.recorded.running
-            ≡ setup_of K.ChannelPort held.old.recorded.running }
-    {
-        let GotAt { got, at } = self.read_in(held, line)?;
-        match got {
-            Got::Now(_) => Ok(GotAt { got, at }),
-            Got::Later(ticket) => {
-                let got = told_for(ticket, serve(held, ticket));
-                Ok(GotAt { got, at })
-            }
-        }
-    }
-
-    /// Reads a line, and waits for the answer. Where the read has to wait, it works its line's channel under the lock in which it
-    /// asked; behind 64 commands it lets go of the lock, and looks again and again.
-    pub fn read<K: ChannelPort, D: SaveDevice, E: Energy, N: Notices>(
-        &mut self,
-        rt: &impl Wait,
-        board: &Board<K, D, E, B, N>,
-        line: u64,
-    ) -> Result<Seen, ReadRefusal>
-        ensures line { IfOk result (λ s. s.line ≡ line) }
-        ensures at { IfOk result (λ s. s.at ≡ self.new.accepted) }
-        ensures read { IfOk result (λ s. LentLine K.ChannelPort D.SaveDevice E.Energy
-            B.BoardName.own line s.data s.at) }
-        ensures refused { IfErr result (LentRefusal K.ChannelPort D.SaveDevice E.Energy
-            B.BoardName.own line) }
-        ensures rises { SeesNoLess self.old self.new }
-        ensures writes { self.new.writes ≡ self.old.writes }
-    {
-        let GotAt { got, at } = self.ask_served(rt, board, line)?;
-        match got {
-            Got::Now(data) => Ok(Seen { line, data, at }),
-            Got::Later(ticket) => match board.await_line(rt, ticket) {
-                Ok(data) => Ok(Seen { line, data, at }),
-                Err(refusal) => Err(refusal),
-            },
-        }
-    }
-
-    // Asks under the lock, where the read is served, and lets go of it.
-    fn ask_served<K: ChannelPort, D: SaveDevice, E: Energy, N: Notices>(
-        &mut self,
-        rt: &impl Wait,
-        board: &Board<K, D, E, B, N>,
-        line: u64,
-    ) -> Result<GotAt, ReadRefusal>
-        ensures at { IfOk result (λ r. r.at ≡ self.new.accepted) }
-        ensures asked { IfOk result (λ r. LentRead K.ChannelPort D.SaveDevice E.Energy
-            B.BoardName.own line r.got r.at) }
-        ensures refused { IfErr result (λ refusal. LentStep K.ChannelPort D.SaveDevice E.Energy
-            B.BoardName.own (Event.Read line) (Reply.Read (Err refusal))) }
-        ensures rises { SeesNoLess self.old self.new }
-        ensures writes { self.new.writes ≡ self.old.writes }
-    {
-        let mut held = board.held.lock(rt);
-        self.read_served_in(&mut *held, line)
-    }
-
-    /// Asks for a line and goes on: the bytes, or a ticket for `Board::await_line`, and how many writes were accepted before it.
-    pub fn ask<K: ChannelPort, D: SaveDevice, E: Energy, N: Notices>(
-        &mut self,
-        rt: &impl Wait,
-        board: &Board<K, D, E, B, N>,
-        line: u64,
-    ) -> Result<GotAt, ReadRefusal>
-        ensures at { IfOk result (λ r. r.at ≡ self.new.accepted) }
-        ensures rises { SeesNoLess self.old self.new }
-        ensures writes { self.new.writes ≡ self.old.writes }
-    {
-        let mut held = board.held.lock(rt);
-        self.read_in(&mut *held, line)
     }
 
     /// Loads how many writes are persistent, with no lock.

@@ -1,6 +1,5 @@
 // A saver's turn at what lies behind the lock.
 ghost use Rattle.std.specs.Prelude.{◌≡◌};
-ghost use Rattle.arm_state.specs.Modes.{has_ended};
 ghost use Rattle.nv_machine.specs.State.{Machine};
 ghost use Rattle.module_core.specs.Stands.{setup_of};
 ghost use Rattle.nv_workers.specs.Savers.{needs_save, turn_at, turn_of, turn_taken, working_of};
@@ -107,12 +106,5 @@ impl<K: ChannelPort, D: SaveDevice, E: Energy, B: BoardName> Held<K, D, E, B> {
             SaverTurn::Rest => Saving::Rested,
             SaverTurn::End => Saving::Closed,
         }
-    }
-
-    /// Were mains lost?
-    pub(crate) fn has_ended(&self) -> bool
-        ensures { result ≡ has_ended self.now.recorded.running.front.mode }
-    {
-        self.recorded.running.mode().has_ended()
     }
 }

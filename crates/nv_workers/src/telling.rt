@@ -1,35 +1,11 @@
-// The notices of a board.
-ghost use Rattle.std.specs.Prelude.{◌≡◌, ◌≤◌, IfErr, IfOk, OnErr, OnOk};
-ghost use Rattle.notice_book.specs.NoticeBooks.{refused_notice};
+// The notices of a book that is lent.
+ghost use Rattle.std.specs.Prelude.{◌≡◌, ◌≤◌, IfOk, OnErr};
 ghost use Rattle.nv_workers.specs.Client.{delivered_at};
 
-use crate::board::Board;
 use crate::board_name::BoardName;
-use crate::host::{Host, Receipt};
-use channel_port::ChannelPort;
-use energy_budget::Energy;
-use notice_book::{Called, InsertRefusal, Notices};
-use save_device::SaveDevice;
+use crate::host::Host;
+use notice_book::{Called, Notices};
 use std::alloc::{AllocError, Global};
-use std::sync::Wait;
-
-impl<K: ChannelPort, D: SaveDevice, E: Energy, B: BoardName, N: Notices> Board<K, D, E, B, N> {
-    /// Calls the notices below a mark that the host loads anew, as `Host::deliver_in` at the book that the lock lends. It takes the
-    /// lock of the notices alone.
-    pub fn deliver(
-        &self,
-        rt: &impl Wait,
-        alloc: Global,
-        host: &mut Host<B>,
-    ) -> Result<Vec<Called>, AllocError>
-        ensures delivered { IfOk result (λ answers. (before : N) × (after : N)
-            × N.delivers host.new.persisted before answers.items after) }
-        ensures rises { host.old.persisted ≤ host.new.persisted }
-        ensures once { host.new ≡ delivered_at host.new.persisted host.old }
-    {
-        host.deliver_in(alloc, &mut *self.notices.lock(rt))
-    }
-}
 
 impl<B: BoardName> Host<B> {
     /// Calls the notices of the book that is lent, those below a mark that the host loads anew, each once and in rising order, and
@@ -48,25 +24,5 @@ impl<B: BoardName> Host<B> {
         let mark = self.mark();
         self.delivered.note(&mark);
         book.deliver_below(alloc, mark)
-    }
-
-    /// Puts a notice in, to be called once the receipt's write is persistent. It takes the lock of the notices alone. Refused
-    /// `Full` where the book has no room, and else `Taken` where a notice of the number is there: the notice comes back.
-    pub fn notify<K: ChannelPort, D: SaveDevice, E: Energy, N: Notices>(
-        &self,
-        rt: &impl Wait,
-        board: &Board<K, D, E, B, N>,
-        receipt: &Receipt,
-        notice: N::Notice,
-    ) -> Result<(), InsertRefusal<N::Notice>>
-        requires { N.is_callable receipt.now.number notice }
-        ensures added { OnOk result ((before : N) × (after : N)
-            × N.inserts receipt.now.number notice before after) }
-        ensures refused { IfErr result (λ refusal. (book : N)
-            × N.refuses receipt.now.number book refusal) }
-        ensures back { IfErr result (λ refusal. refused_notice refusal ≡ notice) }
-    {
-        let number = receipt.number;
-        board.notices.lock(rt).insert_notice(number, notice)
     }
 }
