@@ -24,7 +24,7 @@ use Rattle.line_memory.specs.Parts.{AreBefore}
 use Rattle.nv_machine.proofs.Guarded.{cut_below, persisted_accepted}
 use Rattle.nv_machine.specs.State.{Machine, start_of_life}
 use Rattle.split_machine.proofs.ToldOf.{told_of_log}
-use Rattle.split_module.specs.Lending.{IsSeen}
+use Rattle.split_module.specs.Lending.{HasBeenSeen}
 use Rattle.board_desk.proofs.Lending.{IsDue, channel_due, out_told}
 use Rattle.board_desk.specs.Answering.{IsAskedFor}
 use Rattle.board_desk.specs.Desk.{DeskStands, DeskView, setup_at, shape_at, shape_named}
@@ -109,7 +109,7 @@ module _ {B : Type 0} (P : PartsGhosts B) (desk : DeskView) (stands : ∥ ((m : 
     has_channel = let own = channel_due P L part channel log due in let least : channel < P.ports = ∥∥₁_elim due le_prop (λ h. h.0) in omega (arith, own, least)
 
     -- it has seen what waits, where its log tells this
-    pub part_seen : (log_tells log).waits ≡ (L.view part.port).waits → IsSeen L (shape_at P desk) part log
+    pub part_seen : (log_tells log).waits ≡ (L.view part.port).waits → HasBeenSeen L (shape_at P desk) part log
     part_seen waits = record {
       waits = waits;
       depth = ∥∥₁_elim due (ℕ_set _ _) (λ h. ap (λ (k : PortMake). k.depth) h.1.made);

@@ -27,7 +27,7 @@ use Rattle.nv_workers.proofs.Stored.{stored_grows}
 use Rattle.nv_workers.specs.Lived.{LivedUntil, world_for}
 use Rattle.nv_workers.proofs.Living.{lived_event, lived_pause}
 use Rattle.save_device.specs.declared.device.SaveDevice.{Ghosts as DeviceGhosts}
-use Rattle.board_desk.specs.Calling.{AddsNone, Answered, Course, GoesBy, LeadsTo, Paused}
+use Rattle.board_desk.specs.Calling.{AddsNone, Answered, Course, GoesBy, GoesAlong, Paused}
 
 -- a life doesn't come back from its end
 after_end : (move : Move) (mode : Mode) → has_ended mode ≡ true → has_ended (mode_after move mode) ≡ true
@@ -62,7 +62,7 @@ pub record KeepsWritten (setup : Setup) (old new : World) : Type 0 where
   pub ended : has_ended old.machine.mode ≡ true → has_ended new.machine.mode ≡ true
   pub lived : LivedUntil setup old → LivedUntil setup new
 
-pub keeps_written : (setup : Setup) (course : Course) (old new : World) → AddsNone course → LeadsTo course setup old new → IsGuarded old.machine → KeepsWritten setup old new
+pub keeps_written : (setup : Setup) (course : Course) (old new : World) → AddsNone course → GoesAlong course setup old new → IsGuarded old.machine → KeepsWritten setup old new
 keeps_written setup (Answered event reply) old new none happens guarded =
     let keeps = event_keeps setup event reply old new happens.step guarded in
     record {

@@ -29,7 +29,7 @@ use Rattle.split_module.specs.Lending.{HasReadOn, SplitStands, WroteOn}
 use Rattle.split_module.specs.declared.front.SplitFront.{SplitFront}
 use Rattle.board_desk.proofs.Happening.{happens_new, stands_after}
 use Rattle.board_desk.proofs.Settled.{logs_with, same_setup}
-use Rattle.board_desk.specs.Answering.{GoesOn, GoesOnWith}
+use Rattle.board_desk.specs.Answering.{SeesOwn, GoesOnWith}
 use Rattle.board_desk.specs.Desk.{AreBoardLogs, DeskStands, DeskView, setup_at, shape_at, shape_named, world_at}
 
 module _ {B : Type 0} (P : PartsGhosts B) where
@@ -41,7 +41,7 @@ module _ {B : Type 0} (P : PartsGhosts B) where
 
   -- behind a channel that was settled
   pub behind : (channel : ℕ) (event : Event) (reply : Reply) (old mid new : DeskView) (m : Machine) → mid.split.front ≡ old.split.front → mid.split.costs ≡ old.split.costs → mid.device ≡ old.device → mid.gauge ≡ old.gauge
-      → (on : GoesOn P channel old mid m) → Follows event reply mid new on.seen → GoesOnWith P channel event reply old new m
+      → (on : SeesOwn P channel old mid m) → Follows event reply mid new on.seen → GoesOnWith P channel event reply old new m
   behind channel event reply old mid new m front costs device gauge on follows =
       let setup : setup_at P mid ≡ setup_at P old = same_setup P old mid front costs in
       let here : world_at mid on.seen ≡ world_at old on.seen =

@@ -11,7 +11,7 @@ use Rattle.mark_board.specs.SeenMarks.{SeenMarks, seen_marks}
 use Rattle.nv_machine.specs.State.{Setup, World}
 use Rattle.nv_workers.specs.Marks.{ShowsNoMore}
 use Rattle.nv_workers.specs.declared.board_name.BoardName.{Ghosts as BoardGhosts}
-use Rattle.board_desk.specs.Calling.{Course, LeadsTo}
+use Rattle.board_desk.specs.Calling.{Course, GoesAlong}
 use Rattle.board_desk.specs.Desk.{DeskView, setup_at, world_at}
 use Rattle.board_desk.specs.Kept.{IsDeskKept}
 use Rattle.board_desk.specs.Loans.{AreRestated, HaveLent}
@@ -70,7 +70,7 @@ module _ {K B : Type 0} (L : Ghosts K) (O : BoardGhosts B) (P : PartsGhosts B) (
             seen = on.seen;
             comes = on.comes;
             later = l.later;
-            leads = subst (λ (x : Setup). LeadsTo course x (world_at first on.seen) (world_at new l.later)) same.setup
-                (subst (λ (w : World). LeadsTo course (setup_at P desk) w (world_at new l.later)) (world_of_same P first desk same on.seen) l.leads);
+            leads = subst (λ (x : Setup). GoesAlong course x (world_at first on.seen) (world_at new l.later)) same.setup
+                (subst (λ (w : World). GoesAlong course (setup_at P desk) w (world_at new l.later)) (world_of_same P first desk same on.seen) l.leads);
             stands = l.stands new.logs restated;
           }))

@@ -20,7 +20,7 @@ use Rattle.split_machine.specs.Telling.{laid_out, waits_told}
 use Rattle.split_module.specs.Lending.{LooksAt, SplitStands}
 use Rattle.split_module.specs.declared.front.SplitFront.{SplitFront}
 use Rattle.board_desk.proofs.Settled.{settled}
-use Rattle.board_desk.specs.Answering.{GoesOn}
+use Rattle.board_desk.specs.Answering.{SeesOwn}
 use Rattle.board_desk.specs.Desk.{DeskStands, DeskView, setup_at, shape_at}
 
 module _ {B : Type 0} (P : PartsGhosts B) where
@@ -63,11 +63,11 @@ module _ {B : Type 0} (P : PartsGhosts B) where
     pub goes_on : (old : DeskView) (split : SplitFront) (part later : Part K L) (channel : ℕ) (log : List LogNote) → LooksAt L old.split part split later → split.front ≡ old.split.front → split.costs ≡ old.split.costs
         → later.port ≡ part.port → length (queue_of L later) ≤ 64 → IsLogOf old.logs channel log → IsDue part channel log
         → (logs : List (List LogNote)) → logs ≡ looked channel log (L.view later.port).waits old.logs
-        → (m : Machine) → DeskStands P old m → ∥ GoesOn P channel old (record old { split = split; logs = logs }) m ∥₁
+        → (m : Machine) → DeskStands P old m → ∥ SeesOwn P channel old (record old { split = split; logs = logs }) m ∥₁
     goes_on old split part later channel log looks front costs port most of due logs is m s =
         let own : part.channel ≡ channel = channel_due part channel log due in
         let waits : Waits = (L.view later.port).waits in
-        subst (λ ls. ∥ GoesOn P channel old (record old { split = split; logs = ls }) m ∥₁) (sym is)
+        subst (λ ls. ∥ SeesOwn P channel old (record old { split = split; logs = ls }) m ∥₁) (sym is)
         (∥∥₁_map due
         (λ h.
         let here : PartStands L part part.channel P.base log = subst (λ c. PartStands L part c P.base log) (sym own) h.1.stands in

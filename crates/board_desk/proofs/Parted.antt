@@ -42,7 +42,7 @@ use Rattle.split_module.specs.Gathering.{FitAsModule, IsMadeOf, StandsGathered, 
 use Rattle.split_module.specs.Lending.{SplitStands}
 use Rattle.split_module.specs.declared.gathering.SplitModule.{SplitModule}
 use Rattle.split_module.proofs.Gathered.{shape_made, waits_gathered}
-use Rattle.board_desk.specs.Calling.{AddsNone, Course, GoesBy, LeadsTo}
+use Rattle.board_desk.specs.Calling.{AddsNone, Course, GoesBy, GoesAlong}
 use Rattle.board_desk.specs.Desk.{DeskStands, DeskView, desk_view, setup_at, shape_at, shape_named, world_at}
 use Rattle.board_desk.specs.Kept.{AreTermsOf}
 use Rattle.board_desk.specs.Loans.{AllComeBack, AreRestated, EndStays, HaveLent, restated, waits_of_port}
@@ -124,7 +124,7 @@ module _ {K D E B : Type 0} (L : Ghosts K) (M : DeviceGhosts D) (N : GaugeGhosts
         count_parted : length parted.ports.items ≡ P.ports
         count_parted = ap (λ (x : Shape). x.channels) shape_parted
 
-        abbrev next : (n : Machine) × StandsWith L M after n × LeadsTo course (setup_of L it.running) (world_for L M N it m) (world_for L M N after n)
+        abbrev next : (n : Machine) × StandsWith L M after n × GoesAlong course (setup_of L it.running) (world_for L M N it m) (world_for L M N after n)
         next = goes m (with_joined m s have)
 
         abbrev n : Machine
@@ -136,11 +136,11 @@ module _ {K D E B : Type 0} (L : Ghosts K) (M : DeviceGhosts D) (N : GaugeGhosts
         world_parted : (later : List (List LogNote)) → world_for L M N after n ≡ world_at (record d_then { logs = later }) n
         world_parted later = ap (λ (x : D). record (world_for L M N after n) { device = M.state x }) (sym device_then_is) ∙ ap (λ (x : E). record (world_at d_then n) { gauge = N.gauge x }) (sym energy_then_is)
 
-        leads : LeadsTo course (setup_at P d) (world_at d m) (world_at d_then n)
+        leads : GoesAlong course (setup_at P d) (world_at d m) (world_at d_then n)
         leads =
-            subst (λ (x : Setup). LeadsTo course x (world_at d m) (world_at d_then n)) (setup_joined m s have)
-            (subst (λ (w : World). LeadsTo course (setup_of L it.running) w (world_at d_then n)) (world_joined m s have)
-            (subst (LeadsTo course (setup_of L it.running) (world_for L M N it m)) (world_parted logs) next.2))
+            subst (λ (x : Setup). GoesAlong course x (world_at d m) (world_at d_then n)) (setup_joined m s have)
+            (subst (λ (w : World). GoesAlong course (setup_of L it.running) w (world_at d_then n)) (world_joined m s have)
+            (subst (GoesAlong course (setup_of L it.running) (world_for L M N it m)) (world_parted logs) next.2))
 
         hold_then : parted.terms.hold ≡ hold_of n.store.saving
         hold_then = ap (λ (t : PortTerms). t.hold) made_then.terms ∙ next.1.stands.matches.carried.hold

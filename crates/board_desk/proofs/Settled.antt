@@ -21,7 +21,7 @@ use Rattle.split_machine.specs.OwnEvents.{ComesOfOwn, LeavesCandidates, is_own, 
 use Rattle.split_machine.specs.Telling.{laid_out, waits_told, with_note}
 use Rattle.split_module.specs.declared.front.SplitFront.{SplitFront}
 use Rattle.split_module.specs.Lending.{SplitStands}
-use Rattle.board_desk.specs.Answering.{GoesOn}
+use Rattle.board_desk.specs.Answering.{SeesOwn}
 use Rattle.board_desk.specs.Desk.{AreBoardLogs, DeskStands, DeskView, setup_at, shape_at, shape_named, world_at}
 use Rattle.nv_workers.proofs.Living.{lived_run}
 use Rattle.nv_workers.specs.Lived.{LivedUntil}
@@ -61,7 +61,7 @@ module _ {B : Type 0} (P : PartsGhosts B) where
     comes : ComesOfOwn (setup_at P old) channel (world_at old m) (world_at old seen)
     comes = came_run (setup_at P old) (world_at old m) old.logs channel log waits s.stands.told of came s.guarded (leaves old m s)
 
-    pub settled : SplitStands (shape_at P old) noted split seen → GoesOn P channel old new m
+    pub settled : SplitStands (shape_at P old) noted split seen → SeesOwn P channel old new m
     settled stands = record {
       seen = seen;
       comes = comes;

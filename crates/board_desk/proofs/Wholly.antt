@@ -15,10 +15,10 @@ use Rattle.nv_workers.specs.declared.board_name.BoardName.{Ghosts as BoardGhosts
 use Rattle.save_device.specs.Device.{DeviceState}
 use Rattle.save_device.specs.declared.device.SaveDevice.{Ghosts as DeviceGhosts}
 use Rattle.split_machine.specs.OwnEvents.{ComesOfOwn, is_own}
-use Rattle.board_desk.specs.Answering.{IsSettled, Settles}
+use Rattle.board_desk.specs.Answering.{HasSettled, Settles}
 use Rattle.board_desk.specs.Desk.{DeskView, setup_at, world_at}
 use Rattle.board_desk.specs.Loans.{IsReadyToLend}
-use Rattle.board_desk.specs.Views.{SameButCounts, view_of}
+use Rattle.board_desk.specs.Views.{SameButCounts, desk_of}
 use Rattle.board_desk.specs.declared.desk.Desk.{Desk}
 use Rattle.board_desk.specs.Whole.{ComesOfChannels, SettlesAll, is_of_channels}
 use Rattle.board_desk.proofs.Settled.{same_setup}
@@ -36,7 +36,7 @@ comes_more setup channel first mid last old new = record {
 }
 
 -- a part that was settled is ready to lend its port
-pub settled_ready : {K : Type 0} (L : Ghosts K) (logs : List (List LogNote)) (part : Option (Part K L)) (log : List LogNote) → IsSettled L logs part log → IsReadyToLend L part log
+pub settled_ready : {K : Type 0} (L : Ghosts K) (logs : List (List LogNote)) (part : Option (Part K L)) (log : List LogNote) → HasSettled L logs part log → IsReadyToLend L part log
 settled_ready L logs None log settled = tt
 settled_ready L logs (Some part) log settled = (settled.taken, settled.waits)
 
@@ -70,9 +70,9 @@ module _ {K D E B : Type 0} (L : Ghosts K) (M : DeviceGhosts D) (N : GaugeGhosts
   abbrev pub ADesk : Type 0
   ADesk = Desk K D E B L M N O P
 
-  pub same_world : (old new : ADesk) → SameButCounts L M N O P old new → SameWorld P (view_of L M N O P old) (view_of L M N O P new)
+  pub same_world : (old new : ADesk) → SameButCounts L M N O P old new → SameWorld P (desk_of L M N O P old) (desk_of L M N O P new)
   same_world old new same = record {
-    setup = same_setup P (view_of L M N O P old) (view_of L M N O P new) same.front same.costs;
+    setup = same_setup P (desk_of L M N O P old) (desk_of L M N O P new) same.front same.costs;
     device = ap (λ (d : D). M.state d) same.device;
     gauge = ap (λ (e : E). N.gauge e) same.energy;
   }
@@ -94,17 +94,17 @@ module _ {K D E B : Type 0} (L : Ghosts K) (M : DeviceGhosts D) (N : GaugeGhosts
 
   -- so many channels were settled in turn
   pub record SettledSoFar (old new : ADesk) : Type 0 where
-    pub settles : SettlesAll P (view_of L M N O P old) (view_of L M N O P new)
+    pub settles : SettlesAll P (desk_of L M N O P old) (desk_of L M N O P new)
     pub same : SameButCounts L M N O P old new
 
   pub none_settled : (desk : ADesk) → SettledSoFar desk desk
   none_settled desk = record {
-    settles = settles_none P (view_of L M N O P desk);
+    settles = settles_none P (desk_of L M N O P desk);
     same = record { front = refl; costs = refl; terms = refl; room = refl; device = refl; energy = refl; history = refl; marks = refl; seat = refl; tally = refl; logs = refl };
   }
 
-  pub one_settled : (channel : ℕ) (old mid new : ADesk) → SettledSoFar old mid → Settles P channel (view_of L M N O P mid) (view_of L M N O P new) → SameButCounts L M N O P mid new → SettledSoFar old new
+  pub one_settled : (channel : ℕ) (old mid new : ADesk) → SettledSoFar old mid → Settles P channel (desk_of L M N O P mid) (desk_of L M N O P new) → SameButCounts L M N O P mid new → SettledSoFar old new
   one_settled channel old mid new so settles same = record {
-    settles = settles_more P channel (view_of L M N O P old) (view_of L M N O P mid) (view_of L M N O P new) so.settles (same_world old mid so.same) settles;
+    settles = settles_more P channel (desk_of L M N O P old) (desk_of L M N O P mid) (desk_of L M N O P new) so.settles (same_world old mid so.same) settles;
     same = same_more old mid new so.same same;
   }

@@ -17,13 +17,13 @@ use Rattle.board_desk.specs.Desk.{DeskStands, DeskView, setup_at, world_at}
 
 module _ {B : Type 0} (P : PartsGhosts B) where
   -- The channel's own events led from a machine, for which the desk stood, to one for which it stands.
-  pub record GoesOn (channel : ℕ) (old new : DeskView) (m : Machine) : Type 0 where
+  pub record SeesOwn (channel : ℕ) (old new : DeskView) (m : Machine) : Type 0 where
     pub seen : Machine
     pub comes : ComesOfOwn (setup_at P old) channel (world_at old m) (world_at old seen)
     pub stands : DeskStands P new seen
 
   abbrev pub Settles : ℕ → DeskView → DeskView → Type 0
-  Settles channel old new = (m : Machine) → DeskStands P old m → ∥ GoesOn channel old new m ∥₁
+  Settles channel old new = (m : Machine) → DeskStands P old m → ∥ SeesOwn channel old new m ∥₁
 
   -- Behind the channel's own events this one had this reply, and led to a machine for which the desk stands.
   pub record GoesOnWith (channel : ℕ) (event : Event) (reply : Reply) (old new : DeskView) (m : Machine) : Type 0 where
@@ -53,9 +53,9 @@ module _ {K : Type 0} (L : Ghosts K) where
     pub agreed : IsLogOf logs part.channel log
 
   -- the same of what lies behind the channel's lock, where the board has the channel
-  abbrev pub IsSettled : List (List LogNote) → Option (Part K L) → List LogNote → Type 0
-  IsSettled logs None log = Unit {0}
-  IsSettled logs (Some part) log = IsSettledPart logs part log
+  abbrev pub HasSettled : List (List LogNote) → Option (Part K L) → List LogNote → Type 0
+  HasSettled logs None log = Unit {0}
+  HasSettled logs (Some part) log = IsSettledPart logs part log
 
   -- of the part only the credits have changed
   pub record SameButCredits (old new : Part K L) : Type 0 where

@@ -46,9 +46,9 @@ abbrev pub loss_course : Loss → Course
 loss_course loss = Answered events.Lose (replies.Lose loss)
 
 -- to what it leads
-abbrev pub LeadsTo : Course → Setup → World → World → Type 0
-LeadsTo (Answered event reply) setup old new = Happens setup event reply old new
-LeadsTo Paused setup old new = Rests old new
+abbrev pub GoesAlong : Course → Setup → World → World → Type 0
+GoesAlong (Answered event reply) setup old new = Happens setup event reply old new
+GoesAlong Paused setup old new = Rests old new
 
 -- it accepts no write
 abbrev pub AddsNone : Course → Type 0
@@ -66,4 +66,4 @@ module _ {K D E : Type 0} (L : Ghosts K) (M : DeviceGhosts D) (N : GaugeGhosts E
   -- Whichever machine module and record stood for, they stand for one to which this course leads.
   abbrev pub GoesBy : Course → RecordedModule K D E L → RecordedModule K D E L → Type 0
   GoesBy course old new = (m : Machine) → StandsWith L M old m
-      → (n : Machine) × StandsWith L M new n × LeadsTo course (setup_of L old.running) (world_for L M N old m) (world_for L M N new n)
+      → (n : Machine) × StandsWith L M new n × GoesAlong course (setup_of L old.running) (world_for L M N old m) (world_for L M N new n)

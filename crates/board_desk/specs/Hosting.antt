@@ -14,7 +14,7 @@ use Rattle.nv_workers.specs.Client.{Client}
 use Rattle.nv_workers.specs.Marks.{told_at}
 use Rattle.board_desk.specs.declared.desk.Desk.{Desk}
 use Rattle.board_desk.specs.Answering.{DeskAnswers}
-use Rattle.board_desk.specs.Views.{view_of}
+use Rattle.board_desk.specs.Views.{desk_of}
 
 module _ {K D E B : Type 0} (L : Ghosts K) (M : DeviceGhosts D) (N : GaugeGhosts E) (O : BoardGhosts B) (P : PartsGhosts B) where
   -- The receipt of an accepted write has its number, its line and its data. It is one more of the host's, and of the record.
@@ -34,8 +34,8 @@ module _ {K D E B : Type 0} (L : Ghosts K) (M : DeviceGhosts D) (N : GaugeGhosts
   -- Behind its channel's own events a write is one event.
   abbrev pub HostWritesAtDesk : ℕ → Write → Result Receipt WriteRefusal → Client → Client → Desk K D E B L M N O P → Desk K D E B L M N O P → Type 0
   HostWritesAtDesk channel write (Ok receipt) host told old new =
-      DeskAnswers P channel (events.Write write) (replies.Write (Ok (told_at receipt.number new.split.front.persisted))) (view_of L M N O P old) (view_of L M N O P new)
+      DeskAnswers P channel (events.Write write) (replies.Write (Ok (told_at receipt.number new.split.front.persisted))) (desk_of L M N O P old) (desk_of L M N O P new)
       × IsReceiptedAtDesk write receipt host told old new
   HostWritesAtDesk channel write (Err refusal) host told old new =
-      DeskAnswers P channel (events.Write write) (replies.Write (Err refusal)) (view_of L M N O P old) (view_of L M N O P new)
+      DeskAnswers P channel (events.Write write) (replies.Write (Err refusal)) (desk_of L M N O P old) (desk_of L M N O P new)
       × IsRefusedAtDesk host told old new

@@ -8,7 +8,7 @@ use Rattle.channel_port.specs.declared.port.ChannelPort.{Ghosts}
 use Rattle.energy_budget.specs.Costs.{AreReckonedFor}
 use Rattle.line_memory.specs.Memory.{IsMemory}
 use Rattle.nv_machine.specs.State.{Machine}
-use Rattle.board_desk.specs.Calling.{Course, LeadsTo}
+use Rattle.board_desk.specs.Calling.{Course, GoesAlong}
 use Rattle.board_desk.specs.Desk.{DeskStands, DeskView, setup_at, shape_at, world_at}
 use Rattle.board_desk.specs.Kept.{AreTermsOf}
 use Rattle.board_desk.specs.Loans.{AllComeBack, AreRestated, EndStays, HaveLent}
@@ -27,7 +27,7 @@ module _ {K B : Type 0} (L : Ghosts K) (P : PartsGhosts B) where
   -- The call led from a machine, for which the pieces stood, to one for which they stand once of each channel what is now is told.
   pub record CallLed (course : Course) (old new : DeskView) (ports : List K) (m : Machine) : Type 0 where
     pub later : Machine
-    pub leads : LeadsTo course (setup_at P old) (world_at old m) (world_at new later)
+    pub leads : GoesAlong course (setup_at P old) (world_at old m) (world_at new later)
     pub stands : (logs : List (List LogNote)) → AreRestated L new.terms.hold (has_ended new.split.front.mode) ports old.logs logs → DeskStands P (record new { logs = logs }) later
 
   -- What became of the pieces in the call. These are the ports then.

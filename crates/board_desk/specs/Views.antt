@@ -9,8 +9,8 @@ use Rattle.board_desk.specs.declared.desk.Desk.{Desk}
 use Rattle.board_desk.specs.Desk.{DeskView, desk_view}
 
 module _ {K D E B : Type 0} (L : Ghosts K) (M : DeviceGhosts D) (N : GaugeGhosts E) (O : BoardGhosts B) (P : PartsGhosts B) where
-  abbrev pub view_of : Desk K D E B L M N O P → DeskView
-  view_of desk = desk_view desk.split desk.terms (M.state desk.device) (N.gauge desk.energy) desk.history desk.known.logs
+  abbrev pub desk_of : Desk K D E B L M N O P → DeskView
+  desk_of desk = desk_view desk.split desk.terms (M.state desk.device) (N.gauge desk.energy) desk.history desk.known.logs
 
   -- nothing has changed but which credits are out, and what is known of the channels
   pub record SameButCounts (old new : Desk K D E B L M N O P) : Type 0 where

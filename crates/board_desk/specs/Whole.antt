@@ -6,7 +6,7 @@ use Rattle.nv_machine.specs.declared.events.Event.TheVariants as events
 use Rattle.nv_machine.specs.declared.events.Reply.{Reply}
 use Rattle.nv_machine.specs.Headline.{Run}
 use Rattle.nv_machine.specs.State.{Machine, Setup, World}
-use Rattle.board_desk.specs.Calling.{Course, LeadsTo}
+use Rattle.board_desk.specs.Calling.{Course, GoesAlong}
 use Rattle.board_desk.specs.Desk.{DeskStands, DeskView, setup_at, world_at}
 
 -- whether an event is a command of some channel, or a read that is collected
@@ -29,7 +29,7 @@ module _ {B : Type 0} (P : PartsGhosts B) where
     pub seen : Machine
     pub comes : ComesOfChannels (setup_at P old) (world_at old m) (world_at old seen)
     pub later : Machine
-    pub leads : LeadsTo course (setup_at P old) (world_at old seen) (world_at new later)
+    pub leads : GoesAlong course (setup_at P old) (world_at old seen) (world_at new later)
     pub stands : DeskStands P new later
 
   abbrev pub WholeAnswers : Course → DeskView → DeskView → Type 0

@@ -1,7 +1,7 @@
 // With all locks of a board held: its module is put together, asked, and taken apart again.
 ghost use Rattle.board_desk.specs.Calling.{loss_course};
 ghost use Rattle.board_desk.specs.Loans.{IsReadyToLend};
-ghost use Rattle.board_desk.specs.Views.{SameButCounts, view_of};
+ghost use Rattle.board_desk.specs.Views.{SameButCounts, desk_of};
 ghost use Rattle.board_desk.specs.Whole.{SettlesAll, WholeAnswers};
 
 use crate::all_loans::{lend_all, restore_all};
@@ -42,8 +42,8 @@ pub(crate) fn settle_all<K: ChannelPort, D: SaveDevice, E: Energy, B: BoardName 
     seven: &mut Slot<K, B, ChannelSeven>,
 )
     ensures settles { SettlesAll B.PartsName.own
-        (view_of K.ChannelPort D.SaveDevice E.Energy B.BoardName.own B.PartsName.own desk.old)
-        (view_of K.ChannelPort D.SaveDevice E.Energy B.BoardName.own B.PartsName.own desk.new) }
+        (desk_of K.ChannelPort D.SaveDevice E.Energy B.BoardName.own B.PartsName.own desk.old)
+        (desk_of K.ChannelPort D.SaveDevice E.Energy B.BoardName.own B.PartsName.own desk.new) }
     ensures same { SameButCounts K.ChannelPort D.SaveDevice E.Energy B.BoardName.own B.PartsName.own desk.old desk.new }
     ensures zero { IsReadyToLend K.ChannelPort zero.new.part zero.new.seat.log }
     ensures one { IsReadyToLend K.ChannelPort one.new.part one.new.seat.log }
@@ -85,8 +85,8 @@ pub fn whole<
     call: W,
 ) -> WholeDone<K, D, E, B, W::Answer>
     ensures answers { WholeAnswers B.PartsName.own (W.course result.answer)
-        (view_of K.ChannelPort D.SaveDevice E.Energy B.BoardName.own B.PartsName.own desk)
-        (view_of K.ChannelPort D.SaveDevice E.Energy B.BoardName.own B.PartsName.own result.desk) }
+        (desk_of K.ChannelPort D.SaveDevice E.Energy B.BoardName.own B.PartsName.own desk)
+        (desk_of K.ChannelPort D.SaveDevice E.Energy B.BoardName.own B.PartsName.own result.desk) }
     ensures told { W.told result.answer desk.split.front.saved desk.history result.desk.history }
 {
     settle_all(&mut desk, zero, one, two, three, four, five, six, seven);
@@ -215,8 +215,8 @@ where
     G: Gate + Sync,
     R: Threads + Sync,
     ensures answers { WholeAnswers B.PartsName.own (loss_course result.answer)
-        (view_of K.ChannelPort D.SaveDevice E.Energy B.BoardName.own B.PartsName.own desk)
-        (view_of K.ChannelPort D.SaveDevice E.Energy B.BoardName.own B.PartsName.own result.desk) }
+        (desk_of K.ChannelPort D.SaveDevice E.Energy B.BoardName.own B.PartsName.own desk)
+        (desk_of K.ChannelPort D.SaveDevice E.Energy B.BoardName.own B.PartsName.own result.desk) }
 {
     settle_all(&mut desk, zero, one, two, three, four, five, six, seven);
     let Desk {

@@ -15,7 +15,7 @@ use save_device::SaveDevice;
 impl<K: ChannelPort, D: SaveDevice, E: Energy, B: BoardName + PartsName> Desk<K, D, E, B> {
     ghost use Rattle.board_desk.specs.Answering.{DeskAnswers, IsAskedFor, IsTicketOf, SameElsewhere};
     ghost use Rattle.board_desk.specs.Hosting.{HostWritesAtDesk};
-    ghost use Rattle.board_desk.specs.Views.{KeepsAround, SameButCounts, view_of};
+    ghost use Rattle.board_desk.specs.Views.{KeepsAround, SameButCounts, desk_of};
 
     /// Writes a line for a host, with what lies behind the lock of the line's channel.
     pub fn write_in<C: ChannelName>(
@@ -54,13 +54,13 @@ impl<K: ChannelPort, D: SaveDevice, E: Energy, B: BoardName + PartsName> Desk<K,
         requires asked { IsAskedFor B.make line C.NUMBER }
         ensures ok { IfOk result (λ r. DeskAnswers B.PartsName.own C.NUMBER
             (Event.Read line) (Reply.Read (Ok r.got))
-            (view_of K.ChannelPort D.SaveDevice E.Energy B.BoardName.own B.PartsName.own self.old)
-            (view_of K.ChannelPort D.SaveDevice E.Energy B.BoardName.own B.PartsName.own
+            (desk_of K.ChannelPort D.SaveDevice E.Energy B.BoardName.own B.PartsName.own self.old)
+            (desk_of K.ChannelPort D.SaveDevice E.Energy B.BoardName.own B.PartsName.own
             self.new)) }
         ensures err { IfErr result (λ refusal. DeskAnswers B.PartsName.own C.NUMBER
             (Event.Read line) (Reply.Read (Err refusal))
-            (view_of K.ChannelPort D.SaveDevice E.Energy B.BoardName.own B.PartsName.own self.old)
-            (view_of K.ChannelPort D.SaveDevice E.Energy B.BoardName.own B.PartsName.own
+            (desk_of K.ChannelPort D.SaveDevice E.Energy B.BoardName.own B.PartsName.own self.old)
+            (desk_of K.ChannelPort D.SaveDevice E.Energy B.BoardName.own B.PartsName.own
             self.new)) }
         ensures ticket { IfOk result (λ r. IsTicketOf C.NUMBER r.got) }
         ensures at { IfOk result (λ r. r.at ≡ self.old.split.front.accepted) }

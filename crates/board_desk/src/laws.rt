@@ -5,7 +5,7 @@ ghost use Rattle.nv_workers.specs.Kept.{whole_record};
 ghost use Rattle.nv_workers.specs.Lived.{IsInLife};
 ghost use Rattle.board_desk.specs.declared.desk.Desk.{Desk};
 ghost use Rattle.board_desk.specs.Desk.{DeskStands, DeskView, setup_at, world_at};
-ghost use Rattle.board_desk.specs.Views.{view_of};
+ghost use Rattle.board_desk.specs.Views.{desk_of};
 
 use channel_locks::PartsName;
 use channel_port::ChannelPort;
@@ -19,7 +19,7 @@ use save_device::SaveDevice;
 pub fn desks_keep_lives<K: ChannelPort, D: SaveDevice, E: Energy, B: BoardName + PartsName>()
     ensures { (desk : Desk K D E B K.ChannelPort D.SaveDevice E.Energy B.BoardName.own
         B.PartsName.own)
-        → let view = view_of K.ChannelPort D.SaveDevice E.Energy B.BoardName.own
+        → let view = desk_of K.ChannelPort D.SaveDevice E.Energy B.BoardName.own
         B.PartsName.own desk in
         ∥ ((m : Machine) × DeskStands B.PartsName.own view m
         × IsInLife (setup_at B.PartsName.own view) (world_at view m)) ∥₁ }

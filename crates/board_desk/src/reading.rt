@@ -24,7 +24,7 @@ fn accepted_by(split: &SplitFront) -> u64
 
 impl<K: ChannelPort, D: SaveDevice, E: Energy, B: BoardName + PartsName> Desk<K, D, E, B> {
     ghost use Rattle.board_desk.specs.Answering.{DeskAnswers, IsAskedFor, IsTicketOf, SameElsewhere};
-    ghost use Rattle.board_desk.specs.Views.{SameButCounts, view_of};
+    ghost use Rattle.board_desk.specs.Views.{SameButCounts, desk_of};
 
     /// Reads a line of the slot's channel for a host, whose seat then sees the marks: the bytes or a ticket, and how many writes
     /// were accepted before. What the channel did since both locks were held is seen before, and its returned credits are taken back.
@@ -38,13 +38,13 @@ impl<K: ChannelPort, D: SaveDevice, E: Energy, B: BoardName + PartsName> Desk<K,
         requires host { host.old.board ≡ B.board }
         ensures ok { IfOk result (λ r. DeskAnswers B.PartsName.own C.NUMBER
             (Event.Read line) (Reply.Read (Ok r.got))
-            (view_of K.ChannelPort D.SaveDevice E.Energy B.BoardName.own B.PartsName.own self.old)
-            (view_of K.ChannelPort D.SaveDevice E.Energy B.BoardName.own B.PartsName.own
+            (desk_of K.ChannelPort D.SaveDevice E.Energy B.BoardName.own B.PartsName.own self.old)
+            (desk_of K.ChannelPort D.SaveDevice E.Energy B.BoardName.own B.PartsName.own
             self.new)) }
         ensures err { IfErr result (λ refusal. DeskAnswers B.PartsName.own C.NUMBER
             (Event.Read line) (Reply.Read (Err refusal))
-            (view_of K.ChannelPort D.SaveDevice E.Energy B.BoardName.own B.PartsName.own self.old)
-            (view_of K.ChannelPort D.SaveDevice E.Energy B.BoardName.own B.PartsName.own
+            (desk_of K.ChannelPort D.SaveDevice E.Energy B.BoardName.own B.PartsName.own self.old)
+            (desk_of K.ChannelPort D.SaveDevice E.Energy B.BoardName.own B.PartsName.own
             self.new)) }
         ensures ticket { IfOk result (λ r. IsTicketOf C.NUMBER r.got) }
         ensures at { IfOk result (λ r. r.at ≡ self.old.split.front.accepted) }

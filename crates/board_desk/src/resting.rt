@@ -13,12 +13,12 @@ use save_device::SaveDevice;
 
 impl<K: ChannelPort, D: SaveDevice, E: Energy, B: BoardName + PartsName> Desk<K, D, E, B> {
     ghost use Rattle.board_desk.specs.Desk.{DeskStands};
-    ghost use Rattle.board_desk.specs.Views.{view_of};
+    ghost use Rattle.board_desk.specs.Views.{desk_of};
 
     /// What a saver is to do now. No channel is asked for it.
     pub fn saver_turn(&self) -> SaverTurn
         ensures { (m : Machine) → DeskStands B.PartsName.own
-            (view_of K.ChannelPort D.SaveDevice E.Energy B.BoardName.own B.PartsName.own self.now) m
+            (desk_of K.ChannelPort D.SaveDevice E.Energy B.BoardName.own B.PartsName.own self.now) m
             → result ≡ turn_of m self.now.split.front.saved }
     {
         let front = &self.split.front;

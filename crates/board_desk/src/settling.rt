@@ -12,18 +12,18 @@ use split_module::take_back;
 use std::marker::Brand;
 
 impl<K: ChannelPort, D: SaveDevice, E: Energy, B: BoardName + PartsName> Desk<K, D, E, B> {
-    ghost use Rattle.board_desk.specs.Answering.{IsSettled, SameElsewhere, Settles, SettlesPart};
-    ghost use Rattle.board_desk.specs.Views.{SameButCounts, view_of};
+    ghost use Rattle.board_desk.specs.Answering.{HasSettled, SameElsewhere, Settles, SettlesPart};
+    ghost use Rattle.board_desk.specs.Views.{SameButCounts, desk_of};
 
     /// Takes all returned credits of a channel back, and notes what waits on it. A channel that the board lacks has none.
     pub fn settle<C: ChannelName>(&mut self, slot: &mut Slot<K, B, C>)
         ensures settles { Settles B.PartsName.own C.NUMBER
-            (view_of K.ChannelPort D.SaveDevice E.Energy B.BoardName.own B.PartsName.own self.old)
-            (view_of K.ChannelPort D.SaveDevice E.Energy B.BoardName.own B.PartsName.own self.new) }
+            (desk_of K.ChannelPort D.SaveDevice E.Energy B.BoardName.own B.PartsName.own self.old)
+            (desk_of K.ChannelPort D.SaveDevice E.Energy B.BoardName.own B.PartsName.own self.new) }
         ensures same { SameButCounts K.ChannelPort D.SaveDevice E.Energy B.BoardName.own
             B.PartsName.own self.old self.new }
         ensures elsewhere { SameElsewhere C.NUMBER self.old.known.logs self.new.known.logs }
-        ensures settled { IsSettled K.ChannelPort
+        ensures settled { HasSettled K.ChannelPort
             self.new.known.logs slot.new.part slot.new.seat.log }
         ensures part { SettlesPart K.ChannelPort slot.old.part slot.new.part }
     {

@@ -32,7 +32,7 @@ fn show(marks: &MarkBoard, seat: &mut BoardSeat, split: &SplitFront)
 
 impl<K: ChannelPort, D: SaveDevice, E: Energy, B: BoardName + PartsName> Desk<K, D, E, B> {
     ghost use Rattle.board_desk.specs.Answering.{DeskAnswers, IsAskedFor, SameElsewhere};
-    ghost use Rattle.board_desk.specs.Views.{KeepsAround, view_of};
+    ghost use Rattle.board_desk.specs.Views.{KeepsAround, desk_of};
 
     /// Writes a line of the slot's channel for a host, whose share counts the write if it was accepted, and whose seat then sees
     /// the marks. What the channel did since both locks were held is seen before, and its returned credits are taken back.
@@ -48,8 +48,8 @@ impl<K: ChannelPort, D: SaveDevice, E: Energy, B: BoardName + PartsName> Desk<K,
         requires part { 0 < share.old.parts }
         ensures answers { DeskAnswers B.PartsName.own C.NUMBER
             (Event.Write write) (Reply.Write result)
-            (view_of K.ChannelPort D.SaveDevice E.Energy B.BoardName.own B.PartsName.own self.old)
-            (view_of K.ChannelPort D.SaveDevice E.Energy B.BoardName.own B.PartsName.own self.new) }
+            (desk_of K.ChannelPort D.SaveDevice E.Energy B.BoardName.own B.PartsName.own self.old)
+            (desk_of K.ChannelPort D.SaveDevice E.Energy B.BoardName.own B.PartsName.own self.new) }
         ensures accepts { IfOk result (λ accepted.
             AcceptsOne self.old.split.front accepted self.new.split.front) }
         ensures rest { KeepsAround K.ChannelPort D.SaveDevice E.Energy B.BoardName.own

@@ -53,7 +53,7 @@ pub record TellsWrite (setup : Setup) (m : Machine) (line : ℕ) (is_full : Bool
   pub needed : is_full ≡ false → need ≡ need_for setup (pending_of m + 1)
 
 -- one write more may be stored, and has a number
-pub record HasRoom (front : Front) : Type 0 where
+pub record HasRoomForWrite (front : Front) : Type 0 where
   pub trail : front.accepted < front.terms.cut + front.terms.trail
   pub numbers : front.accepted < 2 ^ 62
 

@@ -46,7 +46,7 @@ pub struct Front {
 impl Front {
     ghost use Rattle.nv_machine.specs.Moves.{begun, disarming};
     ghost use Rattle.nv_machine.specs.Refusals.{is_low, need_for, saves_of, read_refusal, write_refusal};
-    ghost use Rattle.module_core.specs.Fronts.{AcceptsOne, FrontMatches, FrontMoves, HasRoom, SameButSaves, SameNumbers, TellsWrite, setup_in};
+    ghost use Rattle.module_core.specs.Fronts.{AcceptsOne, FrontMatches, FrontMoves, HasRoomForWrite, SameButSaves, SameNumbers, TellsWrite, setup_in};
     ghost use Rattle.module_core.specs.Saves.{BeginsSave};
 
     /// Which refusal a write to one of the lines meets, if any. It is told whether the line's channel is full, and what the gauge
@@ -57,7 +57,7 @@ impl Front {
             → result ≡ write_refusal (setup_in shape self.now) m line }
         ensures running { IfNone result (has_ended self.now.mode ≡ false) }
         ensures full { IfNone result (is_full ≡ false) }
-        ensures room { IfNone result (HasRoom self.now) }
+        ensures room { IfNone result (HasRoomForWrite self.now) }
     {
         if self.mode.has_ended() {
             return Some(WriteRefusal::Closed);
@@ -100,7 +100,7 @@ impl Front {
 
     /// Accepts a write: it has the next number, and while armed it is persistent at once.
     pub fn accept(&mut self) -> Accepted
-        requires { HasRoom self.old }
+        requires { HasRoomForWrite self.old }
         ensures accepts { AcceptsOne self.old result self.new }
     {
         let number = self.accepted;

@@ -30,7 +30,7 @@ pub struct Module<K: ChannelPort> {
 impl<K: ChannelPort> Module<K> {
     ghost use Rattle.nv_machine.specs.Refusals.{is_low, need_for, saves_of, write_refusal, read_refusal};
     ghost use Rattle.nv_machine.specs.Moves.{begun, disarming};
-    ghost use Rattle.module_core.specs.Fronts.{HasRoom};
+    ghost use Rattle.module_core.specs.Fronts.{HasRoomForWrite};
     ghost use Rattle.module_core.specs.Stands.{Matches, Follows, FollowsReading, Answers, AnswersAlone, HasChannel, KeepsStored, assembly, lines_of_module, setup_of};
 
     // What the gauge has to show while this many writes wait.
@@ -66,7 +66,7 @@ impl<K: ChannelPort> Module<K> {
         ensures room { IfOk result (λ place.
             (writes_on place.channel (view_of K.ChannelPort self.now.channels).waits.writes
             == (shape_of K.ChannelPort self.now.channels).depth) ≡ false) }
-        ensures numbers { IfOk result (λ place. HasRoom self.now.front) }
+        ensures numbers { IfOk result (λ place. HasRoomForWrite self.now.front) }
     {
         let Some(place) = self.channels.locate(line) else {
             return Err(WriteRefusal::NoSuchLine);

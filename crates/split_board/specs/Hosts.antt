@@ -19,7 +19,7 @@ use Rattle.nv_workers.specs.Client.{Client}
 use Rattle.board_desk.specs.declared.desk.Desk.{Desk}
 use Rattle.board_desk.specs.Answering.{DeskAnswers, IsAskedFor}
 use Rattle.board_desk.specs.Hosting.{HostWritesAtDesk}
-use Rattle.board_desk.specs.Views.{view_of}
+use Rattle.board_desk.specs.Views.{desk_of}
 use Rattle.split_board.specs.Turns.{AwaitsBytes, ServesFirst}
 
 module _ {K D E B : Type 0} (L : Ghosts K) (M : DeviceGhosts D) (N : GaugeGhosts E) (O : BoardGhosts B) (P : PartsGhosts B) where
@@ -40,7 +40,7 @@ module _ {K D E B : Type 0} (L : Ghosts K) (M : DeviceGhosts D) (N : GaugeGhosts
   pub record LentForRead (channel line : ℕ) (answer : Result Got ReadRefusal) (at : ℕ) : Type 0 where
     pub before : Desk K D E B L M N O P
     pub after : Desk K D E B L M N O P
-    pub reads : DeskAnswers P channel (events.Read line) (replies.Read answer) (view_of L M N O P before) (view_of L M N O P after)
+    pub reads : DeskAnswers P channel (events.Read line) (replies.Read answer) (desk_of L M N O P before) (desk_of L M N O P after)
     pub counted : at ≡ before.split.front.accepted
 
   -- A line was read at its channel, and served where it had to wait.

@@ -19,7 +19,7 @@ use Rattle.worker_loops.specs.declared.shift.Working.{Working}
 use Rattle.board_desk.specs.declared.desk.Desk.{Desk}
 use Rattle.board_desk.specs.Calling.{Course, Paused, save_begin_course, save_step_course}
 use Rattle.board_desk.specs.Desk.{DeskStands}
-use Rattle.board_desk.specs.Views.{view_of}
+use Rattle.board_desk.specs.Views.{desk_of}
 use Rattle.board_desk.specs.Whole.{WholeAnswers}
 
 -- nothing is told of the record
@@ -28,8 +28,8 @@ tells_nothing saved old new = Unit {0}
 
 module _ {K D E B : Type 0} (L : Ghosts K) (M : DeviceGhosts D) (N : GaugeGhosts E) (O : BoardGhosts B) (P : PartsGhosts B) where
   -- A call of the whole module was this to the life.
-  abbrev pub Calls : Course → Desk K D E B L M N O P → Desk K D E B L M N O P → Type 0
-  Calls course old new = WholeAnswers P course (view_of L M N O P old) (view_of L M N O P new)
+  abbrev pub CallsWhole : Course → Desk K D E B L M N O P → Desk K D E B L M N O P → Type 0
+  CallsWhole course old new = WholeAnswers P course (desk_of L M N O P old) (desk_of L M N O P new)
 
   -- the same of what lies behind the board's lock, with what the call's answer tells of the record
   pub record CallsLocked (course : Course) (told : ℕ → Recorded → Recorded → Type 0) (old new : Option (Desk K D E B L M N O P)) : Type 0 where
@@ -37,19 +37,19 @@ module _ {K D E B : Type 0} (L : Ghosts K) (M : DeviceGhosts D) (N : GaugeGhosts
     pub after : Desk K D E B L M N O P
     pub old_is : old ≡ Some before
     pub new_is : new ≡ Some after
-    pub calls : Calls course before after
+    pub calls : CallsWhole course before after
     pub tells : told before.split.front.saved before.history after.history
 
   -- with all locks held it was this to the life
   pub record LentWhole (course : Course) : Type 0 where
     pub before : Desk K D E B L M N O P
     pub after : Desk K D E B L M N O P
-    pub calls : Calls course before after
+    pub calls : CallsWhole course before after
 
   -- a save was begun or refused, a step of one was made, or nothing was done
   abbrev pub TakesSaverTurn : Saving → Desk K D E B L M N O P → Desk K D E B L M N O P → Type 0
-  TakesSaverTurn (Began result) old new = Calls (save_begin_course result) old new
-  TakesSaverTurn (Stepped reply) old new = Calls (save_step_course reply) old new
+  TakesSaverTurn (Began result) old new = CallsWhole (save_begin_course result) old new
+  TakesSaverTurn (Stepped reply) old new = CallsWhole (save_step_course reply) old new
   TakesSaverTurn Rested old new = new ≡ old
   TakesSaverTurn Closed old new = new ≡ old
 
@@ -57,7 +57,7 @@ module _ {K D E B : Type 0} (L : Ghosts K) (M : DeviceGhosts D) (N : GaugeGhosts
   pub record LentTurnOfSaver (saving : Saving) : Type 0 where
     pub before : Desk K D E B L M N O P
     pub after : Desk K D E B L M N O P
-    pub turn : (m : Machine) → DeskStands P (view_of L M N O P before) m → turn_taken saving ≡ turn_of m before.split.front.saved
+    pub turn : (m : Machine) → DeskStands P (desk_of L M N O P before) m → turn_taken saving ≡ turn_of m before.split.front.saved
     pub steps : TakesSaverTurn saving before after
 
   -- the same, by how it goes on
@@ -69,7 +69,7 @@ module _ {K D E B : Type 0} (L : Ghosts K) (M : DeviceGhosts D) (N : GaugeGhosts
   abbrev pub CutsAtDesk : List Receipt → List Seen → Result Cut Stranger → Desk K D E B L M N O P → Desk K D E B L M N O P → Type 0
   CutsAtDesk receipts answers (Ok told) old new =
       AreChecked old.split.front.terms.start old.history receipts answers (record told { from = old.history.start })
-      × (told.from ≡ new.history.start) × (new.history ≡ cut_at old.split.front.saved old.history) × Calls Paused old new
+      × (told.from ≡ new.history.start) × (new.history ≡ cut_at old.split.front.saved old.history) × CallsWhole Paused old new
   CutsAtDesk receipts answers (Err stranger) old new = IsStranger old.split.front.terms.start old.history receipts answers stranger × (new ≡ old)
 
   -- with all locks held receipts and answers were checked and it was cut, or a stranger was named

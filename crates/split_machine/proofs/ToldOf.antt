@@ -20,7 +20,7 @@ use Rattle.channel_log.specs.Log.{IsLogOf, LogNote, Told, credits_of, credits_ou
 use Rattle.channel_log.specs.declared.entry.LogEntry.{LogEntry}
 use Rattle.nv_machine.specs.State.{Machine, Setup, all_of, base_of_life, memory_after, pending_of, start_of_life}
 use Rattle.split_machine.specs.OwnEvents.{looked}
-use Rattle.split_machine.specs.Telling.{AreLogsOf, AreOwn, IsToldOf, laid_out, times_in, times_told, waits_told, with_note}
+use Rattle.split_machine.specs.Telling.{AreLogsOf, AreOwn, IsToldOf, laid_out, times_in, times_logged, waits_told, with_note}
 use Rattle.split_machine.proofs.Summing.{all_waiting, never_after, never_before, once, sum_upward, times, upward}
 
 pub told_push : (log : List LogNote) (note : LogNote) → log_tells (log ++ note ∷ []) ≡ told_after (log_tells log) note
@@ -75,7 +75,7 @@ module _ (setup : Setup) (m : Machine) (logs : List (List LogNote)) (are : AreLo
   lie_within : All (λ (w : Write). setup.shape.channel_of w.line < length logs) m.life.writes
   lie_within k d less = let within = are.lie k d less in let enough = are.enough in omega (arith, within, enough)
 
-  told_times : (number : ℕ) → times_told number logs ≡ upward (λ c. times setup.shape.channel_of number c (start_of_life m.life) m.life.writes) 0 (length logs)
+  told_times : (number : ℕ) → times_logged number logs ≡ upward (λ c. times setup.shape.channel_of number c (start_of_life m.life) m.life.writes) 0 (length logs)
   told_times number =
       sum_upward (times_in number) (λ c. times setup.shape.channel_of number c (start_of_life m.life) m.life.writes) [] logs 0
       (λ i less.
@@ -83,10 +83,10 @@ module _ (setup : Setup) (m : Machine) (logs : List (List LogNote)) (are : AreLo
       ap (λ (ws : List Numbered). count_by (λ w. w.number == number) ws) (are.told i less).written
       ∙ ap (λ c. times setup.shape.channel_of number c (start_of_life m.life) m.life.writes) same)
 
-  pub told_once : (number : ℕ) → start_of_life m.life ≤ number → number < all_of m → times_told number logs ≡ 1
+  pub told_once : (number : ℕ) → start_of_life m.life ≤ number → number < all_of m → times_logged number logs ≡ 1
   told_once number from to = told_times number ∙ once setup.shape.channel_of number (length logs) (start_of_life m.life) m.life.writes lie_within from to
 
-  pub told_never : (number : ℕ) → (number < start_of_life m.life) ⊎ (all_of m ≤ number) → times_told number logs ≡ 0
+  pub told_never : (number : ℕ) → (number < start_of_life m.life) ⊎ (all_of m ≤ number) → times_logged number logs ≡ 0
   told_never number (inl less) = told_times number ∙ never_before setup.shape.channel_of number (length logs) (start_of_life m.life) m.life.writes less
   told_never number (inr more) = told_times number ∙ never_after setup.shape.channel_of number (length logs) (start_of_life m.life) m.life.writes more
 

@@ -54,8 +54,8 @@ with_note channel log note logs = slice_set logs channel (log ++ note ∷ [])
 abbrev pub times_in : ℕ → List LogNote → ℕ
 times_in number log = count_by (λ w. w.number == number) (log_tells log).written
 
-abbrev pub times_told : ℕ → List (List LogNote) → ℕ
-times_told number logs = sum_by (times_in number) logs
+abbrev pub times_logged : ℕ → List (List LogNote) → ℕ
+times_logged number logs = sum_by (times_in number) logs
 
 -- a write of this number waits on the channel behind the others
 abbrev pub with_waiting : ℕ → ℕ → Waits → Waits

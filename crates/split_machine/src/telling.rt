@@ -14,7 +14,7 @@ ghost use Rattle.nv_machine.specs.Moves.{written};
 ghost use Rattle.nv_machine.specs.State.{Machine, Setup};
 ghost use Rattle.nv_machine.specs.State.{all_of, base_of_life, memory_after, pending_of, start_of_life};
 ghost use Rattle.split_machine.specs.OwnEvents.{looked};
-ghost use Rattle.split_machine.specs.Telling.{AreLogsOf, laid_out, times_told, waits_told, with_note, with_waiting};
+ghost use Rattle.split_machine.specs.Telling.{AreLogsOf, laid_out, times_logged, waits_told, with_note, with_waiting};
 
 /// What a write that is accepted makes of what the logs tell, where it is noted with what waits on its channel then: it waits behind the
 /// writes of its channel and of those before it (`puts`), and the logs tell of the machine whose life has it (`logs`).
@@ -51,10 +51,10 @@ pub fn a_read_is_told()
 pub fn logs_tell_the_history()
     ensures once { (setup : Setup) (m : Machine) (logs : List (List LogNote)) (number : ℕ)
         → AreLogsOf setup m logs → start_of_life m.life ≤ number → number < all_of m
-        → times_told number logs ≡ 1 }
+        → times_logged number logs ≡ 1 }
     ensures never { (setup : Setup) (m : Machine) (logs : List (List LogNote)) (number : ℕ)
         → AreLogsOf setup m logs → (number < start_of_life m.life) ⊎ (all_of m ≤ number)
-        → times_told number logs ≡ 0 }
+        → times_logged number logs ≡ 0 }
     ensures line { (setup : Setup) (m : Machine) (logs : List (List LogNote)) (n line : ℕ)
         → AreLogsOf setup m logs → setup.shape.channel_of line < setup.shape.channels
         → line_of (memory_after m n) line

@@ -36,7 +36,7 @@ use Rattle.split_machine.specs.Telling.{AreLogsOf, AreOwn, laid_out, waits_told,
 use Rattle.split_machine.proofs.GivenTo.{got_told, logs_wrote, puts_told}
 use Rattle.split_machine.proofs.ToldOf.{credits_told, full_of_reads_told, full_told, logs_looked, told_of_log, told_push}
 use Rattle.split_module.specs.declared.front.SplitFront.{SplitFront}
-use Rattle.split_module.specs.Lending.{HasReadOn, IsSeen, SplitStands, WroteOn}
+use Rattle.split_module.specs.Lending.{HasReadOn, HasBeenSeen, SplitStands, WroteOn}
 
 -- a front knows nothing of what waits
 matches_waits : (front : Front) (m : Machine) (waits : Waits) → FrontMatches front m → FrontMatches front (record m { waits = waits })
@@ -92,7 +92,7 @@ module _ {K : Type 0} (L : Ghosts K) where
   -- a write of a channel that was looked at
   module _ (old new : SplitFront) (part later : Part K L) (write : Write) (accepted : Accepted) (accepts : AcceptsOne old.front accepted new.front) (lines : new.lines ≡ old.lines) (costs : new.costs ≡ old.costs)
       (out : new.out ≡ old.out + 1) (puts : L.view later.port ≡ with_write accepted.number (L.view part.port)) (long : length write.«data» ≡ 64) where
-    module _ (shape : Shape) (m : Machine) (logs : List (List LogNote)) (log : List LogNote) (s : SplitStands shape logs old m) (of : IsLogOf logs part.channel log) (seen : IsSeen L shape part log)
+    module _ (shape : Shape) (m : Machine) (logs : List (List LogNote)) (log : List LogNote) (s : SplitStands shape logs old m) (of : IsLogOf logs part.channel log) (seen : HasBeenSeen L shape part log)
         (on : shape.channel_of write.line ≡ part.channel) where
       abbrev setup : Setup
       setup = setup_in shape old.front
@@ -154,7 +154,7 @@ module _ {K : Type 0} (L : Ghosts K) where
 
   -- what the channel tells for a write to one of its lines
   pub tells_write : (old : SplitFront) (part : Part K L) (write : Write) (is_full : Bool) (need : ℕ) → returned_of L part ≡ 0 → is_full ≡ (part.credits == (L.view part.port).depth) → need ≡ needed_level old.costs (old.out + 1)
-      → write.line < old.lines → (shape : Shape) (m : Machine) (logs : List (List LogNote)) (log : List LogNote) → SplitStands shape logs old m → IsLogOf logs part.channel log → IsSeen L shape part log
+      → write.line < old.lines → (shape : Shape) (m : Machine) (logs : List (List LogNote)) (log : List LogNote) → SplitStands shape logs old m → IsLogOf logs part.channel log → HasBeenSeen L shape part log
       → shape.channel_of write.line ≡ part.channel → TellsWrite (setup_in shape old.front) m write.line is_full need
   tells_write old part write is_full need taken full needed within shape m logs log s of seen on =
       let covered = part.covered in
@@ -171,7 +171,7 @@ module _ {K : Type 0} (L : Ghosts K) where
 
   -- what the channel tells for a read of one of its lines
   pub tells_read : (front : SplitFront) (part : Part K L) (line : ℕ) (is_full : Bool) → is_full ≡ is_full_of_reads (L.view part.port)
-      → (shape : Shape) (m : Machine) (logs : List (List LogNote)) (log : List LogNote) → SplitStands shape logs front m → IsLogOf logs part.channel log → IsSeen L shape part log
+      → (shape : Shape) (m : Machine) (logs : List (List LogNote)) (log : List LogNote) → SplitStands shape logs front m → IsLogOf logs part.channel log → HasBeenSeen L shape part log
       → shape.channel_of line ≡ part.channel → is_full ≡ is_full_of_reads_at shape m.waits line
   tells_read front part line is_full full shape m logs log s of seen on =
       let counted = full_of_reads_told (setup_in shape front.front) m logs s.told part.channel of.there in
@@ -198,7 +198,7 @@ module _ {K : Type 0} (L : Ghosts K) where
 
   -- a read of a channel that was looked at
   pub read : (front : SplitFront) (part later : Part K L) (line : ℕ) (got : Got) → queue_of L later ≡ queue_of L part
-      → (shape : Shape) (m : Machine) (logs : List (List LogNote)) (log : List LogNote) → SplitStands shape logs front m → IsLogOf logs part.channel log → IsSeen L shape part log
+      → (shape : Shape) (m : Machine) (logs : List (List LogNote)) (log : List LogNote) → SplitStands shape logs front m → IsLogOf logs part.channel log → HasBeenSeen L shape part log
       → shape.channel_of line ≡ part.channel → AreOwn part.channel (L.view later.port).waits
       → IsGot (line_of (after (base_of_life m.life) (writes_of (log_tells log).written)) line) line front.front.accepted part.channel got (L.view part.port).waits (L.view later.port).waits
       → read_refusal (setup_in shape front.front) m line ≡ None → HasReadOn L shape front part line (Ok got) later m logs log

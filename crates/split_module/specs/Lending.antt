@@ -39,7 +39,7 @@ module _ {K : Type 0} (L : Ghosts K) where
       SplitStands shape noted new (record m { waits = laid_out (waits_told noted) })
 
   -- the part has seen what waits in it, which the log tells
-  pub record IsSeen (shape : Shape) (part : Part K L) (log : List LogNote) : Type 0 where
+  pub record HasBeenSeen (shape : Shape) (part : Part K L) (log : List LogNote) : Type 0 where
     pub waits : (log_tells log).waits ≡ (L.view part.port).waits
     pub depth : (L.view part.port).depth ≡ shape.depth
     pub most_reads : (L.view part.port).most_reads ≡ shape.reads
@@ -55,7 +55,7 @@ module _ {K : Type 0} (L : Ghosts K) where
   -- A write is one step of whichever machine the front stood for, with what waits noted behind it.
   abbrev pub WritesOn : SplitFront → Part K L → Write → Result Accepted WriteRefusal → SplitFront → Part K L → Type 0
   WritesOn old part write result new later = (shape : Shape) (m : Machine) (logs : List (List LogNote)) (log : List LogNote)
-      → SplitStands shape logs old m → IsLogOf logs part.channel log → IsSeen shape part log
+      → SplitStands shape logs old m → IsLogOf logs part.channel log → HasBeenSeen shape part log
       → (write.line < shape.lines → shape.channel_of write.line ≡ part.channel)
       → WroteOn shape old part write result new later m logs log
 
@@ -69,7 +69,7 @@ module _ {K : Type 0} (L : Ghosts K) where
   -- A read is one step of whichever machine the front stood for, with what waits noted behind it.
   abbrev pub ReadsOn : SplitFront → Part K L → ℕ → Result Got ReadRefusal → Part K L → Type 0
   ReadsOn front part line result later = (shape : Shape) (m : Machine) (logs : List (List LogNote)) (log : List LogNote)
-      → SplitStands shape logs front m → IsLogOf logs part.channel log → IsSeen shape part log
+      → SplitStands shape logs front m → IsLogOf logs part.channel log → HasBeenSeen shape part log
       → PartStands L part part.channel (base_of_life m.life) log
       → (line < shape.lines → shape.channel_of line ≡ part.channel)
       → HasReadOn shape front part line result later m logs log

@@ -8,7 +8,7 @@ use Rattle.board_desk.specs.Calling.{loss_course}
 use Rattle.board_desk.specs.Desk.{DeskView, desk_view}
 use Rattle.board_desk.specs.Loans.{AllComeBack, AreRestated, EndStays}
 use Rattle.board_desk.specs.Pieces.{CallDid}
-use Rattle.board_desk.specs.Views.{view_of}
+use Rattle.board_desk.specs.Views.{desk_of}
 use Rattle.board_desk.proofs.KeptWhole.{answers_whole, eight_logs, kept_whole, pieces_kept, shows_whole}
 use Rattle.board_desk.proofs.Wholly.{same_world}
 use Rattle.board_desk.proofs.all_locks.lose.Given.{Over}
@@ -17,7 +17,7 @@ use Rattle.board_desk.proofs.all_locks.lose.Goals as goal
 
 module _ (g : Over) (c : After-lose-rest g) where
   abbrev settled : DeskView
-  settled = view_of g.K.ChannelPort g.D.SaveDevice g.E.Energy g.B.BoardName g.B.PartsName c.settle_all.new.desk
+  settled = desk_of g.K.ChannelPort g.D.SaveDevice g.E.Energy g.B.BoardName g.B.PartsName c.settle_all.new.desk
 
   abbrev then_with : List (List LogNote) → DeskView
   then_with logs =
@@ -31,7 +31,7 @@ pub lose-rest-requires-clause-kept : goal.lose-rest-requires-clause-kept
 lose-rest-requires-clause-kept g c _ _ =
     ∣ (
       c.settle_all.new.desk.known.logs,
-      pieces_kept g.K.ChannelPort g.B.BoardName g.B.PartsName (view_of g.K.ChannelPort g.D.SaveDevice g.E.Energy g.B.BoardName g.B.PartsName c.settle_all.new.desk) _ _ _ _ _ c.settle_all.new.desk.kept c.lend_all.new.ports.items
+      pieces_kept g.K.ChannelPort g.B.BoardName g.B.PartsName (desk_of g.K.ChannelPort g.D.SaveDevice g.E.Energy g.B.BoardName g.B.PartsName c.settle_all.new.desk) _ _ _ _ _ c.settle_all.new.desk.kept c.lend_all.new.ports.items
           c.lend_all.ensures.have,
     ) ∣₁
 
@@ -44,7 +44,7 @@ restore_all-requires-clause-count g c =
 pub restore_all-requires-clause-eight : goal.restore_all-requires-clause-eight
 restore_all-requires-clause-eight g c =
     ap (λ (f : AllLogs). length f.logs) c.lend_all.ensures.known
-    ∙ eight_logs g.K.ChannelPort g.B.BoardName g.B.PartsName (view_of g.K.ChannelPort g.D.SaveDevice g.E.Energy g.B.BoardName g.B.PartsName c.settle_all.new.desk) _ _ _ _ _ c.settle_all.new.desk.kept
+    ∙ eight_logs g.K.ChannelPort g.B.BoardName g.B.PartsName (desk_of g.K.ChannelPort g.D.SaveDevice g.E.Energy g.B.BoardName g.B.PartsName c.settle_all.new.desk) _ _ _ _ _ c.settle_all.new.desk.kept
 
 pub restore_all-requires-clause-stays : goal.restore_all-requires-clause-stays
 restore_all-requires-clause-stays g c =
@@ -90,6 +90,6 @@ returns g c =
     record {
       answers = answers_whole g.K.ChannelPort g.B.BoardName g.B.PartsName (settled g at.After-lose-rest) _ c.settle_all.new.desk.seat _ _ _ c.settle_all.new.desk.kept (loss_course c.lose-rest.result.answer)
           (then_with g at.After-lose-rest c.restore_all.new.known.logs) c.lose-rest.result.rest.pieces.ports.items (did g at.After-lose-rest) (restated_then g at.After-restore_all)
-          (view_of g.K.ChannelPort g.D.SaveDevice g.E.Energy g.B.BoardName g.B.PartsName c.args.desk) c.settle_all.ensures.settles
+          (desk_of g.K.ChannelPort g.D.SaveDevice g.E.Energy g.B.BoardName g.B.PartsName c.args.desk) c.settle_all.ensures.settles
           (same_world g.K.ChannelPort g.D.SaveDevice g.E.Energy g.B.BoardName g.B.PartsName c.args.desk c.settle_all.new.desk c.settle_all.ensures.same);
     }

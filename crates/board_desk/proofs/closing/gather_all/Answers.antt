@@ -4,7 +4,7 @@ use Rattle.std.proofs.Math.Logic.{∥∥₁_elim, ∥∥₁_map, ∥∥₁_prop}
 use Rattle.split_module.specs.declared.gathering.SplitModule.{SplitModule}
 use Rattle.board_desk.specs.Desk.{DeskView}
 use Rattle.board_desk.specs.Pieces.{ArePiecesKept}
-use Rattle.board_desk.specs.Views.{view_of}
+use Rattle.board_desk.specs.Views.{desk_of}
 use Rattle.board_desk.proofs.Joined.{fits_named}
 use Rattle.board_desk.proofs.KeptWhole.{pieces_kept}
 use Rattle.board_desk.proofs.Parted.{record_joined}
@@ -15,7 +15,7 @@ use Rattle.board_desk.proofs.closing.gather_all.Goals as goal
 
 module _ (g : Over) (c : After-lend_all g) where
   abbrev settled : DeskView
-  settled = view_of g.K.ChannelPort g.D.SaveDevice g.E.Energy g.B.BoardName g.B.PartsName c.settle_all.new.desk
+  settled = desk_of g.K.ChannelPort g.D.SaveDevice g.E.Energy g.B.BoardName g.B.PartsName c.settle_all.new.desk
 
   abbrev pieces : SplitModule g.row.K.Denot
   pieces = record { front = c.settle_all.new.desk.split; ports = c.lend_all.new.ports; terms = c.settle_all.new.desk.terms }

@@ -1,7 +1,7 @@
 use Rattle.std.proofs.Common.{◌∙◌, refl, subst, sym}
 use Rattle.std.specs.Option.{unwrap_or}
 use Rattle.board_desk.specs.Calling.{save_begin_course, save_step_course}
-use Rattle.split_board.specs.Wholes.{Calls}
+use Rattle.split_board.specs.Wholes.{CallsWhole}
 use Rattle.split_board.proofs.saving.save_locked.Goals as goal
 
 pub returns-in-Begin : goal.returns-in-Begin
@@ -11,7 +11,7 @@ returns-in-Begin g c =
       before = c.in-Some.desk;
       after = called.after;
       turn = λ m stands. sym c.in-Begin.is ∙ c.saver_turn.ensures m stands;
-      steps = subst (λ desk. Calls g.K.ChannelPort g.D.SaveDevice g.E.Energy g.B.BoardName g.B.PartsName (save_begin_course c.call_locked.result) desk called.after)
+      steps = subst (λ desk. CallsWhole g.K.ChannelPort g.D.SaveDevice g.E.Energy g.B.BoardName g.B.PartsName (save_begin_course c.call_locked.result) desk called.after)
           (λ i. unwrap_or ((sym called.old_is ∙ c.in-Some.is) i) called.before) called.calls;
     }
 
@@ -22,7 +22,7 @@ returns-in-Step g c =
       before = c.in-Some.desk;
       after = called.after;
       turn = λ m stands. sym c.in-Step.is ∙ c.saver_turn.ensures m stands;
-      steps = subst (λ desk. Calls g.K.ChannelPort g.D.SaveDevice g.E.Energy g.B.BoardName g.B.PartsName (save_step_course c.call_locked-in-Step.result) desk called.after)
+      steps = subst (λ desk. CallsWhole g.K.ChannelPort g.D.SaveDevice g.E.Energy g.B.BoardName g.B.PartsName (save_step_course c.call_locked-in-Step.result) desk called.after)
           (λ i. unwrap_or ((sym called.old_is ∙ c.in-Some.is) i) called.before) called.calls;
     }
 

@@ -15,9 +15,9 @@ use Rattle.mark_board.specs.SeenMarks.{seen_marks}
 use Rattle.nv_machine.specs.State.{Machine, base_of_life}
 use Rattle.nv_machine.specs.declared.events.Event.{Event}
 use Rattle.nv_machine.specs.declared.events.Reply.{Reply}
-use Rattle.board_desk.specs.Answering.{IsSettled, IsSettledPart}
+use Rattle.board_desk.specs.Answering.{HasSettled, IsSettledPart}
 use Rattle.board_desk.specs.Desk.{DeskStands, DeskView, setup_at, shape_at}
-use Rattle.board_desk.specs.Views.{view_of}
+use Rattle.board_desk.specs.Views.{desk_of}
 use Rattle.board_desk.proofs.Asked.{asked_has, has_channel, lines_are, part_ended, part_lines, part_place, part_seen}
 use Rattle.board_desk.proofs.Followed.{Follows, behind, read_answered, read_refused}
 use Rattle.board_desk.proofs.Keeping.{kept_after}
@@ -40,13 +40,13 @@ module _ (g : Over) (c : After-inform g) where
   P = g.B.PartsName
 
   abbrev mid : DeskView
-  mid = view_of g.K.ChannelPort g.D.SaveDevice g.E.Energy g.B.BoardName g.B.PartsName c.settle.new.self
+  mid = desk_of g.K.ChannelPort g.D.SaveDevice g.E.Energy g.B.BoardName g.B.PartsName c.settle.new.self
 
   due : IsDue P g.K.ChannelPort c.in-Some.part g.C.ChannelName.NUMBER c.settle.new.slot.seat.log
   due = let slot = c.settle.new.slot in due_part P g.K.ChannelPort slot.part c.in-Some.part g.C.ChannelName.NUMBER slot.seat.log c.in-Some.is slot.kept.part_is
 
   settled : IsSettledPart g.K.ChannelPort c.settle.new.self.known.logs c.in-Some.part c.settle.new.slot.seat.log
-  settled = subst (λ p. IsSettled g.K.ChannelPort c.settle.new.self.known.logs p c.settle.new.slot.seat.log) c.in-Some.is c.settle.ensures.settled
+  settled = subst (λ p. HasSettled g.K.ChannelPort c.settle.new.self.known.logs p c.settle.new.slot.seat.log) c.in-Some.is c.settle.ensures.settled
 
   own : c.in-Some.part.channel ≡ g.C.ChannelName.NUMBER
   own = channel_due P g.K.ChannelPort c.in-Some.part g.C.ChannelName.NUMBER c.settle.new.slot.seat.log due
@@ -77,7 +77,7 @@ read_on-requires-clause-ended g c =
 -- The read was answered, and what waits then was noted.
 module _ (g : Over) (c : After-look_at g) where
   abbrev before : DeskView
-  before = view_of g.K.ChannelPort g.D.SaveDevice g.E.Energy g.B.BoardName g.B.PartsName c.settle.new.self
+  before = desk_of g.K.ChannelPort g.D.SaveDevice g.E.Energy g.B.BoardName g.B.PartsName c.settle.new.self
 
   abbrev now : DeskView
   now = record before { logs = c.look_at.new.known.logs }
@@ -89,7 +89,7 @@ module _ (g : Over) (c : After-look_at g) where
   part_due = let slot = c.settle.new.slot in due_part g.B.PartsName g.K.ChannelPort slot.part c.in-Some.part g.C.ChannelName.NUMBER slot.seat.log c.in-Some.is slot.kept.part_is
 
   part_settled : IsSettledPart g.K.ChannelPort c.settle.new.self.known.logs c.in-Some.part c.settle.new.slot.seat.log
-  part_settled = subst (λ p. IsSettled g.K.ChannelPort c.settle.new.self.known.logs p c.settle.new.slot.seat.log) c.in-Some.is c.settle.ensures.settled
+  part_settled = subst (λ p. HasSettled g.K.ChannelPort c.settle.new.self.known.logs p c.settle.new.slot.seat.log) c.in-Some.is c.settle.ensures.settled
 
   part_own : c.in-Some.part.channel ≡ g.C.ChannelName.NUMBER
   part_own = channel_due g.B.PartsName g.K.ChannelPort c.in-Some.part g.C.ChannelName.NUMBER c.settle.new.slot.seat.log part_due
@@ -149,7 +149,7 @@ returns-in-Ok-clause-ok g c = λ m s.
     let at = goal.at.returns-in-Ok-clause-ok g c in
     let it = at.After-look_at in
     let same = c.settle.ensures.same in
-    let old = view_of g.K.ChannelPort g.D.SaveDevice g.E.Energy g.B.BoardName g.B.PartsName c.args.self.now in
+    let old = desk_of g.K.ChannelPort g.D.SaveDevice g.E.Energy g.B.BoardName g.B.PartsName c.args.self.now in
     ∥∥₁_elim (c.settle.ensures.settles m s) ∥∥₁_prop
     (λ on.
     ∥∥₁_map (followed g it on.seen on.stands)
@@ -186,7 +186,7 @@ returns-in-Err-clause-err g c = λ m s.
     let desk = c.settle.new.self in
     let log = c.settle.new.slot.seat.log in
     let part = c.in-Some.part in
-    let old = view_of g.K.ChannelPort g.D.SaveDevice g.E.Energy g.B.BoardName P c.args.self.now in
+    let old = desk_of g.K.ChannelPort g.D.SaveDevice g.E.Energy g.B.BoardName P c.args.self.now in
     ∥∥₁_elim (c.settle.ensures.settles m s) ∥∥₁_prop
     (λ on.
     ∥∥₁_map (due g it)

@@ -6,7 +6,7 @@ use Rattle.channel_log.specs.Log.{IsLogOf, LogNote, note_of}
 use Rattle.channel_log.specs.Seats.{AllLogs, OneLog}
 use Rattle.channel_log.specs.declared.entry.LogEntry.TheVariants.{Looked}
 use Rattle.board_desk.specs.Answering.{Settles, SettlesPart}
-use Rattle.board_desk.specs.Views.{view_of}
+use Rattle.board_desk.specs.Views.{desk_of}
 use Rattle.board_desk.proofs.Keeping.{kept_settled}
 use Rattle.board_desk.proofs.Lending.{channel_due, due_noted, due_part, goes_on, returned_out}
 use Rattle.board_desk.proofs.Noted.{front_noted, logs_noted, seat_noted, still_of, waits_told}
@@ -23,7 +23,7 @@ take_back-requires g c =
     let slot = c.args.slot.now in
     let desk = c.args.self.now in
     record {
-      out = returned_out g.B.PartsName g.K.ChannelPort (view_of g.K.ChannelPort g.D.SaveDevice g.E.Energy g.B.BoardName g.B.PartsName desk) c.in-Some.part g.C.ChannelName.NUMBER slot.seat.log desk.kept.stands
+      out = returned_out g.B.PartsName g.K.ChannelPort (desk_of g.K.ChannelPort g.D.SaveDevice g.E.Energy g.B.BoardName g.B.PartsName desk) c.in-Some.part g.C.ChannelName.NUMBER slot.seat.log desk.kept.stands
           (due_part g.B.PartsName g.K.ChannelPort slot.part c.in-Some.part g.C.ChannelName.NUMBER slot.seat.log c.in-Some.is slot.kept.part_is) c.compare.ensures.few;
     }
 
@@ -34,11 +34,11 @@ module _ (g : Over) (c : After-look_at g) where
   of : IsLogOf c.args.self.now.known.logs g.C.ChannelName.NUMBER c.args.slot.now.seat.log
   of = subst (λ k. IsLogOf c.args.self.now.known.logs k c.args.slot.now.seat.log) c.args.slot.now.kept.channel_is c.compare.ensures.agreed
 
-  settles : Settles g.B.PartsName g.C.ChannelName.NUMBER (view_of g.K.ChannelPort g.D.SaveDevice g.E.Energy g.B.BoardName g.B.PartsName c.args.self.now)
-      (record (view_of g.K.ChannelPort g.D.SaveDevice g.E.Energy g.B.BoardName g.B.PartsName c.args.self.now) { split = c.take_back.new.front; logs = c.look_at.new.known.logs })
+  settles : Settles g.B.PartsName g.C.ChannelName.NUMBER (desk_of g.K.ChannelPort g.D.SaveDevice g.E.Energy g.B.BoardName g.B.PartsName c.args.self.now)
+      (record (desk_of g.K.ChannelPort g.D.SaveDevice g.E.Energy g.B.BoardName g.B.PartsName c.args.self.now) { split = c.take_back.new.front; logs = c.look_at.new.known.logs })
   settles =
       let slot = c.args.slot.now in
-      goes_on g.B.PartsName g.K.ChannelPort (view_of g.K.ChannelPort g.D.SaveDevice g.E.Energy g.B.BoardName g.B.PartsName c.args.self.now) c.take_back.new.front c.in-Some.part c.take_back.new.part g.C.ChannelName.NUMBER slot.seat.log
+      goes_on g.B.PartsName g.K.ChannelPort (desk_of g.K.ChannelPort g.D.SaveDevice g.E.Energy g.B.BoardName g.B.PartsName c.args.self.now) c.take_back.new.front c.in-Some.part c.take_back.new.part g.C.ChannelName.NUMBER slot.seat.log
       c.take_back.ensures.looks c.take_back.ensures.front c.take_back.ensures.costs c.take_back.ensures.port c.look_at.ensures.most of
       (due_part g.B.PartsName g.K.ChannelPort slot.part c.in-Some.part g.C.ChannelName.NUMBER slot.seat.log c.in-Some.is slot.kept.part_is) c.look_at.new.known.logs
       (logs_noted note c.compare.new.self c.args.self.now.known c.look_at.new.known c.compare.new.seat slot.seat c.look_at.new.seat c.look_at.ensures.noted c.compare.ensures.front c.compare.ensures.seat g.C.ChannelName.NUMBER slot.kept.channel_is)
@@ -65,7 +65,7 @@ invariant_of-self-clause-kept g c =
     let desk = c.args.self.now in
     let slot = c.args.slot.now in
     let at = goal.at.invariant_of-self-clause-kept g c in
-    kept_settled g.B.BoardName g.B.PartsName (view_of g.K.ChannelPort g.D.SaveDevice g.E.Energy g.B.BoardName g.B.PartsName desk) _ desk.seat _ desk.logs desk.known.table desk.kept c.take_back.new.front c.look_at.new.known.logs
+    kept_settled g.B.BoardName g.B.PartsName (desk_of g.K.ChannelPort g.D.SaveDevice g.E.Energy g.B.BoardName g.B.PartsName desk) _ desk.seat _ desk.logs desk.known.table desk.kept c.take_back.new.front c.look_at.new.known.logs
     c.look_at.new.known.table c.take_back.ensures.front c.take_back.ensures.costs
     (ap (λ (f : AllLogs). f.table) (front_noted (note g at.After-look_at) c.compare.new.self desk.known c.look_at.new.known c.compare.new.seat slot.seat c.look_at.new.seat c.look_at.ensures.noted c.compare.ensures.front c.compare.ensures.seat))
     g.C.ChannelName.NUMBER (settles g at.After-look_at)

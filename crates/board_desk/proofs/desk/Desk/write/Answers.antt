@@ -16,9 +16,9 @@ use Rattle.module_core.specs.declared.front.Front.{Front}
 use Rattle.nv_machine.specs.declared.events.Accepted.{Accepted}
 use Rattle.nv_machine.specs.declared.events.Event.{Event}
 use Rattle.nv_machine.specs.declared.events.Reply.{Reply}
-use Rattle.board_desk.specs.Answering.{IsSettled, IsSettledPart}
+use Rattle.board_desk.specs.Answering.{HasSettled, IsSettledPart}
 use Rattle.board_desk.specs.Desk.{DeskStands, DeskView, shape_at}
-use Rattle.board_desk.specs.Views.{view_of}
+use Rattle.board_desk.specs.Views.{desk_of}
 use Rattle.board_desk.proofs.Asked.{accepted_before, asked_has, few_out, has_channel, in_order, lines_are, many_recorded, part_ended, part_lines, part_place, part_seen, waiting_below}
 use Rattle.board_desk.proofs.Followed.{Follows, behind}
 use Rattle.board_desk.proofs.Keeping.{kept_after}
@@ -37,13 +37,13 @@ unreachable-requires g c =
 
 module _ (g : Over) (c : After-always g) where
   abbrev mid : DeskView
-  mid = view_of g.K.ChannelPort g.D.SaveDevice g.E.Energy g.B.BoardName g.B.PartsName c.settle.new.self
+  mid = desk_of g.K.ChannelPort g.D.SaveDevice g.E.Energy g.B.BoardName g.B.PartsName c.settle.new.self
 
   due : IsDue g.B.PartsName g.K.ChannelPort c.in-Some.part g.C.ChannelName.NUMBER c.settle.new.slot.seat.log
   due = let slot = c.settle.new.slot in due_part g.B.PartsName g.K.ChannelPort slot.part c.in-Some.part g.C.ChannelName.NUMBER slot.seat.log c.in-Some.is slot.kept.part_is
 
   settled : IsSettledPart g.K.ChannelPort c.settle.new.self.known.logs c.in-Some.part c.settle.new.slot.seat.log
-  settled = subst (λ p. IsSettled g.K.ChannelPort c.settle.new.self.known.logs p c.settle.new.slot.seat.log) c.in-Some.is c.settle.ensures.settled
+  settled = subst (λ p. HasSettled g.K.ChannelPort c.settle.new.self.known.logs p c.settle.new.slot.seat.log) c.in-Some.is c.settle.ensures.settled
 
   own : c.in-Some.part.channel ≡ g.C.ChannelName.NUMBER
   own = channel_due g.B.PartsName g.K.ChannelPort c.in-Some.part g.C.ChannelName.NUMBER c.settle.new.slot.seat.log due
@@ -99,7 +99,7 @@ module _ (g : Over) (c : After-note g) where
   P = g.B.PartsName
 
   abbrev before : DeskView
-  before = view_of g.K.ChannelPort g.D.SaveDevice g.E.Energy g.B.BoardName g.B.PartsName c.settle.new.self
+  before = desk_of g.K.ChannelPort g.D.SaveDevice g.E.Energy g.B.BoardName g.B.PartsName c.settle.new.self
 
   abbrev now : DeskView
   now = record before { split = c.write_on-reply.new.front; history = c.note.new.history; logs = c.note_write.new.known.logs }
@@ -108,7 +108,7 @@ module _ (g : Over) (c : After-note g) where
   part_due = let slot = c.settle.new.slot in due_part P g.K.ChannelPort slot.part c.in-Some.part g.C.ChannelName.NUMBER slot.seat.log c.in-Some.is slot.kept.part_is
 
   part_settled : IsSettledPart g.K.ChannelPort c.settle.new.self.known.logs c.in-Some.part c.settle.new.slot.seat.log
-  part_settled = subst (λ p. IsSettled g.K.ChannelPort c.settle.new.self.known.logs p c.settle.new.slot.seat.log) c.in-Some.is c.settle.ensures.settled
+  part_settled = subst (λ p. HasSettled g.K.ChannelPort c.settle.new.self.known.logs p c.settle.new.slot.seat.log) c.in-Some.is c.settle.ensures.settled
 
   part_own : c.in-Some.part.channel ≡ g.C.ChannelName.NUMBER
   part_own = channel_due P g.K.ChannelPort c.in-Some.part g.C.ChannelName.NUMBER c.settle.new.slot.seat.log part_due
@@ -181,7 +181,7 @@ returns-clause-answers g c = λ m s.
     let at = goal.at.returns-clause-answers g c in
     let it = at.After-note in
     let same = c.settle.ensures.same in
-    let old = view_of g.K.ChannelPort g.D.SaveDevice g.E.Energy g.B.BoardName g.B.PartsName c.args.self.now in
+    let old = desk_of g.K.ChannelPort g.D.SaveDevice g.E.Energy g.B.BoardName g.B.PartsName c.args.self.now in
     ∥∥₁_map (c.settle.ensures.settles m s)
     (λ on.
     behind g.B.PartsName g.C.ChannelName.NUMBER (Event.Write c.args.write) (Reply.Write c.write_on-reply.result) old (before g it) (now g it) m same.front same.costs (ap g.D.SaveDevice.state same.device) (ap g.E.Energy.gauge same.energy) on

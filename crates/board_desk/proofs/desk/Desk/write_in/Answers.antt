@@ -5,13 +5,13 @@ use Rattle.nv_machine.specs.declared.events.Event.TheVariants as events
 use Rattle.nv_machine.specs.declared.events.Reply.TheVariants as replies
 use Rattle.nv_workers.proofs.Common.{Client, Ok, Result, SeenMarks, told_at}
 use Rattle.board_desk.specs.Answering.{DeskAnswers}
-use Rattle.board_desk.specs.Views.{view_of}
+use Rattle.board_desk.specs.Views.{desk_of}
 use Rattle.board_desk.proofs.desk.Desk.write_in.Goals.{in-Ok, in-Err}
 use Rattle.board_desk.proofs.desk.Desk.write_in.Goals as goal
 
 pub returns-clause-writes : goal.returns-clause-writes
 returns-clause-writes g c =
-    let view = view_of g.K.ChannelPort g.D.SaveDevice g.E.Energy g.B.BoardName g.B.PartsName in
+    let view = desk_of g.K.ChannelPort g.D.SaveDevice g.E.Energy g.B.BoardName g.B.PartsName in
     let Told : Result Accepted WriteRefusal → Type 0 = λ r. DeskAnswers g.B.PartsName g.C.ChannelName.NUMBER (events.Write c.args.write) (replies.Write r) (view c.args.self.now) (view c.write.new.self) in
     let writes = ap (λ (host : Client). host.writes) c.host.view_is in
     elim c.match-write.branch [
