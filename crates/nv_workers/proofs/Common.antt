@@ -1,15 +1,12 @@
 -- The words that most proofs of this crate cite, passed on from one place.
-pub use Rattle.std.specs.Prelude.{All, Err, IfOk, None, Ok, Option, Result, Some, length, vec_capacity, vec_len, ◌+◌, ◌≡◌, ◌≤◌}
-pub use Rattle.std.proofs.Math.Logic.{∥∥₁_elim, ∥∥₁_map}
+pub use Rattle.std.specs.Prelude.{All, None, Ok, Option, Result, Some, length, vec_capacity, vec_len, ◌+◌, ◌≡◌, ◌≤◌}
+pub use Rattle.std.proofs.Math.Logic.{∥∥₁_elim}
 pub use Rattle.energy_budget.specs.declared.energy.Energy.{Ghosts}
-pub use Rattle.channel_port.specs.declared.answers.Got.{Got}
-pub use Rattle.nv_machine.specs.State.{Life, Machine, RunningSave, Setup, Store, World}
-pub use Rattle.module_core.specs.Stands.{HasDevice, ModuleStands, setup_of, world_of}
+pub use Rattle.nv_machine.specs.State.{Machine, RunningSave, Setup, Store, World}
+pub use Rattle.module_core.specs.Stands.{HasDevice, ModuleStands, setup_of}
 pub use Rattle.mark_board.specs.SeenMarks.{SeenMarks, seen_marks}
 pub use Rattle.nv_workers.specs.declared.recorded_module.RecordedModule.{RecordedModule}
 pub use Rattle.nv_workers.specs.Client.{Client, client}
 pub use Rattle.nv_workers.specs.Kept.{IsRecordKept, StandsWith}
-pub use Rattle.nv_workers.specs.Marks.{IsCounted, ShowsNoMore, marks_of, told_at}
-pub use Rattle.nv_workers.specs.Serving.{IsOfChannels}
-pub use Rattle.nv_workers.specs.Lived.{LivedUntil, assembly_of, world_for}
-pub use Rattle.nv_workers.specs.Steps.{Steps, StepsTo}
+pub use Rattle.nv_workers.specs.Marks.{ShowsNoMore, told_at}
+pub use Rattle.nv_workers.specs.Lived.{LivedUntil, world_for}

@@ -1,11 +1,8 @@
 pub mod Beginning
-pub mod BoardsKept
 pub mod Common
 pub mod CutRecords
 pub mod Holding
 pub mod IfOkGives
 pub mod Keeping
 pub mod Living
-pub mod Quiet
 pub mod Stored
-pub mod Ticketed

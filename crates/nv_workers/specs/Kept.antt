@@ -47,9 +47,9 @@ module _ {K D E : Type 0} (L : Ghosts K) (M : DeviceGhosts D) (N : GaugeGhosts E
     pub room : HasRoomForAll L M it
 
 module _ {K D E B : Type 0} (L : Ghosts K) (M : DeviceGhosts D) (N : GaugeGhosts E) (O : NameGhosts B) where
-  -- What is true behind the lock between two events: the words and the channels are those that the board's name says; the record
-  -- is kept, with the life so far; the marks are the module's two numbers; and the hosts have written all that was accepted since
-  -- the board was opened, so many.
+  -- What is true of a board that was put together: the words and the channels are those that the board's name says; the record is
+  -- kept, with the life so far; the marks are the module's two numbers; and the hosts have written all that was accepted since the
+  -- board was opened, so many.
   pub record IsBoardKept (it : RecordedModule K D E L) (words : TableId) (marks : SeenMarks) (written : ℕ) : Type 0 where
     pub board : words ≡ O.board
     pub channels : (setup_of L it.running).shape.channels ≡ O.channels

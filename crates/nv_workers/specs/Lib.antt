@@ -1,6 +1,5 @@
 pub mod Boards
 pub mod Client
-pub mod Cutting
 pub mod Ending
 pub mod Kept
 pub mod Lived
@@ -9,5 +8,3 @@ pub mod Opening
 pub mod Savers
 pub mod Serving
 pub mod Steps
-pub mod Turns
-pub mod Writing

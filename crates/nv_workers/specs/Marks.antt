@@ -1,5 +1,5 @@
 -- The marks of a board, and the two numbers of its module.
-use Rattle.std.specs.Prelude.{◌≡◌, ℕ, ◌+◌, ◌≤◌}
+use Rattle.std.specs.Prelude.{ℕ, ◌≤◌}
 use Rattle.atomic_table.specs.Seated.{TableId}
 use Rattle.mark_board.specs.SeenMarks.{SeenMarks, seen_marks}
 use Rattle.channel_port.specs.declared.port.ChannelPort.{Ghosts}
@@ -17,13 +17,6 @@ pub record ShowsNoMore (accepted persisted : ℕ) (marks : SeenMarks) : Type 0 w
   pub ordered : persisted ≤ accepted
 
 module _ {K : Type 0} (L : Ghosts K) where
-  -- An accepted write has the number of all that were accepted before it and tells how many are persistent then; it is one
-  -- more.
-  pub record IsCounted (accepted : Accepted) (old new : Module K L) : Type 0 where
-    pub number : accepted.number ≡ old.front.accepted
-    pub mark : accepted.mark ≡ new.front.persisted
-    pub one : new.front.accepted ≡ accepted.number + 1
-
   -- what the board's seat sees where the marks are the module's two numbers
   abbrev pub marks_of : TableId → Module K L → SeenMarks
   marks_of board it = seen_marks board it.front.accepted it.front.persisted

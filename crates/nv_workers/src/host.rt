@@ -1,27 +1,18 @@
 // Who writes and reads.
-ghost use Rattle.std.specs.Prelude.{◌≡◌, ◌<◌, ◌≤◌, [], IfOk, IfErr, Ok, Err};
+ghost use Rattle.std.specs.Prelude.{◌≡◌, ◌<◌, ◌≤◌, [], IfOk, IfErr};
 ghost use Rattle.std.specs.Arc.{arc_value};
-ghost use Rattle.module_core.specs.Stands.{setup_of};
 ghost use Rattle.nv_workers.specs.Client.{SeesNoLess, client};
-ghost use Rattle.nv_workers.specs.Serving.{IsOfChannels};
-ghost use Rattle.nv_workers.specs.Steps.{Steps};
-ghost use Rattle.nv_workers.specs.Writing.{HostWrites, KeepsRest};
 
 use crate::board_name::BoardName;
-use crate::held::{Held, ReadAt};
-use arm_state::{ReadRefusal, WriteRefusal};
-use channel_port::{ChannelPort, Got};
-use energy_budget::Energy;
+use channel_port::Got;
 use ghost_trace::Trace;
-use line_memory::{Line, Write};
+use line_memory::Line;
 use mark_board::{HostSeat, MarkBoard};
 use notice_book::Persisted;
-use nv_machine::{Event, Reply};
-use save_device::SaveDevice;
 use std::alloc::Global;
 use std::marker::Model;
+use std::sync::Arc;
 use std::sync::ledger::Share;
-use std::sync::{Arc, Wait};
 
 /// A write that was accepted: its number, and what it wrote.
 #[derive(Clone, Copy, Debug, PartialEq, Eq)]
@@ -90,57 +81,6 @@ impl<B: BoardName> Host<B> {
             seat,
             share,
             delivered: Trace::new(),
-        }
-    }
-
-    /// Writes a line at the module that is lent.
-    pub fn write_in<K: ChannelPort, D: SaveDevice, E: Energy>(
-        &mut self,
-        held: &mut Held<K, D, E, B>,
-        write: Write,
-    ) -> Result<Receipt, WriteRefusal>
-        ensures writes { HostWrites K.ChannelPort D.SaveDevice E.Energy B.BoardName.own
-            write result self.old self.new held.old held.new }
-        ensures rises { SeesNoLess self.old self.new }
-        ensures rest { KeepsRest K.ChannelPort D.SaveDevice E.Energy B.BoardName.own
-            held.old held.new }
-    {
-        let data = write.data;
-        match held.write(&mut self.seat, &mut self.share, write) {
-            Ok(accepted) => Ok(Receipt {
-                number: accepted.number,
-                line: write.line,
-                data,
-            }),
-            Err(refusal) => Err(refusal),
-        }
-    }
-
-    /// Reads a line at the module that is lent. The number is how many writes were accepted before it.
-    pub fn read_in<K: ChannelPort, D: SaveDevice, E: Energy>(
-        &mut self,
-        held: &mut Held<K, D, E, B>,
-        line: u64,
-    ) -> Result<GotAt, ReadRefusal>
-        ensures ok { IfOk result (λ r. Steps K.ChannelPort D.SaveDevice E.Energy B.BoardName.own
-            (Event.Read line) (Reply.Read (Ok r.got)) held.old held.new) }
-        ensures err { IfErr result (λ refusal.
-            Steps K.ChannelPort D.SaveDevice E.Energy B.BoardName.own
-            (Event.Read line) (Reply.Read (Err refusal)) held.old held.new) }
-        ensures channel { IfOk result (λ r. IsOfChannels B.channels r.got) }
-        ensures at { IfOk result (λ r. r.at ≡ held.old.recorded.running.front.accepted) }
-        ensures seen { IfOk result (λ r. r.at ≡ self.new.accepted) }
-        ensures rises { SeesNoLess self.old self.new }
-        ensures writes { self.new.writes ≡ self.old.writes }
-        ensures device { held.new.recorded.device ≡ held.old.recorded.device }
-        ensures energy { held.new.recorded.energy ≡ held.old.recorded.energy }
-        ensures setup { setup_of K.ChannelPort held.new.recorded.running
-            ≡ setup_of K.ChannelPort held.old.recorded.running }
-    {
-        let ReadAt { reply, at } = held.read(&mut self.seat, line);
-        match reply {
-            Ok(got) => Ok(GotAt { got, at }),
-            Err(refusal) => Err(refusal),
         }
     }
 

@@ -1,12 +1,13 @@
-//! Threads that share one module: the module put together, and the hosts.
+//! Threads that share one module: what their board begins with, its hosts, and what its life comes to.
 //!
-//! `Held` is a module with its device, its gauge and its record, and the seat that moves the marks. Contracts see each of
-//! its calls as one event that the module answers (`specs/Steps.antt`). A `Host` loads the marks without a lock.
+//! A board begins with an `Opening` and a host for each seat. A `Host` loads the marks without a lock, and has the notices below
+//! them called. `turn_at` says what a saver is to do. A cut and the end of a life `check` what hosts were told. A `Held` is a board
+//! that was put together, with its module, device, gauge and record (`specs/Kept.antt`): it is there to be ended. What lies behind
+//! the locks meanwhile stands above this crate.
 #![tactic(auto)]
 
 mod board_name;
 mod checking;
-mod cutting;
 mod ending;
 mod held;
 mod host;
