@@ -104,6 +104,7 @@ impl<B: BoardName> Host<B> {
         ensures rises { SeesNoLess self.old self.new }
         ensures accepted { self.new.accepted ≡ self.old.accepted }
         ensures writes { self.new.writes ≡ self.old.writes }
+        ensures delivered { self.new.delivered ≡ self.old.delivered }
     {
         let number = receipt.number;
         let mark = self.mark();
