@@ -1,5 +1,5 @@
 // Hosts that write and read at once.
-ghost use Rattle.std.specs.Prelude.{◌≡◌, ◌<◌};
+ghost use Rattle.std.specs.Prelude.{◌≡◌, ◌<◌, vec_len};
 ghost use Rattle.ddr4_boards.specs.Naming.{IsNamed};
 
 use crate::gate::UntilDone;
@@ -209,6 +209,49 @@ where
     Ok(start.elapsed(rt)?.as_nanos())
 }
 
+// The end of a board: each receipt and each answer that is left is checked. The times are still to come.
+fn end<K, D, B, N>(
+    board: Board<K, D, Meter, B, N>,
+    gathered: Gathered<B>,
+) -> anyhow::Result<Outcome<D>>
+where
+    K: ChannelPort + Drop,
+    D: SaveDevice + Drop,
+    B: BoardName + PartsName,
+    N: Notices + Drop,
+    requires { vec_len gathered.hosts ≡ B.parts }
+{
+    let Gathered {
+        hosts,
+        kept,
+        answers,
+    } = gathered;
+    match close(board, hosts, kept.receipts.as_slice(), answers.as_slice()) {
+        Ok(
+            Closed {
+                recorded: RecordedModule {
+                    running,
+                    device,
+                    history,
+                    ..
+                },
+                checked,
+                past,
+                ..
+            },
+        ) => Ok(Outcome {
+            device,
+            history,
+            accepted: running.accepted(),
+            checked: kept.checked.saturating_add(checked),
+            past: kept.past.saturating_add(past),
+            nanos: 0,
+            cut_nanos: 0,
+        }),
+        Err(_) => Err(Wrong::Stranger.into()),
+    }
+}
+
 /// A crowd on the board of a module, up to its end: each receipt and each answer was checked.
 pub(crate) fn crowd<K, D, B, N, R>(
     rt: &R,
@@ -238,37 +281,15 @@ where
     let start = Instant::now(rt)?;
     let told = run(rt, alloc, &board, hosts, channels, plan)?;
     let nanos = start.elapsed(rt)?.as_nanos();
-    let Gathered {
-        hosts,
-        kept,
-        answers,
-    } = gather(alloc, told)?;
-    if hosts.len() != plan.hosts {
+    let gathered = gather(alloc, told)?;
+    if gathered.hosts.len() != plan.hosts {
         return Err(Wrong::Hosts.into());
     }
     let cut_nanos = cut_last(rt, &board, plan)?;
-    match close(board, hosts, kept.receipts.as_slice(), answers.as_slice()) {
-        Ok(
-            Closed {
-                recorded: RecordedModule {
-                    running,
-                    device,
-                    history,
-                    ..
-                },
-                checked,
-                past,
-                ..
-            },
-        ) => Ok(Outcome {
-            device,
-            history,
-            accepted: running.accepted(),
-            checked: kept.checked.saturating_add(checked),
-            past: kept.past.saturating_add(past),
-            nanos,
-            cut_nanos,
-        }),
-        Err(_) => Err(Wrong::Stranger.into()),
-    }
+    let ended = end(board, gathered)?;
+    Ok(Outcome {
+        nanos,
+        cut_nanos,
+        ..ended
+    })
 }

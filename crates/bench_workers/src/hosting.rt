@@ -13,6 +13,7 @@ use std::sync::Wait;
 use std::thread;
 use std::thread::Threads;
 use std::time::Clock;
+use worker_loops::give_way;
 
 /// How often a host tries its calls, all in all: where no thread is to be had, what it waits for doesn't come.
 const TRIES: u64 = 1 << 28;
@@ -54,7 +55,8 @@ where
     }
 }
 
-// The writes of a host. One that finds its channel or the board full is made again; a loss of mains ends them.
+// The writes of a host. One that finds its channel or the board full is made again, and the host gives way before it, as a worker
+// with nothing to do: while a save goes on a channel holds as many writes back as it has room for. A loss of mains ends them.
 fn write_all<K, D, B, N, R>(
     rt: &R,
     alloc: Global,
@@ -67,7 +69,7 @@ where
     D: SaveDevice + Drop,
     B: BoardName + PartsName + Send,
     N: Notices,
-    R: Threads + Wait + Sync,
+    R: Threads + Wait + Clock + Sync,
 {
     let mut kept = Kept {
         receipts: Vec::new(alloc),
@@ -75,6 +77,7 @@ where
         past: 0,
     };
     let mut made: u64 = 0;
+    let mut idle = 0;
     for turn in 0..TRIES {
         if made == plan.writes {
             break;
@@ -82,6 +85,7 @@ where
         match board.write(rt, host, plan.write(made, turn)) {
             Ok(receipt) => {
                 made = made.saturating_add(1);
+                idle = 0;
                 kept.receipts.push(receipt)?;
                 if plan.lost_at == Some(receipt.number) {
                     board.power_loss(rt, &Always);
@@ -90,7 +94,7 @@ where
                     cut_off(rt, board, &mut kept, plan);
                 }
             }
-            Err(WriteRefusal::Full) => thread::yield_now(),
+            Err(WriteRefusal::Full) => idle = give_way(rt, idle),
             Err(WriteRefusal::TrailFull) => {
                 cut_off(rt, board, &mut kept, plan);
                 thread::yield_now();

@@ -1,7 +1,7 @@
 //! How fast hosts write and read at a board, beside one host alone, and a board that loses its mains amid its writes.
 //!
 //!     bench_workers         a small board, with a saver, with cuts, and with its mains lost at last: the same each time
-//!     bench_workers time    writes and reads a second of 1, 2, 4 and 8 hosts on the largest profile
+//!     bench_workers time    writes and reads a second of 1, 2, 4 and 8 hosts on the largest profile, and writes beside a saver
 //!     bench_workers idle    how long an idle board of that profile and its saver hold processors in ten seconds
 //!     bench_workers loss    10,000 writes of four hosts on the largest profile, the mains lost amid them
 //!     bench_workers cut     a million writes of four hosts on that profile in the room of 1,024, saved and cut meanwhile, and
@@ -42,6 +42,9 @@ use std::time::{Clock, Duration};
 
 /// How many writes the hosts make together, where they are timed.
 const ALL_WRITES: u64 = 32_000;
+
+/// How many of them beside a saver that never rests: while a save goes on, no more are accepted than the channels have room for.
+const SAVED_WRITES: u64 = 8_000;
 
 /// How many reads each of them makes then: so many that the start of the threads doesn't count.
 const READS_EACH: u64 = 20_000;
@@ -202,8 +205,13 @@ fn main(rt: HostRuntime) -> anyhow::Result<()> {
                 let each = ALL_WRITES / hosts as u64;
                 let written = by_lines(&rt, alloc, checked, &plan_of(hosts, each, 0, None))?;
                 let read = by_lines(&rt, alloc, checked, &plan_of(hosts, 0, READS_EACH, None))?;
-                let (writes, reads) = (rate(&written), rate(&read));
-                println!(rt; "largest: {hosts} hosts, {writes} writes, {reads} reads a second")?;
+                let mut beside = plan_of(hosts, SAVED_WRITES / hosts as u64, 0, None);
+                beside.saves = true;
+                let saved = by_lines(&rt, alloc, checked, &beside)?;
+                let (writes, reads, saved) = (rate(&written), rate(&read), rate(&saved));
+                println!(rt;
+                    "largest: {hosts} hosts, {writes} writes, {reads} reads a second; {saved} writes beside a saver"
+                )?;
             }
         }
         Some("cut") => time_cuts(&rt, &rt, alloc)?,
