@@ -87,7 +87,9 @@ where
         { work_both(rt, board, &gate) },
         || -> Loss {
             gate.begin();
-            board.power_loss(rt, &Always)
+            let lost = board.power_loss(rt, &Always);
+            gate.end();
+            lost
         },
     );
     let saved = Loss::Saved {
@@ -96,6 +98,7 @@ where
     };
     same(rt, (ended, lost), ((Ended::Closed, Ended::Closed), saved));
     same(rt, gate.is_late(), false);
+    same(rt, gate.is_passed_by(), false);
 }
 
 // The workers of both channels.
