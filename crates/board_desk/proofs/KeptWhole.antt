@@ -8,16 +8,15 @@ use Rattle.channel_locks.specs.declared.parts_name.PartsName.{Ghosts as PartsGho
 use Rattle.channel_port.specs.Shape.{IsShape}
 use Rattle.channel_port.specs.declared.port.ChannelPort.{Ghosts}
 use Rattle.mark_board.specs.SeenMarks.{SeenMarks, seen_marks}
-use Rattle.nv_machine.specs.State.{Setup, World}
+use Rattle.nv_machine.specs.State.{Setup}
 use Rattle.nv_workers.specs.Marks.{ShowsNoMore}
 use Rattle.nv_workers.specs.declared.board_name.BoardName.{Ghosts as BoardGhosts}
-use Rattle.board_desk.specs.Calling.{Course, GoesAlong}
-use Rattle.board_desk.specs.Desk.{DeskView, setup_at, world_at}
+use Rattle.board_desk.specs.Calling.{Course}
+use Rattle.board_desk.specs.Desk.{DeskView}
 use Rattle.board_desk.specs.Kept.{IsDeskKept}
 use Rattle.board_desk.specs.Loans.{AreRestated, HaveLent}
 use Rattle.board_desk.specs.Pieces.{ArePiecesKept, CallDid}
-use Rattle.board_desk.specs.Whole.{SettlesAll, WholeAnswers}
-use Rattle.board_desk.proofs.Wholly.{SameWorld, world_of_same}
+use Rattle.board_desk.specs.Whole.{CallAnswers}
 
 module _ {K B : Type 0} (L : Ghosts K) (O : BoardGhosts B) (P : PartsGhosts B) (desk : DeskView) (words : TableId) (marks : SeenMarks) (written : ℕ) (logs known : TableId) (kept : IsDeskKept O P desk words marks written logs known) where
   -- there are eight logs
@@ -64,13 +63,5 @@ module _ {K B : Type 0} (L : Ghosts K) (O : BoardGhosts B) (P : PartsGhosts B) (
         stands = ∥∥₁_elim kept.stands ∥∥₁_prop (λ t. ∥∥₁_map (did.led t.0 t.1) (λ l. (l.later, l.stands new.logs restated)));
       }
 
-      pub answers_whole : (first : DeskView) → SettlesAll P first desk → SameWorld P first desk → WholeAnswers P course first new
-      answers_whole first settles same m s =
-          ∥∥₁_elim (settles m s) ∥∥₁_prop (λ on. ∥∥₁_map (did.led on.seen on.stands) (λ l. record {
-            seen = on.seen;
-            comes = on.comes;
-            later = l.later;
-            leads = subst (λ (x : Setup). GoesAlong course x (world_at first on.seen) (world_at new l.later)) same.setup
-                (subst (λ (w : World). GoesAlong course (setup_at P desk) w (world_at new l.later)) (world_of_same P first desk same on.seen) l.leads);
-            stands = l.stands new.logs restated;
-          }))
+      pub call_answers : CallAnswers P course desk new
+      call_answers m s = ∥∥₁_map (did.led m s) (λ l. record { later = l.later; leads = l.leads; stands = l.stands new.logs restated })

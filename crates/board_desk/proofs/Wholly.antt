@@ -16,11 +16,12 @@ use Rattle.save_device.specs.Device.{DeviceState}
 use Rattle.save_device.specs.declared.device.SaveDevice.{Ghosts as DeviceGhosts}
 use Rattle.split_machine.specs.OwnEvents.{ComesOfOwn, is_own}
 use Rattle.board_desk.specs.Answering.{HasSettled, Settles}
+use Rattle.board_desk.specs.Calling.{Course, GoesAlong}
 use Rattle.board_desk.specs.Desk.{DeskView, setup_at, world_at}
 use Rattle.board_desk.specs.Loans.{IsReadyToLend}
 use Rattle.board_desk.specs.Views.{SameButCounts, desk_of}
 use Rattle.board_desk.specs.declared.desk.Desk.{Desk}
-use Rattle.board_desk.specs.Whole.{ComesOfChannels, SettlesAll, is_of_channels}
+use Rattle.board_desk.specs.Whole.{CallAnswers, ComesOfChannels, SettlesAll, WholeAnswers, is_of_channels}
 use Rattle.board_desk.proofs.Settled.{same_setup}
 
 own_of_channels : (channel : ℕ) (event : Event) → is_own channel event ≡ true → is_of_channels event ≡ true
@@ -49,6 +50,18 @@ module _ {B : Type 0} (P : PartsGhosts B) where
 
   pub world_of_same : (old new : DeskView) → SameWorld old new → (m : Machine) → world_at new m ≡ world_at old m
   world_of_same old new same m = ap (λ (d : DeviceState). record (world_at new m) { device = d }) same.device ∙ ap (λ (e : Gauge). record (world_at old m) { gauge = e }) same.gauge
+
+  -- a call behind channels that were settled
+  pub whole_answers : (course : Course) (old mid new : DeskView) → SettlesAll P old mid → SameWorld old mid → CallAnswers P course mid new → WholeAnswers P course old new
+  whole_answers course old mid new settles same called m s =
+      ∥∥₁_elim (settles m s) ∥∥₁_prop (λ on. ∥∥₁_map (called on.seen on.stands) (λ l. record {
+        seen = on.seen;
+        comes = on.comes;
+        later = l.later;
+        leads = subst (λ (x : Setup). GoesAlong course x (world_at old on.seen) (world_at new l.later)) same.setup
+            (subst (λ (w : World). GoesAlong course (setup_at P mid) w (world_at new l.later)) (world_of_same old mid same on.seen) l.leads);
+        stands = l.stands;
+      }))
 
   pub settles_none : (desk : DeskView) → SettlesAll P desk desk
   settles_none desk m s = ∣ record { seen = m; comes = record { events = []; replies = []; own = λ k d less. absurd (omega (arith, less)); run = rests_here (world_at desk m) }; stands = s } ∣₁

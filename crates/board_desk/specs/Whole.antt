@@ -35,6 +35,15 @@ module _ {B : Type 0} (P : PartsGhosts B) where
   abbrev pub WholeAnswers : Course → DeskView → DeskView → Type 0
   WholeAnswers course old new = (m : Machine) → DeskStands P old m → ∥ GoesWhole course old new m ∥₁
 
+  -- The call led from a machine, for which the desk stood, to one for which it stands now.
+  pub record GoesCalled (course : Course) (old new : DeskView) (m : Machine) : Type 0 where
+    pub later : Machine
+    pub leads : GoesAlong course (setup_at P old) (world_at old m) (world_at new later)
+    pub stands : DeskStands P new later
+
+  abbrev pub CallAnswers : Course → DeskView → DeskView → Type 0
+  CallAnswers course old new = (m : Machine) → DeskStands P old m → ∥ GoesCalled course old new m ∥₁
+
   -- the channels' own events led to where the desk stands now
   pub record GoesSettled (old new : DeskView) (m : Machine) : Type 0 where
     pub seen : Machine

@@ -29,7 +29,8 @@ pub trait WholeCall<K: ChannelPort, D: SaveDevice, E: Energy> {
     fn call(self, it: &mut RecordedModule<K, D, E>) -> Self::Answer
         requires { IsRecordKept K.ChannelPort D.SaveDevice E.Energy it.old }
         ensures goes { GoesBy K.ChannelPort D.SaveDevice E.Energy (course result) it.old it.new }
-        ensures setup { setup_of K.ChannelPort it.new.running ≡ setup_of K.ChannelPort it.old.running }
+        ensures setup { setup_of K.ChannelPort it.new.running
+            ≡ setup_of K.ChannelPort it.old.running }
         ensures room { it.new.history.room ≡ it.old.history.room }
         ensures told { told result it.old.running.front.saved it.old.history it.new.history };
 

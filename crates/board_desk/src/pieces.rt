@@ -95,8 +95,9 @@ impl<K: ChannelPort, D: SaveDevice, E: Energy, B: PartsName> RecordedPieces<K, D
             → CallDid K.ChannelPort B.PartsName (W.course result.answer)
             (desk_view self.pieces.front self.pieces.terms (D.state self.device)
             (E.gauge self.energy) self.history logs)
-            (desk_view result.rest.pieces.front result.rest.pieces.terms (D.state result.rest.device)
-            (E.gauge result.rest.energy) result.rest.history logs) result.rest.pieces.ports.items }
+            (desk_view result.rest.pieces.front result.rest.pieces.terms
+            (D.state result.rest.device) (E.gauge result.rest.energy) result.rest.history logs)
+            result.rest.pieces.ports.items }
         ensures told { W.told result.answer self.pieces.front.front.saved self.history
             result.rest.history }
     {
@@ -125,8 +126,9 @@ impl<K: ChannelPort, D: SaveDevice, E: Energy, B: PartsName> RecordedPieces<K, D
             → CallDid K.ChannelPort B.PartsName (loss_course result.answer)
             (desk_view self.pieces.front self.pieces.terms (D.state self.device)
             (E.gauge self.energy) self.history logs)
-            (desk_view result.rest.pieces.front result.rest.pieces.terms (D.state result.rest.device)
-            (E.gauge result.rest.energy) result.rest.history logs) result.rest.pieces.ports.items }
+            (desk_view result.rest.pieces.front result.rest.pieces.terms
+            (D.state result.rest.device) (E.gauge result.rest.energy) result.rest.history logs)
+            result.rest.pieces.ports.items }
     {
         let mut it = self.gather();
         let answer = lose_mains(rt, &mut it, gate);
