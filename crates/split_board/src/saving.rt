@@ -1,6 +1,6 @@
 // The saver.
 ghost use Rattle.std.specs.Prelude.{◌≡◌};
-ghost use Rattle.split_board.specs.Wholes.{LentTurnOfSaver};
+ghost use Rattle.split_board.specs.Wholes.{LentTurnOfSaver, SavesLocked};
 
 use crate::board::Board;
 use crate::calling::call_locked;
@@ -30,8 +30,8 @@ where
     E: Energy + Drop,
     B: BoardName + PartsName,
     R: Wait,
-    ensures { LentTurnOfSaver K.ChannelPort D.SaveDevice E.Energy B.BoardName.own B.PartsName.own
-        result }
+    ensures { SavesLocked K.ChannelPort D.SaveDevice E.Energy B.BoardName.own B.PartsName.own
+        result locked.old.desk locked.new.desk }
 {
     let Some(desk) = &locked.desk else {
         unreachable!();
@@ -41,6 +41,24 @@ where
         SaverTurn::Step => Saving::Stepped(call_locked(rt, locked, channels, SaveStepCall)),
         SaverTurn::Rest => Saving::Rested,
         SaverTurn::End => Saving::Closed,
+    }
+}
+
+impl<K, D, E, B, N> Board<K, D, E, B, N>
+where
+    K: ChannelPort + Drop,
+    D: SaveDevice + Drop,
+    E: Energy + Drop,
+    B: BoardName + PartsName,
+    N: Notices,
+{
+    // Takes one turn of a saver.
+    fn save<R: Wait>(&self, rt: &R) -> Saving
+        ensures { LentTurnOfSaver K.ChannelPort D.SaveDevice E.Energy B.BoardName.own
+            B.PartsName.own result }
+    {
+        let mut locked = take_lock(rt, &self.desk);
+        save_locked(rt, &mut *locked, &self.channels)
     }
 }
 
@@ -87,8 +105,7 @@ where
     }
 
     fn work(&mut self, _worker: u64) -> Working {
-        let mut locked = take_lock(self.rt, &self.board.desk);
-        working_of(save_locked(self.rt, &mut *locked, &self.board.channels))
+        working_of(self.board.save(self.rt))
     }
 
     fn give_way(&mut self, idle: u64) -> u64 {
