@@ -1,5 +1,5 @@
 -- What is true behind the locks of a board that begins.
-use Rattle.std.proofs.Common.{All, ◌≡◌, ◌∙◌, ℕ, ◌<◌, ◌≤◌, ◌+◌, Bool, List, [], length, map, slice_get, slice_index_or, Some, ap, arith, refl, subst, sym, ⊎_elim}
+use Rattle.std.proofs.Common.{All, ◌≡◌, ◌∙◌, ℕ, ◌<◌, ◌≤◌, ◌+◌, List, length, map, slice_index_or, Some, ap, arith, refl, subst, sym, ⊎_elim}
 use Rattle.std.specs.List.{range_with_len}
 use Rattle.std.proofs.Props.{props}
 use Rattle.std.proofs.Math.Logic.{∥∥₁_elim, ∥∥₁_map}
@@ -23,7 +23,7 @@ use Rattle.channel_set.specs.Set.{shape_of}
 use Rattle.channel_locks.specs.Lines.{channels_of_lines}
 use Rattle.channel_locks.specs.PortMakes.{PortMake}
 use Rattle.channel_locks.specs.declared.parts_name.PartsName.{Ghosts as PartsGhosts}
-use Rattle.nv_machine.specs.State.{Machine, base_of_life}
+use Rattle.nv_machine.specs.State.{base_of_life}
 use Rattle.nv_workers.specs.Kept.{IsRecordKept}
 use Rattle.nv_workers.specs.declared.board_name.BoardName.{Ghosts as BoardGhosts}
 use Rattle.nv_workers.specs.declared.recorded_module.RecordedModule.{RecordedModule}

@@ -20,11 +20,10 @@ use Rattle.channel_log.specs.Log.{LogNote, Told, credits_of, log_tells}
 use Rattle.channel_part.specs.Stands.{PortStands}
 use Rattle.channel_port.specs.declared.port.ChannelPort.{Ghosts}
 use Rattle.channel_port.specs.Shape.{Shape}
-use Rattle.channel_port.specs.Waits.{Waits, nothing}
+use Rattle.channel_port.specs.Waits.{nothing}
 use Rattle.channel_set.specs.Ports.{waits_in}
 use Rattle.channel_set.specs.Set.{shape_of}
 use Rattle.channel_set.specs.declared.terms.PortTerms.{PortTerms}
-use Rattle.channel_locks.specs.PortMakes.{PortMake}
 use Rattle.channel_locks.specs.declared.parts_name.PartsName.{Ghosts as PartsGhosts}
 use Rattle.module_core.specs.declared.front.Front.{Front}
 use Rattle.module_core.specs.Device.{Holds}

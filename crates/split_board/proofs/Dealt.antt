@@ -1,14 +1,14 @@
 -- Seats that are dealt to the channels one after another.
-use Rattle.std.proofs.Common.{◌≡◌, ◌∙◌, ℕ, suc, zero, ◌+◌, ◌<◌, ◌≤◌, Bool, List, [], ◌∷◌, ◌++◌, length, slice_get, slice_index_or, Option, Some, None, ap, arith, refl, subst, sym, ⊎_elim}
+use Rattle.std.proofs.Common.{◌≡◌, ◌∙◌, ℕ, suc, zero, ◌+◌, ◌<◌, ◌≤◌, Bool, List, [], ◌∷◌, ◌++◌, length, slice_get, slice_index_or, Option, Some, ap, arith, refl, subst, sym, ⊎_elim}
 use Rattle.std.specs.Prelude.{slice_set}
 use Rattle.std.proofs.Math.Seq.{set-append_seam}
 use Rattle.std.proofs.lemmas.Bool.{cases_lt}
 use Rattle.std.proofs.lemmas.List.{set-set}
 use Rattle.atomic_table.specs.Seated.{TableId}
-use Rattle.channel_log.specs.Log.{LogNote, Told, credits_of, log_tells}
+use Rattle.channel_log.specs.Log.{LogNote, credits_of, log_tells}
 use Rattle.channel_log.specs.Seats.{AllLogs, OneLog, all_logs, one_log}
 use Rattle.channel_port.specs.declared.port.ChannelPort.{Ghosts}
-use Rattle.split_board.specs.FirstLogs.{AreToldOfPorts, HaveSeats, log_in, told_without_writes}
+use Rattle.split_board.specs.FirstLogs.{AreToldOfPorts, HaveSeats, told_without_writes}
 
 -- what the front's seat knows once a seat was dealt and two entries were noted at it
 pub dealt_known : (table : TableId) (logs : List (List LogNote)) (dealt held ended : AllLogs) (seat held_seat : OneLog) (last : List LogNote)

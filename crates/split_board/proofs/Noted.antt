@@ -1,14 +1,14 @@
 -- What the logs of a board that begins tell once all was noted.
-use Rattle.std.proofs.Common.{◌≡◌, ◌∙◌, ℕ, ◌<◌, ◌≤◌, Bool, List, [], ◌∷◌, length, slice_get, take, Option, Some, ap, arith, refl, subst, sym}
+use Rattle.std.proofs.Common.{◌≡◌, ◌∙◌, ℕ, ◌<◌, Bool, List, [], ◌∷◌, length, slice_get, take, Option, Some, ap, arith, refl, subst, sym}
 use Rattle.std.proofs.lemmas.Option.{slice_get_within}
 use Rattle.line_memory.specs.declared.Write.{Write}
 use Rattle.line_memory.specs.History.{Recorded}
 use Rattle.line_memory.specs.Parts.{written_on}
-use Rattle.channel_log.specs.Log.{LogNote, Told, credits_of, log_tells}
-use Rattle.channel_log.specs.Seats.{AllLogs, OneLog, one_log}
+use Rattle.channel_log.specs.Log.{LogNote, Told, log_tells}
+use Rattle.channel_log.specs.Seats.{AllLogs, OneLog}
 use Rattle.channel_port.specs.declared.port.ChannelPort.{Ghosts}
 use Rattle.channel_locks.specs.declared.parts_name.PartsName.{Ghosts as PartsGhosts}
-use Rattle.split_board.specs.FirstLogs.{AreFirstLogs, AreFirstPorts, AreFirstSlots, AreToldOfPorts, HaveSeats, IsFirstPort, TellNoWrite, TellWrites, channel_by, log_in, told_first, told_without_writes}
+use Rattle.split_board.specs.FirstLogs.{AreFirstLogs, AreFirstPorts, AreFirstSlots, AreToldOfPorts, HaveSeats, IsFirstPort, TellNoWrite, TellWrites, channel_by, told_first, told_without_writes}
 use Rattle.split_board.proofs.Wrote.{seat_is}
 
 take_all : (ws : List Write) → take (length ws) ws ≡ ws

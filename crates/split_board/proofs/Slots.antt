@@ -1,8 +1,7 @@
 -- The slot of a channel as a board begins.
 use Rattle.std.proofs.Common.{◌≡◌, ◌∙◌, ◌<◌, ℕ, suc, zero, Bool, List, [], ◌∷◌, ◌++◌, length, slice_get, Some, ap, arith, refl, subst, sym}
 use Rattle.std.proofs.Math.Logic.{∥∥₁_map}
-use Rattle.std.proofs.lemmas.Option.{slice_get_within}
-use Rattle.channel_log.specs.Log.{LogNote, Told, credits_of, log_tells}
+use Rattle.channel_log.specs.Log.{LogNote, credits_of, log_tells}
 use Rattle.channel_log.specs.Seats.{OneLog}
 use Rattle.channel_port.specs.declared.port.ChannelPort.{Ghosts}
 use Rattle.channel_part.specs.declared.part.Part.{Part}

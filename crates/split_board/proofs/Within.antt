@@ -1,5 +1,5 @@
 -- Each write of a life has a line of the memory.
-use Rattle.std.proofs.Common.{All, ◌≡◌, ◌∙◌, ℕ, ◌<◌, List, [], ◌∷◌, ◌++◌, Ok, Err, None, ap, arith, refl, subst, sym}
+use Rattle.std.proofs.Common.{All, ◌≡◌, ℕ, ◌<◌, List, [], ◌∷◌, Ok, None, arith, subst, sym}
 use Rattle.std.proofs.lemmas.List.Elements.{All-append, All-cons, All-nil}
 use Rattle.line_memory.specs.declared.Write.{Write}
 use Rattle.nv_machine.specs.declared.events.Event.{Event}

@@ -1,5 +1,5 @@
 -- The logs of a board that begins.
-use Rattle.std.specs.Prelude.{◌≡◌, ℕ, ◌<◌, ◌≤◌, Bool, false, List, [], length, slice_get, slice_index_or, take, Option, Some, None}
+use Rattle.std.specs.Prelude.{◌≡◌, ℕ, ◌<◌, ◌≤◌, Bool, false, List, [], length, slice_get, slice_index_or, take, Option, Some}
 use Rattle.line_memory.specs.History.{Recorded}
 use Rattle.line_memory.specs.Parts.{written_on}
 use Rattle.channel_log.specs.Log.{LogNote, Told, credits_of, log_tells, untold}

@@ -2,7 +2,8 @@
 ghost use Rattle.std.specs.Prelude.{◌≡◌, ◌+◌, ◌<◌, ◌≤◌, ℕ, [], length, min, vec_capacity};
 ghost use Rattle.arm_state.specs.Modes.{has_ended};
 ghost use Rattle.channel_log.specs.Seats.{all_logs};
-ghost use Rattle.split_board.specs.FirstLogs.{AreFirstLogs, AreFirstPorts, AreFirstSlots, channel_by};
+ghost use Rattle.split_board.specs.FirstLogs.{AreFirstLogs, AreFirstPorts, AreFirstSlots};
+ghost use Rattle.split_board.specs.FirstLogs.{channel_by};
 
 use crate::first_logs::{deal_seats, note_writes};
 use channel_locks::{ChannelLocks, ChannelName, LineChannels, PartsName, Slot};

@@ -1,11 +1,12 @@
 // The logs of a board that begins.
-ghost use Rattle.std.specs.Prelude.{◌≡◌, ◌+◌, ◌-◌, ◌<◌, ◌≤◌, ◌++◌, ℕ, [], ◌∷◌, false, length, slice_set, vec_capacity};
+ghost use Rattle.std.specs.Prelude.{◌≡◌, ◌+◌, ◌<◌, ◌≤◌, ◌++◌, ℕ, [], ◌∷◌, false, length};
+ghost use Rattle.std.specs.Prelude.{slice_set, vec_capacity};
 ghost use Rattle.std.specs.Option.{option_map};
 ghost use Rattle.channel_log.specs.Log.{IsLogOf, credits_of, log_tells, untold};
 ghost use Rattle.channel_log.specs.Seats.{AreOf, all_logs, one_log};
 ghost use Rattle.board_desk.specs.Loans.{waits_of_port};
-ghost use Rattle.split_board.specs.FirstLogs.{AreToldOfPorts, HaveSeats, TellNoWrite, TellWrites, channel_by};
-ghost use Rattle.split_board.specs.FirstLogs.{told_without_writes};
+ghost use Rattle.split_board.specs.FirstLogs.{AreToldOfPorts, HaveSeats, TellNoWrite, TellWrites};
+ghost use Rattle.split_board.specs.FirstLogs.{channel_by, told_without_writes};
 
 use channel_locks::LineChannels;
 use channel_log::{ChannelLogs, ChannelSeat, FrontSeat, Standing};

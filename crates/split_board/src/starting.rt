@@ -2,7 +2,6 @@
 ghost use Rattle.std.specs.Prelude.{◌≡◌, ◌+◌, ◌≤◌, [], vec_capacity, vec_len, All, IfOk, IfErr};
 ghost use Rattle.std.specs.Arc.{arc_value};
 ghost use Rattle.mark_board.specs.SeenMarks.{AllHaveSeen, seen_marks};
-ghost use Rattle.channel_log.specs.Seats.{all_logs};
 ghost use Rattle.channel_set.specs.Set.{shape_of};
 ghost use Rattle.channel_locks.specs.Lines.{channels_of_lines};
 ghost use Rattle.nv_workers.specs.Client.{client};

@@ -1,8 +1,7 @@
-use Rattle.std.proofs.Common.{◌≡◌, ◌∙◌, ◌<◌, ℕ, List, [], ◌∷◌, ◌++◌, length, slice_get, Some, arith, refl, subst, sym}
+use Rattle.std.proofs.Common.{◌≡◌, ◌∙◌, ℕ, List, length, slice_get, Some, arith, subst, sym}
 use Rattle.channel_log.specs.Log.{LogNote, credits_of, log_tells}
-use Rattle.channel_log.specs.Seats.{OneLog}
 use Rattle.channel_part.specs.Stands.{PartStands, PortStands}
-use Rattle.split_board.specs.FirstLogs.{AreFirstSlots, IsFirstPort}
+use Rattle.split_board.specs.FirstLogs.{IsFirstPort}
 use Rattle.split_board.proofs.Slots.{first_part, port_gone, port_last, seat_gone, seat_last}
 use Rattle.split_board.proofs.dealing.slot_of.Goals.{After-NUMBER-2}
 use Rattle.split_board.proofs.dealing.slot_of.Given.{Over}

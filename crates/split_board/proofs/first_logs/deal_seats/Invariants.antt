@@ -1,4 +1,4 @@
-use Rattle.std.proofs.Common.{◌≡◌, ◌≤◌, length}
+use Rattle.std.proofs.Common.{◌≡◌, ◌≤◌}
 use Rattle.std.specs.Prelude.{vec_capacity}
 use Rattle.std.specs.Option.{option_map}
 use Rattle.split_board.specs.FirstLogs.{AreToldOfPorts, HaveSeats}

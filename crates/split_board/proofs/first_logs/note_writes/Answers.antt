@@ -1,11 +1,9 @@
-use Rattle.std.proofs.Common.{[], ◌∷◌, ◌++◌, ◌≡◌, ◌∙◌, ◌+◌, ◌-◌, ◌<◌, ◌≤◌, ℕ, List, length, slice_get, Some, ap, arith, subst, sym}
-use Rattle.std.specs.Prelude.{slice_set}
+use Rattle.std.proofs.Common.{[], ◌∷◌, ◌++◌, ◌≡◌, ◌∙◌, ◌+◌, ◌-◌, ◌<◌, ℕ, List, slice_get, Some, ap, arith, subst, sym}
 use Rattle.std.proofs.lemmas.Option.{slice_get_read}
-use Rattle.line_memory.specs.History.{Recorded}
 use Rattle.line_memory.specs.Parts.{AreBefore, numbered}
 use Rattle.channel_log.specs.Log.{LogNote, log_tells}
 use Rattle.channel_log.specs.Seats.{AllLogs, OneLog}
-use Rattle.split_board.specs.FirstLogs.{HaveSeats, TellWrites, channel_by}
+use Rattle.split_board.specs.FirstLogs.{TellWrites, channel_by}
 use Rattle.split_board.proofs.Wrote.{number_above, seats_noted, stands_at, told_noted}
 use Rattle.split_board.proofs.first_logs.note_writes.Goals.{After-index_mut}
 use Rattle.split_board.proofs.first_logs.note_writes.Goals as goal

@@ -1,4 +1,4 @@
-use Rattle.std.proofs.Common.{◌≡◌, ◌≤◌, ◌∙◌, ℕ, All, List, [], ap, arith, length, map, subst, sym}
+use Rattle.std.proofs.Common.{◌≡◌, ◌≤◌, ◌∙◌, All, [], ap, arith, map, subst, sym}
 use Rattle.atomic_table.specs.Seated.{TableId}
 use Rattle.mark_board.specs.SeenMarks.{AllHaveSeen, SeenMarks, seen_marks}
 use Rattle.std.specs.Arc.{arc_value}
@@ -7,12 +7,8 @@ use Rattle.nv_workers.specs.Client.{Client, client}
 use Rattle.nv_workers.specs.Marks.{ShowsNoMore}
 use Rattle.nv_workers.specs.Opening.{OpeningView}
 use Rattle.nv_workers.proofs.Holding.{opening_shows_no_more}
-use Rattle.channel_port.specs.declared.port.ChannelPort.{Ghosts}
-use Rattle.channel_locks.specs.declared.parts_name.PartsName.{Ghosts as PartsGhosts}
 use Rattle.module_core.specs.declared.front.Front.{Front}
-use Rattle.nv_workers.specs.declared.recorded_module.RecordedModule.{RecordedModule}
 use Rattle.split_machine.specs.Telling.{AreOwn}
-use Rattle.split_board.specs.Starting.{make_with}
 use Rattle.split_board.proofs.Beginning.{accepted_is, below_eight, count, desk_kept, few, first_ports, laid_as, lines_laid}
 use Rattle.split_board.proofs.starting.start.Goals as goal
 
