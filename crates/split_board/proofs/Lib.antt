@@ -1,7 +1,9 @@
-mod Lists
 mod Laid
-mod Fresh
+mod Dealt
+mod Wrote
+mod Slots
+mod Noted
+mod Within
 mod Begun
 mod Beginning
-mod Unwritten
 mod Strangers

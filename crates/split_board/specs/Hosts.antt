@@ -14,6 +14,7 @@ use Rattle.channel_locks.specs.Lent.{LentRoom}
 use Rattle.nv_machine.specs.declared.events.Event.TheVariants as events
 use Rattle.nv_machine.specs.declared.events.Reply.TheVariants as replies
 use Rattle.nv_workers.specs.declared.board_name.BoardName.{Ghosts as BoardGhosts}
+use Rattle.nv_workers.specs.declared.host.GotAt.{GotAt}
 use Rattle.nv_workers.specs.declared.host.Receipt.{Receipt}
 use Rattle.nv_workers.specs.Client.{Client}
 use Rattle.board_desk.specs.declared.desk.Desk.{Desk}
@@ -57,6 +58,11 @@ module _ {K D E B : Type 0} (L : Ghosts K) (M : DeviceGhosts D) (N : GaugeGhosts
     pub at : ℕ
     pub asked : IsAskedFor P.make line channel
     pub lent : LentForRead channel line (Err refusal) at
+
+  -- a read of a line had this answer at the line's channel
+  abbrev pub AnswersReadAtBoard : ℕ → Result GotAt ReadRefusal → Type 0
+  AnswersReadAtBoard line (Ok r) = ReadsAtBoard line r.got r.at
+  AnswersReadAtBoard line (Err refusal) = RefusedAtBoard line refusal
 
   -- its bytes were told at once, or are what its ticket had later
   abbrev pub HasReadLine : ℕ → List ℕ → ℕ → Type 0

@@ -53,12 +53,24 @@ module _ {K D E B : Type 0} (L : Ghosts K) (M : DeviceGhosts D) (N : GaugeGhosts
   TakesSaverTurn Rested old new = new ≡ old
   TakesSaverTurn Closed old new = new ≡ old
 
-  -- A saver took its turn, by the desk alone where it rests.
+  -- A saver took the turn that is due by the desk, and by the desk alone where it rests.
+  pub record SavesAtDesk (saving : Saving) (old new : Desk K D E B L M N O P) : Type 0 where
+    pub turn : (m : Machine) → DeskStands P (desk_of L M N O P old) m → turn_taken saving ≡ turn_of m old.split.front.saved
+    pub steps : TakesSaverTurn saving old new
+
+  -- the same of what lies behind the board's lock
+  pub record SavesLocked (saving : Saving) (old new : Option (Desk K D E B L M N O P)) : Type 0 where
+    pub before : Desk K D E B L M N O P
+    pub after : Desk K D E B L M N O P
+    pub old_is : old ≡ Some before
+    pub new_is : new ≡ Some after
+    pub saves : SavesAtDesk saving before after
+
+  -- with the board's lock held a saver took this turn
   pub record LentTurnOfSaver (saving : Saving) : Type 0 where
     pub before : Desk K D E B L M N O P
     pub after : Desk K D E B L M N O P
-    pub turn : (m : Machine) → DeskStands P (desk_of L M N O P before) m → turn_taken saving ≡ turn_of m before.split.front.saved
-    pub steps : TakesSaverTurn saving before after
+    pub saves : SavesAtDesk saving before after
 
   -- the same, by how it goes on
   abbrev pub WorksAsSaver : Working → Type 0
@@ -71,6 +83,14 @@ module _ {K D E B : Type 0} (L : Ghosts K) (M : DeviceGhosts D) (N : GaugeGhosts
       AreChecked old.split.front.terms.start old.history receipts answers (record told { from = old.history.start })
       × (told.from ≡ new.history.start) × (new.history ≡ cut_at old.split.front.saved old.history) × CallsWhole Paused old new
   CutsAtDesk receipts answers (Err stranger) old new = IsStranger old.split.front.terms.start old.history receipts answers stranger × (new ≡ old)
+
+  -- the same of what lies behind the board's lock
+  pub record CutsLocked (receipts : List Receipt) (answers : List Seen) (result : Result Cut Stranger) (old new : Option (Desk K D E B L M N O P)) : Type 0 where
+    pub before : Desk K D E B L M N O P
+    pub after : Desk K D E B L M N O P
+    pub old_is : old ≡ Some before
+    pub new_is : new ≡ Some after
+    pub cuts : CutsAtDesk receipts answers result before after
 
   -- with all locks held receipts and answers were checked and it was cut, or a stranger was named
   pub record LentForCut (receipts : List Receipt) (answers : List Seen) (result : Result Cut Stranger) : Type 0 where

@@ -1,5 +1,5 @@
 // The cut of a board.
-ghost use Rattle.split_board.specs.Wholes.{LentForCut};
+ghost use Rattle.split_board.specs.Wholes.{CutsLocked, LentForCut};
 
 use crate::board::Board;
 use crate::calling::call_locked;
@@ -27,8 +27,8 @@ where
     E: Energy + Drop,
     B: BoardName + PartsName,
     R: Wait,
-    ensures { LentForCut K.ChannelPort D.SaveDevice E.Energy B.BoardName.own B.PartsName.own
-        receipts.now answers.now result }
+    ensures { CutsLocked K.ChannelPort D.SaveDevice E.Energy B.BoardName.own B.PartsName.own
+        receipts.now answers.now result locked.old.desk locked.new.desk }
 {
     let Some(desk) = &locked.desk else {
         unreachable!();

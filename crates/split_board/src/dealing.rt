@@ -1,66 +1,65 @@
 // The locks of the channels, as a board begins.
-ghost use Rattle.std.specs.Prelude.{◌≡◌, ◌+◌, ◌≤◌, [], length, min, replicate};
+ghost use Rattle.std.specs.Prelude.{◌≡◌, ◌+◌, ◌<◌, ◌≤◌, ℕ, [], length, min, vec_capacity};
+ghost use Rattle.arm_state.specs.Modes.{has_ended};
 ghost use Rattle.channel_log.specs.Seats.{all_logs};
-ghost use Rattle.split_board.specs.Starting.{AreFreshPorts};
+ghost use Rattle.split_board.specs.FirstLogs.{AreFirstLogs, AreFirstPorts, AreFirstSlots};
+ghost use Rattle.split_board.specs.FirstLogs.{channel_by};
 
-use channel_locks::{ChannelLocks, ChannelName, PartsName, Slot};
+use crate::first_logs::{deal_seats, note_writes};
+use channel_locks::{ChannelLocks, ChannelName, LineChannels, PartsName, Slot};
 use channel_log::{ChannelLogs, ChannelSeat, FrontSeat};
 use channel_part::Part;
 use channel_port::ChannelPort;
+use channel_set::PortTerms;
+use line_memory::History;
+use split_module::SplitFront;
 use std::sync::Mutex;
 
-// The slot of a channel, whose port is the last one where the board has the channel. Its log is empty.
+// The slot of a channel, whose seat is the last one; so is its port, where the board has the channel.
 fn slot_of<K: ChannelPort, B: PartsName, C: ChannelName>(
     ports: &mut Vec<K>,
-    seat: ChannelSeat,
+    seats: &mut Vec<ChannelSeat>,
+    ended: bool,
 ) -> Slot<K, B, C>
-    requires table { seat.table ≡ B.logs }
-    requires channel { seat.channel ≡ C.NUMBER }
-    requires log { seat.log ≡ [] }
-    requires fresh { AreFreshPorts K.ChannelPort B.PartsName ports.old.items }
     requires count { length ports.old.items ≡ min (C.NUMBER + 1) B.ports }
-    ensures fresh { AreFreshPorts K.ChannelPort B.PartsName ports.new.items }
+    requires seats { length seats.old.items ≡ C.NUMBER + 1 }
+    requires first { AreFirstSlots K.ChannelPort B.PartsName ended ports.old.items seats.old.items }
     ensures count { length ports.new.items ≡ min C.NUMBER B.ports }
+    ensures seats { length seats.new.items ≡ C.NUMBER }
+    ensures first { AreFirstSlots K.ChannelPort B.PartsName ended ports.new.items seats.new.items }
 {
+    let Some(seat) = seats.pop() else {
+        unreachable!();
+    };
     if ports.len() as u64 <= C::NUMBER {
         return Slot::new(None, seat);
     }
     let Some(port) = ports.pop() else {
         unreachable!();
     };
-    Slot::new(Some(Part::of(C::NUMBER, port, false)), seat)
+    Slot::new(Some(Part::of(C::NUMBER, port, ended)), seat)
 }
 
-/// A lock for each channel, with its port where there is one. Each log is empty.
-pub(crate) fn locks_of<K: ChannelPort, B: PartsName>(
-    logs: &ChannelLogs,
-    known: &mut FrontSeat,
+// A lock for each channel, with its seat, and its port where there is one.
+fn locks_of<K: ChannelPort, B: PartsName>(
     ports: &mut Vec<K>,
+    seats: &mut Vec<ChannelSeat>,
+    ended: bool,
 ) -> ChannelLocks<K, B>
-    requires logs { logs.now ≡ B.logs }
-    requires known { known.old ≡ all_logs B.logs [] }
-    requires fresh { AreFreshPorts K.ChannelPort B.PartsName ports.old.items }
     requires count { length ports.old.items ≡ B.ports }
     requires few { B.ports ≤ 8 }
-    ensures known { known.new ≡ all_logs B.logs (replicate 8 []) }
+    requires seats { length seats.old.items ≡ 8 }
+    requires first { AreFirstSlots K.ChannelPort B.PartsName ended ports.old.items seats.old.items }
     ensures none { ports.new.items ≡ [] }
 {
-    let zero = known.deal(logs);
-    let one = known.deal(logs);
-    let two = known.deal(logs);
-    let three = known.deal(logs);
-    let four = known.deal(logs);
-    let five = known.deal(logs);
-    let six = known.deal(logs);
-    let seven = known.deal(logs);
-    let seven = slot_of(ports, seven);
-    let six = slot_of(ports, six);
-    let five = slot_of(ports, five);
-    let four = slot_of(ports, four);
-    let three = slot_of(ports, three);
-    let two = slot_of(ports, two);
-    let one = slot_of(ports, one);
-    let zero = slot_of(ports, zero);
+    let seven = slot_of(ports, seats, ended);
+    let six = slot_of(ports, seats, ended);
+    let five = slot_of(ports, seats, ended);
+    let four = slot_of(ports, seats, ended);
+    let three = slot_of(ports, seats, ended);
+    let two = slot_of(ports, seats, ended);
+    let one = slot_of(ports, seats, ended);
+    let zero = slot_of(ports, seats, ended);
     ChannelLocks {
         zero: Mutex::new(zero),
         one: Mutex::new(one),
@@ -71,4 +70,38 @@ pub(crate) fn locks_of<K: ChannelPort, B: PartsName>(
         six: Mutex::new(six),
         seven: Mutex::new(seven),
     }
+}
+
+/// A lock for each channel, with its port where there is one. Its log tells the record's writes that lie on the channel, and what
+/// its port has. The seats lie in a list without any, which has room for them.
+pub(crate) fn begin_channels<K: ChannelPort + Drop, B: PartsName>(
+    logs: &ChannelLogs,
+    known: &mut FrontSeat,
+    mut seats: Vec<ChannelSeat>,
+    lines: &LineChannels,
+    history: &History,
+    split: &SplitFront,
+    terms: &PortTerms,
+    mut ports: Vec<K>,
+) -> ChannelLocks<K, B>
+    requires logs { logs.now ≡ B.logs }
+    requires known { known.old ≡ all_logs B.logs [] }
+    requires none { seats.items ≡ [] }
+    requires room { 8 ≤ vec_capacity seats }
+    requires eight { (line : ℕ) → channel_by lines.now line < 8 }
+    requires from { split.now.front.terms.start ≡ history.now.start }
+    requires to { split.now.front.accepted ≡ history.now.start + length history.now.writes }
+    requires count { length ports.items ≡ B.ports }
+    requires few { B.ports ≤ 8 }
+    requires ports { AreFirstPorts K.ChannelPort B.PartsName (has_ended split.now.front.mode)
+        lines.now history.now terms.now.hold ports.items }
+    ensures table { known.new.table ≡ B.logs }
+    ensures first { AreFirstLogs K.ChannelPort lines.now history.now terms.now.hold
+        (has_ended split.now.front.mode) ports.items known.new.logs }
+{
+    let ended = split.front.mode().has_ended();
+    deal_seats(logs, known, &ports, terms.hold, ended, &mut seats);
+    let (from, to) = (split.front.start(), split.front.accepted());
+    note_writes(logs, known, &mut seats, lines, history, from, to);
+    locks_of(&mut ports, &mut seats, ended)
 }

@@ -11,6 +11,7 @@ mod calling;
 mod cutting;
 mod dealing;
 mod ending;
+mod first_logs;
 mod locked_desk;
 mod reading;
 mod saving;

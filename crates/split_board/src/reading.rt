@@ -4,7 +4,7 @@ ghost use Rattle.board_desk.specs.Answering.{IsAskedFor, IsTicketOf};
 ghost use Rattle.nv_workers.specs.Client.{SeesNoLess};
 ghost use Rattle.nv_workers.specs.Serving.{told_for};
 ghost use Rattle.split_board.specs.Turns.{ServesFirst};
-ghost use Rattle.split_board.specs.Hosts.{HasLostLine, HasReadLine, LentForRead, ReadsAtBoard, RefusedAtBoard};
+ghost use Rattle.split_board.specs.Hosts.{AnswersReadAtBoard, HasLostLine, HasReadLine};
 
 use crate::board::Board;
 use crate::locked_desk::LockedDesk;
@@ -82,10 +82,8 @@ where
     R: Wait,
     C: ChannelName,
     requires asked { IsAskedFor B.make line C.NUMBER }
-    ensures read { IfOk result (λ r. ReadsAtBoard K.ChannelPort D.SaveDevice E.Energy B.BoardName.own
-        B.PartsName.own line r.got r.at) }
-    ensures refused { IfErr result (RefusedAtBoard K.ChannelPort D.SaveDevice E.Energy B.BoardName.own
-        B.PartsName.own line) }
+    ensures read { AnswersReadAtBoard K.ChannelPort D.SaveDevice E.Energy B.BoardName.own
+        B.PartsName.own line result }
     ensures at { IfOk result (λ r. r.at ≡ host.new.accepted) }
     ensures rises { SeesNoLess host.old host.new }
     ensures writes { host.new.writes ≡ host.old.writes }
@@ -122,10 +120,8 @@ impl<K: ChannelPort, D: SaveDevice, E: Energy, B: BoardName + PartsName, N: Noti
     ) -> Result<GotAt, ReadRefusal>
         requires channel { channel < 8 }
         requires asked { IsAskedFor B.make line channel }
-        ensures read { IfOk result (λ r. ReadsAtBoard K.ChannelPort D.SaveDevice E.Energy B.BoardName.own
-            B.PartsName.own line r.got r.at) }
-        ensures refused { IfErr result (RefusedAtBoard K.ChannelPort D.SaveDevice E.Energy B.BoardName.own
-            B.PartsName.own line) }
+        ensures read { AnswersReadAtBoard K.ChannelPort D.SaveDevice E.Energy B.BoardName.own
+            B.PartsName.own line result }
         ensures at { IfOk result (λ r. r.at ≡ host.new.accepted) }
         ensures rises { SeesNoLess host.old host.new }
         ensures writes { host.new.writes ≡ host.old.writes }

@@ -1,6 +1,6 @@
 // The saver.
 ghost use Rattle.std.specs.Prelude.{◌≡◌};
-ghost use Rattle.split_board.specs.Wholes.{LentTurnOfSaver};
+ghost use Rattle.split_board.specs.Wholes.{LentTurnOfSaver, SavesLocked};
 
 use crate::board::Board;
 use crate::calling::call_locked;
@@ -13,9 +13,21 @@ use notice_book::Notices;
 use nv_workers::{BoardName, SaverTurn, Saving, working_of};
 use save_device::SaveDevice;
 use std::sync::Wait;
+use std::thread;
 use std::time::Clock;
 use worker_gate::{Gate, Turn};
 use worker_loops::{Ended, Shift, Working, give_way, take_turns};
+
+/// How often a saver gives its processor away behind a begin and behind a step, with no lock held. A thread that waits for the
+/// board's lock tries it and gives way in turn: it would find the lock taken at each try if the saver took it back at once.
+const LETS_IN: u64 = 32;
+
+// Lets threads in that wait for the board's lock.
+fn let_in() {
+    for _ in 0..LETS_IN {
+        thread::yield_now();
+    }
+}
 
 // One turn of a saver, with the board's lock held. It decides by the desk alone, and the channels' locks are taken only where it
 // saves.
@@ -30,8 +42,8 @@ where
     E: Energy + Drop,
     B: BoardName + PartsName,
     R: Wait,
-    ensures { LentTurnOfSaver K.ChannelPort D.SaveDevice E.Energy B.BoardName.own B.PartsName.own
-        result }
+    ensures { SavesLocked K.ChannelPort D.SaveDevice E.Energy B.BoardName.own B.PartsName.own
+        result locked.old.desk locked.new.desk }
 {
     let Some(desk) = &locked.desk else {
         unreachable!();
@@ -41,6 +53,24 @@ where
         SaverTurn::Step => Saving::Stepped(call_locked(rt, locked, channels, SaveStepCall)),
         SaverTurn::Rest => Saving::Rested,
         SaverTurn::End => Saving::Closed,
+    }
+}
+
+impl<K, D, E, B, N> Board<K, D, E, B, N>
+where
+    K: ChannelPort + Drop,
+    D: SaveDevice + Drop,
+    E: Energy + Drop,
+    B: BoardName + PartsName,
+    N: Notices,
+{
+    // Takes one turn of a saver.
+    fn save<R: Wait>(&self, rt: &R) -> Saving
+        ensures { LentTurnOfSaver K.ChannelPort D.SaveDevice E.Energy B.BoardName.own
+            B.PartsName.own result }
+    {
+        let mut locked = take_lock(rt, &self.desk);
+        save_locked(rt, &mut *locked, &self.channels)
     }
 }
 
@@ -87,8 +117,11 @@ where
     }
 
     fn work(&mut self, _worker: u64) -> Working {
-        let mut locked = take_lock(self.rt, &self.board.desk);
-        working_of(save_locked(self.rt, &mut *locked, &self.board.channels))
+        let working = working_of(self.board.save(self.rt));
+        if working == Working::Worked {
+            let_in();
+        }
+        working
     }
 
     fn give_way(&mut self, idle: u64) -> u64 {
@@ -97,8 +130,9 @@ where
 }
 
 /// Takes one turn of a saver at each `Go`, until the gate says stop or mains were lost, as `take_turns`. Behind a turn that was
-/// held or at rest, and behind a step that has to wait, it gives way as a channel's worker does. The gate is asked for it by the
-/// number of channels. A saver that rests takes the board's lock alone.
+/// held or at rest, and behind a step that has to wait, it gives way as a channel's worker does. Behind any other turn it gives
+/// its processor away 32 times, so that threads which wait for the board's lock come in. The gate is asked for it by the number of
+/// channels. A saver that rests takes the board's lock alone.
 pub fn saver_worker<K, D, E, B, N, G, R>(
     rt: &R,
     board: &Board<K, D, E, B, N>,

@@ -1,19 +1,19 @@
 // How a board begins.
-ghost use Rattle.std.specs.Prelude.{◌≡◌, ◌≤◌, [], vec_capacity, vec_len, All, IfOk, IfErr};
+ghost use Rattle.std.specs.Prelude.{◌≡◌, ◌+◌, ◌≤◌, [], vec_capacity, vec_len, All, IfOk, IfErr};
 ghost use Rattle.std.specs.Arc.{arc_value};
 ghost use Rattle.mark_board.specs.SeenMarks.{AllHaveSeen, seen_marks};
-ghost use Rattle.channel_log.specs.Seats.{all_logs};
 ghost use Rattle.channel_set.specs.Set.{shape_of};
 ghost use Rattle.channel_locks.specs.Lines.{channels_of_lines};
 ghost use Rattle.nv_workers.specs.Client.{client};
-ghost use Rattle.nv_workers.specs.Kept.{IsFresh, IsRecordKept};
+ghost use Rattle.nv_workers.specs.Kept.{IsRecordKept};
 ghost use Rattle.split_board.specs.Starting.{make_with};
 
 use crate::board::Board;
-use crate::dealing::locks_of;
+use crate::dealing::begin_channels;
 use crate::tables::BoardTables;
 use board_desk::{BoardPort, Desk};
 use channel_locks::{LineChannels, PartsName};
+use channel_log::ChannelSeat;
 use channel_port::ChannelPort;
 use channel_set::ChannelSet;
 use energy_budget::Energy;
@@ -40,9 +40,10 @@ struct Prepared<K: ChannelPort, B: BoardName + PartsName> {
     hosts: Vec<Host<B>>,
     lines: LineChannels,
     room: Vec<BoardPort<K, B>>,
+    seats: Vec<ChannelSeat>,
 }
 
-// Makes the hosts, the table of the lines' channels, and room for the ports.
+// Makes the hosts, the table of the lines' channels, and room for the ports and the channels' seats.
 fn prepare<K: ChannelPort + Drop, B: BoardName + PartsName>(
     alloc: Global,
     marks: MarkBoard,
@@ -65,22 +66,26 @@ fn prepare<K: ChannelPort + Drop, B: BoardName + PartsName>(
         made.lines ≡ channels_of_lines (shape_of K.ChannelPort set.now)) }
     ensures empty { IfOk result (λ made. made.room.items ≡ []) }
     ensures room { IfOk result (λ made. 8 ≤ vec_capacity made.room) }
+    ensures no_seat { IfOk result (λ made. made.seats.items ≡ []) }
+    ensures seats { IfOk result (λ made. 8 ≤ vec_capacity made.seats) }
 {
     let marks = Arc::new(alloc, marks)?;
     let hosts = seated(alloc, &marks, seats, whole, mark)?;
     let lines = LineChannels::of(alloc, set)?;
     let room = Vec::with_capacity(alloc, 8)?;
+    let seats = Vec::with_capacity(alloc, 8)?;
     Ok(Prepared {
         marks,
         hosts,
         lines,
         room,
+        seats,
     })
 }
 
-/// Puts a module with its record and a book of notices behind nine locks, with as many hosts as the opening has seats. The module
-/// has accepted no write yet in its life. The board's name is picked from the tables and the module: a caller is generic over it.
-/// It refuses only where there is no memory, and then gives module and book back.
+/// Puts a module with its record and a book of notices behind nine locks, with as many hosts as the opening has seats. The record
+/// has all writes of the life so far: each is looked at once, and none is copied. The board's name is picked from the tables and
+/// the module: a caller is generic over it. It refuses only where there is no memory, and then gives module and book back.
 pub fn start<K, D, E, B, N>(
     alloc: Global,
     tables: BoardTables,
@@ -98,13 +103,14 @@ where
     requires board { tables.opening.board ≡ B.board }
     requires mark { tables.opening.mark ≤ recorded.running.front.persisted }
     requires logs { tables.logs ≡ B.logs }
-    requires before { B.before ≡ 0 }
+    requires before { recorded.running.front.accepted
+        ≡ recorded.running.front.terms.start + B.before }
     requires channels { (shape_of K.ChannelPort recorded.running.channels).channels ≡ B.channels }
     requires ports { (shape_of K.ChannelPort recorded.running.channels).channels ≡ B.ports }
     requires made { make_with K.ChannelPort recorded.running.channels.terms
         recorded.running.channels.ports.items ≡ B.make }
     requires base { recorded.history.base ≡ B.base }
-    requires fresh { IsFresh K.ChannelPort D.SaveDevice recorded }
+    requires whole { recorded.history.start ≡ recorded.running.front.terms.start }
     requires kept { IsRecordKept K.ChannelPort D.SaveDevice E.Energy recorded }
     ensures number { IfOk result (λ s. vec_len s.hosts ≡ B.parts) }
     ensures hosts { IfOk result (λ s.
@@ -138,6 +144,7 @@ where
         hosts,
         lines,
         room,
+        seats,
     } = made;
     publish(&marks, &mut seat, running.accepted(), running.mark());
     let RecordedModule {
@@ -148,10 +155,12 @@ where
     } = recorded;
     let SplitModule {
         front: split,
-        mut ports,
+        ports,
         terms,
     } = SplitModule::of(running);
-    let channels = locks_of(&logs, &mut known, &mut ports);
+    let channels = begin_channels(
+        &logs, &mut known, seats, &lines, &history, &split, &terms, ports,
+    );
     let desk = Desk {
         split,
         terms,

@@ -32,8 +32,8 @@ where
     R: Wait,
     C: ChannelName,
     requires asked { IsAskedFor B.make write.line C.NUMBER }
-    ensures writes { LentForWrite K.ChannelPort D.SaveDevice E.Energy B.BoardName.own B.PartsName.own
-        C.NUMBER write result host.old host.new }
+    ensures writes { LentForWrite K.ChannelPort D.SaveDevice E.Energy B.BoardName.own
+        B.PartsName.own C.NUMBER write result host.old host.new }
     ensures rises { SeesNoLess host.old host.new }
 {
     let mut locked = take_lock(rt, board);
@@ -61,8 +61,8 @@ impl<K: ChannelPort, D: SaveDevice, E: Energy, B: BoardName + PartsName, N: Noti
     ) -> Result<Receipt, WriteRefusal>
         requires channel { channel < 8 }
         requires asked { IsAskedFor B.make write.line channel }
-        ensures writes { LentForWrite K.ChannelPort D.SaveDevice E.Energy B.BoardName.own B.PartsName.own
-            channel write result host.old host.new }
+        ensures writes { LentForWrite K.ChannelPort D.SaveDevice E.Energy B.BoardName.own
+            B.PartsName.own channel write result host.old host.new }
         ensures rises { SeesNoLess host.old host.new }
     {
         let (desk, channels) = (&self.desk, &self.channels);
@@ -87,8 +87,8 @@ impl<K: ChannelPort, D: SaveDevice, E: Energy, B: BoardName + PartsName, N: Noti
         host: &mut Host<B>,
         write: Write,
     ) -> Result<Receipt, WriteRefusal>
-        ensures writes { WritesAtBoard K.ChannelPort D.SaveDevice E.Energy B.BoardName.own B.PartsName.own
-            write result host.old host.new }
+        ensures writes { WritesAtBoard K.ChannelPort D.SaveDevice E.Energy B.BoardName.own
+            B.PartsName.own write result host.old host.new }
         ensures rises { SeesNoLess host.old host.new }
     {
         let channel = self.channel_of(write.line);

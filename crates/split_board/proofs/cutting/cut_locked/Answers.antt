@@ -11,6 +11,8 @@ returns-in-Ok g c =
     record {
       before = called.before;
       after = called.after;
+      old_is = called.old_is;
+      new_is = called.new_is;
       cuts = (
         subst (λ desk. AreChecked desk.split.front.terms.start desk.history c.args.receipts.now c.args.answers.now (record told { from = desk.history.start }))
             (λ i. unwrap_or ((sym c.in-Some.is ∙ called.old_is) i) c.in-Some.desk)
@@ -22,4 +24,10 @@ returns-in-Ok g c =
     }
 
 pub returns-in-Err : goal.returns-in-Err
-returns-in-Err g c = record { before = c.in-Some.desk; after = c.in-Some.desk; cuts = (c.in-Err.ensures.stranger, refl) }
+returns-in-Err g c = record {
+  before = c.in-Some.desk;
+  after = c.in-Some.desk;
+  old_is = c.in-Some.is;
+  new_is = c.in-Some.is;
+  cuts = (c.in-Err.ensures.stranger, refl);
+}

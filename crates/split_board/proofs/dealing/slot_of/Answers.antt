@@ -1,43 +1,65 @@
-use Rattle.std.proofs.Common.{◌≡◌, ◌∙◌, ℕ, List, [], ◌∷◌, ◌++◌, length, slice_get, Some, None, arith, refl, subst, sym}
-use Rattle.channel_log.specs.Log.{LogNote}
-use Rattle.channel_port.specs.Waits.{nothing}
-use Rattle.channel_part.specs.Stands.{PartStands}
-use Rattle.channel_locks.specs.Slots.{IsPartWhereDue}
-use Rattle.split_board.specs.Starting.{IsFreshPort}
-use Rattle.split_board.proofs.Fresh.{fresh_part}
-use Rattle.split_board.proofs.Lists.{front_got, last_got}
+use Rattle.std.proofs.Common.{◌≡◌, ◌∙◌, ℕ, List, length, slice_get, Some, arith, subst, sym}
+use Rattle.channel_log.specs.Log.{LogNote, credits_of, log_tells}
+use Rattle.channel_part.specs.Stands.{PartStands, PortStands}
+use Rattle.split_board.specs.FirstLogs.{IsFirstPort}
+use Rattle.split_board.proofs.Slots.{first_part, port_gone, port_last, seat_gone, seat_last}
 use Rattle.split_board.proofs.dealing.slot_of.Goals.{After-NUMBER-2}
 use Rattle.split_board.proofs.dealing.slot_of.Given.{Over}
 use Rattle.split_board.proofs.dealing.slot_of.Goals as goal
 
 module _ (g : Over) (c : After-NUMBER-2 g) where
   -- as many ports are left as the channel's number
-  left : length c.pop.new.self.items ≡ g.C.ChannelName.NUMBER
-  left = omega (arith, c.requires.count, c.if-len-NUMBER.false, c.in-Some.ensures.len, c.len.ensures, c.NUMBER.ensures)
+  ports_left : length c.pop-2.new.self.items ≡ g.C.ChannelName.NUMBER
+  ports_left = omega (arith, c.requires.count, c.if-len-NUMBER.false, c.in-Some-pop.ensures.len, c.len.ensures, c.NUMBER.ensures)
 
-  last : IsFreshPort g.K.ChannelPort g.B.PartsName g.C.ChannelName.NUMBER c.in-Some.port
-  last = c.requires.fresh g.C.ChannelName.NUMBER c.in-Some.port
-      (subst (λ (items : List g.row.K.Denot). slice_get items g.C.ChannelName.NUMBER ≡ Some c.in-Some.port) (sym c.in-Some.ensures.items)
-      (subst (λ (n : ℕ). slice_get (c.pop.new.self.items ++ c.in-Some.port ∷ []) n ≡ Some c.in-Some.port) left (last_got c.pop.new.self.items c.in-Some.port)))
+  seat_at : slice_get c.args.seats.now.items g.C.ChannelName.NUMBER ≡ Some c.in-Some.seat
+  seat_at = seat_last g.K.ChannelPort g.B.PartsName c.args.ended c.args.ports.now.items c.args.seats.now.items c.pop.new.self.items c.in-Some.seat c.requires.first c.in-Some.ensures.items g.C.ChannelName.NUMBER
+      (omega (arith, c.requires.seats, c.in-Some.ensures.len))
+
+  first : IsFirstPort g.K.ChannelPort g.B.PartsName c.args.ended g.C.ChannelName.NUMBER (log_tells c.in-Some.seat.log) c.in-Some-pop.port
+  first = c.requires.first.ports_are g.C.ChannelName.NUMBER c.in-Some.seat c.in-Some-pop.port seat_at
+      (port_last g.K.ChannelPort g.B.PartsName c.args.ended c.args.ports.now.items c.pop-2.new.self.items c.in-Some-pop.port c.args.seats.now.items c.requires.first c.in-Some-pop.ensures.items g.C.ChannelName.NUMBER ports_left)
+
+pub returns-then-len-NUMBER-clause-first : goal.returns-then-len-NUMBER-clause-first
+returns-then-len-NUMBER-clause-first g c =
+    seat_gone g.K.ChannelPort g.B.PartsName c.args.ended c.args.ports.now.items c.args.seats.now.items c.pop.new.self.items c.in-Some.seat c.requires.first c.in-Some.ensures.items
 
 pub of-requires-clause-here : goal.of-requires-clause-here
-of-requires-clause-here g c = let at = goal.at.of-requires-clause-here g c in c.NUMBER-2.ensures ∙ sym (last g at.After-NUMBER-2).number_is
+of-requires-clause-here g c = let at = goal.at.of-requires-clause-here g c in c.NUMBER-2.ensures ∙ sym (first g at.After-NUMBER-2).number_is
 
 pub of-requires-clause-mains : goal.of-requires-clause-mains
-of-requires-clause-mains g c runs = let at = goal.at.of-requires-clause-mains g c in (last g at.After-NUMBER-2).mains
+of-requires-clause-mains g c = let at = goal.at.of-requires-clause-mains g c in (first g at.After-NUMBER-2).mains
+
+pub new-requires-clause-table : goal.new-requires-clause-table
+new-requires-clause-table g c =
+    let at = seat_last g.K.ChannelPort g.B.PartsName c.args.ended c.args.ports.now.items c.args.seats.now.items c.pop.new.self.items c.in-Some.seat c.requires.first c.in-Some.ensures.items g.C.ChannelName.NUMBER
+    (omega (arith, c.requires.seats, c.in-Some.ensures.len)) in
+    (c.requires.first.seats_are g.C.ChannelName.NUMBER c.in-Some.seat at).0
+
+pub new-requires-clause-channel : goal.new-requires-clause-channel
+new-requires-clause-channel g c =
+    let at = seat_last g.K.ChannelPort g.B.PartsName c.args.ended c.args.ports.now.items c.args.seats.now.items c.pop.new.self.items c.in-Some.seat c.requires.first c.in-Some.ensures.items g.C.ChannelName.NUMBER
+    (omega (arith, c.requires.seats, c.in-Some.ensures.len)) in
+    (c.requires.first.seats_are g.C.ChannelName.NUMBER c.in-Some.seat at).1
+
+pub new-requires-2-clause-table : goal.new-requires-2-clause-table
+new-requires-2-clause-table g c = let at = goal.at.new-requires-2-clause-table g c in (c.requires.first.seats_are g.C.ChannelName.NUMBER c.in-Some.seat (seat_at g at.After-NUMBER-2)).0
+
+pub new-requires-2-clause-channel : goal.new-requires-2-clause-channel
+new-requires-2-clause-channel g c = let at = goal.at.new-requires-2-clause-channel g c in (c.requires.first.seats_are g.C.ChannelName.NUMBER c.in-Some.seat (seat_at g at.After-NUMBER-2)).1
 
 pub new-requires-2-clause-part : goal.new-requires-2-clause-part
 new-requires-2-clause-part g c =
-    let at = goal.at.new-requires-2-clause-part g c in let L = g.K.ChannelPort in let P = g.B.PartsName in let number = g.C.ChannelName.NUMBER in
-    let part = c.of.result in
-    let begins : (base : List (List ℕ)) → L.carries c.in-Some.port base [] → (L.view c.in-Some.port).waits ≡ nothing → (L.view c.in-Some.port).hold ≡ None
-    → PartStands L part number base [] =
-    λ base carries waits hold. subst (λ (n : ℕ). PartStands L part n base []) c.NUMBER-2.ensures (c.of.ensures.begins base carries waits hold refl) in
-    subst (λ (log : List LogNote). ∥ IsPartWhereDue L P (Some part) number log ∥₁) (sym c.requires.log)
-    (fresh_part L P part number c.in-Some.port (last g at.After-NUMBER-2) c.of.ensures.port
-    (omega (arith, c.requires.count, c.if-len-NUMBER.false, c.len.ensures, c.NUMBER.ensures)) begins)
+    let at = goal.at.new-requires-2-clause-part g c in let L = g.K.ChannelPort in let number = g.C.ChannelName.NUMBER in let port = c.in-Some-pop.port in
+    let stands : (base : List (List ℕ)) (log : List LogNote) → PortStands L port number base (log_tells log) → credits_of log ≡ length (L.view port).waits.writes → c.args.ended ≡ (log_tells log).ended
+    → PartStands L c.of.result number base log =
+    subst (λ (n : ℕ). (base : List (List ℕ)) (log : List LogNote) → PortStands L port n base (log_tells log) → credits_of log ≡ length (L.view port).waits.writes → c.args.ended ≡ (log_tells log).ended → PartStands L c.of.result n base log)
+    c.NUMBER-2.ensures c.of.ensures.stands in
+    first_part L g.B.PartsName c.args.ended c.of.result number c.in-Some.seat.log port (first g at.After-NUMBER-2) c.of.ensures.port
+    (omega (arith, c.requires.count, c.if-len-NUMBER.false, c.len.ensures, c.NUMBER.ensures)) stands
 
-pub returns-clause-fresh : goal.returns-clause-fresh
-returns-clause-fresh g c number port is =
-    c.requires.fresh number port (subst (λ (items : List g.row.K.Denot). slice_get items number ≡ Some port) (sym c.in-Some.ensures.items)
-    (front_got c.pop.new.self.items c.in-Some.port number port is))
+pub returns-clause-first : goal.returns-clause-first
+returns-clause-first g c =
+    port_gone g.K.ChannelPort g.B.PartsName c.args.ended c.args.ports.now.items c.pop-2.new.self.items c.in-Some-pop.port c.pop.new.self.items
+    (seat_gone g.K.ChannelPort g.B.PartsName c.args.ended c.args.ports.now.items c.args.seats.now.items c.pop.new.self.items c.in-Some.seat c.requires.first c.in-Some.ensures.items)
+    c.in-Some-pop.ensures.items

@@ -15,8 +15,8 @@ returns-in-Ok-clause-read g c = record {
   serves = c.served-got.ensures;
 }
 
-pub returns-in-Err-clause-refused : goal.returns-in-Err-clause-refused
-returns-in-Err-clause-refused g c = record {
+pub returns-in-Err-clause-read : goal.returns-in-Err-clause-read
+returns-in-Err-clause-read g c = record {
   channel = g.C.ChannelName.NUMBER;
   at = c.in-Some.desk.split.front.accepted;
   asked = c.requires.asked;

@@ -10,9 +10,13 @@ returns-in-Begin g c =
     record {
       before = c.in-Some.desk;
       after = called.after;
-      turn = λ m stands. sym c.in-Begin.is ∙ c.saver_turn.ensures m stands;
-      steps = subst (λ desk. CallsWhole g.K.ChannelPort g.D.SaveDevice g.E.Energy g.B.BoardName g.B.PartsName (save_begin_course c.call_locked.result) desk called.after)
-          (λ i. unwrap_or ((sym called.old_is ∙ c.in-Some.is) i) called.before) called.calls;
+      old_is = c.in-Some.is;
+      new_is = called.new_is;
+      saves = record {
+        turn = λ m stands. sym c.in-Begin.is ∙ c.saver_turn.ensures m stands;
+        steps = subst (λ desk. CallsWhole g.K.ChannelPort g.D.SaveDevice g.E.Energy g.B.BoardName g.B.PartsName (save_begin_course c.call_locked.result) desk called.after)
+            (λ i. unwrap_or ((sym called.old_is ∙ c.in-Some.is) i) called.before) called.calls;
+      };
     }
 
 pub returns-in-Step : goal.returns-in-Step
@@ -21,23 +25,29 @@ returns-in-Step g c =
     record {
       before = c.in-Some.desk;
       after = called.after;
-      turn = λ m stands. sym c.in-Step.is ∙ c.saver_turn.ensures m stands;
-      steps = subst (λ desk. CallsWhole g.K.ChannelPort g.D.SaveDevice g.E.Energy g.B.BoardName g.B.PartsName (save_step_course c.call_locked-in-Step.result) desk called.after)
-          (λ i. unwrap_or ((sym called.old_is ∙ c.in-Some.is) i) called.before) called.calls;
+      old_is = c.in-Some.is;
+      new_is = called.new_is;
+      saves = record {
+        turn = λ m stands. sym c.in-Step.is ∙ c.saver_turn.ensures m stands;
+        steps = subst (λ desk. CallsWhole g.K.ChannelPort g.D.SaveDevice g.E.Energy g.B.BoardName g.B.PartsName (save_step_course c.call_locked-in-Step.result) desk called.after)
+            (λ i. unwrap_or ((sym called.old_is ∙ c.in-Some.is) i) called.before) called.calls;
+      };
     }
 
 pub returns-in-Rest : goal.returns-in-Rest
 returns-in-Rest g c = record {
   before = c.in-Some.desk;
   after = c.in-Some.desk;
-  turn = λ m stands. sym c.in-Rest.is ∙ c.saver_turn.ensures m stands;
-  steps = refl;
+  old_is = c.in-Some.is;
+  new_is = c.in-Some.is;
+  saves = record { turn = λ m stands. sym c.in-Rest.is ∙ c.saver_turn.ensures m stands; steps = refl };
 }
 
 pub returns-in-End : goal.returns-in-End
 returns-in-End g c = record {
   before = c.in-Some.desk;
   after = c.in-Some.desk;
-  turn = λ m stands. sym c.in-End.is ∙ c.saver_turn.ensures m stands;
-  steps = refl;
+  old_is = c.in-Some.is;
+  new_is = c.in-Some.is;
+  saves = record { turn = λ m stands. sym c.in-End.is ∙ c.saver_turn.ensures m stands; steps = refl };
 }
