@@ -55,13 +55,15 @@ module _ {K : Type 0} (L : Ghosts K) where
   WorksForTimes zero ticket old new = new ≡ old
   WorksForTimes (suc times) ticket old new = (mid : Option (Part K L)) × WorksForTimes times ticket old mid × WorksForTicket ticket mid new
 
-  -- While there was nothing for a ticket its channel was worked, 64 times at most; then there was this for it.
+  -- While there was nothing for a ticket its channel was worked, 64 times at most; then there was this for it. It is nothing still only
+  -- where that were 64 times.
   pub record ServesAlone (ticket : Ticket) (answer : Collected) (old new : Option (Part K L)) : Type 0 where
     pub times : ℕ
     pub most : times ≤ 64
     pub worked : Option (Part K L)
     pub works : WorksForTimes times ticket old worked
     pub answers : CollectsAlone ticket answer worked new
+    pub ends : answer ≡ Pending → times ≡ 64
 
   -- whether there is no room for a further write, now and once the returned credits are taken back
   abbrev pub is_crowded : Part K L → Bool
