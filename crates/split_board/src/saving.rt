@@ -14,20 +14,14 @@ use nv_workers::{BoardName, SaverTurn, Saving, working_of};
 use save_device::SaveDevice;
 use std::sync::Wait;
 use std::thread;
-use std::time::Clock;
+use std::time::{Clock, Duration};
 use worker_gate::{Gate, Turn};
 use worker_loops::{Ended, Shift, Working, give_way, take_turns};
 
-/// How often a saver gives its processor away behind a begin and behind a step, with no lock held. A thread that waits for the
-/// board's lock tries it and gives way in turn: it would find the lock taken at each try if the saver took it back at once.
-const LETS_IN: u64 = 32;
-
-// Lets threads in that wait for the board's lock.
-fn let_in() {
-    for _ in 0..LETS_IN {
-        thread::yield_now();
-    }
-}
+/// How long a saver sleeps at least behind a begin and behind a step, with no lock held, in microseconds; on most systems some fifty
+/// more. A thread that waits for a lock tries it and gives way in turn: it would find it taken at each try if the saver took all
+/// locks back at once.
+const LETS_IN: u64 = 1;
 
 // One turn of a saver, with the board's lock held. It decides by the desk alone, and the channels' locks are taken only where it
 // saves.
@@ -119,7 +113,7 @@ where
     fn work(&mut self, _worker: u64) -> Working {
         let working = working_of(self.board.save(self.rt));
         if working == Working::Worked {
-            let_in();
+            thread::sleep(self.rt, Duration::from_micros(LETS_IN));
         }
         working
     }
@@ -130,9 +124,9 @@ where
 }
 
 /// Takes one turn of a saver at each `Go`, until the gate says stop or mains were lost, as `take_turns`. Behind a turn that was
-/// held or at rest, and behind a step that has to wait, it gives way as a channel's worker does. Behind any other turn it gives
-/// its processor away 32 times, so that threads which wait for the board's lock come in. The gate is asked for it by the number of
-/// channels. A saver that rests takes the board's lock alone.
+/// held or at rest, and behind a step that has to wait, it gives way as a channel's worker does. Behind any other turn it sleeps a
+/// microsecond, so that threads which wait for a lock come in. The gate is asked for it by the number of channels. A saver that
+/// rests takes the board's lock alone.
 pub fn saver_worker<K, D, E, B, N, G, R>(
     rt: &R,
     board: &Board<K, D, E, B, N>,
