@@ -7,3 +7,4 @@ pub mod Loans
 pub mod Calling
 pub mod Whole
 pub mod Pieces
+pub mod Asking

@@ -14,6 +14,7 @@ mod closing;
 mod desk;
 mod hosting;
 mod laws;
+mod lent_desk;
 mod loans;
 mod noting;
 mod pieces;

@@ -1,11 +1,9 @@
 // A module in pieces is put together, asked, and taken apart again.
-ghost use Rattle.std.specs.Prelude.{◌≡◌, Some, List, slice_get};
+ghost use Rattle.std.specs.Prelude.{◌≡◌, Some, slice_get};
 ghost use Rattle.channel_locks.specs.PortMakes.{make_of};
-ghost use Rattle.channel_log.specs.Log.{LogNote};
 ghost use Rattle.split_module.specs.Gathering.{FitAsModule, IsMadeOf, StandsGathered, StandsSplit};
+ghost use Rattle.board_desk.specs.Asking.{AreOfBoard, LedAs};
 ghost use Rattle.board_desk.specs.Calling.{loss_course};
-ghost use Rattle.board_desk.specs.Desk.{desk_view};
-ghost use Rattle.board_desk.specs.Pieces.{ArePiecesKept, CallDid};
 
 use crate::board_port::BoardPort;
 use crate::calling::{WholeCall, lose_mains};
@@ -86,18 +84,9 @@ impl<K: ChannelPort, D: SaveDevice, E: Energy, B: PartsName> RecordedPieces<K, D
         self,
         call: W,
     ) -> CalledPieces<K, D, E, B, W::Answer>
-        requires { ∥ ((logs : List (List LogNote)) × ArePiecesKept K.ChannelPort B.PartsName
-            (desk_view self.pieces.front self.pieces.terms (D.state self.device)
-            (E.gauge self.energy) self.history logs) self.pieces.ports.items) ∥₁ }
-        ensures did { (logs : List (List LogNote)) → ArePiecesKept K.ChannelPort B.PartsName
-            (desk_view self.pieces.front self.pieces.terms (D.state self.device)
-            (E.gauge self.energy) self.history logs) self.pieces.ports.items
-            → CallDid K.ChannelPort B.PartsName (W.course result.answer)
-            (desk_view self.pieces.front self.pieces.terms (D.state self.device)
-            (E.gauge self.energy) self.history logs)
-            (desk_view result.rest.pieces.front result.rest.pieces.terms
-            (D.state result.rest.device) (E.gauge result.rest.energy) result.rest.history logs)
-            result.rest.pieces.ports.items }
+        requires { AreOfBoard K.ChannelPort D.SaveDevice E.Energy B.PartsName self }
+        ensures did { LedAs K.ChannelPort D.SaveDevice E.Energy B.PartsName
+            (W.course result.answer) self result.rest }
         ensures told { W.told result.answer self.pieces.front.front.saved self.history
             result.rest.history }
     {
@@ -117,18 +106,9 @@ impl<K: ChannelPort, D: SaveDevice, E: Energy, B: PartsName> RecordedPieces<K, D
     where
         K: Send,
         B: Send,
-        requires kept { ∥ ((logs : List (List LogNote)) × ArePiecesKept K.ChannelPort B.PartsName
-            (desk_view self.pieces.front self.pieces.terms (D.state self.device)
-            (E.gauge self.energy) self.history logs) self.pieces.ports.items) ∥₁ }
-        ensures did { (logs : List (List LogNote)) → ArePiecesKept K.ChannelPort B.PartsName
-            (desk_view self.pieces.front self.pieces.terms (D.state self.device)
-            (E.gauge self.energy) self.history logs) self.pieces.ports.items
-            → CallDid K.ChannelPort B.PartsName (loss_course result.answer)
-            (desk_view self.pieces.front self.pieces.terms (D.state self.device)
-            (E.gauge self.energy) self.history logs)
-            (desk_view result.rest.pieces.front result.rest.pieces.terms
-            (D.state result.rest.device) (E.gauge result.rest.energy) result.rest.history logs)
-            result.rest.pieces.ports.items }
+        requires kept { AreOfBoard K.ChannelPort D.SaveDevice E.Energy B.PartsName self }
+        ensures did { LedAs K.ChannelPort D.SaveDevice E.Energy B.PartsName
+            (loss_course result.answer) self result.rest }
     {
         let mut it = self.gather();
         let answer = lose_mains(rt, &mut it, gate);

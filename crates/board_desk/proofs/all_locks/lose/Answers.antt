@@ -1,13 +1,50 @@
 -- Mains are lost, with all locks held.
-use Rattle.board_desk.specs.Calling.{loss_course}
+use Rattle.std.proofs.Common.{subst, sym}
+use Rattle.std.specs.Arc.{arc_value}
+use Rattle.board_desk.specs.Asking.{CameBy}
+use Rattle.board_desk.specs.Calling.{Course, loss_course}
+use Rattle.board_desk.specs.Desk.{DeskView}
 use Rattle.board_desk.specs.Views.{desk_of}
+use Rattle.board_desk.specs.Whole.{CallAnswers, WholeAnswers}
+use Rattle.board_desk.proofs.KeptWhole.{pieces_kept}
 use Rattle.board_desk.proofs.Wholly.{same_world, whole_answers}
+use Rattle.board_desk.proofs.all_locks.lose.Given.{Over}
+use Rattle.board_desk.proofs.all_locks.lose.Goals.{After-lose}
 use Rattle.board_desk.proofs.all_locks.lose.Goals as goal
+
+module _ (g : Over) (c : After-lose g) where
+  abbrev course : Course
+  course = loss_course c.lose.result.answer
+
+  came : CameBy g.K.ChannelPort g.D.SaveDevice g.E.Energy g.B.PartsName g.B.BoardName course c.lend_out-rest.result.rest c.lose.result.rest (arc_value c.lend_out-rest.result.books.marks) c.lend_out-rest.result.books.seat c.lend_out-rest.result.books.tally.book.total c.lend_out-rest.result.books.logs
+      c.lend_out-rest.result.books.known
+  came = record {
+    kept = c.lend_out-rest.ensures.kept;
+    did = c.lose.ensures.did c.lend_out-rest.result.books.known.logs
+        (pieces_kept g.K.ChannelPort g.B.BoardName g.B.PartsName _ _ _ _ _ _ c.lend_out-rest.ensures.kept c.lend_out-rest.result.rest.pieces.ports.items c.lend_out-rest.ensures.have);
+  }
+
+pub lose-requires-clause-kept : goal.lose-requires-clause-kept
+lose-requires-clause-kept g c _ _ =
+    ∣ (
+      c.lend_out-rest.result.books.known.logs,
+      pieces_kept g.K.ChannelPort g.B.BoardName g.B.PartsName _ _ _ _ _ _ c.lend_out-rest.ensures.kept c.lend_out-rest.result.rest.pieces.ports.items c.lend_out-rest.ensures.have,
+    ) ∣₁
+
+pub bring_back-requires-clause-came : goal.bring_back-requires-clause-came
+bring_back-requires-clause-came g c =
+    let at = goal.at.bring_back-requires-clause-came g c in
+    (c.lend_out-rest.result.rest, course g at.After-lose, came g at.After-lose)
 
 pub returns : goal.returns
 returns g c =
+    let at = goal.at.returns g c in
     let view = desk_of g.K.ChannelPort g.D.SaveDevice g.E.Energy g.B.BoardName g.B.PartsName in
+    let desk = c.settle_all.result in
+    let later = view c.bring_back.result.desk in
     record {
-      answers = whole_answers g.B.PartsName (loss_course c.lose_settled.result.answer) (view c.args.desk) (view c.settle_all.new.desk) (view c.lose_settled.result.desk) c.settle_all.ensures.settles
-          (same_world g.K.ChannelPort g.D.SaveDevice g.E.Energy g.B.BoardName g.B.PartsName c.args.desk c.settle_all.new.desk c.settle_all.ensures.same) c.lose_settled.ensures.answers;
+      answers = subst (λ a. WholeAnswers g.B.PartsName (loss_course a) (view c.args.desk) later) (sym c.bring_back.ensures.answer)
+          (whole_answers g.B.PartsName (course g at.After-lose) (view c.args.desk) (view desk) later c.settle_all.ensures.settles
+          (same_world g.K.ChannelPort g.D.SaveDevice g.E.Energy g.B.BoardName g.B.PartsName c.args.desk desk c.settle_all.ensures.same)
+          (subst (λ (d : DeskView). CallAnswers g.B.PartsName (course g at.After-lose) d later) c.lend_out-rest.ensures.view (c.bring_back.ensures.answers c.lend_out-rest.result.rest (course g at.After-lose) (came g at.After-lose))));
     }
