@@ -2,22 +2,23 @@
 ghost use Rattle.std.specs.Prelude.{◌≡◌, ◌+◌, ◌≤◌, [], vec_capacity, vec_len, All, IfOk, IfErr};
 ghost use Rattle.std.specs.Arc.{arc_value};
 ghost use Rattle.mark_board.specs.SeenMarks.{AllHaveSeen, seen_marks};
+ghost use Rattle.channel_log.specs.Seats.{all_logs};
 ghost use Rattle.channel_set.specs.Set.{shape_of};
 ghost use Rattle.channel_locks.specs.Lines.{channels_of_lines};
 ghost use Rattle.nv_workers.specs.Client.{client};
 ghost use Rattle.nv_workers.specs.Kept.{IsRecordKept};
-ghost use Rattle.split_board.specs.Starting.{make_with};
+ghost use Rattle.split_board.specs.Starting.{IsBoardOf, make_with};
 
 use crate::board::Board;
 use crate::dealing::begin_channels;
 use crate::tables::BoardTables;
 use board_desk::{BoardPort, Desk};
 use channel_locks::{LineChannels, PartsName};
-use channel_log::ChannelSeat;
+use channel_log::{ChannelLogs, ChannelSeat, FrontSeat};
 use channel_port::ChannelPort;
 use channel_set::ChannelSet;
 use energy_budget::Energy;
-use mark_board::{HostSeat, MarkBoard};
+use mark_board::{BoardSeat, HostSeat, MarkBoard};
 use notice_book::Notices;
 use nv_workers::{BoardName, Host, NotStarted, Opening, RecordedModule, Tally, publish, seated};
 use save_device::SaveDevice;
@@ -33,7 +34,7 @@ pub struct Started<K: ChannelPort, D: SaveDevice, E: Energy, B: BoardName + Part
     pub hosts: Vec<Host<B>>,
 }
 
-// What takes memory of a board.
+// What takes memory of a board: the words and the hosts, the table of the lines' channels, and room for ports and seats.
 #[derive(Drop)]
 struct Prepared<K: ChannelPort, B: BoardName + PartsName> {
     marks: Arc<MarkBoard, Global>,
@@ -41,6 +42,20 @@ struct Prepared<K: ChannelPort, B: BoardName + PartsName> {
     lines: LineChannels,
     room: Vec<BoardPort<K, B>>,
     seats: Vec<ChannelSeat>,
+    ghost board: { arc_value marks ≡ B.board },
+    ghost no_port: { room.items ≡ [] },
+    ghost no_seat: { seats.items ≡ [] },
+    ghost ports: { 8 ≤ vec_capacity room },
+    ghost eight: { 8 ≤ vec_capacity seats },
+}
+
+// What moves the words, counts the hosts' writes and knows the channels' logs.
+#[derive(Drop)]
+struct Words<B: BoardName + PartsName> {
+    seat: BoardSeat,
+    tally: Tally<B>,
+    logs: ChannelLogs,
+    known: FrontSeat,
 }
 
 // Makes the hosts, the table of the lines' channels, and room for the ports and the channels' seats.
@@ -56,7 +71,6 @@ fn prepare<K: ChannelPort + Drop, B: BoardName + PartsName>(
     requires seats { AllHaveSeen (seen_marks B.board mark mark) seats.items }
     requires parts { whole.old.parts ≡ vec_len seats }
     requires amount { whole.old.amount ≡ 0 }
-    ensures marks { IfOk result (λ made. arc_value made.marks ≡ B.board) }
     ensures number { IfOk result (λ made. vec_len made.hosts ≡ vec_len seats) }
     ensures hosts { IfOk result (λ made.
         All (λ h. h ≡ client mark mark 0 []) made.hosts.items) }
@@ -64,10 +78,6 @@ fn prepare<K: ChannelPort + Drop, B: BoardName + PartsName>(
     ensures none { IfOk result (λ _. whole.new.amount ≡ 0) }
     ensures lines { IfOk result (λ made.
         made.lines ≡ channels_of_lines (shape_of K.ChannelPort set.now)) }
-    ensures empty { IfOk result (λ made. made.room.items ≡ []) }
-    ensures room { IfOk result (λ made. 8 ≤ vec_capacity made.room) }
-    ensures no_seat { IfOk result (λ made. made.seats.items ≡ []) }
-    ensures seats { IfOk result (λ made. 8 ≤ vec_capacity made.seats) }
 {
     let marks = Arc::new(alloc, marks)?;
     let hosts = seated(alloc, &marks, seats, whole, mark)?;
@@ -81,6 +91,65 @@ fn prepare<K: ChannelPort + Drop, B: BoardName + PartsName>(
         room,
         seats,
     })
+}
+
+// Puts a module with its record and a book of notices behind the locks, once all memory was taken.
+fn begin<K, D, E, B, N>(
+    made: Prepared<K, B>,
+    words: Words<B>,
+    recorded: RecordedModule<K, D, E>,
+    notices: N,
+) -> Started<K, D, E, B, N>
+where
+    K: ChannelPort + Drop,
+    D: SaveDevice,
+    E: Energy,
+    B: BoardName + PartsName,
+    N: Notices,
+    requires lines { made.lines ≡ channels_of_lines
+        (shape_of K.ChannelPort recorded.running.channels) }
+    requires shown { words.seat ≡ seen_marks B.board
+        recorded.running.front.accepted recorded.running.front.persisted }
+    requires counted { words.tally.book.total ≡ 0 }
+    requires logs { words.logs ≡ B.logs }
+    requires known { words.known ≡ all_logs B.logs [] }
+    requires named { IsBoardOf K.ChannelPort D.SaveDevice E.Energy B.BoardName.own
+        B.PartsName.own recorded }
+    ensures { result.hosts ≡ made.hosts }
+{
+    let Words {
+        seat,
+        tally,
+        logs,
+        mut known,
+    } = words;
+    let SplitModule {
+        front: split,
+        ports,
+        terms,
+    } = SplitModule::of(recorded.running);
+    let (lines, history) = (made.lines, recorded.history);
+    let channels = begin_channels(
+        &logs, &mut known, made.seats, &lines, &history, &split, &terms, ports,
+    );
+    let desk = Desk {
+        split,
+        terms,
+        room: made.room,
+        device: recorded.device,
+        energy: recorded.energy,
+        history,
+        marks: made.marks,
+        seat,
+        tally,
+        logs,
+        known,
+    };
+    let board = Board::new(desk, channels, lines, notices);
+    Started {
+        board,
+        hosts: made.hosts,
+    }
 }
 
 /// Puts a module with its record and a book of notices behind nine locks, with as many hosts as the opening has seats. The record
@@ -121,7 +190,7 @@ where
     let BoardTables {
         opening,
         logs,
-        mut known,
+        known,
     } = tables;
     let Opening {
         blank,
@@ -139,43 +208,12 @@ where
             notices,
         });
     };
-    let Prepared {
-        marks,
-        hosts,
-        lines,
-        room,
-        seats,
-    } = made;
-    publish(&marks, &mut seat, running.accepted(), running.mark());
-    let RecordedModule {
-        running,
-        device,
-        energy,
-        history,
-    } = recorded;
-    let SplitModule {
-        front: split,
-        ports,
-        terms,
-    } = SplitModule::of(running);
-    let channels = begin_channels(
-        &logs, &mut known, seats, &lines, &history, &split, &terms, ports,
-    );
-    let desk = Desk {
-        split,
-        terms,
-        room,
-        device,
-        energy,
-        history,
-        marks,
+    publish(&made.marks, &mut seat, running.accepted(), running.mark());
+    let words = Words {
         seat,
         tally: Tally { book, rest },
         logs,
         known,
     };
-    Ok(Started {
-        board: Board::new(desk, channels, lines, notices),
-        hosts,
-    })
+    Ok(begin(made, words, recorded, notices))
 }
