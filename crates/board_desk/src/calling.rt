@@ -143,8 +143,8 @@ impl<K: ChannelPort, D: SaveDevice, E: Energy> WholeCall<K, D, E> for SaveStepCa
     }
 }
 
-/// Takes off the stored writes that the newest image holds: they go into the record's memory. It answers with which number the stored
-/// writes begin then.
+/// Takes off the stored writes that the newest image holds: they go into the record's memory. It answers with which number the
+/// stored writes begin then.
 #[derive(Drop)]
 pub struct CutCall;
 

@@ -19,7 +19,8 @@ use std::alloc::Global;
 use std::sync::Arc;
 
 /// The front of a board's module with its device, its gauge and the record of its life; the words and the seat that moves them,
-/// which show the front's two numbers; how many of the life's writes are the hosts'; and the seat that knows the log of each channel.
+/// which show the front's two numbers; how many of the life's writes are the hosts'; and the seat that knows the log of each
+/// channel.
 #[derive(Drop)]
 pub struct Desk<K: ChannelPort, D: SaveDevice, E: Energy, B: BoardName + PartsName> {
     pub split: SplitFront,

@@ -2,8 +2,9 @@
 //! channel.
 //!
 //! A `Desk` has the front of the module, the device, the gauge, the record of the life, the marks, and what is known of each
-//! channel by its log. It stands for some machine whenever its lock is free (`specs/Desk.antt`, `specs/Kept.antt`). Who holds the board's
-//! lock and one channel's settles that channel first, and then writes or reads; of no other channel is anything asked.
+//! channel by its log. It stands for some machine whenever its lock is free (`specs/Desk.antt`, `specs/Kept.antt`). Who holds the
+//! board's lock and one channel's settles that channel first, and then writes or reads; of no other channel is anything asked.
+//! Who holds all locks lends the ports of all channels to a whole module, which is asked and gives them back.
 #![tactic(auto)]
 
 mod all_loans;

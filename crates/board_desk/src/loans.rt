@@ -179,7 +179,8 @@ pub(crate) fn restore<K: ChannelPort + Drop, B: PartsName, C: ChannelName>(
     } }
     ensures agreed { IsLogOf known.old.logs C.NUMBER seat.old.log }
     ensures told { log_tells seat.new.log ≡ restated hold ended
-        (waits_of_port K.ChannelPort (slice_get ports.old.items C.NUMBER)) (log_tells seat.old.log) }
+        (waits_of_port K.ChannelPort (slice_get ports.old.items C.NUMBER))
+        (log_tells seat.old.log) }
     ensures few { credits_of seat.new.log ≤ 64 }
 {
     let port = unpack(pop_at(ports, C::NUMBER));

@@ -39,7 +39,8 @@ impl<K: ChannelPort, D: SaveDevice, E: Energy, B: PartsName> RecordedPieces<K, D
     pub(crate) fn gather(self) -> RecordedModule<BoardPort<K, B>, D, E>
         requires { FitAsModule ⟦<BoardPort<K, B> as ChannelPort>⟧ self.pieces }
         ensures pieces { IsMadeOf ⟦<BoardPort<K, B> as ChannelPort>⟧ result.running self.pieces }
-        ensures stands { StandsGathered ⟦<BoardPort<K, B> as ChannelPort>⟧ self.pieces result.running }
+        ensures stands { StandsGathered ⟦<BoardPort<K, B> as ChannelPort>⟧
+            self.pieces result.running }
         ensures device { result.device ≡ self.device }
         ensures energy { result.energy ≡ self.energy }
         ensures history { result.history ≡ self.history }

@@ -27,7 +27,8 @@ impl<K: ChannelPort, D: SaveDevice, E: Energy, B: BoardName + PartsName> Desk<K,
     ghost use Rattle.board_desk.specs.Views.{SameButCounts, desk_of};
 
     /// Reads a line of the slot's channel for a host, whose seat then sees the marks: the bytes or a ticket, and how many writes
-    /// were accepted before. What the channel did since both locks were held is seen before, and its returned credits are taken back.
+    /// were accepted before. What the channel did since both locks were held is seen before, and its returned credits are taken
+    /// back.
     pub fn read<C: ChannelName>(
         &mut self,
         slot: &mut Slot<K, B, C>,
