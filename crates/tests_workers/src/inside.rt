@@ -7,10 +7,11 @@ use worker_gate::{Gate, Turn};
 /// How often a gate is asked before it lets a worker go: it waits for what doesn't come.
 pub(crate) const LIMIT: u64 = 10_000;
 
-/// Holds a worker's first turn until calls on another channel were answered. Its second turn is refused.
+/// Holds a worker's first turn until a host's calls were answered, or for so many questions. Its second turn is refused.
 #[derive(Drop)]
 pub struct InsideUntil<C: Clock> {
     clock: C,
+    most: u64,
     entered: AtomicBool,
     answered: AtomicBool,
     late: AtomicBool,
@@ -18,9 +19,10 @@ pub struct InsideUntil<C: Clock> {
 
 impl<C: Clock> InsideUntil<C> {
     /// Before any question.
-    pub(crate) fn new(clock: C) -> InsideUntil<C> {
+    pub(crate) fn new(clock: C, most: u64) -> InsideUntil<C> {
         InsideUntil {
             clock,
+            most,
             entered: AtomicBool::new(false),
             answered: AtomicBool::new(false),
             late: AtomicBool::new(false),
@@ -66,7 +68,7 @@ impl<C: Clock> Gate for InsideUntil<C> {
         if self.answered.load(Ordering::SeqCst) {
             return Turn::Go;
         }
-        if turn >= LIMIT {
+        if turn >= self.most {
             self.late.store(true, Ordering::SeqCst);
             return Turn::Go;
         }

@@ -36,10 +36,14 @@ const WRITES_EACH: usize = 4;
 /// How often a host tries its writes, all in all.
 const TRIES: u64 = 1 << 20;
 
+/// How often a gate is asked while a call waits for the lock that it holds.
+const SHORT: u64 = 50;
+
 /// What is tried of a board.
 #[derive(Clone, Copy, Debug, PartialEq, Eq)]
 enum Case {
     Beside,
+    Behind,
     Never,
     Crowded,
     Lost,
@@ -65,7 +69,7 @@ where
     R: Threads + Wait + Clock + Abort + Copy + Send + Sync,
     requires { CHANNELS ≡ B.channels }
 {
-    let gate = InsideUntil::new(*rt);
+    let gate = InsideUntil::new(*rt, LIMIT);
     let (ended, told) = thread::join(
         rt,
         || -> Ended
@@ -94,6 +98,34 @@ where
     };
     same(rt, (ended, told), (Ended::Stopped, wanted));
     same(rt, gate.is_late(), false);
+}
+
+// A write on channel 0 waits while a worker has that channel's lock: the gate is asked with the lock held.
+fn call_behind_held<K, D, E, B, N, R>(rt: &R, board: &Board<K, D, E, B, N>, mut host: Host<B>)
+where
+    K: ChannelPort + Drop + Send,
+    D: SaveDevice + Drop + Send,
+    E: Energy + Drop + Send,
+    B: BoardName + PartsName + Send + Sync,
+    N: Notices + Send,
+    R: Threads + Wait + Clock + Abort + Copy + Send + Sync,
+    requires { CHANNELS ≡ B.channels }
+{
+    let gate = InsideUntil::new(*rt, SHORT);
+    let (ended, receipt) = thread::join(
+        rt,
+        || -> Ended
+            requires { CHANNELS ≡ B.channels }
+        { channel_worker(rt, board, 0, &gate) },
+        || -> Result<Receipt, WriteRefusal> {
+            let _entered = gate.await_entry();
+            let receipt = board.write(rt, &mut host, write_of(0, 11));
+            gate.answer();
+            receipt
+        },
+    );
+    same(rt, (ended, receipt), (Ended::Stopped, Ok(first_receipt(0))));
+    same(rt, gate.is_late(), true);
 }
 
 // A worker ends whose gate never lets it go while it has the lock.
@@ -203,6 +235,7 @@ where
     };
     match case {
         Case::Beside => call_beside_held(rt, &board, hosts.pop().expect(rt, "a host")),
+        Case::Behind => call_behind_held(rt, &board, hosts.pop().expect(rt, "a host")),
         Case::Never => hold_inside(rt, &board),
         Case::Crowded => crowd_one_channel(rt, alloc, &board, hosts),
         Case::Lost => lose_beside_held(rt, &board, &mut hosts.pop().expect(rt, "a host")),
@@ -251,6 +284,11 @@ where
 #[test]
 fn a_channel_answers_while_another_is_held(rt: HostRuntime) {
     try_locks(&rt, rt.alloc(), Case::Beside);
+}
+
+#[test]
+fn a_write_waits_for_a_worker_that_holds_its_channel(rt: HostRuntime) {
+    try_locks(&rt, rt.alloc(), Case::Behind);
 }
 
 #[test]
