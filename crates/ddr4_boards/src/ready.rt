@@ -2,7 +2,7 @@
 ghost use Rattle.std.specs.Prelude.{◌≡◌, ◌+◌, ◌≤◌, [], length, vec_len, All, IfOk};
 ghost use Rattle.module_core.specs.Stands.{HasDevice, setup_of};
 ghost use Rattle.nv_workers.specs.Client.{client};
-ghost use Rattle.nv_workers.specs.Kept.{IsFresh, IsRecordKept};
+ghost use Rattle.nv_workers.specs.Kept.{IsOfNewLife, IsRecordKept};
 ghost use Rattle.ddr4_boards.specs.Naming.{IsNamed};
 
 use channel_locks::PartsName;
@@ -23,7 +23,7 @@ pub struct Ready<K: ChannelPort, D: SaveDevice, E: Energy> {
     pub channels: u64,
     pub ghost counted: { channels ≡ (setup_of K.ChannelPort recorded.running).shape.channels },
     pub ghost sized: { HasDevice K.ChannelPort recorded.running (D.state recorded.device) },
-    pub ghost fresh: { IsFresh K.ChannelPort D.SaveDevice recorded },
+    pub ghost fresh: { IsOfNewLife K.ChannelPort D.SaveDevice recorded },
     pub ghost kept: { IsRecordKept K.ChannelPort D.SaveDevice E.Energy recorded },
     pub ghost mark: { tables.opening.mark ≤ recorded.running.front.persisted },
     pub ghost uncut: { recorded.running.front.accepted

@@ -32,8 +32,8 @@ module _ {K D E : Type 0} (L : Ghosts K) (M : DeviceGhosts D) where
     pub recorded_is : it.history ≡ recorded image.memory image.count [] it.history.room
 
   -- with some image
-  abbrev pub IsFresh : RecordedModule K D E L → Type 0
-  IsFresh it = ∥ ((found : Head) × (image : Image) × HasJustBegun it found image) ∥₁
+  abbrev pub IsOfNewLife : RecordedModule K D E L → Type 0
+  IsOfNewLife it = ∥ ((found : Head) × (image : Image) × HasJustBegun it found image) ∥₁
 
   -- the record has room for as many writes as the module may store
   abbrev pub HasRoomForAll : RecordedModule K D E L → Type 0
