@@ -87,9 +87,7 @@ where
         { work_both(rt, board, &gate) },
         || -> Loss {
             gate.begin();
-            let lost = board.power_loss(rt, &Always);
-            gate.end();
-            lost
+            board.power_loss(rt, &Always)
         },
     );
     let saved = Loss::Saved {
@@ -98,7 +96,6 @@ where
     };
     same(rt, (ended, lost), ((Ended::Closed, Ended::Closed), saved));
     same(rt, gate.is_late(), false);
-    same(rt, gate.is_passed_by(), false);
 }
 
 // The workers of both channels.

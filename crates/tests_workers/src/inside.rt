@@ -116,15 +116,12 @@ impl Gate for NeverInside {
     }
 }
 
-/// Holds each worker that has its channel's lock until mains are about to be lost, and then for some questions more. Meanwhile
-/// they can't be lost.
+/// Holds each worker that has its channel's lock until mains are about to be lost, and then for some questions more.
 #[derive(Drop)]
 pub struct HeldAmid<C: Clock> {
     clock: C,
     entered: AtomicU64,
     begun: AtomicBool,
-    lost: AtomicBool,
-    passed_by: AtomicBool,
     late: AtomicBool,
 }
 
@@ -135,8 +132,6 @@ impl<C: Clock> HeldAmid<C> {
             clock,
             entered: AtomicU64::new(0),
             begun: AtomicBool::new(false),
-            lost: AtomicBool::new(false),
-            passed_by: AtomicBool::new(false),
             late: AtomicBool::new(false),
         }
     }
@@ -150,16 +145,6 @@ impl<C: Clock> HeldAmid<C> {
             thread::sleep(&self.clock, Duration::from_millis(1));
         }
         self.begun.store(true, Ordering::SeqCst);
-    }
-
-    /// Mains were lost.
-    pub(crate) fn end(&self) {
-        self.lost.store(true, Ordering::SeqCst);
-    }
-
-    /// Were they lost while a worker that has its channel's lock was held?
-    pub(crate) fn is_passed_by(&self) -> bool {
-        self.passed_by.load(Ordering::SeqCst)
     }
 
     /// Was a worker let go before?
@@ -184,14 +169,12 @@ impl<C: Clock> Gate for HeldAmid<C> {
         if turn == 0 {
             self.entered.fetch_add(1, Ordering::SeqCst);
         }
-        if self.lost.load(Ordering::SeqCst) {
-            if turn > 0 {
-                self.passed_by.store(true, Ordering::SeqCst);
-            }
-            return Turn::Go;
-        }
-        if turn % 16 == 15 && self.begun.load(Ordering::SeqCst) {
-            return Turn::Go;
+        if self.begun.load(Ordering::SeqCst) {
+            return if turn % 16 == 15 {
+                Turn::Go
+            } else {
+                Turn::Hold
+            };
         }
         if turn >= LIMIT {
             self.late.store(true, Ordering::SeqCst);
