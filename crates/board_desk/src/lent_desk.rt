@@ -23,7 +23,8 @@ use split_module::SplitModule;
 use std::alloc::Global;
 use std::sync::Arc;
 
-/// What of a desk a call of the whole module doesn't ask: what it shows, what it counts, and what it knows of the channels.
+/// What stays of a desk while a whole module has the rest: the marks that it shows, the count of the hosts' writes, and what it
+/// knows of the channels.
 #[derive(Drop)]
 pub(crate) struct DeskBooks<B: BoardName> {
     pub(crate) marks: Arc<MarkBoard, Global>,
