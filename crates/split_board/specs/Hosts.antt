@@ -44,6 +44,12 @@ module _ {K D E B : Type 0} (L : Ghosts K) (M : DeviceGhosts D) (N : GaugeGhosts
     pub reads : DeskAnswers P channel (events.Read line) (replies.Read answer) (desk_of L M N O P before) (desk_of L M N O P after)
     pub counted : at ≡ before.split.front.accepted
 
+  -- a line was asked for at its channel, and this was answered there
+  pub record AsksAtBoard (line : ℕ) (told : Got) (at : ℕ) : Type 0 where
+    pub channel : ℕ
+    pub asked : IsAskedFor P.make line channel
+    pub lent : LentForRead channel line (Ok told) at
+
   -- A line was read at its channel, and served where it had to wait.
   pub record ReadsAtBoard (line : ℕ) (told : Got) (at : ℕ) : Type 0 where
     pub channel : ℕ
@@ -58,6 +64,11 @@ module _ {K D E B : Type 0} (L : Ghosts K) (M : DeviceGhosts D) (N : GaugeGhosts
     pub at : ℕ
     pub asked : IsAskedFor P.make line channel
     pub lent : LentForRead channel line (Err refusal) at
+
+  -- a line that was asked for had this answer at its channel
+  abbrev pub AnswersAskAtBoard : ℕ → Result GotAt ReadRefusal → Type 0
+  AnswersAskAtBoard line (Ok r) = AsksAtBoard line r.got r.at
+  AnswersAskAtBoard line (Err refusal) = RefusedAtBoard line refusal
 
   -- a read of a line had this answer at the line's channel
   abbrev pub AnswersReadAtBoard : ℕ → Result GotAt ReadRefusal → Type 0

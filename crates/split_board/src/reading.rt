@@ -4,7 +4,7 @@ ghost use Rattle.board_desk.specs.Answering.{IsAskedFor, IsTicketOf};
 ghost use Rattle.nv_workers.specs.Client.{SeesNoLess};
 ghost use Rattle.nv_workers.specs.Serving.{told_for};
 ghost use Rattle.split_board.specs.Turns.{ServesFirst};
-ghost use Rattle.split_board.specs.Hosts.{AnswersReadAtBoard, HasLostLine, HasReadLine};
+ghost use Rattle.split_board.specs.Hosts.{AnswersAskAtBoard, AnswersReadAtBoard, HasLostLine, HasReadLine};
 
 use crate::board::Board;
 use crate::locked_desk::LockedDesk;
@@ -54,6 +54,8 @@ where
     R: Wait,
     C: ChannelName,
     requires asked { IsAskedFor B.make line C.NUMBER }
+    ensures asked { AnswersAskAtBoard K.ChannelPort D.SaveDevice E.Energy B.BoardName.own
+        B.PartsName.own line result }
     ensures at { IfOk result (λ r. r.at ≡ host.new.accepted) }
     ensures rises { SeesNoLess host.old host.new }
     ensures writes { host.new.writes ≡ host.old.writes }
@@ -166,6 +168,8 @@ impl<K: ChannelPort, D: SaveDevice, E: Energy, B: BoardName + PartsName, N: Noti
 
     /// Asks for a line and goes on: the bytes, or a ticket for `await_line`, and how many writes were accepted before it.
     pub fn ask<R: Wait>(&self, rt: &R, host: &mut Host<B>, line: u64) -> Result<GotAt, ReadRefusal>
+        ensures asked { AnswersAskAtBoard K.ChannelPort D.SaveDevice E.Energy B.BoardName.own
+            B.PartsName.own line result }
         ensures at { IfOk result (λ r. r.at ≡ host.new.accepted) }
         ensures rises { SeesNoLess host.old host.new }
         ensures writes { host.new.writes ≡ host.old.writes }
