@@ -180,7 +180,7 @@ where
     same(rt, board.read(rt, &mut host, 5), Err(ReadRefusal::Closed));
 }
 
-/// A read is served while the gate holds each worker.
+/// A read is served while the gate holds each worker. A line that is asked for is awaited, once.
 pub(crate) fn read_beside_held<K, D, E, B, N, R>(
     rt: &R,
     board: &Board<K, D, E, B, N>,
@@ -214,4 +214,7 @@ where
     };
     same(rt, (ended, seen), (Ended::Stopped, Ok(zeros)));
     same(rt, gate.is_late(), false);
+    let asked = ticket_of(rt, board, &mut host, 7);
+    same(rt, board.await_line(rt, asked), Ok([0; 64]));
+    same(rt, board.await_line(rt, asked), Err(ReadRefusal::Closed));
 }
