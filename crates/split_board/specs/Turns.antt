@@ -12,14 +12,31 @@ use Rattle.channel_locks.specs.declared.parts_name.PartsName.{Ghosts as PartsGho
 use Rattle.channel_locks.specs.declared.turns.ChannelTurn.{ChannelTurn}
 use Rattle.channel_locks.specs.Lent.{LentServe, LentTurn}
 use Rattle.worker_gate.specs.declared.Gate.{Ghosts as GateGhosts}
+use Rattle.worker_gate.specs.declared.Turn.{Turn}
+use Rattle.worker_loops.specs.declared.shift.Shift.{Ghosts as ShiftGhosts}
 use Rattle.worker_loops.specs.declared.shift.Working.{Working}
 use Rattle.worker_loops.specs.declared.shift.Working.TheVariants.{Worked, Rested, Closed}
 use Rattle.nv_workers.specs.Serving.{told_for}
+use Rattle.worker_loops.specs.declared.turns.Ended.{Ended}
 use Rattle.worker_loops.specs.Lookouts.{EndsWaiting}
+use Rattle.worker_loops.specs.Shifts.{WorksUntil}
 
 -- how a channel's worker goes on behind its turn
 abbrev pub going_on : ChannelTurn → Working
 going_on turn = if turn.ended then Closed else if is_some turn.done then Worked else Rested
+
+-- A worker that is lent this asks its gate, and each of its turns comes to something; nothing else is known of it.
+abbrev pub by_gate : (ℕ → ℕ → Turn → Type 0) → (ℕ → Working → Type 0) → ShiftGhosts (Unit {0})
+by_gate says takes = record {
+  is_of = λ worker. Unit {0};
+  asks = λ worker turn told old new. says worker turn told;
+  works = λ worker done old new. takes worker done;
+  rests = λ idle old new. Unit {0};
+}
+
+-- A worker took turns until one ended it so: it asked its gate once at each of them, and took one turn at each Go.
+abbrev pub WorksByGate : (ℕ → ℕ → Turn → Type 0) → (ℕ → Working → Type 0) → ℕ → Ended → Type 0
+WorksByGate says takes worker why = WorksUntil (by_gate says takes) worker why tt tt
 
 module _ {K B : Type 0} (L : Ghosts K) (P : PartsGhosts B) where
   -- The worker of a channel took one turn under the channel's lock, and goes on so.

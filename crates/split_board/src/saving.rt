@@ -1,6 +1,7 @@
 // The saver.
 ghost use Rattle.std.specs.Prelude.{◌≡◌};
-ghost use Rattle.split_board.specs.Wholes.{LentTurnOfSaver, SavesLocked};
+ghost use Rattle.split_board.specs.Turns.{WorksByGate};
+ghost use Rattle.split_board.specs.Wholes.{LentTurnOfSaver, SavesLocked, WorksAsSaver};
 
 use crate::board::Board;
 use crate::calling::call_locked;
@@ -142,6 +143,9 @@ where
     G: Gate,
     R: Wait + Clock,
     requires number { channels ≡ B.channels }
+    ensures { WorksByGate (λ worker turn told. G.says worker turn told gate.now)
+        (λ worker done. WorksAsSaver K.ChannelPort D.SaveDevice E.Energy B.BoardName.own
+        B.PartsName.own done) channels result }
 {
     take_turns(&mut SaverShift { rt, board, gate }, channels)
 }

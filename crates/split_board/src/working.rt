@@ -1,6 +1,6 @@
 // The worker of a channel.
 ghost use Rattle.std.specs.Prelude.{◌≡◌, ◌<◌};
-ghost use Rattle.split_board.specs.Turns.{going_on};
+ghost use Rattle.split_board.specs.Turns.{TakesChannelTurn, WorksByGate, going_on};
 
 use crate::board::Board;
 use channel_locks::{ChannelLocks, ChannelTurn, PartsName};
@@ -85,6 +85,9 @@ where
     G: Gate,
     R: Wait + Clock,
     requires { channel < B.channels }
+    ensures { WorksByGate (λ worker turn told. G.says worker turn told gate.now)
+        (λ worker done. TakesChannelTurn K.ChannelPort B.PartsName.own G.Gate
+        worker gate.now done) channel result }
 {
     let channels = &board.channels;
     take_turns(&mut ChannelShift { rt, channels, gate }, channel)
