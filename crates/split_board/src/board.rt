@@ -31,8 +31,8 @@ impl<K: ChannelPort, D: SaveDevice, E: Energy, B: BoardName + PartsName, N: Noti
     B,
     N,
 > {
-    /// Puts a desk, its channels and a book of notices behind their locks.
-    pub fn new(
+    // Puts a desk, its channels and a book of notices behind their locks.
+    pub(crate) fn new(
         desk: Desk<K, D, E, B>,
         channels: ChannelLocks<K, B>,
         lines: LineChannels,
