@@ -75,6 +75,3 @@ module _ {K D E : Type 0} (L : Ghosts K) where
   -- the same of a module with its record
   abbrev pub HasChecked : RecordedModule K D E L → List Receipt → List Seen → Cut → Type 0
   HasChecked it receipts answers told = AreChecked it.running.front.terms.start it.history receipts answers told
-
-  abbrev pub HasStranger : RecordedModule K D E L → List Receipt → List Seen → Stranger → Type 0
-  HasStranger it receipts answers stranger = IsStranger it.running.front.terms.start it.history receipts answers stranger

@@ -21,7 +21,7 @@ mod telling;
 
 pub use board_name::BoardName;
 pub use checking::{Cut, Stranger, check};
-pub use ending::{Closed, EndedLife, NotEnded, end_host};
+pub use ending::{Closed, end_host};
 pub use held::{Held, publish};
 pub use host::{Behind, GotAt, Host, Receipt, Seen};
 pub use laws::{boards_keep_lives, records_tell_lives};

@@ -6,5 +6,4 @@ mod Noted
 mod Within
 mod Begun
 mod Beginning
-mod Strangers
 mod ByGate

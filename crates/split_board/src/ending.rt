@@ -11,7 +11,7 @@ use channel_locks::{ChannelLocks, PartsName};
 use channel_port::ChannelPort;
 use energy_budget::Energy;
 use notice_book::Notices;
-use nv_workers::{BoardName, Closed, EndedLife, Held, Host, Receipt, Seen, Stranger};
+use nv_workers::{BoardName, Closed, Held, Host, Receipt, Seen, Stranger};
 use save_device::SaveDevice;
 
 /// A board that wasn't closed, since a receipt or an answer is a stranger to its life. Its hosts are as they were.
@@ -101,28 +101,21 @@ where
     let Some(desk) = desk else {
         unreachable!();
     };
-    if let Err(stranger) = desk.check(receipts, answers) {
-        return Err(NotClosed {
-            stranger,
-            board: Board::new(desk, channels, lines, notices),
-            hosts,
-        });
-    }
-    match gathered(desk, channels).end(hosts, receipts, answers) {
-        Ok(
-            EndedLife {
-                recorded,
-                from,
-                checked,
-                past,
-            },
-        ) => Ok(Closed {
-            recorded,
-            notices,
-            from,
-            checked,
-            past,
-        }),
-        Err(_) => unreachable!(),
-    }
+    let told = match desk.check(receipts, answers) {
+        Ok(told) => told,
+        Err(stranger) => {
+            return Err(NotClosed {
+                stranger,
+                board: Board::new(desk, channels, lines, notices),
+                hosts,
+            });
+        }
+    };
+    Ok(Closed {
+        recorded: gathered(desk, channels).end(hosts),
+        notices,
+        from: told.from,
+        checked: told.checked,
+        past: told.past,
+    })
 }
