@@ -12,6 +12,10 @@ pub record Client : Type 0 where
 abbrev pub client : ℕ → ℕ → ℕ → List ℕ → Client
 client accepted persisted writes delivered = record { accepted = accepted; persisted = persisted; writes = writes; delivered = delivered }
 
+-- a host that has loaded this mark
+abbrev pub seen_at : ℕ → Client → Client
+seen_at mark host = client host.accepted mark host.writes host.delivered
+
 -- a host that has loaded this mark, and has had the notices below it called once
 abbrev pub delivered_at : ℕ → Client → Client
 delivered_at mark host = client host.accepted mark host.writes (host.delivered ++ mark ∷ [])

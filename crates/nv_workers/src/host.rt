@@ -1,7 +1,7 @@
 // Who writes and reads.
 ghost use Rattle.std.specs.Prelude.{◌≡◌, ◌<◌, ◌≤◌, [], IfOk, IfErr};
 ghost use Rattle.std.specs.Arc.{arc_value};
-ghost use Rattle.nv_workers.specs.Client.{SeesNoLess, client};
+ghost use Rattle.nv_workers.specs.Client.{SeesNoLess, client, seen_at};
 
 use crate::board_name::BoardName;
 use channel_port::Got;
@@ -87,8 +87,7 @@ impl<B: BoardName> Host<B> {
     /// Loads how many writes are persistent, with no lock.
     pub fn mark(&mut self) -> u64
         ensures rises { self.old.persisted ≤ result }
-        ensures seen { self.new
-            ≡ client self.old.accepted result self.old.writes self.old.delivered }
+        ensures seen { self.new ≡ seen_at result self.old }
     {
         self.seat.persisted(&self.marks)
     }

@@ -1,6 +1,6 @@
 // The notices of a book that is lent.
-ghost use Rattle.std.specs.Prelude.{◌≡◌, ◌≤◌, IfOk, OnErr};
-ghost use Rattle.nv_workers.specs.Client.{delivered_at};
+ghost use Rattle.std.specs.Prelude.{◌≡◌, ◌≤◌, IfOk, OnErr, OnOk};
+ghost use Rattle.nv_workers.specs.Client.{delivered_at, seen_at};
 
 use crate::board_name::BoardName;
 use crate::host::Host;
@@ -19,10 +19,12 @@ impl<B: BoardName> Host<B> {
             N.delivers self.new.persisted book.old answers.items book.new) }
         ensures same { OnErr result (book.new ≡ book.old) }
         ensures rises { self.old.persisted ≤ self.new.persisted }
-        ensures once { self.new ≡ delivered_at self.new.persisted self.old }
+        ensures once { OnOk result (self.new ≡ delivered_at self.new.persisted self.old) }
+        ensures none { OnErr result (self.new ≡ seen_at self.new.persisted self.old) }
     {
         let mark = self.mark();
+        let called = book.deliver_below(alloc, mark)?;
         self.delivered.note(&mark);
-        book.deliver_below(alloc, mark)
+        Ok(called)
     }
 }

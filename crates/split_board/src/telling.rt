@@ -1,7 +1,7 @@
 // The notices of a board.
-ghost use Rattle.std.specs.Prelude.{◌≡◌, ◌≤◌, IfErr, IfOk, OnOk};
+ghost use Rattle.std.specs.Prelude.{◌≡◌, ◌≤◌, IfErr, IfOk, OnErr, OnOk};
 ghost use Rattle.notice_book.specs.NoticeBooks.{refused_notice};
-ghost use Rattle.nv_workers.specs.Client.{delivered_at};
+ghost use Rattle.nv_workers.specs.Client.{delivered_at, seen_at};
 
 use crate::board::Board;
 use channel_locks::PartsName;
@@ -31,7 +31,8 @@ impl<K: ChannelPort, D: SaveDevice, E: Energy, B: BoardName + PartsName, N: Noti
         ensures delivered { IfOk result (λ answers. (before : N) × (after : N)
             × N.delivers host.new.persisted before answers.items after) }
         ensures rises { host.old.persisted ≤ host.new.persisted }
-        ensures once { host.new ≡ delivered_at host.new.persisted host.old }
+        ensures once { OnOk result (host.new ≡ delivered_at host.new.persisted host.old) }
+        ensures none { OnErr result (host.new ≡ seen_at host.new.persisted host.old) }
     {
         host.deliver_in(alloc, &mut *self.notices.lock(rt))
     }
