@@ -43,9 +43,6 @@ use std::time::{Clock, Duration};
 /// How many writes the hosts make together, where they are timed.
 const ALL_WRITES: u64 = 32_000;
 
-/// How many of them beside a saver that never rests: while a save goes on, no more are accepted than the channels have room for.
-const SAVED_WRITES: u64 = 8_000;
-
 /// How many reads each of them makes then: so many that the start of the threads doesn't count.
 const READS_EACH: u64 = 20_000;
 
@@ -205,7 +202,7 @@ fn main(rt: HostRuntime) -> anyhow::Result<()> {
                 let each = ALL_WRITES / hosts as u64;
                 let written = by_lines(&rt, alloc, checked, &plan_of(hosts, each, 0, None))?;
                 let read = by_lines(&rt, alloc, checked, &plan_of(hosts, 0, READS_EACH, None))?;
-                let mut beside = plan_of(hosts, SAVED_WRITES / hosts as u64, 0, None);
+                let mut beside = plan_of(hosts, each, 0, None);
                 beside.saves = true;
                 let saved = by_lines(&rt, alloc, checked, &beside)?;
                 let (writes, reads, saved) = (rate(&written), rate(&read), rate(&saved));

@@ -11,6 +11,7 @@ use channel_locks::{ChannelLocks, PartsName, take_lock};
 use channel_port::ChannelPort;
 use energy_budget::Energy;
 use notice_book::Notices;
+use nv_machine::StepReply;
 use nv_workers::{BoardName, SaverTurn, Saving, working_of};
 use save_device::SaveDevice;
 use std::sync::Wait;
@@ -23,6 +24,18 @@ use worker_loops::{Ended, Shift, Working, give_way, take_turns};
 /// more. A thread that waits for a lock tries it and gives way in turn: it would find it taken at each try if the saver took all
 /// locks back at once.
 const LETS_IN: u64 = 1;
+
+/// How long a saver sleeps at least behind the end of a save, in microseconds. While a save goes on no more writes are accepted than
+/// the channels have room for; between two of them hosts write as fast as they can, and the next save has all that they wrote.
+const BETWEEN_SAVES: u64 = 3_000;
+
+// How long a saver sleeps behind a turn in which it worked, in microseconds.
+fn sleep_behind(saving: Saving) -> u64 {
+    match saving {
+        Saving::Stepped(StepReply::Saved { .. } | StepReply::Fault) => BETWEEN_SAVES,
+        _ => LETS_IN,
+    }
+}
 
 // One turn of a saver, with the board's lock held. It decides by the desk alone, and the channels' locks are taken only where it
 // saves.
@@ -112,9 +125,10 @@ where
     }
 
     fn work(&mut self, _worker: u64) -> Working {
-        let working = working_of(self.board.save(self.rt));
+        let saving = self.board.save(self.rt);
+        let working = working_of(saving);
         if working == Working::Worked {
-            thread::sleep(self.rt, Duration::from_micros(LETS_IN));
+            thread::sleep(self.rt, Duration::from_micros(sleep_behind(saving)));
         }
         working
     }
@@ -125,9 +139,9 @@ where
 }
 
 /// Takes one turn of a saver at each `Go`, until the gate says stop or mains were lost, as `take_turns`. Behind a turn that was
-/// held or at rest, and behind a step that has to wait, it gives way as a channel's worker does. Behind any other turn it sleeps a
-/// microsecond, so that threads which wait for a lock come in. The gate is asked for it by the number of channels. A saver that
-/// rests takes the board's lock alone.
+/// held or at rest, and behind a step that has to wait, it gives way as a channel's worker does. Behind the end of a save it sleeps
+/// three milliseconds, and behind any other turn a microsecond, so that threads which wait for a lock come in. The gate is asked
+/// for it by the number of channels. A saver that rests takes the board's lock alone.
 pub fn saver_worker<K, D, E, B, N, G, R>(
     rt: &R,
     board: &Board<K, D, E, B, N>,
