@@ -24,7 +24,8 @@ use Rattle.nv_workers.specs.declared.recorded_module.RecordedModule.{RecordedMod
 use Rattle.line_memory.specs.History.{Recorded, recorded}
 use Rattle.nv_workers.proofs.Keeping.{begins_within}
 use Rattle.nv_workers.proofs.Stored.{stored_grows}
-use Rattle.nv_workers.specs.Lived.{LivedUntil, world_for}
+use Rattle.nv_machine.specs.Lives.{LivedUntil}
+use Rattle.nv_workers.specs.Lived.{world_for}
 use Rattle.nv_workers.proofs.Living.{lived_event, lived_pause}
 use Rattle.save_device.specs.declared.device.SaveDevice.{Ghosts as DeviceGhosts}
 use Rattle.board_desk.specs.Calling.{AddsNone, Answered, Course, GoesBy, GoesAlong, Paused}

@@ -33,7 +33,7 @@ use Rattle.split_module.specs.Lending.{SplitStands}
 use Rattle.board_desk.proofs.Settled.{leaves}
 use Rattle.board_desk.specs.Desk.{AreBoardLogs, DeskStands, DeskView, setup_at, shape_at, world_at}
 use Rattle.nv_workers.proofs.Living.{lived_event}
-use Rattle.nv_workers.specs.Lived.{LivedUntil}
+use Rattle.nv_machine.specs.Lives.{LivedUntil}
 
 -- the step of a save that runs is one that the lines have, and comes still
 reaches : (lines : ℕ) (s : Store) (saving : Option RunningSave) (run : Option SaveRun) (device : DeviceState) → HoldsWhile saving run lines s device → ForSome saving (λ save. reach_of save.next ≤ lines)

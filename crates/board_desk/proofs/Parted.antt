@@ -33,7 +33,8 @@ use Rattle.module_core.specs.declared.front.Front.{Front}
 use Rattle.nv_machine.specs.State.{Machine, Setup, World, base_of_life, hold_of, start_of_life, stored_base, stored_writes}
 use Rattle.nv_machine.proofs.Guarded.{persisted_accepted}
 use Rattle.nv_workers.specs.Kept.{IsRecordKept, StandsWith}
-use Rattle.nv_workers.specs.Lived.{LivedUntil, world_for}
+use Rattle.nv_machine.specs.Lives.{LivedUntil}
+use Rattle.nv_workers.specs.Lived.{world_for}
 use Rattle.nv_workers.specs.declared.recorded_module.RecordedModule.{RecordedModule}
 use Rattle.save_device.specs.declared.device.SaveDevice.{Ghosts as DeviceGhosts}
 use Rattle.save_image.specs.Image.{Image}

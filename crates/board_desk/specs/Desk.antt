@@ -15,7 +15,7 @@ use Rattle.module_core.specs.Device.{Holds}
 use Rattle.module_core.specs.Fronts.{setup_in}
 use Rattle.split_module.specs.declared.front.SplitFront.{SplitFront}
 use Rattle.split_module.specs.Lending.{SplitStands}
-use Rattle.nv_workers.specs.Lived.{LivedUntil}
+use Rattle.nv_machine.specs.Lives.{LivedUntil}
 
 -- the front, what the ports have in common, what is known of the device and of the gauge, the record of the life, and the log of
 -- each channel

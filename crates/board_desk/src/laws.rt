@@ -5,6 +5,7 @@ ghost use Rattle.nv_workers.specs.Kept.{whole_record};
 ghost use Rattle.nv_workers.specs.Lived.{IsInLife};
 ghost use Rattle.board_desk.specs.declared.desk.Desk.{Desk};
 ghost use Rattle.board_desk.specs.Desk.{DeskStands, DeskView, setup_at, world_at};
+ghost use Rattle.board_desk.specs.Surviving.{DeskSurvives};
 ghost use Rattle.board_desk.specs.Views.{desk_of};
 
 use channel_locks::PartsName;
@@ -23,6 +24,18 @@ pub fn desks_keep_lives<K: ChannelPort, D: SaveDevice, E: Energy, B: BoardName +
         B.PartsName.own desk in
         ∥ ((m : Machine) × DeskStands B.PartsName.own view m
         × IsInLife (setup_at B.PartsName.own view) (world_at view m)) ∥₁ }
+{}
+
+/// **Stopped at any moment since its life began, within a call or a device write too, a board's restore is that of the theorem
+/// `survives_any_stop`**, whatever its hosts, its workers and its saver did under which locks: each call of the device lies in the
+/// life that leads to what the lock gives back. The life began with the board's memory; and behind the lives of other boards, of
+/// which the last one left what this one was opened with, the stop ends the whole chain.
+pub fn desks_survive<K: ChannelPort, D: SaveDevice, E: Energy, B: BoardName + PartsName>()
+    ensures { (desk : Desk K D E B K.ChannelPort D.SaveDevice E.Energy B.BoardName.own
+        B.PartsName.own)
+        → let view = desk_of K.ChannelPort D.SaveDevice E.Energy B.BoardName.own
+        B.PartsName.own desk in
+        ∥ (DeskSurvives B.PartsName.own view) ∥₁ }
 {}
 
 /// What is recorded of a life tells of each number from its beginning on what the whole life tells, whatever was cut off it.

@@ -13,9 +13,8 @@ use Rattle.nv_machine.specs.declared.events.Event.{Event}
 use Rattle.nv_machine.specs.declared.events.Event.TheVariants as events
 use Rattle.nv_machine.specs.declared.events.Reply.{Reply}
 use Rattle.nv_machine.specs.State.{Setup}
-use Rattle.nv_machine.specs.Lives.{Lived, IsLived, IsLeftAt, moments_since}
+use Rattle.nv_machine.specs.Lives.{Lived, IsLived, IsLeftAt, moments_since, unanswered_event}
 use Rattle.nv_machine.specs.Survival.{IsSurvived}
-use Rattle.module_core.specs.ModuleLives.{unanswered_event}
 
 -- a device in memory behind a fuse, and that behind a fault of one call
 abbrev pub frail_state : OneFault (Fuse MemoryDevice) → DeviceState

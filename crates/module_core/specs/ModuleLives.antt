@@ -7,15 +7,10 @@ use Rattle.nv_machine.specs.declared.events.Event.{Event}
 use Rattle.nv_machine.specs.declared.events.Reply.{Reply}
 use Rattle.nv_machine.specs.State.{Machine, World}
 use Rattle.nv_machine.specs.Headline.{Run}
-use Rattle.nv_machine.specs.Lives.{Unanswered, Lived, IsLived, IsLeftAt, moments_since}
+use Rattle.nv_machine.specs.Lives.{Unanswered, Lived, IsLived, IsLeftAt, moments_since, unanswered_event}
 use Rattle.slot_store.specs.declared.head.Head.{Head}
 use Rattle.module_core.specs.Opening.{opened_with}
 use Rattle.module_core.specs.Stands.{Assembly, ModuleStands, Answers, RunsTo, setup_of, world_of}
-
--- the event that a stop left unanswered, where it left one
-abbrev pub unanswered_event : Option Unanswered → List Event
-unanswered_event None = []
-unanswered_event (Some unanswered) = unanswered.event ∷ []
 
 module _ {K : Type 0} (L : Ghosts K) where
   -- A module that began with this image has answered these events since. Between two of them its gauge may have been charged.

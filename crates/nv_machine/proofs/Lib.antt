@@ -33,3 +33,4 @@ pub mod SavedImages
 pub mod History
 pub mod Caused
 pub mod SurvivedLives
+pub mod StoppedRuns

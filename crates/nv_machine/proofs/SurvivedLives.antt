@@ -2,8 +2,8 @@
 use Rattle.std.proofs.lemmas.Bool.{or_from}
 use Rattle.slot_store.specs.Outcomes.{verdict_of}
 use Rattle.slot_store.specs.declared.restoring.Verdict.{Verdict}
-use Rattle.nv_machine.specs.Lives.{last_life}
-use Rattle.nv_machine.specs.Survival.{IsHonestLife, IsRecovered, IsSurvived, history_to}
+use Rattle.nv_machine.specs.Lives.{LeadsTo, last_life}
+use Rattle.nv_machine.specs.Survival.{IsHonestLife, IsRecovered, IsSurvived, IsSurvivedBehind, history_to}
 use Rattle.nv_machine.proofs.Common.{List, [], ap, arith, false, length, ℕ, ◌++◌, ◌+◌, ◌∷◌, ◌≡◌, after, Image, is_backed, IsPrefix, is_broken_off, would_lose_acknowledged, IsBackedAt, AreChained, IsLived, Lived, Machine}
 use Rattle.nv_machine.proofs.Backing.{not_backed}
 use Rattle.nv_machine.proofs.RisingMarks.{told_along}
@@ -27,6 +27,11 @@ front_chained (life ∷ next ∷ lives) more chained = (chained.0, chained.1, fr
 last_lived : (life : Lived) (lives : List Lived) → AreChained (life ∷ lives) → IsLived (last_life life lives)
 last_lived life [] chained = chained
 last_lived life (next ∷ lives) chained = last_lived next lives chained.2
+
+-- a life more behind a chain
+pub chain_pushed : (life : Lived) (lives : List Lived) (next : Lived) → AreChained (life ∷ lives) → LeadsTo (last_life life lives) next → IsLived next → AreChained (life ∷ lives ++ next ∷ [])
+chain_pushed life [] next chained leads lived = (chained, leads, lived)
+chain_pushed life (other ∷ lives) next chained leads lived = (chained.0, chained.1, chain_pushed other lives next chained.2 leads lived)
 
 -- in an honest life nothing may be lacking at the end
 honest_calm : (life : Lived) → IsLived life → IsHonestLife life → would_lose_acknowledged life.last.machine ≡ false
@@ -73,3 +78,7 @@ survived life lives chained =
       count = whole_count life lives chained r.image r.prefix;
       cause = λ told. caused life lives chained r.slot r.image r.found (λ clear. told (ap (λ (arm : ℕ). verdict_of arm r.image.count) clear));
     }
+
+pub survived_behind : (lives : List Lived) (life : Lived) → AreChained (lives ++ life ∷ []) → IsSurvivedBehind lives life
+survived_behind [] life chained = survived life [] chained
+survived_behind (first ∷ lives) life chained = survived first (lives ++ life ∷ []) chained

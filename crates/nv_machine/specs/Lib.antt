@@ -18,3 +18,4 @@ pub mod Opening
 pub mod Lives
 pub mod Causes
 pub mod Survival
+pub mod StoppedRuns

@@ -18,6 +18,11 @@ pub record Unanswered : Type 0 where
   pub reply : Reply
   pub next : World
 
+-- the event that a stop left unanswered, where it left one
+abbrev pub unanswered_event : Option Unanswered → List Event
+unanswered_event None = []
+unanswered_event (Some unanswered) = unanswered.event ∷ []
+
 -- A life: the image that it was opened with, the slot that holds it, and whether the other slot's gate was known closed and settled;
 -- its events and replies, and what stood before them and after them; the event within which the stop came where it came within
 -- one, and the bytes that the stop left.
@@ -76,11 +81,28 @@ pub record IsLived (life : Lived) : Type 0 where
   pub unanswered : ForSome life.unanswered (λ it. Happens life.setup it.event it.reply life.last it.next)
   pub left : IsLeftAt (stop_moments life.unanswered life.last.device) life.bytes
 
+-- a restore finds this image in the bytes that the life left
+abbrev pub LeavesImage : Slot → Image → Lived → Type 0
+LeavesImage slot image life = restored life.setup.shape.lines life.bytes ≡ Found slot image
+
 -- the next life was opened with what a restore finds in the bytes that this one left
 abbrev pub LeadsTo : Lived → Lived → Type 0
-LeadsTo life next = restored life.setup.shape.lines life.bytes ≡ Found next.slot next.image
+LeadsTo life next = LeavesImage next.slot next.image life
 
 abbrev pub AreChained : List Lived → Type 0
 AreChained [] = Unit {0}
 AreChained (life ∷ []) = IsLived life
 AreChained (life ∷ next ∷ lives) = IsLived life × LeadsTo life next × AreChained (next ∷ lives)
+
+-- A life so far, which leads here: its machine was new at first, its device held the image that it was opened with, and its events
+-- are a run to this moment.
+pub record LivedUntil (setup : Setup) (now : World) : Type 0 where
+  pub slot : Slot
+  pub closed : Bool
+  pub image : Image
+  pub events : List Event
+  pub replies : List Reply
+  pub first : World
+  pub begins : first.machine ≡ new_life slot closed image
+  pub opened : StopsWithin (λ bytes. restored setup.shape.lines bytes ≡ Found slot image) (present first.device)
+  pub run : Run setup events replies first now

@@ -77,3 +77,8 @@ pub record IsSurvived (life : Lived) (lives : List Lived) : Type 0 where
   pub count : image.count ≡ life.image.count + length (history_to (life ∷ lives) image.count)
   pub cause : verdict_of image.arm image.count ≢ Complete
       → HasCauseSince (life ∷ lives) image ⊎ OpenedWith image (life ∷ lives)
+
+-- the same after lives, the last of which is this one
+abbrev pub IsSurvivedBehind : List Lived → Lived → Type 0
+IsSurvivedBehind [] life = IsSurvived life []
+IsSurvivedBehind (first ∷ lives) life = IsSurvived first (lives ++ life ∷ [])

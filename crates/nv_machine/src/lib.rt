@@ -24,6 +24,6 @@ pub use lives::one_history;
 pub use order::oldest_go_first;
 pub use rising::history_grows;
 pub use saves::saves_leave_old_or_new;
-pub use survival::survives_any_stop;
+pub use survival::{runs_survive, survives_any_stop};
 pub use tickets::tickets_are_new;
 pub use turns::runs_join;

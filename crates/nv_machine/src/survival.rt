@@ -1,6 +1,8 @@
 // What a stop leaves of the writes.
 ghost use Rattle.std.specs.Prelude.{◌∷◌, ◌++◌, List};
-ghost use Rattle.nv_machine.specs.Lives.{Lived, AreChained};
+ghost use Rattle.nv_machine.specs.Lives.{Lived, LivedUntil, AreChained};
+ghost use Rattle.nv_machine.specs.State.{Setup, World};
+ghost use Rattle.nv_machine.specs.StoppedRuns.{SurvivesStops};
 ghost use Rattle.nv_machine.specs.Survival.{IsSurvived};
 
 /// **Stopped at any moment, even within a device write, restore gives the memory after a prefix of the accepted writes; with
@@ -13,4 +15,12 @@ pub fn survives_any_stop()
         → AreChained (life ∷ lives) → IsSurvived life lives }
     ensures fronts { (lives more : List Lived)
         → AreChained (lives ++ more) → AreChained lives }
+{}
+
+/// The same of a life so far, whatever runs it. A stop at any moment since it began, within an event or a device write too, ends a
+/// life: the events that were answered by then, and the one within which the stop came. Behind lives of which the last one left
+/// what this one was opened with it is the last of their chain.
+pub fn runs_survive()
+    ensures { (setup : Setup) (now : World) (so : LivedUntil setup now)
+        → SurvivesStops setup now so }
 {}

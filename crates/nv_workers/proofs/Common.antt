@@ -9,4 +9,5 @@ pub use Rattle.nv_workers.specs.declared.recorded_module.RecordedModule.{Recorde
 pub use Rattle.nv_workers.specs.Client.{Client, client}
 pub use Rattle.nv_workers.specs.Kept.{IsRecordKept, StandsWith}
 pub use Rattle.nv_workers.specs.Marks.{ShowsNoMore, told_at}
-pub use Rattle.nv_workers.specs.Lived.{LivedUntil, world_for}
+pub use Rattle.nv_machine.specs.Lives.{LivedUntil}
+pub use Rattle.nv_workers.specs.Lived.{world_for}

@@ -1,6 +1,10 @@
 -- A life so far goes on by each event and through each pause, and a stop ends it.
 use Rattle.std.proofs.Common.{◌≡◌, Bool, List, [], ◌∷◌, ◌++◌, arith, false, refl, subst, sym}
-use Rattle.nv_workers.proofs.Common.{LivedUntil, Machine, Setup, World}
+use Rattle.std.proofs.Math.Logic.{∥∥₁_map}
+use Rattle.nv_workers.proofs.Common.{Ghosts as GaugeGhosts, IsRecordKept, LivedUntil, Machine, RecordedModule, Setup, World, setup_of, world_for}
+use Rattle.save_device.specs.declared.device.SaveDevice.{Ghosts as DeviceGhosts}
+use Rattle.channel_port.specs.declared.port.ChannelPort.{Ghosts}
+use Rattle.nv_machine.proofs.StoppedRuns.{stops_survived}
 use Rattle.save_image.specs.Image.{Image}
 use Rattle.save_device.specs.Device.{StopsWithin, present}
 use Rattle.slot_store.specs.declared.slots.Slot.{Slot}
@@ -16,7 +20,7 @@ use Rattle.nv_machine.proofs.CountedFaults.{honest_ends}
 use Rattle.nv_machine.proofs.HonestRuns.{backed_along, saved_along}
 use Rattle.nv_machine.proofs.JoinedRuns.{happens_now, join_runs, rests_here}
 use Rattle.nv_machine.proofs.SparedDevices.{spared_ends}
-use Rattle.nv_workers.specs.Lived.{HasBeenFaultless, IsInLife}
+use Rattle.nv_workers.specs.Lived.{HasBeenFaultless, IsInLife, StopsSurvive}
 
 -- it begins
 pub lived_first : (setup : Setup) (slot : Slot) (closed : Bool) (image : Image) (first : World) → first.machine ≡ new_life slot closed image
@@ -79,3 +83,8 @@ module _ (setup : Setup) (now : World) (so : LivedUntil setup now) where
     backed = λ faultless. backed_along setup so.events so.replies so.first now so.run (honest faultless) backed_first;
     saves = λ faultless. saved_along setup so.events so.replies so.first now so.run (honest faultless) backed_first;
   }
+
+module _ {K D E : Type 0} (L : Ghosts K) (M : DeviceGhosts D) (N : GaugeGhosts E) where
+  -- a stop at any moment of it
+  pub kept_survives : (it : RecordedModule K D E L) → IsRecordKept L M N it → ∥ (StopsSurvive L M N it) ∥₁
+  kept_survives it kept = ∥∥₁_map kept.stands (λ s. record { machine = s.0; stands = s.1.stands; so = s.2; survives = stops_survived (setup_of L it.running) (world_for L M N it s.0) s.2 })

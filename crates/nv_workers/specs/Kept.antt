@@ -13,7 +13,8 @@ use Rattle.module_core.specs.Opening.{opened_with}
 use Rattle.module_core.specs.Stands.{ModuleStands, setup_of}
 use Rattle.nv_workers.specs.declared.board_name.BoardName.{Ghosts as NameGhosts}
 use Rattle.nv_workers.specs.declared.recorded_module.RecordedModule.{RecordedModule}
-use Rattle.nv_workers.specs.Lived.{LivedUntil, world_for}
+use Rattle.nv_machine.specs.Lives.{LivedUntil}
+use Rattle.nv_workers.specs.Lived.{world_for}
 use Rattle.nv_workers.specs.Marks.{marks_of}
 
 -- the record of a whole life, as if none of its writes had been cut off

@@ -12,24 +12,12 @@ use Rattle.nv_machine.specs.declared.events.Event.{Event}
 use Rattle.nv_machine.specs.declared.events.Reply.{Reply}
 use Rattle.nv_machine.specs.Headline.{IsBacked, Run}
 use Rattle.nv_machine.specs.Honesty.{SavesAllAlong}
-use Rattle.nv_machine.specs.Lives.{IsLived, Lived}
+use Rattle.nv_machine.specs.Lives.{IsLived, Lived, LivedUntil}
 use Rattle.nv_machine.specs.Opening.{new_life}
 use Rattle.nv_machine.specs.State.{Machine, Setup, World}
-use Rattle.module_core.specs.Stands.{Assembly, assembly, world_of}
+use Rattle.nv_machine.specs.StoppedRuns.{SurvivesStops}
+use Rattle.module_core.specs.Stands.{Assembly, ModuleStands, assembly, setup_of, world_of}
 use Rattle.nv_workers.specs.declared.recorded_module.RecordedModule.{RecordedModule}
-
--- A life so far, which leads here: its machine was new at first, its device held the image that it was opened with, and its events
--- are a run to this moment.
-pub record LivedUntil (setup : Setup) (now : World) : Type 0 where
-  pub slot : Slot
-  pub closed : Bool
-  pub image : Image
-  pub events : List Event
-  pub replies : List Reply
-  pub first : World
-  pub begins : first.machine ≡ new_life slot closed image
-  pub opened : StopsWithin (λ bytes. restored setup.shape.lines bytes ≡ Found slot image) (present first.device)
-  pub run : Run setup events replies first now
 
 module _ (setup : Setup) (now : World) (so : LivedUntil setup now) where
   -- the life that ends where a stop leaves these bytes now, with no event unanswered
@@ -68,3 +56,11 @@ module _ {K D E : Type 0} (L : Ghosts K) (M : DeviceGhosts D) (N : GaugeGhosts E
   -- the world in which they stand for a machine
   abbrev pub world_for : RecordedModule K D E L → Machine → World
   world_for it m = world_of L (assembly_of it) m
+
+  -- Module and device stand for a machine, and a life leads to it. A stop at any moment since it began, within a call or a device
+  -- write too, ends a life that a restore survives, behind whichever lives left what it was opened with.
+  pub record StopsSurvive (it : RecordedModule K D E L) : Type 0 where
+    pub machine : Machine
+    pub stands : ModuleStands L it.running (M.state it.device) machine
+    pub so : LivedUntil (setup_of L it.running) (world_for it machine)
+    pub survives : SurvivesStops (setup_of L it.running) (world_for it machine) so

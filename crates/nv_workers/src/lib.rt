@@ -24,7 +24,7 @@ pub use checking::{Cut, Stranger, check};
 pub use ending::{Closed, end_host};
 pub use held::{Held, publish};
 pub use host::{Behind, GotAt, Host, Receipt, Seen};
-pub use laws::{boards_keep_lives, records_tell_lives};
+pub use laws::{boards_keep_lives, boards_survive, records_tell_lives};
 pub use opening::Opening;
 pub use recorded_module::RecordedModule;
 pub use saver::{SaverTurn, Saving, turn_at, working_of};

@@ -13,7 +13,7 @@ use Rattle.slot_store.specs.Formatted.{first_head}
 use Rattle.slot_store.specs.Outcomes.{Found, first_image, restored}
 use Rattle.energy_budget.specs.Meter.{meter_gauge}
 use Rattle.nv_machine.specs.Lives.{AreChained, IsLived, LeadsTo, Lived}
-use Rattle.nv_machine.proofs.SurvivedLives.{survived}
+use Rattle.nv_machine.proofs.SurvivedLives.{survived_behind}
 use Rattle.module_core.specs.ModuleLives.{EndsAfterEvents, EndsAmongEvents, module_life}
 use Rattle.module_core.specs.Stands.{Assembly, assembly, setup_of, world_of}
 use Rattle.module_core.proofs.CallsInTurn.{answered_none}
@@ -27,7 +27,7 @@ use Rattle.nv_session.specs.Sessions.{restored_in, setup_over}
 use Rattle.nv_session.proofs.SessionLives.{lives_charged, lives_on}
 use Rattle.nv_script.specs.declared.answer.Answer.TheVariants as answer
 use Rattle.nv_script.specs.declared.line.ScriptLine.TheVariants as line
-use Rattle.script_runner.specs.Chains.{Chain, ContinuesBy, EndsLife, FormatsLives, GoesFurther, IsChained, IsSurvivedBehind, LivesAll, LivesEach, LivesInChain, MakesOfLives}
+use Rattle.script_runner.specs.Chains.{Chain, ContinuesBy, EndsLife, FormatsLives, GoesFurther, IsChained, LivesAll, LivesEach, LivesInChain, MakesOfLives}
 use Rattle.script_runner.specs.Chains.{RestoresLives, RunningLife, RunsBehind, RunsBy, ended_in, running_in}
 use Rattle.script_runner.specs.Doing.{AreEventsOf, Does, DoesAll, DoesEach, Formats, KeepsTerms, Restores}
 use Rattle.script_runner.specs.Replies.{restore_told}
@@ -54,10 +54,6 @@ chain_pushed : (lives : List Lived) (next : Lived) → AreChained lives → ForL
 chain_pushed [] next chained leads lived = lived
 chain_pushed (life ∷ []) next chained leads lived = (chained, leads, lived)
 chain_pushed (life ∷ other ∷ lives) next chained leads lived = (chained.0, chained.1, chain_pushed (other ∷ lives) next chained.2 leads lived)
-
-survived_behind : (lives : List Lived) (life : Lived) → AreChained (lives ++ life ∷ []) → IsSurvivedBehind lives life
-survived_behind [] life chained = survived life [] chained
-survived_behind (first ∷ lives) life chained = survived first (lives ++ life ∷ []) chained
 
 -- a life left bytes that restore to what these do
 abbrev LeftAlike : ℕ → List ℕ → Lived → Type 0

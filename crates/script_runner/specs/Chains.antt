@@ -9,7 +9,7 @@ use Rattle.nv_machine.specs.declared.events.Event.{Event}
 use Rattle.nv_machine.specs.declared.events.Reply.{Reply}
 use Rattle.nv_machine.specs.State.{Machine, World}
 use Rattle.nv_machine.specs.Lives.{AreChained, IsLeftAt, Lived, moments_since}
-use Rattle.nv_machine.specs.Survival.{IsSurvived}
+use Rattle.nv_machine.specs.Survival.{IsSurvivedBehind}
 use Rattle.module_core.specs.declared.module.Module.{Module}
 use Rattle.module_core.specs.ModuleLives.{EndsAmongEvents, module_life}
 use Rattle.module_core.specs.Stands.{Assembly, assembly, setup_of}
@@ -26,11 +26,6 @@ use Rattle.nv_script.specs.declared.answer.Answer.TheVariants as answer
 use Rattle.script_runner.specs.Doing.{AreEventsOf, Does}
 use Rattle.script_runner.specs.Replies.{restore_told}
 use Rattle.script_runner.specs.Story.{Exchange}
-
--- what a restore finds after lives, the last of which is this one
-abbrev pub IsSurvivedBehind : List Lived → Lived → Type 0
-IsSurvivedBehind [] life = IsSurvived life []
-IsSurvivedBehind (first ∷ lives) life = IsSurvived first (lives ++ life ∷ [])
 
 module _ {K : Type 0} (L : Ghosts K) where
   -- a life that runs: what was found, the module that it began as, and what that has answered since

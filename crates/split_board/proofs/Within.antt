@@ -14,7 +14,7 @@ use Rattle.nv_machine.specs.Rising.{added}
 use Rattle.nv_machine.specs.State.{Machine, Setup, World}
 use Rattle.nv_machine.proofs.EachEvent.{event_adds, guarded_event}
 use Rattle.nv_machine.proofs.Guarded.{guarded_cut, guarded_new}
-use Rattle.nv_workers.specs.Lived.{LivedUntil}
+use Rattle.nv_machine.specs.Lives.{LivedUntil}
 
 abbrev pub AreWithin : ℕ → List Write → Type 0
 AreWithin lines writes = All (λ (w : Write). w.line < lines) writes
