@@ -1,3 +1,4 @@
+pub mod Credits
 pub mod Settled
 pub mod Happening
 pub mod Followed

@@ -9,3 +9,4 @@ pub mod Whole
 pub mod Pieces
 pub mod Asking
 pub mod Surviving
+pub mod Credits

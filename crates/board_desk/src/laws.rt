@@ -1,9 +1,13 @@
 // What a desk keeps of its life.
+ghost use Rattle.std.specs.Prelude.{◌≡◌, List, Option};
+ghost use Rattle.std.specs.List.{sum_by};
+ghost use Rattle.channel_part.specs.declared.part.Part.{Part};
 ghost use Rattle.line_memory.specs.History.{TellsSameFrom};
 ghost use Rattle.nv_machine.specs.State.{Machine};
 ghost use Rattle.nv_workers.specs.Kept.{whole_record};
 ghost use Rattle.nv_workers.specs.Lived.{IsInLife};
 ghost use Rattle.board_desk.specs.declared.desk.Desk.{Desk};
+ghost use Rattle.board_desk.specs.Credits.{AreParts, owed_in};
 ghost use Rattle.board_desk.specs.Desk.{DeskStands, DeskView, setup_at, world_at};
 ghost use Rattle.board_desk.specs.Surviving.{DeskSurvives};
 ghost use Rattle.board_desk.specs.Views.{desk_of};
@@ -42,4 +46,13 @@ pub fn desks_survive<K: ChannelPort, D: SaveDevice, E: Energy, B: BoardName + Pa
 pub fn desks_tell_lives<B: PartsName>()
     ensures { (desk : DeskView) (m : Machine) → DeskStands B.PartsName.own desk m
         → TellsSameFrom desk.history.start (whole_record m desk.history.room) desk.history }
+{}
+
+/// Whoever holds all locks of a board finds: the credits that are out are the writes that wait in its eight channels and the credits
+/// that were returned there.
+pub fn credits_add_up<K: ChannelPort, B: PartsName>()
+    ensures { (desk : DeskView) (m : Machine) (parts : List (Option (Part K K.ChannelPort)))
+        → DeskStands B.PartsName.own desk m
+        → AreParts K.ChannelPort B.PartsName.own desk.logs parts
+        → desk.split.out ≡ sum_by (owed_in K.ChannelPort B.PartsName.own) parts }
 {}

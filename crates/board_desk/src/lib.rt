@@ -31,5 +31,5 @@ pub use calling::{
 };
 pub use closing::gather_all;
 pub use desk::Desk;
-pub use laws::{desks_keep_lives, desks_survive, desks_tell_lives};
+pub use laws::{credits_add_up, desks_keep_lives, desks_survive, desks_tell_lives};
 pub use noting::{look_at, note_write};
