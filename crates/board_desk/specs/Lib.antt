@@ -8,3 +8,4 @@ pub mod Calling
 pub mod Whole
 pub mod Pieces
 pub mod Asking
+pub mod Closing
