@@ -8,10 +8,12 @@ use Rattle.std.proofs.lemmas.Option.{same_Some, slice_get_within}
 use Rattle.channel_locks.specs.declared.parts_name.PartsName.{Ghosts as PartsGhosts}
 use Rattle.channel_locks.specs.PortMakes.{make_of}
 use Rattle.channel_locks.specs.Slots.{IsPartWhereDue}
+use Rattle.channel_locks.specs.Unlocked.{port_in}
 use Rattle.channel_log.specs.Log.{IsLogOf, LogNote, log_tells}
 use Rattle.channel_log.specs.Seats.{AllLogs}
 use Rattle.channel_part.specs.declared.part.Part.{Part}
 use Rattle.channel_port.specs.declared.port.ChannelPort.{Ghosts}
+use Rattle.board_desk.specs.Answering.{SettlesPart}
 use Rattle.board_desk.specs.Loans.{HaveLent, IsLent, IsReadyToLend}
 
 -- what is true of each and of one that is pushed
@@ -20,6 +22,11 @@ pushed P [] y each last zero x at = subst (P zero) (same_Some y x at) last
 pushed P [] y each last (suc i) x at = absurd (let bad : ⊥ = cc in bad)
 pushed P (z ∷ xs) y each last zero x at = each zero x at
 pushed P (z ∷ xs) y each last (suc i) x at = pushed (λ k. P (suc k)) xs y (λ k v there. each (suc k) v there) last i x at
+
+-- a part that was settled has its port
+pub settled_port : {K : Type 0} (L : Ghosts K) (old new : Option (Part K L)) → SettlesPart L old new → port_in L new ≡ port_in L old
+settled_port L None new settled = ap (port_in L) settled
+settled_port L (Some old) new (later, is, same) = ap (port_in L) is ∙ ap (λ port. port ∷ []) same.port
 
 module _ {K B : Type 0} (L : Ghosts K) (P : PartsGhosts B) where
   pub beyond : (part : Option (Part K L)) (number : ℕ) (log : List LogNote) → part ≡ None → ∥ IsPartWhereDue L P part number log ∥₁ → P.ports ≤ number

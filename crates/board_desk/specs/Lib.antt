@@ -10,3 +10,4 @@ pub mod Pieces
 pub mod Asking
 pub mod Surviving
 pub mod Credits
+pub mod Closing

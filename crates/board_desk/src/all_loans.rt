@@ -1,6 +1,7 @@
 // All channels lend their ports, or have them back.
-ghost use Rattle.std.specs.Prelude.{◌≡◌, ◌≤◌, [], length, vec_capacity, vec_len};
+ghost use Rattle.std.specs.Prelude.{◌≡◌, ◌≤◌, [], ◌∷◌, length, vec_capacity, vec_len};
 ghost use Rattle.channel_locks.specs.Slots.{IsSlotKept};
+ghost use Rattle.channel_locks.specs.Unlocked.{ports_in};
 ghost use Rattle.board_desk.specs.Loans.{AllComeBack, AreRestated, AreTables, CanLend, EndStays, HasLent, HaveLent};
 
 use crate::board_port::BoardPort;
@@ -49,6 +50,8 @@ pub(crate) fn lend_all<K: ChannelPort, B: PartsName>(
     requires seven { CanLend K.ChannelPort B.PartsName seven.old seven_seat.old 7 }
     ensures known { known.new ≡ known.old }
     ensures have { ∥ HaveLent K.ChannelPort B.PartsName known.old.logs 8 ports.new.items ∥₁ }
+    ensures ports { ports.new.items ≡ ports_in K.ChannelPort (zero.old ∷ one.old ∷ two.old
+        ∷ three.old ∷ four.old ∷ five.old ∷ six.old ∷ seven.old ∷ []) }
     ensures capacity { vec_capacity ports.new ≡ vec_capacity ports.old }
     ensures zero { HasLent K.ChannelPort B.PartsName known.old.logs zero.new zero_seat.new 0 }
     ensures one { HasLent K.ChannelPort B.PartsName known.old.logs one.new one_seat.new 1 }

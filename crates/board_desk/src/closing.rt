@@ -1,13 +1,11 @@
 // A board is put together for good, once all its threads were joined.
 ghost use Rattle.std.specs.Prelude.{◌≡◌};
+ghost use Rattle.board_desk.specs.Closing.{HaveModule};
 
 use crate::board_port::BoardPort;
 use crate::desk::Desk;
 use crate::lent_desk::{LentDesk, lend_out};
-use channel_locks::{
-    ChannelFive, ChannelFour, ChannelName, ChannelOne, ChannelSeven, ChannelSix, ChannelThree,
-    ChannelTwo, ChannelZero, PartsName, Slot,
-};
+use channel_locks::{ChannelName, PartsName, Slot, UnlockedChannels};
 use channel_log::ChannelSeat;
 use channel_part::Part;
 use channel_port::ChannelPort;
@@ -23,12 +21,14 @@ struct SettledSlot<K: ChannelPort> {
 }
 
 impl<K: ChannelPort, D: SaveDevice, E: Energy, B: BoardName + PartsName> Desk<K, D, E, B> {
+    ghost use Rattle.channel_locks.specs.Unlocked.{port_in};
     ghost use Rattle.board_desk.specs.Loans.{CanLend};
     ghost use Rattle.board_desk.specs.Views.{SameButCounts};
 
     // Settles a channel for good.
     fn take_slot<C: ChannelName>(&mut self, mut slot: Slot<K, B, C>) -> SettledSlot<K>
         ensures ready { CanLend K.ChannelPort B.PartsName result.part result.seat C.NUMBER }
+        ensures port { port_in K.ChannelPort result.part ≡ port_in K.ChannelPort slot.part }
         ensures same { SameButCounts K.ChannelPort D.SaveDevice E.Energy B.BoardName.own
             B.PartsName.own self.old self.new }
     {
@@ -38,32 +38,23 @@ impl<K: ChannelPort, D: SaveDevice, E: Energy, B: BoardName + PartsName> Desk<K,
     }
 }
 
-/// Puts the module together from what lay behind the nine locks, with its record, its marks and the count of the hosts' writes. It
-/// takes no memory.
+/// Puts the module together from what lay behind the nine locks, with its record, its marks and the count of the hosts' writes.
+/// Front, ports, device, gauge and record are as they lay there. It takes no memory.
 pub fn gather_all<K: ChannelPort + Drop, D: SaveDevice, E: Energy, B: BoardName + PartsName>(
     mut desk: Desk<K, D, E, B>,
-    zero: Slot<K, B, ChannelZero>,
-    one: Slot<K, B, ChannelOne>,
-    two: Slot<K, B, ChannelTwo>,
-    three: Slot<K, B, ChannelThree>,
-    four: Slot<K, B, ChannelFour>,
-    five: Slot<K, B, ChannelFive>,
-    six: Slot<K, B, ChannelSix>,
-    seven: Slot<K, B, ChannelSeven>,
+    channels: UnlockedChannels<K, B>,
 ) -> Held<BoardPort<K, B>, D, E, B>
-    ensures front { result.recorded.running.front ≡ desk.split.front }
-    ensures history { result.recorded.history ≡ desk.history }
-    ensures device { result.recorded.device ≡ desk.device }
-    ensures energy { result.recorded.energy ≡ desk.energy }
+    ensures { HaveModule K.ChannelPort D.SaveDevice E.Energy B.BoardName.own B.PartsName.own
+        ⟦<BoardPort<K, B> as ChannelPort>⟧ desk channels result.recorded }
 {
-    let mut zero = desk.take_slot(zero);
-    let mut one = desk.take_slot(one);
-    let mut two = desk.take_slot(two);
-    let mut three = desk.take_slot(three);
-    let mut four = desk.take_slot(four);
-    let mut five = desk.take_slot(five);
-    let mut six = desk.take_slot(six);
-    let mut seven = desk.take_slot(seven);
+    let mut zero = desk.take_slot(channels.zero);
+    let mut one = desk.take_slot(channels.one);
+    let mut two = desk.take_slot(channels.two);
+    let mut three = desk.take_slot(channels.three);
+    let mut four = desk.take_slot(channels.four);
+    let mut five = desk.take_slot(channels.five);
+    let mut six = desk.take_slot(channels.six);
+    let mut seven = desk.take_slot(channels.seven);
     let LentDesk { rest, books } = lend_out(
         desk,
         &mut zero.part,

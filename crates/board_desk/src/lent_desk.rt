@@ -1,7 +1,8 @@
 // A desk is taken apart while its channels lend their ports, and put together again.
-ghost use Rattle.std.specs.Prelude.{◌≡◌};
+ghost use Rattle.std.specs.Prelude.{◌≡◌, [], ◌∷◌};
 ghost use Rattle.std.specs.Arc.{arc_value};
 ghost use Rattle.channel_locks.specs.Slots.{IsSlotKept};
+ghost use Rattle.channel_locks.specs.Unlocked.{ports_in};
 ghost use Rattle.board_desk.specs.Asking.{AnswersAsCame, HaveCome, pieces_with};
 ghost use Rattle.board_desk.specs.Kept.{IsDeskKept};
 ghost use Rattle.board_desk.specs.Loans.{CanLend, HasLent, HaveLent};
@@ -74,6 +75,10 @@ pub(crate) fn lend_out<K: ChannelPort, D: SaveDevice, E: Energy, B: BoardName + 
         ≡ desk_of K.ChannelPort D.SaveDevice E.Energy B.BoardName.own B.PartsName.own desk }
     ensures device { result.rest.device ≡ desk.device }
     ensures energy { result.rest.energy ≡ desk.energy }
+    ensures terms { result.rest.pieces.terms ≡ desk.terms }
+    ensures costs { result.rest.pieces.front.costs ≡ desk.split.costs }
+    ensures ports { result.rest.pieces.ports.items ≡ ports_in K.ChannelPort (zero.old ∷ one.old
+        ∷ two.old ∷ three.old ∷ four.old ∷ five.old ∷ six.old ∷ seven.old ∷ []) }
     ensures kept { IsDeskKept B.BoardName.own B.PartsName.own
         (pieces_with K.ChannelPort D.SaveDevice E.Energy B.PartsName.own
         result.rest result.books.known.logs)

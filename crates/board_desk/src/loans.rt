@@ -1,9 +1,10 @@
 // Ports are lent by their channels to a whole module, and come back, one channel after another.
-ghost use Rattle.std.specs.Prelude.{◌≡◌, ◌+◌, ◌<◌, ◌≤◌, IfSome, None, length, min, slice_get, slice_set, take, true, vec_capacity, vec_len};
+ghost use Rattle.std.specs.Prelude.{◌≡◌, ◌+◌, ◌++◌, ◌<◌, ◌≤◌, IfSome, None, length, min, slice_get, slice_set, take, true, vec_capacity, vec_len};
 ghost use Rattle.channel_log.specs.Log.{IsLogOf, credits_of, log_tells};
 ghost use Rattle.channel_log.specs.Seats.{AreOf};
 ghost use Rattle.channel_locks.specs.PortMakes.{make_of};
 ghost use Rattle.channel_locks.specs.Slots.{IsSlotKept};
+ghost use Rattle.channel_locks.specs.Unlocked.{port_in};
 ghost use Rattle.board_desk.specs.Loans.{ComesBack, HaveLent, IsReadyToLend, restated, waits_of_port};
 
 use crate::board_port::BoardPort;
@@ -30,6 +31,7 @@ pub(crate) fn lend<K: ChannelPort, B: PartsName, C: ChannelName>(
     ensures seat { seat.new ≡ seat.old }
     ensures agreed { IsLogOf known.old.logs C.NUMBER seat.old.log }
     ensures lent { part.new ≡ None }
+    ensures port { ports.new.items ≡ ports.old.items ++ port_in K.ChannelPort part.old }
     ensures count { vec_len ports.new ≡ min (C.NUMBER + 1) B.ports }
     ensures capacity { vec_capacity ports.new ≡ vec_capacity ports.old }
     ensures have { ∥ HaveLent K.ChannelPort B.PartsName known.old.logs C.NUMBER ports.old.items ∥₁

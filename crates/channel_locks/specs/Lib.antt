@@ -3,3 +3,4 @@ pub mod Lent
 pub mod Lines
 pub mod PortMakes
 pub mod Slots
+pub mod Unlocked

@@ -8,11 +8,15 @@
 mod channel_name;
 mod channels;
 mod line_channels;
+mod locked_channel;
+mod locked_channels;
+mod locked_working;
 mod locks;
 mod parts_name;
 mod serving;
 mod slot;
 mod turns;
+mod unlocked;
 mod working;
 
 pub use channel_name::{
@@ -21,7 +25,10 @@ pub use channel_name::{
 };
 pub use channels::{AllSlots, ChannelLocks};
 pub use line_channels::LineChannels;
+pub use locked_channel::LockedChannel;
+pub use locked_channels::LockedChannels;
 pub use locks::{make_room_at, serve_at, take_lock, turn_at};
 pub use parts_name::PartsName;
 pub use slot::Slot;
 pub use turns::ChannelTurn;
+pub use unlocked::UnlockedChannels;

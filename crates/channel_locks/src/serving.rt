@@ -7,7 +7,7 @@ use crate::slot::Slot;
 use channel_port::{ChannelPort, Collected, Ticket};
 
 /// How many commands a read or a write has its channel issue at most, in one hold of the lock.
-const MOST_COMMANDS: u64 = 64;
+pub(crate) const MOST_COMMANDS: u64 = 64;
 
 impl<K: ChannelPort, B: PartsName, C: ChannelName> Slot<K, B, C> {
     ghost use Rattle.channel_locks.specs.Alone.{MakesRoomAlone, ServesAlone, crowded_in};

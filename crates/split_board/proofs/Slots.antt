@@ -11,6 +11,11 @@ use Rattle.channel_locks.specs.PortMakes.{make_of}
 use Rattle.channel_locks.specs.Slots.{IsPartWhereDue}
 use Rattle.split_board.specs.FirstLogs.{AreFirstSlots, IsFirstPort}
 
+-- a list of no length
+pub emptied : {X : Type 0} (xs : List X) → length xs ≡ 0 → xs ≡ []
+emptied [] none = refl
+emptied (x ∷ xs) none = absurd (omega (arith, none))
+
 -- the last element of a list, and those before it
 pub last_got : {X : Type 0} (xs : List X) (x : X) (i : ℕ) → length xs ≡ i → slice_get (xs ++ x ∷ []) i ≡ Some x
 last_got [] x zero is = refl

@@ -8,9 +8,12 @@ use Rattle.channel_set.specs.Ports.{places_of}
 use Rattle.channel_set.specs.Set.{shape_of}
 use Rattle.channel_locks.specs.PortMakes.{PortMake}
 use Rattle.channel_locks.specs.declared.parts_name.PartsName.{Ghosts as PartsGhosts}
+use Rattle.channel_locks.specs.declared.unlocked.UnlockedChannels.{UnlockedChannels}
 use Rattle.nv_workers.specs.Kept.{IsRecordKept}
 use Rattle.nv_workers.specs.declared.board_name.BoardName.{Ghosts as BoardGhosts}
 use Rattle.nv_workers.specs.declared.recorded_module.RecordedModule.{RecordedModule}
+use Rattle.board_desk.specs.Closing.{HaveModule}
+use Rattle.board_desk.specs.declared.desk.Desk.{Desk}
 
 -- what ports with these terms have in common
 abbrev pub make_with : {K : Type 0} → Ghosts K → PortTerms → List K → PortMake
@@ -32,3 +35,10 @@ module _ {K D E B : Type 0} (L : Ghosts K) (M : DeviceGhosts D) (N : GaugeGhosts
     pub base : recorded.history.base ≡ P.base
     pub whole : recorded.history.start ≡ recorded.running.front.terms.start
     pub kept : IsRecordKept L M N recorded
+
+  -- This module with its record lies behind the locks of a board, or lay there. Which values lie behind a lock no clause can name, so
+  -- this says that there are some.
+  pub record LiesBehindLocks (W : Ghosts K) (recorded : RecordedModule K D E W) : Type 0 where
+    pub desk : Desk K D E B L M N O P
+    pub channels : UnlockedChannels K B L P
+    pub have : HaveModule L M N O P W desk channels recorded

@@ -1,19 +1,19 @@
 // The locks of the channels, as a board begins.
-ghost use Rattle.std.specs.Prelude.{◌≡◌, ◌+◌, ◌<◌, ◌≤◌, ℕ, [], length, min, vec_capacity};
+ghost use Rattle.std.specs.Prelude.{◌≡◌, ◌+◌, ◌++◌, ◌<◌, ◌≤◌, ℕ, [], length, min, vec_capacity};
 ghost use Rattle.arm_state.specs.Modes.{has_ended};
 ghost use Rattle.channel_log.specs.Seats.{all_logs};
+ghost use Rattle.channel_locks.specs.Unlocked.{parts_of, port_in, ports_in};
 ghost use Rattle.split_board.specs.FirstLogs.{AreFirstLogs, AreFirstPorts, AreFirstSlots};
 ghost use Rattle.split_board.specs.FirstLogs.{channel_by};
 
 use crate::first_logs::{deal_seats, note_writes};
-use channel_locks::{ChannelLocks, ChannelName, LineChannels, PartsName, Slot};
+use channel_locks::{ChannelName, LineChannels, PartsName, Slot, UnlockedChannels};
 use channel_log::{ChannelLogs, ChannelSeat, FrontSeat};
 use channel_part::Part;
 use channel_port::ChannelPort;
 use channel_set::PortTerms;
 use line_memory::History;
 use split_module::SplitFront;
-use std::sync::Mutex;
 
 // The slot of a channel, whose seat is the last one; so is its port, where the board has the channel.
 fn slot_of<K: ChannelPort, B: PartsName, C: ChannelName>(
@@ -26,6 +26,7 @@ fn slot_of<K: ChannelPort, B: PartsName, C: ChannelName>(
     requires first { AreFirstSlots K.ChannelPort B.PartsName ended ports.old.items seats.old.items }
     ensures count { length ports.new.items ≡ min C.NUMBER B.ports }
     ensures seats { length seats.new.items ≡ C.NUMBER }
+    ensures port { ports.old.items ≡ ports.new.items ++ port_in K.ChannelPort result.part }
     ensures first { AreFirstSlots K.ChannelPort B.PartsName ended ports.new.items seats.new.items }
 {
     let Some(seat) = seats.pop() else {
@@ -40,17 +41,19 @@ fn slot_of<K: ChannelPort, B: PartsName, C: ChannelName>(
     Slot::new(Some(Part::of(C::NUMBER, port, ended)), seat)
 }
 
-// A lock for each channel, with its seat, and its port where there is one.
-fn locks_of<K: ChannelPort, B: PartsName>(
+// Each channel with its seat, and its port where there is one.
+fn channels_of<K: ChannelPort, B: PartsName>(
     ports: &mut Vec<K>,
     seats: &mut Vec<ChannelSeat>,
     ended: bool,
-) -> ChannelLocks<K, B>
+) -> UnlockedChannels<K, B>
     requires count { length ports.old.items ≡ B.ports }
     requires few { B.ports ≤ 8 }
     requires seats { length seats.old.items ≡ 8 }
     requires first { AreFirstSlots K.ChannelPort B.PartsName ended ports.old.items seats.old.items }
     ensures none { ports.new.items ≡ [] }
+    ensures ports { ports.old.items
+        ≡ ports_in K.ChannelPort (parts_of K.ChannelPort B.PartsName result) }
 {
     let seven = slot_of(ports, seats, ended);
     let six = slot_of(ports, seats, ended);
@@ -60,19 +63,19 @@ fn locks_of<K: ChannelPort, B: PartsName>(
     let two = slot_of(ports, seats, ended);
     let one = slot_of(ports, seats, ended);
     let zero = slot_of(ports, seats, ended);
-    ChannelLocks {
-        zero: Mutex::new(zero),
-        one: Mutex::new(one),
-        two: Mutex::new(two),
-        three: Mutex::new(three),
-        four: Mutex::new(four),
-        five: Mutex::new(five),
-        six: Mutex::new(six),
-        seven: Mutex::new(seven),
+    UnlockedChannels {
+        zero,
+        one,
+        two,
+        three,
+        four,
+        five,
+        six,
+        seven,
     }
 }
 
-/// A lock for each channel, with its port where there is one. Its log tells the record's writes that lie on the channel, and what
+/// Each channel with its port where there is one, as it is. Its log tells the record's writes that lie on the channel, and what
 /// its port has. The seats lie in a list without any, which has room for them.
 pub(crate) fn begin_channels<K: ChannelPort + Drop, B: PartsName>(
     logs: &ChannelLogs,
@@ -83,7 +86,7 @@ pub(crate) fn begin_channels<K: ChannelPort + Drop, B: PartsName>(
     split: &SplitFront,
     terms: &PortTerms,
     mut ports: Vec<K>,
-) -> ChannelLocks<K, B>
+) -> UnlockedChannels<K, B>
     requires logs { logs.now ≡ B.logs }
     requires known { known.old ≡ all_logs B.logs [] }
     requires none { seats.items ≡ [] }
@@ -96,6 +99,8 @@ pub(crate) fn begin_channels<K: ChannelPort + Drop, B: PartsName>(
     requires ports { AreFirstPorts K.ChannelPort B.PartsName (has_ended split.now.front.mode)
         lines.now history.now terms.now.hold ports.items }
     ensures table { known.new.table ≡ B.logs }
+    ensures ports { ports.items
+        ≡ ports_in K.ChannelPort (parts_of K.ChannelPort B.PartsName result) }
     ensures first { AreFirstLogs K.ChannelPort lines.now history.now terms.now.hold
         (has_ended split.now.front.mode) ports.items known.new.logs }
 {
@@ -103,5 +108,5 @@ pub(crate) fn begin_channels<K: ChannelPort + Drop, B: PartsName>(
     deal_seats(logs, known, &ports, terms.hold, ended, &mut seats);
     let (from, to) = (split.front.start(), split.front.accepted());
     note_writes(logs, known, &mut seats, lines, history, from, to);
-    locks_of(&mut ports, &mut seats, ended)
+    channels_of(&mut ports, &mut seats, ended)
 }

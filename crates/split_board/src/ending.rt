@@ -3,15 +3,16 @@ ghost use Rattle.std.specs.Prelude.{◌≡◌, ◌+◌, ◌≤◌, All, length, 
 ghost use Rattle.board_desk.specs.declared.desk.Desk.{Desk};
 ghost use Rattle.nv_workers.specs.Ending.{HasChecked, IsStranger, cut};
 ghost use Rattle.nv_workers.specs.Kept.{IsRecordKept};
+ghost use Rattle.split_board.specs.Starting.{LiesBehindLocks};
 
 use crate::board::Board;
 use crate::locked_desk::LockedDesk;
 use board_desk::{BoardPort, Desk, gather_all};
-use channel_locks::{ChannelLocks, PartsName};
+use channel_locks::PartsName;
 use channel_port::ChannelPort;
 use energy_budget::Energy;
 use notice_book::Notices;
-use nv_workers::{BoardName, Closed, Held, Host, Receipt, Seen, Stranger};
+use nv_workers::{BoardName, Closed, Host, Receipt, Seen, Stranger};
 use save_device::SaveDevice;
 
 /// A board that wasn't closed, since a receipt or an answer is a stranger to its life. Its hosts are as they were.
@@ -28,39 +29,9 @@ pub struct NotClosed<
     pub hosts: Vec<Host<B>>,
 }
 
-// The module put together from what lay behind the locks.
-fn gathered<K: ChannelPort + Drop, D: SaveDevice, E: Energy, B: BoardName + PartsName>(
-    desk: Desk<K, D, E, B>,
-    channels: ChannelLocks<K, B>,
-) -> Held<BoardPort<K, B>, D, E, B>
-    ensures front { result.recorded.running.front ≡ desk.split.front }
-    ensures history { result.recorded.history ≡ desk.history }
-{
-    let ChannelLocks {
-        zero,
-        one,
-        two,
-        three,
-        four,
-        five,
-        six,
-        seven,
-    } = channels;
-    gather_all(
-        desk,
-        zero.into_inner(),
-        one.into_inner(),
-        two.into_inner(),
-        three.into_inner(),
-        four.into_inner(),
-        five.into_inner(),
-        six.into_inner(),
-        seven.into_inner(),
-    )
-}
-
 /// Ends a board once all its threads were joined, with all its hosts: the receipts and the answers are checked against the
-/// history, and then the module is put together from what lay behind the locks, and comes back with its record and the notices.
+/// history, and then the module is put together from what lay behind the locks, as it lay there, and comes back with its record and
+/// the notices.
 /// Where the board was cut, receipts with numbers below `from` and answers given behind fewer writes are past: they are counted,
 /// and not checked. A stranger among the others gives the board and the hosts back. It takes no memory.
 pub fn close<K, D, E, B, N>(
@@ -84,6 +55,8 @@ where
         All (λ h. h.persisted ≤ c.recorded.running.front.persisted) hosts.items) }
     ensures kept { IfOk result (λ c. IsRecordKept ⟦<BoardPort<K, B> as ChannelPort>⟧
         D.SaveDevice E.Energy c.recorded) }
+    ensures lay { IfOk result (λ c. LiesBehindLocks K.ChannelPort D.SaveDevice E.Energy
+        B.BoardName.own B.PartsName.own ⟦<BoardPort<K, B> as ChannelPort>⟧ c.recorded) }
     ensures hosts { IfErr result (λ left. left.hosts ≡ hosts) }
     ensures stranger { IfErr result (λ left.
         (desk : Desk K D E B K.ChannelPort D.SaveDevice E.Energy B.BoardName.own B.PartsName.own)
@@ -111,8 +84,9 @@ where
             });
         }
     };
+    let channels = channels.into_inner();
     Ok(Closed {
-        recorded: gathered(desk, channels).end(hosts),
+        recorded: gather_all(desk, channels).end(hosts),
         notices,
         from: told.from,
         checked: told.checked,

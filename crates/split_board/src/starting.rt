@@ -7,13 +7,15 @@ ghost use Rattle.channel_set.specs.Set.{shape_of};
 ghost use Rattle.channel_locks.specs.Lines.{channels_of_lines};
 ghost use Rattle.nv_workers.specs.Client.{client};
 ghost use Rattle.nv_workers.specs.Kept.{IsRecordKept};
-ghost use Rattle.split_board.specs.Starting.{IsBoardOf, make_with};
+ghost use Rattle.board_desk.specs.Closing.{HaveModule};
+ghost use Rattle.split_board.specs.Lines.{AreLinesOfBoard};
+ghost use Rattle.split_board.specs.Starting.{IsBoardOf, LiesBehindLocks, make_with};
 
 use crate::board::Board;
 use crate::dealing::begin_channels;
 use crate::tables::BoardTables;
 use board_desk::{BoardPort, Desk};
-use channel_locks::{LineChannels, PartsName};
+use channel_locks::{LineChannels, PartsName, UnlockedChannels};
 use channel_log::{ChannelLogs, ChannelSeat, FrontSeat};
 use channel_port::ChannelPort;
 use channel_set::ChannelSet;
@@ -58,6 +60,15 @@ struct Words<B: BoardName + PartsName> {
     known: FrontSeat,
 }
 
+// What goes behind the locks of a board, with its hosts and the table of the lines' channels.
+#[derive(Drop)]
+struct LaidOut<K: ChannelPort, D: SaveDevice, E: Energy, B: BoardName + PartsName> {
+    desk: Desk<K, D, E, B>,
+    channels: UnlockedChannels<K, B>,
+    lines: LineChannels,
+    hosts: Vec<Host<B>>,
+}
+
 // Makes the hosts, the table of the lines' channels, and room for the ports and the channels' seats.
 fn prepare<K: ChannelPort + Drop, B: BoardName + PartsName>(
     alloc: Global,
@@ -93,19 +104,17 @@ fn prepare<K: ChannelPort + Drop, B: BoardName + PartsName>(
     })
 }
 
-// Puts a module with its record and a book of notices behind the locks, once all memory was taken.
-fn begin<K, D, E, B, N>(
+// Takes a module with its record apart to what goes behind the locks, once all memory was taken. Nothing becomes of it.
+fn lay_out<K, D, E, B>(
     made: Prepared<K, B>,
     words: Words<B>,
     recorded: RecordedModule<K, D, E>,
-    notices: N,
-) -> Started<K, D, E, B, N>
+) -> LaidOut<K, D, E, B>
 where
     K: ChannelPort + Drop,
     D: SaveDevice,
     E: Energy,
     B: BoardName + PartsName,
-    N: Notices,
     requires lines { made.lines ≡ channels_of_lines
         (shape_of K.ChannelPort recorded.running.channels) }
     requires shown { words.seat ≡ seen_marks B.board
@@ -115,7 +124,10 @@ where
     requires known { words.known ≡ all_logs B.logs [] }
     requires named { IsBoardOf K.ChannelPort D.SaveDevice E.Energy B.BoardName.own
         B.PartsName.own recorded }
-    ensures { result.hosts ≡ made.hosts }
+    ensures hosts { result.hosts ≡ made.hosts }
+    ensures lines { AreLinesOfBoard B.BoardName.own B.PartsName.own result.lines }
+    ensures have { HaveModule K.ChannelPort D.SaveDevice E.Energy B.BoardName.own B.PartsName.own
+        K.ChannelPort result.desk result.channels recorded }
 {
     let Words {
         seat,
@@ -145,16 +157,18 @@ where
         logs,
         known,
     };
-    let board = Board::new(desk, channels, lines, notices);
-    Started {
-        board,
+    LaidOut {
+        desk,
+        channels,
+        lines,
         hosts: made.hosts,
     }
 }
 
 /// Puts a module with its record and a book of notices behind nine locks, with as many hosts as the opening has seats. The record
 /// has all writes of the life so far: each is looked at once, and none is copied. The board's name is picked from the tables and
-/// the module: a caller is generic over it. It refuses only where there is no memory, and then gives module and book back.
+/// the module: a caller is generic over it. What goes behind the locks is the module as it was given. It refuses only where there
+/// is no memory, and then gives module and book back.
 pub fn start<K, D, E, B, N>(
     alloc: Global,
     tables: BoardTables,
@@ -184,6 +198,8 @@ where
     ensures number { IfOk result (λ s. vec_len s.hosts ≡ B.parts) }
     ensures hosts { IfOk result (λ s.
         All (λ h. h ≡ client tables.opening.mark tables.opening.mark 0 []) s.hosts.items) }
+    ensures lies { IfOk result (λ _. LiesBehindLocks K.ChannelPort D.SaveDevice E.Energy
+        B.BoardName.own B.PartsName.own K.ChannelPort recorded) }
     ensures recorded { IfErr result (λ left. left.recorded ≡ recorded) }
     ensures notices { IfErr result (λ left. left.notices ≡ notices) }
 {
@@ -215,5 +231,12 @@ where
         logs,
         known,
     };
-    Ok(begin(made, words, recorded, notices))
+    let LaidOut {
+        desk,
+        channels,
+        lines,
+        hosts,
+    } = lay_out(made, words, recorded);
+    let board = Board::new(desk, channels.lock(), lines, notices);
+    Ok(Started { board, hosts })
 }

@@ -1,5 +1,5 @@
 -- A board is put together for good.
-use Rattle.std.proofs.Common.{refl}
+use Rattle.std.proofs.Common.{List, [], ap, refl, sym, ◌∙◌, ◌++◌}
 use Rattle.std.proofs.Math.Logic.{∥∥₁_elim, ∥∥₁_map, ∥∥₁_prop}
 use Rattle.board_desk.specs.Asking.{pieces_with}
 use Rattle.board_desk.specs.Desk.{DeskView}
@@ -33,3 +33,19 @@ new-requires-clause-kept g c =
     let rest = c.lend_out-rest.result.rest in
     record_joined g.K.ChannelPort g.D.SaveDevice g.E.Energy g.B.PartsName rest.pieces rest.device rest.energy rest.history c.lend_out-rest.result.books.known.logs (are_kept g at.After-lend_out-rest) c.gather.result c.gather.ensures.pieces
     c.gather.ensures.stands c.gather.ensures.device c.gather.ensures.energy c.gather.ensures.history
+
+pub returns : goal.returns
+returns g c =
+    let made = c.gather.ensures.pieces in
+    let lent = c.lend_out-rest.ensures in
+    let recorded = c.new.ensures in
+    record {
+      front = ap (λ r. r.running.front) recorded ∙ sym made.front ∙ ap (λ v. v.split.front) lent.view;
+      terms = ap (λ r. r.running.channels.terms) recorded ∙ sym made.terms ∙ lent.terms;
+      costs = ap (λ r. r.running.channels.costs) recorded ∙ sym made.costs ∙ lent.costs;
+      ports = ap (λ r. r.running.channels.ports.items) recorded ∙ sym (ap (λ ports. ports.items) made.ports) ∙ lent.ports
+          ∙ (λ i. c.take_slot-zero.ensures.port i ++ (c.take_slot-one.ensures.port i ++ (c.take_slot-two.ensures.port i ++ (c.take_slot-three.ensures.port i ++ (c.take_slot-four.ensures.port i ++ (c.take_slot-five.ensures.port i ++ (c.take_slot-six.ensures.port i ++ (c.take_slot-seven.ensures.port i ++ []))))))));
+      device = ap (λ r. r.device) recorded ∙ c.gather.ensures.device ∙ lent.device;
+      energy = ap (λ r. r.energy) recorded ∙ c.gather.ensures.energy ∙ lent.energy;
+      history = ap (λ r. r.history) recorded ∙ c.gather.ensures.history ∙ ap (λ v. v.history) lent.view;
+    }

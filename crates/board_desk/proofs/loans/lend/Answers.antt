@@ -1,7 +1,10 @@
 -- A port is lent.
-use Rattle.std.proofs.Common.{[], ap, arith, rules, subst, sym, ◌+◌, ◌++◌, ◌∙◌, ◌∷◌}
+use Rattle.std.proofs.Common.{List, [], None, Option, ap, arith, rules, subst, sym, ◌+◌, ◌++◌, ◌≡◌, ◌∙◌, ◌∷◌}
 use Rattle.std.proofs.Math.Logic.{∥∥₁_elim, ∥∥₁_map, ∥∥₁_prop}
+use Rattle.std.proofs.lemmas.List.{append-nil}
+use Rattle.channel_part.specs.declared.part.Part.{Part}
 use Rattle.channel_locks.specs.Slots.{IsPartWhereDue}
+use Rattle.channel_locks.specs.Unlocked.{port_in}
 use Rattle.channel_log.specs.Log.{IsLogOf}
 use Rattle.board_desk.specs.Loans.{HaveLent, IsReadyToLend}
 use Rattle.board_desk.proofs.Lent.{beyond, have_none, have_one, made_part, within}
@@ -43,3 +46,17 @@ returns-in-Some-clause-count g c =
     let count = c.requires.count in
     let more = c.push_reserved.ensures.len in
     omega (arith, here, count, more)
+
+pub returns-in-Some-clause-port : goal.returns-in-Some-clause-port
+returns-in-Some-clause-port g c =
+    let L = g.K.ChannelPort in
+    let before = c.args.ports.now.items in
+    c.push_reserved.ensures.items ∙ ap (λ p. before ++ p ∷ []) (c.of.ensures ∙ c.into_port.ensures.port)
+    ∙ ap (λ (part : Option (Part g.row.K.Denot L)). before ++ port_in L part) (sym (sym c.take.ensures.value ∙ c.in-Some.is))
+
+pub returns-in_default-clause-port : goal.returns-in_default-clause-port
+returns-in_default-clause-port g c =
+    let L = g.K.ChannelPort in
+    let before = c.args.ports.now.items in
+    let none : c.args.part.now ≡ None = search rules in
+    sym (append-nil before) ∙ ap (λ (part : Option (Part g.row.K.Denot L)). before ++ port_in L part) (sym none)

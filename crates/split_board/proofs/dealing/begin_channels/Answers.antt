@@ -4,8 +4,8 @@ use Rattle.split_board.specs.FirstLogs.{AreFirstLogs, AreFirstPorts}
 use Rattle.split_board.proofs.Noted.{first_logs, first_slots}
 use Rattle.split_board.proofs.dealing.begin_channels.Goals as goal
 
-pub locks_of-requires-clause-first : goal.locks_of-requires-clause-first
-locks_of-requires-clause-first g c =
+pub channels_of-requires-clause-first : goal.channels_of-requires-clause-first
+channels_of-requires-clause-first g c =
     let L = g.K.ChannelPort in let P = g.B.PartsName in let hold = c.args.terms.now.hold in let ended = c.has_ended-ended.result in let ports = c.args.ports.items in
     let table = c.args.lines.now in let history = c.args.history.now in let known = c.note_writes.new.known in
     let ended_is : ended ≡ has_ended c.args.split.now.front.mode = c.has_ended-ended.ensures ∙ ap has_ended c.mode.ensures in

@@ -1,6 +1,9 @@
-use Rattle.std.proofs.Common.{◌≡◌, ◌∙◌, ℕ, List, length, slice_get, Some, arith, subst, sym}
+use Rattle.std.proofs.Common.{◌≡◌, ◌∙◌, ℕ, List, [], ◌∷◌, ◌++◌, length, slice_get, Option, Some, ap, arith, subst, sym}
 use Rattle.channel_log.specs.Log.{LogNote, credits_of, log_tells}
+use Rattle.std.proofs.lemmas.List.{append-nil}
 use Rattle.channel_part.specs.Stands.{PartStands, PortStands}
+use Rattle.channel_part.specs.declared.part.Part.{Part}
+use Rattle.channel_locks.specs.Unlocked.{port_in}
 use Rattle.split_board.specs.FirstLogs.{IsFirstPort}
 use Rattle.split_board.proofs.Slots.{first_part, port_gone, port_last, seat_gone, seat_last}
 use Rattle.split_board.proofs.dealing.slot_of.Goals.{After-NUMBER-2}
@@ -63,3 +66,14 @@ returns-clause-first g c =
     port_gone g.K.ChannelPort g.B.PartsName c.args.ended c.args.ports.now.items c.pop-2.new.self.items c.in-Some-pop.port c.pop.new.self.items
     (seat_gone g.K.ChannelPort g.B.PartsName c.args.ended c.args.ports.now.items c.args.seats.now.items c.pop.new.self.items c.in-Some.seat c.requires.first c.in-Some.ensures.items)
     c.in-Some-pop.ensures.items
+
+pub returns-then-len-NUMBER-clause-port : goal.returns-then-len-NUMBER-clause-port
+returns-then-len-NUMBER-clause-port g c =
+    let ports = c.args.ports.now.items in let L = g.K.ChannelPort in
+    sym (append-nil ports) ∙ ap (λ (part : Option (Part g.row.K.Denot L)). ports ++ port_in L part) (sym c.new.ensures.part)
+
+pub returns-clause-port : goal.returns-clause-port
+returns-clause-port g c =
+    let left = c.pop-2.new.self.items in let L = g.K.ChannelPort in
+    c.in-Some-pop.ensures.items ∙ ap (λ port. left ++ port ∷ []) (sym c.of.ensures.port)
+    ∙ ap (λ (part : Option (Part g.row.K.Denot L)). left ++ port_in L part) (sym c.new-2.ensures.part)

@@ -23,5 +23,8 @@ publish-requires-clause-shown g c =
 
 pub returns-clause-hosts : goal.returns-clause-hosts
 returns-clause-hosts g c =
-    subst (λ (hosts : List Client). All (λ (h : Client). h ≡ client c.args.tables.opening.mark c.args.tables.opening.mark 0 []) hosts) (sym (ap (λ v. v.items) c.begin.ensures))
+    subst (λ (hosts : List Client). All (λ (h : Client). h ≡ client c.args.tables.opening.mark c.args.tables.opening.mark 0 []) hosts) (sym (ap (λ v. v.items) c.lay_out-desk.ensures.hosts))
     (subst (λ (o : OpeningView). All (λ (h : Client). h ≡ client o.mark o.mark 0 []) c.in-Ok.made.hosts.items) c.opening.view_is c.in-Ok.ensures.hosts)
+
+pub returns-clause-lies : goal.returns-clause-lies
+returns-clause-lies g c = record { desk = c.lay_out-desk.result.desk; channels = c.lay_out-desk.result.channels; have = c.lay_out-desk.ensures.have }

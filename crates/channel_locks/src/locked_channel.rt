@@ -1,0 +1,48 @@
+// What lies behind the lock of a channel, with the channel's number.
+ghost use Rattle.std.specs.Prelude.{◌≡◌};
+ghost use Rattle.channel_locks.specs.Slots.{IsPartWhereDue, IsSlotKept};
+
+use crate::parts_name::PartsName;
+use channel_log::ChannelSeat;
+use channel_part::Part;
+use channel_port::ChannelPort;
+use std::marker::PhantomData;
+
+/// The number of a channel, its part, and the seat that knows its log. There is no part for a channel that the board lacks.
+#[derive(Drop)]
+pub struct LockedChannel<K: ChannelPort, B: PartsName> {
+    pub number: u64,
+    pub part: Option<Part<K>>,
+    pub seat: ChannelSeat,
+    pub of: PhantomData<B>,
+    pub ghost kept: { IsSlotKept K.ChannelPort B.PartsName part seat number },
+}
+
+impl<K: ChannelPort, B: PartsName> LockedChannel<K, B> {
+    ghost use Rattle.channel_locks.specs.Lent.{IsOfChannel};
+
+    /// The part of a channel, where the board has it, with the seat of the channel's log.
+    pub fn new(number: u64, part: Option<Part<K>>, seat: ChannelSeat) -> LockedChannel<K, B>
+        requires table { seat.table ≡ B.logs }
+        requires channel { seat.channel ≡ number }
+        requires part { ∥ IsPartWhereDue K.ChannelPort B.PartsName part number seat.log ∥₁ }
+        ensures number { result.number ≡ number }
+        ensures part { result.part ≡ part }
+        ensures seat { result.seat ≡ seat }
+    {
+        LockedChannel {
+            number,
+            part,
+            seat,
+            of: PhantomData,
+        }
+    }
+
+    /// A part that is there is the channel's.
+    pub fn always(&self)
+        ensures { IsOfChannel K.ChannelPort self.now.number self.now.part }
+    {
+        // the part keeps it by the fact of what lies behind the lock, so there is nothing to do
+        let _ = &self.seat;
+    }
+}
