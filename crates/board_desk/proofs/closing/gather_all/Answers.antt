@@ -40,12 +40,18 @@ returns g c =
     let lent = c.lend_out-rest.ensures in
     let recorded = c.new.ensures in
     record {
-      front = ap (λ r. r.running.front) recorded ∙ sym made.front ∙ ap (λ v. v.split.front) lent.view;
-      terms = ap (λ r. r.running.channels.terms) recorded ∙ sym made.terms ∙ lent.terms;
-      costs = ap (λ r. r.running.channels.costs) recorded ∙ sym made.costs ∙ lent.costs;
+      front = ap (λ r. r.running.front) recorded ∙ sym made.front ∙ ap (λ v. v.split.front) lent.view
+          ∙ c.take_slot-seven.ensures.same.front ∙ c.take_slot-six.ensures.same.front ∙ c.take_slot-five.ensures.same.front ∙ c.take_slot-four.ensures.same.front ∙ c.take_slot-three.ensures.same.front ∙ c.take_slot-two.ensures.same.front ∙ c.take_slot-one.ensures.same.front ∙ c.take_slot-zero.ensures.same.front;
+      terms = ap (λ r. r.running.channels.terms) recorded ∙ sym made.terms ∙ lent.terms
+          ∙ c.take_slot-seven.ensures.same.terms ∙ c.take_slot-six.ensures.same.terms ∙ c.take_slot-five.ensures.same.terms ∙ c.take_slot-four.ensures.same.terms ∙ c.take_slot-three.ensures.same.terms ∙ c.take_slot-two.ensures.same.terms ∙ c.take_slot-one.ensures.same.terms ∙ c.take_slot-zero.ensures.same.terms;
+      costs = ap (λ r. r.running.channels.costs) recorded ∙ sym made.costs ∙ lent.costs
+          ∙ c.take_slot-seven.ensures.same.costs ∙ c.take_slot-six.ensures.same.costs ∙ c.take_slot-five.ensures.same.costs ∙ c.take_slot-four.ensures.same.costs ∙ c.take_slot-three.ensures.same.costs ∙ c.take_slot-two.ensures.same.costs ∙ c.take_slot-one.ensures.same.costs ∙ c.take_slot-zero.ensures.same.costs;
       ports = ap (λ r. r.running.channels.ports.items) recorded ∙ sym (ap (λ ports. ports.items) made.ports) ∙ lent.ports
           ∙ (λ i. c.take_slot-zero.ensures.port i ++ (c.take_slot-one.ensures.port i ++ (c.take_slot-two.ensures.port i ++ (c.take_slot-three.ensures.port i ++ (c.take_slot-four.ensures.port i ++ (c.take_slot-five.ensures.port i ++ (c.take_slot-six.ensures.port i ++ (c.take_slot-seven.ensures.port i ++ []))))))));
-      device = ap (λ r. r.device) recorded ∙ c.gather.ensures.device ∙ lent.device;
-      energy = ap (λ r. r.energy) recorded ∙ c.gather.ensures.energy ∙ lent.energy;
-      history = ap (λ r. r.history) recorded ∙ c.gather.ensures.history ∙ ap (λ v. v.history) lent.view;
+      device = ap (λ r. r.device) recorded ∙ c.gather.ensures.device ∙ lent.device
+          ∙ c.take_slot-seven.ensures.same.device ∙ c.take_slot-six.ensures.same.device ∙ c.take_slot-five.ensures.same.device ∙ c.take_slot-four.ensures.same.device ∙ c.take_slot-three.ensures.same.device ∙ c.take_slot-two.ensures.same.device ∙ c.take_slot-one.ensures.same.device ∙ c.take_slot-zero.ensures.same.device;
+      energy = ap (λ r. r.energy) recorded ∙ c.gather.ensures.energy ∙ lent.energy
+          ∙ c.take_slot-seven.ensures.same.energy ∙ c.take_slot-six.ensures.same.energy ∙ c.take_slot-five.ensures.same.energy ∙ c.take_slot-four.ensures.same.energy ∙ c.take_slot-three.ensures.same.energy ∙ c.take_slot-two.ensures.same.energy ∙ c.take_slot-one.ensures.same.energy ∙ c.take_slot-zero.ensures.same.energy;
+      history = ap (λ r. r.history) recorded ∙ c.gather.ensures.history ∙ ap (λ v. v.history) lent.view
+          ∙ c.take_slot-seven.ensures.same.history ∙ c.take_slot-six.ensures.same.history ∙ c.take_slot-five.ensures.same.history ∙ c.take_slot-four.ensures.same.history ∙ c.take_slot-three.ensures.same.history ∙ c.take_slot-two.ensures.same.history ∙ c.take_slot-one.ensures.same.history ∙ c.take_slot-zero.ensures.same.history;
     }
