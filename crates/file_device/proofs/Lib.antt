@@ -1,0 +1,2 @@
+mod FlagRows
+mod Backing
