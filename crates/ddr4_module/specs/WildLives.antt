@@ -1,11 +1,7 @@
--- A life with a device that fails at will and a gauge that answers at will, and what a restore finds after a stop at any moment of it.
+-- A life with any device and any gauge, and what a restore finds after a stop at any moment of it.
 use Rattle.std.specs.Prelude.{◌≡◌, ◌<◌, ℕ, List, [], ◌++◌}
 use Rattle.energy_budget.specs.Gauge.{Gauge}
-use Rattle.save_device.specs.declared.fuse.Fuse.{Fuse}
-use Rattle.save_device.specs.declared.memory.MemoryDevice.{MemoryDevice}
-use Rattle.save_device.specs.declared.one_fault.OneFault.{OneFault}
-use Rattle.save_device.specs.Device.{DeviceState, LeavesOnly, MayLeave, present, with_calls}
-use Rattle.save_device.specs.Memory.{state_of}
+use Rattle.save_device.specs.Device.{DeviceState, LeavesOnly, MayLeave, present}
 use Rattle.save_image.specs.Image.{Image}
 use Rattle.slot_store.specs.declared.slots.Slot.{Slot}
 use Rattle.slot_store.specs.Outcomes.{Found, restored}
@@ -15,10 +11,6 @@ use Rattle.nv_machine.specs.declared.events.Reply.{Reply}
 use Rattle.nv_machine.specs.State.{Setup}
 use Rattle.nv_machine.specs.Lives.{Lived, IsLived, IsLeftAt, moments_since, unanswered_event}
 use Rattle.nv_machine.specs.Survival.{IsSurvived}
-
--- a device in memory behind a fuse, and that behind a fault of one call
-abbrev pub frail_state : OneFault (Fuse MemoryDevice) → DeviceState
-frail_state frail = with_calls (state_of frail.device.device) frail.calls
 
 -- a work names one of so many channels
 abbrev pub WorksWithin : ℕ → Event → Type 0
