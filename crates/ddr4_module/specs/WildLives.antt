@@ -8,6 +8,7 @@ use Rattle.slot_store.specs.Outcomes.{Found, restored}
 use Rattle.nv_machine.specs.declared.events.Event.{Event}
 use Rattle.nv_machine.specs.declared.events.Event.TheVariants as events
 use Rattle.nv_machine.specs.declared.events.Reply.{Reply}
+use Rattle.nv_machine.specs.Headline.{Run}
 use Rattle.nv_machine.specs.State.{Setup}
 use Rattle.nv_machine.specs.Lives.{Lived, IsLived, IsLeftAt, moments_since, unanswered_event}
 use Rattle.nv_machine.specs.Survival.{IsSurvived}
@@ -40,12 +41,14 @@ pub record IsFrontOf (events : List Event) (replies : List Reply) (life : Lived)
   pub parts : events ≡ life.events ++ unanswered_event life.unanswered ++ rest
   pub told : replies ≡ life.replies ++ untold
 
--- A stop among these events left these bytes. They end a life that began so, and a restore of them finds what survives of it.
+-- A stop among these events left these bytes. They end a life that began so, with one gauge, and a restore of them finds what survives
+-- of it.
 pub record OutlivesStop (from : Beginning) (events : List Event) (replies : List Reply) (bytes : List ℕ) : Type 0 where
   pub life : Lived
   pub began : BeganWith from life
   pub front : IsFrontOf events replies life
   pub left : life.bytes ≡ bytes
+  pub run : Run life.setup life.events life.replies life.first life.last
   pub lived : IsLived life
   pub survived : IsSurvived life []
 

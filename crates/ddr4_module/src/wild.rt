@@ -32,7 +32,7 @@ fn capacity_of(checked: &Checked) -> usize
 /// **Whatever a stop leaves, at any moment of the life, even within a device write: a restore finds the memory after a prefix of
 /// the accepted writes. Complete, it holds each write that was acknowledged persistent; and where it isn't complete there is a
 /// cause.** That is the headline's half that no honest gauge is needed for. No premise speaks of what an event comes to: nothing but
-/// the calls of these parts is taken, as their traits say.
+/// the calls of these parts is taken, as their traits say. The other half holds as well, of the run that is told beside.
 ///
 /// A refusal is that of a restore, `Memory` also where there was none for the module or for its replies. It changes no byte of the
 /// device, and asks nothing of the gauge.

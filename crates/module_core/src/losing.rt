@@ -161,8 +161,9 @@ impl<K: ChannelPort> Module<K> {
     /// nothing is written. Where all is saved, the energy that is kept for a closing save is no less than what the commands and
     /// the clocks of its drains and the steps of its save cost.
     ///
-    /// **With an honest gauge and a device that has counted no fault since the life began, the answer is `Saved` with all
-    /// accepted writes, and a restore finds them all, complete.**
+    /// **With a gauge that has been honest since the life began, and a device that was spared, which has failed in this loss no
+    /// more often than its calls may be made again, the answer is `Saved` with all accepted writes, and a restore finds them all,
+    /// complete. What failed before, in ordinary saves and in arm calls, doesn't matter.**
     pub fn power_loss<D: SaveDevice, E: Energy>(&mut self, device: &mut D, energy: &mut E) -> Loss
         requires size { HasDevice K.ChannelPort self.old (D.state device.old) }
         ensures answers { Answers K.ChannelPort Event.Lose (Reply.Lose result)
@@ -191,7 +192,7 @@ impl<K: ChannelPort> Module<K> {
     /// gate is asked before each drain, by the channel's number, and again while it says Hold; Stop counts as Go. Where the
     /// payment of the drains is refused no command is issued.
     ///
-    /// **An honest gauge and a device without a fault are enough for the same as at `power_loss`.**
+    /// **An honest gauge and a device that was spared are enough for the same as at `power_loss`.**
     pub fn power_loss_with<D, E, G, R>(
         &mut self,
         rt: &R,

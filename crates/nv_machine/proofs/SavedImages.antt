@@ -12,6 +12,7 @@ use Rattle.nv_machine.proofs.Common.{List, [], ap, false, inl, inr, refl, subst,
 use Rattle.std.specs.Prelude.{◌⊎◌}
 use Rattle.nv_machine.proofs.Guarded.{newest_alone}
 use Rattle.nv_machine.proofs.Proceeding.{Proceeds, stepped_goes, torn_goes}
+use Rattle.energy_budget.specs.Charging.{RisesTo}
 use Rattle.nv_machine.proofs.StoppedLives.{StopsRecover, left_along}
 
 module _ (slot : Slot) (newest made : Image) where
@@ -140,7 +141,7 @@ module _ (setup : Setup) (events : List Event) (replies : List Reply) (old new :
 
   pub left_between : StopsWithin (λ bytes. IsOldOrNew old.machine (restored setup.shape.lines bytes)) (present new.device)
   left_between bytes left =
-      let recovers : StopsRecover setup new = left_along setup events replies run.0 new run.2 run.1.happens.at_end in
+      let recovers : StopsRecover setup new = left_along RisesTo setup events replies run.0 new run.2 run.1.happens.at_end in
       finds old.machine.store.maybe.slot (newest_of old.machine) (made_of (is_armed old.machine.mode) old.machine) new.machine.store stage (restored setup.shape.lines bytes) (recovers bytes left).among
 
   pub left_within_next : (last : World) (event : Event) (reply : Reply) → HappensNext setup event reply new last → DisturbsNoSave event reply
