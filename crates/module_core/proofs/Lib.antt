@@ -25,3 +25,4 @@ pub mod AnyGauges
 pub mod HonestCalls
 pub mod DrainedModules
 pub mod ConcludedLosses
+pub mod WhereDrained
