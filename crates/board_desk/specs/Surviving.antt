@@ -1,5 +1,6 @@
 -- What a stop leaves of what lies behind a board's lock.
 use Rattle.std.specs.Prelude.{◌≡◌}
+use Rattle.energy_budget.specs.Charging.{RisesTo}
 use Rattle.nv_machine.specs.State.{Machine}
 use Rattle.nv_machine.specs.StoppedRuns.{SurvivesStops}
 use Rattle.channel_locks.specs.declared.parts_name.PartsName.{Ghosts as PartsGhosts}
@@ -12,4 +13,4 @@ module _ {B : Type 0} (P : PartsGhosts B) where
     pub machine : Machine
     pub stands : DeskStands P desk machine
     pub began : stands.lived.image.memory ≡ P.base
-    pub survives : SurvivesStops (setup_at P desk) (world_at desk machine) stands.lived
+    pub survives : SurvivesStops RisesTo (setup_at P desk) (world_at desk machine) stands.lived

@@ -20,7 +20,7 @@ use save_device::SaveDevice;
 
 /// What lies behind the board's lock is in a life, whatever the channels did since under their own locks: some events led from a
 /// machine that was new to one for which the desk stands, and whatever a stop leaves of the device now ends this life. Where
-/// neither gauge nor device has counted a fault since it began, the gauge backs what was acknowledged.
+/// the gauge has been honest since it began, and the device was spared, the gauge backs what was acknowledged.
 pub fn desks_keep_lives<K: ChannelPort, D: SaveDevice, E: Energy, B: BoardName + PartsName>()
     ensures { (desk : Desk K D E B K.ChannelPort D.SaveDevice E.Energy B.BoardName.own
         B.PartsName.own)

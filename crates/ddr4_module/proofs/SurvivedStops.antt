@@ -28,6 +28,7 @@ module _ {K : Type 0} (L : Ghosts K) where
         began = record { setup = refl; slot = refl; image = refl; device = refl; gauge = refl };
         front = record { rest = e.rest; untold = e.untold; parts = e.parts; told = e.told_are };
         left = refl;
+        run = e.run;
         lived = e.lived;
         survived = survived (module_life L found image e.front e.told old e.last e.unanswered bytes) [] e.lived;
       }

@@ -1,24 +1,17 @@
--- A life with a device that fails at will and a gauge that answers at will, and what a restore finds after a stop at any moment of it.
+-- A life with any device and any gauge, and what a restore finds after a stop at any moment of it.
 use Rattle.std.specs.Prelude.{◌≡◌, ◌<◌, ℕ, List, [], ◌++◌}
 use Rattle.energy_budget.specs.Gauge.{Gauge}
-use Rattle.save_device.specs.declared.fuse.Fuse.{Fuse}
-use Rattle.save_device.specs.declared.memory.MemoryDevice.{MemoryDevice}
-use Rattle.save_device.specs.declared.one_fault.OneFault.{OneFault}
-use Rattle.save_device.specs.Device.{DeviceState, LeavesOnly, MayLeave, present, with_calls}
-use Rattle.save_device.specs.Memory.{state_of}
+use Rattle.save_device.specs.Device.{DeviceState, LeavesOnly, MayLeave, present}
 use Rattle.save_image.specs.Image.{Image}
 use Rattle.slot_store.specs.declared.slots.Slot.{Slot}
 use Rattle.slot_store.specs.Outcomes.{Found, restored}
 use Rattle.nv_machine.specs.declared.events.Event.{Event}
 use Rattle.nv_machine.specs.declared.events.Event.TheVariants as events
 use Rattle.nv_machine.specs.declared.events.Reply.{Reply}
+use Rattle.nv_machine.specs.Headline.{Run}
 use Rattle.nv_machine.specs.State.{Setup}
 use Rattle.nv_machine.specs.Lives.{Lived, IsLived, IsLeftAt, moments_since, unanswered_event}
 use Rattle.nv_machine.specs.Survival.{IsSurvived}
-
--- a device in memory behind a fuse, and that behind a fault of one call
-abbrev pub frail_state : OneFault (Fuse MemoryDevice) → DeviceState
-frail_state frail = with_calls (state_of frail.device.device) frail.calls
 
 -- a work names one of so many channels
 abbrev pub WorksWithin : ℕ → Event → Type 0
@@ -48,12 +41,14 @@ pub record IsFrontOf (events : List Event) (replies : List Reply) (life : Lived)
   pub parts : events ≡ life.events ++ unanswered_event life.unanswered ++ rest
   pub told : replies ≡ life.replies ++ untold
 
--- A stop among these events left these bytes. They end a life that began so, and a restore of them finds what survives of it.
+-- A stop among these events left these bytes. They end a life that began so, with one gauge, and a restore of them finds what survives
+-- of it.
 pub record OutlivesStop (from : Beginning) (events : List Event) (replies : List Reply) (bytes : List ℕ) : Type 0 where
   pub life : Lived
   pub began : BeganWith from life
   pub front : IsFrontOf events replies life
   pub left : life.bytes ≡ bytes
+  pub run : Run life.setup life.events life.replies life.first life.last
   pub lived : IsLived life
   pub survived : IsSurvived life []
 

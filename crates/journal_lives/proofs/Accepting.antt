@@ -1,15 +1,15 @@
 -- The writes of a life are those that its replies accepted.
 use Rattle.nv_machine.specs.declared.events.Event.{Event}
 use Rattle.nv_machine.specs.declared.events.Reply.{Reply}
-use Rattle.nv_machine.specs.Headline.{paused}
-use Rattle.nv_machine.proofs.Common.{List, [], ap, sym, ◌++◌, ◌∙◌, ◌∷◌, ◌≡◌, append_assoc, append-nil, Write, IsGuarded, Run, added, Machine, Setup, World, IsLived, Lived}
+use Rattle.nv_machine.specs.Headline.{AnyRun, paused}
+use Rattle.nv_machine.proofs.Common.{List, [], ap, sym, ◌++◌, ◌∙◌, ◌∷◌, ◌≡◌, append_assoc, append-nil, Write, IsGuarded, added, Machine, Setup, World, IsLived, Lived}
 use Rattle.nv_machine.proofs.EachEvent.{guarded_event, event_keeps}
 use Rattle.nv_machine.proofs.Guarded.{guarded_cut}
 use Rattle.nv_machine.proofs.StoppedLives.{guarded_first}
 use Rattle.journal_lives.specs.Promise.{accepted_in}
 
 module _ (setup : Setup) where
-  run_adds : (events : List Event) (replies : List Reply) (old new : World) → Run setup events replies old new → IsGuarded old.machine
+  run_adds : (events : List Event) (replies : List Reply) (old new : World) → AnyRun setup events replies old new → IsGuarded old.machine
       → new.machine.life.writes ≡ old.machine.life.writes ++ accepted_in events replies
   run_adds [] [] old new run guarded = rw run.is (sym (append-nil old.machine.life.writes))
   run_adds (event ∷ events) (reply ∷ replies) old new run guarded =

@@ -1,8 +1,8 @@
 -- What an honest gauge is enough for in the calls of a module.
 use Rattle.std.proofs.Common.{All}
 use Rattle.std.proofs.lemmas.Bool.{or_from}
-use Rattle.std.proofs.lemmas.List.Elements.{All-cons, All-nil}
-use Rattle.save_device.specs.Device.{faults_of}
+use Rattle.std.proofs.lemmas.List.Elements.{All-append, All-cons, All-nil}
+use Rattle.save_device.specs.Device.{StopsWithin, faults_of, present}
 use Rattle.slot_store.specs.Rest.{only}
 use Rattle.slot_store.proofs.Resting.{found_only}
 use Rattle.arm_state.specs.declared.loss.Loss.{Loss}
@@ -14,21 +14,20 @@ use Rattle.nv_machine.specs.declared.events.Reply.TheVariants as reply
 use Rattle.nv_machine.specs.Losses.{LoseStep, SavesAll}
 use Rattle.nv_machine.specs.Machine.{MachineStep}
 use Rattle.nv_machine.specs.Guard.{is_broken_off, would_lose_acknowledged}
-use Rattle.nv_machine.specs.Headline.{IsBacked, IsHonest, Run, SavesAllWritten}
+use Rattle.nv_machine.specs.Headline.{IsBacked, IsHonest, RecoversAfterwards, Run, SavesAllWritten}
 use Rattle.nv_machine.specs.Honesty.{IsHonestAlong, SavesAllAlong}
 use Rattle.nv_machine.proofs.Backing.{not_backed}
 use Rattle.nv_machine.proofs.CountedFaults.{Counts, event_counts, honest_ends, run_counts}
 use Rattle.nv_machine.proofs.HonestRuns.{backed_along, saved_along, unbroken_along}
 use Rattle.nv_machine.proofs.SparedDevices.{spared_ends}
 use Rattle.slot_store.specs.declared.head.Head.{Head}
-use Rattle.module_core.specs.HonestCalls.{HoldsAll, IsFaultless, IsWholeLoss, SavesWhereHonest, StaysHonest, StaysWhereHonest}
+use Rattle.module_core.specs.HonestCalls.{HoldsAll, IsHonestSince, IsWholeLoss, SavesWhereHonest, StaysHonest, StaysWhereHonest, WasSpared}
 use Rattle.module_core.specs.InTurn.{AnswersCall, AnswersCalls}
 use Rattle.module_core.specs.ModuleLives.{HasAnswered, LifeSoFar}
 use Rattle.module_core.specs.Opening.{opened_with}
 use Rattle.module_core.specs.Stands.{EndsMains, RunsTo, world_of}
-use Rattle.module_core.proofs.Common.{[], ℕ, ◌++◌, ◌+◌, ◌∙◌, ◌∷◌, ◌≡◌, ◌≤◌, Assembly, ChannelsView, Event, Ghosts, Image, IsAmong, List, Machine, Module, Outcome, Reply, Setup, Store, World, ap, arith, false, is_backed, made_of, other, point_of, refl, restored, setup_of, subst, sym}
+use Rattle.module_core.proofs.Common.{[], ℕ, ◌++◌, ◌+◌, ◌∙◌, ◌∷◌, ◌≡◌, ◌≤◌, Assembly, ChannelsView, Event, Ghosts, Image, IsAmong, List, Machine, Module, ModuleStands, Outcome, Reply, Setup, Store, World, ap, arith, false, is_backed, made_of, other, point_of, refl, restored, setup_of, subst, sym}
 use Rattle.module_core.proofs.Applying.{same_setup}
-use Rattle.module_core.proofs.CallsInTurn.{answered_on}
 use Rattle.module_core.proofs.RunsOn.{run_worlds}
 
 lose_of : (setup : Setup) (event : Event) (lost : Loss) (old new : World) → MachineStep setup event (reply.Lose lost) old new → (order : DrainOrder) × LoseStep order setup lost old new
@@ -54,47 +53,98 @@ module _ {K : Type 0} (L : Ghosts K) where
   pub ended_setup : (reading : ℕ) (old new : Module K L) → EndsMains L reading old new → setup_of L new ≡ setup_of L old
   ended_setup reading old new ends = same_setup L old.channels new.channels old.front.terms new.front.terms (ap (λ (v : ChannelsView). v.shape) ends.channels.is) ends.numbers.terms
 
-  -- a life through which neither the gauge nor the device counted a fault
-  along : (found : Head) (image : Image) (events : List Event) (replies : List Reply) (old : Assembly L) (last : World) (run : Run (setup_of L old.it) events replies (world_of L old (opened_with found image)) last)
-      → IsHonestThrough (setup_of L old.it).shape.costs.numbers.leak old.gauge last.gauge → faults_of last.device ≡ faults_of old.device
-      → IsHonestAlong (setup_of L old.it) events replies (world_of L old (opened_with found image)) last run
-  along found image events replies old last run gauge device =
-      let first : World = world_of L old (opened_with found image) in
-      honest_ends (setup_of L old.it) events replies first last run gauge (spared_ends (setup_of L old.it) events replies first last run refl device)
+  -- what a life comes to through which the gauge was honest and the device spared
+  module _ (found : Head) (image : Image) (events : List Event) (replies : List Reply) (first now : Assembly L) (answered : HasAnswered L found image events replies first now)
+      (gauge : IsHonestSince L first now) (spared : WasSpared L found image events replies first now answered) where
+    abbrev setup : Setup
+    setup = setup_of L first.it
 
-  stays_honest : (found : Head) (image : Image) (events : List Event) (replies : List Reply) (old new : Assembly L) → HasAnswered L found image events replies old new → IsFaultless L old new
-      → StaysHonest L replies new
-  stays_honest found image events replies old new answered faultless =
-      let setup : Setup = setup_of L old.it in let m : Machine = opened_with found image in let first : World = world_of L old m in
-      let r : RunsTo L events replies old m new = answered.runs in
-      let last : World = world_of L new r.last in
-      let run : Run setup events replies first last = run_worlds L setup events replies (point_of L old m) (point_of L new r.last) r.run in
-      let honest = along found image events replies old last run faultless.gauge faultless.device in
-      let saves = saved_along setup events replies first last run honest (not_backed setup m old.gauge refl) in
-      let backed : IsBacked setup r.last new.gauge = backed_along setup events replies first last run honest (not_backed setup m old.gauge refl) in
-      let calm : is_broken_off r.last.lost ≡ false = unbroken_along setup events replies first last run answered.begins.guarded saves refl in
-      record {
-        backed = record { machine = r.last; stands = r.stands; backed = subst (λ (s : Setup). IsBacked s r.last new.gauge) (sym answered.setup) backed };
-        losses = whole_along setup events replies first last run saves;
-        kept = λ off bytes left.
-            let here = (r.left bytes left).recovers in
-            let unbacked : is_backed r.last.mode ≡ false = ap is_backed (sym r.stands.matches.front.mode) ∙ off in
-            let settled : would_lose_acknowledged r.last ≡ false = or_from (is_backed r.last.mode) (is_broken_off r.last.lost) unbacked calm in
-            record {
-              slot = here.slot;
-              image = here.image;
-              found = ap (λ (s : Setup). restored s.shape.lines bytes) answered.setup ∙ here.found;
-              holds = omega (arith, r.stands.matches.front.persisted, here.holds_all settled);
-            };
-      }
+    abbrev begun : World
+    begun = world_of L first (opened_with found image)
 
-  pub honest_life : (now : Assembly L) (so : LifeSoFar L now) → IsFaultless L so.first now → StaysHonest L so.replies now
-  honest_life now so = stays_honest so.found so.image so.events so.replies so.first now so.answered
+    abbrev here : World
+    here = world_of L now answered.runs.last
 
-  pub honest_calls : (events : List Event) (replies : List Reply) (old new : Assembly L) → AnswersCalls L events replies old new → StaysWhereHonest L replies old new
-  honest_calls events replies old new calls found image before told first answered faultless =
-      stays_honest found image (before ++ events) (told ++ replies) first new
-      (answered_on L found image before events told replies first old new answered calls) faultless
+    abbrev the_run : Run setup events replies begun here
+    the_run = spared.run
+
+    so_far : IsHonestAlong setup events replies begun here the_run
+    so_far = honest_ends setup events replies begun here the_run gauge spared.spared
+
+    saves_so_far : SavesAllAlong setup events replies begun here the_run
+    saves_so_far = saved_along setup events replies begun here the_run so_far (not_backed setup (opened_with found image) first.gauge refl)
+
+    backed_so_far : IsBacked (setup_of L now.it) answered.runs.last now.gauge
+    backed_so_far =
+        subst (λ (s : Setup). IsBacked s answered.runs.last now.gauge) (sym answered.setup)
+        (backed_along setup events replies begun here the_run so_far (not_backed setup (opened_with found image) first.gauge refl))
+
+    calm_so_far : is_broken_off answered.runs.last.lost ≡ false
+    calm_so_far = unbroken_along setup events replies begun here the_run answered.begins.guarded saves_so_far refl
+
+    whole_so_far : All IsWholeLoss replies
+    whole_so_far = whole_along setup events replies begun here the_run saves_so_far
+
+  -- the gauge of a life counts no fault until a later moment, so neither until an earlier one
+  counts_so_far : (found : Head) (image : Image) (events : List Event) (replies : List Reply) (first now : Assembly L) (answered : HasAnswered L found image events replies first now)
+      → Counts (world_of L first (opened_with found image)) (world_of L now answered.runs.last)
+  counts_so_far found image events replies first now answered =
+      run_counts (setup_of L first.it) events replies (world_of L first (opened_with found image)) (world_of L now answered.runs.last)
+      (run_worlds L (setup_of L first.it) events replies (point_of L first (opened_with found image)) (point_of L now answered.runs.last) answered.runs.run)
+
+  stays : (replies : List Reply) (now : Assembly L) (last : Machine) (setup : Setup) → ModuleStands L now.it now.device last → setup_of L now.it ≡ setup → IsBacked setup last now.gauge
+      → is_broken_off last.lost ≡ false → All IsWholeLoss replies → StopsWithin (λ bytes. RecoversAfterwards last (restored setup.shape.lines bytes)) (present now.device) → StaysHonest L replies now
+  stays replies now last setup stands same backed calm whole left = record {
+    backed = record { machine = last; stands = stands; backed = subst (λ (s : Setup). IsBacked s last now.gauge) (sym same) backed };
+    losses = whole;
+    kept = λ off bytes stop.
+        let here = (left bytes stop).recovers in
+        let unbacked : is_backed last.mode ≡ false = ap is_backed (sym stands.matches.front.mode) ∙ off in
+        let settled : would_lose_acknowledged last ≡ false = or_from (is_backed last.mode) (is_broken_off last.lost) unbacked calm in
+        record {
+          slot = here.slot;
+          image = here.image;
+          found = ap (λ (s : Setup). restored s.shape.lines bytes) same ∙ here.found;
+          holds = omega (arith, stands.matches.front.persisted, here.holds_all settled);
+        };
+  }
+
+  -- a device that has counted no fault was spared
+  pub faultless_spared : (found : Head) (image : Image) (events : List Event) (replies : List Reply) (first now : Assembly L) (answered : HasAnswered L found image events replies first now)
+      → faults_of now.device ≡ faults_of first.device → WasSpared L found image events replies first now answered
+  faultless_spared found image events replies first now answered same =
+      let begun : World = world_of L first (opened_with found image) in let here : World = world_of L now answered.runs.last in
+      let run : Run (setup_of L first.it) events replies begun here =
+      run_worlds L (setup_of L first.it) events replies (point_of L first (opened_with found image)) (point_of L now answered.runs.last) answered.runs.run in
+      record { run = run; spared = spared_ends (setup_of L first.it) events replies begun here run refl same }
+
+  pub honest_life : (now : Assembly L) (so : LifeSoFar L now) → IsHonestSince L so.first now → WasSpared L so.found so.image so.events so.replies so.first now so.answered → StaysHonest L so.replies now
+  honest_life now so gauge spared =
+      let a = so.answered in
+      let backed = backed_so_far so.found so.image so.events so.replies so.first now a gauge spared in
+      stays so.replies now a.runs.last (setup_of L now.it) a.runs.stands refl backed
+      (calm_so_far so.found so.image so.events so.replies so.first now a gauge spared)
+      (whole_so_far so.found so.image so.events so.replies so.first now a gauge spared)
+      (subst (λ (s : Setup). StopsWithin (λ bytes. RecoversAfterwards a.runs.last (restored s.shape.lines bytes)) (present now.device)) (sym a.setup) a.runs.left)
+
+  pub honest_calls : (events : List Event) (replies : List Reply) (old new : Assembly L) → AnswersCalls L events replies old new → StaysWhereHonest L events replies old new
+  honest_calls events replies old new calls found image before told first answered gauge was runs spared =
+      let s : Setup = setup_of L old.it in let mid : World = world_of L old answered.runs.last in let last : World = world_of L new runs.last in
+      let run : Run s events replies mid last = spared.run in
+      let counts = counts_so_far found image before told first old answered in let later : Counts mid last = run_counts s events replies mid last run in
+      let same : new.gauge.faults ≡ first.gauge.faults = gauge.faultless in
+      let until : IsHonestSince L first old = record { bounded = gauge.bounded; faultless = omega (arith, counts.gauge, later.gauge, same) } in
+      let leak : old.gauge.leak ≤ s.shape.costs.numbers.leak =
+      subst (λ (x : Setup). old.gauge.leak ≤ x.shape.costs.numbers.leak) (sym answered.setup) (let bounded = gauge.bounded in omega (arith, counts.leak, bounded)) in
+      let from : IsHonestThrough s.shape.costs.numbers.leak old.gauge new.gauge = record { bounded = leak; faultless = omega (arith, counts.gauge, later.gauge, same) } in
+      let honest : IsHonestAlong s events replies mid last run = honest_ends s events replies mid last run from spared.spared in
+      let backed : IsBacked s answered.runs.last old.gauge = backed_so_far found image before told first old answered until was in
+      let saves : SavesAllAlong s events replies mid last run = saved_along s events replies mid last run honest backed in
+      let calm : is_broken_off answered.runs.last.lost ≡ false = calm_so_far found image before told first old answered until was in
+      stays (told ++ replies) new runs.last s runs.stands calls.setup (backed_along s events replies mid last run honest backed)
+      (unbroken_along s events replies mid last run answered.runs.stands.guarded saves calm)
+      (All-append IsWholeLoss told replies (whole_so_far found image before told first old answered until was) (whole_along s events replies mid last run saves))
+      runs.left
 
   -- what a save of all accepted writes leaves
   finds_all : (order : DrainOrder) (setup : Setup) (generation count accepted : ℕ) (old new : World) → SavesAll order setup generation count old new → accepted ≡ (made_of false old.machine).count
@@ -105,24 +155,21 @@ module _ {K : Type 0} (L : Ghosts K) where
       record { slot = slot; image = made; found = found_only slot made outcome alone; count_is = sym all; complete = refl }
 
   pub honest_loss : (lost : Loss) (old new : Assembly L) → AnswersCall L event.Lose (reply.Lose lost) old new → SavesWhereHonest L lost old new
-  honest_loss lost mid new call found image events replies old answered faultless on =
-      let setup : Setup = setup_of L old.it in let m : Machine = opened_with found image in let first : World = world_of L old m in
-      let r : RunsTo L events replies old m mid = answered.runs in
+  honest_loss lost mid new call found image events replies old answered gauge was few on =
+      let r = answered.runs in let s : Setup = setup_of L mid.it in
       let middle : World = world_of L mid r.last in let next = call.answers r.last r.stands in let last : World = world_of L new next.0 in
-      let run : Run setup events replies first middle = run_worlds L setup events replies (point_of L old m) (point_of L mid r.last) r.run in
-      let before : Counts first middle = run_counts setup events replies first middle run in
-      let behind : Counts middle last = event_counts (setup_of L mid.it) event.Lose (reply.Lose lost) middle last next.2.happens.step in
-      let same : new.gauge.faults ≡ old.gauge.faults = faultless.gauge.faultless in
-      let spared : faults_of new.device ≤ faults_of mid.device + (setup_of L mid.it).shape.costs.retries = omega (arith, before.device, behind.device, faultless.device) in
-      let honest = along found image events replies old middle run
-      (record { bounded = faultless.gauge.bounded; faultless = omega (arith, before.gauge, behind.gauge, same) }) (omega (arith, before.device, behind.device, faultless.device)) in
-      let backed : IsBacked setup r.last mid.gauge = backed_along setup events replies first middle run honest (not_backed setup m old.gauge refl) in
-      let leak : mid.gauge.leak ≤ setup.shape.costs.numbers.leak = omega (arith, before.leak, faultless.gauge.bounded) in
-      let now : IsHonest (setup_of L mid.it) middle (reply.Lose lost) last = record {
-        gauge = record { bounded = subst (λ (s : Setup). mid.gauge.leak ≤ s.shape.costs.numbers.leak) (sym answered.setup) leak; faultless = omega (arith, before.gauge, behind.gauge, same) };
-        spared = spared;
+      let before = counts_so_far found image events replies old mid answered in
+      let behind : Counts middle last = event_counts s event.Lose (reply.Lose lost) middle last next.2.happens.step in
+      let same : new.gauge.faults ≡ old.gauge.faults = gauge.faultless in
+      let until : IsHonestSince L old mid = record { bounded = gauge.bounded; faultless = omega (arith, before.gauge, behind.gauge, same) } in
+      let backed : IsBacked s r.last mid.gauge = backed_so_far found image events replies old mid answered until was in
+      let leak : mid.gauge.leak ≤ s.shape.costs.numbers.leak =
+      subst (λ (x : Setup). mid.gauge.leak ≤ x.shape.costs.numbers.leak) (sym answered.setup) (let bounded = gauge.bounded in omega (arith, before.leak, bounded)) in
+      let now : IsHonest s middle (reply.Lose lost) last = record {
+        gauge = record { bounded = leak; faultless = omega (arith, before.gauge, behind.gauge, same) };
+        spared = few;
       } in
-      let stays = next.2.happens.honest now (subst (λ (s : Setup). IsBacked s r.last mid.gauge) (sym answered.setup) backed) in
+      let stays = next.2.happens.honest now backed in
       let is : lost ≡ loss.Saved (made_of false r.last).generation (made_of false r.last).count = stays.saves (ap is_backed (sym r.stands.matches.front.mode) ∙ on) in
       let order : DrainOrder = next.2.happens.step.0 in
       let step : SavesAll order (setup_of L mid.it) (made_of false r.last).generation (made_of false r.last).count middle last =

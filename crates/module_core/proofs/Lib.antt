@@ -21,6 +21,8 @@ pub mod RunsOn
 pub mod CuttingRuns
 pub mod CallsInTurn
 pub mod ModulesLive
+pub mod AnyGauges
 pub mod HonestCalls
 pub mod DrainedModules
 pub mod ConcludedLosses
+pub mod WhereDrained

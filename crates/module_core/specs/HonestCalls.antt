@@ -13,10 +13,12 @@ use Rattle.channel_port.specs.declared.port.ChannelPort.{Ghosts}
 use Rattle.nv_machine.specs.declared.events.Event.{Event}
 use Rattle.nv_machine.specs.declared.events.Reply.{Reply}
 use Rattle.nv_machine.specs.declared.events.Reply.TheVariants as replies
-use Rattle.nv_machine.specs.State.{Machine}
-use Rattle.nv_machine.specs.Headline.{IsBacked}
+use Rattle.nv_machine.specs.State.{Machine, Setup, World}
+use Rattle.nv_machine.specs.Headline.{IsBacked, Run}
 use Rattle.slot_store.specs.declared.head.Head.{Head}
-use Rattle.module_core.specs.Stands.{Assembly, ModuleStands, lines_of_module, setup_of}
+use Rattle.nv_machine.specs.Honesty.{IsSparedAlong}
+use Rattle.module_core.specs.Opening.{opened_with}
+use Rattle.module_core.specs.Stands.{Assembly, ModuleStands, RunsTo, lines_of_module, setup_of, world_of}
 use Rattle.module_core.specs.ModuleLives.{HasAnswered}
 
 -- no closing save was broken off
@@ -40,11 +42,21 @@ pub record HoldsAll (count : ℕ) (outcome : Outcome) : Type 0 where
   pub count_is : image.count ≡ count
   pub complete : verdict_of image.arm image.count ≡ Complete
 
+-- A run of these events in which the device was spared: in a loss it failed no more often than its calls may be made again, and no
+-- call was made of a save that is stranded. Wherever else it failed, and how often, doesn't matter.
+pub record RunsSpared (setup : Setup) (events : List Event) (replies : List Reply) (old new : World) : Type 0 where
+  pub run : Run setup events replies old new
+  pub spared : IsSparedAlong setup events replies old new run
+
 module _ {K : Type 0} (L : Ghosts K) where
-  -- Since then neither the gauge nor the device has counted a fault, and the gauge's leak isn't above that of the costs.
-  pub record IsFaultless (old new : Assembly L) : Type 0 where
-    pub gauge : IsHonestThrough (setup_of L old.it).shape.costs.numbers.leak old.gauge new.gauge
-    pub device : faults_of new.device ≡ faults_of old.device
+  -- from one moment to the other the gauge has counted no fault, and its leak isn't above that of the costs
+  abbrev pub IsHonestSince : Assembly L → Assembly L → Type 0
+  IsHonestSince first now = IsHonestThrough (setup_of L first.it).shape.costs.numbers.leak first.gauge now.gauge
+
+  -- in the life so far, to a machine that the module stands for, the device was spared
+  abbrev pub WasSpared : (found : Head) (image : Image) (events : List Event) (replies : List Reply) (first now : Assembly L) → HasAnswered L found image events replies first now → Type 0
+  WasSpared found image events replies first now answered =
+      RunsSpared (setup_of L first.it) events replies (world_of L first (opened_with found image)) (world_of L now answered.runs.last)
 
   -- whatever a stop now leaves of the bytes restores to what is so
   abbrev pub RestoresTo : (Outcome → Type 0) → Assembly L → Type 0
@@ -68,15 +80,20 @@ module _ {K : Type 0} (L : Ghosts K) where
     pub answered : lost ≡ loss.Saved (old.it.front.saves.newest.generation + 1) old.it.front.accepted
     pub restores : RestoresTo (HoldsAll old.it.front.accepted) new
 
-  -- Where neither has counted a fault since the beginning of the life, a loss of mains saves all while acknowledged writes are
-  -- to be saved.
+  -- A loss saves all while acknowledged writes are to be saved: where the gauge has been honest since the life began, through the loss
+  -- too, and the device was spared in its events, and has failed in the loss no more often than calls may be made again.
   abbrev pub SavesWhereHonest : Loss → Assembly L → Assembly L → Type 0
   SavesWhereHonest lost old new =
-      (found : Head) (image : Image) (before : List Event) (told : List Reply) (first : Assembly L) → HasAnswered L found image before told first old
-      → IsFaultless first new → is_backed old.it.front.mode ≡ true → SavesAllNow lost old new
+      (found : Head) (image : Image) (before : List Event) (told : List Reply) (first : Assembly L) (answered : HasAnswered L found image before told first old)
+      → IsHonestSince first new → WasSpared found image before told first old answered
+      → faults_of new.device ≤ faults_of old.device + (setup_of L old.it).shape.costs.retries
+      → is_backed old.it.front.mode ≡ true → SavesAllNow lost old new
 
-  -- the same of calls in turn: what was so far, and what they answer, stays honest
-  abbrev pub StaysWhereHonest : List Reply → Assembly L → Assembly L → Type 0
-  StaysWhereHonest replies old new =
-      (found : Head) (image : Image) (before : List Event) (told : List Reply) (first : Assembly L) → HasAnswered L found image before told first old
-      → IsFaultless first new → StaysHonest (told ++ replies) new
+  -- The same of calls in turn: what was so far, and what they answer, stays honest, where the gauge has been honest since the life
+  -- began, through them too, and the device was spared.
+  abbrev pub StaysWhereHonest : List Event → List Reply → Assembly L → Assembly L → Type 0
+  StaysWhereHonest events replies old new =
+      (found : Head) (image : Image) (before : List Event) (told : List Reply) (first : Assembly L) (answered : HasAnswered L found image before told first old)
+      → IsHonestSince first new → WasSpared found image before told first old answered → (runs : RunsTo L events replies old answered.runs.last new)
+      → RunsSpared (setup_of L old.it) events replies (world_of L old answered.runs.last) (world_of L new runs.last)
+      → StaysHonest (told ++ replies) new

@@ -15,5 +15,6 @@ pub mod Covering
 pub mod InTurn
 pub mod ModuleLives
 pub mod HonestCalls
+pub mod Draining
 pub mod Losing
 pub mod Rising

@@ -6,7 +6,9 @@ use Rattle.channel_port.specs.declared.port.ChannelPort.{Ghosts}
 use Rattle.nv_machine.specs.declared.events.Event.{Event}
 use Rattle.nv_machine.specs.declared.events.Reply.{Reply}
 use Rattle.nv_machine.specs.State.{Machine, World}
-use Rattle.nv_machine.specs.Headline.{Run}
+use Rattle.nv_machine.specs.Headline.{AnyGauge, AnyRun, Run}
+use Rattle.nv_machine.specs.StoppedRuns.{StopsAmong}
+use Rattle.nv_machine.specs.Survival.{IsSurvived}
 use Rattle.nv_machine.specs.Lives.{Unanswered, Lived, IsLived, IsLeftAt, moments_since, unanswered_event}
 use Rattle.slot_store.specs.declared.head.Head.{Head}
 use Rattle.module_core.specs.Opening.{opened_with}
@@ -43,10 +45,11 @@ module _ {K : Type 0} (L : Ghosts K) where
     bytes = bytes;
   }
 
-  -- A stop after the events ended a life, that of the machine which the module stood for.
+  -- A stop after the events ended a life, that of the machine which the module stood for. Here and below its calls had one gauge.
   pub record EndsAfterEvents (found : Head) (image : Image) (events : List Event) (replies : List Reply) (old new : Assembly L) (bytes : List ℕ) : Type 0 where
     pub last : Machine
     pub stands : ModuleStands L new.it new.device last
+    pub run : Run (setup_of L old.it) events replies (world_of L old (opened_with found image)) (world_of L new last)
     pub lived : IsLived (module_life found image events replies old (world_of L new last) None bytes)
 
   -- A stop within one event more ended it, and left the event unanswered.
@@ -55,6 +58,7 @@ module _ {K : Type 0} (L : Ghosts K) where
     pub last : Machine
     pub next : Machine
     pub stands : ModuleStands L new.it new.device last
+    pub run : Run (setup_of L old.it) events replies (world_of L old (opened_with found image)) (world_of L new last)
     pub lived : let unanswered : Unanswered = record { event = event; reply = reply; next = world_of L later next } in
         IsLived (module_life found image events replies old (world_of L new last) (Some unanswered) bytes)
 
@@ -70,6 +74,7 @@ module _ {K : Type 0} (L : Ghosts K) where
     pub parts : events ≡ front ++ unanswered_event unanswered ++ rest
     pub told_are : replies ≡ told ++ untold
     pub lived : IsLived (module_life found image front told old last unanswered bytes)
+    pub run : Run (setup_of L old.it) front told (world_of L old (opened_with found image)) last
     pub now : Machine
     pub stands : ModuleStands L new.it new.device now
     pub goes_on : Run (setup_of L old.it) (unanswered_event unanswered ++ rest) untold last (world_of L new now)
@@ -92,3 +97,16 @@ module _ {K : Type 0} (L : Ghosts K) where
   LivesEndAnywhere =
       (found : Head) (image : Image) (events : List Event) (replies : List Reply) (old new : Assembly L) → HasAnswered found image events replies old new
       → (bytes : List ℕ) → IsLeftAt (moments_since old.device new.device) bytes → EndsAmongEvents found image events replies old new bytes
+
+  -- A module that began with this image has answered these events since, each with whatever gauge it was handed.
+  pub record HasAnsweredByAny (found : Head) (image : Image) (events : List Event) (replies : List Reply) (old new : Assembly L) : Type 0 where
+    pub begins : ModuleStands L old.it old.device (opened_with found image)
+    pub last : Machine
+    pub stands : ModuleStands L new.it new.device last
+    pub run : AnyRun (setup_of L old.it) events replies (world_of L old (opened_with found image)) (world_of L new last)
+    pub setup : setup_of L new.it ≡ setup_of L old.it
+
+  -- A stop at some moment since then ended a life, which a restore survives.
+  pub record SurvivesByAny (found : Head) (image : Image) (events : List Event) (replies : List Reply) (old : Assembly L) (last : World) (bytes : List ℕ) : Type 0 where
+    pub stop : StopsAmong AnyGauge (setup_of L old.it) events replies (world_of L old (opened_with found image)) last bytes
+    pub survived : IsSurvived (module_life found image stop.front stop.told old stop.last stop.unanswered bytes) []

@@ -27,4 +27,4 @@ pub use module::Module;
 pub use opening::LifeTerms;
 pub use parts::TakenApart;
 pub use saves::Saves;
-pub use turns::{calls_in_turn, honest_modules};
+pub use turns::{any_gauges, calls_in_turn, honest_modules};

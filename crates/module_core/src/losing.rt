@@ -1,5 +1,5 @@
 // The loss of mains.
-ghost use Rattle.std.specs.Prelude.{◌≡◌, ◌≤◌, ◌^◌, [], false, true, None, Ok, IfNone, IfSome, OnOk};
+ghost use Rattle.std.specs.Prelude.{◌≡◌, ◌≤◌, ◌^◌, [], false, length, true, None, Ok, IfErr, IfNone, IfSome, OnOk};
 ghost use Rattle.energy_budget.specs.declared.costs.CostNumbers.{CostNumbers};
 ghost use Rattle.channel_set.specs.Carrying.{KeepsAll};
 ghost use Rattle.channel_set.specs.Draining.{cost_of_drains};
@@ -62,7 +62,9 @@ impl<K: ChannelPort> Module<K> {
 
 impl<K: ChannelPort> Module<K> {
     ghost use Rattle.module_core.specs.Closing.{ClosesDrained};
+    ghost use Rattle.module_core.specs.Draining.{WhereDrained};
     ghost use Rattle.module_core.specs.Losing.{BeginsLoss, ConcludesLoss, LosesAlone};
+    ghost use Rattle.slot_store.specs.declared.source.BrokenOff.TheVariants as broken;
     ghost use Rattle.module_core.specs.Fronts.{SameButSaves};
     ghost use Rattle.module_core.specs.Stands.{HasDevice, saved_after, setup_of, assembly};
 
@@ -72,6 +74,7 @@ impl<K: ChannelPort> Module<K> {
         ensures terms { self.new.front.terms ≡ self.old.front.terms }
         ensures unsaved { IfSome result (λ lost. saved_after (Reply.Lose lost) self.old.front.saved
             ≡ self.old.front.saved) }
+        ensures undrained { IfSome result (λ lost. WhereDrained lost ⊥) }
         ensures over { IfSome result (λ lost. LosesAlone K.ChannelPort lost
             self.old (E.gauge energy.old) self.new (E.gauge energy.new)) }
         ensures begins { IfNone result ((device : DeviceState) → BeginsLoss K.ChannelPort
@@ -106,6 +109,8 @@ impl<K: ChannelPort> Module<K> {
             (assembly self.old (D.state device.old) (E.gauge energy.old))
             (assembly self.new (D.state device.new) (E.gauge energy.new)) }
         ensures paid { OnOk result (drained ≡ Ok tt) }
+        ensures fault { IfErr result (λ cause. cause ≡ broken.Fault → drained ≡ Ok tt) }
+        ensures channels { self.new.channels ≡ self.old.channels }
         ensures none { self.new.front.saves.saving ≡ None }
         ensures same { SameButSaves self.old.front self.new.front }
         ensures keeps { KeepsAll K.ChannelPort self.old.channels self.new.channels }
@@ -131,6 +136,8 @@ impl<K: ChannelPort> Module<K> {
         ensures concludes { ConcludesLoss K.ChannelPort drained result
             (assembly self.old (D.state device.old) (E.gauge energy.old))
             (assembly self.new (D.state device.new) (E.gauge energy.new)) }
+        ensures paid { WhereDrained result (drained ≡ Ok tt) }
+        ensures channels { self.new.channels ≡ self.old.channels }
         ensures saved { self.new.front.saved ≡ saved_after (Reply.Lose result) self.old.front.saved }
         ensures terms { self.new.front.terms ≡ self.old.front.terms }
         ensures size { HasDevice K.ChannelPort self.new (D.state device.new) }
@@ -152,17 +159,21 @@ impl<K: ChannelPort> Module<K> {
 
 impl<K: ChannelPort> Module<K> {
     ghost use Rattle.module_core.specs.Covering.{IsCovered};
+    ghost use Rattle.module_core.specs.Draining.{AreDrainedFrom, WhereDrained};
     ghost use Rattle.module_core.specs.HonestCalls.{SavesWhereHonest};
     ghost use Rattle.module_core.specs.Losing.{LosesBy};
     ghost use Rattle.module_core.specs.Stands.{Answers, HasDevice, KeepsStored, setup_of, assembly};
+    ghost use Rattle.worker_gate.specs.Waiting.{AreAwaited};
 
     /// Mains were lost. Where acknowledged writes are to be saved, the channels are drained one after another and all accepted
     /// writes are saved, each action paid for first; a payment that is refused or a fault of the device breaks it off. Disarmed,
     /// nothing is written. Where all is saved, the energy that is kept for a closing save is no less than what the commands and
-    /// the clocks of its drains and the steps of its save cost.
+    /// the clocks of its drains and the steps of its save cost. Behind a loss whose drains were paid for each channel is as its own
+    /// drain leaves it, its list, its stage and its array.
     ///
-    /// **With an honest gauge and a device that has counted no fault since the life began, the answer is `Saved` with all
-    /// accepted writes, and a restore finds them all, complete.**
+    /// **With a gauge that has been honest since the life began, and a device that was spared, which has failed in this loss no
+    /// more often than its calls may be made again, the answer is `Saved` with all accepted writes, and a restore finds them all,
+    /// complete. What failed before, in ordinary saves and in arm calls, doesn't matter.**
     pub fn power_loss<D: SaveDevice, E: Energy>(&mut self, device: &mut D, energy: &mut E) -> Loss
         requires size { HasDevice K.ChannelPort self.old (D.state device.old) }
         ensures answers { Answers K.ChannelPort Event.Lose (Reply.Lose result)
@@ -172,6 +183,8 @@ impl<K: ChannelPort> Module<K> {
             (assembly self.old (D.state device.old) (E.gauge energy.old))
             (assembly self.new (D.state device.new) (E.gauge energy.new)) }
         ensures covered { IsCovered K.ChannelPort result self.old.channels }
+        ensures drained { WhereDrained result
+            (AreDrainedFrom K.ChannelPort self.old.channels self.new.channels) }
         ensures honest { SavesWhereHonest K.ChannelPort result
             (assembly self.old (D.state device.old) (E.gauge energy.old))
             (assembly self.new (D.state device.new) (E.gauge energy.new)) }
@@ -189,9 +202,9 @@ impl<K: ChannelPort> Module<K> {
     /// Mains were lost, as at `power_loss`. All drains are paid for at once before the first of them, and then the channels are
     /// drained at once, each in a thread of its own where one is to be had; the steps of the save are paid for one by one. The
     /// gate is asked before each drain, by the channel's number, and again while it says Hold; Stop counts as Go. Where the
-    /// payment of the drains is refused no command is issued.
+    /// payment of the drains is refused no command is issued. Each channel is left as at `power_loss`.
     ///
-    /// **An honest gauge and a device without a fault are enough for the same as at `power_loss`.**
+    /// **An honest gauge and a device that was spared are enough for the same as at `power_loss`.**
     pub fn power_loss_with<D, E, G, R>(
         &mut self,
         rt: &R,
@@ -213,6 +226,10 @@ impl<K: ChannelPort> Module<K> {
             (assembly self.old (D.state device.old) (E.gauge energy.old))
             (assembly self.new (D.state device.new) (E.gauge energy.new)) }
         ensures covered { IsCovered K.ChannelPort result self.old.channels }
+        ensures drained { WhereDrained result
+            (AreDrainedFrom K.ChannelPort self.old.channels self.new.channels) }
+        ensures asked { WhereDrained result
+            (AreAwaited G.Gate gate.now 0 (length self.old.channels.ports.items)) }
         ensures honest { SavesWhereHonest K.ChannelPort result
             (assembly self.old (D.state device.old) (E.gauge energy.old))
             (assembly self.new (D.state device.new) (E.gauge energy.new)) }

@@ -50,8 +50,9 @@ impl<K: ChannelPort> Module<K> {
     /// **The replies and the last state are a run of the machine**, at each moment of which a stop leaves what the machine
     /// says, whatever the device does; and after the last event the device's bytes restore to one of the machine's images.
     ///
-    /// **With an honest gauge and a device that has counted no fault since the life began, no closing save was broken off; and
-    /// where no acknowledged write is still to be saved, a stop now leaves them all.**
+    /// **With a gauge that has been honest since the life began, and a device that was spared, which fails in no loss more often
+    /// than its calls may be made again, no closing save was broken off; and where no acknowledged write is still to be saved, a
+    /// stop now leaves them all.**
     pub fn run<D: SaveDevice, E: Energy>(
         &mut self,
         alloc: Global,
@@ -68,7 +69,7 @@ impl<K: ChannelPort> Module<K> {
             (assembly self.old (D.state device.old) (E.gauge energy.old))
             (assembly self.new (D.state device.new) (E.gauge energy.new))) }
         ensures cut { IfOk result (λ replies. self.new.front.terms.cut ≡ self.new.front.saved) }
-        ensures honest { IfOk result (λ replies. StaysWhereHonest K.ChannelPort replies.items
+        ensures honest { IfOk result (λ replies. StaysWhereHonest K.ChannelPort events.now replies.items
             (assembly self.old (D.state device.old) (E.gauge energy.old))
             (assembly self.new (D.state device.new) (E.gauge energy.new))) }
         ensures setup { setup_of K.ChannelPort self.new ≡ setup_of K.ChannelPort self.old }

@@ -3,17 +3,17 @@ use Rattle.std.specs.Prelude.{◌⊎◌}
 use Rattle.std.proofs.lemmas.List.Elements.{All-head}
 use Rattle.slot_store.specs.Outcomes.{restored}
 use Rattle.nv_machine.specs.Causes.{HasCauseSince, HasOwnCause, HasOwnCauseAt, OpenedWith}
-use Rattle.nv_machine.specs.Headline.{Happens, paused}
+use Rattle.nv_machine.specs.Headline.{AnyRun, Happens, paused}
 use Rattle.nv_machine.specs.Lives.{Unanswered, last_life}
 use Rattle.nv_machine.specs.Survival.{HasCauseAt}
-use Rattle.nv_machine.proofs.Common.{List, [], ap, inl, inr, refl, sym, ⊎_elim, ◌∙◌, ◌∷◌, ◌≡◌, ◌≢◌, All-cons, All-nil, Found, ForSome, Image, None, Option, Slot, Some, AreChained, HasCause, IsGuarded, IsLived, Lived, Machine, Run, Setup, World, Event, Reply}
+use Rattle.nv_machine.proofs.Common.{List, [], ap, inl, inr, refl, sym, ⊎_elim, ◌∙◌, ◌∷◌, ◌≡◌, ◌≢◌, All-cons, All-nil, Found, ForSome, Image, None, Option, Slot, Some, AreChained, HasCause, IsGuarded, IsLived, Lived, Machine, Setup, World, Event, Reply}
 use Rattle.nv_machine.proofs.EachEvent.{guarded_event, event_keeps}
 use Rattle.nv_machine.proofs.Guarded.{guarded_cut}
 use Rattle.nv_machine.proofs.StoppedLives.{guarded_first, recovered}
 use Rattle.nv_machine.proofs.History.{last_is}
 
 -- the last machine of a run keeps its promises
-guarded_along : (setup : Setup) (events : List Event) (replies : List Reply) (old new : World) → Run setup events replies old new → IsGuarded old.machine → IsGuarded new.machine
+guarded_along : (setup : Setup) (events : List Event) (replies : List Reply) (old new : World) → AnyRun setup events replies old new → IsGuarded old.machine → IsGuarded new.machine
 guarded_along setup [] [] old new run guarded = rw run.is (guarded_cut old.machine new.machine.cut run.may.cut guarded)
 guarded_along setup (event ∷ events) (reply ∷ replies) old new run guarded =
     guarded_along setup events replies run.0 new run.2 (guarded_event setup event reply (paused run.1.pause old) run.0 run.1.happens.step (guarded_cut old.machine run.1.pause.cut run.1.may.cut guarded))

@@ -2,14 +2,15 @@
 use Rattle.std.proofs.lemmas.List.{length-take-le}
 use Rattle.std.proofs.lemmas.List.Sums.{fold-append}
 use Rattle.line_memory.specs.Memory.{after_write, memory_at}
+use Rattle.nv_machine.specs.Headline.{AnyGauge}
 use Rattle.nv_machine.specs.Lives.{LeadsTo, history_before, kept_writes, last_opened}
 use Rattle.nv_machine.proofs.Common.{List, [], ap, arith, length, refl, sym, ℕ, ◌++◌, ◌+◌, ◌-◌, ◌∙◌, ◌∷◌, ◌≡◌, ◌≤◌, length-append, after, Write, Image, Found, IsPrefix, AreChained, IsLived, Lived, Machine}
-use Rattle.nv_machine.proofs.RisingMarks.{run_rises}
+use Rattle.nv_machine.proofs.RisingMarks.{run_rises_by}
 use Rattle.nv_machine.proofs.StoppedLives.{guarded_first, recovered}
 
 -- at its end a life has what it was opened with
 pub last_is : (life : Lived) → IsLived life → life.last.machine.life.opened ≡ life.image
-last_is life lived = (run_rises life.setup life.events life.replies life.first life.last lived.run (guarded_first life lived)).opened ∙ ap (λ (m : Machine). m.life.opened) lived.begins
+last_is life lived = (run_rises_by AnyGauge life.setup life.events life.replies life.first life.last lived.run (guarded_first life lived)).opened ∙ ap (λ (m : Machine). m.life.opened) lived.begins
 
 -- an image of a prefix of a life's writes is the memory after those of them that it holds
 module _ (life : Lived) (lived : IsLived life) (image : Image) (prefix : IsPrefix life.last.machine image) where

@@ -6,13 +6,34 @@ use Rattle.slot_store.specs.Outcomes.{restored}
 use Rattle.slot_store.specs.Rest.{Candidates, IsAmong, IsSaved, only, rearmed}
 use Rattle.slot_store.specs.Slots.{other}
 use Rattle.nv_machine.specs.Headline.{HappensNext, MayFindMeanwhile, paused}
-use Rattle.nv_machine.specs.SavedImages.{DisturbNoSave, DisturbsNoSave, IsOldOrNew, IsUnsaving}
+use Rattle.nv_machine.specs.SavedImages.{DisturbNoSave, DisturbsNoSave, IsOldOr, IsOldOrNew, IsSavingOver, IsUnsaving}
 use Rattle.nv_machine.specs.declared.events.StepReply.{StepReply}
-use Rattle.nv_machine.proofs.Common.{List, [], ap, false, inl, inr, refl, subst, sym, ⊎_elim, ◌∙◌, ◌∷◌, ◌≡◌, Err, Found, ForSome, Image, IsGuarded, MachineStep, None, Ok, Option, Outcome, Run, RunningSave, Setup, Slot, Some, Step, Store, World, is_armed, made_of, marks, newest_of, Machine, Event, Reply}
-use Rattle.std.specs.Prelude.{◌⊎◌}
+use Rattle.nv_machine.proofs.Common.{Bool, List, [], ap, arith, disarming, false, if◌then◌else◌, inl, inr, refl, subst, sym, ⊎_elim, ◌∙◌, ◌∷◌, ◌≡◌, Err, Found, Gauge, GaugeCall, Mode, ReadsLevel, ForSome, Image, IsGuarded, MachineStep, None, Ok, Option, Outcome, Run, RunningSave, Setup, Slot, Some, Step, Store, World, is_armed, is_low, read_as, reads_gauge, true, ℕ, made_of, marks, newest_of, Machine, Event, Reply}
+use Rattle.std.specs.Prelude.{◌⊎◌, MatchBool}
+use Rattle.arm_state.specs.declared.refusal.ArmRefusal.{ArmRefusal}
+use Rattle.arm_state.specs.declared.refusal.ArmReply.{ArmReply}
+use Rattle.arm_state.specs.declared.refusal.DisarmReply.{DisarmReply}
+use Rattle.nv_machine.specs.Machine.{SenseStep}
+use Rattle.nv_machine.specs.Moves.{sensed}
 use Rattle.nv_machine.proofs.Guarded.{newest_alone}
 use Rattle.nv_machine.proofs.Proceeding.{Proceeds, stepped_goes, torn_goes}
+use Rattle.energy_budget.specs.Charging.{RisesTo}
 use Rattle.nv_machine.proofs.StoppedLives.{StopsRecover, left_along}
+
+-- a reading that leaves the mode leaves the store
+unturned : (setup : Setup) (level : ℕ) (old : Machine) (before : Gauge) (new : Machine) (after : Gauge) → SenseStep setup level old before new after → new.mode ≡ old.mode → new.store ≡ old.store
+unturned setup level old before new after done same = by_mode (reads_gauge old.mode) refl done
+  where
+    read : (b : Bool) → is_low setup (read_as level old) ≡ b → new ≡ (if b then disarming (read_as level old) else read_as level old) → new.store ≡ old.store
+    read true low is =
+        let off : old.mode ≡ Mode.Disarming = sym same ∙ ap (λ (m : Machine). m.mode) is in
+        let on : is_armed old.mode ≡ true = grind arith in
+        absurd (let bad : ⊥ = cc (off, on) in bad)
+    read false high is = ap (λ (m : Machine). m.store) is
+
+    by_mode : (b : Bool) → reads_gauge old.mode ≡ b → MatchBool b (ReadsLevel GaugeCall.Sense before level after × (new ≡ sensed setup (read_as level old))) ((level ≡ old.reading) × (new ≡ old) × (after ≡ before)) → new.store ≡ old.store
+    by_mode true asks done = read (is_low setup (read_as level old)) refl done.1
+    by_mode false asks done = ap (λ (m : Machine). m.store) done.1
 
 module _ (slot : Slot) (newest made : Image) where
   -- The save runs: the old image stands, and in the other slot none, or the new one.
@@ -73,7 +94,7 @@ module _ (slot : Slot) (newest made : Image) where
       inr (record { is = is ∙ ap (λ (i : Image). only (other old.maybe.slot) i) makes ∙ ap (λ (s : Slot). only (other s) made) there; idle = idle })
   ended old new save runs is idle (inr e) = absurd (let bad : ⊥ = cc (e.idle, runs) in bad)
 
-  goes_on : (setup : Setup) (event : Event) (reply : Reply) (old new : World) → MachineStep setup event reply old new → DisturbsNoSave event reply → Stage old.machine.store → Stage new.machine.store
+  goes_on : (setup : Setup) (event : Event) (reply : Reply) (old new : World) → MachineStep setup event reply old new → DisturbsNoSave event reply old.machine.mode new.machine.mode → Stage old.machine.store → Stage new.machine.store
   goes_on setup (Event.Write write) (Reply.Write (Ok accepted)) old new done calm stage = same_store old.machine new.machine (ap (λ (m : Machine). m.store) done.1.1.is) stage
   goes_on setup (Event.Write write) (Reply.Write (Err refusal)) old new done calm stage = same_store old.machine new.machine (ap (λ (m : Machine). m.store) done.1.1) stage
   goes_on setup (Event.Read line) (Reply.Read (Ok got)) old new done calm stage = same_store old.machine new.machine (ap (λ (m : Machine). m.store) done.1.2) stage
@@ -91,30 +112,40 @@ module _ (slot : Slot) (newest made : Image) where
       ended old.machine.store new.machine.store done.0 done.1.runs (ap (λ (m : Machine). m.store.maybe) done.6.3) (ap (λ (m : Machine). m.store.saving) done.6.3) stage
   goes_on setup Event.SaveStep (Reply.SaveStep StepReply.Turned) old new done none stage = absurd none
   goes_on setup Event.SaveStep (Reply.SaveStep StepReply.Fault) old new done none stage = absurd none
-  goes_on setup Event.Sense reply old new done none stage = absurd none
-  goes_on setup Event.Arm reply old new done none stage = absurd none
-  goes_on setup Event.Disarm reply old new done none stage = absurd none
-  goes_on setup Event.SaveBegin reply old new done none stage = absurd none
+  goes_on setup Event.Sense (Reply.Sense level) old new done calm stage = same_store old.machine new.machine (unturned setup level old.machine old.gauge new.machine new.gauge done.1 calm) stage
+  goes_on setup Event.Arm (Reply.Arm (Ok ArmReply.AlreadyArmed)) old new done calm stage = same_store old.machine new.machine (ap (λ (w : World). w.machine.store) done.1) stage
+  goes_on setup Event.Arm (Reply.Arm (Ok ArmReply.Armed)) old new done none stage = absurd none
+  goes_on setup Event.Arm (Reply.Arm (Err ArmRefusal.Device)) old new done none stage = absurd none
+  goes_on setup Event.Arm (Reply.Arm (Err (ArmRefusal.NeedEnergy need has))) old new done calm stage = same_store old.machine new.machine (ap (λ (w : World). w.machine.store) done.is) stage
+  goes_on setup Event.Arm (Reply.Arm (Err refusal)) old new done calm stage = same_store old.machine new.machine (ap (λ (w : World). w.machine.store) done.2) stage
+  goes_on setup Event.Disarm (Reply.Disarm (Ok DisarmReply.AlreadyDisarmed)) old new done calm stage = same_store old.machine new.machine (ap (λ (m : Machine). m.store) done.1.1) stage
+  goes_on setup Event.Disarm (Reply.Disarm (Ok DisarmReply.Disarming)) old new done none stage = absurd none
+  goes_on setup Event.Disarm (Reply.Disarm (Err refusal)) old new done calm stage = same_store old.machine new.machine (ap (λ (m : Machine). m.store) done.1.1) stage
+  goes_on setup Event.SaveBegin (Reply.SaveBegin (Ok begins)) old new done none stage = absurd none
+  goes_on setup Event.SaveBegin (Reply.SaveBegin (Err refusal)) old new done calm stage = same_store old.machine new.machine (ap (λ (m : Machine). m.store) done.1.1) stage
   goes_on setup Event.Lose reply old new done none stage = absurd none
   goes_on setup event reply old new none calm stage = absurd none
 
-  goes_along : (setup : Setup) (events : List Event) (replies : List Reply) (old new : World) → Run setup events replies old new → DisturbNoSave events replies → Stage old.machine.store → Stage new.machine.store
+  goes_along : (setup : Setup) (events : List Event) (replies : List Reply) (old new : World) (run : Run setup events replies old new) → DisturbNoSave setup events replies old new run → Stage old.machine.store → Stage new.machine.store
   goes_along setup [] [] old new run calm stage = same_store old.machine new.machine (ap (λ (w : World). w.machine.store) run.is) stage
   goes_along setup (event ∷ events) (reply ∷ replies) old new run calm stage =
       goes_along setup events replies run.0 new run.2 calm.1 (goes_on setup event reply (paused run.1.pause old) run.0 run.1.happens.step calm.0 stage)
   goes_along setup _ _ old new none calm stage = absurd none
 
 -- no arm byte is written in such an event
-unmarked : (setup : Setup) (event : Event) (reply : Reply) (old new : World) → MachineStep setup event reply old new → DisturbsNoSave event reply → marks reply ≡ false
+unmarked : (setup : Setup) (event : Event) (reply : Reply) (old new : World) → MachineStep setup event reply old new → DisturbsNoSave event reply old.machine.mode new.machine.mode → marks reply ≡ false
 unmarked setup (Event.Write write) (Reply.Write result) old new done calm = refl
 unmarked setup (Event.Read line) (Reply.Read result) old new done calm = refl
 unmarked setup (Event.Collect ticket) (Reply.Collect collected) old new done calm = refl
 unmarked setup (Event.Work channel) (Reply.Work result) old new done calm = refl
 unmarked setup Event.SaveStep (Reply.SaveStep reply) old new done calm = refl
-unmarked setup Event.Sense reply old new done none = absurd none
-unmarked setup Event.Arm reply old new done none = absurd none
-unmarked setup Event.Disarm reply old new done none = absurd none
-unmarked setup Event.SaveBegin reply old new done none = absurd none
+unmarked setup Event.Sense (Reply.Sense level) old new done calm = refl
+unmarked setup Event.Arm (Reply.Arm (Ok ArmReply.AlreadyArmed)) old new done calm = refl
+unmarked setup Event.Arm (Reply.Arm (Ok ArmReply.Armed)) old new done none = absurd none
+unmarked setup Event.Arm (Reply.Arm (Err ArmRefusal.Device)) old new done none = absurd none
+unmarked setup Event.Arm (Reply.Arm (Err refusal)) old new done calm = refl
+unmarked setup Event.Disarm (Reply.Disarm result) old new done calm = refl
+unmarked setup Event.SaveBegin (Reply.SaveBegin result) old new done calm = refl
 unmarked setup Event.Lose reply old new done none = absurd none
 unmarked setup event reply old new none calm = absurd none
 
@@ -132,7 +163,7 @@ begins m n guarded clean is =
     })
 
 module _ (setup : Setup) (events : List Event) (replies : List Reply) (old new : World) (guarded : IsGuarded old.machine) (clean : IsUnsaving old.machine)
-    (run : Run setup (Event.SaveBegin ∷ events) (Reply.SaveBegin (Ok tt) ∷ replies) old new) (calm : DisturbNoSave events replies) where
+    (run : Run setup (Event.SaveBegin ∷ events) (Reply.SaveBegin (Ok tt) ∷ replies) old new) (calm : DisturbNoSave setup events replies run.0 new run.2) where
   stage : Stage old.machine.store.maybe.slot (newest_of old.machine) (made_of (is_armed old.machine.mode) old.machine) new.machine.store
   stage =
       let begun = begins old.machine run.0.machine guarded clean (ap (λ (m : Machine). m.store) run.1.happens.step.1.1) in
@@ -140,10 +171,10 @@ module _ (setup : Setup) (events : List Event) (replies : List Reply) (old new :
 
   pub left_between : StopsWithin (λ bytes. IsOldOrNew old.machine (restored setup.shape.lines bytes)) (present new.device)
   left_between bytes left =
-      let recovers : StopsRecover setup new = left_along setup events replies run.0 new run.2 run.1.happens.at_end in
+      let recovers : StopsRecover setup new = left_along RisesTo setup events replies run.0 new run.2 run.1.happens.at_end in
       finds old.machine.store.maybe.slot (newest_of old.machine) (made_of (is_armed old.machine.mode) old.machine) new.machine.store stage (restored setup.shape.lines bytes) (recovers bytes left).among
 
-  pub left_within_next : (last : World) (event : Event) (reply : Reply) → HappensNext setup event reply new last → DisturbsNoSave event reply
+  pub left_within_next : (last : World) (event : Event) (reply : Reply) → HappensNext setup event reply new last → DisturbsNoSave event reply new.machine.mode last.machine.mode
       → LeavesOnly new.device last.device (λ bytes. IsOldOrNew old.machine (restored setup.shape.lines bytes))
   left_within_next last event reply next quiet =
       let slot = old.machine.store.maybe.slot in let newest = newest_of old.machine in let made = made_of (is_armed old.machine.mode) old.machine in
@@ -154,3 +185,14 @@ module _ (setup : Setup) (events : List Event) (replies : List Reply) (old new :
       let either : MayFindMeanwhile reply new.machine.store.maybe last.machine.store.maybe outcome = recovers.among in
       ⊎_elim (finds slot newest made new.machine.store stage outcome) (finds slot newest made last.machine.store later outcome) (rw (unmarked setup event reply (paused next.pause new) last next.happens.step quiet) at either))
       next.happens.meanwhile
+
+-- a save that runs in place of another one
+pub left_instead : (setup : Setup) (first : Event) (told : Reply) (events : List Event) (replies : List Reply) (before old new : World) (save : RunningSave) → HappensNext setup first told before old
+    → IsSavingOver save old.machine → (run : Run setup events replies old new) → DisturbNoSave setup events replies old new run
+    → StopsWithin (λ bytes. IsOldOr save.made old.machine (restored setup.shape.lines bytes)) (present new.device)
+left_instead setup first told events replies before old new save next over run calm bytes left =
+    let slot = old.machine.store.maybe.slot in let newest = newest_of old.machine in
+    let here : Stage slot newest save.made old.machine.store =
+    inl (record { saved = None; is = over.alone; may = λ image none. let bad : ⊥ = cc in absurd bad; save = save; runs = over.runs; makes = refl }) in
+    let recovers : StopsRecover setup new = left_along RisesTo setup events replies old new run next.happens.at_end in
+    finds slot newest save.made new.machine.store (goes_along slot newest save.made setup events replies old new run calm here) (restored setup.shape.lines bytes) (recovers bytes left).among

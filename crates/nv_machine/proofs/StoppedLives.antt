@@ -4,11 +4,11 @@ use Rattle.std.proofs.Math.Seq.{drop-append_seam}
 use Rattle.std.proofs.lemmas.List.Elements.{All-contains}
 use Rattle.save_device.specs.Device.{LeavesOnly, Moment, StopsWithin, moments_of, present}
 use Rattle.slot_store.specs.Outcomes.{restored}
-use Rattle.nv_machine.specs.Headline.{Happens}
+use Rattle.nv_machine.specs.Headline.{AnyGauge, Happens, RunBy}
 use Rattle.nv_machine.specs.Lives.{IsLeftAt, Unanswered, moments_since, stop_moments}
 use Rattle.nv_machine.specs.Opening.{new_life}
 use Rattle.nv_machine.specs.Survival.{HasCauseAt, MayBeNewest}
-use Rattle.nv_machine.proofs.Common.{All, List, [], ap, append_assoc, inl, length, refl, subst, sym, ℕ, ◌++◌, ◌∙◌, ◌∷◌, ◌≡◌, None, Option, Some, All-cons, All-nil, ForSome, DeviceState, Outcome, IsGuarded, Recovers, RecoversAfterwards, Run, IsLived, Lived, Machine, Setup, World, Event, Reply}
+use Rattle.nv_machine.proofs.Common.{All, List, [], ap, append_assoc, inl, length, refl, subst, sym, ℕ, ◌++◌, ◌∙◌, ◌∷◌, ◌≡◌, None, Option, Some, All-cons, All-nil, ForSome, DeviceState, Outcome, IsGuarded, Recovers, RecoversAfterwards, Gauge, IsLived, Lived, Machine, Setup, World, Event, Reply}
 use Rattle.nv_machine.proofs.Guarded.{guarded_new}
 use Rattle.nv_machine.proofs.Leaving.{left_after}
 
@@ -55,11 +55,11 @@ recovers_cut m cut outcome it = record {
 }
 
 -- what it leaves at the end of a run
-pub left_along : (setup : Setup) (events : List Event) (replies : List Reply) (old new : World) → Run setup events replies old new → StopsRecover setup old → StopsRecover setup new
-left_along setup [] [] old new run left =
+pub left_along : (G : Gauge → Gauge → Type 0) (setup : Setup) (events : List Event) (replies : List Reply) (old new : World) → RunBy G setup events replies old new → StopsRecover setup old → StopsRecover setup new
+left_along G setup [] [] old new run left =
     subst (StopsRecover setup) (sym run.is) (λ bytes stop. recovers_cut old.machine new.machine.cut (restored setup.shape.lines bytes) (left bytes stop))
-left_along setup (event ∷ events) (reply ∷ replies) old new run left = left_along setup events replies run.0 new run.2 run.1.happens.at_end
-left_along setup _ _ old new none left = absurd none
+left_along G setup (event ∷ events) (reply ∷ replies) old new run left = left_along G setup events replies run.0 new run.2 run.1.happens.at_end
+left_along G setup _ _ old new none left = absurd none
 
 -- before the first event it leaves the image that the life was opened with
 left_first : (life : Lived) → IsLived life → StopsRecover life.setup life.first
@@ -81,4 +81,4 @@ recovered_at setup (Some unanswered) last bytes happens left stop =
 -- what a restore finds after a life
 pub recovered : (life : Lived) → IsLived life → RecoversAt life.unanswered life.last.machine (restored life.setup.shape.lines life.bytes)
 recovered life lived =
-    recovered_at life.setup life.unanswered life.last life.bytes lived.unanswered (left_along life.setup life.events life.replies life.first life.last lived.run (left_first life lived)) lived.left
+    recovered_at life.setup life.unanswered life.last life.bytes lived.unanswered (left_along AnyGauge life.setup life.events life.replies life.first life.last lived.run (left_first life lived)) lived.left

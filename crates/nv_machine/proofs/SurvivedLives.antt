@@ -2,11 +2,12 @@
 use Rattle.std.proofs.lemmas.Bool.{or_from}
 use Rattle.slot_store.specs.Outcomes.{verdict_of}
 use Rattle.slot_store.specs.declared.restoring.Verdict.{Verdict}
+use Rattle.nv_machine.specs.Headline.{AnyGauge}
 use Rattle.nv_machine.specs.Lives.{LeadsTo, last_life}
 use Rattle.nv_machine.specs.Survival.{IsHonestLife, IsRecovered, IsSurvived, IsSurvivedBehind, history_to}
 use Rattle.nv_machine.proofs.Common.{List, [], ap, arith, false, length, ℕ, ◌++◌, ◌+◌, ◌∷◌, ◌≡◌, after, Image, is_backed, IsPrefix, is_broken_off, would_lose_acknowledged, IsBackedAt, AreChained, IsLived, Lived, Machine}
 use Rattle.nv_machine.proofs.Backing.{not_backed}
-use Rattle.nv_machine.proofs.RisingMarks.{told_along}
+use Rattle.nv_machine.proofs.RisingMarks.{told_by}
 use Rattle.nv_machine.proofs.HonestRuns.{saved_along, unbroken_along}
 use Rattle.nv_machine.proofs.StoppedLives.{guarded_first, recovered}
 use Rattle.nv_machine.proofs.Caused.{caused}
@@ -65,7 +66,7 @@ restored_of life lived =
       complete = λ told. r.complete (clear_where r.image.arm r.image.count told);
       honest = λ honest. r.holds_all (honest_calm life lived honest);
       cause = λ told. r.cause (λ clear. told (ap (λ (arm : ℕ). verdict_of arm r.image.count) clear));
-      told = told_along life.setup life.events life.replies life.first life.last lived.run (guarded_first life lived);
+      told = told_by AnyGauge life.setup life.events life.replies life.first life.last lived.run (guarded_first life lived);
     }
 
 pub survived : (life : Lived) (lives : List Lived) → AreChained (life ∷ lives) → IsSurvived life lives

@@ -123,22 +123,6 @@ pub record MayCut (m : Machine) (cut : ℕ) : Type 0 where
   pub rises : m.cut ≤ cut
   pub most : m.cut < cut → cut ≤ (newest_of m).count
 
--- the gauge may be charged, and the stored writes may be cut
-pub record MayPause (old : World) (pause : Pause) : Type 0 where
-  pub gauge : RisesTo old.gauge pause.gauge
-  pub cut : MayCut old.machine pause.cut
-
--- Between two events nothing has changed but that.
-pub record Rests (old new : World) : Type 0 where
-  pub may : MayPause old (pause_at new)
-  pub is : new ≡ paused (pause_at new) old
-
--- one event, before which there may have been a pause
-pub record HappensNext (setup : Setup) (event : Event) (reply : Reply) (old new : World) : Type 0 where
-  pub pause : Pause
-  pub may : MayPause old pause
-  pub happens : Happens setup event reply (paused pause old) new
-
 -- events in turn, with what stands between them, and what may be between two of them
 abbrev pub RunOf : {P : Type 0} → (P → P → Type 0) → (Event → Reply → P → P → Type 0) → List Event → List Reply → P → P → Type 0
 RunOf Between Goes [] [] old new = Between old new
@@ -146,6 +130,45 @@ RunOf {P} Between Goes (event ∷ events) (reply ∷ replies) old new = (mid : P
 RunOf Between Goes [] (reply ∷ replies) old new = ⊥
 RunOf Between Goes (event ∷ events) [] old new = ⊥
 
--- There may be a pause before each event and after the last one.
+-- between two events the gauge may become any other
+abbrev pub AnyGauge : Gauge → Gauge → Type 0
+AnyGauge old new = Unit {0}
+
+-- by a rule for the gauge between two events
+module _ (Gauged : Gauge → Gauge → Type 0) where
+  -- the gauge keeps the rule, and the stored writes may be cut
+  pub record MayPauseBy (old : World) (pause : Pause) : Type 0 where
+    pub gauge : Gauged old.gauge pause.gauge
+    pub cut : MayCut old.machine pause.cut
+
+  -- Between two events nothing has changed but that.
+  pub record RestsBy (old new : World) : Type 0 where
+    pub may : MayPauseBy old (pause_at new)
+    pub is : new ≡ paused (pause_at new) old
+
+  -- one event, before which there may have been a pause
+  pub record HappensNextBy (setup : Setup) (event : Event) (reply : Reply) (old new : World) : Type 0 where
+    pub pause : Pause
+    pub may : MayPauseBy old pause
+    pub happens : Happens setup event reply (paused pause old) new
+
+  -- There may be a pause before each event and after the last one.
+  abbrev pub RunBy : Setup → List Event → List Reply → World → World → Type 0
+  RunBy setup = RunOf RestsBy (HappensNextBy setup)
+
+-- a run with whatever gauges
+abbrev pub AnyRun : Setup → List Event → List Reply → World → World → Type 0
+AnyRun = RunBy AnyGauge
+
+-- A run with one gauge: between two events it may be charged, and counts a fault where its level falls.
+abbrev pub MayPause : World → Pause → Type 0
+MayPause = MayPauseBy RisesTo
+
+abbrev pub Rests : World → World → Type 0
+Rests = RestsBy RisesTo
+
+abbrev pub HappensNext : Setup → Event → Reply → World → World → Type 0
+HappensNext = HappensNextBy RisesTo
+
 abbrev pub Run : Setup → List Event → List Reply → World → World → Type 0
-Run setup = RunOf Rests (HappensNext setup)
+Run = RunBy RisesTo

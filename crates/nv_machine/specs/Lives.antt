@@ -9,7 +9,9 @@ use Rattle.slot_store.specs.Outcomes.{Found, restored}
 use Rattle.nv_machine.specs.declared.events.Event.{Event}
 use Rattle.nv_machine.specs.declared.events.Reply.{Reply}
 use Rattle.nv_machine.specs.State.{Setup, World}
-use Rattle.nv_machine.specs.Headline.{Happens, Run}
+use Rattle.energy_budget.specs.Charging.{RisesTo}
+use Rattle.energy_budget.specs.Gauge.{Gauge}
+use Rattle.nv_machine.specs.Headline.{AnyRun, Happens, RunBy}
 use Rattle.nv_machine.specs.Opening.{new_life}
 
 -- an event that a stop left unanswered: the reply that it was to have, and what it was to lead to
@@ -72,12 +74,12 @@ last_life life (next ∷ lives) = last_life next lives
 abbrev pub last_opened : Lived → List Lived → Image
 last_opened life lives = (last_life life lives).image
 
--- The machine of a life was new at first, and its device held the image that it was opened with. Its events are a run, and
--- a stop after them, or at any moment of one event more, left the bytes.
+-- The machine of a life was new at first, and its device held the image that it was opened with. Its events are a run, whatever
+-- gauges they were handed, and a stop after them, or at any moment of one event more, left the bytes.
 pub record IsLived (life : Lived) : Type 0 where
   pub begins : life.first.machine ≡ new_life life.slot life.closed life.image
   pub opened : StopsWithin (λ bytes. restored life.setup.shape.lines bytes ≡ Found life.slot life.image) (present life.first.device)
-  pub run : Run life.setup life.events life.replies life.first life.last
+  pub run : AnyRun life.setup life.events life.replies life.first life.last
   pub unanswered : ForSome life.unanswered (λ it. Happens life.setup it.event it.reply life.last it.next)
   pub left : IsLeftAt (stop_moments life.unanswered life.last.device) life.bytes
 
@@ -95,8 +97,8 @@ AreChained (life ∷ []) = IsLived life
 AreChained (life ∷ next ∷ lives) = IsLived life × LeadsTo life next × AreChained (next ∷ lives)
 
 -- A life so far, which leads here: its machine was new at first, its device held the image that it was opened with, and its events
--- are a run to this moment.
-pub record LivedUntil (setup : Setup) (now : World) : Type 0 where
+-- are a run to this moment, by a rule for the gauge between two of them.
+pub record LivedBy (Gauged : Gauge → Gauge → Type 0) (setup : Setup) (now : World) : Type 0 where
   pub slot : Slot
   pub closed : Bool
   pub image : Image
@@ -105,4 +107,8 @@ pub record LivedUntil (setup : Setup) (now : World) : Type 0 where
   pub first : World
   pub begins : first.machine ≡ new_life slot closed image
   pub opened : StopsWithin (λ bytes. restored setup.shape.lines bytes ≡ Found slot image) (present first.device)
-  pub run : Run setup events replies first now
+  pub run : RunBy Gauged setup events replies first now
+
+-- one with the same gauge all along
+abbrev pub LivedUntil : Setup → World → Type 0
+LivedUntil = LivedBy RisesTo

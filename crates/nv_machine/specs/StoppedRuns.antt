@@ -3,15 +3,16 @@ use Rattle.std.specs.Prelude.{◌≡◌, ℕ, List, [], ◌∷◌, ◌++◌, Opt
 use Rattle.std.specs.Option.{ForSome}
 use Rattle.save_image.specs.Image.{Image}
 use Rattle.slot_store.specs.declared.slots.Slot.{Slot}
+use Rattle.energy_budget.specs.Gauge.{Gauge}
 use Rattle.nv_machine.specs.declared.events.Event.{Event}
 use Rattle.nv_machine.specs.declared.events.Reply.{Reply}
 use Rattle.nv_machine.specs.State.{Setup, World}
-use Rattle.nv_machine.specs.Headline.{Happens, Run}
-use Rattle.nv_machine.specs.Lives.{AreChained, IsLeftAt, LeavesImage, Lived, LivedUntil, Unanswered, last_life, moments_since, stop_moments, unanswered_event}
+use Rattle.nv_machine.specs.Headline.{Happens, RunBy}
+use Rattle.nv_machine.specs.Lives.{AreChained, IsLeftAt, LeavesImage, Lived, LivedBy, Unanswered, last_life, moments_since, stop_moments, unanswered_event}
 use Rattle.nv_machine.specs.Survival.{IsSurvivedBehind}
 
 -- A stop in a run: the events before the one that it left unanswered, that event if there is one, and the rest.
-pub record StopsAmong (setup : Setup) (events : List Event) (replies : List Reply) (old new : World) (bytes : List ℕ) : Type 0 where
+pub record StopsAmong (Gauged : Gauge → Gauge → Type 0) (setup : Setup) (events : List Event) (replies : List Reply) (old new : World) (bytes : List ℕ) : Type 0 where
   pub front : List Event
   pub told : List Reply
   pub last : World
@@ -20,8 +21,8 @@ pub record StopsAmong (setup : Setup) (events : List Event) (replies : List Repl
   pub untold : List Reply
   pub parts : events ≡ front ++ unanswered_event unanswered ++ rest
   pub told_are : replies ≡ told ++ untold
-  pub run : Run setup front told old last
-  pub goes_on : Run setup (unanswered_event unanswered ++ rest) untold last new
+  pub run : RunBy Gauged setup front told old last
+  pub goes_on : RunBy Gauged setup (unanswered_event unanswered ++ rest) untold last new
   pub happens : ForSome unanswered (λ it. Happens setup it.event it.reply last it.next)
   pub left : IsLeftAt (stop_moments unanswered last.device) bytes
 
@@ -30,9 +31,9 @@ abbrev pub LeaveImage : Slot → Image → List Lived → Type 0
 LeaveImage slot image [] = Unit {0}
 LeaveImage slot image (life ∷ lives) = AreChained (life ∷ lives) × LeavesImage slot image (last_life life lives)
 
-module _ (setup : Setup) (now : World) (so : LivedUntil setup now) where
+module _ (Gauged : Gauge → Gauge → Type 0) (setup : Setup) (now : World) (so : LivedBy Gauged setup now) where
   -- the life that a stop there ended
-  abbrev pub stopped_life : (bytes : List ℕ) → StopsAmong setup so.events so.replies so.first now bytes → Lived
+  abbrev pub stopped_life : (bytes : List ℕ) → StopsAmong Gauged setup so.events so.replies so.first now bytes → Lived
   stopped_life bytes stop = record {
     setup = setup;
     slot = so.slot;
@@ -48,7 +49,7 @@ module _ (setup : Setup) (now : World) (so : LivedUntil setup now) where
 
   -- A stop ended the life behind these lives: they are a chain of the headline, and a restore finds what it says.
   pub record SurvivesStop (lives : List Lived) (bytes : List ℕ) : Type 0 where
-    pub stop : StopsAmong setup so.events so.replies so.first now bytes
+    pub stop : StopsAmong Gauged setup so.events so.replies so.first now bytes
     pub chained : AreChained (lives ++ stopped_life bytes stop ∷ [])
     pub survived : IsSurvivedBehind lives (stopped_life bytes stop)
 

@@ -1,6 +1,8 @@
 // What a stop leaves of the writes.
 ghost use Rattle.std.specs.Prelude.{◌∷◌, ◌++◌, List};
-ghost use Rattle.nv_machine.specs.Lives.{Lived, LivedUntil, AreChained};
+ghost use Rattle.energy_budget.specs.Charging.{RisesTo};
+ghost use Rattle.nv_machine.specs.Headline.{AnyGauge};
+ghost use Rattle.nv_machine.specs.Lives.{Lived, LivedBy, LivedUntil, AreChained};
 ghost use Rattle.nv_machine.specs.State.{Setup, World};
 ghost use Rattle.nv_machine.specs.StoppedRuns.{SurvivesStops};
 ghost use Rattle.nv_machine.specs.Survival.{IsSurvived};
@@ -20,7 +22,12 @@ pub fn survives_any_stop()
 /// The same of a life so far, whatever runs it. A stop at any moment since it began, within an event or a device write too, ends a
 /// life: the events that were answered by then, and the one within which the stop came. Behind lives of which the last one left
 /// what this one was opened with it is the last of their chain.
+///
+/// Of the gauge it takes nothing: each call may have been handed another one. A life with one gauge is one of these too, and keeps
+/// that it has one.
 pub fn runs_survive()
-    ensures { (setup : Setup) (now : World) (so : LivedUntil setup now)
-        → SurvivesStops setup now so }
+    ensures any_gauge { (setup : Setup) (now : World) (so : LivedBy AnyGauge setup now)
+        → SurvivesStops AnyGauge setup now so }
+    ensures one_gauge { (setup : Setup) (now : World) (so : LivedUntil setup now)
+        → SurvivesStops RisesTo setup now so }
 {}

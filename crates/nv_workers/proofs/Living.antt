@@ -4,6 +4,8 @@ use Rattle.std.proofs.Math.Logic.{∥∥₁_map}
 use Rattle.nv_workers.proofs.Common.{Ghosts as GaugeGhosts, IsRecordKept, LivedUntil, Machine, RecordedModule, Setup, World, setup_of, world_for}
 use Rattle.save_device.specs.declared.device.SaveDevice.{Ghosts as DeviceGhosts}
 use Rattle.channel_port.specs.declared.port.ChannelPort.{Ghosts}
+use Rattle.energy_budget.proofs.Charging.{rises_none}
+use Rattle.energy_budget.specs.Charging.{RisesTo}
 use Rattle.nv_machine.proofs.StoppedRuns.{stops_survived}
 use Rattle.save_image.specs.Image.{Image}
 use Rattle.save_device.specs.Device.{StopsWithin, present}
@@ -18,9 +20,9 @@ use Rattle.nv_machine.specs.Opening.{new_life}
 use Rattle.nv_machine.proofs.Backing.{not_backed}
 use Rattle.nv_machine.proofs.CountedFaults.{honest_ends}
 use Rattle.nv_machine.proofs.HonestRuns.{backed_along, saved_along}
-use Rattle.nv_machine.proofs.JoinedRuns.{happens_now, join_runs, rests_here}
+use Rattle.nv_machine.proofs.JoinedRuns.{any_run, happens_now, join_runs, rests_here}
 use Rattle.nv_machine.proofs.SparedDevices.{spared_ends}
-use Rattle.nv_workers.specs.Lived.{HasBeenFaultless, IsInLife, StopsSurvive}
+use Rattle.nv_workers.specs.Lived.{HasBeenHonest, IsInLife, StopsSurvive}
 
 -- it begins
 pub lived_first : (setup : Setup) (slot : Slot) (closed : Bool) (image : Image) (first : World) → first.machine ≡ new_life slot closed image
@@ -65,10 +67,8 @@ module _ (setup : Setup) (now : World) (so : LivedUntil setup now) where
   backed_first : IsBackedAt setup so.first
   backed_first = subst (λ (m : Machine). IsBackedAt setup (record so.first { machine = m })) (sym so.begins) (not_backed setup (new_life so.slot so.closed so.image) so.first.gauge refl)
 
-  honest : HasBeenFaultless setup now so → IsHonestAlong setup so.events so.replies so.first now so.run
-  honest faultless =
-      honest_ends setup so.events so.replies so.first now so.run faultless.gauge
-      (spared_ends setup so.events so.replies so.first now so.run (subst (λ (m : Machine). is_stranded m.mode ≡ false) (sym so.begins) refl) faultless.device)
+  honest : HasBeenHonest setup now so → IsHonestAlong setup so.events so.replies so.first now so.run
+  honest been = honest_ends setup so.events so.replies so.first now so.run been.gauge been.spared
 
   pub in_life : IsInLife setup now
   in_life = record {
@@ -76,15 +76,16 @@ module _ (setup : Setup) (now : World) (so : LivedUntil setup now) where
     ends = λ bytes left. record {
       begins = so.begins;
       opened = so.opened;
-      run = so.run;
+      run = any_run setup so.events so.replies so.first now so.run;
       unanswered = λ unanswered is. absurd (let bad : ⊥ = cc in bad);
       left = record { moment = present now.device; among = (0, omega arith, refl); left = left };
     };
-    backed = λ faultless. backed_along setup so.events so.replies so.first now so.run (honest faultless) backed_first;
-    saves = λ faultless. saved_along setup so.events so.replies so.first now so.run (honest faultless) backed_first;
+    backed = λ been. backed_along setup so.events so.replies so.first now so.run (honest been) backed_first;
+    saves = λ been. saved_along setup so.events so.replies so.first now so.run (honest been) backed_first;
+    faultless = λ same. spared_ends setup so.events so.replies so.first now so.run (subst (λ (m : Machine). is_stranded m.mode ≡ false) (sym so.begins) refl) same;
   }
 
 module _ {K D E : Type 0} (L : Ghosts K) (M : DeviceGhosts D) (N : GaugeGhosts E) where
   -- a stop at any moment of it
   pub kept_survives : (it : RecordedModule K D E L) → IsRecordKept L M N it → ∥ (StopsSurvive L M N it) ∥₁
-  kept_survives it kept = ∥∥₁_map kept.stands (λ s. record { machine = s.0; stands = s.1.stands; so = s.2; survives = stops_survived (setup_of L it.running) (world_for L M N it s.0) s.2 })
+  kept_survives it kept = ∥∥₁_map kept.stands (λ s. record { machine = s.0; stands = s.1.stands; so = s.2; survives = stops_survived RisesTo rises_none (setup_of L it.running) (world_for L M N it s.0) s.2 })

@@ -13,8 +13,9 @@ use energy_budget::Energy;
 use save_device::SaveDevice;
 
 /// A board that was put together is in a life, with its device and its gauge: some events led here from a machine that was new, and
-/// whatever a stop leaves of the device now ends this life, of which `survives_any_stop` speaks. Where neither gauge nor device has
-/// counted a fault since the life began, the gauge backs what was acknowledged, and no loss of mains has lost any of it.
+/// whatever a stop leaves of the device now ends this life, of which `survives_any_stop` speaks. Where the gauge has been
+/// honest since the life began, and the device was spared, the gauge backs what was acknowledged, and no loss of mains has lost any
+/// of it.
 pub fn boards_keep_lives<K: ChannelPort, D: SaveDevice, E: Energy, B: BoardName>()
     ensures { (held : Held K D E B K.ChannelPort D.SaveDevice E.Energy B.BoardName.own)
         → ∥ ((m : Machine)

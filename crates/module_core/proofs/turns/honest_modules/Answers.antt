@@ -1,5 +1,5 @@
 -- What an honest gauge is enough for in the calls of a module.
-use Rattle.module_core.proofs.HonestCalls.{honest_calls, honest_life, honest_loss}
+use Rattle.module_core.proofs.HonestCalls.{faultless_spared, honest_calls, honest_life, honest_loss}
 use Rattle.module_core.proofs.turns.honest_modules.Goals as goal
 
 pub returns-clause-calls : goal.returns-clause-calls
@@ -7,6 +7,9 @@ returns-clause-calls g c = honest_calls g.K.ChannelPort
 
 pub returns-clause-lives : goal.returns-clause-lives
 returns-clause-lives g c = honest_life g.K.ChannelPort
+
+pub returns-clause-faultless : goal.returns-clause-faultless
+returns-clause-faultless g c = faultless_spared g.K.ChannelPort
 
 pub returns-clause-loss : goal.returns-clause-loss
 returns-clause-loss g c = honest_loss g.K.ChannelPort

@@ -10,7 +10,7 @@ returns-then-has_ended-clause-over g c = λ order device.
     record {
       each = answers_closed L order it device (g.E.Energy.gauge c.args.energy.now) ended;
       covered = tt;
-      honest = λ found image before told first answered faultless on. absurd (ended_unbacked it.front.mode ended on);
+      honest = λ found image before told first answered gauge was few on. absurd (ended_unbacked it.front.mode ended on);
       setup = refl;
     }
 
@@ -24,6 +24,6 @@ returns-then-not-is_backed-clause-over g c = λ order device.
           answers_unsaved L (assembly it device (g.E.Energy.gauge c.args.energy.now)) m stands order c.end_mains.new.self told.ends told.none told.newest told.closed told.unsettled
           (ap has_ended (sym stands.matches.front.mode) ∙ on) (ap is_backed (sym stands.matches.front.mode) ∙ calm);
       covered = tt;
-      honest = λ found image before told first answered faultless backed. let both : true ≡ false = sym backed ∙ calm in absurd (let bad : ⊥ = cc in bad);
+      honest = λ found image before told first answered gauge was few backed. let both : true ≡ false = sym backed ∙ calm in absurd (let bad : ⊥ = cc in bad);
       setup = ended_setup L it.front.reading it c.end_mains.new.self told.ends;
     }

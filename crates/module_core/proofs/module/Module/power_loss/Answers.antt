@@ -1,7 +1,9 @@
 use Rattle.std.proofs.lemmas.List.Elements.{All-drop}
 use Rattle.channel_port.specs.Draining.{in_turn}
 use Rattle.channel_port.specs.Waits.{AllBelow}
+use Rattle.channel_set.specs.Draining.{DrainsEach}
 use Rattle.module_core.specs.Saving.{IsOfLines}
+use Rattle.module_core.proofs.WhereDrained.{on_ok, where_drained}
 use Rattle.module_core.proofs.Common.{◌<◌, ◌∙◌, ◌≡◌, ChannelsView, Shape, Waiting, ap, assembly, false, refl, subst, sym, true, view_of}
 use Rattle.module_core.proofs.module.Module.power_loss.Goals as goal
 
@@ -16,6 +18,9 @@ returns-in-Some-clause-covered g c = (c.in-Some.ensures.over in_turn (g.D.SaveDe
 
 pub returns-in-Some-clause-honest : goal.returns-in-Some-clause-honest
 returns-in-Some-clause-honest g c = (c.in-Some.ensures.over in_turn (g.D.SaveDevice.state c.args.device.now)).honest
+
+pub returns-in-Some-clause-drained : goal.returns-in-Some-clause-drained
+returns-in-Some-clause-drained g c = where_drained c.in-Some.lost (λ bad. absurd bad) c.in-Some.ensures.undrained
 
 pub invariant_of-self : goal.invariant_of-self
 invariant_of-self g c =
@@ -60,3 +65,15 @@ returns-clause-setup g c =
     let told = c.conclude.ensures.concludes in_turn (assembly c.args.self.now (D.state c.args.device.now) (E.gauge c.args.energy.now)) (assembly c.begin_loss.new.self (D.state c.args.device.now) (E.gauge c.begin_loss.new.energy)) (c.in_default.ensures.begins (D.state c.args.device.now))
     (record { drains = drain.drains; front = refl; keeps = drain.keeps; device = refl }) drain.covers in
     told.setup
+
+pub returns-clause-drained : goal.returns-clause-drained
+returns-clause-drained g c =
+    let drain = c.drain-drained.ensures in let begins = c.in_default.ensures.begins (g.D.SaveDevice.state c.args.device.now) in
+    where_drained c.conclude.result
+    (λ paid. record {
+      begun = c.begin_loss.new.self.channels;
+      ends = begins.ends.channels;
+      backup = c.in_default.ensures.backup;
+      each = subst (DrainsEach g.K.ChannelPort c.begin_loss.new.self.channels) (sym c.conclude.ensures.channels) (on_ok _ paid drain.each);
+    })
+    c.conclude.ensures.paid

@@ -1,8 +1,11 @@
 use Rattle.std.proofs.lemmas.List.Elements.{All-drop}
 use Rattle.channel_port.specs.Draining.{at_once}
 use Rattle.channel_port.specs.Waits.{AllBelow}
+use Rattle.worker_gate.specs.Waiting.{AreAwaited}
+use Rattle.channel_set.specs.Draining.{DrainsEach}
 use Rattle.module_core.specs.Saving.{IsOfLines}
-use Rattle.module_core.proofs.Common.{◌<◌, ◌∙◌, ◌≡◌, ChannelsView, Shape, Waiting, ap, assembly, false, refl, subst, sym, true, view_of}
+use Rattle.module_core.proofs.WhereDrained.{on_ok, where_drained}
+use Rattle.module_core.proofs.Common.{◌<◌, ◌∙◌, ◌≡◌, ChannelsView, Shape, Waiting, ap, assembly, false, length, refl, subst, sym, true, view_of}
 use Rattle.module_core.proofs.module.Module.power_loss_with.Goals as goal
 
 pub returns-in-Some-clause-answers : goal.returns-in-Some-clause-answers
@@ -16,6 +19,12 @@ returns-in-Some-clause-covered g c = (c.in-Some.ensures.over at_once (g.D.SaveDe
 
 pub returns-in-Some-clause-honest : goal.returns-in-Some-clause-honest
 returns-in-Some-clause-honest g c = (c.in-Some.ensures.over at_once (g.D.SaveDevice.state c.args.device.now)).honest
+
+pub returns-in-Some-clause-drained : goal.returns-in-Some-clause-drained
+returns-in-Some-clause-drained g c = where_drained c.in-Some.lost (λ bad. absurd bad) c.in-Some.ensures.undrained
+
+pub returns-in-Some-clause-asked : goal.returns-in-Some-clause-asked
+returns-in-Some-clause-asked g c = where_drained c.in-Some.lost (λ bad. absurd bad) c.in-Some.ensures.undrained
 
 pub invariant_of-self : goal.invariant_of-self
 invariant_of-self g c =
@@ -60,3 +69,21 @@ returns-clause-setup g c =
     let told = c.conclude.ensures.concludes at_once (assembly c.args.self.now (D.state c.args.device.now) (E.gauge c.args.energy.now)) (assembly c.begin_loss.new.self (D.state c.args.device.now) (E.gauge c.begin_loss.new.energy)) (c.in_default.ensures.begins (D.state c.args.device.now))
     (record { drains = drain.drains; front = refl; keeps = drain.keeps; device = refl }) drain.covers in
     told.setup
+
+pub returns-clause-drained : goal.returns-clause-drained
+returns-clause-drained g c =
+    let drain = c.drain_at_once-drained.ensures in let begins = c.in_default.ensures.begins (g.D.SaveDevice.state c.args.device.now) in
+    where_drained c.conclude.result
+    (λ paid. record {
+      begun = c.begin_loss.new.self.channels;
+      ends = begins.ends.channels;
+      backup = c.in_default.ensures.backup;
+      each = subst (DrainsEach g.K.ChannelPort c.begin_loss.new.self.channels) (sym c.conclude.ensures.channels) (on_ok _ paid drain.each);
+    })
+    c.conclude.ensures.paid
+
+pub returns-clause-asked : goal.returns-clause-asked
+returns-clause-asked g c =
+    let drain = c.drain_at_once-drained.ensures in let begins = c.in_default.ensures.begins (g.D.SaveDevice.state c.args.device.now) in
+    let same : length c.begin_loss.new.self.channels.ports.items ≡ length c.args.self.now.channels.ports.items = ap (λ (v : ChannelsView). v.shape.channels) begins.ends.channels.is in
+    where_drained c.conclude.result (λ paid. subst (AreAwaited g.G.Gate c.args.gate.now 0) same (on_ok _ paid drain.asked)) c.conclude.ensures.paid

@@ -1,0 +1,24 @@
+-- What a loss of mains leaves of the channels that it drained.
+use Rattle.arm_state.specs.declared.loss.Loss.{Loss}
+use Rattle.arm_state.specs.declared.loss.Loss.TheVariants as loss
+use Rattle.channel_port.specs.declared.port.ChannelPort.{Ghosts}
+use Rattle.channel_port.specs.declared.stage.Stage.TheVariants.{OnBackup}
+use Rattle.channel_set.specs.declared.set.ChannelSet.{ChannelSet}
+use Rattle.channel_set.specs.Draining.{DrainsEach}
+use Rattle.channel_set.specs.Set.{AreAt}
+use Rattle.module_core.specs.Stands.{EndsHoldAndReads}
+
+-- so it is where a loss paid for all drains: where it saved, or failed in the save behind them
+abbrev pub WhereDrained : Loss → Type 0 → Type 0
+WhereDrained (loss.Saved generation count) P = P
+WhereDrained loss.Fault P = P
+WhereDrained lost P = Unit {0}
+
+module _ {K : Type 0} (L : Ghosts K) where
+  -- The channels lost their mains, their hold and their reads, and each of them, also one on which nothing waited, is as its own drain
+  -- leaves it from there.
+  pub record AreDrainedFrom (old new : ChannelSet K L) : Type 0 where
+    pub begun : ChannelSet K L
+    pub ends : EndsHoldAndReads L old begun
+    pub backup : AreAt L OnBackup begun
+    pub each : DrainsEach L begun new
