@@ -8,7 +8,6 @@ use save_device::SaveDevice;
 use std::alloc::Global;
 use std::fs::{File, OpenOptions, TryLockError};
 use std::io::{self, ErrorKind};
-use std::os::fd::AsRawFd;
 use std::os::unix::fs::{FileExt, OpenOptionsExt};
 use std::path::Path;
 use thiserror::Error;
@@ -44,7 +43,7 @@ impl From<io::Error> for OpenFault {
 /// 2. A write that a stop breaks off, or that wasn't synced, may leave anything in its own range of bytes, and nothing
 ///    elsewhere. A disk that loses the whole sector in which it was writing breaks this.
 /// 3. Nothing else writes the file. The lock only keeps out programs that ask for it too.
-/// 4. What is read as the file is opened, behind `fsync` and `POSIX_FADV_DONTNEED`, is what stands on the disk.
+/// 4. What is read as the file is opened, behind a good `fsync`, is what stands on the disk.
 /// 5. Each method makes the call of the system that its name says.
 #[derive(Drop)]
 pub struct HostFile {
@@ -121,14 +120,6 @@ fn sync_folder(rt: &HostRuntime, path: &str) -> io::Result<()> {
     File::open(rt, folder)?.sync_all()
 }
 
-// Has the kernel drop its copies of the file, so that what is read next is what the disk holds.
-fn drop_copies(file: &File) -> io::Result<()> {
-    match libc::posix_fadvise(file.as_raw_fd(), 0, 0, libc::POSIX_FADV_DONTNEED) {
-        0 => Ok(()),
-        error => Err(io::Error::from_raw_os_error(error)),
-    }
-}
-
 impl HostFile {
     /// Opens the file at the path, or makes one of so many zero bytes, which its owner alone may read and write. What stands
     /// there is made durable. A file of another length, one in use and what is no file are refused, and nothing is changed.
@@ -142,7 +133,6 @@ impl HostFile {
         }
         file.sync_all()?;
         sync_folder(rt, path)?;
-        drop_copies(&file)?;
         Ok(HostFile { file })
     }
 }
