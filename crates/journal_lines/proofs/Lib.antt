@@ -1,0 +1,6 @@
+pub mod Places
+pub mod Words
+pub mod Ringing
+pub mod Reading
+pub mod Opening
+pub mod Calling
