@@ -10,7 +10,7 @@ use Rattle.module_core.specs.InTurn.{AnswersCalls}
 use Rattle.module_core.specs.ModuleLives.{HasAnsweredByAny, SurvivesByAny, module_life}
 use Rattle.module_core.specs.Opening.{opened_with}
 use Rattle.module_core.specs.Stands.{RunsTo}
-use Rattle.module_core.proofs.Common.{[], ℕ, ◌++◌, ◌∙◌, ◌≡◌, append-nil, Assembly, Event, Gauge, Ghosts, Image, List, ModuleStands, Reply, Setup, World, point_of, refl, setup_of, subst, world_of}
+use Rattle.module_core.proofs.Common.{[], ℕ, ◌++◌, ◌∙◌, append-nil, Assembly, Event, Gauge, Ghosts, Image, List, ModuleStands, Reply, Setup, World, point_of, refl, setup_of, subst, world_of}
 use Rattle.module_core.proofs.ModulesLive.{opened_on}
 use Rattle.module_core.proofs.RunsOn.{run_worlds}
 

@@ -15,17 +15,17 @@ use Rattle.nv_machine.specs.Losses.{LoseStep, SavesAll}
 use Rattle.nv_machine.specs.Machine.{MachineStep}
 use Rattle.nv_machine.specs.Guard.{is_broken_off, would_lose_acknowledged}
 use Rattle.nv_machine.specs.Headline.{IsBacked, IsHonest, RecoversAfterwards, Run, SavesAllWritten}
-use Rattle.nv_machine.specs.Honesty.{IsHonestAlong, SavesAllAlong}
+use Rattle.nv_machine.specs.Honesty.{ArmsNone, IsHonestAlong, SavesAllAlong}
 use Rattle.nv_machine.proofs.Backing.{not_backed}
 use Rattle.nv_machine.proofs.CountedFaults.{Counts, event_counts, honest_ends, run_counts}
 use Rattle.nv_machine.proofs.HonestRuns.{backed_along, saved_along, unbroken_along}
-use Rattle.nv_machine.proofs.SparedDevices.{spared_ends}
+use Rattle.nv_machine.proofs.SparedDevices.{spared_ends, unarmed_spared}
 use Rattle.slot_store.specs.declared.head.Head.{Head}
 use Rattle.module_core.specs.HonestCalls.{HoldsAll, IsHonestSince, IsWholeLoss, SavesWhereHonest, StaysHonest, StaysWhereHonest, WasSpared}
 use Rattle.module_core.specs.InTurn.{AnswersCall, AnswersCalls}
 use Rattle.module_core.specs.ModuleLives.{HasAnswered, LifeSoFar}
 use Rattle.module_core.specs.Opening.{opened_with}
-use Rattle.module_core.specs.Stands.{EndsMains, RunsTo, world_of}
+use Rattle.module_core.specs.Stands.{EndsMains, world_of}
 use Rattle.module_core.proofs.Common.{[], ℕ, ◌++◌, ◌+◌, ◌∙◌, ◌∷◌, ◌≡◌, ◌≤◌, Assembly, ChannelsView, Event, Ghosts, Image, IsAmong, List, Machine, Module, ModuleStands, Outcome, Reply, Setup, Store, World, ap, arith, false, is_backed, made_of, other, point_of, refl, restored, setup_of, subst, sym}
 use Rattle.module_core.proofs.Applying.{same_setup}
 use Rattle.module_core.proofs.RunsOn.{run_worlds}
@@ -117,6 +117,15 @@ module _ {K : Type 0} (L : Ghosts K) where
       let run : Run (setup_of L first.it) events replies begun here =
       run_worlds L (setup_of L first.it) events replies (point_of L first (opened_with found image)) (point_of L now answered.runs.last) answered.runs.run in
       record { run = run; spared = spared_ends (setup_of L first.it) events replies begun here run refl same }
+
+  -- and so was each one before the module was armed
+  pub unarmed_module : (found : Head) (image : Image) (events : List Event) (replies : List Reply) (first now : Assembly L) (answered : HasAnswered L found image events replies first now)
+      → All ArmsNone replies → WasSpared L found image events replies first now answered
+  unarmed_module found image events replies first now answered unarmed =
+      let begun : World = world_of L first (opened_with found image) in let here : World = world_of L now answered.runs.last in
+      let run : Run (setup_of L first.it) events replies begun here =
+      run_worlds L (setup_of L first.it) events replies (point_of L first (opened_with found image)) (point_of L now answered.runs.last) answered.runs.run in
+      record { run = run; spared = unarmed_spared (setup_of L first.it) events replies begun here run refl unarmed }
 
   pub honest_life : (now : Assembly L) (so : LifeSoFar L now) → IsHonestSince L so.first now → WasSpared L so.found so.image so.events so.replies so.first now so.answered → StaysHonest L so.replies now
   honest_life now so gauge spared =

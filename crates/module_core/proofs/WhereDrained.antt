@@ -3,7 +3,7 @@ use Rattle.std.specs.Prelude.{Err, IfErr, OnOk, Result}
 use Rattle.arm_state.specs.declared.loss.Loss.{Loss}
 use Rattle.channel_port.specs.Draining.{Paid}
 use Rattle.module_core.specs.Draining.{WhereDrained}
-use Rattle.module_core.proofs.Common.{◌≡◌, Ok, subst, sym}
+use Rattle.module_core.proofs.Common.{◌≡◌, Ok, subst}
 
 pub where_drained : {P Q : Type 0} (lost : Loss) → (P → Q) → WhereDrained lost P → WhereDrained lost Q
 where_drained (Loss.Saved generation count) so here = so here

@@ -13,10 +13,10 @@ use Rattle.channel_port.specs.declared.port.ChannelPort.{Ghosts}
 use Rattle.nv_machine.specs.declared.events.Event.{Event}
 use Rattle.nv_machine.specs.declared.events.Reply.{Reply}
 use Rattle.nv_machine.specs.declared.events.Reply.TheVariants as replies
-use Rattle.nv_machine.specs.State.{Machine, Setup, World}
-use Rattle.nv_machine.specs.Headline.{IsBacked, Run}
+use Rattle.nv_machine.specs.State.{Machine}
+use Rattle.nv_machine.specs.Headline.{IsBacked}
 use Rattle.slot_store.specs.declared.head.Head.{Head}
-use Rattle.nv_machine.specs.Honesty.{IsSparedAlong}
+use Rattle.nv_machine.specs.Honesty.{RunsSpared}
 use Rattle.module_core.specs.Opening.{opened_with}
 use Rattle.module_core.specs.Stands.{Assembly, ModuleStands, RunsTo, lines_of_module, setup_of, world_of}
 use Rattle.module_core.specs.ModuleLives.{HasAnswered}
@@ -41,12 +41,6 @@ pub record HoldsAll (count : ℕ) (outcome : Outcome) : Type 0 where
   pub found : outcome ≡ Found slot image
   pub count_is : image.count ≡ count
   pub complete : verdict_of image.arm image.count ≡ Complete
-
--- A run of these events in which the device was spared: in a loss it failed no more often than its calls may be made again, and no
--- call was made of a save that is stranded. Wherever else it failed, and how often, doesn't matter.
-pub record RunsSpared (setup : Setup) (events : List Event) (replies : List Reply) (old new : World) : Type 0 where
-  pub run : Run setup events replies old new
-  pub spared : IsSparedAlong setup events replies old new run
 
 module _ {K : Type 0} (L : Ghosts K) where
   -- from one moment to the other the gauge has counted no fault, and its leak isn't above that of the costs

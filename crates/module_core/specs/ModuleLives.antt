@@ -1,5 +1,5 @@
 -- The lives of modules: what a module promises of the events that it answers is a life.
-use Rattle.std.specs.Prelude.{◌≡◌, ℕ, List, [], ◌∷◌, ◌++◌, Option, Some, None}
+use Rattle.std.specs.Prelude.{◌≡◌, ℕ, List, [], ◌++◌, Option, Some, None}
 use Rattle.save_image.specs.Image.{Image}
 use Rattle.save_device.specs.Device.{present, MayLeave}
 use Rattle.channel_port.specs.declared.port.ChannelPort.{Ghosts}

@@ -1,5 +1,6 @@
 // Single calls, lists of them, and what an honest gauge is enough for in them.
-ghost use Rattle.std.specs.Prelude.{◌≡◌, [], ◌∷◌, ◌++◌, List, ℕ};
+ghost use Rattle.std.specs.Prelude.{◌≡◌, [], ◌∷◌, ◌++◌, All, List, ℕ};
+ghost use Rattle.nv_machine.specs.Honesty.{ArmsNone};
 ghost use Rattle.save_image.specs.Image.{Image};
 ghost use Rattle.arm_state.specs.declared.loss.Loss.{Loss};
 ghost use Rattle.nv_machine.specs.declared.events.Event.{Event};
@@ -53,7 +54,8 @@ pub fn calls_in_turn<K: ChannelPort>()
 /// device has failed in it no more often than its calls may be made again.
 ///
 /// A device is spared that fails in ordinary saves and in arm calls, as often as it likes, and in each loss no more often than that;
-/// one that has counted no fault was spared (`faultless`).
+/// one that has counted no fault was spared (`faultless`), and so was each one before the module was armed, whatever failed
+/// (`unarmed`).
 pub fn honest_modules<K: ChannelPort>()
     ensures calls { (events : List Event) (replies : List Reply) (old new : Assembly K.ChannelPort)
         → AnswersCalls K.ChannelPort events replies old new
@@ -66,6 +68,11 @@ pub fn honest_modules<K: ChannelPort>()
         (replies : List Reply) (first now : Assembly K.ChannelPort)
         (answered : HasAnswered K.ChannelPort found image events replies first now)
         → faults_of now.device ≡ faults_of first.device
+        → WasSpared K.ChannelPort found image events replies first now answered }
+    ensures unarmed { (found : Head) (image : Image) (events : List Event)
+        (replies : List Reply) (first now : Assembly K.ChannelPort)
+        (answered : HasAnswered K.ChannelPort found image events replies first now)
+        → All ArmsNone replies
         → WasSpared K.ChannelPort found image events replies first now answered }
     ensures loss { (lost : Loss) (old new : Assembly K.ChannelPort)
         → AnswersCall K.ChannelPort event.Lose (reply.Lose lost) old new

@@ -3,7 +3,7 @@ use Rattle.std.proofs.lemmas.Bool.{cases_lt}
 use Rattle.energy_budget.proofs.Charging.{rises_none, rises_twice}
 use Rattle.energy_budget.specs.Charging.{RisesTo}
 use Rattle.nv_machine.specs.Headline.{AnyGauge, AnyRun, Happens, HappensNext, HappensNextBy, MayCut, MayPause, MayPauseBy, Pause, Rests, RestsBy, RunBy, RunOf, pause_at, paused}
-use Rattle.nv_machine.proofs.Common.{List, [], ap, arith, refl, subst, ⊎_elim, ℕ, ◌++◌, ◌∙◌, ◌∷◌, ◌<◌, ◌≤◌, ◌≡◌, Machine, newest_of, Gauge, Run, Setup, World, Event, Reply}
+use Rattle.nv_machine.proofs.Common.{List, [], ap, arith, refl, subst, ⊎_elim, ℕ, ◌++◌, ◌∙◌, ◌∷◌, ◌≤◌, Machine, newest_of, Gauge, Run, Setup, World, Event, Reply}
 
 -- a run, and one that goes on from its end: what is between the two may stand before the next event
 module _ {P : Type 0} (Between : P → P → Type 0) (Goes : Event → Reply → P → P → Type 0) (twice : (a b c : P) → Between a b → Between b c → Between a c)
@@ -110,3 +110,9 @@ happens_now = happens_now_by RisesTo rises_none
 pub join_runs : (setup : Setup) (events : List Event) (replies : List Reply) (more : List Event) (others : List Reply) (old mid new : World)
     → Run setup events replies old mid → Run setup more others mid new → Run setup (events ++ more) (replies ++ others) old new
 join_runs = join_runs_by RisesTo rises_twice
+
+pub rests_twice : (a b c : World) → Rests a b → Rests b c → Rests a c
+rests_twice = rests_twice_by RisesTo rises_twice
+
+pub happens_later : (setup : Setup) (event : Event) (reply : Reply) (old mid new : World) → Rests old mid → HappensNext setup event reply mid new → HappensNext setup event reply old new
+happens_later = happens_later_by RisesTo rises_twice

@@ -3,9 +3,8 @@ use Rattle.std.proofs.lemmas.List.Elements.{Contains-append_cases, Contains-appe
 use Rattle.std.specs.Prelude.{Contains}
 use Rattle.save_device.specs.Device.{MayLeave, Moment, moments_of, present}
 use Rattle.nv_machine.specs.Headline.{Happens, HappensNextBy, RunBy, paused}
-use Rattle.nv_machine.specs.Lives.{IsLeftAt, LivedBy, Unanswered, last_life, moments_since}
+use Rattle.nv_machine.specs.Lives.{IsLeftAt, LivedBy, Unanswered, moments_since}
 use Rattle.nv_machine.specs.StoppedRuns.{LeaveImage, StopsAmong, SurvivesStops, stopped_life}
-use Rattle.nv_machine.specs.Survival.{IsSurvivedBehind}
 use Rattle.nv_machine.proofs.Common.{List, [], ap, append_assoc, refl, subst, sym, ℕ, ⊎_elim, ◌++◌, ◌∙◌, ◌∷◌, ◌≡◌, None, Some, append-nil, Gauge, AreChained, IsLived, Lived, Machine, Setup, World, Event, Reply}
 use Rattle.nv_machine.proofs.Guarded.{guarded_new}
 use Rattle.nv_machine.proofs.RisingMarks.{run_rises_by}

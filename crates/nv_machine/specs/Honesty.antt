@@ -1,8 +1,10 @@
 -- A run of events through which the gauge was honest and the device spared.
-use Rattle.std.specs.Prelude.{List, [], ◌∷◌}
+use Rattle.std.specs.Prelude.{List, [], ◌∷◌, Ok}
+use Rattle.arm_state.specs.declared.refusal.ArmReply.TheVariants as arm
 use Rattle.energy_budget.specs.Gauge.{IsHonestThrough}
 use Rattle.nv_machine.specs.declared.events.Event.{Event}
 use Rattle.nv_machine.specs.declared.events.Reply.{Reply}
+use Rattle.nv_machine.specs.declared.events.Reply.TheVariants as replies
 use Rattle.nv_machine.specs.State.{Setup, World}
 use Rattle.nv_machine.specs.Headline.{Run, IsBacked, IsHonest, IsSpared, SavesAllWritten, paused}
 
@@ -34,3 +36,14 @@ module _ (setup : Setup) where
 
   abbrev pub IsBackedAt : World → Type 0
   IsBackedAt world = IsBacked setup world.machine world.gauge
+
+-- A run of these events in which the device was spared: in a loss it failed no more often than its calls may be made again, and no
+-- call was made of a save that is stranded. Wherever else it failed, and how often, doesn't matter.
+pub record RunsSpared (setup : Setup) (events : List Event) (replies : List Reply) (old new : World) : Type 0 where
+  pub run : Run setup events replies old new
+  pub spared : IsSparedAlong setup events replies old new run
+
+-- it arms no machine
+abbrev pub ArmsNone : Reply → Type 0
+ArmsNone (replies.Arm (Ok arm.Armed)) = ⊥
+ArmsNone reply = Unit {0}

@@ -2,7 +2,7 @@
 use Rattle.nv_machine.proofs.Backing.{not_backed}
 use Rattle.nv_machine.proofs.CountedFaults.{honest_ends}
 use Rattle.nv_machine.proofs.HonestRuns.{backed_along, saved_along}
-use Rattle.nv_machine.proofs.SparedDevices.{spared_ends}
+use Rattle.nv_machine.proofs.SparedDevices.{spared_ends, spared_on, unarmed_spared}
 use Rattle.nv_machine.proofs.honesty.honest_run.Goals as goal
 
 pub returns-clause-backed : goal.returns-clause-backed
@@ -16,6 +16,12 @@ returns-clause-ends c = honest_ends
 
 pub returns-clause-spared : goal.returns-clause-spared
 returns-clause-spared c = spared_ends
+
+pub returns-clause-unarmed : goal.returns-clause-unarmed
+returns-clause-unarmed c = unarmed_spared
+
+pub returns-clause-on : goal.returns-clause-on
+returns-clause-on c = spared_on
 
 pub returns-clause-begins : goal.returns-clause-begins
 returns-clause-begins c = not_backed
