@@ -12,7 +12,7 @@ returns-in-Ok-clause-answers g c = λ device gauge.
     let L = g.K.ChannelPort in let e = c.get.ensures in let old = c.args.self.now in let line : ℕ = c.args.line in let later : Waits = (view_of L c.get.new.self).waits in
     waited L (events.Read line) (replies.Read (Ok c.get.result)) old _ device gauge
     (record { numbers = record { terms = refl; accepted = refl; persisted = refl }; mode = refl; saves = refl; shape = ap (λ (v : ChannelsView). v.shape) e.rest }) refl
-    (ap (λ (v : ChannelsView). v.hold) e.rest) e.keeps refl refl (λ m h.
+    (ap (λ (v : ChannelsView). v.hold) e.rest) e.keeps refl refl e.issued.lists (λ m h.
     let channel : ℕ = (setup_of L old).shape.channel_of line in let bytes : List ℕ = line_of (memory_of m) line in
     let told : IsGot bytes line (all_of m) channel c.get.result m.waits later =
     subst (λ (k : ℕ). IsGot bytes line k channel c.get.result m.waits later) h.front.accepted
@@ -27,4 +27,4 @@ returns-in-Ok-clause-answers g c = λ device gauge.
 
 pub returns-in-Err-clause-answers : goal.returns-in-Err-clause-answers
 returns-in-Err-clause-answers g c = λ device gauge.
-    unmoved g.K.ChannelPort (events.Read c.args.line) (replies.Read (Err c.in-Err.refusal)) c.args.self.now device gauge (λ m h. (refl, (c.in-Err.ensures.refusal m h, refl))) refl refl (λ m h. tt)
+    unmoved g.K.ChannelPort (events.Read c.args.line) (replies.Read (Err c.in-Err.refusal)) c.args.self.now device gauge (λ m h. (refl, (c.in-Err.ensures.refusal m h, refl))) refl refl (λ m h. tt) refl

@@ -42,11 +42,11 @@ returns-clause-answers g c = λ device gauge.
       step = (refl, (c.in-Ok.ensures.admitted m h, record { number = accepts.number ∙ h.front.accepted; mark = accepts.mark ∙ front.persisted; puts = puts; is = refl }));
       matches = record { front = front; memory = memory; carried = carried };
       moves = inl (refl, accepts.saves);
-    }) accepts.saved refl (λ m h. tt)
+    }) accepts.saved refl (λ m h. tt) c.put.ensures.issued.lists
 
 pub returns-in-Err-clause-answers : goal.returns-in-Err-clause-answers
 returns-in-Err-clause-answers g c = λ device gauge.
-    unmoved g.K.ChannelPort (events.Write c.args.write) (replies.Write (Err c.in-Err.refusal)) c.args.self.now device gauge (λ m h. (refl, (c.in-Err.ensures.refusal m h, refl))) refl refl (λ m h. tt)
+    unmoved g.K.ChannelPort (events.Write c.args.write) (replies.Write (Err c.in-Err.refusal)) c.args.self.now device gauge (λ m h. (refl, (c.in-Err.ensures.refusal m h, refl))) refl refl (λ m h. tt) refl
 
 pub invariant_of-self-clause-below : goal.invariant_of-self-clause-below
 invariant_of-self-clause-below g c =
