@@ -23,8 +23,9 @@ same-lists f (p ∷ old) (q ∷ new) zip = ap (λ list. list ∷ map f new) zip.
 
 module _ {K : Type 0} (L : Ghosts K) where
   -- one port has changed
-  pub issues-set : (old new : ChannelSet K L) (i : ℕ) (p q : K) (command : Option Stamped) → new.ports.items ≡ slice_set old.ports.items i q → slice_get old.ports.items i ≡ Some p → L.issued q ≡ with_issued command (L.issued p) → IssuesOn L i command old new
-  issues-set old new i p q command is at more = record {
+  pub issues-set : (old new : ChannelSet K L) (i : ℕ) (p q : K) (command : Option Stamped) → new.terms.checked ≡ old.terms.checked → new.ports.items ≡ slice_set old.ports.items i q → slice_get old.ports.items i ≡ Some p → L.issued q ≡ with_issued command (L.issued p) → IssuesOn L i command old new
+  issues-set old new i p q command checked is at more = record {
+    checked = checked;
     lists = ap (map L.issued) is ∙ set-lists L.issued old.ports.items i p q command at more;
     others = λ other apart. ap (λ ports. slice_get ports other) is ∙ get-set_other old.ports.items i other q apart;
   }

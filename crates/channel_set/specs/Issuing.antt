@@ -14,13 +14,15 @@ module _ {K : Type 0} (L : Ghosts K) where
   abbrev pub issued_in : ChannelSet K L → List (List Stamped)
   issued_in channels = map L.issued channels.ports.items
 
-  -- none of them issued a command
-  abbrev pub IssuesNone : ChannelSet K L → ChannelSet K L → Type 0
-  IssuesNone old new = issued_in new ≡ issued_in old
+  -- none of them issued a command, and their profile is the same
+  pub record IssuesNone (old new : ChannelSet K L) : Type 0 where
+    pub lists : issued_in new ≡ issued_in old
+    pub checked : new.terms.checked ≡ old.terms.checked
 
   -- This channel issued this command, or none, and all other channels are as they were.
   pub record IssuesOn (channel : ℕ) (command : Option Stamped) (old new : ChannelSet K L) : Type 0 where
     pub lists : issued_in new ≡ with_issued_on channel command (issued_in old)
+    pub checked : new.terms.checked ≡ old.terms.checked
     pub others : (other : ℕ) → other ≢ channel → slice_get new.ports.items other ≡ slice_get old.ports.items other
 
   -- none of them has issued a command yet

@@ -1,6 +1,7 @@
 -- One event of the module, from its step and what the device may leave.
 use Rattle.channel_port.specs.declared.answers.Done.{Done}
 use Rattle.channel_set.specs.Carrying.{KeepsAll}
+use Rattle.channel_set.specs.Issuing.{IssuesNone, IssuesOn}
 use Rattle.channel_set.specs.Set.{NextCommand}
 use Rattle.channel_set.specs.declared.set.ChannelSet.{ChannelSet}
 use Rattle.module_core.specs.Fronts.{SameNumbers}
@@ -37,6 +38,16 @@ newest_after (replies.Lose (Loss.Saved generation count)) before after keeps = k
 newest_after reply before after keeps = keeps
 
 module _ {K : Type 0} (L : Ghosts K) where
+  -- channels of which nothing was asked, or several things, and of which none issued a command
+  pub unissued : (channels : ChannelSet K L) → IssuesNone L channels channels
+  unissued channels = record { lists = refl; checked = refl }
+
+  pub issues_none : (old mid new : ChannelSet K L) → IssuesNone L old mid → IssuesNone L mid new → IssuesNone L old new
+  issues_none old mid new first second = record { lists = second.lists ∙ first.lists; checked = second.checked ∙ first.checked }
+
+  pub quiet : (channel : ℕ) (old new : ChannelSet K L) → IssuesOn L channel None old new → IssuesNone L old new
+  quiet channel old new on = record { lists = on.lists; checked = on.checked }
+
   known : (it : Module K L) (state : DeviceState) (m : Machine) → ModuleStands L it state m → IsKnown (setup_of L it) m
   known it state m s = search rules
 

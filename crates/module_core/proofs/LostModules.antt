@@ -26,7 +26,7 @@ use Rattle.nv_machine.specs.declared.events.Event.TheVariants as events
 use Rattle.nv_machine.specs.declared.events.Reply.TheVariants as replies
 use Rattle.module_core.proofs.Common.{[], ℕ, ◌∙◌, ◌≡◌, Assembly, BeginsSave, ChannelsView, DeviceState, Err, Gauge, GaugeCall, Ghosts, Holds, HoldsWhile, Image, IsAmong, IsMemory, IsReadyToClose, IsResting, List, Machine, Matches, Mode, Module, ModuleStands, Newest, None, Ok, Option, ReachesStore, ReadsLevel, SaveRun, Shape, Some, StopsWithin, Store, Waits, after, ap, assembly, base_of_life, begun, begun_save, false, has_ended, hold_of, inl, is_backed, lines_of_module, made_of, memory_of, present, refl, restored, rules, saved_in, saves_at, setup_of, shape_of, start_of_life, started, subst, sym, true, view_of, weaker, world_of}
 use Rattle.module_core.specs.Losing.{AnswersLoss}
-use Rattle.module_core.proofs.Applying.{asked, counted, same_lines, same_setup, unmoved}
+use Rattle.module_core.proofs.Applying.{asked, counted, issues_none, same_lines, same_setup, unissued, unmoved}
 use Rattle.module_core.proofs.Knowing.{holds_begun}
 use Rattle.module_core.proofs.LossSteps.{all_saved, dark, fault, saved_on}
 use Rattle.module_core.proofs.RunningSaves.{holds_runs}
@@ -60,7 +60,7 @@ module _ {K : Type 0} (L : Ghosts K) where
       → view_of L new ≡ record (view_of L mid) { waits = (view_of L new).waits } → IssuesNone L old mid → IssuesNone L mid new → KeepsAll L old mid → KeepsAll L mid new → EndsHoldAndReads L old new
   loses_reads old mid new held reads rest none nothing first second = record {
     is = rest ∙ ap (λ (w : Waits). record (view_of L mid) { waits = w }) reads ∙ ap (λ (v : ChannelsView). record v { waits = record v.waits { reads = [] } }) held;
-    issued = nothing ∙ none;
+    issued = issues_none L old mid new none nothing;
     keeps = λ base start writes carries. second base start writes (first base start writes carries);
   }
 
@@ -68,7 +68,7 @@ module _ {K : Type 0} (L : Ghosts K) where
   pub answers_closed : (order : DrainOrder) (it : Module K L) (device : DeviceState) (gauge : Gauge) → has_ended it.front.mode ≡ true → (m : Machine) → ModuleStands L it device m
       → AnswersLoss L order loss.Closed (assembly it device gauge) (assembly it device gauge) m
   answers_closed order it device gauge ended m stands = record {
-    answers = unmoved L events.Lose (replies.Lose loss.Closed) it device gauge (λ n h. (order, (ap has_ended (sym h.front.mode) ∙ ended, refl))) refl refl (λ n h. tt) refl m stands;
+    answers = unmoved L events.Lose (replies.Lose loss.Closed) it device gauge (λ n h. (order, (ap has_ended (sym h.front.mode) ∙ ended, refl))) refl refl (λ n h. tt) (unissued L it.channels) m stands;
     loses = (m, stands, (ap has_ended (sym stands.matches.front.mode) ∙ ended, refl));
   }
 

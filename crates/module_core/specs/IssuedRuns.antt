@@ -34,10 +34,14 @@ module _ {K : Type 0} (L : Ghosts K) where
   abbrev pub issued_on : ChannelSet K L → ℕ → List Stamped
   issued_on channels channel = slice_index_or (issued_in L channels) channel []
 
-  -- Through events in none of which a drain was begun each channel has issued the commands that the replies tell of it, in turn, and
-  -- no other.
+  -- As many channels of the same profile as before, each of which has issued these commands since, in turn, and no other.
+  pub record HaveIssued (told : ℕ → List Stamped) (old new : ChannelSet K L) : Type 0 where
+    pub checked : new.terms.checked ≡ old.terms.checked
+    pub count : length new.ports.items ≡ length old.ports.items
+    pub lists : (channel : ℕ) → channel < length old.ports.items → issued_on new channel ≡ issued_on old channel ++ told channel
+
+  -- Through events in none of which a drain was begun each channel has issued the commands that the replies tell of it.
   abbrev pub RunsIssue : Type 0
   RunsIssue =
       (setup : Setup) (events : List Event) (replies : List Reply) (old new : Point L) → RunAt L setup events replies old new
-      → All (λ reply. begins_drains reply ≡ false) replies → (channel : ℕ) → channel < length old.channels.ports.items
-      → issued_on new.channels channel ≡ issued_on old.channels channel ++ told_on channel events replies
+      → All (λ reply. begins_drains reply ≡ false) replies → HaveIssued (λ channel. told_on channel events replies) old.channels new.channels

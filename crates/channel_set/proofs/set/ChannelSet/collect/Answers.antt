@@ -16,7 +16,7 @@ returns-then-ticket-len-clause-collected g c =
     )
 
 pub returns-then-ticket-len-clause-issued : goal.returns-then-ticket-len-clause-issued
-returns-then-ticket-len-clause-issued g c = record { lists = refl; others = λ other apart. refl }
+returns-then-ticket-len-clause-issued g c = record { lists = refl; checked = refl; others = λ other apart. refl }
 
 pub collect-requires : goal.collect-requires
 collect-requires g c =
@@ -47,7 +47,7 @@ returns g c =
     record {
       collected = collected-there L channels.terms ports i p q channels.are at g.met.K.ChannelPort.own_reads c.args.ticket refl c.collect.result did.collected;
       rest = seen-set L channels i p q _ at did.rest;
-      issued = issues-set L channels _ i p q None refl at did.issued;
+      issued = issues-set L channels _ i p q None refl refl at did.issued;
       mains = stage-set L OnMains ports i p q _ _ at did.rest;
       keeps = carries-set L channels _ i p q refl refl at (ap (λ v. v.place_of) did.rest) (record { keeps = did.keeps; remain = collected-remain L p q c.args.ticket c.collect.result did.collected });
     }

@@ -52,7 +52,7 @@ returns g c =
           (subst (λ b. IsGot b line c.args.at (L.view p).number c.get.result (L.view p).waits (L.view q).waits) bytes (got.got base mine (carries.each i p at).carries));
       rest = seen-set L channels i p q _ at got.rest;
       writes = writes-stay L channels.terms ports i p q channels.are at got.writes;
-      issued = issues-set L channels _ i p q None refl at got.issued;
+      issued = issues-set L channels _ i p q None refl refl at got.issued;
       mains = stage-set L OnMains ports i p q _ _ at got.rest c.requires.mains;
       keeps = carries-set L channels _ i p q refl refl at (ap (λ v. v.place_of) got.rest) (record { keeps = got.keeps; remain = remain-same (writes_in L p) (writes_in L q) got.writes });
     }

@@ -26,4 +26,4 @@ returns g c =
     let L = g.K.ChannelPort in
     let channels = c.args.self.now in
     let turned = turned-vec L (λ waits. waits) (λ hold. c.args.from) (λ stage. stage) channels.ports c.deref_mut-port-items.result.now c.loop-port.port-items c.loop-port.port-index c.deref_mut-port-items.ensures.value c.deref_mut-port-items.ensures.len c.loop-port-test.false c.loop-port.invariant in
-    record { held = held-seen L c.args.from channels _ turned; cost = turned-cost L turned; issued = turned-issued L turned; mains = turned-stage L turned OnMains; keeps = carries-again L channels _ refl (turned-places L turned) (turned-kept L turned (λ w. refl)) }
+    record { held = held-seen L c.args.from channels _ turned; cost = turned-cost L turned; issued = record { lists = turned-issued L turned; checked = refl }; mains = turned-stage L turned OnMains; keeps = carries-again L channels _ refl (turned-places L turned) (turned-kept L turned (λ w. refl)) }

@@ -30,7 +30,7 @@ returns g c =
       reads = lost-waits L channels.ports.items _ turned;
       rest = lost-seen L channels _ turned;
       cost = turned-cost L turned;
-      issued = turned-issued L turned;
+      issued = record { lists = turned-issued L turned; checked = refl };
       backup = turned-stage L turned OnMains c.requires;
       keeps = carries-again L channels _ refl (turned-places L turned) (turned-kept L turned (λ w. refl));
     }

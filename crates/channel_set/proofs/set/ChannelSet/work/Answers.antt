@@ -32,7 +32,7 @@ returns g c =
       next = work-next L channels i p _ at did.next;
       stays = work-stays L channels i p q at done did.stays;
       rest = seen-again L channels.terms channels.costs ports (slice_set ports i q) (length-set ports i q) (places-set L ports i p q at (ap (λ v. v.place_of) did.rest));
-      issued = issues-set L channels _ i p q (option_map (λ done. done.command) done) refl at did.issued;
+      issued = issues-set L channels _ i p q (option_map (λ done. done.command) done) refl refl at did.issued;
       mains = stage-set L OnMains ports i p q _ _ at did.rest c.requires.mains;
       keeps = carries-set L channels _ i p q refl refl at (ap (λ v. v.place_of) did.rest) (record { keeps = did.keeps; remain = work-remain L (L.view p).hold (L.view p).number p q done did.served did.stays });
     }

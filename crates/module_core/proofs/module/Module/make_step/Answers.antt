@@ -70,7 +70,7 @@ returns-in_default g c =
       call = e.call;
       saved = e.saved;
       terms = e.terms;
-      issued = refl;
+      issued = record { lists = refl; checked = refl };
       setup = ap (λ (t : LifeTerms). record { shape = shape_of g.K.ChannelPort c.args.self.now.channels; trail = t.trail }) e.terms;
       size = e.size (lines_of_module g.K.ChannelPort c.args.self.now) c.requires.size;
     }
