@@ -1,7 +1,7 @@
 -- The commands that the channels issue through events.
 use Rattle.std.proofs.Common.{length-set, slice_index_or, slice_set}
 use Rattle.std.proofs.lemmas.Bool.{cases_eq, eq-eqb, ne_eqb}
-use Rattle.std.proofs.lemmas.List.{append_assoc, get_or-set_other, get_or-set_same}
+use Rattle.std.proofs.lemmas.List.{append_assoc, get_or-set_other, get_or-set_same, length-map}
 use Rattle.std.proofs.lemmas.List.Elements.{All-head, All-tail}
 use Rattle.std.specs.Prelude.{◌==◌, All}
 use Rattle.ddr4_timing.specs.declared.command.Stamped.{Stamped}
@@ -14,7 +14,7 @@ use Rattle.module_core.specs.IssuedRuns.{HaveIssued, RunsIssue, begins_drains, i
 use Rattle.module_core.specs.Issuing.{Issues}
 use Rattle.module_core.specs.Stands.{Point, RunAt}
 use Rattle.module_core.proofs.Applying.{quiet}
-use Rattle.module_core.proofs.Common.{if◌then◌else◌, [], ℕ, ◌++◌, ◌<◌, ◌∙◌, ◌∷◌, ◌≡◌, ◌≢◌, Bool, Event, Ghosts, List, None, Reply, Setup, Some, ap, append-nil, arith, false, inl, inr, length, length-map, refl, subst, sym, true}
+use Rattle.module_core.proofs.Common.{if◌then◌else◌, [], ℕ, ◌++◌, ◌<◌, ◌∙◌, ◌∷◌, ◌≡◌, ◌≢◌, Bool, Event, Ghosts, List, None, Reply, Setup, Some, ap, append-nil, arith, false, inl, inr, length, refl, subst, sym, true}
 
 -- the list of a channel once one command more is in the list of one
 one-more : (lists : List (List Stamped)) (worked channel : ℕ) (command : Stamped) → channel < length lists

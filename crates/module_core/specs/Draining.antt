@@ -27,6 +27,6 @@ module _ {K : Type 0} (L : Ghosts K) where
   -- leaves it from there.
   pub record AreDrainedFrom (old new : ChannelSet K L) : Type 0 where
     pub begun : ChannelSet K L
-    pub ends : EndsHoldAndReads L old begun
+    pub ends : EndsHoldAndReads old begun
     pub backup : AreAt L OnBackup begun
     pub each : DrainsEach L begun new
