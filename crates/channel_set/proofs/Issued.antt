@@ -1,8 +1,8 @@
 -- What the channels issued, by what one of them did or each.
 use Rattle.channel_port.specs.Issuing.{with_issued}
 use Rattle.ddr4_timing.specs.declared.command.Stamped.{Stamped}
-use Rattle.channel_set.specs.Issuing.{IssuesNone, IssuesOn, with_issued_on}
-use Rattle.channel_set.proofs.Common.{◌≡◌, ℕ, zero, suc, refl, sym, ap, subst, ◌∙◌, List, [], ◌∷◌, ◌++◌, map, slice_get, slice_set, Option, Some, None, AllZip, same_Some, Ghosts, ChannelSet}
+use Rattle.channel_set.specs.Issuing.{IssuesOn, with_issued_on}
+use Rattle.channel_set.proofs.Common.{◌≡◌, ℕ, zero, suc, refl, sym, ap, ◌∙◌, List, [], ◌∷◌, ◌++◌, map, slice_get, slice_set, Option, Some, None, AllZip, same_Some, Ghosts, ChannelSet}
 use Rattle.channel_set.proofs.Lists.{get-set_other}
 
 -- one element has changed, whose list has this command more, or none

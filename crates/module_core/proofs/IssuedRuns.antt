@@ -3,7 +3,7 @@ use Rattle.std.proofs.Common.{length-set, slice_index_or, slice_set}
 use Rattle.std.proofs.lemmas.Bool.{cases_eq, eq-eqb, ne_eqb}
 use Rattle.std.proofs.lemmas.List.{append_assoc, get_or-set_other, get_or-set_same, length-map}
 use Rattle.std.proofs.lemmas.List.Elements.{All-head, All-tail}
-use Rattle.std.specs.Prelude.{◌==◌, All}
+use Rattle.std.specs.Prelude.{◌==◌}
 use Rattle.ddr4_timing.specs.declared.command.Stamped.{Stamped}
 use Rattle.arm_state.specs.declared.loss.Loss.TheVariants as loss
 use Rattle.channel_set.specs.Issuing.{IssuesNone, issued_in, with_issued_on}
@@ -12,9 +12,9 @@ use Rattle.nv_machine.specs.declared.events.Event.TheVariants as events
 use Rattle.nv_machine.specs.declared.events.Reply.TheVariants as replies
 use Rattle.module_core.specs.IssuedRuns.{HaveIssued, RunsIssue, begins_drains, issued_on, told_by, told_on}
 use Rattle.module_core.specs.Issuing.{Issues}
-use Rattle.module_core.specs.Stands.{Point, RunAt}
+use Rattle.module_core.specs.Stands.{Point}
 use Rattle.module_core.proofs.Applying.{quiet}
-use Rattle.module_core.proofs.Common.{if◌then◌else◌, [], ℕ, ◌++◌, ◌<◌, ◌∙◌, ◌∷◌, ◌≡◌, ◌≢◌, Bool, Event, Ghosts, List, None, Reply, Setup, Some, ap, append-nil, arith, false, inl, inr, length, refl, subst, sym, true}
+use Rattle.module_core.proofs.Common.{if◌then◌else◌, [], ℕ, ◌++◌, ◌<◌, ◌∙◌, ◌∷◌, ◌≡◌, Bool, Event, Ghosts, List, None, Reply, Some, ap, append-nil, arith, false, inl, inr, length, sym}
 
 -- the list of a channel once one command more is in the list of one
 one-more : (lists : List (List Stamped)) (worked channel : ℕ) (command : Stamped) → channel < length lists

@@ -1,5 +1,5 @@
 -- Which machine a module stands for.
-use Rattle.std.specs.Prelude.{◌≡◌, ◌⊎◌, ◌<◌, ◌≤◌, ℕ, Bool, true, List, [], Option, Some, None}
+use Rattle.std.specs.Prelude.{◌≡◌, ◌⊎◌, ◌<◌, ◌≤◌, ℕ, Bool, true, List, Option, Some, None}
 use Rattle.std.specs.Option.{ForSome, option_map}
 use Rattle.line_memory.specs.Memory.{IsMemory}
 use Rattle.save_device.specs.Device.{DeviceState, present, StopsWithin}
