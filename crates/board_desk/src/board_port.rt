@@ -62,6 +62,8 @@ impl<K: ChannelPort, B: PartsName> ChannelPort for BoardPort<K, B> {
 
     ghost carries = { K.carries };
 
+    ghost issued = { K.issued };
+
     ghost next_command = { K.next_command };
 
     ghost drain_cost = { K.drain_cost };

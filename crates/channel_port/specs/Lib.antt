@@ -4,3 +4,4 @@ pub mod Shape
 pub mod Answers
 pub mod Carried
 pub mod Draining
+pub mod Issuing

@@ -13,6 +13,7 @@ ghost use Rattle.channel_port.specs.View.{PortView, is_full, is_full_of_reads, o
 ghost use Rattle.channel_port.specs.declared.stage.Stage.TheVariants.{OnBackup, OnMains};
 ghost use Rattle.channel_port.specs.Waits.{AllBelow, emptied};
 ghost use Rattle.channel_port.specs.Answers.{IsCollected, IsGot, IsServed};
+ghost use Rattle.channel_port.specs.Issuing.{with_issued};
 ghost use Rattle.channel_port.specs.Carried.{KeepsCarried, NoneBelow, WaitFrom};
 ghost use Rattle.channel_port.specs.Draining.{PaysInTurn, TakesPaid};
 
@@ -32,6 +33,9 @@ pub trait ChannelPort {
 
     /// The channel's lines were those of this memory at first, and it was given these writes of them since.
     ghost carries: { Self → List (List ℕ) → List Numbered → Type 0 };
+
+    /// The commands that it issued since it began, each with its clock, the oldest first.
+    ghost issued: { Self → List Stamped };
 
     /// The command that it has to issue next, with its clock; none where it has nothing to issue.
     ghost next_command: { Self → Option Stamped → Type 0 };
@@ -73,6 +77,7 @@ pub trait ChannelPort {
         requires room { is_full (view self.old) ≡ false }
         requires mains { (view self.old).stage ≡ OnMains }
         ensures puts { view self.new ≡ with_write number (view self.old) }
+        ensures issued { issued self.new ≡ issued self.old }
         ensures carries { (base : List (List ℕ)) (mine : List Numbered)
             → carries self.old base mine → AreBefore number mine
             → carries self.new base (mine ++ numbered number write ∷ []) };
@@ -90,6 +95,7 @@ pub trait ChannelPort {
             result (view self.old).waits (view self.new).waits }
         ensures writes { (view self.new).waits.writes ≡ (view self.old).waits.writes }
         ensures rest { view self.new ≡ record (view self.old) { waits = (view self.new).waits } }
+        ensures issued { issued self.new ≡ issued self.old }
         ensures keeps { KeepsCarried (carries self.old) (carries self.new) };
 
     /// What there is for a ticket of the channel.
@@ -97,15 +103,18 @@ pub trait ChannelPort {
         requires here { ticket.channel ≡ (view self.old).number }
         ensures collected { IsCollected ticket result (view self.old).waits (view self.new).waits }
         ensures rest { view self.new ≡ record (view self.old) { waits = (view self.new).waits } }
+        ensures issued { issued self.new ≡ issued self.old }
         ensures keeps { KeepsCarried (carries self.old) (carries self.new) };
 
-    /// Issues one command, where there is one.
+    /// Issues one command, where there is one, and no other. The other calls on mains issue none.
     fn work(&mut self) -> Option<Done>
         requires mains { (view self.old).stage ≡ OnMains }
         ensures served { IfSome result (λ done. IsServed (view self.old).hold (view self.old).number
             done.served (view self.old).waits (view self.new).waits) }
         ensures next { next_command self.old (option_map (λ done. done.command) result) }
         ensures stays { IfNone result (view self.new ≡ view self.old) }
+        ensures issued { issued self.new
+            ≡ with_issued (option_map (λ done. done.command) result) (issued self.old) }
         ensures rest { view self.new ≡ record (view self.old) {
           waits = (view self.new).waits;
           stored = (view self.new).stored;
@@ -116,6 +125,7 @@ pub trait ChannelPort {
     fn hold(&mut self, from: Option<u64>)
         ensures held { view self.new ≡ record (view self.old) { hold = from } }
         ensures cost { drain_cost self.new ≡ drain_cost self.old }
+        ensures issued { issued self.new ≡ issued self.old }
         ensures keeps { KeepsCarried (carries self.old) (carries self.new) };
 
     /// A line in the array, without the writes that wait.
@@ -130,6 +140,7 @@ pub trait ChannelPort {
         requires mains { (view self.old).stage ≡ OnMains }
         ensures lost { view self.new ≡ on_backup (view self.old) }
         ensures cost { drain_cost self.new ≡ drain_cost self.old }
+        ensures issued { issued self.new ≡ issued self.old }
         ensures keeps { KeepsCarried (carries self.old) (carries self.new) };
 
     /// On backup: pays for the close step and for the entry of each write, each before it is made, and takes the writes into

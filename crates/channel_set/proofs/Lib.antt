@@ -5,6 +5,7 @@ pub mod Alike
 pub mod Written
 pub mod Counted
 pub mod Carried
+pub mod Issued
 pub mod Putting
 pub mod Settling
 pub mod Answered

@@ -1,13 +1,14 @@
 -- All ports changed alike: one hold for all, or reads that are lost in all.
 use Rattle.std.specs.Prelude.{Vec, vec_len}
 use Rattle.std.specs.Vec.{with_items}
-use Rattle.channel_set.proofs.Common.{◌≡◌, ◌≤◌, ℕ, refl, ap, ◌∙◌, List, [], length, slice_get, Some, Option, AllZip, Costs, Ghosts, IsShape, KeepsCarried, OnBackup, Stage, Waits, PortTerms, ArePorts, ChannelSet, places_of, shape_with, view_of, waits_in}
+use Rattle.channel_set.proofs.Common.{◌≡◌, ◌≤◌, ℕ, refl, ap, ◌∙◌, List, [], length, map, slice_get, Some, Option, AllZip, Costs, Ghosts, IsShape, KeepsCarried, OnBackup, Stage, Waits, PortTerms, ArePorts, ChannelSet, places_of, shape_with, view_of, waits_in}
 use Rattle.channel_set.proofs.Alike.{Alike, stage-again, places-again, ports-alike, seen, seen-stored, shaped-again}
 use Rattle.channel_set.proofs.Carried.{Kept}
 use Rattle.energy_budget.specs.declared.costs.CostNumbers.{CostNumbers}
 use Rattle.channel_set.specs.Draining.{drains_cost}
 use Rattle.channel_set.proofs.Costing.{costs-same}
 use Rattle.channel_set.proofs.Counted.{given_in, reads_in, same-waits, writes_in}
+use Rattle.channel_set.proofs.Issued.{same-lists}
 use Rattle.channel_set.proofs.Lists.{Moved, moved-vec, piles-none, piles-same, zip-size, zip-was, zip-weaker}
 use Rattle.channel_set.proofs.Piles.{remain-same}
 
@@ -16,6 +17,7 @@ module _ {K : Type 0} (L : Ghosts K) where
   pub record Turns (after : Waits → Waits) (hold : Option ℕ → Option ℕ) (stage : Stage → Stage) (old new : K) : Type 0 where
     pub is : L.view new ≡ record (L.view old) { waits = after (L.view old).waits; hold = hold (L.view old).hold; stage = stage (L.view old).stage }
     pub cost : L.drain_cost new ≡ L.drain_cost old
+    pub issued : L.issued new ≡ L.issued old
     pub keeps : KeepsCarried (L.carries old) (L.carries new)
 
   abbrev pub HoldsFrom : Option ℕ → K → K → Type 0
@@ -72,6 +74,10 @@ module _ {K : Type 0} (L : Ghosts K) where
     -- their drains cost the same
     pub turned-cost : (numbers : CostNumbers) → drains_cost L new numbers ≡ drains_cost L old numbers
     turned-cost numbers = costs-same L numbers old new (zip-weaker (Turns after hold stage) (λ p q. L.drain_cost q ≡ L.drain_cost p) old new (λ j p q at t. t.cost) turned.each)
+
+    -- none of them issued a command
+    pub turned-issued : map L.issued new ≡ map L.issued old
+    turned-issued = same-lists L.issued old new (zip-weaker (Turns after hold stage) (λ p q. L.issued q ≡ L.issued p) old new (λ j p q at t. t.issued) turned.each)
 
   -- one hold for all
   pub held-seen : (from : Option ℕ) (channels : ChannelSet K L) (new : List K) → Turned (λ waits. waits) (λ hold. from) (λ stage. stage) channels.ports.items new

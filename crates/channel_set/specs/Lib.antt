@@ -3,3 +3,4 @@ pub mod Set
 pub mod Carrying
 pub mod Draining
 pub mod Paid
+pub mod Issuing

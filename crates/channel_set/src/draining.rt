@@ -12,6 +12,7 @@ impl<K: ChannelPort> ChannelSet<K> {
     ghost use Rattle.channel_set.specs.Set.{AreAt, view_of};
     ghost use Rattle.channel_set.specs.Carrying.{KeepsAll};
     ghost use Rattle.channel_set.specs.Draining.{DrainsAll, DrainsEach, cost_of_drains, paid_for_drains};
+    ghost use Rattle.channel_set.specs.Issuing.{IssuesNone};
 
     /// Ends the work on mains, as backup begins: all reads are lost, and their tickets are unknown from now on.
     pub fn lose_mains(&mut self)
@@ -23,6 +24,7 @@ impl<K: ChannelPort> ChannelSet<K> {
         } }
         ensures cost { (numbers : CostNumbers) → cost_of_drains K.ChannelPort self.new numbers
             ≡ cost_of_drains K.ChannelPort self.old numbers }
+        ensures issued { IssuesNone K.ChannelPort self.old self.new }
         ensures backup { AreAt K.ChannelPort OnBackup self.new }
         ensures keeps { KeepsAll K.ChannelPort self.old self.new }
     {

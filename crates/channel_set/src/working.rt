@@ -17,8 +17,9 @@ impl<K: ChannelPort> ChannelSet<K> {
     ghost use Rattle.channel_set.specs.Set.{AreAt, NextCommand, place_in, shape_of, view_of};
     ghost use Rattle.channel_set.specs.Carrying.{CarriesAll, KeepsAll};
     ghost use Rattle.channel_set.specs.Draining.{cost_of_drains};
+    ghost use Rattle.channel_set.specs.Issuing.{IssuesNone, IssuesOn};
 
-    /// Takes a write at the place of its line, whose number is above those of all that wait.
+    /// Takes a write at the place of its line, whose number is above those of all that wait. No other channel is asked.
     pub fn put(&mut self, number: u64, write: Write, place: Place)
         requires line { write.line < (shape_of K.ChannelPort self.old).lines }
         requires place { place ≡ place_in K.ChannelPort self.old write.line }
@@ -31,6 +32,7 @@ impl<K: ChannelPort> ChannelSet<K> {
         ensures rest { view_of K.ChannelPort self.new ≡ record (view_of K.ChannelPort self.old) {
           waits = (view_of K.ChannelPort self.new).waits;
         } }
+        ensures issued { IssuesOn K.ChannelPort place.channel None self.old self.new }
         ensures mains { AreAt K.ChannelPort OnMains self.new }
         ensures carries { (base : List (List ℕ)) (start : ℕ) (writes : List Write)
             → CarriesAll K.ChannelPort self.old base start writes
@@ -56,6 +58,7 @@ impl<K: ChannelPort> ChannelSet<K> {
         } }
         ensures writes { (view_of K.ChannelPort self.new).waits.writes
             ≡ (view_of K.ChannelPort self.old).waits.writes }
+        ensures issued { IssuesOn K.ChannelPort place.channel None self.old self.new }
         ensures mains { AreAt K.ChannelPort OnMains self.new }
         ensures keeps { KeepsAll K.ChannelPort self.old self.new }
     {
@@ -69,6 +72,7 @@ impl<K: ChannelPort> ChannelSet<K> {
         ensures rest { view_of K.ChannelPort self.new ≡ record (view_of K.ChannelPort self.old) {
           waits = (view_of K.ChannelPort self.new).waits;
         } }
+        ensures issued { IssuesOn K.ChannelPort ticket.channel None self.old self.new }
         ensures mains { AreAt K.ChannelPort OnMains self.old
             → AreAt K.ChannelPort OnMains self.new }
         ensures keeps { KeepsAll K.ChannelPort self.old self.new }
@@ -79,7 +83,7 @@ impl<K: ChannelPort> ChannelSet<K> {
         self.ports[ticket.channel as usize].collect(ticket)
     }
 
-    /// Issues one command of a channel, where it has one.
+    /// Issues one command of a channel, where it has one. No other channel is asked.
     pub fn work(&mut self, channel: u64) -> Option<Done>
         requires channel { channel < (shape_of K.ChannelPort self.old).channels }
         requires mains { AreAt K.ChannelPort OnMains self.old }
@@ -94,6 +98,8 @@ impl<K: ChannelPort> ChannelSet<K> {
           waits = (view_of K.ChannelPort self.new).waits;
           array = (view_of K.ChannelPort self.new).array;
         } }
+        ensures issued { IssuesOn K.ChannelPort channel (option_map (λ done. done.command) result)
+            self.old self.new }
         ensures mains { AreAt K.ChannelPort OnMains self.new }
         ensures keeps { KeepsAll K.ChannelPort self.old self.new }
     {
@@ -106,6 +112,7 @@ impl<K: ChannelPort> ChannelSet<K> {
             ≡ record (view_of K.ChannelPort self.old) { hold = from } }
         ensures cost { (numbers : CostNumbers) → cost_of_drains K.ChannelPort self.new numbers
             ≡ cost_of_drains K.ChannelPort self.old numbers }
+        ensures issued { IssuesNone K.ChannelPort self.old self.new }
         ensures mains { AreAt K.ChannelPort OnMains self.old
             → AreAt K.ChannelPort OnMains self.new }
         ensures keeps { KeepsAll K.ChannelPort self.old self.new }

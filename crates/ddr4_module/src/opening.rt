@@ -6,6 +6,7 @@ ghost use Rattle.save_device.specs.Device.{DeviceState};
 ghost use Rattle.save_image.specs.Header.{Fits};
 ghost use Rattle.slot_store.specs.Rest.{IsAtRestOn};
 ghost use Rattle.slot_store.specs.Told.{image_of_restored};
+ghost use Rattle.channel_set.specs.Issuing.{HaveIssuedNone};
 ghost use Rattle.ddr4_port.specs.Memory.{shape_over};
 ghost use Rattle.module_core.specs.Opening.{opened_with};
 ghost use Rattle.module_core.specs.Stands.{ModuleStands, setup_of};
@@ -31,8 +32,8 @@ pub struct Sizes {
 }
 
 /// Begins a life, disarmed, with what a device restored to, over a lawful map of the profile's geometry: over a device at rest on
-/// the image, whatever its arm byte, the module stands for a new life. It refuses only where there is no memory for the
-/// channels, and then hands back what was restored.
+/// the image, whatever its arm byte, the module stands for a new life, and none of its channels has issued a command. It refuses
+/// only where there is no memory for the channels, and then hands back what was restored.
 pub fn open<'m, M: LineMap>(
     alloc: Global,
     restored: Restored,
@@ -58,6 +59,9 @@ pub fn open<'m, M: LineMap>(
           shape = shape_over (M.place_of map.now) checked.now sizes.depth sizes.reads costs;
           trail = sizes.trail;
         }) }
+    ensures checked { IfOk result (λ it. it.channels.terms.checked ≡ checked.now) }
+    ensures issued { IfOk result
+        (λ it. HaveIssuedNone ⟦<Ddr4Port<'m, M> as ChannelPort>⟧ it.channels) }
     ensures back { IfErr result (λ back. back.0 ≡ restored) }
 {
     let Sizes {

@@ -15,6 +15,7 @@ abbrev pub over : Ghosts PortState
 over = record {
   view = port_view;
   carries = λ port. Carries (listed_place port.places) port.channel;
+  issued = λ port. port.channel.commands;
   next_command = λ port. SendsOnly port.channel;
   drain_cost = λ port numbers. spent_by numbers port.channel;
   drained = drained_port;

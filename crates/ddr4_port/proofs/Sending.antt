@@ -3,6 +3,7 @@ use Rattle.std.proofs.Common.{◌≡◌, ◌<◌, ℕ, inl, inr, refl, ap, subst
 use Rattle.std.specs.Option.{option_map}
 use Rattle.ddr4_port.proofs.Common.{ChannelState, Done, HasNothingToSend, IfNone, IfSome, IssuesChoice, None, Option}
 use Rattle.ddr4_port.proofs.Common.{Sends, SendsOnly, Some, cases_order, clock_of}
+use Rattle.channel_port.specs.Issuing.{with_issued}
 use Rattle.ddr4_timing.specs.declared.command.Command.{Command}
 use Rattle.ddr4_timing.specs.declared.command.Stamped.{Stamped}
 use Rattle.frfcfs.specs.Candidates.{IsLeast}
@@ -38,3 +39,8 @@ module _ (s : ChannelState) (order : AreInOrder s.requests) where
   works-next t (Some done) none some issues =
       let here : Sends s (Some done.command) = (some, issues.index, issues.chosen) in
       record { sends = here; only = λ other sends. one-sends other (Some done.command) sends here }
+
+-- a work adds the command that it answers to the list
+pub works-issues : (s t : ChannelState) (result : Option Done) → IfNone result (t ≡ s) → IfSome result (λ done. IssuesChoice s done t) → t.commands ≡ with_issued (option_map (λ done. done.command) result) s.commands
+works-issues s t None stays issues = ap (λ (x : ChannelState). x.commands) stays
+works-issues s t (Some done) stays issues = ap (λ (x : ChannelState). x.commands) issues.same

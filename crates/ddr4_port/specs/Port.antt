@@ -1,9 +1,11 @@
 -- A channel as a port.
-use Rattle.std.specs.Prelude.{◌≡◌, ◌≢◌, ℕ, ◌+◌, ◌^◌, ◌<◌, List, [], map, slice_index_or, Option, Some, None}
+use Rattle.std.specs.Prelude.{◌≡◌, ◌≢◌, ℕ, ◌+◌, ◌^◌, ◌<◌, List, [], map, slice_get, slice_index_or, Option, Some, None}
 use Rattle.std.specs.List.{range_with_len}
+use Rattle.ddr4_timing.specs.Lawful.{IsLawful}
 use Rattle.ddr4_timing.specs.Limits.{lines_of}
 use Rattle.ddr4_timing.specs.declared.command.Stamped.{Stamped}
 use Rattle.ddr4_timing.specs.declared.place.Place.{Place}
+use Rattle.ddr4_timing.specs.declared.timing.Checked.{Checked}
 use Rattle.ddr4_timing.specs.declared.timing.Geometry.{Geometry}
 use Rattle.interleave_map.specs.Inverse.{IsInterleaving}
 use Rattle.frfcfs.specs.Next.{IsNext}
@@ -115,3 +117,7 @@ pub record IsRightPort (p : PortState) : Type 0 where
   pub channel : IsChannel p.channel
   pub places : IsInterleaving p.channel.checked.geometry (listed_place p.places)
   pub staged : IsAtStage p.stage p.channel
+
+-- the lists of the first ports, so many of them, are lawful by this profile
+abbrev pub AreLawful : ℕ → Checked → List PortState → Type 0
+AreLawful count checked ports = (number : ℕ) (port : PortState) → number < count → slice_get ports number ≡ Some port → IsLawful checked port.channel.commands

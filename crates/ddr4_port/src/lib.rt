@@ -6,6 +6,8 @@
 
 mod making;
 mod port;
+mod rules;
 
 pub use making::channels_with_memory;
 pub use port::Ddr4Port;
+pub use rules::keep_rules;

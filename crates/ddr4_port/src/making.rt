@@ -8,6 +8,7 @@ ghost use Rattle.channel_port.specs.declared.stage.Stage.TheVariants.{OnMains};
 ghost use Rattle.channel_port.specs.Waits.{nothing};
 ghost use Rattle.channel_set.specs.Set.{AreAt, shape_of, view_of};
 ghost use Rattle.channel_set.specs.Carrying.{CarriesAll};
+ghost use Rattle.channel_set.specs.Issuing.{HaveIssuedNone};
 ghost use Rattle.ddr4_port.specs.Memory.{AreUnused, IsUnused, shape_over};
 
 use crate::Ddr4Port;
@@ -82,9 +83,9 @@ fn unused_ports<'m, M: LineMap>(
     Ok(ports)
 }
 
-/// The channels of a profile over a lawful map of its geometry, whose arrays hold this memory. Nothing waits on them, and no
-/// write is held. `depth` is how many writes may wait in a channel, and `reads` how many of its reads may be open. It
-/// refuses only where there is no memory.
+/// The channels of a profile over a lawful map of its geometry, whose arrays hold this memory. Nothing waits on them, no
+/// write is held, and none has issued a command. `depth` is how many writes may wait in a channel, and `reads` how many of
+/// its reads may be open. It refuses only where there is no memory.
 pub fn channels_with_memory<'m, M: LineMap>(
     alloc: Global,
     map: &'m M,
@@ -108,6 +109,8 @@ pub fn channels_with_memory<'m, M: LineMap>(
         (view_of ⟦<Ddr4Port<'m, M> as ChannelPort>⟧ set).hold ≡ None) }
     ensures mains { IfOk result (λ set.
         AreAt ⟦<Ddr4Port<'m, M> as ChannelPort>⟧ OnMains set) }
+    ensures checked { IfOk result (λ set. set.terms.checked ≡ checked.now) }
+    ensures issued { IfOk result (HaveIssuedNone ⟦<Ddr4Port<'m, M> as ChannelPort>⟧) }
     ensures carries { IfOk result (λ set. (start : ℕ)
         → CarriesAll ⟦<Ddr4Port<'m, M> as ChannelPort>⟧ set memory.now start []) }
 {

@@ -51,6 +51,8 @@ impl<'m, M: LineMap> ChannelPort for Ddr4Port<'m, M> {
 
     ghost carries = { λ port. Carries (listed_place port.places) port.channel };
 
+    ghost issued = { λ port. port.channel.commands };
+
     ghost next_command = { λ port. SendsOnly port.channel };
 
     ghost drain_cost = { λ port numbers. spent_by numbers port.channel };

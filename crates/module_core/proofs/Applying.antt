@@ -1,9 +1,11 @@
 -- One event of the module, from its step and what the device may leave.
 use Rattle.channel_port.specs.declared.answers.Done.{Done}
 use Rattle.channel_set.specs.Carrying.{KeepsAll}
+use Rattle.channel_set.specs.Issuing.{IssuesNone, IssuesOn}
 use Rattle.channel_set.specs.Set.{NextCommand}
 use Rattle.channel_set.specs.declared.set.ChannelSet.{ChannelSet}
 use Rattle.module_core.specs.Fronts.{SameNumbers}
+use Rattle.module_core.specs.Issuing.{Issues}
 use Rattle.module_core.specs.Stands.{Answers, Follows, IsCarried, Point, WorksWhereDue, saved_after}
 use Rattle.module_core.specs.declared.opening.LifeTerms.{LifeTerms}
 use Rattle.nv_machine.proofs.Backing.{IsKnown}
@@ -36,6 +38,16 @@ newest_after (replies.Lose (Loss.Saved generation count)) before after keeps = k
 newest_after reply before after keeps = keeps
 
 module _ {K : Type 0} (L : Ghosts K) where
+  -- channels of which nothing was asked, or several things, and of which none issued a command
+  pub unissued : (channels : ChannelSet K L) → IssuesNone L channels channels
+  unissued channels = record { lists = refl; checked = refl }
+
+  pub issues_none : (old mid new : ChannelSet K L) → IssuesNone L old mid → IssuesNone L mid new → IssuesNone L old new
+  issues_none old mid new first second = record { lists = second.lists ∙ first.lists; checked = second.checked ∙ first.checked }
+
+  pub quiet : (channel : ℕ) (old new : ChannelSet K L) → IssuesOn L channel None old new → IssuesNone L old new
+  quiet channel old new on = record { lists = on.lists; checked = on.checked }
+
   known : (it : Module K L) (state : DeviceState) (m : Machine) → ModuleStands L it state m → IsKnown (setup_of L it) m
   known it state m s = search rules
 
@@ -52,10 +64,10 @@ module _ {K : Type 0} (L : Ghosts K) where
   -- An event that may call the device.
   pub asked : (event : Event) (reply : Reply) (old new : Assembly L) → setup_of L new.it ≡ setup_of L old.it → (m : Machine) → ModuleStands L old.it old.device m → (n : Machine)
       → MachineStep (setup_of L old.it) event reply (world_of L old m) (world_of L new n) → new.it.front.saved ≡ saved_after reply old.it.front.saved
-      → Matches L new.it n → Holds (lines_of_module L old.it) n.store new.it.front.saves.saving new.device → WorksWhereDue L event reply (point_of L old m)
+      → Matches L new.it n → Holds (lines_of_module L old.it) n.store new.it.front.saves.saving new.device → WorksWhereDue L event reply (point_of L old m) → Issues L event reply old.it.channels new.it.channels
       → LeavesOnly old.device new.device (λ bytes. IsGuarded n → RecoversMeanwhile reply m n (restored (lines_of_module L old.it) bytes))
       → (n : Machine) × ModuleStands L new.it new.device n × HappensAt L (setup_of L old.it) event reply (point_of L old m) (point_of L new n)
-  asked event reply old new setup m s n step saved matches holds works moments =
+  asked event reply old new setup m s n step saved matches holds works issues moments =
       let guarded : IsGuarded n = guarded_event (setup_of L old.it) event reply (world_of L old m) (world_of L new n) step s.guarded in let lines : ℕ = lines_of_module L old.it in (
         n,
         record {
@@ -72,6 +84,7 @@ module _ {K : Type 0} (L : Ghosts K) where
             honest = λ honest backed. honest_event (setup_of L old.it) event reply (world_of L old m) (world_of L new n) step (known old.it old.device m s) honest backed;
           };
           works = works;
+          issues = issues;
         },
       )
 
@@ -82,10 +95,10 @@ module _ {K : Type 0} (L : Ghosts K) where
   -- An event without a call of the device.
   pub alone : (event : Event) (reply : Reply) (old new : Module K L) (device : DeviceState) (before later : Gauge) → setup_of L new ≡ setup_of L old
       → Follows L (λ m n. MachineStep (setup_of L old) event reply (record { machine = m; device = device; gauge = before }) (record { machine = n; device = device; gauge = later })) old new
-      → new.front.saved ≡ saved_after reply old.front.saved → marks reply ≡ false → ((m : Machine) → Matches L old m → WorksWhereDue L event reply (point_of L (assembly old device before) m)) → Answers L event reply (assembly old device before) (assembly new device later)
-  alone event reply old new device before later setup follows saved unmarked works m s =
+      → new.front.saved ≡ saved_after reply old.front.saved → marks reply ≡ false → ((m : Machine) → Matches L old m → WorksWhereDue L event reply (point_of L (assembly old device before) m)) → Issues L event reply old.channels new.channels → Answers L event reply (assembly old device before) (assembly new device later)
+  alone event reply old new device before later setup follows saved unmarked works issues m s =
       let f = follows m s.matches in let n : Machine = f.later in let lines : ℕ = lines_of_module L old in
-      asked event reply (assembly old device before) (assembly new device later) setup m s n f.step saved f.matches (holds_moved lines m.store device old.front.saves new.front.saves n.store f.moves s.matches.front.knows s.holds) (works m s.matches)
+      asked event reply (assembly old device before) (assembly new device later) setup m s n f.step saved f.matches (holds_moved lines m.store device old.front.saves new.front.saves n.store f.moves s.matches.front.knows s.holds) (works m s.matches) issues
       (started {P = λ bytes. IsGuarded n → RecoversMeanwhile reply m n (restored lines bytes)} device (λ bytes left guarded.
       let outcome : Outcome = restored lines bytes in let was : IsAmong m.store.maybe outcome = stop_now lines m.store old.front.saves.saving device s.holds bytes left in
       left_before reply m n s.guarded outcome was (inl (subst (λ (b : Bool). IsAmong (if b then record m.store.maybe { any_arm = true } else m.store.maybe) outcome) (sym unmarked) was))))
@@ -93,8 +106,8 @@ module _ {K : Type 0} (L : Ghosts K) where
   -- An event that changes nothing.
   pub unmoved : (event : Event) (reply : Reply) (it : Module K L) (device : DeviceState) (gauge : Gauge)
       → ((m : Machine) → Matches L it m → MachineStep (setup_of L it) event reply (record { machine = m; device = device; gauge = gauge }) (record { machine = m; device = device; gauge = gauge }))
-      → it.front.saved ≡ saved_after reply it.front.saved → marks reply ≡ false → ((m : Machine) → Matches L it m → WorksWhereDue L event reply (point_of L (assembly it device gauge) m)) → Answers L event reply (assembly it device gauge) (assembly it device gauge)
-  unmoved event reply it device gauge step saved unmarked works = alone event reply it it device gauge gauge refl (λ m h. record { later = m; step = step m h; matches = h; moves = inl (refl, refl) }) saved unmarked works
+      → it.front.saved ≡ saved_after reply it.front.saved → marks reply ≡ false → ((m : Machine) → Matches L it m → WorksWhereDue L event reply (point_of L (assembly it device gauge) m)) → Issues L event reply it.channels it.channels → Answers L event reply (assembly it device gauge) (assembly it device gauge)
+  unmoved event reply it device gauge step saved unmarked works issues = alone event reply it it device gauge gauge refl (λ m h. record { later = m; step = step m h; matches = h; moves = inl (refl, refl) }) saved unmarked works issues
 
   -- Nothing but the reading and what waits has changed of a module.
   pub record StaysBut (old new : Module K L) : Type 0 where
@@ -113,13 +126,13 @@ module _ {K : Type 0} (L : Ghosts K) where
 
   -- An event after which something else waits, and nothing else is changed.
   pub waited : (event : Event) (reply : Reply) (old new : Module K L) (device : DeviceState) (gauge : Gauge) → StaysBut old new → new.front.reading ≡ old.front.reading
-      → (view_of L new.channels).hold ≡ (view_of L old.channels).hold → KeepsAll L old.channels new.channels → new.front.saved ≡ saved_after reply old.front.saved → marks reply ≡ false
+      → (view_of L new.channels).hold ≡ (view_of L old.channels).hold → KeepsAll L old.channels new.channels → new.front.saved ≡ saved_after reply old.front.saved → marks reply ≡ false → Issues L event reply old.channels new.channels
       → ((m : Machine) → Matches L old m → let later : Waits = (view_of L new.channels).waits in
       MachineStep (setup_of L old) event reply (record { machine = m; device = device; gauge = gauge }) (record { machine = record m { waits = later }; device = device; gauge = gauge })
       × ForSome (hold_of m.store.saving) (λ k. WaitsFrom k (all_of m) later.writes)
       × WorksWhereDue L event reply (point_of L (assembly old device gauge) m))
       → Answers L event reply (assembly old device gauge) (assembly new device gauge)
-  waited event reply old new device gauge stays shown hold keeps saved unmarked told =
+  waited event reply old new device gauge stays shown hold keeps saved unmarked issues told =
       alone event reply old new device gauge gauge (same_setup old.channels new.channels old.front.terms new.front.terms stays.shape stays.numbers.terms) (λ m h.
       let later : Waits = (view_of L new.channels).waits in let t = told m h in record {
         later = record m { waits = later };
@@ -131,4 +144,4 @@ module _ {K : Type 0} (L : Ghosts K) where
           held = t.1;
         });
         moves = inl (refl, stays.saves);
-      }) saved unmarked (λ m h. (told m h).2)
+      }) saved unmarked (λ m h. (told m h).2) issues

@@ -18,6 +18,7 @@ use Rattle.arm_state.specs.declared.mode.Mode.TheVariants as modes
 use Rattle.arm_state.specs.declared.refusal.ArmRefusal.TheVariants as refusals
 use Rattle.nv_machine.specs.declared.events.Event.TheVariants as events
 use Rattle.nv_machine.specs.declared.events.Reply.TheVariants as replies
+use Rattle.channel_set.specs.Issuing.{IssuesNone}
 use Rattle.module_core.specs.Stands.{saved_after}
 use Rattle.module_core.proofs.Common.{ℕ, ◌<◌, ◌∙◌, ◌≡◌, ◌≤◌, Assembly, DeviceState, Err, Gauge, GaugeCall, Ghosts, HappensAt, HoldsWhile, IsAmong, IsResting, LeavesOnly, Machine, Matches, Mode, Module, ModuleStands, None, Option, Outcome, ReadsLevel, Result, RunningSave, AreSameSave, SaveRun, Setup, Slot, Some, Store, Waits, World, ap, armed, assembly, false, has_ended, is_armed, is_backed, length, lines_of_module, marks, point_of, rearmed, restored, rules, saves_of, setup_of, subst, sym, true, view_of, weaker, world_of}
 use Rattle.module_core.proofs.Applying.{asked}
@@ -105,13 +106,13 @@ module _ {K : Type 0} (L : Ghosts K) (old : Module K L) (device : DeviceState) (
   same_count : {count : ℕ} (result : Result ArmReply ArmRefusal) → count ≡ old.front.saved → count ≡ saved_after (replies.Arm result) old.front.saved
   same_count result same = same
 
-  pub answers_marked : (result : Result ArmReply ArmRefusal) → marks (replies.Arm result) ≡ true → (before : Gauge) (new : Assembly L) → setup_of L new.it ≡ setup_of L old → new.it.front.saved ≡ old.front.saved → (n : Machine)
+  pub answers_marked : (result : Result ArmReply ArmRefusal) → marks (replies.Arm result) ≡ true → (before : Gauge) (new : Assembly L) → setup_of L new.it ≡ setup_of L old → IssuesNone L old.channels new.it.channels → new.it.front.saved ≡ old.front.saved → (n : Machine)
       → ArmStep (setup_of L old) result (world_of L (assembly old device before) m) (world_of L new n) → Matches L new.it n → n.store.saving ≡ m.store.saving → IsResting lines n.store new.device
       → LeavesOnly device new.device (λ bytes. IsAmong (with_any_arm old.front.saves.newest.slot (newest_of m)) (restored lines bytes))
       → (n : Machine) × ModuleStands L new.it new.device n × HappensAt L (setup_of L old) events.Arm (replies.Arm result) (point_of L (assembly old device before) m) (point_of L new n)
-  answers_marked result marked before new setup saved n step matches idle rests moments =
+  answers_marked result marked before new setup issues saved n step matches idle rests moments =
       asked L events.Arm (replies.Arm result) (assembly old device before) new setup m stands n step (same_count result saved) matches
-      (holds_none lines n.store new.device n.store.saving new.it.front.saves.saving (idle ∙ a.idle) matches.front.saving rests) tt
+      (holds_none lines n.store new.device n.store.saving new.it.front.saves.saving (idle ∙ a.idle) matches.front.saving rests) tt issues
       (weaker device new.device (λ bytes left guarded.
       left_marking (replies.Arm result) m n marked (calm_disarmed m a.disarmed (mains_last m stands.guarded running)) stands.guarded (restored lines bytes)
       (any_arm_in m (restored lines bytes) (subst (λ (x : Slot). IsAmong (with_any_arm x (newest_of m)) (restored lines bytes)) stands.matches.front.knows.slot left))) moments)

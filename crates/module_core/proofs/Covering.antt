@@ -11,7 +11,7 @@ use Rattle.channel_set.specs.declared.set.ChannelSet.{ChannelSet}
 use Rattle.channel_set.specs.Draining.{cost_of_drains, paid_for_drains}
 use Rattle.nv_machine.proofs.Payments.{length-pending_each, sum_pending_each}
 use Rattle.module_core.specs.Covering.{cost_of_closing, kept_for}
-use Rattle.module_core.specs.Stands.{EndsHoldAndReads}
+use Rattle.module_core.specs.Draining.{EndsHoldAndReads}
 use Rattle.module_core.proofs.Common.{ℕ, ◌+◌, ◌∙◌, ◌≡◌, ◌≤◌, ChannelsView, Costs, Err, List, Ok, Result, ap, arith, length, shape_of, view_of}
 
 -- what is so is so of a good result

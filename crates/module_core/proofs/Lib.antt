@@ -19,10 +19,11 @@ pub mod LossSteps
 pub mod LostModules
 pub mod RunsOn
 pub mod CuttingRuns
+pub mod IssuedRuns
 pub mod CallsInTurn
 pub mod ModulesLive
 pub mod AnyGauges
 pub mod HonestCalls
 pub mod DrainedModules
-pub mod ConcludedLosses
 pub mod WhereDrained
+pub mod ConcludedLosses

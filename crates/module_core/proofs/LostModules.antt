@@ -1,11 +1,14 @@
 -- The loss of mains: the module and its device afterwards.
 use Rattle.arm_state.specs.declared.loss.Loss.{Loss}
 use Rattle.channel_set.specs.Carrying.{CarriesAll, KeepsAll}
+use Rattle.channel_set.specs.Issuing.{IssuesNone}
 use Rattle.channel_set.specs.declared.set.ChannelSet.{ChannelSet}
 use Rattle.line_memory.specs.declared.Write.{Write}
 use Rattle.module_core.specs.Closing.{ClosesChannels, ClosingAt, closing_at}
 use Rattle.module_core.specs.Fronts.{SameNumbers}
-use Rattle.module_core.specs.Stands.{EndsMains, EndsHoldAndReads, saved_after}
+use Rattle.module_core.specs.Draining.{AreDrainedFrom, EndsHoldAndReads}
+use Rattle.module_core.specs.Issuing.{IssuesAtLoss}
+use Rattle.module_core.specs.Stands.{EndsMains, saved_after}
 use Rattle.slot_store.specs.Finishing.{Finish}
 use Rattle.slot_store.specs.declared.source.BrokenOff.{BrokenOff}
 use Rattle.nv_machine.proofs.GuardLaws.{for_none, for_one}
@@ -23,7 +26,7 @@ use Rattle.nv_machine.specs.declared.events.Event.TheVariants as events
 use Rattle.nv_machine.specs.declared.events.Reply.TheVariants as replies
 use Rattle.module_core.proofs.Common.{[], ℕ, ◌∙◌, ◌≡◌, Assembly, BeginsSave, ChannelsView, DeviceState, Err, Gauge, GaugeCall, Ghosts, Holds, HoldsWhile, Image, IsAmong, IsMemory, IsReadyToClose, IsResting, List, Machine, Matches, Mode, Module, ModuleStands, Newest, None, Ok, Option, ReachesStore, ReadsLevel, SaveRun, Shape, Some, StopsWithin, Store, Waits, after, ap, assembly, base_of_life, begun, begun_save, false, has_ended, hold_of, inl, is_backed, lines_of_module, made_of, memory_of, present, refl, restored, rules, saved_in, saves_at, setup_of, shape_of, start_of_life, started, subst, sym, true, view_of, weaker, world_of}
 use Rattle.module_core.specs.Losing.{AnswersLoss}
-use Rattle.module_core.proofs.Applying.{asked, counted, same_lines, same_setup, unmoved}
+use Rattle.module_core.proofs.Applying.{asked, counted, issues_none, same_lines, same_setup, unissued, unmoved}
 use Rattle.module_core.proofs.Knowing.{holds_begun}
 use Rattle.module_core.proofs.LossSteps.{all_saved, dark, fault, saved_on}
 use Rattle.module_core.proofs.RunningSaves.{holds_runs}
@@ -54,9 +57,10 @@ module _ {K : Type 0} (L : Ghosts K) where
 
   -- the hold ends, then all reads are lost
   pub loses_reads : (old mid new : ChannelSet K L) → view_of L mid ≡ record (view_of L old) { hold = None } → (view_of L new).waits ≡ record (view_of L mid).waits { reads = [] }
-      → view_of L new ≡ record (view_of L mid) { waits = (view_of L new).waits } → KeepsAll L old mid → KeepsAll L mid new → EndsHoldAndReads L old new
-  loses_reads old mid new held reads rest first second = record {
+      → view_of L new ≡ record (view_of L mid) { waits = (view_of L new).waits } → IssuesNone L old mid → IssuesNone L mid new → KeepsAll L old mid → KeepsAll L mid new → EndsHoldAndReads L old new
+  loses_reads old mid new held reads rest none nothing first second = record {
     is = rest ∙ ap (λ (w : Waits). record (view_of L mid) { waits = w }) reads ∙ ap (λ (v : ChannelsView). record v { waits = record v.waits { reads = [] } }) held;
+    issued = issues_none L old mid new none nothing;
     keeps = λ base start writes carries. second base start writes (first base start writes carries);
   }
 
@@ -64,7 +68,7 @@ module _ {K : Type 0} (L : Ghosts K) where
   pub answers_closed : (order : DrainOrder) (it : Module K L) (device : DeviceState) (gauge : Gauge) → has_ended it.front.mode ≡ true → (m : Machine) → ModuleStands L it device m
       → AnswersLoss L order loss.Closed (assembly it device gauge) (assembly it device gauge) m
   answers_closed order it device gauge ended m stands = record {
-    answers = unmoved L events.Lose (replies.Lose loss.Closed) it device gauge (λ n h. (order, (ap has_ended (sym h.front.mode) ∙ ended, refl))) refl refl (λ n h. tt) m stands;
+    answers = unmoved L events.Lose (replies.Lose loss.Closed) it device gauge (λ n h. (order, (ap has_ended (sym h.front.mode) ∙ ended, refl))) refl refl (λ n h. tt) (unissued L it.channels) m stands;
     loses = (m, stands, (ap has_ended (sym stands.matches.front.mode) ∙ ended, refl));
   }
 
@@ -120,13 +124,13 @@ module _ {K : Type 0} (L : Ghosts K) where
             };
           }
 
-      answers_loss : (order : DrainOrder) → new.it.front.saved ≡ saved_after (replies.Lose reply) old.it.front.saved → LoseStep order (setup_of L old.it) reply (world_of L old m) (world_of L new after_loss) → AnswersLoss L order reply old new m
-      answers_loss order saved step =
+      answers_loss : (order : DrainOrder) → IssuesAtLoss L reply old.it.channels new.it.channels → new.it.front.saved ≡ saved_after (replies.Lose reply) old.it.front.saved → LoseStep order (setup_of L old.it) reply (world_of L old m) (world_of L new after_loss) → AnswersLoss L order reply old new m
+      answers_loss order issues saved step =
           let same = same_setup L old.it.channels new.it.channels old.it.front.terms new.it.front.terms lost.shape lost.numbers.terms in
           let guarded : IsGuarded after_loss = guarded_event (setup_of L old.it) events.Lose (replies.Lose reply) (world_of L old m) (world_of L new after_loss) (order, step) stands.guarded in
           record {
             answers =
-                asked L events.Lose (replies.Lose reply) old new same m stands after_loss (order, step) saved matches makes.holds tt
+                asked L events.Lose (replies.Lose reply) old new same m stands after_loss (order, step) saved matches makes.holds tt issues
                 (weaker old.device new.device (λ bytes either guarded.
                 left_within (setup_of L old.it) events.Lose (replies.Lose reply) (world_of L old m) (world_of L new after_loss) (order, step) stands.guarded refl refl (restored (lines_of_module L old.it) bytes) either)
                 makes.moments);
@@ -163,7 +167,7 @@ module _ {K : Type 0} (L : Ghosts K) where
           moments = started old.device (λ bytes left. inl (here bytes left));
         } in
         let waits : (view_of L new.channels).waits ≡ record m.waits { reads = [] } = ap (λ (v : ChannelsView). v.waits) ends.channels.is ∙ ap (λ (w : Waits). record w { reads = [] }) h.carried.waits in
-        answers_loss (assembly new old.device old.gauge) m.reading modes.Closing refl lost loss.Unsaved store refl makes order ends.saved (
+        answers_loss (assembly new old.device old.gauge) m.reading modes.Closing refl lost loss.Unsaved store refl makes order ends.channels.issued ends.saved (
           disarmed_mode m.mode on calm,
           ap (λ (w : Waits). record { machine = record { mode = modes.Closing; reading = m.reading; lost = Some loss.Unsaved; life = m.life; cut = m.cut; waits = w; store = store }; device = old.device; gauge = old.gauge }) waits,
         )
@@ -212,19 +216,19 @@ module _ {K : Type 0} (L : Ghosts K) where
         hold = ap (λ (v : ChannelsView). v.hold) rest;
       }
 
-      pub answers_saved : new.it.front.mode ≡ modes.Saved → new.it.front.saved ≡ new.it.front.accepted → Closes (Ok tt) → Answered (loss.Saved new.it.front.saves.newest.generation new.it.front.accepted)
-      answers_saved is saved closes =
+      pub answers_saved : AreDrainedFrom L old.it.channels new.it.channels → new.it.front.mode ≡ modes.Saved → new.it.front.saved ≡ new.it.front.accepted → Closes (Ok tt) → Answered (loss.Saved new.it.front.saves.newest.generation new.it.front.accepted)
+      answers_saved drained is saved closes =
           let on = saved_on order old.it.front.terms.trail m old.gauge reading first (closing_at new) reads backed writes refl tickets (closed (Ok tt) closes) in let reply : Loss = loss.Saved new.it.front.saves.newest.generation new.it.front.accepted in
-          answers_loss new reading modes.Saved refl (lost modes.Saved is on.1.rest) reply (saved_in m.store (made_of false m)) refl on.2.makes order saved
+          answers_loss new reading modes.Saved refl (lost modes.Saved is on.1.rest) reply (saved_in m.store (made_of false m)) refl on.2.makes order drained saved
           (all_saved order old.it.front.terms.trail m old.gauge reading first (closing_at new) reads backed writes refl tickets new.it.front.saves.newest.generation new.it.front.accepted on.2.makes.knows.generation
           (numbers.accepted ∙ ends.numbers.accepted ∙ stands.matches.front.accepted) on.0 on.1 on.2)
 
       pub answers_dark : new.it.front.mode ≡ begun.front.mode → new.it.front.saved ≡ begun.front.saved → (cause : BrokenOff) → cause ≡ broken.Refused → Closes (Err cause) → Answered loss.Dark
       answers_dark is saved cause why closes =
           let short = dark order old.it.front.terms.trail m old.gauge reading first (closing_at new) reads backed writes refl tickets here (closed (Err broken.Refused) (subst (λ (x : BrokenOff). Closes (Err x)) why closes)) in
-          answers_loss new reading modes.Closing refl (lost modes.Closing (is ∙ ends.mode) short.rest) loss.Dark short.store short.none short.makes order (saved ∙ ends.saved) short.step
+          answers_loss new reading modes.Closing refl (lost modes.Closing (is ∙ ends.mode) short.rest) loss.Dark short.store short.none short.makes order tt (saved ∙ ends.saved) short.step
 
-      pub answers_fault : new.it.front.mode ≡ begun.front.mode → new.it.front.saved ≡ begun.front.saved → (cause : BrokenOff) → cause ≡ broken.Fault → Closes (Err cause) → Answered loss.Fault
-      answers_fault is saved cause why closes =
+      pub answers_fault : AreDrainedFrom L old.it.channels new.it.channels → new.it.front.mode ≡ begun.front.mode → new.it.front.saved ≡ begun.front.saved → (cause : BrokenOff) → cause ≡ broken.Fault → Closes (Err cause) → Answered loss.Fault
+      answers_fault drained is saved cause why closes =
           let short = fault order old.it.front.terms.trail m old.gauge reading first (closing_at new) reads backed writes refl tickets (closed (Err broken.Fault) (subst (λ (x : BrokenOff). Closes (Err x)) why closes)) in
-          answers_loss new reading modes.Closing refl (lost modes.Closing (is ∙ ends.mode) short.rest) loss.Fault short.store short.none short.makes order (saved ∙ ends.saved) short.step
+          answers_loss new reading modes.Closing refl (lost modes.Closing (is ∙ ends.mode) short.rest) loss.Fault short.store short.none short.makes order drained (saved ∙ ends.saved) short.step

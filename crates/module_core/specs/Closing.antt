@@ -1,5 +1,5 @@
 -- The parts of a closing save: the drains, and the save that follows, each action of it paid for first.
-use Rattle.std.specs.Prelude.{◌≡◌, ◌⊎◌, ℕ, ◌<◌, Bool, false, List, ◌++◌, length, slice_get, Result, Ok, Err, Some, None, MatchResult}
+use Rattle.std.specs.Prelude.{◌≡◌, ◌⊎◌, ℕ, ◌<◌, Bool, false, List, ◌++◌, length, slice_get, Result, Ok, OnOk, Err, Some, None, MatchResult}
 use Rattle.std.specs.Option.{ForSome}
 use Rattle.save_device.specs.declared.calls.CallKind.{CallKind}
 use Rattle.save_device.specs.Device.{DeviceState}
@@ -21,7 +21,7 @@ use Rattle.channel_port.specs.declared.port.ChannelPort.{Ghosts}
 use Rattle.channel_port.specs.Shape.{Shape}
 use Rattle.channel_set.specs.Set.{ChannelsView, shape_of, view_of}
 use Rattle.channel_set.specs.Carrying.{CarriesAll, KeepsAll}
-use Rattle.channel_set.specs.Draining.{DrainsAll}
+use Rattle.channel_set.specs.Draining.{DrainsAll, DrainsEach}
 use Rattle.line_memory.specs.declared.Write.{Write}
 use Rattle.line_memory.specs.Memory.{after}
 use Rattle.channel_port.specs.Draining.{DrainOrder, Paid, PaysInTurn}
@@ -163,6 +163,7 @@ module _ {K : Type 0} {L : Ghosts K} where
   -- The channels were drained in this order, or a payment was refused.
   pub record HasDrained (order : DrainOrder) (drained : Paid) (old new : Assembly L) : Type 0 where
     pub drains : DrainsAll order (view_of L old.it.channels) old.gauge drained (view_of L new.it.channels) new.gauge
+    pub each : OnOk drained (DrainsEach L old.it.channels new.it.channels)
     pub front : new.it.front ≡ old.it.front
     pub keeps : KeepsAll L old.it.channels new.it.channels
     pub device : new.device ≡ old.device

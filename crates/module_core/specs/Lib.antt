@@ -4,6 +4,8 @@ pub mod Saving
 pub mod Saves
 -- which machine a front stands for, and a module; and what each of its calls answers
 pub mod Fronts
+pub mod Draining
+pub mod Issuing
 pub mod Stands
 pub mod Parts
 pub mod Cutting
@@ -15,6 +17,6 @@ pub mod Covering
 pub mod InTurn
 pub mod ModuleLives
 pub mod HonestCalls
-pub mod Draining
 pub mod Losing
 pub mod Rising
+pub mod IssuedRuns

@@ -9,7 +9,8 @@ use Rattle.save_device.specs.Device.{DeviceState}
 use Rattle.channel_port.specs.declared.port.ChannelPort.{Ghosts}
 use Rattle.channel_port.specs.Draining.{DrainOrder, Paid}
 use Rattle.channel_set.specs.Draining.{cost_of_drains, paid_for_drains}
-use Rattle.channel_set.specs.Set.{view_of}
+use Rattle.channel_port.specs.declared.stage.Stage.TheVariants.{OnBackup}
+use Rattle.channel_set.specs.Set.{AreAt, view_of}
 use Rattle.nv_machine.specs.Losses.{LoseStep}
 use Rattle.nv_machine.specs.State.{Machine}
 use Rattle.nv_machine.specs.declared.events.Event.TheVariants as events
@@ -50,6 +51,7 @@ module _ {K : Type 0} (L : Ghosts K) where
     pub reading : ℕ
     pub reads : ReadsLevel Tick old.gauge reading new.gauge
     pub ends : EndsMains L reading old.it new.it
+    pub backup : AreAt L OnBackup new.it.channels
     pub begins : BeginsSave old.it.front.saves old.it.front.accepted false (lines_of_module L old.it) new.it.front.saves
     pub cost : (numbers : CostNumbers) → cost_of_drains L new.it.channels numbers ≡ cost_of_drains L old.it.channels numbers
     pub device : new.device ≡ old.device

@@ -1,5 +1,5 @@
 -- Which machine a module stands for.
-use Rattle.std.specs.Prelude.{◌≡◌, ◌⊎◌, ◌<◌, ◌≤◌, ℕ, Bool, true, List, [], Option, Some, None}
+use Rattle.std.specs.Prelude.{◌≡◌, ◌⊎◌, ◌<◌, ◌≤◌, ℕ, Bool, true, List, Option, Some, None}
 use Rattle.std.specs.Option.{ForSome, option_map}
 use Rattle.line_memory.specs.Memory.{IsMemory}
 use Rattle.save_device.specs.Device.{DeviceState, present, StopsWithin}
@@ -15,6 +15,7 @@ use Rattle.channel_port.specs.declared.port.ChannelPort.{Ghosts}
 use Rattle.channel_set.specs.declared.set.ChannelSet.{ChannelSet}
 use Rattle.channel_set.specs.Set.{NextCommand, shape_of, view_of}
 use Rattle.channel_set.specs.Carrying.{CarriesAll, KeepsAll, WaitsFrom}
+use Rattle.channel_set.specs.Issuing.{IssuesNone}
 use Rattle.module_core.specs.declared.module.Module.{Module}
 use Rattle.nv_machine.specs.declared.events.Event.{Event}
 use Rattle.nv_machine.specs.declared.events.Event.TheVariants as events
@@ -29,6 +30,8 @@ use Rattle.nv_machine.specs.Headline.{RecoversAfterwards, Happens, MayPause, Pau
 use Rattle.module_core.specs.Saves.{StoreMoves}
 use Rattle.module_core.specs.Device.{Holds}
 use Rattle.module_core.specs.Fronts.{FrontMatches, SameNumbers, setup_in}
+use Rattle.module_core.specs.Draining.{EndsHoldAndReads}
+use Rattle.module_core.specs.Issuing.{Issues}
 
 -- the hold before this step: it ends behind the last page
 abbrev pub hold_behind : Option Step → Option ℕ → Option ℕ
@@ -78,14 +81,10 @@ module _ {K : Type 0} (L : Ghosts K) where
     pub hold : (view_of L channels).hold ≡ hold_of m.store.saving
     pub held : ForSome (hold_of m.store.saving) (λ n. WaitsFrom n (all_of m) m.waits.writes)
 
-  -- the channels with another hold
+  -- the channels with another hold, which have issued nothing
   pub record ChangesHold (hold : Option ℕ) (old new : ChannelSet K L) : Type 0 where
     pub is : view_of L new ≡ record (view_of L old) { hold = hold }
-    pub keeps : KeepsAll L old new
-
-  -- the channels with no hold and no read
-  pub record EndsHoldAndReads (old new : ChannelSet K L) : Type 0 where
-    pub is : view_of L new ≡ record (view_of L old) { hold = None; waits = record (view_of L old).waits { reads = [] } }
+    pub issued : IssuesNone L old new
     pub keeps : KeepsAll L old new
 
   -- No cut was made, and the newest image holds as many writes as the reply tells, or as before.
@@ -117,7 +116,7 @@ module _ {K : Type 0} (L : Ghosts K) where
     pub saved : new.front.saved ≡ old.front.saved
     pub shown : new.front.reading ≡ reading
     pub mode : new.front.mode ≡ modes.Closing
-    pub channels : EndsHoldAndReads old.channels new.channels
+    pub channels : EndsHoldAndReads L old.channels new.channels
 
   -- the module, apart from the device
   pub record Matches (it : Module K L) (m : Machine) : Type 0 where
@@ -169,6 +168,7 @@ module _ {K : Type 0} (L : Ghosts K) where
   pub record HappensAt (setup : Setup) (event : Event) (reply : Reply) (old new : Point L) : Type 0 where
     pub happens : Happens setup event reply old.world new.world
     pub works : WorksWhereDue event reply old
+    pub issues : Issues L event reply old.channels new.channels
 
   -- one event, before which there may have been a pause
   pub record HappensNextAt (setup : Setup) (event : Event) (reply : Reply) (old new : Point L) : Type 0 where

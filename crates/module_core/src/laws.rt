@@ -3,6 +3,7 @@ ghost use Rattle.std.specs.Prelude.{List};
 ghost use Rattle.nv_machine.specs.declared.events.Event.{Event};
 ghost use Rattle.nv_machine.specs.declared.events.Reply.{Reply};
 ghost use Rattle.nv_machine.specs.State.{Machine};
+ghost use Rattle.module_core.specs.IssuedRuns.{RunsIssue};
 ghost use Rattle.module_core.specs.ModuleLives.{LivesEndAfterEvents, LivesEndAnywhere, LivesEndWithinEvent};
 ghost use Rattle.module_core.specs.Rising.{HasMarksInOrder, MarksRise};
 ghost use Rattle.module_core.specs.Stands.{Assembly, ModuleStands, Answers, AnswersAll};
@@ -29,4 +30,11 @@ pub fn marks_rise<K: ChannelPort>()
         (m : Machine) → ModuleStands K.ChannelPort old.it old.device m
         → AnswersAll K.ChannelPort events replies old new
         → MarksRise K.ChannelPort old.it new.it }
+{}
+
+/// What the channels of a module have issued is what its replies tell: through events in none of which a drain was begun, each
+/// channel's list has the commands of its works behind those that it had, in turn, and no other. A module that was opened has issued
+/// what its channels had.
+pub fn runs_issue<K: ChannelPort>()
+    ensures { RunsIssue K.ChannelPort }
 {}

@@ -22,7 +22,7 @@ mod telling;
 mod turns;
 
 pub use front::Front;
-pub use laws::{marks_rise, modules_live};
+pub use laws::{marks_rise, modules_live, runs_issue};
 pub use module::Module;
 pub use opening::LifeTerms;
 pub use parts::TakenApart;

@@ -4,6 +4,7 @@ ghost use Rattle.save_device.specs.Device.{DeviceState};
 ghost use Rattle.arm_state.specs.Modes.{is_armed, has_ended};
 ghost use Rattle.channel_port.specs.Waits.{AllBelow, reads_on, writes_on};
 ghost use Rattle.channel_port.specs.declared.stage.Stage.TheVariants.{OnMains};
+ghost use Rattle.channel_set.specs.Issuing.{IssuesNone};
 ghost use Rattle.channel_set.specs.Set.{AreAt, place_in, shape_of, view_of};
 ghost use Rattle.nv_machine.specs.State.{Machine};
 ghost use Rattle.module_core.specs.Saving.{IsOfLines};
@@ -171,6 +172,7 @@ impl<K: ChannelPort> Module<K> {
         ensures step { Follows K.ChannelPort (λ m n. n ≡ begun m) self.old self.new }
         ensures saved { self.new.front.saved ≡ self.old.front.saved }
         ensures terms { self.new.front.terms ≡ self.old.front.terms }
+        ensures issued { IssuesNone K.ChannelPort self.old.channels self.new.channels }
         ensures setup { setup_of K.ChannelPort self.new ≡ setup_of K.ChannelPort self.old }
     {
         self.front.begin_save(self.channels.lines());
@@ -183,6 +185,7 @@ impl<K: ChannelPort> Module<K> {
         ensures step { Follows K.ChannelPort (λ m n. n ≡ disarming m) self.old self.new }
         ensures saved { self.new.front.saved ≡ self.old.front.saved }
         ensures terms { self.new.front.terms ≡ self.old.front.terms }
+        ensures issued { IssuesNone K.ChannelPort self.old.channels self.new.channels }
         ensures setup { setup_of K.ChannelPort self.new ≡ setup_of K.ChannelPort self.old }
     {
         self.front.begin_disarming(self.channels.lines());
@@ -196,6 +199,7 @@ impl<K: ChannelPort> Module<K> {
         ensures terms { self.new.front.terms ≡ self.old.front.terms }
         ensures stays { result ≡ false → self.new.front.saves ≡ self.old.front.saves }
         ensures mode { result ≡ false → self.new.front.mode ≡ self.old.front.mode }
+        ensures issued { IssuesNone K.ChannelPort self.old.channels self.new.channels }
         ensures setup { setup_of K.ChannelPort self.new ≡ setup_of K.ChannelPort self.old }
     {
         self.front.reading = reading;

@@ -34,6 +34,7 @@ impl<K: ChannelPort> Module<K> {
             → BeginsOn K.ChannelPort channels found image device
             → ModuleStands K.ChannelPort result device (opened_with found image) }
         ensures setup { setup_of K.ChannelPort result ≡ setup_with K.ChannelPort channels trail }
+        ensures channels { result.channels ≡ channels }
     {
         Module {
             front: Front {

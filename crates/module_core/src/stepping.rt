@@ -1,5 +1,6 @@
 // The steps of a save on mains.
 ghost use Rattle.std.specs.Prelude.{◌≡◌, ℕ, false, Some, IsSome};
+ghost use Rattle.channel_set.specs.Issuing.{IssuesNone};
 ghost use Rattle.channel_set.specs.Set.{view_of};
 ghost use Rattle.arm_state.specs.Modes.{has_ended, repeats_in};
 ghost use Rattle.channel_port.specs.Shape.{Shape};
@@ -147,6 +148,7 @@ impl<K: ChannelPort> Module<K> {
             (D.state device.old) (D.state device.new) }
         ensures saved { self.new.front.saved ≡ saved_after (Reply.SaveStep result) self.old.front.saved }
         ensures terms { self.new.front.terms ≡ self.old.front.terms }
+        ensures issued { IssuesNone K.ChannelPort self.old.channels self.new.channels }
         ensures setup { setup_of K.ChannelPort self.new ≡ setup_of K.ChannelPort self.old }
         ensures size { HasDevice K.ChannelPort self.new (D.state device.new) }
     {

@@ -1,6 +1,7 @@
-use Rattle.std.proofs.Common.{◌+◌, ◌<◌, ap, arith, refl, slice_set, subst, sym, ◌∙◌}
-use Rattle.ddr4_port.proofs.Common.{IsInterleaving, Place, PortState, line_of, lines_of, loaded_at}
+use Rattle.std.proofs.Common.{◌+◌, ◌<◌, ap, arith, refl, slice_get, slice_set, subst, sym, ◌∙◌}
+use Rattle.ddr4_port.proofs.Common.{ChannelState, IsInterleaving, Place, PortState, line_of, lines_of, loaded_at}
 use Rattle.channel_port.specs.Shape.{IsShape}
+use Rattle.channel_set.specs.declared.terms.PortTerms.{PortTerms}
 use Rattle.ddr4_port.proofs.Assembling.{are-ports, has-shape, nothing-waits, whole-lines}
 use Rattle.ddr4_port.proofs.Beginning.{AreFilled, all-begin, load-quiet, may-load, none-filled, one-more, port-there}
 use Rattle.ddr4_port.proofs.Shaping.{is-shape}
@@ -80,6 +81,12 @@ returns-clause-waits g c =
 
 pub returns-clause-mains : goal.returns-clause-mains
 returns-clause-mains g c = c.new.ensures.mains (λ number port there. (c.loop-line.invariant.each number port there).unused.stage)
+
+pub returns-clause-checked : goal.returns-clause-checked
+returns-clause-checked g c = ap (λ (t : PortTerms). t.checked) c.new.ensures.terms
+
+pub returns-clause-issued : goal.returns-clause-issued
+returns-clause-issued g c number port there = ap (λ (s : ChannelState). s.commands) (c.loop-line.invariant.each number port (ap (λ ports. slice_get ports.items number) (sym c.new.ensures.ports) ∙ there)).unused.fresh
 
 pub returns-clause-carries : goal.returns-clause-carries
 returns-clause-carries g c start =

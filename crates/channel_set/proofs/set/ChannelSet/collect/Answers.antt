@@ -1,8 +1,9 @@
 use Rattle.std.proofs.lemmas.Option.{slice_get_read}
-use Rattle.channel_set.proofs.Common.{arith, ap, refl, sym, length, slice_get_within, OnMains}
+use Rattle.channel_set.proofs.Common.{arith, ap, refl, sym, length, None, slice_get_within, OnMains}
 use Rattle.channel_set.proofs.Alike.{are-set, stage-set, seen-set, shaped-set}
 use Rattle.channel_set.proofs.Answered.{collected-remain, collected-there, new-everywhere}
 use Rattle.channel_set.proofs.Carried.{carries-set}
+use Rattle.channel_set.proofs.Issued.{issues-set}
 use Rattle.channel_set.proofs.set.ChannelSet.collect.Goals as goal
 
 pub returns-then-ticket-len-clause-collected : goal.returns-then-ticket-len-clause-collected
@@ -13,6 +14,9 @@ returns-then-ticket-len-clause-collected g c =
           (λ z there. absurd (omega (arith, slice_get_within ports c.args.ticket.channel z there, c.if-ticket-len.true, c.len.ensures))),
       refl,
     )
+
+pub returns-then-ticket-len-clause-issued : goal.returns-then-ticket-len-clause-issued
+returns-then-ticket-len-clause-issued g c = record { lists = refl; checked = refl; others = λ other apart. refl }
 
 pub collect-requires : goal.collect-requires
 collect-requires g c =
@@ -43,6 +47,7 @@ returns g c =
     record {
       collected = collected-there L channels.terms ports i p q channels.are at g.met.K.ChannelPort.own_reads c.args.ticket refl c.collect.result did.collected;
       rest = seen-set L channels i p q _ at did.rest;
+      issued = issues-set L channels _ i p q None refl refl at did.issued;
       mains = stage-set L OnMains ports i p q _ _ at did.rest;
       keeps = carries-set L channels _ i p q refl refl at (ap (λ v. v.place_of) did.rest) (record { keeps = did.keeps; remain = collected-remain L p q c.args.ticket c.collect.result did.collected });
     }

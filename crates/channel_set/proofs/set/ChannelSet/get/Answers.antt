@@ -1,10 +1,11 @@
 use Rattle.channel_port.specs.Answers.{IsGot}
-use Rattle.channel_set.proofs.Common.{arith, refl, sym, ap, subst, ◌∙◌, Place, after, line_of, shape_of, written_on, OnMains}
+use Rattle.channel_set.proofs.Common.{arith, refl, sym, ap, subst, ◌∙◌, None, Place, after, line_of, shape_of, written_on, OnMains}
 use Rattle.channel_set.proofs.Alike.{are-set, stage-set, place-there, seen-set, shaped-set, stands-for}
 use Rattle.channel_set.proofs.Answered.{got-there, whole-line, writes-stay}
 use Rattle.channel_set.proofs.Carried.{carries-set}
 use Rattle.channel_set.proofs.Counted.{full-of-reads-there, writes_in}
 use Rattle.channel_set.proofs.Piles.{remain-same}
+use Rattle.channel_set.proofs.Issued.{issues-set}
 use Rattle.channel_set.proofs.set.ChannelSet.get.Goals as goal
 
 pub get-requires : goal.get-requires
@@ -51,6 +52,7 @@ returns g c =
           (subst (λ b. IsGot b line c.args.at (L.view p).number c.get.result (L.view p).waits (L.view q).waits) bytes (got.got base mine (carries.each i p at).carries));
       rest = seen-set L channels i p q _ at got.rest;
       writes = writes-stay L channels.terms ports i p q channels.are at got.writes;
+      issued = issues-set L channels _ i p q None refl refl at got.issued;
       mains = stage-set L OnMains ports i p q _ _ at got.rest c.requires.mains;
       keeps = carries-set L channels _ i p q refl refl at (ap (λ v. v.place_of) got.rest) (record { keeps = got.keeps; remain = remain-same (writes_in L p) (writes_in L q) got.writes });
     }

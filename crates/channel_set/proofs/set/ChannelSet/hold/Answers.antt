@@ -1,7 +1,7 @@
 use Rattle.channel_set.proofs.Common.{arith, refl, get_or, slice_get-get_or, OnMains}
 use Rattle.channel_set.proofs.Carried.{carries-again}
 use Rattle.channel_set.proofs.Lists.{moved-more, moved-none}
-use Rattle.channel_set.proofs.Turned.{HoldsFrom, held-seen, turned-are, turned-cost, turned-stage, turned-kept, turned-places, turned-shaped, turned-vec}
+use Rattle.channel_set.proofs.Turned.{HoldsFrom, held-seen, turned-are, turned-cost, turned-issued, turned-stage, turned-kept, turned-places, turned-shaped, turned-vec}
 use Rattle.channel_set.proofs.set.ChannelSet.hold.Goals as goal
 
 pub loop-port-init : goal.loop-port-init
@@ -12,7 +12,7 @@ loop-port-preserved g c =
     let ports = c.loop-port.port-items in
     let i = c.loop-port.port-index in
     let at = slice_get-get_or ports i c.port-item.result (omega (arith, c.loop-port-test.true, c.loop-port.auto.port-items)) in
-    moved-more (HoldsFrom g.K.ChannelPort c.args.from) i c.deref_mut-port-items.result.now ports (get_or ports i c.port-item.result) c.hold.new.self c.loop-port.invariant at (record { is = c.hold.ensures.held; cost = c.hold.ensures.cost; keeps = c.hold.ensures.keeps })
+    moved-more (HoldsFrom g.K.ChannelPort c.args.from) i c.deref_mut-port-items.result.now ports (get_or ports i c.port-item.result) c.hold.new.self c.loop-port.invariant at (record { is = c.hold.ensures.held; cost = c.hold.ensures.cost; issued = c.hold.ensures.issued; keeps = c.hold.ensures.keeps })
 
 pub invariant_of-self : goal.invariant_of-self
 invariant_of-self g c =
@@ -26,4 +26,4 @@ returns g c =
     let L = g.K.ChannelPort in
     let channels = c.args.self.now in
     let turned = turned-vec L (λ waits. waits) (λ hold. c.args.from) (λ stage. stage) channels.ports c.deref_mut-port-items.result.now c.loop-port.port-items c.loop-port.port-index c.deref_mut-port-items.ensures.value c.deref_mut-port-items.ensures.len c.loop-port-test.false c.loop-port.invariant in
-    record { held = held-seen L c.args.from channels _ turned; cost = turned-cost L turned; mains = turned-stage L turned OnMains; keeps = carries-again L channels _ refl (turned-places L turned) (turned-kept L turned (λ w. refl)) }
+    record { held = held-seen L c.args.from channels _ turned; cost = turned-cost L turned; issued = record { lists = turned-issued L turned; checked = refl }; mains = turned-stage L turned OnMains; keeps = carries-again L channels _ refl (turned-places L turned) (turned-kept L turned (λ w. refl)) }

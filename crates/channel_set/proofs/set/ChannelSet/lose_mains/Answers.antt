@@ -1,7 +1,7 @@
 use Rattle.channel_set.proofs.Common.{arith, refl, OnBackup, OnMains, [], get_or, slice_get-get_or}
 use Rattle.channel_set.proofs.Carried.{carries-again}
 use Rattle.channel_set.proofs.Lists.{moved-more, moved-none}
-use Rattle.channel_set.proofs.Turned.{LosesMains, lost-seen, lost-waits, turned-are, turned-cost, turned-stage, turned-kept, turned-places, turned-shaped, turned-vec}
+use Rattle.channel_set.proofs.Turned.{LosesMains, lost-seen, lost-waits, turned-are, turned-cost, turned-issued, turned-stage, turned-kept, turned-places, turned-shaped, turned-vec}
 use Rattle.channel_set.proofs.set.ChannelSet.lose_mains.Goals as goal
 
 pub loop-port-init : goal.loop-port-init
@@ -12,7 +12,7 @@ loop-port-preserved g c =
     let ports = c.loop-port.port-items in
     let i = c.loop-port.port-index in
     let at = slice_get-get_or ports i c.port-item.result (omega (arith, c.loop-port-test.true, c.loop-port.auto.port-items)) in
-    moved-more (LosesMains g.K.ChannelPort) i c.deref_mut-port-items.result.now ports (get_or ports i c.port-item.result) c.lose_mains.new.self c.loop-port.invariant at (record { is = c.lose_mains.ensures.lost; cost = c.lose_mains.ensures.cost; keeps = c.lose_mains.ensures.keeps })
+    moved-more (LosesMains g.K.ChannelPort) i c.deref_mut-port-items.result.now ports (get_or ports i c.port-item.result) c.lose_mains.new.self c.loop-port.invariant at (record { is = c.lose_mains.ensures.lost; cost = c.lose_mains.ensures.cost; issued = c.lose_mains.ensures.issued; keeps = c.lose_mains.ensures.keeps })
 
 pub invariant_of-self : goal.invariant_of-self
 invariant_of-self g c =
@@ -30,6 +30,7 @@ returns g c =
       reads = lost-waits L channels.ports.items _ turned;
       rest = lost-seen L channels _ turned;
       cost = turned-cost L turned;
+      issued = record { lists = turned-issued L turned; checked = refl };
       backup = turned-stage L turned OnMains c.requires;
       keeps = carries-again L channels _ refl (turned-places L turned) (turned-kept L turned (λ w. refl));
     }

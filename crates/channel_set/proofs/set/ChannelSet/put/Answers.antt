@@ -1,7 +1,8 @@
-use Rattle.channel_set.proofs.Common.{arith, refl, sym, ap, ◌∙◌, Place, OnMains}
+use Rattle.channel_set.proofs.Common.{arith, refl, sym, ap, ◌∙◌, None, Place, OnMains}
 use Rattle.channel_set.proofs.Alike.{are-set, stage-set, place-there, seen-set, shaped-set, stands-for}
 use Rattle.channel_set.proofs.Counted.{above-there, full-there}
 use Rattle.channel_set.proofs.Putting.{carries-put, puts-there}
+use Rattle.channel_set.proofs.Issued.{issues-set}
 use Rattle.channel_set.proofs.set.ChannelSet.put.Goals as goal
 
 pub put-requires : goal.put-requires
@@ -41,6 +42,7 @@ returns g c =
     record {
       puts = puts-there L channels.terms channels.ports.items channels.are g.met.K.ChannelPort.own_writes c.args.number i c.args.write p q at (record { puts = c.put.ensures.puts; carries = c.put.ensures.carries });
       rest = seen-set L channels i p q _ at c.put.ensures.puts;
+      issued = issues-set L channels _ i p q None refl refl at c.put.ensures.issued;
       mains = stage-set L OnMains channels.ports.items i p q _ _ at c.put.ensures.puts c.requires.mains;
       carries = carries-put L channels _ i c.args.number c.args.write p q refl refl at (ap (λ (x : Place). x.channel) (sym c.requires.place)) (record { puts = c.put.ensures.puts; carries = c.put.ensures.carries });
     }

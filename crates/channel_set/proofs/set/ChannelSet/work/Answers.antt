@@ -1,8 +1,10 @@
 use Rattle.std.proofs.lemmas.Option.{slice_get_read}
+use Rattle.std.specs.Option.{option_map}
 use Rattle.channel_set.proofs.Common.{refl, ap, length, length-set, slice_set, OnMains}
 use Rattle.channel_set.proofs.Alike.{are-set, stage-set, places-set, seen-again, shaped-set}
 use Rattle.channel_set.proofs.Answered.{work-next, work-remain, work-served, work-stays}
 use Rattle.channel_set.proofs.Carried.{carries-set}
+use Rattle.channel_set.proofs.Issued.{issues-set}
 use Rattle.channel_set.proofs.set.ChannelSet.work.Goals as goal
 
 pub invariant_of-self : goal.invariant_of-self
@@ -30,6 +32,7 @@ returns g c =
       next = work-next L channels i p _ at did.next;
       stays = work-stays L channels i p q at done did.stays;
       rest = seen-again L channels.terms channels.costs ports (slice_set ports i q) (length-set ports i q) (places-set L ports i p q at (ap (λ v. v.place_of) did.rest));
+      issued = issues-set L channels _ i p q (option_map (λ done. done.command) done) refl refl at did.issued;
       mains = stage-set L OnMains ports i p q _ _ at did.rest c.requires.mains;
       keeps = carries-set L channels _ i p q refl refl at (ap (λ v. v.place_of) did.rest) (record { keeps = did.keeps; remain = work-remain L (L.view p).hold (L.view p).number p q done did.served did.stays });
     }

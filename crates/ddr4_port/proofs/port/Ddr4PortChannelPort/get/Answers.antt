@@ -19,3 +19,6 @@ returns-clause-keeps g c =
     rw (← c.self.view_is)
     (carries-seen f s t (ap (λ (x : ChannelState). x.checked) rest) (λ base mine carries.
     subst (λ x. Carries (places_of f s) x base mine) (sym rest) (unseen (places_of f s) s t.tickets t.serial t.requests s.hold s.phase base mine carries)))
+
+pub returns-clause-issued : goal.returns-clause-issued
+returns-clause-issued g c = rw (← c.self.view_is) (ap (λ (x : ChannelState). x.commands) c.get_at.ensures.rest)

@@ -1,3 +1,5 @@
+use Rattle.chan_core.specs.State.{ChannelState}
+use Rattle.std.proofs.Common.{ap}
 use Rattle.std.specs.Prelude.{Some, None}
 use Rattle.ddr4_port.proofs.DrainCosts.{hold-cost}
 use Rattle.ddr4_port.proofs.Standing.{hold-keeps}
@@ -21,4 +23,12 @@ returns-clause-keeps g c =
     (elim c.match-from.branch [
       | in-Some w ↦ rw (w.self-inside-is) (hold-keeps f s w.hold_from.new.self (Some w.in-Some.number) w.hold_from.ensures)
       | in-None w ↦ rw (w.self-inside-is) (hold-keeps f s w.release.new.self None w.release.ensures)
+    ])
+
+pub returns-clause-issued : goal.returns-clause-issued
+returns-clause-issued g c =
+    rw (← c.self.view_is)
+    (elim c.match-from.branch [
+      | in-Some w ↦ rw (w.self-inside-is) (ap (λ (x : ChannelState). x.commands) w.hold_from.ensures)
+      | in-None w ↦ rw (w.self-inside-is) (ap (λ (x : ChannelState). x.commands) w.release.ensures)
     ])

@@ -15,3 +15,6 @@ returns-clause-cost g c = rw (← c.self.view_is) (lost-cost c.self.inside.chann
 
 pub returns-clause-keeps : goal.returns-clause-keeps
 returns-clause-keeps g c = rw (← c.self.view_is) (lost-keeps (g.M.LineMap.place_of c.self.inside.map.now) c.self.inside.channel c.begin_steps.new.self c.begin_steps.ensures)
+
+pub returns-clause-issued : goal.returns-clause-issued
+returns-clause-issued g c = rw (← c.self.view_is) (ap (λ (x : ChannelState). x.commands) c.begin_steps.ensures.same)

@@ -2,7 +2,7 @@ use Rattle.std.proofs.Common.{ap}
 use Rattle.chan_core.specs.State.{ChannelState}
 use Rattle.ddr4_port.proofs.EarlyClocks.{work-rests, work-sends}
 use Rattle.ddr4_port.proofs.Seen.{carries-seen, places_of}
-use Rattle.ddr4_port.proofs.Sending.{works-next}
+use Rattle.ddr4_port.proofs.Sending.{works-issues, works-next}
 use Rattle.ddr4_port.proofs.Standing.{right-worked}
 use Rattle.ddr4_port.proofs.Telling.{tells-served}
 use Rattle.ddr4_port.proofs.Working.{works}
@@ -37,3 +37,8 @@ returns-clause-keeps g c =
     let did = c.work-done.ensures in
     rw (← c.self.view_is)
     (carries-seen f s t (ap (λ (x : ChannelState). x.checked) did.rest) (works (places_of f s) s t c.work-done.result c.self.invariant.1.channel.contents did.memory did.stays did.issues))
+
+pub returns-clause-issued : goal.returns-clause-issued
+returns-clause-issued g c =
+    let did = c.work-done.ensures in
+    rw (← c.self.view_is) (works-issues c.self.inside.channel c.work-done.new.self c.work-done.result did.stays did.issues)

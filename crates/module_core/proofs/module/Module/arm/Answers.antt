@@ -11,7 +11,7 @@ use Rattle.arm_state.specs.declared.refusal.ArmReply.TheVariants as arm
 use Rattle.nv_machine.specs.declared.events.Event.TheVariants as events
 use Rattle.nv_machine.specs.declared.events.Reply.TheVariants as replies
 use Rattle.module_core.proofs.Common.{ℕ, ◌<◌, ◌∙◌, ◌≡◌, DeviceState, Err, Gauge, Machine, Mode, Ok, Slot, ap, armed, assembly, false, inl, is_armed, lines_of_module, marks, read_as, rearmed, refl, rules, saves_of, setup_of, subst, sym, world_of}
-use Rattle.module_core.proofs.Applying.{alone, reread, unmoved}
+use Rattle.module_core.proofs.Applying.{alone, reread, unissued, unmoved}
 use Rattle.module_core.proofs.ArmSteps.{alone_there, answers_marked, arm_refused, energy_enough, energy_is, may_arm, needs, rests_armed, rests_rearmed, unarmed, unmarked, unrefused}
 use Rattle.module_core.proofs.module.Module.arm.Goals as goal
 
@@ -24,7 +24,7 @@ returns-in-Some-clause-answers g c =
     unmoved g.K.ChannelPort events.Arm (replies.Arm (Err c.in-Some.refusal)) c.args.self.now device gauge
     (λ m h.
     arm_refused (setup_of g.K.ChannelPort c.args.self.now) (record { machine = m; device = device; gauge = gauge }) c.in-Some.refusal (ap is_armed (sym h.front.mode) ∙ (let e : is_armed c.args.self.now.front.mode ≡ false = cc in e))
-    (ap (λ (x : Mode). arm_refusal x (saves_of m)) (sym h.front.mode) ∙ ap (arm_refusal c.args.self.now.front.mode) (sym (c.save_state.ensures.state m h)) ∙ sym c.arm_refusal.ensures ∙ c.in-Some.is)) refl (unmarked c.args.self.now.front.mode c.save_state.result c.in-Some.refusal (sym c.arm_refusal.ensures ∙ c.in-Some.is)) (λ m h. tt)
+    (ap (λ (x : Mode). arm_refusal x (saves_of m)) (sym h.front.mode) ∙ ap (arm_refusal c.args.self.now.front.mode) (sym (c.save_state.ensures.state m h)) ∙ sym c.arm_refusal.ensures ∙ c.in-Some.is)) refl (unmarked c.args.self.now.front.mode c.save_state.result c.in-Some.refusal (sym c.arm_refusal.ensures ∙ c.in-Some.is)) (λ m h. tt) (unissued g.K.ChannelPort c.args.self.now.channels)
 
 pub returns-in-Some-energy_refusal-clause-answers : goal.returns-in-Some-energy_refusal-clause-answers
 returns-in-Some-energy_refusal-clause-answers g c =
@@ -45,7 +45,7 @@ returns-in-Some-energy_refusal-clause-answers g c =
       });
       matches = reread L old _ m h (record { numbers = record { terms = refl; accepted = refl; persisted = refl }; mode = refl; saves = refl; shape = refl }) refl;
       moves = inl (refl, refl);
-    }) refl (subst (λ (x : ArmRefusal). marks (replies.Arm (Err x)) ≡ false) (sym is.1) refl) (λ m h. tt)
+    }) refl (subst (λ (x : ArmRefusal). marks (replies.Arm (Err x)) ≡ false) (sym is.1) refl) (λ m h. tt) (unissued L old.channels)
 
 pub returns-in_default-mark_armed-clause-answers : goal.returns-in_default-mark_armed-clause-answers
 returns-in_default-mark_armed-clause-answers g c = λ m stands.
@@ -54,7 +54,7 @@ returns-in_default-mark_armed-clause-answers g c = λ m stands.
     let off : is_armed old.front.mode ≡ false = cc in
     let free : arm_refusal old.front.mode (saves_of m) ≡ None = ap (arm_refusal old.front.mode) (sym (c.save_state.ensures.state m h)) ∙ sym c.arm_refusal.ensures ∙ c.in_default.is in
     let here = alone_there L old device m stands off free in let n : Machine = arm_failed (read_as reading m) in
-    answers_marked L old device m stands off free (Err refusals.Device) refl before new refl refl n (
+    answers_marked L old device m stands off free (Err refusals.Device) refl before new refl (unissued L old.channels) refl n (
       may_arm L old m h off free device before (world_of L new n) need (c.need_for-need.ensures.value ∙ ap (need_for (setup_of L old)) c.pending.ensures.is)
           (energy_enough need reading (sym c.energy_refusal.ensures ∙ c.in_default-energy_refusal.is)) c.sense-self.ensures,
       c.in_default-mark_armed.ensures.calls,
@@ -72,7 +72,7 @@ returns-clause-answers g c = λ m stands.
     let off : is_armed old.front.mode ≡ false = cc in
     let free : arm_refusal old.front.mode (saves_of m) ≡ None = ap (arm_refusal old.front.mode) (sym (c.save_state.ensures.state m h)) ∙ sym c.arm_refusal.ensures ∙ c.in_default.is in
     let here = alone_there L old device m stands off free in let n : Machine = armed (read_as reading m) in
-    answers_marked L old device m stands off free (Ok arm.Armed) refl before new refl refl n (
+    answers_marked L old device m stands off free (Ok arm.Armed) refl before new refl (unissued L old.channels) refl n (
       may_arm L old m h off free device before (world_of L new n) need (c.need_for-need.ensures.value ∙ ap (need_for (setup_of L old)) c.pending.ensures.is)
           (energy_enough need reading (sym c.energy_refusal.ensures ∙ c.in_default-energy_refusal.is)) c.sense-self.ensures,
       c.in-Ok.ensures.calls,

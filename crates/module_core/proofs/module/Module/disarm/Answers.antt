@@ -18,4 +18,4 @@ returns-clause-answers g c = λ device gauge.
     alone g.K.ChannelPort events.Disarm (replies.Disarm (Ok disarm.Disarming)) c.args.self.now c.begin_disarming.new.self device gauge gauge c.begin_disarming.ensures.setup
     (λ m h.
     let f = c.begin_disarming.ensures.step m h in let on : is_armed c.args.self.now.front.mode ≡ true = cc in
-    record { later = f.later; step = (refl, (sym h.front.mode ∙ is_armed_mode c.args.self.now.front.mode on, f.step)); matches = f.matches; moves = f.moves }) c.begin_disarming.ensures.saved refl (λ m h. tt)
+    record { later = f.later; step = (refl, (sym h.front.mode ∙ is_armed_mode c.args.self.now.front.mode on, f.step)); matches = f.matches; moves = f.moves }) c.begin_disarming.ensures.saved refl (λ m h. tt) c.begin_disarming.ensures.issued

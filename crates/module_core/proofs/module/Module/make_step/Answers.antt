@@ -7,7 +7,7 @@ use Rattle.nv_machine.specs.Machine.{MadeStep}
 use Rattle.nv_machine.specs.declared.events.StepReply.{StepReply}
 use Rattle.slot_store.specs.Slots.{HasSize}
 use Rattle.module_core.proofs.SteppedChannels.{behind_fault, behind_others, behind_step}
-use Rattle.module_core.proofs.Common.{ChannelsView, ReachesStore, ap, lines_of_module, setup_of, shape_of, subst, sym, view_of, ℕ, ◌∙◌}
+use Rattle.module_core.proofs.Common.{ChannelsView, ReachesStore, ap, lines_of_module, refl, setup_of, shape_of, subst, sym, view_of, ℕ, ◌∙◌}
 use Rattle.module_core.proofs.module.Module.make_step.Goals as goal
 
 pub invariant_of-self-in_default : goal.invariant_of-self-in_default
@@ -70,6 +70,7 @@ returns-in_default g c =
       call = e.call;
       saved = e.saved;
       terms = e.terms;
+      issued = record { lists = refl; checked = refl };
       setup = ap (λ (t : LifeTerms). record { shape = shape_of g.K.ChannelPort c.args.self.now.channels; trail = t.trail }) e.terms;
       size = e.size (lines_of_module g.K.ChannelPort c.args.self.now) c.requires.size;
     }

@@ -35,35 +35,35 @@ pub returns-clause-answers : goal.returns-clause-answers
 returns-clause-answers g c =
     let D = g.D.SaveDevice in let E = g.E.Energy in let drain = c.drain-drained.ensures in
     let told = c.conclude.ensures.concludes in_turn (assembly c.args.self.now (D.state c.args.device.now) (E.gauge c.args.energy.now)) (assembly c.begin_loss.new.self (D.state c.args.device.now) (E.gauge c.begin_loss.new.energy)) (c.in_default.ensures.begins (D.state c.args.device.now))
-    (record { drains = drain.drains; front = refl; keeps = drain.keeps; device = refl }) drain.covers in
+    (record { drains = drain.drains; each = drain.each; front = refl; keeps = drain.keeps; device = refl }) drain.covers in
     λ m stands. (told.each m stands).answers
 
 pub returns-clause-loses : goal.returns-clause-loses
 returns-clause-loses g c =
     let D = g.D.SaveDevice in let E = g.E.Energy in let drain = c.drain-drained.ensures in
     let told = c.conclude.ensures.concludes in_turn (assembly c.args.self.now (D.state c.args.device.now) (E.gauge c.args.energy.now)) (assembly c.begin_loss.new.self (D.state c.args.device.now) (E.gauge c.begin_loss.new.energy)) (c.in_default.ensures.begins (D.state c.args.device.now))
-    (record { drains = drain.drains; front = refl; keeps = drain.keeps; device = refl }) drain.covers in
+    (record { drains = drain.drains; each = drain.each; front = refl; keeps = drain.keeps; device = refl }) drain.covers in
     λ m stands. (told.each m stands).loses
 
 pub returns-clause-covered : goal.returns-clause-covered
 returns-clause-covered g c =
     let D = g.D.SaveDevice in let E = g.E.Energy in let drain = c.drain-drained.ensures in
     let told = c.conclude.ensures.concludes in_turn (assembly c.args.self.now (D.state c.args.device.now) (E.gauge c.args.energy.now)) (assembly c.begin_loss.new.self (D.state c.args.device.now) (E.gauge c.begin_loss.new.energy)) (c.in_default.ensures.begins (D.state c.args.device.now))
-    (record { drains = drain.drains; front = refl; keeps = drain.keeps; device = refl }) drain.covers in
+    (record { drains = drain.drains; each = drain.each; front = refl; keeps = drain.keeps; device = refl }) drain.covers in
     told.covered
 
 pub returns-clause-honest : goal.returns-clause-honest
 returns-clause-honest g c =
     let D = g.D.SaveDevice in let E = g.E.Energy in let drain = c.drain-drained.ensures in
     let told = c.conclude.ensures.concludes in_turn (assembly c.args.self.now (D.state c.args.device.now) (E.gauge c.args.energy.now)) (assembly c.begin_loss.new.self (D.state c.args.device.now) (E.gauge c.begin_loss.new.energy)) (c.in_default.ensures.begins (D.state c.args.device.now))
-    (record { drains = drain.drains; front = refl; keeps = drain.keeps; device = refl }) drain.covers in
+    (record { drains = drain.drains; each = drain.each; front = refl; keeps = drain.keeps; device = refl }) drain.covers in
     told.honest
 
 pub returns-clause-setup : goal.returns-clause-setup
 returns-clause-setup g c =
     let D = g.D.SaveDevice in let E = g.E.Energy in let drain = c.drain-drained.ensures in
     let told = c.conclude.ensures.concludes in_turn (assembly c.args.self.now (D.state c.args.device.now) (E.gauge c.args.energy.now)) (assembly c.begin_loss.new.self (D.state c.args.device.now) (E.gauge c.begin_loss.new.energy)) (c.in_default.ensures.begins (D.state c.args.device.now))
-    (record { drains = drain.drains; front = refl; keeps = drain.keeps; device = refl }) drain.covers in
+    (record { drains = drain.drains; each = drain.each; front = refl; keeps = drain.keeps; device = refl }) drain.covers in
     told.setup
 
 pub returns-clause-drained : goal.returns-clause-drained

@@ -4,7 +4,7 @@ use Rattle.line_memory.specs.Memory.{line_of}
 use Rattle.nv_machine.specs.declared.events.Event.TheVariants as events
 use Rattle.nv_machine.specs.declared.events.Reply.TheVariants as replies
 use Rattle.module_core.proofs.Common.{ℕ, ◌∙◌, ◌≡◌, ChannelsView, Err, ForSome, List, Ok, Waiting, Waits, WaitsFrom, all_of, ap, base_of_life, hold_of, memory_of, refl, setup_of, start_of_life, subst, sym, view_of}
-use Rattle.module_core.proofs.Applying.{unmoved, waited}
+use Rattle.module_core.proofs.Applying.{quiet, unissued, unmoved, waited}
 use Rattle.module_core.proofs.module.Module.read.Goals as goal
 
 pub returns-in-Ok-clause-answers : goal.returns-in-Ok-clause-answers
@@ -12,7 +12,7 @@ returns-in-Ok-clause-answers g c = λ device gauge.
     let L = g.K.ChannelPort in let e = c.get.ensures in let old = c.args.self.now in let line : ℕ = c.args.line in let later : Waits = (view_of L c.get.new.self).waits in
     waited L (events.Read line) (replies.Read (Ok c.get.result)) old _ device gauge
     (record { numbers = record { terms = refl; accepted = refl; persisted = refl }; mode = refl; saves = refl; shape = ap (λ (v : ChannelsView). v.shape) e.rest }) refl
-    (ap (λ (v : ChannelsView). v.hold) e.rest) e.keeps refl refl (λ m h.
+    (ap (λ (v : ChannelsView). v.hold) e.rest) e.keeps refl refl (quiet L c.in-Ok.place.channel old.channels c.get.new.self e.issued) (λ m h.
     let channel : ℕ = (setup_of L old).shape.channel_of line in let bytes : List ℕ = line_of (memory_of m) line in
     let told : IsGot bytes line (all_of m) channel c.get.result m.waits later =
     subst (λ (k : ℕ). IsGot bytes line k channel c.get.result m.waits later) h.front.accepted
@@ -27,4 +27,4 @@ returns-in-Ok-clause-answers g c = λ device gauge.
 
 pub returns-in-Err-clause-answers : goal.returns-in-Err-clause-answers
 returns-in-Err-clause-answers g c = λ device gauge.
-    unmoved g.K.ChannelPort (events.Read c.args.line) (replies.Read (Err c.in-Err.refusal)) c.args.self.now device gauge (λ m h. (refl, (c.in-Err.ensures.refusal m h, refl))) refl refl (λ m h. tt)
+    unmoved g.K.ChannelPort (events.Read c.args.line) (replies.Read (Err c.in-Err.refusal)) c.args.self.now device gauge (λ m h. (refl, (c.in-Err.ensures.refusal m h, refl))) refl refl (λ m h. tt) (unissued g.K.ChannelPort c.args.self.now.channels)

@@ -13,7 +13,7 @@ use Rattle.nv_machine.specs.declared.events.Event.TheVariants as events
 use Rattle.nv_machine.specs.declared.events.Reply.TheVariants as replies
 use Rattle.nv_machine.specs.declared.events.StepReply.TheVariants as step
 use Rattle.module_core.proofs.Common.{[], if◌then◌else◌, ℕ, ◌+◌, ◌∙◌, ◌∷◌, ◌≡◌, ◌≤◌, ◌⊎◌, Bool, CallKind, DeviceState, ForSome, Gauge, GivesPage, Holds, IsAmong, List, Machine, MakesCalls, Matches, NoneBelow, RunningSave, SaveRun, Setup, Step, Waiting, Waits, WaitsFrom, World, ap, assembly, base_of_life, false, hold_of, is_low, length, lines_of_module, next_of, plan_of, read_as, refl, restored, rules, setup_of, start_of_life, step_call, subst, sym, true, view_of, weaker}
-use Rattle.module_core.proofs.Applying.{alone, asked, same_lines, unmoved}
+use Rattle.module_core.proofs.Applying.{alone, asked, issues_none, same_lines, unissued, unmoved}
 use Rattle.module_core.proofs.Knowing.{holds_moved}
 use Rattle.module_core.proofs.RunningSaves.{none_runs, save_runs, the_run}
 use Rattle.module_core.proofs.SavePages.{gives, same_call, whole_step}
@@ -33,7 +33,7 @@ returns-then-must_wait-clause-answers g c =
     unmoved g.K.ChannelPort events.SaveStep (replies.SaveStep step.Waiting) c.args.self.now (g.D.SaveDevice.state c.args.device.now) (g.E.Energy.gauge c.args.energy.now) (λ m h.
     let s = save_runs m.store.saving c.args.self.now.front.saves.saving c.in-Some.step h.front.saving (sym c.next.ensures.is ∙ c.in-Some.is) in
     let waits : must_wait m s.0 ≡ true = sym (c.must_wait.ensures m s.0 h s.1 s.2) ∙ (let e : c.must_wait.result ≡ true = cc in e) in
-    (s.0, s.1, waits, refl)) refl refl (λ m h. tt)
+    (s.0, s.1, waits, refl)) refl refl (λ m h. tt) (unissued g.K.ChannelPort c.args.self.now.channels)
 
 pub returns-then-take_reading-clause-answers : goal.returns-then-take_reading-clause-answers
 returns-then-take_reading-clause-answers g c =
@@ -49,7 +49,7 @@ returns-then-take_reading-clause-answers g c =
       step = (s.0, record { runs = s.1; ready = ready }, reading, c.tick-reading.ensures, low, ap (λ (x : Machine). record { machine = x; device = device; gauge = later }) turned);
       matches = t.matches;
       moves = t.moves;
-    }) c.take_reading.ensures.saved refl (λ m h. tt)
+    }) c.take_reading.ensures.saved refl (λ m h. tt) c.take_reading.ensures.issued
 
 pub returns-clause-answers : goal.returns-clause-answers
 returns-clause-answers g c = λ m stands.
@@ -83,7 +83,7 @@ returns-clause-answers g c = λ m stands.
     (subst (λ (k : CallKind). MakesCalls (k ∷ []) (is_made c.make_step.result) device.calls device'.calls) call_is (c.make_step.ensures.call run the.1))
     (subst (λ (x : Setup). MadeStep x save c.make_step.result read n) c.take_reading.ensures.setup made.step) in
     asked L events.SaveStep (replies.SaveStep c.make_step.result) (assembly old device before) (assembly c.make_step.new.self device' later) (c.make_step.ensures.setup ∙ c.take_reading.ensures.setup) m stands n step (c.make_step.ensures.saved ∙ ap (saved_after (replies.SaveStep c.make_step.result)) c.take_reading.ensures.saved) made.matches
-    (subst (λ (k : ℕ). Holds k n.store c.make_step.new.self.front.saves.saving device') same made.reaches.holds) tt
+    (subst (λ (k : ℕ). Holds k n.store c.make_step.new.self.front.saves.saving device') same made.reaches.holds) tt (issues_none L old.channels now.channels c.make_step.new.self.channels c.take_reading.ensures.issued c.make_step.ensures.issued)
     (weaker device device' (λ image either guarded.
     left_within setup events.SaveStep (replies.SaveStep c.make_step.result) oldw neww step stands.guarded refl refl (restored lines image)
     (subst (λ (k : ℕ). IsAmong m.store.maybe (restored k image) ⊎ IsAmong n.store.maybe (restored k image)) same either))

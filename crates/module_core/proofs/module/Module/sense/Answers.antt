@@ -13,7 +13,7 @@ returns-clause-answers g c = λ device.
     let setup : Setup = setup_of g.K.ChannelPort c.args.self.now in let level : ℕ = c.sense-level.result in let before = g.E.Energy.gauge c.args.energy.now in let after = g.E.Energy.gauge c.sense-level.new.self in
     let t = c.take_reading-turned.ensures.step m h in let n : Machine = t.later in
     let reads : reads_gauge m.mode ≡ true = ap reads_gauge (sym h.front.mode) ∙ (let e : reads_gauge c.args.self.now.front.mode ≡ true = cc in e) in
-    record { later = n; step = (refl, subst (λ (b : Bool). MatchBool b (ReadsLevel GaugeCall.Sense before level after × (n ≡ sensed setup (read_as level m))) ((level ≡ m.reading) × (n ≡ m) × (after ≡ before))) (sym reads) (c.sense-level.ensures, t.step.1)); matches = t.matches; moves = t.moves }) c.take_reading-turned.ensures.saved refl (λ m h. tt)
+    record { later = n; step = (refl, subst (λ (b : Bool). MatchBool b (ReadsLevel GaugeCall.Sense before level after × (n ≡ sensed setup (read_as level m))) ((level ≡ m.reading) × (n ≡ m) × (after ≡ before))) (sym reads) (c.sense-level.ensures, t.step.1)); matches = t.matches; moves = t.moves }) c.take_reading-turned.ensures.saved refl (λ m h. tt) c.take_reading-turned.ensures.issued
 
 pub returns-then-not-reads_gauge-clause-answers : goal.returns-then-not-reads_gauge-clause-answers
 returns-then-not-reads_gauge-clause-answers g c = search (rules, unmoved)

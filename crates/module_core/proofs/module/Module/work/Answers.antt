@@ -16,7 +16,7 @@ returns-clause-answers g c = λ device gauge.
     let before : ChannelsView = view_of L old.channels in let after : ChannelsView = view_of L c.work.new.self in
     waited L (events.Work channel) (replies.Work done) old _ device gauge
     (record { numbers = record { terms = refl; accepted = refl; persisted = refl }; mode = refl; saves = refl; shape = ap (λ (v : ChannelsView). v.shape) e.rest }) refl
-    (ap (λ (v : ChannelsView). v.hold) e.rest) e.keeps refl refl (λ m h.
+    (ap (λ (v : ChannelsView). v.hold) e.rest) e.keeps refl refl e.issued (λ m h.
     let runs : has_ended m.mode ≡ false = ap has_ended (sym h.front.mode) ∙ (let off : has_ended old.front.mode ≡ false = cc in off) in
     let held : ForSome before.hold (λ k. WaitsFrom k (all_of m) before.waits.writes) =
     subst (λ (o : Option ℕ). ForSome o (λ k. WaitsFrom k (all_of m) before.waits.writes)) (sym h.carried.hold)

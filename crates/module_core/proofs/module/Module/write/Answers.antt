@@ -11,7 +11,7 @@ use Rattle.nv_machine.specs.declared.events.Event.TheVariants as events
 use Rattle.nv_machine.specs.declared.events.Reply.TheVariants as replies
 use Rattle.module_core.specs.Stands.{IsCarried}
 use Rattle.module_core.proofs.Common.{shape_of, [], ℕ, ◌+◌, ◌∙◌, ◌∷◌, ◌≡◌, ChannelsView, Err, IsMemory, Saves, Machine, Ok, Setup, Waits, WaitsFrom, all_of, ap, arith, base_of_life, inl, length, length-append, lines_of_module, memory_of, refl, setup_of, start_of_life, subst, sym, view_of}
-use Rattle.module_core.proofs.Applying.{alone, same_setup, unmoved}
+use Rattle.module_core.proofs.Applying.{alone, quiet, same_setup, unissued, unmoved}
 use Rattle.module_core.proofs.Waits.{below_joined, held_joined, puts_joins}
 use Rattle.module_core.proofs.module.Module.write.Goals as goal
 
@@ -42,11 +42,11 @@ returns-clause-answers g c = λ device gauge.
       step = (refl, (c.in-Ok.ensures.admitted m h, record { number = accepts.number ∙ h.front.accepted; mark = accepts.mark ∙ front.persisted; puts = puts; is = refl }));
       matches = record { front = front; memory = memory; carried = carried };
       moves = inl (refl, accepts.saves);
-    }) accepts.saved refl (λ m h. tt)
+    }) accepts.saved refl (λ m h. tt) (quiet L c.in-Ok.place.channel old.channels c.put.new.self c.put.ensures.issued)
 
 pub returns-in-Err-clause-answers : goal.returns-in-Err-clause-answers
 returns-in-Err-clause-answers g c = λ device gauge.
-    unmoved g.K.ChannelPort (events.Write c.args.write) (replies.Write (Err c.in-Err.refusal)) c.args.self.now device gauge (λ m h. (refl, (c.in-Err.ensures.refusal m h, refl))) refl refl (λ m h. tt)
+    unmoved g.K.ChannelPort (events.Write c.args.write) (replies.Write (Err c.in-Err.refusal)) c.args.self.now device gauge (λ m h. (refl, (c.in-Err.ensures.refusal m h, refl))) refl refl (λ m h. tt) (unissued g.K.ChannelPort c.args.self.now.channels)
 
 pub invariant_of-self-clause-below : goal.invariant_of-self-clause-below
 invariant_of-self-clause-below g c =
