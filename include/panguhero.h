@@ -1,0 +1,154 @@
+/* panguhero.h: a battery-backed memory module (NVDIMM-N), for C and C++.
+ *
+ * Link with libpanguhero_c.a, or by `pkg-config --cflags --libs panguhero`; docs/C.md says how to make them and what is proved.
+ * A handle stands for a module with its save device and its energy gauge. Each call answers a code, PH_DONE where it did what was
+ * asked, and numbers beside it. A handle that is closed, a buffer of another length, a line past the end, a text that is no profile
+ * and want of memory are codes.
+ *
+ * WHAT A CALLER OWES; no proof stands where it is not so:
+ *   1. Each pointer is good for what it points to, as long as the count beside it says, and aligned. (PH_NULL and PH_OVERLAP answer
+ *      null pointers and buffers that overlap; the tests stand in this header.)
+ *   2. A handle begins as PH_HANDLE_CLOSED and is written by these calls alone; a copy of one is not used once the other was.
+ *   3. A handle is in one call at a time, on the thread that opened it.
+ *   4. malloc, realloc and free are one allocator, which aligns to 16; no call comes from a signal handler, nor from the child of a
+ *      fork in a program with threads.
+ *   5. There is stack for 64 KiB more.
+ */
+#ifndef PANGUHERO_H
+#define PANGUHERO_H
+#include <stddef.h>
+#include <stdint.h>
+
+#ifdef __cplusplus
+extern "C" {
+#endif
+
+/* The bytes of a line, the least that is written or read. */
+#define PH_LINE_BYTES 64
+
+/* A handle: closed, or open with a module. */
+typedef struct {
+    uint64_t state;
+    void *module;
+} ph_handle;
+
+#define PH_HANDLE_CLOSED {0, 0}
+
+/* The numbers beside a code; 0 where it has none. */
+typedef struct {
+    uint64_t first;
+    uint64_t second;
+} ph_numbers;
+
+/* What a call answers. Behind some are the two numbers that come with it. */
+enum {
+    PH_DONE = 0,
+    PH_NO_MEMORY = 1,
+    PH_NO_PROFILE = 2,     /* the text is no profile */
+    PH_BUFFER = 3,         /* the buffer isn't as long as a line */
+    PH_DEVICE = 7,         /* a call of the device failed */
+    PH_NO_HANDLE = 8,      /* the handle is closed */
+    PH_ALREADY_OPEN = 9,   /* the handle is open */
+    PH_NULL = 11,          /* a pointer is null; this and the next are answered by the tests in this header */
+    PH_OVERLAP = 12,       /* buffers overlap */
+    PH_FULL = 16,          /* the line's channel has as many pending writes as its queue holds */
+    PH_ENERGY_LOW = 17,    /* the energy doesn't suffice for one more write: need, has */
+    PH_DISARMING = 18,
+    PH_CLOSED = 19,        /* mains were lost */
+    PH_TRAIL_FULL = 20,    /* as many writes were accepted since the last save as there is room for */
+    PH_NO_SUCH_LINE = 21,
+    PH_READS_FULL = 22,    /* as many reads are open in the line's channel as there is room for */
+    PH_READ_WAITS = 23,    /* the bytes didn't come within the turns of a read */
+    PH_NEED_ENERGY = 32,   /* the energy doesn't suffice to arm: need, has */
+    PH_SAVE_RUNNING = 33,
+    PH_UNSETTLED = 34,     /* a call of the device has failed since the last save */
+    PH_SPENT = 35,         /* there is no generation left */
+    PH_STEPPED = 48,       /* a step of the save was made */
+    PH_WAITING = 49,       /* the save waits for a write */
+    PH_TURNED = 50,        /* the gauge was low: the module is disarming */
+    PH_NO_SAVE = 51,
+    PH_RETRY = 52,         /* the device failed; the step is to be made again */
+    PH_SAVE_FAULT = 53,    /* the device failed, which ended the save */
+    PH_UNSAVED = 54,       /* mains were lost while disarmed */
+    PH_DARK = 55           /* mains were lost, and the energy didn't suffice */
+};
+
+/* Opens a module of a profile (TOML) on a new device in memory, formatted, with a gauge that shows 0. */
+uint32_t ph_open_memory(ph_handle *handle, const uint8_t *profile, size_t profile_length);
+/* Closes a handle. */
+uint32_t ph_close(ph_handle *handle);
+
+/* Writes a line of 64 bytes: its number, and the mark. */
+uint32_t ph_write(ph_handle *handle, uint64_t line, const uint8_t *bytes, size_t bytes_length, ph_numbers *numbers);
+/* Reads a line of the memory after all accepted writes into 64 bytes. */
+uint32_t ph_read(ph_handle *handle, uint64_t line, uint8_t *into, size_t into_length, ph_numbers *numbers);
+/* How many writes are persistent: exactly those with a number below it. */
+uint32_t ph_mark(ph_handle *handle, ph_numbers *numbers);
+
+/* Saves all accepted writes, or what is left of a save that runs: generation, count. */
+uint32_t ph_save(ph_handle *handle, ph_numbers *numbers);
+/* Mains are lost: an armed module saves its accepted writes on backup: generation, count. */
+uint32_t ph_power_loss(ph_handle *handle, ph_numbers *numbers);
+
+/* Tests of what a pointer may be, before each call: a null pointer is answered PH_NULL, and memory of two arguments that overlaps
+ * PH_OVERLAP. With PH_UNCHECKED defined they are left out. */
+#ifndef PH_UNCHECKED
+static inline int ph_overlap_(const void *a, size_t a_length, const void *b, size_t b_length) {
+    uintptr_t x = (uintptr_t)a, y = (uintptr_t)b;
+    return x < y + b_length && y < x + a_length;
+}
+
+static inline uint32_t ph_test_(const ph_handle *handle, const void *bytes, size_t length, const ph_numbers *numbers) {
+    if (!handle || !bytes || !numbers) return PH_NULL;
+    if (ph_overlap_(handle, sizeof *handle, bytes, length) || ph_overlap_(numbers, sizeof *numbers, bytes, length)) return PH_OVERLAP;
+    return ph_overlap_(handle, sizeof *handle, numbers, sizeof *numbers) ? PH_OVERLAP : PH_DONE;
+}
+
+static inline uint32_t ph_tested_open_memory(ph_handle *handle, const uint8_t *profile, size_t profile_length) {
+    uint32_t code = !handle || !profile ? PH_NULL : ph_overlap_(handle, sizeof *handle, profile, profile_length) ? PH_OVERLAP : PH_DONE;
+    return code ? code : ph_open_memory(handle, profile, profile_length);
+}
+#define ph_open_memory ph_tested_open_memory
+
+static inline uint32_t ph_tested_close(ph_handle *handle) {
+    uint32_t code = handle ? PH_DONE : PH_NULL;
+    return code ? code : ph_close(handle);
+}
+#define ph_close ph_tested_close
+
+static inline uint32_t ph_tested_write(ph_handle *handle, uint64_t line, const uint8_t *bytes, size_t bytes_length, ph_numbers *numbers) {
+    uint32_t code = ph_test_(handle, bytes, bytes_length, numbers);
+    return code ? code : ph_write(handle, line, bytes, bytes_length, numbers);
+}
+#define ph_write ph_tested_write
+
+static inline uint32_t ph_tested_read(ph_handle *handle, uint64_t line, uint8_t *into, size_t into_length, ph_numbers *numbers) {
+    uint32_t code = ph_test_(handle, into, into_length, numbers);
+    return code ? code : ph_read(handle, line, into, into_length, numbers);
+}
+#define ph_read ph_tested_read
+
+static inline uint32_t ph_tested_mark(ph_handle *handle, ph_numbers *numbers) {
+    uint32_t code = ph_test_(handle, "", 0, numbers);
+    return code ? code : ph_mark(handle, numbers);
+}
+#define ph_mark ph_tested_mark
+
+static inline uint32_t ph_tested_save(ph_handle *handle, ph_numbers *numbers) {
+    uint32_t code = ph_test_(handle, "", 0, numbers);
+    return code ? code : ph_save(handle, numbers);
+}
+#define ph_save ph_tested_save
+
+static inline uint32_t ph_tested_power_loss(ph_handle *handle, ph_numbers *numbers) {
+    uint32_t code = ph_test_(handle, "", 0, numbers);
+    return code ? code : ph_power_loss(handle, numbers);
+}
+#define ph_power_loss ph_tested_power_loss
+
+#endif
+
+#ifdef __cplusplus
+}
+#endif
+#endif
