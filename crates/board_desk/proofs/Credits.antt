@@ -1,5 +1,5 @@
 -- The credits that are out are those of the eight parts.
-use Rattle.std.proofs.Common.{List, [], ap, arith, length, refl, sym, suc, zero, ℕ, ◌+◌, ◌∙◌, ◌∷◌, ◌≡◌, ◌<◌}
+use Rattle.std.proofs.Common.{List, [], ap, arith, length, refl, sym, suc, zero, ℕ, ◌∙◌, ◌∷◌, ◌≡◌, ◌<◌}
 use Rattle.std.proofs.Math.Logic.{∥∥₁_elim}
 use Rattle.std.proofs.Math.Nat.{ℕ_set}
 use Rattle.std.proofs.lemmas.List.Sums.{sum_by-cons}

@@ -18,3 +18,4 @@ pub mod Asked
 pub mod Wrote
 pub mod Ticketed
 pub mod Recorded
+pub mod Drained

@@ -1,5 +1,6 @@
 -- Ports that come back to their channels.
-use Rattle.std.proofs.Common.{List, Option, None, Some, [], ap, arith, false, length, subst, suc, sym, zero, ℕ, ◌<◌, ◌∙◌, ◌∷◌, ◌≡◌, ◌≤◌}
+use Rattle.std.proofs.Common.{List, Option, None, Some, [], ap, arith, false, length, refl, subst, suc, sym, take, zero, ℕ, ◌++◌, ◌+◌, ◌<◌, ◌∙◌, ◌∷◌, ◌≡◌, ◌≤◌}
+use Rattle.std.proofs.lemmas.Option.{same_Some}
 use Rattle.std.proofs.Math.Logic.{∥∥₁_elim, ∥∥₁_map, ∥∥₁_prop}
 use Rattle.std.proofs.Math.Nat.{ℕ_set}
 use Rattle.std.proofs.Props.{props}
@@ -22,6 +23,20 @@ pub absent : {X : Type 0} (xs : List X) (i : ℕ) → slice_get xs i ≡ None �
 absent [] i none = omega arith
 absent (x ∷ xs) zero none = absurd (let bad : ⊥ = cc in bad)
 absent (x ∷ xs) (suc i) none = let rest = absent xs i none in omega (arith, rest)
+
+-- the last one stands behind the others
+pub last_some : {X : Type 0} (xs : List X) (i : ℕ) (x : X) → slice_get xs i ≡ Some x → length xs ≤ i + 1 → xs ≡ take i xs ++ x ∷ []
+last_some [] i x at most = absurd (let bad : ⊥ = cc in bad)
+last_some (y ∷ []) zero x at most = ap (λ z. z ∷ []) (same_Some y x at)
+last_some (y ∷ z ∷ xs) zero x at most = absurd (omega (arith, most))
+last_some (y ∷ xs) (suc i) x at most = ap (λ rest. y ∷ rest) (last_some xs i x at (omega (arith, most)))
+
+-- and there is no other where it doesn't stand there
+pub last_none : {X : Type 0} (xs : List X) (i : ℕ) → slice_get xs i ≡ None → xs ≡ take i xs ++ []
+last_none [] zero none = refl
+last_none [] (suc i) none = refl
+last_none (y ∷ xs) zero none = absurd (let bad : ⊥ = cc in bad)
+last_none (y ∷ xs) (suc i) none = ap (λ rest. y ∷ rest) (last_none xs i none)
 
 module _ {K B : Type 0} (L : Ghosts K) (P : PartsGhosts B) where
   -- what is known of a port that comes back to its channel

@@ -9,6 +9,9 @@ use Rattle.channel_port.specs.declared.port.ChannelPort.{Ghosts}
 use Rattle.energy_budget.specs.Gauge.{Gauge}
 use Rattle.energy_budget.specs.declared.energy.Energy.{Ghosts as GaugeGhosts}
 use Rattle.nv_machine.specs.declared.events.Event.{Event}
+use Rattle.channel_port.specs.Draining.{at_once}
+use Rattle.arm_state.specs.declared.loss.Loss.{Loss}
+use Rattle.nv_machine.specs.Losses.{LoseStep}
 use Rattle.nv_machine.specs.State.{Machine, Setup, World}
 use Rattle.nv_machine.proofs.JoinedRuns.{join_runs, rests_here}
 use Rattle.nv_workers.specs.declared.board_name.BoardName.{Ghosts as BoardGhosts}
@@ -17,8 +20,9 @@ use Rattle.save_device.specs.declared.device.SaveDevice.{Ghosts as DeviceGhosts}
 use Rattle.split_machine.specs.OwnEvents.{ComesOfOwn, is_own}
 use Rattle.board_desk.specs.Answering.{HasSettled, Settles}
 use Rattle.board_desk.specs.Calling.{Course, GoesAlong}
-use Rattle.board_desk.specs.Desk.{DeskView, setup_at, world_at}
+use Rattle.board_desk.specs.Desk.{DeskStands, DeskView, setup_at, world_at}
 use Rattle.board_desk.specs.Loans.{IsReadyToLend}
+use Rattle.board_desk.specs.Losing.{LosesWhole, LostAtOnce}
 use Rattle.board_desk.specs.Views.{SameButCounts, desk_of}
 use Rattle.board_desk.specs.declared.desk.Desk.{Desk}
 use Rattle.board_desk.specs.Whole.{CallAnswers, ComesOfChannels, SettlesAll, WholeAnswers, is_of_channels}
@@ -61,6 +65,20 @@ module _ {B : Type 0} (P : PartsGhosts B) where
         leads = subst (λ (x : Setup). GoesAlong course x (world_at old on.seen) (world_at new l.later)) same.setup
             (subst (λ (w : World). GoesAlong course (setup_at P mid) w (world_at new l.later)) (world_of_same old mid same on.seen) l.leads);
         stands = l.stands;
+      }))
+
+  -- and a loss of mains behind them
+  pub loses_whole : (lost : Loss) (old mid new : DeskView) → SettlesAll P old mid → SameWorld old mid → ((m : Machine) → DeskStands P mid m → ∥ LostAtOnce P lost mid new m ∥₁) → LosesWhole P lost old new
+  loses_whole lost old mid new settles same called m s =
+      ∥∥₁_elim (settles m s) ∥∥₁_prop (λ on. ∥∥₁_map (called on.seen on.stands) (λ l. record {
+        seen = on.seen;
+        comes = on.comes;
+        led = record {
+          later = l.later;
+          loses = subst (λ (x : Setup). LoseStep at_once x lost (world_at old on.seen) (world_at new l.later)) same.setup
+              (subst (λ (w : World). LoseStep at_once (setup_at P mid) lost w (world_at new l.later)) (world_of_same old mid same on.seen) l.loses);
+          stands = l.stands;
+        };
       }))
 
   pub settles_none : (desk : DeskView) → SettlesAll P desk desk

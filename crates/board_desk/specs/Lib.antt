@@ -11,3 +11,4 @@ pub mod Asking
 pub mod Surviving
 pub mod Credits
 pub mod Closing
+pub mod Losing

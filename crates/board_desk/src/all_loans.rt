@@ -112,6 +112,8 @@ pub(crate) fn restore_all<K: ChannelPort + Drop, B: PartsName>(
     requires six { HasLent K.ChannelPort B.PartsName known.old.logs six.old six_seat.old 6 }
     requires seven { HasLent K.ChannelPort B.PartsName known.old.logs seven.old seven_seat.old 7 }
     ensures none { ports.new.items ≡ [] }
+    ensures ports { ports.old.items ≡ ports_in K.ChannelPort (zero.new ∷ one.new ∷ two.new
+        ∷ three.new ∷ four.new ∷ five.new ∷ six.new ∷ seven.new ∷ []) }
     ensures capacity { vec_capacity ports.new ≡ vec_capacity ports.old }
     ensures table { known.new.table ≡ known.old.table }
     ensures restated { AreRestated K.ChannelPort hold ended ports.old.items

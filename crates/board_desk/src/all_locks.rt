@@ -1,6 +1,10 @@
 // With all locks of a board held: its module is put together, asked, and taken apart again.
+ghost use Rattle.std.specs.Prelude.{◌≡◌, [], ◌∷◌};
+ghost use Rattle.channel_locks.specs.Unlocked.{ports_in};
+ghost use Rattle.module_core.specs.Draining.{WhereDrained};
 ghost use Rattle.board_desk.specs.Calling.{loss_course};
 ghost use Rattle.board_desk.specs.Loans.{IsReadyToLend};
+ghost use Rattle.board_desk.specs.Losing.{DrainsBehind, LosesWhole};
 ghost use Rattle.board_desk.specs.Views.{SameButCounts, desk_of};
 ghost use Rattle.board_desk.specs.Whole.{SettlesAll, WholeAnswers};
 
@@ -44,6 +48,10 @@ fn settle_all<K: ChannelPort, D: SaveDevice, E: Energy, B: BoardName + PartsName
         (desk_of K.ChannelPort D.SaveDevice E.Energy B.BoardName.own B.PartsName.own result) }
     ensures same { SameButCounts K.ChannelPort D.SaveDevice E.Energy B.BoardName.own
         B.PartsName.own desk result }
+    ensures ports { ports_in K.ChannelPort (zero.new.part ∷ one.new.part ∷ two.new.part
+        ∷ three.new.part ∷ four.new.part ∷ five.new.part ∷ six.new.part ∷ seven.new.part ∷ [])
+        ≡ ports_in K.ChannelPort (zero.old.part ∷ one.old.part ∷ two.old.part ∷ three.old.part
+        ∷ four.old.part ∷ five.old.part ∷ six.old.part ∷ seven.old.part ∷ []) }
     ensures zero { IsReadyToLend K.ChannelPort zero.new.part zero.new.seat.log }
     ensures one { IsReadyToLend K.ChannelPort one.new.part one.new.seat.log }
     ensures two { IsReadyToLend K.ChannelPort two.new.part two.new.seat.log }
@@ -131,7 +139,8 @@ pub fn whole<
 }
 
 /// Mains were lost, with all nine locks held as at `whole`: where acknowledged writes are to be saved, the channels are drained at
-/// once and all accepted writes saved, as `Module::power_loss_with`.
+/// once and all accepted writes saved, as `Module::power_loss_with`. Behind a loss whose drains were paid for the gate was asked before
+/// the drain of each channel, and each is as its own drain leaves it.
 pub fn lose<K, D, E, B, G, R>(
     desk: Desk<K, D, E, B>,
     zero: &mut Slot<K, B, ChannelZero>,
@@ -155,6 +164,14 @@ where
     ensures answers { WholeAnswers B.PartsName.own (loss_course result.answer)
         (desk_of K.ChannelPort D.SaveDevice E.Energy B.BoardName.own B.PartsName.own desk)
         (desk_of K.ChannelPort D.SaveDevice E.Energy B.BoardName.own B.PartsName.own result.desk) }
+    ensures loses { LosesWhole B.PartsName.own result.answer
+        (desk_of K.ChannelPort D.SaveDevice E.Energy B.BoardName.own B.PartsName.own desk)
+        (desk_of K.ChannelPort D.SaveDevice E.Energy B.BoardName.own B.PartsName.own result.desk) }
+    ensures drains { WhereDrained result.answer (DrainsBehind K.ChannelPort G.Gate gate.now
+        (ports_in K.ChannelPort (zero.old.part ∷ one.old.part ∷ two.old.part ∷ three.old.part
+        ∷ four.old.part ∷ five.old.part ∷ six.old.part ∷ seven.old.part ∷ []))
+        (ports_in K.ChannelPort (zero.new.part ∷ one.new.part ∷ two.new.part ∷ three.new.part
+        ∷ four.new.part ∷ five.new.part ∷ six.new.part ∷ seven.new.part ∷ []))) }
 {
     let LentDesk { rest, books } = lend_out(
         settle_all(desk, zero, one, two, three, four, five, six, seven),

@@ -1,9 +1,14 @@
 // What is asked of a whole module, with all locks of its board held.
 ghost use Rattle.std.specs.Prelude.{◌≡◌, ℕ};
 ghost use Rattle.line_memory.specs.History.{Recorded};
+ghost use Rattle.channel_port.specs.Draining.{at_once};
+ghost use Rattle.module_core.specs.Draining.{WhereDrained};
+ghost use Rattle.module_core.specs.Losing.{LosesBy};
 ghost use Rattle.module_core.specs.Stands.{setup_of};
 ghost use Rattle.nv_workers.specs.Kept.{IsRecordKept};
+ghost use Rattle.nv_workers.specs.Lived.{assembly_of};
 ghost use Rattle.board_desk.specs.Calling.{AddsNone, Course, GoesBy, loss_course};
+ghost use Rattle.board_desk.specs.Losing.{DrainsBehind};
 
 use arm_state::{ArmRefusal, ArmReply, DisarmReply, Loss};
 use channel_port::ChannelPort;
@@ -180,6 +185,11 @@ where
     ensures goes { GoesBy K.ChannelPort D.SaveDevice E.Energy (loss_course result) it.old it.new }
     ensures setup { setup_of K.ChannelPort it.new.running ≡ setup_of K.ChannelPort it.old.running }
     ensures room { it.new.history.room ≡ it.old.history.room }
+    ensures loses { LosesBy K.ChannelPort at_once result
+        (assembly_of K.ChannelPort D.SaveDevice E.Energy it.old)
+        (assembly_of K.ChannelPort D.SaveDevice E.Energy it.new) }
+    ensures drains { WhereDrained result (DrainsBehind K.ChannelPort G.Gate gate.now
+        it.old.running.channels.ports.items it.new.running.channels.ports.items) }
 {
     it.running
         .power_loss_with(rt, &mut it.device, &mut it.energy, gate)

@@ -1,11 +1,12 @@
 // A desk is taken apart while its channels lend their ports, and put together again.
 ghost use Rattle.std.specs.Prelude.{◌≡◌, [], ◌∷◌};
 ghost use Rattle.std.specs.Arc.{arc_value};
+ghost use Rattle.arm_state.specs.Modes.{has_ended};
 ghost use Rattle.channel_locks.specs.Slots.{IsSlotKept};
 ghost use Rattle.channel_locks.specs.Unlocked.{ports_in};
 ghost use Rattle.board_desk.specs.Asking.{AnswersAsCame, HaveCome, pieces_with};
 ghost use Rattle.board_desk.specs.Kept.{IsDeskKept};
-ghost use Rattle.board_desk.specs.Loans.{CanLend, HasLent, HaveLent};
+ghost use Rattle.board_desk.specs.Loans.{AreRestated, CanLend, HasLent, HaveLent};
 ghost use Rattle.board_desk.specs.Views.{desk_of};
 
 use crate::all_loans::{lend_all, restore_all};
@@ -173,6 +174,14 @@ where
         books.logs books.known (desk_of K.ChannelPort D.SaveDevice E.Energy B.BoardName.own
         B.PartsName.own result.desk) }
     ensures history { result.desk.history ≡ done.rest.history }
+    ensures view { desk_of K.ChannelPort D.SaveDevice E.Energy B.BoardName.own B.PartsName.own
+        result.desk ≡ pieces_with K.ChannelPort D.SaveDevice E.Energy B.PartsName.own done.rest
+        result.desk.known.logs }
+    ensures restated { AreRestated K.ChannelPort done.rest.pieces.terms.hold
+        (has_ended done.rest.pieces.front.front.mode) done.rest.pieces.ports.items
+        books.known.logs result.desk.known.logs }
+    ensures ports { done.rest.pieces.ports.items ≡ ports_in K.ChannelPort (zero.new ∷ one.new
+        ∷ two.new ∷ three.new ∷ four.new ∷ five.new ∷ six.new ∷ seven.new ∷ []) }
     ensures zero { IsSlotKept K.ChannelPort B.PartsName zero.new zero_seat.new 0 }
     ensures one { IsSlotKept K.ChannelPort B.PartsName one.new one_seat.new 1 }
     ensures two { IsSlotKept K.ChannelPort B.PartsName two.new two_seat.new 2 }

@@ -175,6 +175,7 @@ pub(crate) fn restore<K: ChannelPort + Drop, B: PartsName, C: ChannelName>(
     ensures count { vec_len ports.new ≡ min C.NUMBER B.ports }
     ensures capacity { vec_capacity ports.new ≡ vec_capacity ports.old }
     ensures ports { ports.new.items ≡ take C.NUMBER ports.old.items }
+    ensures port { ports.old.items ≡ ports.new.items ++ port_in K.ChannelPort part.new }
     ensures kept { IsSlotKept K.ChannelPort B.PartsName part.new seat.new C.NUMBER }
     ensures known { known.new ≡ record known.old {
       logs = slice_set known.old.logs C.NUMBER seat.new.log;

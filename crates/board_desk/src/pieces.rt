@@ -1,9 +1,11 @@
 // A module in pieces is put together, asked, and taken apart again.
 ghost use Rattle.std.specs.Prelude.{◌≡◌, Some, slice_get};
 ghost use Rattle.channel_locks.specs.PortMakes.{make_of};
+ghost use Rattle.module_core.specs.Draining.{WhereDrained};
 ghost use Rattle.split_module.specs.Gathering.{FitAsModule, IsMadeOf, StandsGathered, StandsSplit};
 ghost use Rattle.board_desk.specs.Asking.{AreOfBoard, LedAs};
 ghost use Rattle.board_desk.specs.Calling.{loss_course};
+ghost use Rattle.board_desk.specs.Losing.{DrainsBehind, LedAtOnce};
 
 use crate::board_port::BoardPort;
 use crate::calling::{WholeCall, lose_mains};
@@ -110,6 +112,10 @@ impl<K: ChannelPort, D: SaveDevice, E: Energy, B: PartsName> RecordedPieces<K, D
         requires kept { AreOfBoard K.ChannelPort D.SaveDevice E.Energy B.PartsName self }
         ensures did { LedAs K.ChannelPort D.SaveDevice E.Energy B.PartsName
             (loss_course result.answer) self result.rest }
+        ensures loses { LedAtOnce K.ChannelPort D.SaveDevice E.Energy B.PartsName
+            result.answer self result.rest }
+        ensures drains { WhereDrained result.answer (DrainsBehind K.ChannelPort G.Gate gate.now
+            self.pieces.ports.items result.rest.pieces.ports.items) }
     {
         let mut it = self.gather();
         let answer = lose_mains(rt, &mut it, gate);

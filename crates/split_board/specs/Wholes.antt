@@ -1,10 +1,15 @@
 -- What a call of a whole module at a board comes to.
-use Rattle.std.specs.Prelude.{◌≡◌, ℕ, List, Option, Some, Result, Ok, Err}
+use Rattle.std.specs.Prelude.{◌≡◌, ℕ, suc, List, [], ◌∷◌, length, Option, Some, Result, Ok, Err}
+use Rattle.arm_state.specs.declared.loss.Loss.{Loss}
 use Rattle.line_memory.specs.History.{Recorded, cut_at}
 use Rattle.save_device.specs.declared.device.SaveDevice.{Ghosts as DeviceGhosts}
 use Rattle.energy_budget.specs.declared.energy.Energy.{Ghosts as GaugeGhosts}
 use Rattle.channel_port.specs.declared.port.ChannelPort.{Ghosts}
+use Rattle.channel_part.specs.declared.part.Part.{Part}
 use Rattle.channel_locks.specs.declared.parts_name.PartsName.{Ghosts as PartsGhosts}
+use Rattle.channel_locks.specs.Lent.{IsLentBy}
+use Rattle.channel_locks.specs.Unlocked.{ports_in}
+use Rattle.module_core.specs.Draining.{WhereDrained}
 use Rattle.nv_machine.specs.State.{Machine}
 use Rattle.nv_workers.specs.declared.board_name.BoardName.{Ghosts as BoardGhosts}
 use Rattle.nv_workers.specs.declared.checking.Cut.{Cut}
@@ -15,16 +20,14 @@ use Rattle.nv_workers.specs.declared.saver.Saving.{Saving}
 use Rattle.nv_workers.specs.declared.saver.Saving.TheVariants.{Began, Stepped, Rested, Closed}
 use Rattle.nv_workers.specs.Ending.{AreChecked, IsStranger}
 use Rattle.nv_workers.specs.Savers.{turn_of, turn_taken, working_of}
+use Rattle.worker_gate.specs.declared.Gate.{Ghosts as GateGhosts}
 use Rattle.worker_loops.specs.declared.shift.Working.{Working}
 use Rattle.board_desk.specs.declared.desk.Desk.{Desk}
-use Rattle.board_desk.specs.Calling.{Course, Paused, save_begin_course, save_step_course}
+use Rattle.board_desk.specs.Calling.{Course, Paused, loss_course, save_begin_course, save_step_course}
 use Rattle.board_desk.specs.Desk.{DeskStands}
+use Rattle.board_desk.specs.Losing.{DrainsBehind, LosesWhole}
 use Rattle.board_desk.specs.Views.{desk_of}
 use Rattle.board_desk.specs.Whole.{WholeAnswers}
-
--- nothing is told of the record
-abbrev pub tells_nothing : ℕ → Recorded → Recorded → Type 0
-tells_nothing saved old new = Unit {0}
 
 module _ {K D E B : Type 0} (L : Ghosts K) (M : DeviceGhosts D) (N : GaugeGhosts E) (O : BoardGhosts B) (P : PartsGhosts B) where
   -- A call of the whole module was this to the life.
@@ -45,6 +48,36 @@ module _ {K D E B : Type 0} (L : Ghosts K) (M : DeviceGhosts D) (N : GaugeGhosts
     pub before : Desk K D E B L M N O P
     pub after : Desk K D E B L M N O P
     pub calls : CallsWhole course before after
+
+  -- the locks of the channels from this one on lent these, in order
+  abbrev pub AreLentFrom : ℕ → List (Option (Part K L)) → Type 0
+  AreLentFrom channel [] = Unit {0}
+  AreLentFrom channel (part ∷ parts) = IsLentBy L P channel part × AreLentFrom (suc channel) parts
+
+  -- Mains were lost: it was this to the life, and all drains were paid for before the first of them. Where they were paid for, the gate
+  -- that was given was asked before the drain of each channel, and what the eight locks lent has the ports that these drains leave.
+  pub record LosesAtDesk {G : Type 0} (H : GateGhosts G) (gate : G) (lost : Loss) (old new : Desk K D E B L M N O P) : Type 0 where
+    pub calls : CallsWhole (loss_course lost) old new
+    pub loses : LosesWhole P lost (desk_of L M N O P old) (desk_of L M N O P new)
+    pub parts : List (Option (Part K L))
+    pub eight : length parts ≡ 8
+    pub lent : AreLentFrom 0 parts
+    pub left : List (Option (Part K L))
+    pub drains : WhereDrained lost (DrainsBehind L H gate (ports_in L parts) (ports_in L left))
+
+  -- the same of what lies behind the board's lock
+  pub record LosesLocked {G : Type 0} (H : GateGhosts G) (gate : G) (lost : Loss) (old new : Option (Desk K D E B L M N O P)) : Type 0 where
+    pub before : Desk K D E B L M N O P
+    pub after : Desk K D E B L M N O P
+    pub old_is : old ≡ Some before
+    pub new_is : new ≡ Some after
+    pub loses : LosesAtDesk H gate lost before after
+
+  -- with all locks held mains were lost so
+  pub record LentLoss {G : Type 0} (H : GateGhosts G) (gate : G) (lost : Loss) : Type 0 where
+    pub before : Desk K D E B L M N O P
+    pub after : Desk K D E B L M N O P
+    pub loses : LosesAtDesk H gate lost before after
 
   -- a save was begun or refused, a step of one was made, or nothing was done
   abbrev pub TakesSaverTurn : Saving → Desk K D E B L M N O P → Desk K D E B L M N O P → Type 0

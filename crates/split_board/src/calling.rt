@@ -1,7 +1,7 @@
 // What is asked of a whole module, with all locks of its board held.
-ghost use Rattle.board_desk.specs.Calling.{arm_course, disarm_course, loss_course};
+ghost use Rattle.board_desk.specs.Calling.{arm_course, disarm_course};
 ghost use Rattle.board_desk.specs.Calling.{save_begin_course, save_step_course, sense_course};
-ghost use Rattle.split_board.specs.Wholes.{CallsLocked, LentWhole, tells_nothing};
+ghost use Rattle.split_board.specs.Wholes.{CallsLocked, LentLoss, LentWhole, LosesLocked};
 
 use crate::board::Board;
 use crate::locked_desk::LockedDesk;
@@ -81,8 +81,8 @@ where
     B: BoardName + PartsName + Send,
     G: Gate + Sync,
     R: Threads + Wait + Sync,
-    ensures { CallsLocked K.ChannelPort D.SaveDevice E.Energy B.BoardName.own B.PartsName.own
-        (loss_course result) tells_nothing locked.old.desk locked.new.desk }
+    ensures { LosesLocked K.ChannelPort D.SaveDevice E.Energy B.BoardName.own B.PartsName.own
+        G.Gate gate.now result locked.old.desk locked.new.desk }
 {
     let AllSlots {
         mut zero,
@@ -171,15 +171,16 @@ where
         self.call(rt, SaveStepCall)
     }
 
-    /// Mains were lost: where acknowledged writes are to be saved, the channels are drained at once, each when the gate lets it go,
-    /// and all accepted writes are saved. All locks are held meanwhile, so that a gate which waits for another call of the board
-    /// waits for ever.
+    /// Mains were lost: where acknowledged writes are to be saved, all drains are paid for, the channels are drained at once, and all
+    /// accepted writes are saved. The gate is asked before each drain, by the channel's number, and again while it says Hold. Behind a
+    /// loss whose drains were paid for each channel is as its own drain leaves it. All locks are held meanwhile, so that a gate which
+    /// waits for another call of the board waits for ever.
     pub fn power_loss<G: Gate + Sync, R: Threads + Wait + Sync>(&self, rt: &R, gate: &G) -> Loss
     where
         K: Send,
         B: Send,
-        ensures { LentWhole K.ChannelPort D.SaveDevice E.Energy B.BoardName.own B.PartsName.own
-            (loss_course result) }
+        ensures { LentLoss K.ChannelPort D.SaveDevice E.Energy B.BoardName.own B.PartsName.own
+            G.Gate gate.now result }
     {
         let mut locked = take_lock(rt, &self.desk);
         lose_locked(rt, &mut *locked, &self.channels, gate)

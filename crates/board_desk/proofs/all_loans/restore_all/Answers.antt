@@ -1,7 +1,12 @@
 -- All channels have their ports back.
-use Rattle.std.proofs.Common.{ap, arith}
+use Rattle.std.proofs.Common.{List, Option, [], ap, arith, ◌∷◌, ◌≡◌}
+use Rattle.channel_locks.proofs.Ported.{ports_with}
+use Rattle.channel_locks.specs.Unlocked.{ports_in}
 use Rattle.channel_log.specs.Seats.{AllLogs}
 use Rattle.board_desk.proofs.Returned.{HaveBack, all_back, comes_due, none_back, one_back}
+use Rattle.channel_part.specs.declared.part.Part.{Part}
+use Rattle.board_desk.proofs.all_loans.restore_all.Given.{Over}
+use Rattle.board_desk.proofs.all_loans.restore_all.Goals.{After-restore-8}
 use Rattle.board_desk.proofs.all_loans.restore_all.Goals as goal
 
 pub restore-requires-clause-due : goal.restore-requires-clause-due
@@ -120,3 +125,34 @@ returns-clause-restated g c =
     let back-8 : HaveBack g.K.ChannelPort c.args.hold c.args.ended c.args.ports.now.items c.args.known.now.logs 0 c.restore-8.new.ports.items c.restore-8.new.known.logs =
     one_back g.K.ChannelPort c.args.hold c.args.ended c.args.ports.now.items c.args.known.now.logs 0 c.restore-7.new.ports.items c.restore-8.new.ports.items c.restore-7.new.known.logs c.restore-8.new.known.logs c.args.zero_seat.now.log c.restore-8.new.seat.log back-7 c.restore-8.ensures.ports (ap (λ (f : AllLogs). f.logs) c.restore-8.ensures.known) c.requires.zero.agreed c.restore-8.ensures.told c.restore-8.ensures.few in
     all_back g.K.ChannelPort c.args.hold c.args.ended c.args.ports.now.items c.args.known.now.logs c.restore-8.new.ports.items c.restore-8.new.known.logs back-8
+
+module _ (g : Over) (c : After-restore-8 g) where
+  abbrev Had : List (Option (Part g.row.K.Denot g.K.ChannelPort)) → List g.row.K.Denot → Type 0
+  Had parts ports = ports ≡ ports_in g.K.ChannelPort parts
+
+  had-1 : Had (c.restore-8.new.part ∷ []) c.restore-7.new.ports.items
+  had-1 = ports_with g.K.ChannelPort [] c.restore-8.new.part c.restore-8.new.ports.items c.restore-7.new.ports.items c.restore-8.ensures.port c.restore-8.ensures.ports
+
+  had-2 : Had (c.restore-8.new.part ∷ c.restore-7.new.part ∷ []) c.restore-6.new.ports.items
+  had-2 = ports_with g.K.ChannelPort (c.restore-8.new.part ∷ []) c.restore-7.new.part c.restore-7.new.ports.items c.restore-6.new.ports.items c.restore-7.ensures.port had-1
+
+  had-3 : Had (c.restore-8.new.part ∷ c.restore-7.new.part ∷ c.restore-6.new.part ∷ []) c.restore-5.new.ports.items
+  had-3 = ports_with g.K.ChannelPort (c.restore-8.new.part ∷ c.restore-7.new.part ∷ []) c.restore-6.new.part c.restore-6.new.ports.items c.restore-5.new.ports.items c.restore-6.ensures.port had-2
+
+  had-4 : Had (c.restore-8.new.part ∷ c.restore-7.new.part ∷ c.restore-6.new.part ∷ c.restore-5.new.part ∷ []) c.restore-4.new.ports.items
+  had-4 = ports_with g.K.ChannelPort (c.restore-8.new.part ∷ c.restore-7.new.part ∷ c.restore-6.new.part ∷ []) c.restore-5.new.part c.restore-5.new.ports.items c.restore-4.new.ports.items c.restore-5.ensures.port had-3
+
+  had-5 : Had (c.restore-8.new.part ∷ c.restore-7.new.part ∷ c.restore-6.new.part ∷ c.restore-5.new.part ∷ c.restore-4.new.part ∷ []) c.restore-3.new.ports.items
+  had-5 = ports_with g.K.ChannelPort (c.restore-8.new.part ∷ c.restore-7.new.part ∷ c.restore-6.new.part ∷ c.restore-5.new.part ∷ []) c.restore-4.new.part c.restore-4.new.ports.items c.restore-3.new.ports.items c.restore-4.ensures.port had-4
+
+  had-6 : Had (c.restore-8.new.part ∷ c.restore-7.new.part ∷ c.restore-6.new.part ∷ c.restore-5.new.part ∷ c.restore-4.new.part ∷ c.restore-3.new.part ∷ []) c.restore-2.new.ports.items
+  had-6 = ports_with g.K.ChannelPort (c.restore-8.new.part ∷ c.restore-7.new.part ∷ c.restore-6.new.part ∷ c.restore-5.new.part ∷ c.restore-4.new.part ∷ []) c.restore-3.new.part c.restore-3.new.ports.items c.restore-2.new.ports.items c.restore-3.ensures.port had-5
+
+  had-7 : Had (c.restore-8.new.part ∷ c.restore-7.new.part ∷ c.restore-6.new.part ∷ c.restore-5.new.part ∷ c.restore-4.new.part ∷ c.restore-3.new.part ∷ c.restore-2.new.part ∷ []) c.restore.new.ports.items
+  had-7 = ports_with g.K.ChannelPort (c.restore-8.new.part ∷ c.restore-7.new.part ∷ c.restore-6.new.part ∷ c.restore-5.new.part ∷ c.restore-4.new.part ∷ c.restore-3.new.part ∷ []) c.restore-2.new.part c.restore-2.new.ports.items c.restore.new.ports.items c.restore-2.ensures.port had-6
+
+  had-8 : Had (c.restore-8.new.part ∷ c.restore-7.new.part ∷ c.restore-6.new.part ∷ c.restore-5.new.part ∷ c.restore-4.new.part ∷ c.restore-3.new.part ∷ c.restore-2.new.part ∷ c.restore.new.part ∷ []) c.args.ports.now.items
+  had-8 = ports_with g.K.ChannelPort (c.restore-8.new.part ∷ c.restore-7.new.part ∷ c.restore-6.new.part ∷ c.restore-5.new.part ∷ c.restore-4.new.part ∷ c.restore-3.new.part ∷ c.restore-2.new.part ∷ []) c.restore.new.part c.restore.new.ports.items c.args.ports.now.items c.restore.ensures.port had-7
+
+pub returns-clause-ports : goal.returns-clause-ports
+returns-clause-ports g c = had-8 g c

@@ -1,4 +1,6 @@
 -- All channels are settled.
+use Rattle.std.proofs.Common.{[], ◌++◌}
+use Rattle.board_desk.proofs.Lent.{settled_port}
 use Rattle.board_desk.proofs.Wholly.{SettledSoFar, none_settled, one_settled, settled_ready}
 use Rattle.board_desk.proofs.all_locks.settle_all.Given.{Over}
 use Rattle.board_desk.proofs.all_locks.settle_all.Goals.{After-settle-8}
@@ -61,3 +63,8 @@ returns-clause-six g c = settled_ready g.K.ChannelPort _ _ _ c.settle-7.ensures.
 
 pub returns-clause-seven : goal.returns-clause-seven
 returns-clause-seven g c = settled_ready g.K.ChannelPort _ _ _ c.settle-8.ensures.settled
+
+pub returns-clause-ports : goal.returns-clause-ports
+returns-clause-ports g c =
+    let L = g.K.ChannelPort in
+    λ i. settled_port L _ _ c.settle.ensures.part i ++ (settled_port L _ _ c.settle-2.ensures.part i ++ (settled_port L _ _ c.settle-3.ensures.part i ++ (settled_port L _ _ c.settle-4.ensures.part i ++ (settled_port L _ _ c.settle-5.ensures.part i ++ (settled_port L _ _ c.settle-6.ensures.part i ++ (settled_port L _ _ c.settle-7.ensures.part i ++ (settled_port L _ _ c.settle-8.ensures.part i ++ [])))))))

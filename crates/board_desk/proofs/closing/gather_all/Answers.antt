@@ -1,5 +1,5 @@
 -- A board is put together for good.
-use Rattle.std.proofs.Common.{List, [], ap, refl, sym, ◌∙◌, ◌++◌}
+use Rattle.std.proofs.Common.{[], ap, refl, sym, ◌∙◌, ◌++◌}
 use Rattle.std.proofs.Math.Logic.{∥∥₁_elim, ∥∥₁_map, ∥∥₁_prop}
 use Rattle.board_desk.specs.Asking.{pieces_with}
 use Rattle.board_desk.specs.Desk.{DeskView}

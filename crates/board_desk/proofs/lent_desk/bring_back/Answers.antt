@@ -71,3 +71,8 @@ returns-clause-answers g c = λ old course came.
     let at = goal.at.returns-clause-answers g c in
     call_answers g.K.ChannelPort g.B.BoardName g.B.PartsName (before g at.After-restore_all old) _ c.args.books.seat _ _ _ came.kept course
     (then_with g at.After-restore_all c.restore_all.new.known.logs) c.args.done.rest.pieces.ports.items came.did (restated_then g at.After-restore_all)
+
+pub returns-clause-restated : goal.returns-clause-restated
+returns-clause-restated g c =
+    let at = goal.at.returns-clause-restated g c in
+    restated_then g at.After-restore_all

@@ -1,5 +1,5 @@
 -- A port is lent.
-use Rattle.std.proofs.Common.{List, [], None, Option, ap, arith, rules, subst, sym, ◌+◌, ◌++◌, ◌≡◌, ◌∙◌, ◌∷◌}
+use Rattle.std.proofs.Common.{[], None, Option, ap, arith, rules, subst, sym, ◌+◌, ◌++◌, ◌≡◌, ◌∙◌, ◌∷◌}
 use Rattle.std.proofs.Math.Logic.{∥∥₁_elim, ∥∥₁_map, ∥∥₁_prop}
 use Rattle.std.proofs.lemmas.List.{append-nil}
 use Rattle.channel_part.specs.declared.part.Part.{Part}

@@ -1,12 +1,14 @@
 -- A port comes back.
-use Rattle.std.proofs.Common.{List, None, Some, ap, arith, length, rules, subst, sym, ℕ, ◌∙◌, ◌≡◌, ◌≤◌, ◌<◌}
+use Rattle.std.proofs.Common.{List, None, Option, Some, [], ap, arith, length, rules, subst, sym, take, ℕ, ◌++◌, ◌∙◌, ◌∷◌, ◌≡◌, ◌≤◌, ◌<◌}
+use Rattle.channel_locks.specs.Unlocked.{port_in}
+use Rattle.channel_part.specs.declared.part.Part.{Part}
 use Rattle.std.specs.Prelude.{slice_get}
 use Rattle.std.proofs.lemmas.Option.{slice_get_within}
 use Rattle.channel_locks.specs.Slots.{IsSlotKept}
 use Rattle.channel_part.specs.Stands.{PartStands, PortStands}
 use Rattle.channel_log.specs.Log.{LogNote, credits_of, log_tells}
 use Rattle.board_desk.specs.Loans.{restated, waits_of_port}
-use Rattle.board_desk.proofs.Restored.{absent, number_back, part_back, slot_back, stage_back}
+use Rattle.board_desk.proofs.Restored.{absent, last_none, last_some, number_back, part_back, slot_back, stage_back}
 use Rattle.board_desk.proofs.loans.restore.Goals as goal
 
 pub of-requires-clause-here : goal.of-requires-clause-here
@@ -47,3 +49,23 @@ returns-in_default-clause-kept g c =
     let beyond : P.ports ≤ number = omega (arith, count, none) in
     subst (λ part. IsSlotKept L P part c.note_back.new.seat number) (sym c.requires.lent)
     (slot_back L P None seat c.note_back.new.seat number c.requires.table c.requires.channel c.note_back.ensures.seat ∣ beyond ∣₁)
+
+pub returns-in-Some-clause-port : goal.returns-in-Some-clause-port
+returns-in-Some-clause-port g c =
+    let ports = c.args.ports.now.items in
+    let at = ap (slice_get ports) (sym c.NUMBER.ensures) ∙ sym c.pop_at.ensures.port ∙ sym c.unpack-port.ensures.same ∙ c.in-Some.is in
+    let count = c.requires.count in
+    last_some ports g.C.ChannelName.NUMBER c.in-Some.port at (omega (arith, count))
+    ∙ ap (λ port. take g.C.ChannelName.NUMBER ports ++ port ∷ []) (sym c.of.ensures.port)
+    ∙ ap (λ n. take n ports ++ c.of.result.port ∷ []) (sym c.NUMBER.ensures)
+    ∙ ap (λ xs. xs ++ c.of.result.port ∷ []) (sym c.pop_at.ensures.rest)
+
+pub returns-in_default-clause-port : goal.returns-in_default-clause-port
+returns-in_default-clause-port g c =
+    let L = g.K.ChannelPort in
+    let ports = c.args.ports.now.items in
+    let none = ap (slice_get ports) (sym c.NUMBER.ensures) ∙ sym c.pop_at.ensures.port ∙ sym c.unpack-port.ensures.same ∙ c.in_default.is in
+    last_none ports g.C.ChannelName.NUMBER none
+    ∙ ap (λ n. take n ports ++ []) (sym c.NUMBER.ensures)
+    ∙ ap (λ xs. xs ++ []) (sym c.pop_at.ensures.rest)
+    ∙ ap (λ (part : Option (Part g.row.K.Denot L)). c.pop_at.new.ports.items ++ port_in L part) (sym c.requires.lent)

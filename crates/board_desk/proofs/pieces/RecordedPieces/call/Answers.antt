@@ -26,9 +26,10 @@ returns-clause-did g c = λ logs kept.
     let self = c.args.self in
     let rest = c.of-rest.result in
     did g.K.ChannelPort g.D.SaveDevice g.E.Energy g.B.PartsName self.pieces self.device self.energy self.history logs kept c.gather-it.result c.gather-it.ensures.pieces c.gather-it.ensures.stands c.gather-it.ensures.device
-    c.gather-it.ensures.energy c.gather-it.ensures.history (g.W.WholeCall.course c.call-answer.result) (g.met.W.WholeCall.adds_none c.call-answer.result) c.call-answer.new.it c.call-answer.ensures.goes c.call-answer.ensures.setup
-    c.call-answer.ensures.room rest.pieces rest.device rest.energy rest.history c.of-rest.ensures.pieces c.of-rest.ensures.fit c.of-rest.ensures.stands c.of-rest.ensures.device c.of-rest.ensures.energy c.of-rest.ensures.history c.always.ensures
+    c.gather-it.ensures.energy c.gather-it.ensures.history c.call-answer.new.it c.call-answer.ensures.setup
+    rest.pieces rest.device rest.energy rest.history c.of-rest.ensures.pieces c.of-rest.ensures.fit c.of-rest.ensures.stands c.of-rest.ensures.device c.of-rest.ensures.energy
     (λ port. record { writes = g.met.K.ChannelPort.own_writes port; reads = g.met.K.ChannelPort.own_reads port; given = g.met.K.ChannelPort.own_tickets port })
+    (g.W.WholeCall.course c.call-answer.result) (g.met.W.WholeCall.adds_none c.call-answer.result) c.call-answer.ensures.goes c.call-answer.ensures.room c.of-rest.ensures.history c.always.ensures
 
 pub returns-clause-told : goal.returns-clause-told
 returns-clause-told g c =

@@ -1,11 +1,17 @@
 -- Mains are lost, of the module that pieces are.
-use Rattle.std.proofs.Common.{refl}
+use Rattle.std.proofs.Common.{ap, refl, sym}
+use Rattle.std.specs.Global.{Global}
+use Rattle.std.specs.Prelude.{Vec}
 use Rattle.std.proofs.Math.Logic.{∥∥₁_elim, ∥∥₁_map, ∥∥₁_prop}
 use Rattle.std.proofs.Props.{props}
 use Rattle.board_desk.specs.Calling.{loss_course}
 use Rattle.board_desk.proofs.Joined.{fits_named}
-use Rattle.board_desk.proofs.Parted.{did, record_joined}
+use Rattle.split_machine.specs.Telling.{AreOwn}
+use Rattle.board_desk.proofs.Drained.{drains_same}
+use Rattle.board_desk.proofs.Parted.{did, lost_restated, record_joined}
 use Rattle.board_desk.proofs.Restored.{fits_lent}
+use Rattle.board_desk.proofs.pieces.RecordedPieces.lose.Given.{Over}
+use Rattle.board_desk.proofs.pieces.RecordedPieces.lose.Goals.{After-of-rest}
 use Rattle.board_desk.proofs.pieces.RecordedPieces.lose.Goals as goal
 
 pub gather-it-requires : goal.gather-it-requires
@@ -20,13 +26,27 @@ lose_mains-answer-requires-clause-kept g c _ _ =
     record_joined g.K.ChannelPort g.D.SaveDevice g.E.Energy g.B.PartsName self.pieces self.device self.energy self.history t.0 t.1 c.gather-it.result c.gather-it.ensures.pieces c.gather-it.ensures.stands c.gather-it.ensures.device
     c.gather-it.ensures.energy c.gather-it.ensures.history)
 
+module _ (g : Over) (c : After-of-rest g) where
+  laws : (port : g.row.K.Denot) → AreOwn (g.K.ChannelPort.view port).number (g.K.ChannelPort.view port).waits
+  laws port = record { writes = (g.met.K.ChannelPort g.world.𝓛 g.world.𝓜 g.world.𝓡 ((λ s x. x), (λ x. x), (λ x. x), λ x. x)).own_writes port; reads = (g.met.K.ChannelPort g.world.𝓛 g.world.𝓜 g.world.𝓡 ((λ s x. x), (λ x. x), (λ x. x), λ x. x)).own_reads port; given = (g.met.K.ChannelPort g.world.𝓛 g.world.𝓜 g.world.𝓡 ((λ s x. x), (λ x. x), (λ x. x), λ x. x)).own_tickets port }
+
 pub returns : goal.returns
-returns g c = record {
-  did = λ logs kept.
-      let self = c.args.self in
-      let rest = c.of-rest.result in
-      did g.K.ChannelPort g.D.SaveDevice g.E.Energy g.B.PartsName self.pieces self.device self.energy self.history logs kept c.gather-it.result c.gather-it.ensures.pieces c.gather-it.ensures.stands c.gather-it.ensures.device
-      c.gather-it.ensures.energy c.gather-it.ensures.history (loss_course c.lose_mains-answer.result) refl c.lose_mains-answer.new.it c.lose_mains-answer.ensures.goes c.lose_mains-answer.ensures.setup
-      c.lose_mains-answer.ensures.room rest.pieces rest.device rest.energy rest.history c.of-rest.ensures.pieces c.of-rest.ensures.fit c.of-rest.ensures.stands c.of-rest.ensures.device c.of-rest.ensures.energy c.of-rest.ensures.history c.always.ensures
-      (λ port. record { writes = (g.met.K.ChannelPort g.world.𝓛 g.world.𝓜 g.world.𝓡 ((λ s x. x), (λ x. x), (λ x. x), λ x. x)).own_writes port; reads = (g.met.K.ChannelPort g.world.𝓛 g.world.𝓜 g.world.𝓡 ((λ s x. x), (λ x. x), (λ x. x), λ x. x)).own_reads port; given = (g.met.K.ChannelPort g.world.𝓛 g.world.𝓜 g.world.𝓡 ((λ s x. x), (λ x. x), (λ x. x), λ x. x)).own_tickets port });
-}
+returns g c =
+    let at = goal.at.returns g c in
+    let self = c.args.self in
+    let it = c.gather-it in
+    let lost = c.lose_mains-answer in
+    let rest = c.of-rest.result in
+    let of = c.of-rest.ensures in
+    record {
+      did = λ logs kept.
+          did g.K.ChannelPort g.D.SaveDevice g.E.Energy g.B.PartsName self.pieces self.device self.energy self.history logs kept it.result it.ensures.pieces it.ensures.stands it.ensures.device it.ensures.energy it.ensures.history
+          lost.new.it lost.ensures.setup rest.pieces rest.device rest.energy rest.history of.pieces of.fit of.stands of.device of.energy (laws g at.After-of-rest)
+          (loss_course lost.result) refl lost.ensures.goes lost.ensures.room of.history c.always.ensures;
+      loses = λ logs kept.
+          lost_restated g.K.ChannelPort g.D.SaveDevice g.E.Energy g.B.PartsName self.pieces self.device self.energy self.history logs kept it.result it.ensures.pieces it.ensures.stands it.ensures.device it.ensures.energy it.ensures.history
+          lost.new.it lost.ensures.setup rest.pieces rest.device rest.energy rest.history of.pieces of.fit of.stands of.device of.energy (laws g at.After-of-rest)
+          lost.result lost.ensures.loses;
+      drains = drains_same g.K.ChannelPort g.G.Gate c.args.gate.now lost.result lost.result refl self.pieces.ports.items rest.pieces.ports.items it.result.running.channels.ports.items lost.new.it.running.channels.ports.items
+          (ap (λ (v : Vec g.row.K.Denot Global). v.items) (sym it.ensures.pieces.ports)) (ap (λ (v : Vec g.row.K.Denot Global). v.items) (sym of.pieces.ports)) lost.ensures.drains;
+    }
