@@ -2,6 +2,7 @@
 use Rattle.std.specs.Prelude.{◌≡◌, ℕ, ◌+◌, ◌-◌, ◌^◌, List, Option, Some, None, MatchOption, nat_lt, if◌then◌else◌}
 use Rattle.std.specs.Option.{option_map}
 use Rattle.ddr4_timing.specs.declared.command.Stamped.{Stamped}
+use Rattle.ddr4_timing.specs.declared.timing.Checked.{Checked}
 use Rattle.ddr4_timing.specs.Limits.{lines_of}
 use Rattle.save_device.specs.declared.fuse.Fuse.{Fuse}
 use Rattle.save_device.specs.declared.memory.MemoryDevice.{MemoryDevice}
@@ -17,6 +18,7 @@ use Rattle.arm_state.specs.declared.refusal.WriteRefusal.TheVariants as write
 use Rattle.channel_port.specs.declared.answers.Done.{Done}
 use Rattle.channel_port.specs.declared.port.ChannelPort.{Ghosts}
 use Rattle.channel_port.specs.Shape.{Shape, IsShape}
+use Rattle.channel_set.specs.Issuing.{HaveIssuedNone}
 use Rattle.nv_profile.specs.declared.profile.Profile.{Profile}
 use Rattle.nv_machine.specs.declared.events.Event.{Event}
 use Rattle.nv_machine.specs.declared.events.Event.TheVariants as event
@@ -101,6 +103,13 @@ module _ {K : Type 0} (L : Ghosts K) where
     pub runs : life ≡ Some it
     pub over : setup_of L it ≡ setup
     pub holds : Of it
+
+  -- the channels of the life that runs are of this profile, and none of them has issued a command
+  pub record RunsUnissued (checked : Checked) (life : Option (Module K L)) : Type 0 where
+    pub it : Module K L
+    pub runs : life ≡ Some it
+    pub checked_is : it.channels.terms.checked ≡ checked
+    pub none : HaveIssuedNone L it.channels
 
   -- a life went on by events of which this is told, and its setup stayed
   abbrev pub LivesOn : (Setup → Tale) → Module K L → SessionAt L → SessionAt L → Type 0

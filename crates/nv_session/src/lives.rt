@@ -9,10 +9,11 @@ ghost use Rattle.slot_store.specs.Outcomes.{first_image};
 ghost use Rattle.slot_store.specs.Rest.{IsAtRestOn};
 ghost use Rattle.slot_store.specs.Told.{Refuses, IsFailure, image_of_restored, is_fault};
 ghost use Rattle.energy_budget.specs.Meter.{meter_gauge, lie_of};
+ghost use Rattle.channel_set.specs.Issuing.{HaveIssuedNone};
 ghost use Rattle.module_core.specs.Opening.{opened_with};
 ghost use Rattle.module_core.specs.Stands.{ModuleStands, assembly, setup_of};
 ghost use Rattle.nv_session.specs.Faults.{CountsFault, is_format_fault};
-ghost use Rattle.nv_session.specs.Living.{HasLife, IsCutToSaved, PassesAll, RunsWith, device_state, innermost};
+ghost use Rattle.nv_session.specs.Living.{HasLife, IsCutToSaved, PassesAll, RunsUnissued, RunsWith, device_state, innermost};
 
 use crate::session::Session;
 use crate::wires::Wires;
@@ -53,6 +54,9 @@ impl<K: ChannelPort + Drop, A: Wires<K> + Drop> Session<K, A> {
             (opened_with restored.head (image_of_restored restored arm))) }
         ensures setup { IfOk result
             (λ life. setup_of K.ChannelPort life ≡ setup_over self.now map) }
+        ensures checked { IfOk result
+            (λ life. life.channels.terms.checked ≡ self.now.profile.checked) }
+        ensures issued { IfOk result (λ life. HaveIssuedNone K.ChannelPort life.channels) }
         ensures back { IfErr result (λ back. back.0 ≡ restored) }
     {
         let trail = self.profile.sizes.trail;
@@ -82,6 +86,8 @@ impl<K: ChannelPort + Drop, A: Wires<K> + Drop> Session<K, A> {
             (setup_over self.old self.old.profile.map)
             (λ life. ModuleStands K.ChannelPort life (device_state self.new.device)
             (opened_with first_head (first_image (line_count_in self.old)))) self.new.life) }
+        ensures issued { OnOk result
+            (RunsUnissued K.ChannelPort self.old.profile.checked self.new.life) }
         ensures none { IfErr result (λ error. self.new.life ≡ None) }
         ensures faults { CountsFault (is_format_fault result)
             (device_state self.old.device) (device_state self.new.device) }
@@ -109,13 +115,15 @@ impl<K: ChannelPort + Drop, A: Wires<K> + Drop> Session<K, A> {
         Ok(())
     }
 
-    /// Makes the device a store of zero lines, and begins a life on it over the profile's map. First it ends what runs, any lie,
-    /// and what was to fail of the device. `Device` comes only where a call of the device failed.
+    /// Makes the device a store of zero lines, and begins a life on it over the profile's map, whose channels have issued no
+    /// command. First it ends what runs, any lie, and what was to fail of the device. `Device` comes only where a call of the device failed.
     pub fn format(&mut self, alloc: Global) -> Result<(), FormatError>
         ensures begins { OnOk result (RunsWith K.ChannelPort
             (setup_over self.old self.old.profile.map)
             (λ life. ModuleStands K.ChannelPort life (device_state self.new.device)
             (opened_with first_head (first_image (line_count_in self.old)))) self.new.life) }
+        ensures issued { OnOk result
+            (RunsUnissued K.ChannelPort self.old.profile.checked self.new.life) }
         ensures none { IfErr result (λ error. self.new.life ≡ None) }
         ensures faults { CountsFault (is_format_fault result)
             (device_state self.old.device) (device_state self.new.device) }
@@ -137,6 +145,8 @@ impl<K: ChannelPort + Drop, A: Wires<K> + Drop> Session<K, A> {
             (λ life. Revives K.ChannelPort (restored_in self.old) found
             life (device_state self.new.device)) self.new.life) }
         ensures refused { IfErr result (λ error. Refuses error (restored_in self.old)) }
+        ensures issued { OnOk result
+            (RunsUnissued K.ChannelPort self.old.profile.checked self.new.life) }
         ensures none { IfErr result (λ error. self.new.life ≡ None) }
         ensures faults { CountsFault (is_fault result)
             (device_state self.old.device) (device_state self.new.device) }
@@ -186,6 +196,8 @@ impl<K: ChannelPort + Drop, A: Wires<K> + Drop> Session<K, A> {
         ensures fails { IfErr result (λ error. self.old.life ≢ None → IsFailure error) }
         ensures keeps { IfErr result (λ error. KeepsPrefixOf K.ChannelPort (line_count_in self.old)
             (moment_in self.old) error (moment_in self.new)) }
+        ensures issued { OnOk result
+            (RunsUnissued K.ChannelPort self.old.profile.checked self.new.life) }
         ensures none { IfErr result (λ error. self.new.life ≡ None) }
         ensures again { StopsWithin (λ bytes. bytes ≡ (state_of (innermost self.new.device)).bytes)
             (present (state_of (innermost self.new.device))) }

@@ -1,5 +1,6 @@
 // What a script talks to.
 ghost use Rattle.std.specs.Prelude.{◌≡◌, ◌≤◌, replicate, None, IfOk};
+ghost use Rattle.std.specs.Option.{option_map};
 ghost use Rattle.ddr4_timing.specs.Limits.{lines_of};
 ghost use Rattle.interleave_map.specs.declared.ready.Interleaving.{Interleaving};
 ghost use Rattle.save_device.specs.Device.{IsSettled, MayLeave, present};
@@ -28,6 +29,7 @@ pub struct Session<K: ChannelPort, A: Wires<K>> {
     pub(crate) wires: A,
     pub(crate) life: Option<Module<K>>,
     ghost fits: { (map : Interleaving) → IsShapeFor profile (A.shape wires map) },
+    ghost wired: { A.checked wires ≡ profile.checked },
     ghost living: { IsLiving K.ChannelPort profile
         (session_at life (device_state device) (meter_gauge gauge)) },
 }
@@ -49,7 +51,8 @@ impl<K: ChannelPort + Drop, A: Wires<K> + Drop> Session<K, A> {
     /// A session with no life, on a device of zero bytes, with a gauge that shows 0. It refuses only where there is no memory
     /// for the device.
     pub fn new(alloc: Global, profile: &Profile, wires: A) -> Result<Session<K, A>, AllocError>
-        requires { (map : Interleaving) → IsShapeFor profile.now (A.shape wires map) }
+        requires fits { (map : Interleaving) → IsShapeFor profile.now (A.shape wires map) }
+        requires checked { A.checked wires ≡ profile.now.checked }
         ensures profile { IfOk result (λ session. session.profile ≡ profile.now) }
         ensures wires { IfOk result (λ session. session.wires ≡ wires) }
         ensures life { IfOk result (λ session. session.life ≡ None) }
@@ -78,6 +81,13 @@ impl<K: ChannelPort + Drop, A: Wires<K> + Drop> Session<K, A> {
     {
         let fuse = self.device.device;
         fuse.device
+    }
+
+    /// The life that runs, if one does, to be looked at.
+    pub fn life(&self) -> Option<&Module<K>>
+        ensures { option_map (λ life. life.now) result ≡ self.now.life }
+    {
+        self.life.as_ref()
     }
 
     /// How many lines the memory has.

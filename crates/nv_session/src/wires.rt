@@ -1,7 +1,9 @@
 // What makes the modules of a session.
 ghost use Rattle.std.specs.Prelude.{◌≡◌, ℕ, IfErr, IfOk};
 ghost use Rattle.line_memory.specs.Memory.{IsMemory};
+ghost use Rattle.ddr4_timing.specs.declared.timing.Checked.{Checked};
 ghost use Rattle.channel_port.specs.Shape.{Shape};
+ghost use Rattle.channel_set.specs.Issuing.{HaveIssuedNone};
 ghost use Rattle.interleave_map.specs.declared.ready.Interleaving.{Interleaving};
 ghost use Rattle.save_device.specs.Device.{DeviceState};
 ghost use Rattle.save_image.specs.Header.{Fits};
@@ -21,8 +23,11 @@ pub trait Wires<K: ChannelPort> {
     /// What doesn't change of the channels over a map.
     ghost shape: { Self → Interleaving → Shape };
 
-    /// A module over a map that begins a life with what was restored, and may accept `trail` writes. It refuses only where there
-    /// is no memory for its channels, and then hands back what was restored.
+    /// The profile of the channels.
+    ghost checked: { Self → Checked };
+
+    /// A module over a map that begins a life with what was restored, and may accept `trail` writes. None of its channels has issued
+    /// a command. It refuses only where there is no memory for them, and then hands back what was restored.
     fn open(
         &self,
         alloc: Global,
@@ -39,5 +44,7 @@ pub trait Wires<K: ChannelPort> {
             (opened_with restored.head (image_of_restored restored arm))) }
         ensures setup { IfOk result (λ it. setup_of K.ChannelPort it
             ≡ record { shape = shape self.now map; trail = trail }) }
+        ensures checked { IfOk result (λ it. it.channels.terms.checked ≡ checked self.now) }
+        ensures issued { IfOk result (λ it. HaveIssuedNone K.ChannelPort it.channels) }
         ensures back { IfErr result (λ back. back.0 ≡ restored) };
 }

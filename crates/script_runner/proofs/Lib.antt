@@ -10,3 +10,5 @@ pub mod Stories
 pub mod Doing
 pub mod Runs
 pub mod Chains
+pub mod Issued
+pub mod Lawful

@@ -1,5 +1,5 @@
 -- What each line of a script does at a session, and which answer tells of it.
-use Rattle.std.specs.Prelude.{◌≡◌, ℕ, ◌-◌, ◌^◌, true, List, [], ◌∷◌, Result, Option, Some, None, IfErr, IfOk, unwrap_or}
+use Rattle.std.specs.Prelude.{◌≡◌, ℕ, ◌-◌, ◌^◌, true, List, [], ◌∷◌, Result, Option, Some, None, IfErr, IfOk, OnOk, unwrap_or}
 use Rattle.std.specs.Option.{option_map}
 use Rattle.ddr4_timing.specs.declared.command.Stamped.{Stamped}
 use Rattle.interleave_map.specs.declared.ready.Interleaving.{Interleaving}
@@ -37,7 +37,7 @@ use Rattle.nv_session.specs.declared.turns.LineSeen.{LineSeen}
 use Rattle.nv_session.specs.declared.wires.Wires as wires
 use Rattle.nv_session.specs.Coming.{IsOneEvent}
 use Rattle.nv_session.specs.Faults.{CountsFault}
-use Rattle.nv_session.specs.Living.{GoesOnBy, IsWork, RunsWith, SessionAt, device_state, innermost, read_refusal_at_rest, set_to, write_refusal_at_rest}
+use Rattle.nv_session.specs.Living.{GoesOnBy, IsWork, RunsUnissued, RunsWith, SessionAt, device_state, innermost, read_refusal_at_rest, set_to, write_refusal_at_rest}
 use Rattle.nv_session.specs.ReadTurns.{ReadsLine}
 use Rattle.nv_session.specs.Restoring.{Revives}
 use Rattle.nv_session.specs.SaveTurns.{MakesSave}
@@ -131,6 +131,7 @@ module _ {K A : Type 0} {L : Ghosts K} {W : wires.Ghosts A K} where
     pub told : given ≡ restore_told result
     pub left : MayLeave (present (state_of (innermost old.device))) (state_of (innermost new.device)).bytes
     pub picked : IsPicked pick (innermost old.device) (state_of (innermost new.device)).bytes
+    pub issued : OnOk result (RunsUnissued L old.profile.checked new.life)
     pub revives : IfOk result (λ found. RunsWith L (setup_over old map) (λ life. Revives L (restored_in new) found life (device_state new.device)) new.life)
     pub refused : IfErr result (λ error. Refuses error (restored_in new))
     pub none : IfErr result (λ error. new.life ≡ None)
@@ -170,7 +171,7 @@ module _ {K A : Type 0} {L : Ghosts K} {W : wires.Ghosts A K} where
 
   -- a line is done with its own words, and this answer tells of it
   abbrev pub Does : ScriptLine → Answer → Session K A L W → Session K A L W → Type 0
-  Does line.Format given old new = Formats given old new × EndsLie old new
+  Does line.Format given old new = Formats given old new × EndsLie old new × (given ≡ answer.Formatted → RunsUnissued L old.profile.checked new.life)
   Does (line.Restore pick map) given old new = Restores (unwrap_or pick Old) (unwrap_or map old.profile.map) given old new × EndsLie old new
   Does (line.Sense level) given old new = GoesOnBehind (line.Sense level) given old new × TellsMode given new × LeavesDevice old new
   Does (line.Lie units) given old new = Lies units given old new

@@ -4,6 +4,7 @@ pub mod Ledger
 pub mod Story
 pub mod Keeping
 pub mod Doing
+pub mod Issued
 pub mod Chains
 pub mod Runs
 pub mod Scripts

@@ -17,6 +17,7 @@ use Rattle.nv_script.specs.declared.answer.Answer.{Answer}
 use Rattle.script_runner.specs.Chains.{LivesInChain}
 use Rattle.script_runner.specs.Doing.{DoesAll, DoesEach}
 use Rattle.script_runner.specs.Keeping.{AnswersTurns, AnswersWhole, GoesThrough}
+use Rattle.script_runner.specs.Issued.{KeepsRules}
 use Rattle.script_runner.specs.Story.{AreAllAnswered}
 
 module _ {K A : Type 0} {L : Ghosts K} {W : wires.Ghosts A K} where
@@ -53,11 +54,13 @@ module _ {K A : Type 0} {L : Ghosts K} {W : wires.Ghosts A K} where
     pub leak : leak_of session.gauge ≡ 0
 
 -- The lines of a script are done by a new session with such wires, in turn: their answers are those that were reported, and tell
--- what each did. So they are those of a chain of lives. The device is the session's at the end.
+-- what each did. So they are those of a chain of lives. What the channels of the last one have issued keeps the timing rules. The
+-- device is the session's at the end.
 pub record IsRun {K A : Type 0} (L : Ghosts K) (W : wires.Ghosts A K) (Wired : A → Type 0) (profile : Profile) (asked : List ScriptLine) (before after : List Answer) (device : MemoryDevice) : Type 0 where
   pub first : Session K A L W
   pub last : Session K A L W
   pub begins : IsNew Wired profile first
   pub done : AreAllDone (lines_of profile.checked.geometry) asked before after first last
   pub lives : LivesInChain done.all.answered.story first last
+  pub rules : KeepsRules last
   pub device_is : device ≡ innermost last.device

@@ -3,6 +3,7 @@ ghost use Rattle.std.specs.Prelude.{List};
 ghost use Rattle.nv_session.specs.declared.session.Session.{Session};
 ghost use Rattle.script_runner.specs.Chains.{LivesInChain};
 ghost use Rattle.script_runner.specs.Doing.{DoesAll};
+ghost use Rattle.script_runner.specs.Issued.{TellsItsLists, TellsLawfully};
 ghost use Rattle.script_runner.specs.Story.{Exchange};
 
 use channel_port::ChannelPort;
@@ -15,4 +16,13 @@ use nv_session::Wires;
 pub fn scripts_survive<K: ChannelPort, A: Wires<K>>()
     ensures { (story : List Exchange) (first last : Session K A K.ChannelPort A.Wires)
         → DoesAll story first last → LivesInChain story first last }
+{}
+
+/// **The commands that a script tells are its channels' lists.** Behind a format or a restore, and lines by which no channel is worked
+/// untold and none is drained, each channel of the life that runs has issued the commands that the answers tell of it, in turn, and no
+/// other. So the commands that are told of a channel keep the timing rules of the profile, and `first_fault` of them is none, where the
+/// channels' lists do, as those behind `do_lines` (`IsRun`: `rules`).
+pub fn scripts_tell_lists<K: ChannelPort, A: Wires<K>>()
+    ensures lists { TellsItsLists K A K.ChannelPort A.Wires }
+    ensures lawful { TellsLawfully K A K.ChannelPort A.Wires }
 {}

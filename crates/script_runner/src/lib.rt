@@ -8,7 +8,7 @@ mod running;
 mod script;
 mod wiring;
 
-pub use laws::scripts_survive;
+pub use laws::{scripts_survive, scripts_tell_lists};
 pub use report::{Printer, Report};
 pub use running::{do_lines, run_lines, run_script};
 pub use wiring::Wiring;

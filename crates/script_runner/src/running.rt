@@ -4,6 +4,7 @@ ghost use Rattle.ddr4_timing.specs.Limits.{lines_of};
 ghost use Rattle.nv_script.specs.declared.answer.Answer.{Answer};
 ghost use Rattle.nv_script.specs.Line.{NamesChannelOf};
 ghost use Rattle.script_runner.specs.Wiring.{IsMapOf, IsWiredFor};
+ghost use Rattle.script_runner.specs.Issued.{KeepsRules};
 ghost use Rattle.script_runner.specs.Runs.{IsRun};
 ghost use Rattle.script_runner.specs.Scripts.{EndsScript, EndsScriptBy, IsBadText, RunsScript};
 ghost use Rattle.script_runner.specs.Story.{AreAllAnswered, AreCutShort, EndsBy};
@@ -12,7 +13,7 @@ use crate::report::{Printer, Report};
 use crate::script::answer_lines;
 use crate::wiring::Wiring;
 use channel_port::ChannelPort;
-use ddr4_port::Ddr4Port;
+use ddr4_port::{Ddr4Port, keep_rules};
 use interleave_map::line_map::LineMap;
 use nv_profile::Profile;
 use nv_script::{ScriptFault, ScriptLine, read_script};
@@ -49,9 +50,18 @@ pub fn run_lines<M: LineMap, R: Report>(
     do_lines(alloc, profile, lines, lines_map, xor_map, report)
 }
 
+// What the channels of a session's life have issued keeps the timing rules.
+fn session_keeps_rules<'m, M: LineMap>(session: &Session<Ddr4Port<'m, M>, Wiring<'m, M>>)
+    ensures { KeepsRules session.now }
+{
+    if let Some(life) = session.life() {
+        keep_rules(life.channels());
+    }
+}
+
 /// Runs lines as `run_lines` does, which makes this call. The session begins with no life, a device of zero bytes and a gauge
 /// that shows 0 and has no leak; it does line by line, each with the line's own words, and each answer tells of what its line did:
-/// the answers are those of a chain of lives.
+/// the answers are those of a chain of lives, and what the channels of the last one have issued keeps the timing rules.
 pub fn do_lines<'m, M: LineMap, R: Report>(
     alloc: Global,
     profile: &Profile,
@@ -78,6 +88,7 @@ pub fn do_lines<'m, M: LineMap, R: Report>(
     let wiring = Wiring::new(lines_map, xor_map, profile);
     let mut session = Session::new(alloc, profile, wiring)?;
     answer_lines(alloc, &mut session, lines, report)?;
+    session_keeps_rules(&session);
     Ok(session.into_device())
 }
 

@@ -84,6 +84,8 @@ impl<'m, M: LineMap> Wires<Ddr4Port<'m, M>> for Wiring<'m, M> {
 
     ghost shape = { wired_shape M.LineMap };
 
+    ghost checked = { λ w. w.profile.checked };
+
     fn open(
         &self,
         alloc: Global,

@@ -288,6 +288,30 @@ fn traces_that_are_checked(rt: HostRuntime) {
     remove(&rt, place, "%answers");
 }
 
+// Two rows of a bank are opened and one is closed, and each of three writes has its WR.
+const WORKS: &[u8] = b"format\nwrite 0 11\nwrite 64 22\nwrite 2 33\nwork 0 7\n";
+
+#[test]
+fn works_are_lawful(rt: HostRuntime) {
+    let place = place(&rt, process::id(rt.process()));
+    let place = place.as_str();
+    make(&rt, place, "%works", WORKS);
+    let mut told = Vec::new(rt.alloc());
+    let (code, line) = outcome(&rt, place, &["run", "tiny", "%works"], &mut told);
+    same(&rt, (code, line.as_str()), (ExitCode::SUCCESS, ""));
+    make(&rt, place, "%told", &told);
+    ends(
+        &rt,
+        place,
+        &["check", "tiny", "%told", "--answers"],
+        ExitCode::SUCCESS,
+        "",
+        "0 lawful 6\n1 lawful 0\n",
+    );
+    remove(&rt, place, "%works");
+    remove(&rt, place, "%told");
+}
+
 // A save makes eight device calls. The last but one opens the slot by its gate, which is A5, and the last one syncs that.
 const SAVED: &str = "lines 2 to 4
       72 generation 1, writes 0, Complete, acknowledged 0 of 0

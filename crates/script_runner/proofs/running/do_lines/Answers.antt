@@ -41,6 +41,7 @@ returns-clause-runs g c =
         leak = made.leak;
       };
       done = done;
+      rules = c.session_keeps_rules.ensures;
       lives = lives_in_chain done.all.answered.story first last done.does;
       device_is = cc;
     }

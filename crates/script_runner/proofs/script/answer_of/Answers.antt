@@ -248,11 +248,11 @@ returns-in-Sense-clause-does g c =
 
 pub returns-in-Ok-clause-does : goal.returns-in-Ok-clause-does
 returns-in-Ok-clause-does g c =
-    does_as g.K.ChannelPort c.args.session.now c.format.new.self c.in-Format.is refl (c.in-Ok.ensures.begins, record { lie = c.format.ensures.lie; gauge = c.format.ensures.gauge })
+    does_as g.K.ChannelPort c.args.session.now c.format.new.self c.in-Format.is refl (c.in-Ok.ensures.begins, record { lie = c.format.ensures.lie; gauge = c.format.ensures.gauge }, λ told. c.in-Ok.ensures.issued)
 
 pub returns-in-Err-Device-clause-does : goal.returns-in-Err-Device-clause-does
 returns-in-Err-Device-clause-does g c =
-    does_as g.K.ChannelPort c.args.session.now c.format.new.self c.in-Format.is refl ((c.in-Err-Device.ensures.none, rw c.in-Err-Device.field-0-is at c.in-Err-Device.ensures.faults), record { lie = c.format.ensures.lie; gauge = c.format.ensures.gauge })
+    does_as g.K.ChannelPort c.args.session.now c.format.new.self c.in-Format.is refl ((c.in-Err-Device.ensures.none, rw c.in-Err-Device.field-0-is at c.in-Err-Device.ensures.faults), record { lie = c.format.ensures.lie; gauge = c.format.ensures.gauge }, λ told. absurd (let bad : ⊥ = cc in bad))
 
 pub returns-in-Restore-clause-does : goal.returns-in-Restore-clause-does
 returns-in-Restore-clause-does g c =
@@ -263,6 +263,7 @@ returns-in-Restore-clause-does g c =
         told = refl;
         left = ensures.left;
         picked = subst (λ (pick : Pick). IsPicked pick (innermost it.device) (state_of (innermost made.device)).bytes) c.unwrap_or.ensures ensures.picked;
+        issued = ensures.issued;
         revives = ensures.revives;
         refused = ensures.refused;
         none = ensures.none;

@@ -58,3 +58,6 @@ pub returns-clause-faults : goal.returns-clause-faults
 returns-clause-faults g c =
     let old = device_state c.args.self.now.device in let formatted = device_state c.format.new.device in
     counts_alike false old formatted (device_state c.begin.new.self.device) c.begin.ensures.device (calls_count (format_calls c.lines-lines.result) true old formatted c.in-Ok-format.ensures.calls)
+
+pub returns-clause-issued : goal.returns-clause-issued
+returns-clause-issued g c = record { it = c.in-Ok-open.life; runs = c.begin.ensures.life; checked_is = c.in-Ok-open.ensures.checked; none = c.in-Ok-open.ensures.issued }

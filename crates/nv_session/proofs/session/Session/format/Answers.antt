@@ -7,6 +7,7 @@ use Rattle.nv_session.specs.Faults.{is_format_fault}
 use Rattle.nv_session.specs.Sessions.{setup_over}
 use Rattle.nv_session.proofs.Beginning.{same_setup}
 use Rattle.nv_session.proofs.Faults.{counts_behind}
+use Rattle.nv_session.specs.Living.{RunsUnissued}
 use Rattle.nv_session.proofs.session.Session.format.Goals as goal
 
 pub returns-clause-begins : goal.returns-clause-begins
@@ -20,3 +21,6 @@ returns-clause-begins g c =
 pub returns-clause-faults : goal.returns-clause-faults
 returns-clause-faults g c =
     counts_behind (is_format_fault c.create.result) (device_state c.args.self.now.device) (device_state c.stop.new.self.device) (device_state c.create.new.self.device) c.stop.ensures.calls c.create.ensures.faults
+
+pub returns-clause-issued : goal.returns-clause-issued
+returns-clause-issued g c = subst (λ (p : Profile). OnOk c.create.result (RunsUnissued g.K.ChannelPort p.checked c.create.new.self.life)) c.stop.ensures.profile c.create.ensures.issued

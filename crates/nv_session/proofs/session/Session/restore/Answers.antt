@@ -1,3 +1,4 @@
+use Rattle.std.specs.Prelude.{OnOk}
 use Rattle.std.proofs.Common.{◌∙◌, ◌≢◌, ℕ, List, ap, sym, subst, unwrap_or, None}
 use Rattle.std.proofs.lemmas.Result.{IfOk-weaker, IfErr-weaker}
 use Rattle.nv_session.proofs.Common.{DeviceState, FindsPrefixOf, KeepsPrefixOf, MayLeave, Profile, Revives, RunsWith}
@@ -8,6 +9,7 @@ use Rattle.nv_session.specs.Sessions.{moment_in, restored_in, setup_over}
 use Rattle.nv_session.proofs.Beginning.{revives_again, same_restored, same_setup}
 use Rattle.nv_session.proofs.Faults.{counts_behind}
 use Rattle.nv_session.proofs.Restoring.{left_again, session_finds, session_fails, session_keeps}
+use Rattle.nv_session.specs.Living.{RunsUnissued}
 use Rattle.nv_session.proofs.session.Session.restore.Goals as goal
 
 pub returns-clause-revives : goal.returns-clause-revives
@@ -62,3 +64,6 @@ returns-clause-faults g c =
 pub returns-clause-again : goal.returns-clause-again
 returns-clause-again g c =
     left_again (device_state c.stop.new.self.device) (device_state c.revive.new.self.device) c.stop.ensures.settled c.revive.ensures.any_moment c.revive.ensures.same
+
+pub returns-clause-issued : goal.returns-clause-issued
+returns-clause-issued g c = subst (λ (p : Profile). OnOk c.revive.result (RunsUnissued g.K.ChannelPort p.checked c.revive.new.self.life)) c.stop.ensures.profile c.revive.ensures.issued

@@ -52,3 +52,6 @@ pub returns-in_err-restored-clause-faults : goal.returns-in_err-restored-clause-
 returns-in_err-restored-clause-faults g c =
     let counts = restore_counts c.lines-lines.result (Err c.in_err-restored.field-0.0) (device_state c.args.self.now.device) (device_state c.restore.new.device) c.in_err-restored.ensures.calls in
     search (rules, counts)
+
+pub returns-clause-issued : goal.returns-clause-issued
+returns-clause-issued g c = record { it = c.in-Ok.life; runs = c.begin.ensures.life; checked_is = c.in-Ok.ensures.checked; none = c.in-Ok.ensures.issued }
