@@ -61,6 +61,8 @@ impl<'m> Wires<Ddr4Port<'m, ReadyMap>> for ProfileWires<'m> {
 
     ghost shape = { wired_shape };
 
+    ghost checked = { λ w. w.profile.checked };
+
     fn open(
         &self,
         alloc: Global,
