@@ -1,2 +1,3 @@
 pub mod Stores
-pub mod Ways
+pub mod Statuses
+pub mod BadLines

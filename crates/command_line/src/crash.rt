@@ -1,9 +1,13 @@
 // What a crash may leave of a script, told.
+use clap::ArgMatches;
+use command_faults::{Failure, Fault, bytes_of, flush, profile_of};
 use crash_table::{AtStop, Counts, PICKS, Progress, Script, Trials};
 use nv_profile::Profile;
-use nv_script::ScriptFault;
+use nv_script::{SCRIPT_BYTES, ScriptFault};
 use std::alloc::Global;
-use std::io::{Eprint, Write};
+use std::io::{Eprint, Input, Write};
+use std::process::ExitCode;
+use std::rt::Files;
 use std::time::{Clock, Duration, Instant};
 
 /// Tells how far trials are, on standard error where someone looks at that.
@@ -57,8 +61,37 @@ impl<R: Clock + Eprint> Progress for Watch<'_, R> {
     }
 }
 
-/// Writes what restores find at each stop of a script, line by line, and the counts.
-pub(crate) fn write_crash<R, W>(
+/// Tells what a crash may leave of the script that the words name, or of one of its lines.
+pub(crate) fn crash<'a, R, W>(
+    rt: &R,
+    matches: &ArgMatches<'a>,
+    is_watched: bool,
+    writer: &mut W,
+) -> Result<ExitCode, Failure<'a>>
+where
+    R: Files + Input + Eprint + Clock + AllocGlobal,
+    W: Write,
+{
+    let profile = profile_of(rt, matches.get_str("PROFILE").unwrap_or("tiny"))?;
+    let script = bytes_of(rt, matches.get_str("SCRIPT").unwrap_or("-"), SCRIPT_BYTES)?;
+    let number = matches.get_one::<u64>("line");
+    let told = match number {
+        Some(number) => write_line(rt.alloc(), &profile, &script, number, writer),
+        None => write_crash(rt, is_watched, &profile, &script, writer).map(|()| true),
+    };
+    match told {
+        Ok(true) => flush(writer)?,
+        Ok(false) => return Err(Failure::from(Fault::NoLine(number.unwrap_or(0)))),
+        Err(fault) => {
+            let geometry = &profile.checked.geometry;
+            return Err(Failure::of_script(rt.alloc(), fault, &script, geometry));
+        }
+    }
+    Ok(ExitCode::SUCCESS)
+}
+
+// Writes what restores find at each stop of a script, line by line, and the counts.
+fn write_crash<R, W>(
     rt: &R,
     is_watched: bool,
     profile: &Profile,
@@ -77,8 +110,8 @@ where
     writeln!(writer, "{table}").map_err(|_| ScriptFault::Writer)
 }
 
-/// Writes what restores find at each stop of one line, by its number, and the counts. False where no such line is run.
-pub(crate) fn write_line<W: Write>(
+// Writes what restores find at each stop of one line, by its number, and the counts. False where no such line is run.
+fn write_line<W: Write>(
     alloc: Global,
     profile: &Profile,
     script: &[u8],

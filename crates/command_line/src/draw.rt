@@ -1,5 +1,7 @@
 // A schedule drawn: of a trace, or of the commands that a script's work prints.
-use crate::fault::Fault;
+use crate::check::of_trace;
+use clap::ArgMatches;
+use command_faults::{Failure, Fault, bytes_of, profile_of};
 use command_trace::{TraceFault, TraceReader, form_of};
 use crash_table::Trials;
 use nv_profile::Profile;
@@ -7,19 +9,20 @@ use nv_script::{ScriptFault, read_script};
 use schedule_drawing::{DrawFault, Schedule, read_entries, told_schedule, write_svg, write_vcd};
 use std::alloc::{AllocError, Global};
 use std::fs::File;
-use std::io::{BufWriter, Write};
+use std::io::{BufWriter, Input, Write};
+use std::process::ExitCode;
 use std::rt::Files;
 
-/// The form of a picture.
+// The form of a picture.
 #[derive(Clone, Copy, Debug, PartialEq, Eq)]
-pub(crate) enum Picture {
+enum Picture {
     Svg,
     Vcd,
 }
 
-/// Why there is no schedule.
+// Why there is no schedule.
 #[derive(Drop)]
-pub(crate) enum NoSchedule {
+enum NoSchedule {
     Script(ScriptFault),
     Trace(TraceFault),
     Memory,
@@ -43,13 +46,40 @@ impl From<TraceFault> for NoSchedule {
     }
 }
 
-/// The schedule of a trace or of a script. The first line of a trace that is neither empty nor a comment begins with a digit or
-/// has a comma.
-pub(crate) fn schedule_of(
-    alloc: Global,
-    profile: &Profile,
-    bytes: &[u8],
-) -> Result<Schedule, NoSchedule> {
+/// Draws the trace or the script that the words name, as each picture that they ask for: into a file, or to standard output.
+pub(crate) fn draw<'a, R, W>(
+    rt: &R,
+    matches: &ArgMatches<'a>,
+    writer: &mut W,
+) -> Result<ExitCode, Failure<'a>>
+where
+    R: Files + Input + AllocGlobal,
+    W: Write,
+{
+    let profile = profile_of(rt, matches.get_str("PROFILE").unwrap_or("tiny"))?;
+    let name = matches.get_str("SCHEDULE").unwrap_or("-");
+    let bytes = bytes_of(rt, name, u64::MAX)?;
+    let schedule = match schedule_of(rt.alloc(), &profile, &bytes) {
+        Ok(schedule) => schedule,
+        Err(NoSchedule::Script(fault)) => {
+            let geometry = &profile.checked.geometry;
+            return Err(Failure::of_script(rt.alloc(), fault, &bytes, geometry));
+        }
+        Err(NoSchedule::Trace(fault)) => return Err(of_trace(rt.alloc(), name, fault)),
+        Err(NoSchedule::Memory) => return Err(Failure::from(Fault::Memory)),
+    };
+    if let Some(name) = matches.get_str("svg") {
+        put_picture(rt, &schedule, Picture::Svg, name, writer)?;
+    }
+    if let Some(name) = matches.get_str("vcd") {
+        put_picture(rt, &schedule, Picture::Vcd, name, writer)?;
+    }
+    Ok(ExitCode::SUCCESS)
+}
+
+// The schedule of a trace or of a script. The first line of a trace that is neither empty nor a comment begins with a digit or
+// has a comma.
+fn schedule_of(alloc: Global, profile: &Profile, bytes: &[u8]) -> Result<Schedule, NoSchedule> {
     if is_trace(bytes) {
         trace_schedule(alloc, profile, bytes)
     } else {
@@ -83,29 +113,46 @@ fn script_schedule(alloc: Global, profile: &Profile, bytes: &[u8]) -> Result<Sch
     Ok(told_schedule(alloc, &profile.checked.timing, &answers)?)
 }
 
-/// Writes a schedule to a file as a picture.
-pub(crate) fn write_picture<'a, R: Files + AllocGlobal>(
+// Writes a schedule as a picture to a file, or for - to standard output.
+fn put_picture<'a, R: Files + AllocGlobal, W: Write>(
     rt: &R,
     schedule: &Schedule,
     picture: Picture,
     name: &'a str,
-) -> Result<(), Fault<'a>> {
-    let Ok(file) = File::create(rt, name) else {
-        return Err(Fault::File(name));
+    writer: &mut W,
+) -> Result<(), Failure<'a>> {
+    if name == "-" {
+        return write_picture(rt.alloc(), schedule, picture, name, writer);
+    }
+    let file = match File::create(rt, name) {
+        Ok(file) => file,
+        Err(error) => return Err(Failure::of_file(name, &error)),
     };
     let Ok(mut writer) = BufWriter::new(rt.alloc(), file) else {
-        return Err(Fault::Memory);
+        return Err(Failure::from(Fault::Memory));
     };
+    write_picture(rt.alloc(), schedule, picture, name, &mut writer)
+}
+
+// Writes a schedule as a picture to a writer, which has this name.
+fn write_picture<'a, W: Write>(
+    alloc: Global,
+    schedule: &Schedule,
+    picture: Picture,
+    name: &'a str,
+    writer: &mut W,
+) -> Result<(), Failure<'a>> {
     let written = match picture {
-        Picture::Svg => write_svg(rt.alloc(), schedule, &mut writer),
-        Picture::Vcd => write_vcd(rt.alloc(), schedule, &mut writer),
+        Picture::Svg => write_svg(alloc, schedule, writer),
+        Picture::Vcd => write_vcd(alloc, schedule, writer),
     };
     match written {
-        Ok(()) => match writer.flush() {
-            Ok(()) => Ok(()),
-            Err(_) => Err(Fault::File(name)),
-        },
-        Err(DrawFault::Writer) => Err(Fault::File(name)),
-        Err(DrawFault::Memory) => Err(Fault::Memory),
+        Ok(()) => {}
+        Err(DrawFault::Writer) => return Err(Failure::from(Fault::File(name))),
+        Err(DrawFault::Memory) => return Err(Failure::from(Fault::Memory)),
+    }
+    match writer.flush() {
+        Ok(()) => Ok(()),
+        Err(error) => Err(Failure::of_file(name, &error)),
     }
 }

@@ -1,19 +1,20 @@
-//! The command line: its words, the files that they name, the faults with their exit status, scripts over closures of both maps,
-//! stores shown as lines, traces that are checked, profiles that are explained, what a crash may leave of a script, and schedules
-//! that are drawn.
+//! The command line: its words, and what each verb does: scripts that are run, stores shown as lines, traces that are checked,
+//! profiles that are explained, bad lines of scripts, what a crash may leave of a script, and schedules that are drawn.
 #![tactic(auto)]
 
+mod check;
 mod command;
 mod crash;
 mod draw;
-mod fault;
-mod files;
-mod maps;
+mod lint;
+mod outlet;
+mod profile;
+mod script;
 mod store;
 mod words;
 
+pub use check::verdict;
 pub use command::{run, words_of};
-pub use fault::Fault;
-pub use files::profile_of;
-pub use maps::run_on_maps;
+pub use lint::write_bad_lines;
+pub use outlet::Outlet;
 pub use store::{STORE_BYTES, answer_store, show_store};

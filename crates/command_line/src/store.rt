@@ -4,6 +4,9 @@ ghost use Rattle.nv_script.specs.declared.answer.Answer.{Answer};
 ghost use Rattle.slot_store.specs.Slots.{IsCapacity, device_size};
 ghost use Rattle.command_line.specs.Store.{IsStoreOf, HasNoLines, HoldsImage, TellsStore, content_of, shown_lines};
 
+use crate::command::status_by;
+use clap::ArgMatches;
+use command_faults::{Failure, file_bytes, flush};
 use line_memory::Line;
 use nv_script::{Answer, ScriptFault};
 use save_device::MemoryDevice;
@@ -11,6 +14,8 @@ use script_runner::{Printer, Report};
 use slot_store::{RestoreError, device_size, restore};
 use std::alloc::Global;
 use std::io;
+use std::process::ExitCode;
+use std::rt::Files;
 
 /// No store has more bytes.
 pub const STORE_BYTES: u64 = 8_396_800;
@@ -99,4 +104,21 @@ pub fn show_store<W: io::Write>(
         × TellsStore store.items shown answers) }
 {
     answer_store(alloc, store, &mut Printer::new(writer))
+}
+
+/// Shows the store in the file that the words name; the exit status is 1 where nothing is restored from it.
+pub(crate) fn show<'a, R, W>(
+    rt: &R,
+    matches: &ArgMatches<'a>,
+    writer: &mut W,
+) -> Result<ExitCode, Failure<'a>>
+where
+    R: Files + AllocGlobal,
+    W: io::Write,
+{
+    // one byte more than a store may have
+    let store = file_bytes(rt, matches.get_str("STORE").unwrap_or("-"), STORE_BYTES + 1)?;
+    let found = show_store(rt.alloc(), store, writer)?;
+    flush(writer)?;
+    Ok(status_by(found))
 }

@@ -16,9 +16,11 @@ pub(crate) fn program<'a>(alloc: Global) -> Result<Command<'a>, AllocError> {
     Command::new(alloc, "nvctl")
         .about("Runs scripts on an NVDIMM-N controller")
         .version(VERSION)
+        .arg(why_word(alloc))?
         .subcommand_required(true)
         .subcommand(run)?
         .subcommand(show)?
+        .subcommand(lint_command(alloc)?)?
         .subcommand(crash)?
         .subcommand(check)?
         .subcommand(draw)?
@@ -31,6 +33,21 @@ fn run_command<'a>(alloc: Global) -> Result<Command<'a>, AllocError> {
         .arg(profile_word(alloc))?
         .arg(script_word(alloc))?
         .arg(out_word(alloc))
+}
+
+fn why_word<'a>(alloc: Global) -> Arg<'a> {
+    Arg::new(alloc, "why")
+        .long("why")
+        .global(true)
+        .action(ArgAction::SetTrue)
+        .help("Tells the reason behind a fault, as a terminal is told it")
+}
+
+fn lint_command<'a>(alloc: Global) -> Result<Command<'a>, AllocError> {
+    Command::new(alloc, "lint")
+        .about("Tells the bad lines of a script, each with its reason")
+        .arg(profile_word(alloc))?
+        .arg(script_word(alloc))
 }
 
 fn profile_word<'a>(alloc: Global) -> Arg<'a> {
@@ -62,7 +79,8 @@ fn check_command<'a>(alloc: Global) -> Result<Command<'a>, AllocError> {
         .about("Tells whether the commands of a trace are lawful")
         .arg(profile_word(alloc))?
         .arg(trace_word(alloc))?
-        .arg(answers_word(alloc))
+        .arg(answers_word(alloc))?
+        .arg(empty_word(alloc))
 }
 
 fn profile_command<'a>(alloc: Global) -> Result<Command<'a>, AllocError> {
@@ -83,13 +101,22 @@ fn draw_command<'a>(alloc: Global) -> Result<Command<'a>, AllocError> {
     let picture = ArgGroup::new(alloc, "picture")
         .arg("svg")?
         .arg("vcd")?
+        .multiple(true)
         .required(true);
     Command::new(alloc, "draw")
         .about("Draws the commands of a trace or a script")
         .arg(profile_word(alloc))?
         .arg(schedule_word(alloc))?
-        .arg(picture_word(alloc, "svg", "A file for the picture, as SVG"))?
-        .arg(picture_word(alloc, "vcd", "A file for the picture, as VCD"))?
+        .arg(picture_word(
+            alloc,
+            "svg",
+            "A file for the picture as SVG, or - for standard output",
+        ))?
+        .arg(picture_word(
+            alloc,
+            "vcd",
+            "A file for the picture as VCD, or - for standard output",
+        ))?
         .group(picture)
 }
 
@@ -125,6 +152,13 @@ fn answers_word<'a>(alloc: Global) -> Arg<'a> {
         .long("answers")
         .action(ArgAction::SetTrue)
         .help("The trace is the output of run: passes over answers that are no commands")
+}
+
+fn empty_word<'a>(alloc: Global) -> Arg<'a> {
+    Arg::new(alloc, "allow-empty")
+        .long("allow-empty")
+        .action(ArgAction::SetTrue)
+        .help("Takes a trace without a command for a lawful one")
 }
 
 fn store_word<'a>(alloc: Global) -> Arg<'a> {

@@ -61,6 +61,31 @@ impl Kind {
         }
     }
 
+    /// The parts behind its name, as `CHANNEL CLOCK NAME` and these.
+    pub(crate) fn parts(self) -> &'static [&'static str] {
+        match self {
+            Kind::Act => &["rank", "group", "bank", "row"],
+            Kind::Rd | Kind::Wr => &["rank", "group", "bank", "column"],
+            Kind::Pre => &["rank", "group", "bank"],
+            Kind::PreAll | Kind::Ref | Kind::Sre => &["rank"],
+        }
+    }
+
+    /// Its name, as this program prints it.
+    pub fn name(self) -> &'static str
+        ensures { result.now ≡ name_of_kind self }
+    {
+        match self {
+            Kind::Act => "ACT",
+            Kind::Rd => "RD",
+            Kind::Wr => "WR",
+            Kind::Pre => "PRE",
+            Kind::PreAll => "PREA",
+            Kind::Ref => "REF",
+            Kind::Sre => "SRE",
+        }
+    }
+
     /// Does a command of this kind have the part that a table names in this column? They are the rank in column 3, the bank
     /// group, the bank, the row and the column in 7.
     pub(crate) fn has_part(self, place: usize) -> bool {
@@ -124,12 +149,12 @@ pub fn name_of(x: &Command) -> &'static str
     ensures { result.now ≡ name_of_kind (kind_of x.now) }
 {
     match x {
-        Command::Act { .. } => "ACT",
-        Command::Rd { .. } => "RD",
-        Command::Wr { .. } => "WR",
-        Command::Pre { .. } => "PRE",
-        Command::PreAll { .. } => "PREA",
-        Command::Ref { .. } => "REF",
-        Command::Sre { .. } => "SRE",
+        Command::Act { .. } => Kind::Act.name(),
+        Command::Rd { .. } => Kind::Rd.name(),
+        Command::Wr { .. } => Kind::Wr.name(),
+        Command::Pre { .. } => Kind::Pre.name(),
+        Command::PreAll { .. } => Kind::PreAll.name(),
+        Command::Ref { .. } => Kind::Ref.name(),
+        Command::Sre { .. } => Kind::Sre.name(),
     }
 }

@@ -9,6 +9,7 @@ mod diagnosis;
 mod entry;
 mod front;
 mod kind;
+mod no_command;
 mod reading;
 mod reason;
 mod source;
@@ -19,6 +20,7 @@ pub use diagnosis::{Diagnosis, Listed, Numbered, check_trace, diagnose, list_com
 pub use entry::{Entry, Located};
 pub use front::Front;
 pub use kind::{Kind, name_of};
+pub use no_command::NoCommand;
 pub use reading::{Form, HEADER, TraceFault, TraceReader, form_of};
 pub use reason::Reason;
 pub use source::Source;

@@ -5,6 +5,7 @@ ghost use Rattle.command_trace.specs.Reading.{FitsChannels, IsFormWith};
 
 use crate::entry::{Entry, Located};
 use crate::kind::Kind;
+use crate::no_command::NoCommand;
 use csv::{ByteRecord, ErrorKind, ReaderBuilder, Terminator};
 use ddr4_timing::command::Stamped;
 use ghost_trace::Trace;
@@ -38,8 +39,8 @@ pub const HEADER: [&str; 8] = [
 #[derive(Debug, Drop, Error)]
 pub enum TraceFault {
     /// The line is no command.
-    #[error("trace line {0}")]
-    Line(u64),
+    #[error("trace line {line}")]
+    Line { line: u64, why: NoCommand },
     /// The reader failed.
     #[error("reader")]
     Reader,
@@ -64,7 +65,28 @@ impl From<csv::Error> for TraceFault {
 enum Row {
     Command(Entry),
     Other,
-    Bad,
+    Bad(NoCommand),
+}
+
+impl Row {
+    // By what was read of it.
+    fn of(read: Result<Entry, NoCommand>) -> Row {
+        match read {
+            Ok(entry) => Row::Command(entry),
+            Err(why) => Row::Bad(why),
+        }
+    }
+
+    // Why it isn't taken where channels are numbered below this.
+    fn why(self, channels: u64) -> NoCommand {
+        match self {
+            Row::Bad(why) => why,
+            Row::Command(Entry { channel, .. }) if channel >= channels => {
+                NoCommand::Channel { channel, channels }
+            }
+            Row::Command(_) | Row::Other => NoCommand::Clock,
+        }
+    }
 }
 
 /// Reads the commands of a trace one by one. Empty lines, and those that begin with `#`, are passed over.
@@ -140,8 +162,12 @@ fn is_blank(row: &ByteRecord) -> bool {
     row.len() == 1 && field(row, 0).is_none_or(|bytes| bytes.is_empty())
 }
 
-fn number_at(row: &ByteRecord, place: usize) -> Option<u64> {
-    number(field(row, place)?)
+// The number in a place, which stands for this part.
+fn number_at(row: &ByteRecord, place: usize, part: &'static str) -> Result<u64, NoCommand> {
+    match field(row, place) {
+        Some(bytes) => number(bytes).ok_or(NoCommand::Number { part }),
+        None => Err(NoCommand::Number { part }),
+    }
 }
 
 fn word_at(row: &ByteRecord, place: usize) -> Option<&str> {
@@ -149,56 +175,72 @@ fn word_at(row: &ByteRecord, place: usize) -> Option<&str> {
 }
 
 // The command of a line.
-fn entry_of_line(row: &ByteRecord) -> Option<Entry> {
-    let kind = Kind::named(word_at(row, 2)?)?;
+fn entry_of_line(row: &ByteRecord) -> Result<Entry, NoCommand> {
+    let Some(count) = row.len().checked_sub(3) else {
+        return Err(NoCommand::Words);
+    };
+    let channel = number_at(row, 0, "channel")?;
+    let clock = number_at(row, 1, "clock")?;
+    let kind = word_at(row, 2)
+        .and_then(Kind::named)
+        .ok_or(NoCommand::Name)?;
+    if count != kind.parts().len() {
+        return Err(NoCommand::Parts { kind });
+    }
     let mut numbers = [0; 4];
-    let count = row.len().checked_sub(3)?;
-    for (place, value) in numbers.iter_mut().enumerate() {
-        if place < count {
-            *value = number_at(row, 3 + place)?;
+    for (place, part) in kind.parts().iter().enumerate() {
+        if place < 4 {
+            numbers[place] = number_at(row, 3 + place, part)?;
         }
     }
-    Some(Entry {
-        channel: number_at(row, 0)?,
-        command: Stamped {
-            clock: number_at(row, 1)?,
-            cmd: kind.command(numbers.get(..count)?)?,
-        },
-    })
+    entry_of(kind, channel, clock, &numbers)
 }
 
 // The command of a row of a table.
-fn entry_of_row(row: &ByteRecord) -> Option<Entry> {
+fn entry_of_row(row: &ByteRecord) -> Result<Entry, NoCommand> {
     if row.len() != HEADER.len() {
-        return None;
+        return Err(NoCommand::Columns { found: row.len() });
     }
-    let kind = Kind::spelled(word_at(row, 1)?)?;
+    let kind = word_at(row, 1)
+        .and_then(Kind::spelled)
+        .ok_or(NoCommand::Name)?;
     let mut numbers = [0; 4];
     let mut count = 0;
-    for place in 3..8 {
+    for (place, part) in HEADER.iter().enumerate().skip(3) {
         if kind.has_part(place) {
             if count < 4 {
-                numbers[count] = number_at(row, place)?;
+                numbers[count] = number_at(row, place, part)?;
                 count += 1;
             }
-        } else if !field(row, place)?.is_empty() {
-            return None;
+        } else if field(row, place).is_some_and(|bytes| !bytes.is_empty()) {
+            return Err(NoCommand::Further { part, kind });
         }
     }
-    Some(Entry {
-        channel: number_at(row, 2)?,
-        command: Stamped {
-            clock: number_at(row, 0)?,
-            cmd: kind.command(numbers.get(..count)?)?,
-        },
-    })
+    entry_of(
+        kind,
+        number_at(row, 2, "channel")?,
+        number_at(row, 0, "clock")?,
+        &numbers,
+    )
+}
+
+// The command of a kind with the first of these numbers.
+fn entry_of(kind: Kind, channel: u64, clock: u64, numbers: &[u64; 4]) -> Result<Entry, NoCommand> {
+    let parts = numbers.get(..kind.parts().len()).unwrap_or(&[]);
+    match kind.command(parts) {
+        Some(cmd) => Ok(Entry {
+            channel,
+            command: Stamped { clock, cmd },
+        }),
+        None => Err(NoCommand::Parts { kind }),
+    }
 }
 
 // Is this another answer of a run than a command? Those of a channel alone begin with a number.
 fn is_other(row: &ByteRecord) -> bool {
-    match number_at(row, 0) {
-        None => true,
-        Some(_channel) => row.len() == 2 && word_at(row, 1) == Some("idle"),
+    match number_at(row, 0, "channel") {
+        Err(_) => true,
+        Ok(_channel) => row.len() == 2 && word_at(row, 1) == Some("idle"),
     }
 }
 
@@ -243,10 +285,11 @@ impl<R: Read + Drop> TraceReader<R> {
         self.is_begun = true;
         let row = &self.row;
         match self.form {
-            Form::Table if begins => if is_header(row) { Row::Other } else { Row::Bad },
-            Form::Table => entry_of_row(row).map_or(Row::Bad, Row::Command),
+            Form::Table if begins && is_header(row) => Row::Other,
+            Form::Table if begins => Row::Bad(NoCommand::Header),
+            Form::Table => Row::of(entry_of_row(row)),
             Form::Lines { others: true } if is_other(row) => Row::Other,
-            Form::Lines { .. } => entry_of_line(row).map_or(Row::Bad, Row::Command),
+            Form::Lines { .. } => Row::of(entry_of_line(row)),
         }
     }
 
@@ -272,7 +315,10 @@ impl<R: Read + Drop> TraceReader<R> {
                     self.given.note(&found);
                     return Ok(Some(found));
                 }
-                Row::Command(_) | Row::Bad => return Err(TraceFault::Line(line)),
+                row => {
+                    let why = row.why(self.channels);
+                    return Err(TraceFault::Line { line, why });
+                }
             }
         }
         Ok(None)

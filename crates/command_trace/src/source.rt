@@ -33,7 +33,8 @@ impl Source<'_> {
         }
     }
 
-    fn check<R: Files + AllocGlobal>(
+    /// Checks its trace. A line that is no command is refused by its number.
+    pub fn check<R: Files + AllocGlobal>(
         &self,
         rt: &R,
         form: Form,
@@ -61,18 +62,16 @@ impl Source<'_> {
         }
     }
 
-    /// Checks its trace, and writes a line for each channel: `CHANNEL lawful COUNT`, or `CHANNEL fault RULE` with what the rule
-    /// asks and the commands of which it doesn't hold. Answers the check. Where a line is no command it writes nothing.
-    pub fn write_check<R: Files + AllocGlobal, W: Write>(
+    /// Writes what the check of its trace tells, a line for each channel: `CHANNEL lawful COUNT`, or `CHANNEL fault RULE` with
+    /// what the rule asks and the commands of which it doesn't hold.
+    pub fn write_verdicts<R: Files + AllocGlobal, W: Write>(
         &self,
         rt: &R,
         form: Form,
         checked: &Checked,
+        check: &TraceCheck,
         writer: &mut W,
-    ) -> Result<TraceCheck, TraceFault>
-        ensures { IfOk result (FollowsAll checked.now) }
-    {
-        let check = self.check(rt, form, checked)?;
+    ) -> Result<(), TraceFault> {
         for channel in 0..checked.geometry.channels {
             if check.is_lawful(checked, channel) {
                 let count = check.count(channel);
@@ -82,7 +81,7 @@ impl Source<'_> {
                 write_fault(checked, channel, &listed, writer)?;
             }
         }
-        Ok(check)
+        Ok(())
     }
 }
 

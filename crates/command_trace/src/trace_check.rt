@@ -1,8 +1,5 @@
 // Whether the commands of each channel of a trace are lawful.
 ghost use Rattle.std.specs.Prelude.{◌≡◌, ◌<◌, ◌^◌, ◌-◌, ◌↔◌, [], ◌∷◌, ◌++◌, IsTrue, length, min};
-ghost use Rattle.ddr4_timing.specs.Lawful.{IsLawful};
-ghost use Rattle.command_trace.specs.Channels.{AreLawful, FollowsAll, commands_of, found_of};
-ghost use Rattle.command_trace.specs.Following.{IsFirstFault};
 
 use crate::entry::Located;
 use crate::front::Front;
@@ -19,10 +16,16 @@ pub const MOST_CHANNELS: u64 = 8;
 #[derive(Drop)]
 pub struct TraceCheck {
     fronts: [Front; 8],
+    is_empty: bool,
     given: Trace<Located>,
+    ghost told: { IsTrue is_empty ↔ (given.items ≡ []) },
 }
 
 impl TraceCheck {
+    ghost use Rattle.ddr4_timing.specs.Lawful.{IsLawful};
+    ghost use Rattle.command_trace.specs.Channels.{AreLawful, FollowsAll, commands_of, found_of};
+    ghost use Rattle.command_trace.specs.Following.{IsFirstFault};
+
     /// Before any command.
     pub fn new(checked: &Checked) -> TraceCheck
         ensures empty { result.given.items ≡ [] }
@@ -30,6 +33,7 @@ impl TraceCheck {
     {
         TraceCheck {
             fronts: [Front::new(checked); 8],
+            is_empty: true,
             given: Trace::new(),
         }
     }
@@ -46,7 +50,15 @@ impl TraceCheck {
         let channel = next.entry.channel as usize;
         let is_lawful = self.fronts[channel].take(checked, next);
         self.given.note(next);
+        self.is_empty = false;
         is_lawful
+    }
+
+    /// Did no command come?
+    pub fn is_empty(&self) -> bool
+        ensures { IsTrue result ↔ (self.now.given.items ≡ []) }
+    {
+        self.is_empty
     }
 
     /// Are the commands of the channel lawful?

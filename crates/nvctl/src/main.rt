@@ -1,26 +1,35 @@
 //! Runs scripts on an NVDIMM-N controller.
 #![tactic(auto)]
 
-use command_line::{Fault, run, words_of};
+use command_faults::{Failure, Fault};
+use command_line::{Outlet, run, words_of};
 use std::io::{self, BufWriter, IsTerminal};
 use std::process::ExitCode;
+
+/// The status of a program that the closing of a pipe ends: 128 and the number of the signal.
+const CLOSED_PIPE: u8 = 141;
 
 fn main(rt: HostRuntime) -> io::Result<ExitCode> {
     let words = match words_of(&rt) {
         Ok(words) => words,
-        Err(fault) => return fails(&rt, fault),
+        Err(fault) => return fails(&rt, &Failure::from(fault)),
     };
-    let Ok(mut writer) = BufWriter::new(rt.alloc(), io::writer(&rt)) else {
-        return fails(&rt, Fault::Memory);
+    let is_watched = rt.stderr().is_terminal();
+    let Ok(mut writer) = BufWriter::new(rt.alloc(), Outlet::new(io::writer(&rt))) else {
+        return fails(&rt, &Failure::from(Fault::Memory));
     };
-    match run(&rt, &words, rt.stderr().is_terminal(), &mut writer) {
+    match run(&rt, &words, is_watched, &mut writer) {
         Ok(code) => Ok(code),
-        Err(fault) => fails(&rt, fault),
+        Err(_) if writer.get_ref().is_closed() => Ok(ExitCode::from(CLOSED_PIPE)),
+        Err(failure) => fails(&rt, &failure),
     }
 }
 
-// Says why on standard error.
-fn fails(rt: &HostRuntime, fault: Fault<'_>) -> io::Result<ExitCode> {
-    eprintln!(rt; "nvctl: {fault}")?;
-    Ok(fault.exit_code())
+// Says why on standard error, and the reason behind it where there is one to tell.
+fn fails(rt: &HostRuntime, failure: &Failure<'_>) -> io::Result<ExitCode> {
+    eprintln!(rt; "nvctl: {}", failure.fault)?;
+    if let Some(reason) = &failure.reason {
+        eprintln!(rt; "  {reason}")?;
+    }
+    Ok(failure.exit_code())
 }

@@ -6,4 +6,4 @@ mod meaning;
 mod refusal;
 
 pub use meaning::Meaning;
-pub use refusal::why_refused;
+pub use refusal::reasons;

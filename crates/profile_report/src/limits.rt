@@ -17,6 +17,9 @@ pub(crate) struct KnownTable {
     pub(crate) limits: &'static [Limits],
 }
 
+/// The names of the tables.
+pub(crate) const TABLE_NAMES: [&str; 4] = ["timing", "geometry", "costs", "module"];
+
 /// The tables. That of the module has the key `map` too.
 pub(crate) const TABLES: [KnownTable; 4] = [
     KnownTable {

@@ -1,83 +1,138 @@
-// Why a text is no profile.
-ghost use Rattle.std.specs.Prelude.{◌<◌, length, IfOk, IsSome};
+// Why a text is no profile, each reason.
+ghost use Rattle.std.specs.Prelude.{◌<◌, length, IfOk};
 ghost use Rattle.ddr4_timing.specs.Checks.{FailsEntry};
 
-use crate::limits::{KnownTable, Limits, TABLES};
+use crate::limits::{KnownTable, Limits, TABLE_NAMES, TABLES};
 use ddr4_timing::timing::{Geometry, ProfileError, Timing};
 use interleave_map::Interleaving;
+use near_word::near_word;
 use nv_profile::MOST_BYTES;
 use std::alloc::{AllocError, Global};
+use toml::de::Error;
 use toml::{Table, Value, table_from_slice};
 
-/// Why the bytes are no profile, in words: the first that holds of a text that is too long, isn't TOML, lacks a table or a key,
-/// has a further one, has a value that isn't of its kind or past its limits, or doesn't pass a check of the timing and the
-/// geometry. None of a profile.
-pub fn why_refused(alloc: Global, bytes: &[u8]) -> Result<Option<String>, AllocError>
-    ensures { MOST_BYTES < length bytes.now → IfOk result (λ why. IsSome why) }
+/// Why the bytes are no profile, in words: that the text is too long or isn't TOML, with the place where it breaks; else each
+/// table and key that is missing, further or past its limits; and of tables without such a fault the first check of the timing and
+/// the geometry that isn't passed. No reasons of a profile.
+pub fn reasons(alloc: Global, bytes: &[u8]) -> Result<Vec<String>, AllocError>
+    ensures { MOST_BYTES < length bytes.now
+        → IfOk result (λ reasons. 0 < length reasons.items) }
 {
+    let mut reasons = Vec::new(alloc);
     if bytes.len() > MOST_BYTES {
-        return Ok(Some(format!(in alloc; "more than {MOST_BYTES} bytes")?));
+        reasons.push(format!(in alloc; "more than {MOST_BYTES} bytes")?)?;
+        return Ok(reasons);
     }
     match table_from_slice(alloc, bytes) {
-        Ok(table) => why_of_table(alloc, &table),
-        Err(error) if error.is_memory() => Err(AllocError),
-        Err(_) => Ok(Some(format!(in alloc; "no TOML")?)),
+        Ok(table) => add_reasons(alloc, &table, &mut reasons)?,
+        Err(error) if error.is_memory() => return Err(AllocError),
+        Err(error) => reasons.push(why_no_toml(alloc, bytes, &error)?)?,
     }
+    Ok(reasons)
 }
 
-fn why_of_table(alloc: Global, table: &Table) -> Result<Option<String>, AllocError> {
+// Where a text breaks.
+fn why_no_toml(alloc: Global, bytes: &[u8], error: &Error) -> Result<String, AllocError> {
+    let before = error.span().and_then(|span| bytes.get(..span.start));
+    let ends = before
+        .unwrap_or(&[])
+        .iter()
+        .filter(|byte| **byte == b'\n')
+        .count();
+    let line = ends.saturating_add(1);
+    format!(in alloc; "no TOML, line {line}: {}", error.message())
+}
+
+fn add_reasons(alloc: Global, table: &Table, reasons: &mut Vec<String>) -> Result<(), AllocError> {
     for known in &TABLES {
-        if let Some(why) = why_of_inner(alloc, table, known)? {
-            return Ok(Some(why));
-        }
+        add_inner(alloc, table, known, reasons)?;
     }
     for (key, _value) in table {
         if !TABLES.iter().any(|known| known.name == key.as_str()) {
-            return Ok(Some(format!(in alloc; "{key} isn't known")?));
+            let near = near_word(alloc, key.as_str(), &TABLE_NAMES)?;
+            reasons.push(unknown(alloc, "", key.as_str(), near)?)?;
         }
     }
-    why_of_checks(alloc, table)
+    if reasons.is_empty() {
+        if let Some(why) = why_of_checks(alloc, table)? {
+            reasons.push(why)?;
+        }
+    }
+    Ok(())
+}
+
+// A key that isn't known, and the one that it nearly is.
+fn unknown(
+    alloc: Global,
+    table: &str,
+    key: &str,
+    near: Option<&'static str>,
+) -> Result<String, AllocError> {
+    match near {
+        Some(near) => format!(in alloc; "{table}{key} isn't known; {table}{near}?"),
+        None => format!(in alloc; "{table}{key} isn't known"),
+    }
 }
 
 // Why the table under a name isn't the one that is known.
-fn why_of_inner(
+fn add_inner(
     alloc: Global,
     table: &Table,
     known: &KnownTable,
-) -> Result<Option<String>, AllocError> {
+    reasons: &mut Vec<String>,
+) -> Result<(), AllocError> {
     let name = known.name;
     let Some(value) = table.get(name) else {
-        return Ok(Some(format!(in alloc; "no table {name}")?));
+        reasons.push(format!(in alloc; "no table {name}")?)?;
+        return Ok(());
     };
     let Some(inner) = value.as_table() else {
-        return Ok(Some(format!(in alloc; "{name} is no table")?));
+        reasons.push(format!(in alloc; "{name} is no table")?)?;
+        return Ok(());
     };
     for limits in known.limits {
-        if let Some(why) = why_of_numbers(alloc, name, inner, limits)? {
-            return Ok(Some(why));
-        }
+        add_numbers(alloc, name, inner, limits, reasons)?;
     }
     if name == "module" && map_of(inner).is_none() {
-        return Ok(Some(format!(in alloc; "{name}.map is neither lines nor xor")?));
+        reasons.push(format!(in alloc; "{name}.map is neither lines nor xor")?)?;
     }
-    why_of_keys(alloc, inner, known)
+    add_keys(alloc, inner, known, reasons)
 }
 
 fn map_of(module: &Table) -> Option<Interleaving> {
     Interleaving::named(module.get("map")?.as_str()?)
 }
 
-// Which key of a table isn't known.
-fn why_of_keys(
+// Which keys of a table aren't known.
+fn add_keys(
     alloc: Global,
     inner: &Table,
     known: &KnownTable,
-) -> Result<Option<String>, AllocError> {
-    let name = known.name;
+    reasons: &mut Vec<String>,
+) -> Result<(), AllocError> {
+    let table = format!(in alloc; "{}.", known.name)?;
     for (key, _value) in inner {
         if !is_known(known, key.as_str()) {
-            return Ok(Some(format!(in alloc; "{name}.{key} isn't known")?));
+            let near = near_key(alloc, known, key.as_str())?;
+            reasons.push(unknown(alloc, &table, key.as_str(), near)?)?;
         }
+    }
+    Ok(())
+}
+
+// The key of the table that a key is nearly.
+fn near_key(
+    alloc: Global,
+    known: &KnownTable,
+    key: &str,
+) -> Result<Option<&'static str>, AllocError> {
+    for limits in known.limits {
+        if let Some(near) = near_word(alloc, key, limits.keys)? {
+            return Ok(Some(near));
+        }
+    }
+    if known.name == "module" {
+        return near_word(alloc, key, &["map"]);
     }
     Ok(None)
 }
@@ -91,35 +146,48 @@ fn is_known(known: &KnownTable, key: &str) -> bool {
     known.name == "module" && key == "map"
 }
 
-fn why_of_numbers(
+fn add_numbers(
     alloc: Global,
     name: &str,
     inner: &Table,
     limits: &Limits,
+    reasons: &mut Vec<String>,
+) -> Result<(), AllocError> {
+    for key in limits.keys.iter().copied() {
+        if let Some(why) = why_no_number(alloc, name, inner, key, limits)? {
+            reasons.push(why)?;
+        }
+    }
+    Ok(())
+}
+
+// Why no number within the limits stands under the key.
+fn why_no_number(
+    alloc: Global,
+    name: &str,
+    inner: &Table,
+    key: &str,
+    limits: &Limits,
 ) -> Result<Option<String>, AllocError> {
     let Limits {
-        keys,
         least,
         most,
         optional,
+        ..
     } = *limits;
-    for key in keys.iter().copied() {
-        let Some(value) = inner.get(key) else {
-            if optional {
-                continue;
-            }
-            return Ok(Some(format!(in alloc; "no key {name}.{key}")?));
-        };
-        let Some(number) = value.as_integer() else {
-            return Ok(Some(format!(in alloc; "{name}.{key} is no whole number")?));
-        };
-        if !is_within(number, least, most) {
-            return Ok(Some(format!(in alloc;
-                "{name}.{key} = {number}, and {least} to {most} are allowed"
-            )?));
+    let Some(value) = inner.get(key) else {
+        if optional {
+            return Ok(None);
         }
+        return Ok(Some(format!(in alloc; "no key {name}.{key}")?));
+    };
+    let Some(number) = value.as_integer() else {
+        return Ok(Some(format!(in alloc; "{name}.{key} is no whole number")?));
+    };
+    if is_within(number, least, most) {
+        return Ok(None);
     }
-    Ok(None)
+    Ok(Some(format!(in alloc; "{name}.{key} = {number}, and {least} to {most} are allowed")?))
 }
 
 fn is_within(number: i64, least: u64, most: u64) -> bool {

@@ -3,7 +3,7 @@ ghost use Rattle.std.specs.Prelude.{◌≡◌, ◌↔◌, [], All, IfOk, IsTrue,
 ghost use Rattle.ddr4_timing.specs.Lawful.{IsInGeometry};
 ghost use Rattle.schedule_drawing.specs.Entries.{LieIn, entries_found};
 
-use command_trace::{Entry, TraceFault, TraceReader};
+use command_trace::{Entry, NoCommand, TraceFault, TraceReader};
 use ddr4_timing::command::Command;
 use ddr4_timing::timing::Geometry;
 use std::alloc::Global;
@@ -58,10 +58,17 @@ pub fn read_entries<R: Read + Drop>(
             break;
         };
         let entry = found.entry;
-        if !lies_in(g, &entry.command.cmd) || !rising.take(&entry) {
-            return Err(TraceFault::Line(found.line));
+        if !lies_in(g, &entry.command.cmd) {
+            return Err(refused(found.line, NoCommand::Place));
+        }
+        if !rising.take(&entry) {
+            return Err(refused(found.line, NoCommand::Order));
         }
         entries.extend_from_slice(&[entry])?;
     }
     Ok(entries)
+}
+
+fn refused(line: u64, why: NoCommand) -> TraceFault {
+    TraceFault::Line { line, why }
 }

@@ -1,6 +1,7 @@
 // The program's words, faults and exit status.
 use crate::check::same;
-use command_line::{Fault, profile_of, run};
+use command_faults::{Failure, Fault, profile_of};
+use command_line::run;
 use interleave_map::Interleaving;
 use nv_profile::TINY;
 use nv_script::ScriptFault;
@@ -11,7 +12,7 @@ use std::process::{self, Abort, ExitCode};
 use std::rt::Files;
 use std::time::Clock;
 
-// What the program does: its exit status, and its line on standard error but for the name in front.
+// What the program does: its exit status, and its lines on standard error but for the name in front.
 fn outcome<R, W>(rt: &R, place: &str, words: &[&str], writer: &mut W) -> (ExitCode, String)
 where
     R: Abort + Files + Input + Print + Eprint + Clock + AllocGlobal,
@@ -24,7 +25,16 @@ where
     }
     match run(rt, &given, false, writer) {
         Ok(code) => (code, String::new(rt.alloc())),
-        Err(fault) => (fault.exit_code(), shown(rt, &fault)),
+        Err(failure) => (failure.exit_code(), told(rt, &failure)),
+    }
+}
+
+// A fault, and its reason on a line of its own.
+fn told<R: Abort + AllocGlobal>(rt: &R, failure: &Failure<'_>) -> String {
+    let fault = &failure.fault;
+    match &failure.reason {
+        Some(reason) => format!(in rt.alloc(); "{fault}\n{reason}").expect(rt, "memory"),
+        None => shown(rt, fault),
     }
 }
 
@@ -63,7 +73,7 @@ pub(crate) fn remove<R: Abort + Files + AllocGlobal>(rt: &R, place: &str, name: 
     fs::remove_file(rt, named(rt, place, name).as_str()).expect(rt, "a file");
 }
 
-const NO_USAGE: [&[&str]; 20] = [
+const NO_USAGE: [&[&str]; 19] = [
     &[],
     &["run"],
     &["run", "tiny"],
@@ -79,7 +89,6 @@ const NO_USAGE: [&[&str]; 20] = [
     &["crash", "tiny", "-", "--line", "first"],
     &["draw", "tiny", "-"],
     &["draw", "tiny", "--svg", "picture"],
-    &["draw", "tiny", "-", "--svg", "picture", "--vcd", "picture"],
     &["profile"],
     &["profile", "tiny", "tiny"],
     &["walk"],
@@ -135,9 +144,94 @@ const FAULTS: [(&[&str], &str); 6] = [
     (&["run", "%bad", "/no/such/file"], "profile"),
     (&["run", "tiny", "/no/such/file"], "file /no/such/file"),
     (&["run", "tiny", "%bad"], "script line 2"),
-    (&["profile", "%bad"], "profile: no TOML"),
+    (
+        &["profile", "%bad"],
+        "profile: no TOML, line 1: key with no value, expected `=`",
+    ),
     (&["profile", "/no/profile"], "file /no/profile"),
 ];
+
+// The same faults with their reasons.
+const REASONS: [(&[&str], &str); 9] = [
+    (
+        &["--why", "run", "/no/profile", "/no/such/file"],
+        "file /no/profile\nthere is no such file",
+    ),
+    (
+        &["run", "--why", "Tiny", "/no/such/file"],
+        "file Tiny\nthere is no such file; the word tiny?",
+    ),
+    (
+        &["run", "%bad", "/no/such/file", "--why"],
+        "profile\nno TOML, line 1: key with no value, expected `=`",
+    ),
+    (&["crash", "tiny", "/", "--why"], "file /\nit is a folder"),
+    (
+        &["run", "tiny", "%bad", "--why"],
+        "script line 2\nunknown verb wirte; write?",
+    ),
+    (
+        &["crash", "tiny", "%bad", "--why"],
+        "script line 2\nunknown verb wirte; write?",
+    ),
+    (
+        &["draw", "tiny", "%bad", "--svg", "/no/picture", "--why"],
+        "script line 2\nunknown verb wirte; write?",
+    ),
+    (
+        &["check", "tiny", "%bad", "--why"],
+        "trace line 1\na channel, a clock and a name are wanted, with one space between two words",
+    ),
+    (
+        &["check", "tiny", "%empty", "--why"],
+        "empty trace\nno command stands in it; --allow-empty takes that for lawful",
+    ),
+];
+
+#[test]
+fn faults_with_their_reasons(rt: HostRuntime) {
+    let place = place(&rt, process::id(rt.process()));
+    let place = place.as_str();
+    make(&rt, place, "%bad", b"format\nwirte 0 11\n");
+    make(&rt, place, "%empty", b"# nothing\n\n");
+    for (words, wanted) in REASONS {
+        ends(&rt, place, words, ExitCode::FAILURE, wanted, "");
+    }
+    remove(&rt, place, "%bad");
+    remove(&rt, place, "%empty");
+}
+
+const BAD_LINES: &str = "script line 2: unknown verb wirte; write?
+script line 3: a byte is two hexadecimal digits: 1
+script line 4: channel 5, and this profile has 2
+script line 5: the line ends in a carriage return: convert it with sed 's/\\r$//'
+script line 6: a tab: words are separated by spaces
+script line 7: a number is decimal digits: no
+script line 8: calls are counted from 1 on: 0
+script line 9: a pick is old, new, or torn and a byte, as torna5: tornzz
+script line 10: a map is lines or xor: maps
+script line 11: a number fits 64 bits: 99999999999999999999
+script line 12: the line is written read LINE
+";
+
+#[test]
+fn bad_lines_of_a_script(rt: HostRuntime) {
+    let place = place(&rt, process::id(rt.process()));
+    let place = place.as_str();
+    make(
+        &rt,
+        place,
+        "%bad",
+        b"format\nwirte 0 11\nwrite 0 1\nwork 5 1\nsave\r\nread 1\t2\nfuse no\nonefault 0\nrestore tornzz\nrestore old maps\nread 99999999999999999999\nread\n",
+    );
+    make(&rt, place, "%good", b"format\n\n# all is well\nmark\n");
+    let words = ["lint", "tiny", "%bad"];
+    ends(&rt, place, &words, ExitCode::FAILURE, "", BAD_LINES);
+    let words = ["lint", "tiny", "%good"];
+    ends(&rt, place, &words, ExitCode::SUCCESS, "", "");
+    remove(&rt, place, "%bad");
+    remove(&rt, place, "%good");
+}
 
 #[test]
 fn faults_in_their_order(rt: HostRuntime) {
@@ -208,6 +302,26 @@ const STORES: [(&[&str], ExitCode, &str, &str); 4] = [
 ];
 
 #[test]
+fn words_that_name_no_store(rt: HostRuntime) {
+    for (words, line) in [
+        (
+            ["run", "tiny", "script", "--out", "-"],
+            "--out names a file, and standard output has the answers",
+        ),
+        (
+            ["run", "profile", "script", "--out", "profile"],
+            "--out names the profile",
+        ),
+        (
+            ["run", "tiny", "script", "--out", "script"],
+            "--out names the script",
+        ),
+    ] {
+        ends(&rt, "", &words, ExitCode::from(2), line, "");
+    }
+}
+
+#[test]
 fn a_store_that_is_shown(rt: HostRuntime) {
     let place = place(&rt, process::id(rt.process()));
     let place = place.as_str();
@@ -229,7 +343,7 @@ const EARLY: &str =
     "0 fault 3, ACT to RD, same bank: at least tRCD = 16, here 15; line 1: 0 ACT 0 0 0 1; line 2: 15 RD 0 0 0 3\n1 lawful 0\n";
 
 // Words one after another, with the status, the line and the text.
-const CHECKS: [(&[&str], ExitCode, &str, &str); 6] = [
+const CHECKS: [(&[&str], ExitCode, &str, &str); 8] = [
     (
         &["check", "tiny", "%lawful"],
         ExitCode::SUCCESS,
@@ -248,6 +362,18 @@ const CHECKS: [(&[&str], ExitCode, &str, &str); 6] = [
         ExitCode::SUCCESS,
         "",
         "0 lawful 2\n1 lawful 0\n",
+    ),
+    (
+        &["check", "tiny", "%empty"],
+        ExitCode::FAILURE,
+        "empty trace",
+        "",
+    ),
+    (
+        &["check", "tiny", "%empty", "--allow-empty"],
+        ExitCode::SUCCESS,
+        "",
+        "0 lawful 0\n1 lawful 0\n",
     ),
     (
         &["check", "tiny", "/no/trace"],
@@ -273,6 +399,7 @@ fn traces_that_are_checked(rt: HostRuntime) {
         "%lawful",
         b"# a read, and an open row\r\n0 0 ACT 0 0 0 1\r\n1 5 ACT 0 1 2 0\r\n0 16 RD 0 0 0 3",
     );
+    make(&rt, place, "%empty", b"");
     make(&rt, place, "%early", b"0 0 ACT 0 0 0 1\n0 15 RD 0 0 0 3\n");
     make(
         &rt,
@@ -284,6 +411,7 @@ fn traces_that_are_checked(rt: HostRuntime) {
         ends(&rt, place, words, code, line, text);
     }
     remove(&rt, place, "%lawful");
+    remove(&rt, place, "%empty");
     remove(&rt, place, "%early");
     remove(&rt, place, "%answers");
 }
@@ -414,6 +542,12 @@ fn texts_of_faults(rt: HostRuntime) {
             ExitCode::FAILURE,
         ),
         (Fault::Trace(7), "trace line 7", ExitCode::FAILURE),
+        (
+            Fault::Out("names the script"),
+            "--out names the script",
+            ExitCode::from(2),
+        ),
+        (Fault::EmptyTrace, "empty trace", ExitCode::FAILURE),
         (Fault::NoLine(7), "no line 7", ExitCode::FAILURE),
         (Fault::Memory, "memory", ExitCode::FAILURE),
     ] {
@@ -426,7 +560,7 @@ fn texts_of_faults(rt: HostRuntime) {
 fn has_map<R: Abort + Files + AllocGlobal>(rt: &R, word: &str, wanted: &str) {
     let found = match profile_of(rt, word) {
         Ok(profile) => profile.map.to_string(rt.alloc()).expect(rt, "memory"),
-        Err(fault) => shown(rt, &fault),
+        Err(failure) => shown(rt, &failure.fault),
     };
     same(rt, (word, found.as_str()), (word, wanted));
 }

@@ -1,6 +1,6 @@
 // Scripts and what they are to write, with a slash at the end of each line but the last.
-use command_line::run_on_maps;
 use nv_profile::{TINY, read_profile};
+use run_command::run_on_maps;
 use std::alloc::Global;
 use std::process::Abort;
 

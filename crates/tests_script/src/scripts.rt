@@ -1,8 +1,8 @@
 // What scripts write.
 use crate::running::{answers_on, are_answered, is_answered};
-use command_line::run_on_maps;
 use nv_profile::{TINY, read_profile};
 use nv_script::ScriptFault;
+use run_command::run_on_maps;
 use std::alloc::Global;
 use std::process::Abort;
 

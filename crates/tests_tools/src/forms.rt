@@ -1,5 +1,6 @@
 // The two forms of a trace, and lines that are no command.
 use crate::verdicts::verdicts;
+use command_trace::{TraceFault, TraceReader, form_of};
 use std::process::Abort;
 use std::test::Fail;
 
@@ -82,3 +83,79 @@ fn a_run(rt: HostRuntime) -> Result<(), Fail> {
     tells(&rt, "", "lawful 0")?;
     tells(&rt, "0 1 SRE 0", "lawful 1")
 }
+
+// Why a line is no command, in a trace of one channel.
+fn why<R: Abort + AllocGlobal>(rt: &R, text: &str, wanted: &str) -> Result<(), Fail> {
+    let form = form_of(rt.alloc(), text.as_bytes(), false)?;
+    let mut reader = TraceReader::new(rt.alloc(), text.as_bytes(), form, 1);
+    let said = match reader.next() {
+        Err(TraceFault::Line { line, why }) => format!(in rt.alloc(); "{line}: {why}")?,
+        _ => format!(in rt.alloc(); "none")?,
+    };
+    assert_eq!(*rt; said.as_str(), wanted);
+    Ok(())
+}
+
+#[test]
+fn reasons_of_lines(rt: HostRuntime) -> Result<(), Fail> {
+    for (line, wanted) in [
+        (
+            "0 5",
+            "1: a channel, a clock and a name are wanted, with one space between two words",
+        ),
+        (
+            "\n0  5 REF 0",
+            "2: the clock is a number: decimal digits that fit 64 bits",
+        ),
+        (
+            "x 5 REF 0",
+            "1: the channel is a number: decimal digits that fit 64 bits",
+        ),
+        (
+            "0 5 NOP 0",
+            "1: the names of commands are ACT, RD, WR, PRE, PREA, REF and SRE",
+        ),
+        (
+            "0 5 RD 0 0 0",
+            "1: RD has these numbers behind it: rank group bank column",
+        ),
+        (
+            "0 5 ACT 0 0 0 a",
+            "1: the row is a number: decimal digits that fit 64 bits",
+        ),
+        ("1 5 REF 0", "1: channel 1, and this profile has 1"),
+        ("0 9223372036854775808 REF 0", "1: a clock is below 2^63"),
+    ] {
+        why(&rt, line, wanted)?;
+    }
+    Ok(())
+}
+
+#[test]
+fn reasons_of_rows(rt: HostRuntime) -> Result<(), Fail> {
+    for (rows, wanted) in [
+        ("0,5", "2: a table has 8 columns, here 2"),
+        (
+            "0,NOP,0,,,,,",
+            "2: the names of commands are ACT, RD, WR, PRE, PREA, REF and SRE",
+        ),
+        (
+            "0,PRE,0,0,0,,,",
+            "2: the bank is a number: decimal digits that fit 64 bits",
+        ),
+        (
+            "0,PRE,0,0,0,0,1,",
+            "2: PRE has no row: that column is to be empty",
+        ),
+    ] {
+        let text = format!(in rt.alloc(); "{HEADER_LINE}\n{rows}\n")?;
+        why(&rt, &text, wanted)?;
+    }
+    why(
+        &rt,
+        "command,clock\n",
+        "1: the header of a table is clock,command,channel,rank,bankgroup,bank,row,column",
+    )
+}
+
+const HEADER_LINE: &str = "clock,command,channel,rank,bankgroup,bank,row,column";

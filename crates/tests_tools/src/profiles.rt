@@ -1,6 +1,6 @@
 // What is told of profiles, and why a text is none.
 use nv_profile::{TINY, read_profile};
-use profile_report::{Meaning, why_refused};
+use profile_report::{Meaning, reasons};
 use std::process::Abort;
 
 #[test]
@@ -21,13 +21,12 @@ pending 16: steps 26, reserve 11536, floor 11563, least reading 11564"
     Ok(())
 }
 
-// A text is refused for this reason, or is a profile where it's "none".
+// A text is refused for these reasons, a line each, or is a profile where there are none.
 fn tells<R: Abort + AllocGlobal>(rt: &R, text: &str, wanted: &str) -> anyhow::Result<()> {
-    let why = why_refused(rt.alloc(), text.as_bytes())?;
-    let said = why.as_ref().map_or("none", |why| why.as_str());
-    assert_eq!(*rt; said, wanted);
+    let said = reasons(rt.alloc(), text.as_bytes())?.join(rt.alloc(), "\n")?;
+    assert_eq!(*rt; said.as_str(), wanted);
     let is_read = read_profile(rt.alloc(), text.as_bytes()).is_ok();
-    assert_eq!(*rt; is_read, wanted == "none");
+    assert_eq!(*rt; is_read, wanted.is_empty());
     Ok(())
 }
 
@@ -44,13 +43,13 @@ fn refused<R: Abort + AllocGlobal>(
 
 #[test]
 fn keys_and_values(rt: HostRuntime) -> anyhow::Result<()> {
-    refused(&rt, "tRCD = 16", "tRCD = 17", "none")?;
+    refused(&rt, "tRCD = 16", "tRCD = 17", "")?;
     refused(&rt, "tRCD = 16\n", "", "no key timing.tRCD")?;
     refused(
         &rt,
         "tRCD = 16",
         "tRCD = 16\ntFOO = 1",
-        "timing.tFOO isn't known",
+        "timing.tFOO isn't known; timing.tFAW?",
     )?;
     refused(
         &rt,
@@ -85,6 +84,22 @@ fn keys_and_values(rt: HostRuntime) -> anyhow::Result<()> {
 }
 
 #[test]
+fn all_reasons_at_once(rt: HostRuntime) -> anyhow::Result<()> {
+    let text = TINY.replace(rt.alloc(), "tRCD = 16", "tRDC = 16")?;
+    let text = text.replace(rt.alloc(), "e_act = 4", "e_act = -1")?;
+    let text = text.replace(rt.alloc(), "map = \"lines\"", "mop = \"lines\"")?;
+    tells(
+        &rt,
+        &text,
+        "no key timing.tRCD
+timing.tRDC isn't known; timing.tRCD?
+costs.e_act = -1, and 0 to 1000000 are allowed
+module.map is neither lines nor xor
+module.mop isn't known; module.map?",
+    )
+}
+
+#[test]
 fn keys_of_the_module(rt: HostRuntime) -> anyhow::Result<()> {
     refused(
         &rt,
@@ -103,16 +118,34 @@ fn keys_of_the_module(rt: HostRuntime) -> anyhow::Result<()> {
 
 #[test]
 fn tables(rt: HostRuntime) -> anyhow::Result<()> {
-    refused(&rt, "[costs]", "[cost]", "no table costs")?;
+    refused(
+        &rt,
+        "[costs]",
+        "[cost]",
+        "no table costs\ncost isn't known; costs?",
+    )?;
     refused(
         &rt,
         "[timing]",
         "further = 1\n[timing]",
         "further isn't known",
     )?;
-    refused(&rt, "[timing]", "[timing", "no TOML")?;
-    tells(&rt, "", "no table timing")?;
-    tells(&rt, "timing = 1", "timing is no table")?;
+    refused(
+        &rt,
+        "tRCD = 16",
+        "tRCD 16",
+        "no TOML, line 2: key with no value, expected `=`",
+    )?;
+    tells(
+        &rt,
+        "",
+        "no table timing\nno table geometry\nno table costs\nno table module",
+    )?;
+    tells(
+        &rt,
+        "timing = 1",
+        "timing is no table\nno table geometry\nno table costs\nno table module",
+    )?;
     let long = " ".repeat(rt.alloc(), 65_537)?;
     tells(&rt, &long, "more than 65536 bytes")
 }

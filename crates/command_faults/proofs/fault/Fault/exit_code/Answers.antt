@@ -1,0 +1,7 @@
+use Rattle.command_faults.proofs.fault.Fault.exit_code.Goals as goal
+
+pub returns-in-Words : goal.returns-in-Words
+returns-in-Words c = search
+
+pub returns-in-Out : goal.returns-in-Out
+returns-in-Out c = search

@@ -1,0 +1,69 @@
+// Why the program fails, and its exit status.
+ghost use Rattle.std.specs.Prelude.{◌≡◌};
+ghost use Rattle.std.specs.Process.{exit_status};
+ghost use Rattle.command_faults.specs.declared.fault.Fault.TheVariants.{Memory};
+
+use nv_script::ScriptFault;
+use std::alloc::AllocError;
+use std::process::ExitCode;
+use thiserror::Error;
+
+/// Why the program fails. Shown as the rest of its one line on standard error.
+#[derive(Debug, Drop, Error)]
+pub enum Fault<'a> {
+    #[error("a word is not UTF-8")]
+    Words,
+    #[error("profile")]
+    Profile,
+    /// The text is no profile for these reasons, each a line.
+    #[error("profile: {0}")]
+    NoProfile(String),
+    /// The file can't be read or written. `-` is standard input or standard output.
+    #[error("file {0}")]
+    File(&'a str),
+    #[error("{0}")]
+    Script(ScriptFault),
+    /// The line of a trace is no command.
+    #[error("trace line {0}")]
+    Trace(u64),
+    /// The word behind `--out` names no file for a store, for this reason.
+    #[error("--out {0}")]
+    Out(&'static str),
+    /// No command stands in a trace that is to be checked.
+    #[error("empty trace")]
+    EmptyTrace,
+    /// The script runs no line of this number.
+    #[error("no line {0}")]
+    NoLine(u64),
+    #[error("memory")]
+    Memory,
+}
+
+impl Fault<'_> {
+    ghost use Rattle.command_faults.specs.Exit.{status_of};
+
+    /// The exit status: 2 for a mistake in the program's words, and else 1.
+    pub fn exit_code(&self) -> ExitCode
+        ensures { exit_status result ≡ status_of self.now }
+    {
+        match self {
+            Fault::Words => ExitCode::from(2),
+            Fault::Out(_) => ExitCode::from(2),
+            _ => ExitCode::FAILURE,
+        }
+    }
+}
+
+impl<'a> From<AllocError> for Fault<'a> {
+    ghost from_gives = { λ _ fault. fault ≡ Memory };
+
+    fn from(_: AllocError) -> Fault<'a> {
+        Fault::Memory
+    }
+}
+
+impl<'a> From<ScriptFault> for Fault<'a> {
+    fn from(fault: ScriptFault) -> Fault<'a> {
+        Fault::Script(fault)
+    }
+}

@@ -1,0 +1,136 @@
+// The files that the words name.
+ghost use Rattle.std.specs.Prelude.{◌⊎◌, IfErr};
+ghost use Rattle.nv_profile.specs.Ready.{IsReadyWord};
+ghost use Rattle.command_faults.specs.Exit.{IsNoProfile, IsOfFile, IsOfNoFile, IsOfOutput};
+
+use crate::failure::{Failure, Reason};
+use crate::fault::Fault;
+use nv_profile::{MOST_BYTES, Profile, ProfileFault, read_profile, ready_profile};
+use profile_report::reasons;
+use std::alloc::{AllocError, Global};
+use std::fs::{self, File};
+use std::io::{Input, Read, Write};
+use std::rt::Files;
+
+// The text of a profile by its word: `tiny`, `tiny2`, or a file, of which no more is read than a profile may have and a byte.
+fn profile_text<'a, R: Files + AllocGlobal>(rt: &R, word: &'a str) -> Result<Vec<u8>, Failure<'a>>
+    ensures ready { IsReadyWord word.entry.now
+        → IfErr result (λ failure. IsOfNoFile failure.fault) }
+    ensures file { IfErr result (λ failure. IsOfFile word.entry failure.fault) }
+{
+    match ready_profile(word) {
+        Some(text) => Ok(text.as_bytes().to_vec(rt.alloc())?),
+        None => match file_bytes(rt, word, MOST_BYTES as u64 + 1) {
+            Ok(bytes) => Ok(bytes),
+            Err(failure) => Err(failure.or_word(rt.alloc(), word)),
+        },
+    }
+}
+
+/// The profile of its word: `tiny`, `tiny2`, or a file of TOML.
+pub fn profile_of<'a, R: Files + AllocGlobal>(rt: &R, word: &'a str) -> Result<Profile, Failure<'a>>
+    ensures ready { IsReadyWord word.entry.now
+        → IfErr result (λ failure. IsOfNoFile failure.fault) }
+    ensures file { IfErr result (λ failure. IsOfNoFile failure.fault
+        ⊎ IsOfFile word.entry failure.fault) }
+{
+    let text = profile_text(rt, word)?;
+    match read_profile(rt.alloc(), &text) {
+        Ok(profile) => Ok(profile),
+        Err(ProfileFault::Refused) => Err(Failure {
+            fault: Fault::Profile,
+            reason: why_no_profile(rt.alloc(), &text).ok().map(Reason::Told),
+        }),
+        Err(ProfileFault::Memory) => Err(Failure::from(Fault::Memory)),
+    }
+}
+
+/// The same for who asks what a profile means: the fault itself says why it is none.
+pub fn asked_profile<'a, R: Files + AllocGlobal>(
+    rt: &R,
+    word: &'a str,
+) -> Result<Profile, Failure<'a>>
+    ensures file { IfErr result (λ failure. IsNoProfile failure.fault
+        ⊎ IsOfFile word.entry failure.fault) }
+{
+    let text = profile_text(rt, word)?;
+    match read_profile(rt.alloc(), &text) {
+        Ok(profile) => Ok(profile),
+        Err(ProfileFault::Refused) => {
+            let why = why_no_profile(rt.alloc(), &text)?;
+            Err(Failure::from(Fault::NoProfile(why)))
+        }
+        Err(ProfileFault::Memory) => Err(Failure::from(Fault::Memory)),
+    }
+}
+
+// Why a text is no profile, each reason a line.
+fn why_no_profile(alloc: Global, text: &[u8]) -> Result<String, AllocError> {
+    let reasons = reasons(alloc, text)?;
+    reasons.join(alloc, "\n  ")
+}
+
+/// The first bytes of a file, or for - of standard input, up to so many.
+pub fn bytes_of<'a, R: Files + Input + AllocGlobal>(
+    rt: &R,
+    name: &'a str,
+    most: u64,
+) -> Result<Vec<u8>, Failure<'a>>
+    ensures { IfErr result (λ failure. IsOfFile name.entry failure.fault) }
+{
+    if name == "-" {
+        all_of(rt.alloc(), rt.reader(), most, name)
+    } else {
+        file_bytes(rt, name, most)
+    }
+}
+
+/// Is it a file that can be read again? A pipe can't.
+pub fn is_file<'a, R: Files>(rt: &R, name: &'a str) -> Result<bool, Failure<'a>>
+    ensures { IfErr result (λ failure. IsOfFile name.entry failure.fault) }
+{
+    match fs::metadata(rt, name) {
+        Ok(found) => Ok(found.is_file()),
+        Err(error) => Err(Failure::of_file(name, &error)),
+    }
+}
+
+/// The first bytes of a file, up to so many.
+pub fn file_bytes<'a, R: Files + AllocGlobal>(
+    rt: &R,
+    name: &'a str,
+    most: u64,
+) -> Result<Vec<u8>, Failure<'a>>
+    ensures { IfErr result (λ failure. IsOfFile name.entry failure.fault) }
+{
+    match File::open(rt, name) {
+        Ok(file) => all_of(rt.alloc(), file, most, name),
+        Err(error) => Err(Failure::of_file(name, &error)),
+    }
+}
+
+// What a reader gives, up to so many bytes.
+fn all_of<'a, S: Read + Drop>(
+    alloc: Global,
+    source: S,
+    most: u64,
+    name: &'a str,
+) -> Result<Vec<u8>, Failure<'a>>
+    ensures { IfErr result (λ failure. IsOfFile name.entry failure.fault) }
+{
+    let mut bytes = Vec::new(alloc);
+    match source.take(most).read_to_end(&mut bytes) {
+        Ok(_) => Ok(bytes),
+        Err(error) => Err(Failure::of_file(name, &error)),
+    }
+}
+
+/// Writes what a writer to standard output has taken.
+pub fn flush<W: Write>(writer: &mut W) -> Result<(), Fault<'static>>
+    ensures { IfErr result IsOfOutput }
+{
+    match writer.flush() {
+        Ok(()) => Ok(()),
+        Err(_) => Err(Fault::File("-")),
+    }
+}

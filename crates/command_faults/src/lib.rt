@@ -1,0 +1,10 @@
+//! Why a command fails, with its exit status and the reason behind it; and the profiles and files that its words name.
+#![tactic(auto)]
+
+mod failure;
+mod fault;
+mod files;
+
+pub use failure::{Failure, Reason};
+pub use fault::Fault;
+pub use files::{asked_profile, bytes_of, file_bytes, flush, is_file, profile_of};

@@ -1,0 +1,109 @@
+// A trace, checked.
+ghost use Rattle.std.specs.Prelude.{◌≡◌, ◌↔◌, [], Err, false, IfErr, IfOk};
+ghost use Rattle.std.specs.Process.{exit_status};
+ghost use Rattle.command_trace.specs.Channels.{AreLawful, FollowsAll};
+ghost use Rattle.command_faults.specs.declared.fault.Fault.TheVariants.{EmptyTrace};
+
+use crate::command::status_by;
+use clap::ArgMatches;
+use command_faults::{Failure, Fault, Reason, bytes_of, flush, is_file, profile_of};
+use command_trace::{Source, TraceCheck, TraceFault};
+use ddr4_timing::timing::Checked;
+use std::alloc::Global;
+use std::io::{Input, Write};
+use std::process::ExitCode;
+use std::rt::Files;
+
+/// Checks the trace that the words name. The exit status is 1 where the commands of a channel aren't lawful, and where there is
+/// none and the words don't allow that.
+pub(crate) fn check<'a, R, W>(
+    rt: &R,
+    matches: &ArgMatches<'a>,
+    writer: &mut W,
+) -> Result<ExitCode, Failure<'a>>
+where
+    R: Files + Input + AllocGlobal,
+    W: Write,
+{
+    let profile = profile_of(rt, matches.get_str("PROFILE").unwrap_or("tiny"))?;
+    let name = matches.get_str("TRACE").unwrap_or("-");
+    let source = if name != "-" && is_file(rt, name)? {
+        Source::File(name)
+    } else {
+        Source::Bytes(bytes_of(rt, name, u64::MAX)?)
+    };
+    let others = matches.get_flag("answers");
+    match write_check(
+        rt,
+        &source,
+        others,
+        matches.get_flag("allow-empty"),
+        &profile.checked,
+        writer,
+    ) {
+        Ok(checked) => {
+            let code = checked?;
+            flush(writer)?;
+            Ok(code)
+        }
+        Err(fault) => Err(of_trace(rt.alloc(), name, fault)),
+    }
+}
+
+// Checks a trace and writes what that tells, where the trace isn't one without a command that is to have some.
+fn write_check<R: Files + AllocGlobal, W: Write>(
+    rt: &R,
+    source: &Source<'_>,
+    others: bool,
+    allows_empty: bool,
+    checked: &Checked,
+    writer: &mut W,
+) -> Result<Result<ExitCode, Failure<'static>>, TraceFault> {
+    let form = source.form(rt, others)?;
+    let check = source.check(rt, form, checked)?;
+    match verdict(&check, checked, allows_empty) {
+        Ok(code) => {
+            source.write_verdicts(rt, form, checked, &check, writer)?;
+            Ok(Ok(code))
+        }
+        Err(fault) => Ok(Err(Failure {
+            fault,
+            reason: Some(Reason::Known(
+                "no command stands in it; --allow-empty takes that for lawful",
+            )),
+        })),
+    }
+}
+
+/// The exit status of a check that was made: 0 where the commands of every channel are lawful, and else 1. A trace without a
+/// command is a fault, unless that is allowed.
+pub fn verdict(
+    check: &TraceCheck,
+    checked: &Checked,
+    allows_empty: bool,
+) -> Result<ExitCode, Fault<'static>>
+    ensures status { FollowsAll checked.now check.now → IfOk result (λ code.
+        (exit_status code ≡ 0) ↔ AreLawful checked.now check.now) }
+    ensures some { check.now.given.items ≡ [] → allows_empty ≡ false
+        → result ≡ Err EmptyTrace }
+    ensures empty { IfErr result (λ fault. (fault ≡ EmptyTrace)
+        × (check.now.given.items ≡ []) × (allows_empty ≡ false)) }
+{
+    if check.is_empty() && !allows_empty {
+        return Err(Fault::EmptyTrace);
+    }
+    Ok(status_by(check.are_lawful(checked)))
+}
+
+/// Why a trace of this name isn't read.
+pub(crate) fn of_trace(alloc: Global, name: &str, fault: TraceFault) -> Failure<'_> {
+    match fault {
+        TraceFault::Line { line, why } => Failure {
+            fault: Fault::Trace(line),
+            reason: why.to_string(alloc).ok().map(Reason::Told),
+        },
+        TraceFault::Reader => Failure::from(Fault::File(name)),
+        TraceFault::Writer => Failure::from(Fault::File("-")),
+        TraceFault::Memory => Failure::from(Fault::Memory),
+    }
+}

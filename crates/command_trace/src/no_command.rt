@@ -1,0 +1,72 @@
+// Why a line of a trace is no command.
+use crate::kind::Kind;
+use std::fmt;
+
+/// Why a line of a trace is no command, or one that isn't taken. Shown in words.
+#[derive(Clone, Copy, Debug, PartialEq, Eq)]
+pub enum NoCommand {
+    /// It has fewer than three words.
+    Words,
+    /// Its first row isn't the one of a table.
+    Header,
+    /// A row of a table has another number of columns.
+    Columns { found: usize },
+    /// The name is none of a command.
+    Name,
+    /// The part is no number of 64 bits.
+    Number { part: &'static str },
+    /// There are more or fewer numbers behind the name than its command has.
+    Parts { kind: Kind },
+    /// The command doesn't have the part that stands in this column of a table.
+    Further { part: &'static str, kind: Kind },
+    /// No channel has this number.
+    Channel { channel: u64, channels: u64 },
+    /// The clock is 2^63 or more.
+    Clock,
+    /// The place lies outside the geometry.
+    Place,
+    /// The clock isn't behind the one before it in its channel.
+    Order,
+}
+
+impl fmt::Display for NoCommand {
+    fn fmt<W: fmt::Write>(&self, f: &mut fmt::Formatter<W>) -> fmt::Result {
+        match *self {
+            NoCommand::Words => f.write_str(
+                "a channel, a clock and a name are wanted, with one space between two words",
+            ),
+            NoCommand::Header => f.write_str(
+                "the header of a table is clock,command,channel,rank,bankgroup,bank,row,column",
+            ),
+            NoCommand::Columns { found } => write!(f, "a table has 8 columns, here {found}"),
+            NoCommand::Name => f.write_str(
+                "the names of commands are ACT, RD, WR, PRE, PREA, REF and SRE",
+            ),
+            NoCommand::Number { part } => write!(
+                f,
+                "the {part} is a number: decimal digits that fit 64 bits"
+            ),
+            NoCommand::Parts { kind } => {
+                write!(f, "{} has these numbers behind it:", kind.name())?;
+                for part in kind.parts() {
+                    write!(f, " {part}")?;
+                }
+                Ok(())
+            }
+            NoCommand::Further { part, kind } => write!(
+                f,
+                "{} has no {part}: that column is to be empty",
+                kind.name()
+            ),
+            NoCommand::Channel { channel, channels } => write!(
+                f,
+                "channel {channel}, and this profile has {channels}"
+            ),
+            NoCommand::Clock => f.write_str("a clock is below 2^63"),
+            NoCommand::Place => f.write_str("a place outside the geometry of this profile"),
+            NoCommand::Order => f.write_str(
+                "the clock isn't behind the one before it in its channel",
+            ),
+        }
+    }
+}

@@ -1,0 +1,70 @@
+// Scripts over closures of both ready-made maps.
+ghost use Rattle.std.specs.Prelude.{◌≡◌, ◌<◌, List, OnOk};
+ghost use Rattle.ddr4_timing.specs.Limits.{lines_of};
+ghost use Rattle.ddr4_timing.specs.Places.{LiesIn};
+ghost use Rattle.interleave_map.specs.Ready.{place_by};
+ghost use Rattle.nv_script.specs.Texts.{IsScript};
+ghost use Rattle.nv_script.specs.declared.line.ScriptLine.{ScriptLine};
+ghost use Rattle.script_runner.specs.Story.{AreAllAnswered};
+
+use ddr4_timing::place::Place;
+use interleave_map::line_map::LineMap;
+use interleave_map::map::Map;
+use interleave_map::{Interleaving, ReadyMap};
+use nv_profile::Profile;
+use nv_script::{ScriptFault, read_script};
+use save_device::MemoryDevice;
+use script_runner::{Printer, Report, do_lines};
+use std::alloc::Global;
+use std::io::Write;
+
+/// Runs a script over both ready-made maps of the profile's geometry, and writes each answer as a line. Answers the device as
+/// the script left it. A script with a bad line writes nothing.
+pub fn run_on_maps<W: Write>(
+    alloc: Global,
+    profile: &Profile,
+    script: &[u8],
+    writer: &mut W,
+) -> Result<MemoryDevice, ScriptFault> {
+    report_on_maps(alloc, profile, script, &mut Printer::new(writer))
+}
+
+/// The same, with the answers to a report.
+pub fn report_on_maps<R: Report>(
+    alloc: Global,
+    profile: &Profile,
+    script: &[u8],
+    report: &mut R,
+) -> Result<MemoryDevice, ScriptFault>
+    ensures answered { OnOk result ((lines : List ScriptLine)
+        × IsScript profile.now.checked.geometry script.now lines
+        × AreAllAnswered (lines_of profile.now.checked.geometry) lines
+        (R.answers report.old) (R.answers report.new)) }
+{
+    let lines = read_script(alloc, script, &profile.checked.geometry)?;
+    let ways = |ready: ReadyMap| {
+        let split = move |line: u64| -> Place
+            requires { line < lines_of ready.checked.geometry }
+            ensures { result ≡ place_by ready.interleaving ready.checked.geometry line }
+        { ready.place(line) };
+        let join = move |place: Place| -> u64
+            requires { LiesIn ready.checked.geometry place }
+            ensures below { result < lines_of ready.checked.geometry }
+            ensures back { place_by ready.interleaving ready.checked.geometry result ≡ place }
+        { ready.line(place) };
+        (split, join)
+    };
+    let by_lines = ReadyMap {
+        interleaving: Interleaving::Lines,
+        checked: profile.checked,
+    };
+    let by_xor = ReadyMap {
+        interleaving: Interleaving::Xor,
+        checked: profile.checked,
+    };
+    let (split, join) = ways(by_lines);
+    let lines_map = Map::new(split, join, by_lines, &profile.checked);
+    let (split, join) = ways(by_xor);
+    let xor_map = Map::new(split, join, by_xor, &profile.checked);
+    do_lines(alloc, profile, &lines, &lines_map, &xor_map, report)
+}

@@ -1,0 +1,9 @@
+//! Scripts in words: which lines of one are bad, and why.
+#![tactic(auto)]
+
+mod lint;
+mod reason;
+mod verbs;
+
+pub use lint::{BadLine, bad_lines};
+pub use reason::{MOST_LINES, Reason, why_bad};
