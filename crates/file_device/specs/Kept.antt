@@ -1,5 +1,5 @@
 -- What contracts know of a file.
-use Rattle.std.specs.Prelude.{◌≡◌, ◌⊎◌, ℕ, Bool, false, IsTrue, List, length, Option, Some, None, ⊤}
+use Rattle.std.specs.Prelude.{◌≡◌, ◌⊎◌, ℕ, ◌+◌, Bool, false, IsTrue, List, length, slice_range, Option, Some, None, ⊤}
 use Rattle.std.specs.Bool.{OnTrue}
 use Rattle.save_device.specs.Flags.{IsUp}
 use Rattle.save_device.specs.Rows.{IsInRange, overwritten, DiffersOnlyAt}
@@ -47,6 +47,10 @@ pub record Puts (at : ℕ) (bytes : List ℕ) (good : Bool) (old new : Kept) : T
   pub unsettled : (place : ℕ) → IsTrue (new.unsettled place) → IsTrue (old.unsettled place) ⊎ IsInRange at (length bytes) place
   pub stale : (place : ℕ) → IsTrue (new.stale place) → IsTrue (old.stale place) ⊎ IsInRange at (length bytes) place
   pub renewed : OnTrue good ((place : ℕ) → IsInRange at (length bytes) place → ¬ IsTrue (new.stale place))
+
+-- n bytes that a device has from a place on were put there, which went well or not
+abbrev pub PutsOut : ℕ → ℕ → DeviceState → Bool → Kept → Kept → Type 0
+PutsOut at n state good old new = Puts at (slice_range state.bytes at (at + n)) good old new
 
 -- One flush, which went well or not. It settles all but the stale places, and where it failed, all that wasn't settled may be stale.
 pub record Flushes (good : Bool) (old new : Kept) : Type 0 where

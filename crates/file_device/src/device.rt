@@ -1,11 +1,11 @@
 // A device over a file.
-ghost use Rattle.std.specs.Prelude.{◌≡◌, ◌+◌, ◌-◌, ◌<◌, ◌≤◌, ◌^◌, length, is_ok, slice_range, IsTrue, IfOk, OnOk, IsErr, List, true, false, not, ℕ};
+ghost use Rattle.std.specs.Prelude.{◌≡◌, ◌+◌, ◌-◌, ◌<◌, ◌≤◌, ◌^◌, length, is_ok, IsTrue, IfOk, OnOk, IsErr, List, true, false, not, ℕ};
 ghost use Rattle.save_device.specs.declared.calls.CallKind.TheVariants.{Read};
 ghost use Rattle.save_device.specs.Device.{IsSettled, MayLeave, present, with_calls};
 ghost use Rattle.save_device.specs.Memory.{state_of};
 ghost use Rattle.save_device.specs.Changes.{Put, Settle, IsCall, Makes};
 ghost use Rattle.save_device.specs.Rows.{IsInRange};
-ghost use Rattle.file_device.specs.Kept.{IfKept, BothKept, IsAtRest, IsSaved, IsCurrent, Backs, Marks, Puts, MayLeaveWithin};
+ghost use Rattle.file_device.specs.Kept.{IfKept, BothKept, IsAtRest, IsSaved, IsCurrent, Backs, Marks, Puts, PutsOut, MayLeaveWithin};
 
 use crate::DiskFile;
 use crate::places::Places;
@@ -40,7 +40,7 @@ fn copy_out<F: DiskFile>(mirror: &mut MemoryDevice, file: &mut F, at: usize, n: 
     requires most { n ≤ 4096 }
     requires fits { at + n ≤ length (state_of mirror.old).bytes }
     requires file_fits { IfKept (λ kept. at + n ≤ length kept.bytes) (F.kept file.old) }
-    ensures puts { BothKept (Puts at (slice_range (state_of mirror.old).bytes at (at + n)) result)
+    ensures puts { BothKept (PutsOut at n (state_of mirror.old) result)
         (F.kept file.old) (F.kept file.new) }
     ensures same { present (state_of mirror.new) ≡ present (state_of mirror.old) }
     ensures earlier { (state_of mirror.new).earlier ≡ (state_of mirror.old).earlier }
@@ -85,7 +85,7 @@ impl<F: DiskFile> FileDevice<F> {
         requires fits { at + n ≤ length (state_of self.old.mirror).bytes }
         requires unsettled { (place : ℕ) → IsInRange at n place
             → IsTrue ((state_of self.old.mirror).unsettled place) }
-        ensures puts { BothKept (Puts at (slice_range (state_of self.old.mirror).bytes at (at + n)) result)
+        ensures puts { BothKept (PutsOut at n (state_of self.old.mirror) result)
             (F.kept self.old.file) (F.kept self.new.file) }
         ensures same { present (state_of self.new.mirror) ≡ present (state_of self.old.mirror) }
         ensures earlier { (state_of self.new.mirror).earlier ≡ (state_of self.old.mirror).earlier }
