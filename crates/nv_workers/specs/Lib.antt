@@ -6,5 +6,4 @@ pub mod Lived
 pub mod Marks
 pub mod Opening
 pub mod Savers
-pub mod Serving
 pub mod Steps

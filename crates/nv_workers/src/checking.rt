@@ -4,8 +4,9 @@ ghost use Rattle.line_memory.specs.History.{Recorded};
 ghost use Rattle.line_memory.specs.declared.Write.{Write};
 ghost use Rattle.nv_workers.specs.Ending.{AreChecked, IsBorneOut, IsBorneOutOrPast, IsFirstStranger, IsFirstWithout, IsStranger, StandsIn, StandsOrIsPast, past_below, receipted};
 
-use crate::host::{Receipt, Seen};
+use crate::host::Receipt;
 use line_memory::{History, Write};
+use worker_loops::Seen;
 
 /// What a cut tells. The stored writes go from the number `from` on now, so that receipts with numbers below it and answers given
 /// behind fewer writes need not be kept any more. So many receipts and answers were checked against the writes that were stored

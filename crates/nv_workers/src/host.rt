@@ -22,14 +22,6 @@ pub struct Receipt {
     pub data: Line,
 }
 
-/// A line as it was read after the first `at` accepted writes.
-#[derive(Clone, Copy, Debug, PartialEq, Eq)]
-pub struct Seen {
-    pub line: u64,
-    pub data: Line,
-    pub at: u64,
-}
-
 /// What was got of a line: its bytes or a ticket, and how many writes were accepted before it.
 #[derive(Clone, Copy, Debug, PartialEq, Eq)]
 pub struct GotAt {

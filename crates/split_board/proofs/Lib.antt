@@ -7,3 +7,4 @@ mod Within
 mod Begun
 mod Beginning
 mod ByGate
+mod OwnLines

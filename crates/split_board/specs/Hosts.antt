@@ -5,6 +5,7 @@ use Rattle.save_device.specs.declared.device.SaveDevice.{Ghosts as DeviceGhosts}
 use Rattle.energy_budget.specs.declared.energy.Energy.{Ghosts as GaugeGhosts}
 use Rattle.arm_state.specs.declared.refusal.ReadRefusal.{ReadRefusal}
 use Rattle.arm_state.specs.declared.refusal.WriteRefusal.{WriteRefusal}
+use Rattle.channel_port.specs.declared.answers.Collected.TheVariants.{Data}
 use Rattle.channel_port.specs.declared.answers.Got.{Got}
 use Rattle.channel_port.specs.declared.answers.Got.TheVariants.{Now, Later}
 use Rattle.channel_port.specs.declared.answers.Ticket.{Ticket}
@@ -21,7 +22,14 @@ use Rattle.board_desk.specs.declared.desk.Desk.{Desk}
 use Rattle.board_desk.specs.Answering.{DeskAnswers, IsAskedFor}
 use Rattle.board_desk.specs.Hosting.{HostWritesAtDesk}
 use Rattle.board_desk.specs.Views.{desk_of}
-use Rattle.split_board.specs.Turns.{AwaitsBytes, ServesFirst}
+use Rattle.split_board.specs.Turns.{AwaitsOwn, LooksFor, ServesFirst}
+use Rattle.split_board.specs.declared.claim.Asked.{Asked}
+use Rattle.split_board.specs.declared.claim.Asked.TheVariants as asked
+
+-- behind how many writes it was asked
+abbrev pub asked_at : {B : Type 0} → Asked B → ℕ
+asked_at (asked.Now seen) = seen.at
+asked_at (asked.Later claim) = claim.at
 
 module _ {K D E B : Type 0} (L : Ghosts K) (M : DeviceGhosts D) (N : GaugeGhosts E) (O : BoardGhosts B) (P : PartsGhosts B) where
   -- Under the board's lock and this channel's a write was answered so.
@@ -56,7 +64,7 @@ module _ {K D E B : Type 0} (L : Ghosts K) (M : DeviceGhosts D) (N : GaugeGhosts
     pub asked : IsAskedFor P.make line channel
     pub first : Got
     pub lent : LentForRead channel line (Ok first) at
-    pub serves : ServesFirst L P first told
+    pub serves : ServesFirst L P line at first told
 
   -- the read of a line was refused at its channel
   pub record RefusedAtBoard (line : ℕ) (refusal : ReadRefusal) : Type 0 where
@@ -70,16 +78,22 @@ module _ {K D E B : Type 0} (L : Ghosts K) (M : DeviceGhosts D) (N : GaugeGhosts
   AnswersAskAtBoard line (Ok r) = AsksAtBoard line r.got r.at
   AnswersAskAtBoard line (Err refusal) = RefusedAtBoard line refusal
 
+  -- The same, told as the line that was seen, or as a claim to it.
+  abbrev pub TellsAskAtBoard : ℕ → Result (Asked B) ReadRefusal → Type 0
+  TellsAskAtBoard line (Ok (asked.Now seen)) = (seen.line ≡ line) × AsksAtBoard line (Now seen.data) seen.at
+  TellsAskAtBoard line (Ok (asked.Later claim)) = (claim.line ≡ line) × AsksAtBoard line (Later claim.ticket) claim.at
+  TellsAskAtBoard line (Err refusal) = RefusedAtBoard line refusal
+
   -- a read of a line had this answer at the line's channel
   abbrev pub AnswersReadAtBoard : ℕ → Result GotAt ReadRefusal → Type 0
   AnswersReadAtBoard line (Ok r) = ReadsAtBoard line r.got r.at
   AnswersReadAtBoard line (Err refusal) = RefusedAtBoard line refusal
 
-  -- its bytes were told at once, or are what its ticket had later
+  -- its bytes were told at once, or its ticket had them later, as those of this line behind so many writes
   abbrev pub HasReadLine : ℕ → List ℕ → ℕ → Type 0
-  HasReadLine line bytes at = ReadsAtBoard line (Now bytes) at ⊎ ((ticket : Ticket) × ReadsAtBoard line (Later ticket) at × AwaitsBytes L P ticket (Ok bytes))
+  HasReadLine line bytes at = ReadsAtBoard line (Now bytes) at ⊎ ((ticket : Ticket) × ReadsAtBoard line (Later ticket) at × LooksFor L P ticket (Data line bytes at))
 
   -- it was refused, or was lost while it waited
   abbrev pub HasLostLine : ℕ → ReadRefusal → Type 0
   HasLostLine line refusal =
-      RefusedAtBoard line refusal ⊎ ((ticket : Ticket) × (at : ℕ) × ReadsAtBoard line (Later ticket) at × AwaitsBytes L P ticket (Err refusal))
+      RefusedAtBoard line refusal ⊎ ((ticket : Ticket) × (at : ℕ) × ReadsAtBoard line (Later ticket) at × AwaitsOwn L P ticket line at (Err refusal))

@@ -1,9 +1,10 @@
 -- What a worker and a read that waits do under one channel's lock alone.
-use Rattle.std.specs.Prelude.{◌≡◌, ℕ, ◌<◌, ◌≤◌, List, Result, if◌then◌else◌}
+use Rattle.std.specs.Prelude.{◌≡◌, ◌≢◌, ◌⊎◌, ℕ, ◌<◌, ◌≤◌, Result, Ok, Err, if◌then◌else◌}
 use Rattle.std.specs.Option.{is_some}
 use Rattle.arm_state.specs.declared.refusal.ReadRefusal.{ReadRefusal}
+use Rattle.arm_state.specs.declared.refusal.ReadRefusal.TheVariants as refusals
 use Rattle.channel_port.specs.declared.answers.Collected.{Collected}
-use Rattle.channel_port.specs.declared.answers.Collected.TheVariants.{Unknown}
+use Rattle.channel_port.specs.declared.answers.Collected.TheVariants.{Data, Pending, Unknown}
 use Rattle.channel_port.specs.declared.answers.Got.{Got}
 use Rattle.channel_port.specs.declared.answers.Got.TheVariants.{Now, Later}
 use Rattle.channel_port.specs.declared.answers.Ticket.{Ticket}
@@ -16,9 +17,8 @@ use Rattle.worker_gate.specs.declared.Turn.{Turn}
 use Rattle.worker_loops.specs.declared.shift.Shift.{Ghosts as ShiftGhosts}
 use Rattle.worker_loops.specs.declared.shift.Working.{Working}
 use Rattle.worker_loops.specs.declared.shift.Working.TheVariants.{Worked, Rested, Closed}
-use Rattle.nv_workers.specs.Serving.{told_for}
 use Rattle.worker_loops.specs.declared.turns.Ended.{Ended}
-use Rattle.worker_loops.specs.Lookouts.{EndsWaiting}
+use Rattle.worker_loops.specs.declared.awaiting.Seen.{Seen}
 use Rattle.worker_loops.specs.Shifts.{WorksUntil}
 
 -- how a channel's worker goes on behind its turn
@@ -38,6 +38,16 @@ by_gate says takes = record {
 abbrev pub WorksByGate : (ℕ → ℕ → Turn → Type 0) → (ℕ → Working → Type 0) → ℕ → Ended → Type 0
 WorksByGate says takes worker why = WorksUntil (by_gate says takes) worker why tt tt
 
+-- what there is for a ticket isn't this line's bytes behind so many writes
+abbrev pub IsNotOwn : ℕ → ℕ → Collected → Type 0
+IsNotOwn line at (Data other bytes behind) = (other ≢ line) ⊎ (behind ≢ at)
+IsNotOwn line at answer = Unit {0}
+
+-- A read of this line, behind so many writes, is told the bytes where its ticket has them, and else goes on to wait.
+abbrev pub TellsOwn : ℕ → ℕ → Ticket → Collected → Got → Type 0
+TellsOwn line at ticket answer (Now bytes) = answer ≡ Data line bytes at
+TellsOwn line at ticket answer (Later left) = (left ≡ ticket) × IsNotOwn line at answer
+
 module _ {K B : Type 0} (L : Ghosts K) (P : PartsGhosts B) where
   -- The worker of a channel took one turn under the channel's lock, and goes on so.
   abbrev pub TakesChannelTurn : {G : Type 0} → GateGhosts G → ℕ → G → Working → Type 0
@@ -48,11 +58,13 @@ module _ {K B : Type 0} (L : Ghosts K) (P : PartsGhosts B) where
     pub lent : ticket.channel < 8 → LentServe L P ticket answer
     pub none : 8 ≤ ticket.channel → answer ≡ Unknown
 
-  -- a ticket was answered by these bytes, or there was nothing for it any more
-  abbrev pub AwaitsBytes : Ticket → Result (List ℕ) ReadRefusal → Type 0
-  AwaitsBytes ticket result = EndsWaiting (LooksFor ticket) result
+  -- A read of this line, behind so many writes, was answered by what its ticket had, which was its own; or its ticket has nothing of its
+  -- own any more.
+  abbrev pub AwaitsOwn : Ticket → ℕ → ℕ → Result Seen ReadRefusal → Type 0
+  AwaitsOwn ticket line at (Ok seen) = (seen.line ≡ line) × (seen.at ≡ at) × LooksFor ticket (Data line seen.data at)
+  AwaitsOwn ticket line at (Err refusal) = (refusal ≡ refusals.Closed) × (answer : Collected) × LooksFor ticket answer × (answer ≢ Pending) × IsNotOwn line at answer
 
   -- A read's first answer, and what the host is told once the read was served under its channel's lock.
-  abbrev pub ServesFirst : Got → Got → Type 0
-  ServesFirst (Now bytes) told = told ≡ Now bytes
-  ServesFirst (Later ticket) told = (answer : Collected) × LentServe L P ticket answer × (told ≡ told_for ticket answer)
+  abbrev pub ServesFirst : ℕ → ℕ → Got → Got → Type 0
+  ServesFirst line at (Now bytes) told = told ≡ Now bytes
+  ServesFirst line at (Later ticket) told = (answer : Collected) × LentServe L P ticket answer × TellsOwn line at ticket answer told

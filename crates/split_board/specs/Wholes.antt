@@ -15,7 +15,7 @@ use Rattle.nv_workers.specs.declared.board_name.BoardName.{Ghosts as BoardGhosts
 use Rattle.nv_workers.specs.declared.checking.Cut.{Cut}
 use Rattle.nv_workers.specs.declared.checking.Stranger.{Stranger}
 use Rattle.nv_workers.specs.declared.host.Receipt.{Receipt}
-use Rattle.nv_workers.specs.declared.host.Seen.{Seen}
+use Rattle.worker_loops.specs.declared.awaiting.Seen.{Seen}
 use Rattle.nv_workers.specs.declared.saver.Saving.{Saving}
 use Rattle.nv_workers.specs.declared.saver.Saving.TheVariants.{Began, Stepped, Rested, Closed}
 use Rattle.nv_workers.specs.Ending.{AreChecked, IsStranger}

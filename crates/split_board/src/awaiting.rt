@@ -1,16 +1,16 @@
 // A read that waits.
 use crate::board::Board;
+use crate::claim::Claim;
 use arm_state::ReadRefusal;
 use channel_locks::{ChannelLocks, PartsName};
 use channel_port::{ChannelPort, Collected, Ticket};
 use energy_budget::Energy;
-use line_memory::Line;
 use notice_book::Notices;
-use nv_workers::BoardName;
+use nv_workers::{BoardName, Seen};
 use save_device::SaveDevice;
 use std::sync::Wait;
 use std::thread;
-use worker_loops::{Lookout, await_bytes};
+use worker_loops::{Lookout, await_read};
 
 // What a board lends a read that waits.
 #[derive(Drop)]
@@ -43,14 +43,18 @@ impl<K: ChannelPort, D: SaveDevice, E: Energy, B: BoardName + PartsName, N: Noti
     B,
     N,
 > {
-    ghost use Rattle.split_board.specs.Turns.{AwaitsBytes};
+    ghost use Rattle.split_board.specs.Turns.{AwaitsOwn};
 
-    /// Waits for the bytes of a read that was answered by a ticket. It works the ticket's channel meanwhile, under that channel's
-    /// lock alone, 64 commands at most before it gives way. A loss of mains ends it.
-    pub fn await_line<R: Wait>(&self, rt: &R, ticket: Ticket) -> Result<Line, ReadRefusal>
-        ensures { AwaitsBytes K.ChannelPort B.PartsName ticket result }
+    /// Waits for the read of a claim: its line, as it was when it was asked for. It works the claim's channel meanwhile, under that
+    /// channel's lock alone, 64 commands at most before it gives way. A loss of mains ends it, and it is `Closed` then.
+    pub fn await_line<R: Wait>(&self, rt: &R, claim: Claim<B>) -> Result<Seen, ReadRefusal>
+        ensures { AwaitsOwn K.ChannelPort B.PartsName claim.ticket claim.line claim.at result }
     {
         let channels = &self.channels;
-        await_bytes(rt, &mut TicketLookout { rt, channels }, ticket)
+        let seen = await_read(rt, &mut TicketLookout { rt, channels }, claim.ticket)?;
+        if seen.line != claim.line || seen.at != claim.at {
+            return Err(ReadRefusal::Closed);
+        }
+        Ok(seen)
     }
 }

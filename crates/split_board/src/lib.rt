@@ -8,6 +8,7 @@
 mod awaiting;
 mod board;
 mod calling;
+mod claim;
 mod cutting;
 mod dealing;
 mod ending;
@@ -22,6 +23,7 @@ mod working;
 mod writing;
 
 pub use board::Board;
+pub use claim::{Asked, Claim};
 pub use ending::{NotClosed, close};
 pub use locked_desk::LockedDesk;
 pub use saving::saver_worker;

@@ -2,11 +2,11 @@
 ghost use Rattle.std.specs.Prelude.{◌≡◌, ◌<◌, IfErr, IfOk, Err, Ok};
 ghost use Rattle.board_desk.specs.Answering.{IsAskedFor, IsTicketOf};
 ghost use Rattle.nv_workers.specs.Client.{SeesNoLess};
-ghost use Rattle.nv_workers.specs.Serving.{told_for};
-ghost use Rattle.split_board.specs.Turns.{ServesFirst};
-ghost use Rattle.split_board.specs.Hosts.{AnswersAskAtBoard, AnswersReadAtBoard, HasLostLine, HasReadLine};
+ghost use Rattle.split_board.specs.Turns.{ServesFirst, TellsOwn};
+ghost use Rattle.split_board.specs.Hosts.{AnswersAskAtBoard, AnswersReadAtBoard, HasLostLine, HasReadLine, TellsAskAtBoard, asked_at};
 
 use crate::board::Board;
+use crate::claim::{Asked, Claim};
 use crate::locked_desk::LockedDesk;
 use arm_state::ReadRefusal;
 use channel_locks::{ChannelName, PartsName, Slot, take_lock};
@@ -15,26 +15,36 @@ use energy_budget::Energy;
 use notice_book::Notices;
 use nv_workers::{BoardName, GotAt, Host, Seen};
 use save_device::SaveDevice;
+use std::marker::PhantomData;
 use std::sync::{Mutex, Wait};
 
-// What a host is told by what there is for its ticket.
-fn told_for(ticket: Ticket, answer: Collected) -> Got
-    ensures { result ≡ told_for ticket answer }
+// What a host that asked for a line, behind so many writes, is told by what there is for its ticket.
+fn told_for(line: u64, at: u64, ticket: Ticket, answer: Collected) -> Got
+    ensures { TellsOwn line at ticket answer result }
 {
     match answer {
-        Collected::Data { bytes, .. } => Got::Now(bytes),
-        Collected::Pending | Collected::Unknown => Got::Later(ticket),
+        Collected::Data {
+            line: other,
+            bytes,
+            at: behind,
+        } if other == line && behind == at => Got::Now(bytes),
+        _ => Got::Later(ticket),
     }
 }
 
 // Serves a read that has to wait, under the lock of its channel.
-fn served<K: ChannelPort, B: PartsName, C: ChannelName>(slot: &mut Slot<K, B, C>, got: Got) -> Got
+fn served<K: ChannelPort, B: PartsName, C: ChannelName>(
+    slot: &mut Slot<K, B, C>,
+    line: u64,
+    at: u64,
+    got: Got,
+) -> Got
     requires { IsTicketOf C.NUMBER got }
-    ensures { ServesFirst K.ChannelPort B.PartsName got result }
+    ensures { ServesFirst K.ChannelPort B.PartsName line at got result }
 {
     match got {
         Got::Now(_) => got,
-        Got::Later(ticket) => told_for(ticket, slot.serve(ticket)),
+        Got::Later(ticket) => told_for(line, at, ticket, slot.serve(ticket)),
     }
 }
 
@@ -98,7 +108,7 @@ where
     match desk.read_in(&mut *slot, host, line) {
         Ok(GotAt { got, at }) => {
             drop(locked);
-            let got = served(&mut *slot, got);
+            let got = served(&mut *slot, line, at, got);
             Ok(GotAt { got, at })
         }
         Err(refusal) => Err(refusal),
@@ -142,7 +152,7 @@ impl<K: ChannelPort, D: SaveDevice, E: Energy, B: BoardName + PartsName, N: Noti
         }
     }
 
-    /// Reads a line for a host, and waits for the answer. The board's lock and the line's channel's are taken; the board's is let
+    /// Reads a line for a host, and waits for the answer: its own line, behind the writes that were accepted before it was asked for. The board's lock and the line's channel's are taken; the board's is let
     /// go once the read was answered. Where it has to wait its channel is worked under its lock alone, 64 commands at most before
     /// the lock is let go, again and again.
     pub fn read<R: Wait>(&self, rt: &R, host: &mut Host<B>, line: u64) -> Result<Seen, ReadRefusal>
@@ -159,15 +169,23 @@ impl<K: ChannelPort, D: SaveDevice, E: Energy, B: BoardName + PartsName, N: Noti
         let GotAt { got, at } = self.read_on(rt, channel, host, line)?;
         match got {
             Got::Now(data) => Ok(Seen { line, data, at }),
-            Got::Later(ticket) => match self.await_line(rt, ticket) {
-                Ok(data) => Ok(Seen { line, data, at }),
-                Err(refusal) => Err(refusal),
-            },
+            Got::Later(ticket) => {
+                let of = PhantomData;
+                self.await_line(
+                    rt,
+                    Claim {
+                        ticket,
+                        line,
+                        at,
+                        of,
+                    },
+                )
+            }
         }
     }
 
-    /// Asks for a line and goes on: the bytes, or a ticket for `await_line`, and how many writes were accepted before it.
-    pub fn ask<R: Wait>(&self, rt: &R, host: &mut Host<B>, line: u64) -> Result<GotAt, ReadRefusal>
+    // Asks for a line at its channel.
+    fn ask_on<R: Wait>(&self, rt: &R, host: &mut Host<B>, line: u64) -> Result<GotAt, ReadRefusal>
         ensures asked { AnswersAskAtBoard K.ChannelPort D.SaveDevice E.Energy B.BoardName.own
             B.PartsName.own line result }
         ensures at { IfOk result (λ r. r.at ≡ host.new.accepted) }
@@ -185,6 +203,32 @@ impl<K: ChannelPort, D: SaveDevice, E: Energy, B: BoardName + PartsName, N: Noti
             6 => ask_at(rt, desk, &channels.six, host, line),
             7 => ask_at(rt, desk, &channels.seven, host, line),
             _ => unreachable!(),
+        }
+    }
+
+    /// Asks for a line and goes on: the line as it was read, or a claim to it for `await_line`.
+    pub fn ask<R: Wait>(
+        &self,
+        rt: &R,
+        host: &mut Host<B>,
+        line: u64,
+    ) -> Result<Asked<B>, ReadRefusal>
+        ensures asked { TellsAskAtBoard K.ChannelPort D.SaveDevice E.Energy B.BoardName.own
+            B.PartsName.own line result }
+        ensures at { IfOk result (λ a. asked_at a ≡ host.new.accepted) }
+        ensures rises { SeesNoLess host.old host.new }
+        ensures writes { host.new.writes ≡ host.old.writes }
+    {
+        let GotAt { got, at } = self.ask_on(rt, host, line)?;
+        let of = PhantomData;
+        match got {
+            Got::Now(data) => Ok(Asked::Now(Seen { line, data, at })),
+            Got::Later(ticket) => Ok(Asked::Later(Claim {
+                ticket,
+                line,
+                at,
+                of,
+            })),
         }
     }
 }

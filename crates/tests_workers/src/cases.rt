@@ -6,6 +6,7 @@ use crate::alone::{
     end_armed, end_with_strangers, end_workers, lose_armed, save_by_hand, work_by_turns,
     write_armed, write_disarmed,
 };
+use crate::claims::{end_seen, wait_side_by_side};
 use crate::cuts::{
     cut_behind_saves, cut_beside_strangers, cut_in_each_mode, end_behind_cuts, end_cut_off,
 };
@@ -46,6 +47,7 @@ enum Case {
     Modes,
     Ends,
     Strange,
+    Waits,
     Apart,
     Parted,
     Held,
@@ -98,6 +100,7 @@ where
         Case::Modes => save_by_hand(rt, &board, &mut first[0]),
         Case::Goes => work_by_turns(rt, &board, &mut first[0]),
         Case::Strange => write_armed(rt, &board, &mut first[0]),
+        Case::Waits => wait_side_by_side(rt, &board, &mut first[0], &mut rest[0]),
         Case::Cuts => cut_behind_saves(rt, &board, &mut first[0]),
         Case::CutModes => cut_in_each_mode(rt, &board, &mut first[0]),
         Case::CutStrange => cut_beside_strangers(rt, &board, &mut first[0]),
@@ -105,6 +108,7 @@ where
     }
     match case {
         Case::Strange => end_armed(rt, board, hosts),
+        Case::Waits => end_seen(rt, board, hosts),
         Case::Cuts => end_behind_cuts(rt, board, hosts),
         Case::CutModes | Case::CutStrange => end_cut_off(rt, board, hosts),
         _ => end_with_strangers(rt, board, hosts),
@@ -223,6 +227,11 @@ fn workers_end(rt: HostRuntime) {
 #[test]
 fn a_stranger_leaves_the_board(rt: HostRuntime) {
     try_case(&rt, rt.alloc(), Case::Strange);
+}
+
+#[test]
+fn two_hosts_wait_on_one_channel(rt: HostRuntime) {
+    try_case(&rt, rt.alloc(), Case::Waits);
 }
 
 #[test]

@@ -13,6 +13,8 @@ mod cases;
 #[cfg(test)]
 mod check;
 #[cfg(test)]
+mod claims;
+#[cfg(test)]
 mod cuts;
 #[cfg(test)]
 mod ends;

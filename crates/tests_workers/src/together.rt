@@ -3,13 +3,14 @@ ghost use Rattle.std.specs.Prelude.{◌≡◌};
 
 use crate::cases::{CHANNELS, LINES, write_of};
 use crate::check::same;
+use crate::claims::claim_to;
 use crate::gates::{HeldUntil, OtherFirst};
 use arm_state::{Loss, ReadRefusal};
 use channel_locks::PartsName;
-use channel_port::{ChannelPort, Got, Ticket};
+use channel_port::ChannelPort;
 use energy_budget::Energy;
 use notice_book::Notices;
-use nv_workers::{Always, BoardName, Ended, GotAt, Host, Seen};
+use nv_workers::{Always, BoardName, Ended, Host, Seen};
 use save_device::SaveDevice;
 use split_board::{Board, channel_worker, saver_worker};
 use std::process::Abort;
@@ -97,32 +98,6 @@ where
     )
 }
 
-// The ticket of a line that no channel has read yet.
-fn ticket_of<K, D, E, B, N, R>(
-    rt: &R,
-    board: &Board<K, D, E, B, N>,
-    host: &mut Host<B>,
-    line: u64,
-) -> Ticket
-where
-    K: ChannelPort + Drop,
-    D: SaveDevice + Drop,
-    E: Energy + Drop,
-    B: BoardName + PartsName,
-    N: Notices,
-    R: Wait + Abort,
-{
-    match board.ask(rt, host, line) {
-        Ok(
-            GotAt {
-                got: Got::Later(ticket),
-                at: 0,
-            },
-        ) => ticket,
-        _ => panic!(*rt; "a ticket"),
-    }
-}
-
 // Reads line after line until mains are lost: was each answer before the lines' zeros?
 fn read_until_lost<K, D, E, B, N, R>(
     rt: &R,
@@ -151,7 +126,7 @@ where
     false
 }
 
-/// A host that reads on while no worker goes, and a saver that goes on, end by a loss of mains. A ticket that was lost with them is
+/// A host that reads on while no worker goes, and a saver that goes on, end by a loss of mains. A claim that was lost with them is
 /// answered at once.
 pub(crate) fn lose_threads<K, D, E, B, N, R>(
     rt: &R,
@@ -167,7 +142,7 @@ where
     R: Threads + Wait + Clock + Abort + Copy + Send + Sync,
     requires { CHANNELS ≡ B.channels }
 {
-    let left = ticket_of(rt, board, &mut host, 6);
+    let left = claim_to(rt, board, &mut host, 6);
     let (zeros, lost) = thread::join(
         rt,
         || -> bool { read_until_lost(rt, board, &mut host) },
@@ -180,7 +155,7 @@ where
     same(rt, board.read(rt, &mut host, 5), Err(ReadRefusal::Closed));
 }
 
-/// A read is served while the gate holds each worker. A line that is asked for is awaited, once.
+/// A read is served while the gate holds each worker. A line that is asked for is awaited.
 pub(crate) fn read_beside_held<K, D, E, B, N, R>(
     rt: &R,
     board: &Board<K, D, E, B, N>,
@@ -214,7 +189,7 @@ where
     };
     same(rt, (ended, seen), (Ended::Stopped, Ok(zeros)));
     same(rt, gate.is_late(), false);
-    let asked = ticket_of(rt, board, &mut host, 7);
-    same(rt, board.await_line(rt, asked), Ok([0; 64]));
-    same(rt, board.await_line(rt, asked), Err(ReadRefusal::Closed));
+    let asked = claim_to(rt, board, &mut host, 7);
+    let seen = Seen { line: 7, ..zeros };
+    same(rt, board.await_line(rt, asked), Ok(seen));
 }

@@ -1,5 +1,5 @@
 //! The loops of threads that work for others, over whatever they are lent: a worker's turns at a gate (`take_turns`, lent a
-//! `Shift`), and a read that waits for its bytes (`await_bytes`, lent a `Lookout`). Between two turns a thread gives way.
+//! `Shift`), and a read that waits (`await_read`, lent a `Lookout`). Between two turns a thread gives way.
 #![tactic(auto)]
 
 mod awaiting;
@@ -8,7 +8,7 @@ mod lookout;
 mod shift;
 mod turns;
 
-pub use awaiting::await_bytes;
+pub use awaiting::{Seen, await_read};
 pub use idle::give_way;
 pub use lookout::Lookout;
 pub use shift::{Shift, Working};

@@ -1,6 +1,6 @@
 use Rattle.std.proofs.Common.{suc, subst}
 use Rattle.channel_port.specs.declared.answers.Collected.{Collected}
-use Rattle.worker_loops.proofs.awaiting.await_bytes.Goals as goal
+use Rattle.worker_loops.proofs.awaiting.await_read.Goals as goal
 
 pub loop-preserved : goal.loop-preserved
 loop-preserved g c =
