@@ -1,6 +1,6 @@
 -- What becomes of the reads that wait on a channel.
-use Rattle.std.proofs.Common.{List, Option, None, Some, [], ap, drop, inl, inr, refl, subst, suc, sym, take, true, zero, ℕ, ◌∙◌, ◌∷◌, ◌≡◌, ◌⊎◌, ⊎_elim}
-use Rattle.std.specs.Prelude.{insert, remove, slice_get, slice_set}
+use Rattle.std.proofs.Common.{List, Option, None, Some, [], ap, inl, inr, refl, subst, suc, sym, true, zero, ℕ, ◌∙◌, ◌∷◌, ◌≡◌, ◌⊎◌, ⊎_elim}
+use Rattle.std.specs.Prelude.{insert, remove, slice_set}
 use Rattle.std.proofs.lemmas.Option.{same_Some}
 use Rattle.channel_port.specs.Answers.{IsCollected, IsServed}
 use Rattle.channel_port.specs.Waits.{Has, OpenRead, Waits}
@@ -63,34 +63,41 @@ pub no_reads : (old new : Waits) → new.reads ≡ [] → Remains old new
 no_reads old new none read has = absurd (let found = subst (Has read) none has in let bad : ⊥ = (let at = found.1 in cc) in bad)
 
 pub collected_remains : (ticket : Ticket) (answer : Collected) (old new : Waits) → IsCollected ticket answer old new → Remains old new
-collected_remains ticket (Collected.Data line bytes at) old new (goes, writes, given) read has = still old read (stood_before read goes.0 old.reads (subst (Has read) goes.2 has))
+collected_remains ticket (Collected.Data line bytes at) old new (goes, writes, given) = λ read has. still old read (stood_before read goes.0 old.reads (subst (Has read) goes.2 has))
 collected_remains ticket Collected.Pending old new is = same_reads old new (ap (λ (w : Waits). w.reads) is.4)
 collected_remains ticket Collected.Unknown old new is = same_reads old new (ap (λ (w : Waits). w.reads) is.1)
 
 pub served_remains : (hold : Option ℕ) (channel : ℕ) (s : Option Served) (old new : Waits) → IsServed hold channel s old new → Remains old new
 served_remains hold channel None old new is = same_reads old new (ap (λ (w : Waits). w.reads) is)
 served_remains hold channel (Some (Served.Write number)) old new is = same_reads old new is.reads
-served_remains hold channel (Some (Served.Read ticket)) old new is read has =
+served_remains hold channel (Some (Served.Read ticket)) old new is = λ read has.
     ⊎_elim
-    (λ (same : read ≡ record is.read { answered = true }). (is.read, (is.place, is.stands), record {
-      ticket = ap (λ (r : OpenRead). r.ticket) same;
-      line = ap (λ (r : OpenRead). r.line) same;
-      bytes = ap (λ (r : OpenRead). r.bytes) same;
-      at = ap (λ (r : OpenRead). r.at) same;
-    }))
+    (λ (same : read ≡ record is.read { answered = true }). (
+      is.read,
+      (is.place, is.stands),
+      record {
+        ticket = ap (λ (r : OpenRead). r.ticket) same;
+        line = ap (λ (r : OpenRead). r.line) same;
+        bytes = ap (λ (r : OpenRead). r.bytes) same;
+        at = ap (λ (r : OpenRead). r.at) same;
+      },
+    ))
     (λ before. still old read before)
     (set_or_before (record is.read { answered = true }) read is.place old.reads (subst (Has read) is.reads has))
 
 pub remains_on : (first mid last : Waits) → Remains first mid → Remains mid last → Remains first last
 remains_on first mid last old new read has =
     let (there, had, same) = new read has in
-    let (before, first_had, first_same) = old there had in
-    (before, first_had, record {
-      ticket = same.ticket ∙ first_same.ticket;
-      line = same.line ∙ first_same.line;
-      bytes = same.bytes ∙ first_same.bytes;
-      at = same.at ∙ first_same.at;
-    })
+    let (before, first_had, first_same) = old there had in (
+      before,
+      first_had,
+      record {
+        ticket = same.ticket ∙ first_same.ticket;
+        line = same.line ∙ first_same.line;
+        bytes = same.bytes ∙ first_same.bytes;
+        at = same.at ∙ first_same.at;
+      },
+    )
 
 own_remains : (channel : ℕ) (told : Told) (old new : Waits) → OwnStep channel told old new → Remains old new
 own_remains channel told old new = ⊎_elim (λ serves. served_remains told.hold channel (Some serves.served) old new serves.is) (λ collects. collected_remains collects.ticket (Collected.Data collects.line collects.bytes collects.at) old new collects.is)
@@ -109,6 +116,6 @@ pub remains_has : (base : List (List ℕ)) (written : List Numbered) (old new : 
 remains_has base written old new remains have read has =
     let (before, had, same) = remains read has in
     same.bytes ∙ have before had ∙ ap (λ at. line_at at before.line) (sym same.at) ∙ ap (λ line. line_at read.at line) (sym same.line)
-    where
-      line_at : ℕ → ℕ → List ℕ
-      line_at at line = line_of (after base (writes_of (below at written))) line
+  where
+    line_at : ℕ → ℕ → List ℕ
+    line_at at line = line_of (after base (writes_of (below at written))) line

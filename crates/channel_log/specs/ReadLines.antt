@@ -6,8 +6,8 @@ use Rattle.line_memory.specs.declared.parts.Numbered.{Numbered}
 use Rattle.channel_port.specs.Waits.{Has, OpenRead}
 use Rattle.channel_log.specs.Log.{Told}
 
--- The line has these bytes behind so many writes of the life, which began with this memory: those below that number that lie on the
--- line's channel made them.
+-- The line has these bytes behind so many writes of a life that began with this memory. The writes that are told are those on the
+-- line's channel: no other one can have made the line.
 abbrev pub IsLineBehind : List (List ℕ) → List Numbered → ℕ → ℕ → List ℕ → Type 0
 IsLineBehind base written line at bytes = bytes ≡ line_of (after base (writes_of (below at written))) line
 
