@@ -23,7 +23,7 @@ stood_before x (suc i) (y ∷ xs) (zero, at) = (zero, at)
 stood_before x (suc i) (y ∷ xs) (suc k, at) = let (j, there) = stood_before x i xs (k, at) in (suc j, there)
 
 -- what stands in a list that one joined is that one, or stood there before
-joined_or_before : {X : Type 0} (x y : X) (i : ℕ) (xs : List X) → Has y (insert xs i x) → (y ≡ x) ⊎ Has y xs
+pub joined_or_before : {X : Type 0} (x y : X) (i : ℕ) (xs : List X) → Has y (insert xs i x) → (y ≡ x) ⊎ Has y xs
 joined_or_before x y zero xs (zero, at) = inl (sym (same_Some x y at))
 joined_or_before x y zero xs (suc k, at) = inr (k, at)
 joined_or_before x y (suc i) [] (zero, at) = inl (sym (same_Some x y at))

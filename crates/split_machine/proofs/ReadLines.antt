@@ -73,7 +73,7 @@ module _ (setup : Setup) (old new : World) where
 
   got_goes : (line : ℕ) (got : Got) → IsGot (line_of (memory_of m) line) line (all_of m) (setup.shape.channel_of line) got m.waits new.machine.waits → Goes
   got_goes line (Got.Now given) is = same (ap (λ (w : Waits). w.reads) is.1)
-  got_goes line (Got.Later ticket) (here, new_one, joins, rest) read has =
+  got_goes line (Got.Later ticket) (here, fresh, joins, writes, never, given) = λ read has.
       ⊎_elim
       (λ (is : read ≡ open_read ticket line (line_of (memory_of m) line) (all_of m) false). inr (record {
         at = ap (λ (r : OpenRead). r.at) is;
@@ -173,14 +173,18 @@ module _ (setup : Setup) where
       (λ (fresh : IsFresh setup old.machine read). fresh_has old.machine new.machine (added event reply) keeps.opened keeps.writes setup read fresh)
       (event_goes setup old new event reply step read has)
 
+  -- the cut is nothing to a read
+  cut_has : (m : Machine) (cut : ℕ) → ReadsHaveTheirLines setup.shape.channel_of m → ReadsHaveTheirLines setup.shape.channel_of (record m { cut = cut })
+  cut_has m cut have read has = let it = have read has in record { from = it.from; to = it.to; bytes = it.bytes; here = it.here }
+
   -- a run leaves it so
   pub run_has : (events : List Event) (replies : List Reply) (old new : World) → Run setup events replies old new → IsGuarded old.machine → ReadsHaveTheirLines setup.shape.channel_of old.machine → ReadsHaveTheirLines setup.shape.channel_of new.machine
-  run_has [] [] old new run guarded have = subst (λ (w : World). ReadsHaveTheirLines setup.shape.channel_of w.machine) (sym run.is) have
+  run_has [] [] old new run guarded have = subst (λ (w : World). ReadsHaveTheirLines setup.shape.channel_of w.machine) (sym run.is) (cut_has old.machine new.machine.cut have)
   run_has (event ∷ events) (reply ∷ replies) old new run guarded have =
       let before = paused run.1.pause old in
       let calm : IsGuarded before.machine = guarded_cut old.machine run.1.pause.cut run.1.may.cut guarded in
       run_has events replies run.0 new run.2 (guarded_event setup event reply before run.0 run.1.happens.step calm)
-      (event_has event reply before run.0 run.1.happens.step calm have)
+      (event_has event reply before run.0 run.1.happens.step calm (cut_has old.machine run.1.pause.cut have))
   run_has _ _ old new none guarded have = absurd none
 
   -- so each read of a life so far has its line

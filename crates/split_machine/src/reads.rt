@@ -1,5 +1,5 @@
 // What the open reads of a life have.
-ghost use Rattle.std.specs.Prelude.{◌<◌, ℕ, List, length, slice_index_or};
+ghost use Rattle.std.specs.Prelude.{◌<◌, ℕ, List, [], length, slice_index_or};
 ghost use Rattle.channel_log.specs.Log.{LogNote, log_tells};
 ghost use Rattle.channel_log.specs.ReadLines.{ReadsHaveLines};
 ghost use Rattle.nv_machine.specs.Lives.{LivedUntil};
