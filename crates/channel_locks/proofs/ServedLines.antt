@@ -14,7 +14,7 @@ use Rattle.channel_port.specs.declared.answers.Done.{Done}
 use Rattle.channel_port.specs.declared.answers.Ticket.{Ticket}
 use Rattle.channel_port.specs.declared.port.ChannelPort.{Ghosts}
 use Rattle.channel_locks.specs.Alone.{CollectsAlone, ServesAlone, WorksAlone, WorksForTimes, WorksPart}
-use Rattle.channel_locks.specs.Lent.{HasLineTold}
+use Rattle.channel_locks.specs.Lent.{GivesItsLine}
 use Rattle.channel_locks.specs.Slots.{IsPartWhereDue}
 use Rattle.channel_locks.specs.declared.parts_name.PartsName.{Ghosts as NameGhosts}
 
@@ -39,7 +39,7 @@ module _ {K B : Type 0} (L : Ghosts K) (O : NameGhosts B) where
 
   -- no read comes in where the channel is worked, or asked for a ticket
   worked_remains : (done : Option Done) (old new : Lent) → WorksAlone L done old new → RemainsIn old new
-  worked_remains done None new (none, gone) = same_part None new gone
+  worked_remains some None new (none, gone) = same_part None new gone
   worked_remains done (Some old) new (later, is, works) = subst (λ (part : Lent). RemainsIn (Some old) part) (sym is) (part_worked done old later works)
 
   asked_remains : (ticket : Ticket) (answer : Collected) (old new : Lent) → CollectsAlone L ticket answer old new → RemainsIn old new
@@ -59,7 +59,7 @@ module _ {K B : Type 0} (L : Ghosts K) (O : NameGhosts B) where
 
     -- each read of the part has its line
     due_has : (part : Lent) → IsPartWhereDue L O part channel log → (read : OpenRead) → Has read (waits_in_part part).reads → IsLine read
-    due_has None due read has = absurd (let at = has.1 in let bad : ⊥ = cc in bad)
+    due_has None due = λ read has. absurd (let at = has.1 in let bad : ⊥ = cc in bad)
     due_has (Some part) due =
         remains_has O.base (log_tells log).written (log_tells log).waits (L.view part.port).waits (came_remains channel (log_tells log) (L.view part.port).waits due.1.stands.port.came) due.1.reads
 
@@ -69,7 +69,7 @@ module _ {K B : Type 0} (L : Ghosts K) (O : NameGhosts B) where
     collected_has ticket line at bytes None new have (unknown, gone) = absurd (let bad : ⊥ = cc in bad)
     collected_has ticket line at bytes (Some part) new have (later, is, asked) = let (place, stands, rest) = asked.collected.0 in have (open_read ticket line bytes at true) (place, stands)
 
-    pub served_line : (ticket : Ticket) (answer : Collected) (old new : Lent) → ∥ IsPartWhereDue L O old channel log ∥₁ → ServesAlone L ticket answer old new → HasLineTold O.base (log_tells log).written answer
+    pub served_line : (ticket : Ticket) (answer : Collected) (old new : Lent) → ∥ IsPartWhereDue L O old channel log ∥₁ → ServesAlone L ticket answer old new → GivesItsLine O.base (log_tells log) answer
     served_line ticket (Collected.Data line bytes at) old new due serves =
         ∥∥₁_elim due (hlevel props) (λ d.
         collected_has ticket line at bytes serves.worked new
