@@ -1,20 +1,17 @@
 -- Each open read of a life has its line.
-use Rattle.std.proofs.Common.{List, Option, None, Some, Result, Ok, Err, [], ap, arith, drop, false, inl, inr, length, refl, subst, suc, sym, take, true, zero, ℕ, ◌+◌, ◌++◌, ◌-◌, ◌<◌, ◌∙◌, ◌∷◌, ◌≡◌, ◌≤◌, ◌⊎◌, ⊎_elim}
-use Rattle.std.specs.Prelude.{Bool, MatchBool, if◌then◌else◌, insert, remove, slice_get, slice_index_or, slice_set}
+use Rattle.std.proofs.Common.{List, None, Some, Ok, Err, [], ap, arith, false, inl, inr, length, refl, subst, sym, take, true, ℕ, ◌+◌, ◌++◌, ◌-◌, ◌<◌, ◌∙◌, ◌∷◌, ◌≡◌, ◌≤◌, ◌⊎◌, ⊎_elim}
+use Rattle.std.specs.Prelude.{Bool, MatchBool, if◌then◌else◌, slice_index_or}
 use Rattle.std.proofs.Math.Seq.{take-length}
 use Rattle.std.proofs.lemmas.List.{length-append, take-append-le}
-use Rattle.std.proofs.lemmas.Option.{same_Some}
 use Rattle.arm_state.specs.declared.loss.Loss.{Loss}
 use Rattle.arm_state.specs.declared.refusal.ArmRefusal.{ArmRefusal}
 use Rattle.arm_state.specs.declared.refusal.ArmReply.{ArmReply}
 use Rattle.arm_state.specs.declared.refusal.DisarmReply.{DisarmReply}
 use Rattle.arm_state.specs.Modes.{reads_gauge}
-use Rattle.channel_port.specs.Answers.{IsCollected, IsGot, IsServed, open_read}
+use Rattle.channel_port.specs.Answers.{IsGot, open_read}
 use Rattle.channel_port.specs.Draining.{DrainOrder}
 use Rattle.channel_port.specs.Waits.{Has, OpenRead, Waits}
-use Rattle.channel_port.specs.declared.answers.Collected.{Collected}
 use Rattle.channel_port.specs.declared.answers.Got.{Got}
-use Rattle.channel_port.specs.declared.answers.Served.{Served}
 use Rattle.channel_port.specs.declared.answers.Ticket.{Ticket}
 use Rattle.channel_log.specs.Log.{LogNote, Told, log_tells}
 use Rattle.channel_log.specs.ReadLines.{ReadsHaveLines}
