@@ -1,19 +1,22 @@
 -- What is known behind a channel's lock of its part, and behind the board's of what is out on all channels.
 use Rattle.std.proofs.Common.{None, List, Option, Some, [], arith, subst, sym, length, ℕ, ◌++◌, ◌∙◌, ◌∷◌, ◌≡◌, ◌≤◌}
 use Rattle.std.proofs.Math.Bridge.{le_prop}
-use Rattle.std.proofs.Math.Logic.{∥∥₁_elim, ∥∥₁_map}
+use Rattle.std.proofs.Math.Logic.{∥∥₁_elim, ∥∥₁_map, ∥∥₁_prop}
+use Rattle.std.specs.Prelude.{slice_index_or}
 use Rattle.std.proofs.Math.Nat.{ℕ_set}
 use Rattle.channel_locks.specs.declared.parts_name.PartsName.{Ghosts as PartsGhosts}
 use Rattle.channel_locks.specs.PortMakes.{make_of}
 use Rattle.channel_locks.specs.Slots.{IsPartWhereDue}
 use Rattle.channel_log.specs.Between.{CameOf}
 use Rattle.channel_log.specs.Log.{IsLog, IsLogOf, LogNote, MayFollow, credits_of, credits_out, log_tells, note_of}
+use Rattle.channel_log.specs.ReadLines.{ReadsHaveLines}
 use Rattle.channel_log.specs.declared.entry.LogEntry.{LogEntry}
 use Rattle.channel_part.specs.declared.part.Part.{Part}
 use Rattle.channel_part.specs.Stands.{PartStands, StandsNoted, queue_of, returned_of}
 use Rattle.channel_port.specs.declared.port.ChannelPort.{Ghosts}
 use Rattle.channel_port.specs.Waits.{Waits}
 use Rattle.nv_machine.specs.State.{Machine}
+use Rattle.split_machine.proofs.ReadLines.{lived_has, logs_have}
 use Rattle.split_machine.proofs.ToldOf.{credits_told}
 use Rattle.split_machine.specs.OwnEvents.{looked}
 use Rattle.split_machine.specs.Telling.{laid_out, waits_told}
@@ -21,12 +24,19 @@ use Rattle.split_module.specs.Lending.{LooksAt, SplitStands}
 use Rattle.split_module.specs.declared.front.SplitFront.{SplitFront}
 use Rattle.board_desk.proofs.Settled.{settled}
 use Rattle.board_desk.specs.Answering.{SeesOwn}
-use Rattle.board_desk.specs.Desk.{DeskStands, DeskView, setup_at, shape_at}
+use Rattle.board_desk.specs.Desk.{DeskStands, DeskView, setup_at, shape_at, world_at}
 
 module _ {B : Type 0} (P : PartsGhosts B) where
   -- as many credits are out as the logs tell
   pub out_told : (desk : DeskView) → ∥ ((m : Machine) × DeskStands P desk m) ∥₁ → desk.split.out ≡ credits_out desk.logs
   out_told desk stands = ∥∥₁_elim stands (ℕ_set _ _) (λ s. s.1.stands.out ∙ sym (credits_told (setup_at P desk) s.0 desk.logs s.1.stands.told))
+
+  -- each read that a log of the desk tells to wait has its line
+  pub told_reads : (desk : DeskView) (channel : ℕ) (log : List LogNote) → ∥ ((m : Machine) × DeskStands P desk m) ∥₁ → IsLogOf desk.logs channel log → ∥ ReadsHaveLines P.base (log_tells log) ∥₁
+  told_reads desk channel log stands of = ∥∥₁_map stands (λ s.
+      subst (λ (l : List LogNote). ReadsHaveLines P.base (log_tells l)) of.same
+      (subst (λ base. ReadsHaveLines base (log_tells (slice_index_or desk.logs channel []))) s.1.base
+      (logs_have (setup_at P desk) s.0 desk.logs channel s.1.stands.told (lived_has (setup_at P desk) (world_at desk s.0) s.1.lived) of.there)))
 
   module _ {K : Type 0} (L : Ghosts K) where
     -- a part is that of its log
@@ -54,10 +64,12 @@ module _ {B : Type 0} (P : PartsGhosts B) where
         let credits = credits_due part channel log due in
         omega (arith, out, credits, few)
 
-    -- a part with one note more is the log's
+    -- a part with one note more is the log's, where the reads that are told then have their lines
     pub due_noted : (entry : LogEntry) (part later : Part K L) (channel : ℕ) (log : List LogNote) → StandsNoted L entry part later → IsLog log → MayFollow log entry → make_of (L.view later.port) ≡ make_of (L.view part.port)
+        → ∥ ReadsHaveLines P.base (log_tells (log ++ note_of entry (L.view later.port).waits ∷ [])) ∥₁
         → IsDue part channel log → IsDue later channel (log ++ note_of entry (L.view later.port).waits ∷ [])
-    due_noted entry part later channel log noted log_is follows made due = ∥∥₁_map due (λ h. (h.0, record { stands = noted channel P.base log h.1.stands log_is follows; made = made ∙ h.1.made }))
+    due_noted entry part later channel log noted log_is follows made reads due =
+        ∥∥₁_elim reads ∥∥₁_prop (λ has. ∥∥₁_map due (λ h. (h.0, record { stands = noted channel P.base log h.1.stands log_is follows; made = made ∙ h.1.made; reads = has })))
 
     -- a channel that was looked at
     pub goes_on : (old : DeskView) (split : SplitFront) (part later : Part K L) (channel : ℕ) (log : List LogNote) → LooksAt L old.split part split later → split.front ≡ old.split.front → split.costs ≡ old.split.costs

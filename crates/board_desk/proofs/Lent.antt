@@ -51,6 +51,7 @@ module _ {K B : Type 0} (L : Ghosts K) (P : PartsGhosts B) where
       let lent : IsLent L P (log_tells log) number part.port = record {
         stands = stands.port;
         waits = ready.1;
+        reads = due.1.reads;
         stage = λ going. part.mains (stands.ended ∙ going);
       } in
       record {

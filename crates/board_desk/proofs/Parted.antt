@@ -13,15 +13,17 @@ use Rattle.channel_locks.specs.PortMakes.{PortMake, make_of}
 use Rattle.channel_locks.specs.declared.parts_name.PartsName.{Ghosts as PartsGhosts}
 use Rattle.arm_state.specs.declared.loss.Loss.{Loss}
 use Rattle.channel_log.specs.Log.{LogNote, Told, credits_of, log_tells}
+use Rattle.channel_log.specs.ReadLines.{ReadsHaveLines}
 use Rattle.channel_part.specs.Stands.{PortStands}
 use Rattle.channel_port.specs.Draining.{at_once}
 use Rattle.channel_port.specs.Shape.{Shape}
-use Rattle.channel_port.specs.Waits.{Waits, nothing}
+use Rattle.channel_port.specs.Waits.{Has, OpenRead, Waits, nothing}
 use Rattle.channel_port.specs.declared.port.ChannelPort.{Ghosts}
 use Rattle.channel_set.specs.Ports.{waits_in}
 use Rattle.channel_set.specs.Set.{shape_of}
 use Rattle.channel_set.specs.declared.terms.PortTerms.{PortTerms}
 use Rattle.channel_set.proofs.Lists.{all-of, at-within}
+use Rattle.channel_set.proofs.Piles.{has-pile}
 use Rattle.energy_budget.specs.declared.costs.Costs.{Costs}
 use Rattle.energy_budget.specs.declared.energy.Energy.{Ghosts as GaugeGhosts}
 use Rattle.line_memory.specs.History.{Recorded, recorded}
@@ -42,6 +44,7 @@ use Rattle.nv_workers.specs.Lived.{assembly_of, world_for}
 use Rattle.nv_workers.specs.declared.recorded_module.RecordedModule.{RecordedModule}
 use Rattle.save_device.specs.declared.device.SaveDevice.{Ghosts as DeviceGhosts}
 use Rattle.save_image.specs.Image.{Image}
+use Rattle.split_machine.proofs.ReadLines.{lived_has, told_has}
 use Rattle.split_machine.specs.Telling.{AreLogsOf, AreOwn, IsToldOf, laid_out, waits_told, written_in}
 use Rattle.split_module.specs.Gathering.{FitAsModule, IsMadeOf, StandsGathered, StandsSplit, shape_in}
 use Rattle.split_module.specs.Lending.{SplitStands}
@@ -175,13 +178,24 @@ module _ {K D E B : Type 0} (L : Ghosts K) (M : DeviceGhosts D) (N : GaugeGhosts
           within_then : (number : ℕ) (port : K) → slice_get parted.ports.items number ≡ Some port → number < length logs
           within_then number port at = (let within = slice_get_within parted.ports.items number port at in let count = count_parted in let enough = s.stands.told.enough in omega (arith, within, count, enough))
 
-          comes_then : AllComeBack L P parted.terms.hold ended logs parted.ports.items
-          comes_then number port at = record {
-            stands = subst (λ base. PortStands L port number base (restated parted.terms.hold ended (L.view port).waits (log_tells (slice_index_or logs number [])))) base_then
-                (split_then.each n number port _ stands_n.matches at (told_then number (within_then number port at) (L.view port).waits (own_then number port at)) refl);
-            waits = refl;
-            stage = λ going. fit_then.mains going number port at;
-          }
+          -- each read that waits in a port waits in the machine
+          reads_then : (number : ℕ) (port : K) → slice_get parted.ports.items number ≡ Some port → (read : OpenRead) → Has read (L.view port).waits.reads → Has read n.waits.reads
+          reads_then number port at read has =
+              subst (λ (w : Waits). Has read w.reads) (ap (λ (v : Vec K Global). waits_in L v.items) made_then.ports ∙ stands_n.matches.carried.waits)
+              (has-pile (λ (p : K). (L.view p).waits.reads) parted.ports.items number port read at has)
+
+          module _ (lived_n : LivedUntil (setup_of L after.running) (world_for L M N after n)) where
+            comes_then : AllComeBack L P parted.terms.hold ended logs parted.ports.items
+            comes_then number port at =
+                let told = told_then number (within_then number port at) (L.view port).waits (own_then number port at) in
+                record {
+                  stands = subst (λ base. PortStands L port number base (restated parted.terms.hold ended (L.view port).waits (log_tells (slice_index_or logs number [])))) base_then
+                      (split_then.each n number port _ stands_n.matches at told refl);
+                  waits = refl;
+                  reads = subst (λ base. ReadsHaveLines base (restated parted.terms.hold ended (L.view port).waits (log_tells (slice_index_or logs number [])))) base_then
+                      (told_has (setup_of L after.running) n number _ told (lived_has (setup_of L after.running) (world_for L M N after n) lived_n) (reads_then number port at));
+                  stage = λ going. fit_then.mains going number port at;
+                }
 
           own_waits : (number : ℕ) (it : Option K) → slice_get parted.ports.items number ≡ it → AreOwn number (waits_of_port L it)
           own_waits number None at = record { writes = λ k x less. absurd (omega (arith, less)); reads = λ k x less. absurd (omega (arith, less)); given = λ k x less. absurd (omega (arith, less)) }
@@ -258,7 +272,7 @@ module _ {K D E B : Type 0} (L : Ghosts K) (M : DeviceGhosts D) (N : GaugeGhosts
             }
 
           comes_of : AllComeBack L P parted.terms.hold ended logs parted.ports.items
-          comes_of = comes_then m s have n next.1.stands keeps.opened keeps.writes
+          comes_of = comes_then m s have n next.1.stands keeps.opened keeps.writes (subst (λ (x : Setup). LivedUntil x (world_for L M N after n)) (sym setup) (keeps.lived (lived_joined m s have)))
 
           led : CallLed L P course d d_then parted.ports.items m
           led = record { later = n; leads = leads; stands = stands_later }

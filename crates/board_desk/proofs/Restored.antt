@@ -11,6 +11,7 @@ use Rattle.channel_locks.specs.declared.parts_name.PartsName.{Ghosts as PartsGho
 use Rattle.channel_locks.specs.PortMakes.{make_of}
 use Rattle.channel_locks.specs.Slots.{IsPartWhereDue, IsSlotKept}
 use Rattle.channel_log.specs.Log.{LogNote, Told, credits_of, log_tells}
+use Rattle.channel_log.specs.ReadLines.{ReadsHaveLines}
 use Rattle.channel_log.specs.Seats.{OneLog}
 use Rattle.channel_part.specs.declared.part.Part.{Part}
 use Rattle.channel_part.specs.Stands.{PartStands, PortStands}
@@ -59,6 +60,7 @@ module _ {K B : Type 0} (L : Ghosts K) (P : PartsGhosts B) where
       record {
         stands = stands P.base log (subst (PortStands L port number P.base) (sym told_is) lent.stands) (ap (λ (t : Told). length t.waits.writes) told_is) (sym (ap (λ (t : Told). t.ended) told_is));
         made = ap (λ (p : K). make_of (L.view p)) same ∙ make;
+        reads = subst (ReadsHaveLines P.base) (sym told_is) lent.reads;
       },
     )))
 

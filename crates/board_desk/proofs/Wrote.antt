@@ -1,13 +1,15 @@
 -- A write at a part of which both locks are held, whether it was accepted or not.
 use Rattle.std.proofs.Common.{Err, IfErr, IfOk, IsOk, List, Ok, Result, Some, [], ap, append-nil, arith, false, refl, subst, sym, length, true, ℕ, ◌++◌, ◌+◌, ◌<◌, ◌∙◌, ◌∷◌, ◌≡◌, ◌≤◌}
 use Rattle.std.specs.Prelude.{Bool, slice_index_or, if◌then◌else◌}
-use Rattle.std.proofs.lemmas.List.{get_or-set_other}
+use Rattle.std.proofs.Math.Logic.{∥∥₁_map}
+use Rattle.std.proofs.lemmas.List.{get_or-set_other, get_or-set_same, length-set}
 use Rattle.arm_state.specs.Modes.{is_armed}
 use Rattle.arm_state.specs.declared.refusal.WriteRefusal.{WriteRefusal}
 use Rattle.channel_locks.specs.declared.parts_name.PartsName.{Ghosts as PartsGhosts}
 use Rattle.channel_locks.specs.PortMakes.{make_of}
 use Rattle.channel_locks.specs.Slots.{IsSlotKept}
-use Rattle.channel_log.specs.Log.{IsLog, LogNote, note_of, log_tells}
+use Rattle.channel_log.specs.Log.{IsLog, IsLogOf, LogNote, note_of, log_tells}
+use Rattle.channel_log.specs.ReadLines.{ReadsHaveLines}
 use Rattle.channel_log.specs.Seats.{AllLogs, IsNoted, OneLog}
 use Rattle.channel_log.specs.declared.entry.LogEntry.TheVariants.{Wrote}
 use Rattle.channel_part.specs.declared.part.Part.{Part}
@@ -20,14 +22,15 @@ use Rattle.line_memory.specs.Parts.{AreBefore, numbered}
 use Rattle.line_memory.specs.declared.Write as line_write
 use Rattle.mark_board.specs.SeenMarks.{SeenMarks, seen_marks}
 use Rattle.atomic_table.specs.Seated.{TableId}
-use Rattle.module_core.specs.Fronts.{AcceptsOne}
+use Rattle.module_core.specs.Fronts.{AcceptsOne, setup_in}
 use Rattle.module_core.specs.declared.opening.LifeTerms.{LifeTerms}
 use Rattle.nv_machine.specs.declared.events.Accepted.{Accepted}
 use Rattle.nv_machine.specs.declared.events.Event.{Event}
 use Rattle.nv_machine.specs.declared.events.Reply.{Reply}
 use Rattle.nv_machine.specs.Rising.{added}
-use Rattle.nv_machine.specs.State.{Machine}
+use Rattle.nv_machine.specs.State.{Machine, base_of_life}
 use Rattle.nv_workers.specs.Marks.{ShowsNoMore}
+use Rattle.split_machine.proofs.ReadLines.{event_has, lived_has, logs_have}
 use Rattle.split_machine.specs.Telling.{with_note}
 use Rattle.split_module.specs.Lending.{WroteOn}
 use Rattle.split_module.specs.declared.front.SplitFront.{SplitFront}
@@ -35,7 +38,7 @@ use Rattle.board_desk.proofs.Followed.{Follows, write_accepted, write_refused}
 use Rattle.board_desk.proofs.Lending.{IsDue, due_noted}
 use Rattle.board_desk.proofs.Noted.{front_noted, logs_noted, seat_noted}
 use Rattle.board_desk.specs.Answering.{SameElsewhere}
-use Rattle.board_desk.specs.Desk.{DeskStands, DeskView, shape_at}
+use Rattle.board_desk.specs.Desk.{DeskStands, DeskView, setup_at, shape_at, world_at}
 
 -- the front after a write, whether it was accepted
 abbrev pub Written : Result Accepted WriteRefusal → SplitFront → SplitFront → Type 0
@@ -113,18 +116,33 @@ module _ {K B : Type 0} (L : Ghosts K) (P : PartsGhosts B) (channel : ℕ) (part
       ∙ get_or-set_other front.logs channel other (seat.log ++ note accepted ∷ []) [] apart
   elsewhere_noted (Err refusal) is other apart = ap (λ (f : AllLogs). slice_index_or f.logs other []) is.front_is
 
+  -- each read that the log tells to wait has its line, with the note of an accepted write too
+  pub reads_written : (old : DeskView) (new : SplitFront) (m : Machine) → DeskStands P old m → part.channel ≡ channel → IsLogOf old.logs channel seat.log → (accepted : Accepted)
+      → WroteOn L (shape_at P old) old.split part write (Ok accepted) new later m old.logs seat.log → ReadsHaveLines P.base (log_tells (seat.log ++ note accepted ∷ []))
+  reads_written old new m s here of accepted (n, step, stands) =
+      let logs : List (List LogNote) = with_note part.channel seat.log (note accepted) old.logs in
+      let size = length-set old.logs part.channel (seat.log ++ note accepted ∷ []) in
+      let there = of.there in
+      let within : part.channel < length logs = omega (arith, size, there, here) in
+      let have = event_has (setup_at P old) (Event.Write write) (Reply.Write (Ok accepted)) (world_at old m) (record (world_at old m) { machine = n }) (refl, step) s.guarded (lived_has (setup_at P old) (world_at old m) s.lived) in
+      subst (λ base. ReadsHaveLines base (log_tells (seat.log ++ note accepted ∷ []))) (ap (λ (x : Machine). base_of_life x.life) step.1.is ∙ s.base)
+      (subst (λ (l : List LogNote). ReadsHaveLines (base_of_life n.life) (log_tells l)) (get_or-set_same old.logs part.channel (seat.log ++ note accepted ∷ []) [] (omega (arith, there, here)))
+      (logs_have (setup_in (shape_at P old) new.front) n logs part.channel stands.told have within))
+
   -- the slot has the part of its log still
   pub slot_noted : (result : Result Accepted WriteRefusal) → IsNotedWrite result → IfOk result (λ accepted. StandsNoted L (Wrote (numbered accepted.number write)) part later) → IfErr result (λ refusal. later ≡ part)
       → IfOk result (λ accepted. L.view later.port ≡ with_write accepted.number (L.view part.port)) → IfOk result (λ accepted. AreBefore accepted.number (log_tells seat.log).written) → IsLog seat.log → IsDue P L part channel seat.log → seat.table ≡ P.logs
+      → (old : DeskView) (new : SplitFront) → ∥ ((m : Machine) × DeskStands P old m × WroteOn L (shape_at P old) old.split part write result new later m old.logs seat.log) ∥₁ → part.channel ≡ channel → IsLogOf old.logs channel seat.log
       → IsSlotKept L P (Some later) new_seat channel
-  slot_noted (Ok accepted) is stands none puts before log_is due table =
+  slot_noted (Ok accepted) is stands none puts before log_is due table old new wrote here of =
       subst (λ (s : OneLog). IsSlotKept L P (Some later) s channel) (sym (seat_noted (note accepted) front front new_front seat seat new_seat is.noted refl refl))
       (record {
         table = table;
         channel_is = own;
-        part_is = due_noted P L (Wrote (numbered accepted.number write)) part later channel seat.log stands log_is before (ap (λ (v : PortView). make_of v) puts) due;
+        part_is = due_noted P L (Wrote (numbered accepted.number write)) part later channel seat.log stands log_is before (ap (λ (v : PortView). make_of v) puts)
+            (∥∥₁_map wrote (λ (m, s, w). reads_written old new m s here of accepted w)) due;
       })
-  slot_noted (Err refusal) is none same puts before log_is due table =
+  slot_noted (Err refusal) is none same puts before log_is due table old new wrote here of =
       subst (λ (s : OneLog). IsSlotKept L P (Some later) s channel) (sym is.seat_is)
       (record { table = table; channel_is = own; part_is = subst (λ (p : Part K L). IsDue P L p channel seat.log) (sym same) due })
 

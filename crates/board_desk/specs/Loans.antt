@@ -5,6 +5,7 @@ use Rattle.channel_locks.specs.PortMakes.{make_of}
 use Rattle.channel_locks.specs.declared.parts_name.PartsName.{Ghosts as PartsGhosts}
 use Rattle.channel_locks.specs.Slots.{IsSlotKept}
 use Rattle.channel_log.specs.Log.{IsLogOf, LogNote, Told, credits_of, log_tells}
+use Rattle.channel_log.specs.ReadLines.{ReadsHaveLines}
 use Rattle.channel_log.specs.Seats.{OneLog}
 use Rattle.channel_part.specs.Stands.{PortStands, returned_of}
 use Rattle.channel_part.specs.declared.part.Part.{Part}
@@ -28,10 +29,12 @@ module _ {K : Type 0} (L : Ghosts K) where
   IsReadyToLend (Some part) log = (returned_of L part ≡ 0) × ((log_tells log).waits ≡ (L.view part.port).waits)
 
   module _ {B : Type 0} (P : PartsGhosts B) where
-    -- A port that its channel has lent stands for the channel's log, which tells what waits in it. On mains it is on mains.
+    -- A port that its channel has lent stands for the channel's log, which tells what waits in it, and each read that waits has its line.
+    -- On mains it is on mains.
     pub record IsLent (told : Told) (number : ℕ) (port : K) : Type 0 where
       pub stands : PortStands L port number P.base told
       pub waits : told.waits ≡ (L.view port).waits
+      pub reads : ReadsHaveLines P.base told
       pub stage : told.ended ≡ false → (L.view port).stage ≡ OnMains
 
     -- The channels below a number have lent their ports, those that the board has.

@@ -28,5 +28,6 @@ module _ {K B : Type 0} (L : Ghosts K) (O : NameGhosts B) where
         record {
           stands = still channel O.base log h.1.stands;
           made = ap make_of rest ∙ h.1.made;
+          reads = h.1.reads;
         },
       ))

@@ -2,8 +2,10 @@
 -- one.
 use Rattle.std.specs.Prelude.{◌≡◌, ℕ, List, Option}
 use Rattle.std.specs.Option.{ForSome}
-use Rattle.channel_log.specs.Log.{LogNote}
+use Rattle.channel_log.specs.Log.{LogNote, Told, log_tells}
+use Rattle.channel_log.specs.ReadLines.{IsLineBehind}
 use Rattle.channel_port.specs.declared.answers.Collected.{Collected}
+use Rattle.channel_port.specs.declared.answers.Collected.TheVariants.{Data}
 use Rattle.channel_port.specs.declared.answers.Ticket.{Ticket}
 use Rattle.channel_port.specs.declared.port.ChannelPort.{Ghosts}
 use Rattle.channel_part.specs.declared.part.Part.{Part}
@@ -13,6 +15,11 @@ use Rattle.channel_locks.specs.declared.turns.ChannelTurn.{ChannelTurn}
 use Rattle.channel_locks.specs.Alone.{MakesRoomAlone, ServesAlone, WorksAlone, lost_mains_in}
 use Rattle.channel_locks.specs.Slots.{IsPartWhereDue}
 use Rattle.worker_gate.specs.Inside.{AwaitsInside}
+
+-- Bytes that a ticket has are its line's behind so many writes, by what is told of the channel.
+abbrev pub GivesItsLine : List (List ℕ) → Told → Collected → Type 0
+GivesItsLine base told (Data line bytes at) = IsLineBehind base told.written line at bytes
+GivesItsLine base told answer = Unit {0}
 
 module _ {K : Type 0} (L : Ghosts K) where
   -- what was lent is of this channel
@@ -33,12 +40,13 @@ module _ {K B : Type 0} (L : Ghosts K) (O : NameGhosts B) where
     pub works : WorksAlone L turn.done before after
     pub ended : turn.ended ≡ lost_mains_in L after
 
-  -- a ticket was served so by its channel
+  -- A ticket was served so by its channel. Bytes that it had are its line of the memory behind so many writes, by the channel's log.
   pub record LentServe (ticket : Ticket) (answer : Collected) : Type 0 where
     pub before : Option (Part K L)
     pub after : Option (Part K L)
     pub lent : IsLentBy ticket.channel before
     pub serves : ServesAlone L ticket answer before after
+    pub has : GivesItsLine O.base (log_tells lent.0) answer
 
   -- a channel was worked while it had no room for a write
   pub record LentRoom (channel : ℕ) : Type 0 where

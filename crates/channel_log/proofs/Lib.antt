@@ -1,2 +1,3 @@
 mod RuleSteps
 mod Telling
+pub mod ReadLines

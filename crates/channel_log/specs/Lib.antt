@@ -2,3 +2,4 @@ pub mod Log
 pub mod Between
 pub mod LogRule
 pub mod Seats
+pub mod ReadLines

@@ -36,7 +36,7 @@ use Rattle.board_desk.specs.Kept.{IsDeskKept}
 use Rattle.split_board.specs.FirstLogs.{AreFirstLogs, AreFirstPorts, channel_by}
 use Rattle.split_board.specs.Lines.{AreLinesOfBoard}
 use Rattle.split_board.specs.Starting.{make_with}
-use Rattle.split_board.proofs.Begun.{all_is, base_was, begins, port_stands, same_shape}
+use Rattle.split_board.proofs.Begun.{all_is, base_was, begins, port_reads, port_stands, same_shape}
 
 -- the channels of a module's lines, where its ports are the board's
 pub laid_as : {K D E B : Type 0} {L : Ghosts K} (P : PartsGhosts B) (it : RecordedModule K D E L) (table : List ℕ) (set : ChannelSet K L) → table ≡ channels_of_lines (shape_of L set) → set ≡ it.running.channels
@@ -73,6 +73,7 @@ module _ {K D E B : Type 0} (L : Ghosts K) (M : DeviceGhosts D) (N : GaugeGhosts
           number_is = each.number_is;
           stands = ∥∥₁_map kept.stands (λ s. port_stands L M N P it pieces of_it splits fit made count base whole table laid laws s.0 s.1 s.2 channel port at);
           waits = refl;
+          reads = ∥∥₁_map kept.stands (λ s. port_reads L M N P it pieces of_it splits fit made count base whole table laid laws s.0 s.1 s.2 channel port at);
           ends = refl;
           mains = λ going. fit.mains going channel port at;
           made = (λ i. record {

@@ -8,6 +8,7 @@ use Rattle.std.proofs.lemmas.List.Elements.{All-nil}
 use Rattle.std.proofs.lemmas.List.FromFn.{get_or-map-range_with_len}
 use Rattle.std.proofs.lemmas.Option.{get_or_from_slice_get, slice_get_past, slice_get_within}
 use Rattle.channel_set.proofs.Lists.{all-of}
+use Rattle.channel_set.proofs.Piles.{has-pile}
 use Rattle.line_memory.specs.declared.Write.{Write}
 use Rattle.line_memory.specs.declared.parts.Numbered.{Numbered}
 use Rattle.line_memory.specs.History.{Recorded}
@@ -17,10 +18,11 @@ use Rattle.save_device.specs.declared.device.SaveDevice.{Ghosts as DeviceGhosts}
 use Rattle.energy_budget.specs.declared.energy.Energy.{Ghosts as GaugeGhosts}
 use Rattle.arm_state.specs.Modes.{has_ended}
 use Rattle.channel_log.specs.Log.{LogNote, Told, credits_of, log_tells}
+use Rattle.channel_log.specs.ReadLines.{ReadsHaveLines}
 use Rattle.channel_part.specs.Stands.{PortStands}
 use Rattle.channel_port.specs.declared.port.ChannelPort.{Ghosts}
 use Rattle.channel_port.specs.Shape.{Shape}
-use Rattle.channel_port.specs.Waits.{nothing}
+use Rattle.channel_port.specs.Waits.{Has, Waits, nothing}
 use Rattle.channel_set.specs.Ports.{waits_in}
 use Rattle.channel_set.specs.Set.{shape_of}
 use Rattle.channel_set.specs.declared.terms.PortTerms.{PortTerms}
@@ -34,6 +36,7 @@ use Rattle.nv_workers.specs.Kept.{StandsWith}
 use Rattle.nv_machine.specs.Lives.{LivedUntil}
 use Rattle.nv_workers.specs.Lived.{world_for}
 use Rattle.nv_workers.specs.declared.recorded_module.RecordedModule.{RecordedModule}
+use Rattle.split_machine.proofs.ReadLines.{lived_has, told_has}
 use Rattle.split_machine.specs.Telling.{AreLogsOf, AreOwn, IsToldOf, laid_out, waits_told, written_in}
 use Rattle.split_module.specs.Gathering.{FitAsModule, IsMadeOf, StandsSplit, shape_in}
 use Rattle.split_module.specs.Lending.{SplitStands}
@@ -155,6 +158,15 @@ module _ {K D E B : Type 0} (L : Ghosts K) (M : DeviceGhosts D) (N : GaugeGhosts
           subst (λ (b : List (List ℕ)). PortStands L port channel b (told_first L table it.history pieces.terms.hold ended (Some port) channel)) base_was
           (splits.each m channel port (told_first L table it.history pieces.terms.hold ended (Some port) channel) matches at
           (subst (λ (o : Option K). IsToldOf (setup_of L it.running) m channel (told_first L table it.history pieces.terms.hold ended o channel)) at (told_of channel)) refl)
+
+      -- and each read that waits in it has its line
+      pub port_reads : (channel : ℕ) (port : K) → slice_get ports channel ≡ Some port → ReadsHaveLines P.base (told_first L table it.history pieces.terms.hold ended (Some port) channel)
+      port_reads channel port at =
+          subst (λ (b : List (List ℕ)). ReadsHaveLines b (told_first L table it.history pieces.terms.hold ended (Some port) channel)) base_was
+          (told_has (setup_of L it.running) m channel (told_first L table it.history pieces.terms.hold ended (Some port) channel)
+          (subst (λ (o : Option K). IsToldOf (setup_of L it.running) m channel (told_first L table it.history pieces.terms.hold ended o channel)) at (told_of channel))
+          (lived_has (setup_of L it.running) (world_for L M N it m) lived)
+          (λ read has. subst (λ (w : Waits). Has read w.reads) (ap (λ (v : Vec K Global). waits_in L v.items) of_it.ports ∙ matches.carried.waits) (has-pile (λ (p : K). (L.view p).waits.reads) ports channel port read at has)))
 
       module _ (logs : List (List LogNote)) (first : AreFirstLogs L table it.history pieces.terms.hold ended ports logs) where
         abbrev desk : DeskView

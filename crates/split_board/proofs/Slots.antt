@@ -1,6 +1,6 @@
 -- The slot of a channel as a board begins.
 use Rattle.std.proofs.Common.{◌≡◌, ◌∙◌, ◌<◌, ℕ, suc, zero, Bool, List, [], ◌∷◌, ◌++◌, length, slice_get, Some, ap, arith, refl, subst, sym}
-use Rattle.std.proofs.Math.Logic.{∥∥₁_map}
+use Rattle.std.proofs.Math.Logic.{∥∥₁_elim, ∥∥₁_map, ∥∥₁_prop}
 use Rattle.channel_log.specs.Log.{LogNote, credits_of, log_tells}
 use Rattle.channel_log.specs.Seats.{OneLog}
 use Rattle.channel_port.specs.declared.port.ChannelPort.{Ghosts}
@@ -59,10 +59,11 @@ module _ {K B : Type 0} (L : Ghosts K) (P : PartsGhosts B) (ended : Bool) where
   pub first_part : (part : Part K L) (channel : ℕ) (log : List LogNote) (port : K) → IsFirstPort L P ended channel (log_tells log) port → part.port ≡ port → channel < P.ports
       → ((base : List (List ℕ)) (log : List LogNote) → PortStands L port channel base (log_tells log) → credits_of log ≡ length (L.view port).waits.writes → ended ≡ (log_tells log).ended → PartStands L part channel base log)
       → ∥ IsPartWhereDue L P (Some part) channel log ∥₁
-  first_part part channel log port first is known stands = ∥∥₁_map first.stands (λ it. (
+  first_part part channel log port first is known stands = ∥∥₁_elim first.reads ∥∥₁_prop (λ reads. ∥∥₁_map first.stands (λ it. (
     known,
     record {
       stands = stands P.base log it (ap (λ w. length w.writes) first.waits) (sym first.ends);
       made = ap (λ (p : K). make_of (L.view p)) is ∙ first.made;
+      reads = reads;
     },
-  ))
+  )))

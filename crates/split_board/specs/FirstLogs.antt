@@ -3,6 +3,7 @@ use Rattle.std.specs.Prelude.{◌≡◌, ℕ, ◌<◌, ◌≤◌, Bool, false, L
 use Rattle.line_memory.specs.History.{Recorded}
 use Rattle.line_memory.specs.Parts.{written_on}
 use Rattle.channel_log.specs.Log.{LogNote, Told, credits_of, log_tells, untold}
+use Rattle.channel_log.specs.ReadLines.{ReadsHaveLines}
 use Rattle.channel_log.specs.Seats.{AllLogs, OneLog, one_log}
 use Rattle.channel_port.specs.declared.port.ChannelPort.{Ghosts}
 use Rattle.channel_port.specs.declared.stage.Stage.TheVariants.{OnMains}
@@ -57,11 +58,13 @@ abbrev pub TellNoWrite : List (List LogNote) → Type 0
 TellNoWrite logs = (channel : ℕ) → channel < 8 → (log_tells (log_in logs channel)).written ≡ []
 
 module _ {K B : Type 0} (L : Ghosts K) (P : PartsGhosts B) (ended : Bool) where
-  -- A port of the board, as its channel begins: it stands for what is told of the channel, which tells what waits in it.
+  -- A port of the board, as its channel begins: it stands for what is told of the channel, which tells what waits in it, and each read
+  -- that waits has its line.
   pub record IsFirstPort (channel : ℕ) (told : Told) (port : K) : Type 0 where
     pub number_is : (L.view port).number ≡ channel
     pub stands : ∥ PortStands L port channel P.base told ∥₁
     pub waits : told.waits ≡ (L.view port).waits
+    pub reads : ∥ ReadsHaveLines P.base told ∥₁
     pub ends : told.ended ≡ ended
     pub mains : ended ≡ false → (L.view port).stage ≡ OnMains
     pub made : make_of (L.view port) ≡ P.make

@@ -7,3 +7,4 @@ pub mod ToldOf
 pub mod GivenTo
 -- a channel's own steps as events
 pub mod OwnRuns
+pub mod ReadLines

@@ -7,7 +7,9 @@
 #![tactic(auto)]
 
 mod own;
+mod reads;
 mod telling;
 
 pub use own::own_steps_are_events;
+pub use reads::reads_have_their_lines;
 pub use telling::{a_read_is_told, a_write_is_told, logs_tell_the_history, logs_tell_what_waits};

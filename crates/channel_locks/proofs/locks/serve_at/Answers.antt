@@ -1,5 +1,6 @@
 use Rattle.std.proofs.Common.{ℕ, subst, sym}
-use Rattle.channel_locks.specs.Lent.{IsLentBy}
+use Rattle.channel_locks.specs.Slots.{IsPartWhereDue}
+use Rattle.channel_locks.proofs.ServedLines.{served_line}
 use Rattle.channel_locks.proofs.locks.serve_at.Goals as goal
 
 pub returns : goal.returns
@@ -8,6 +9,7 @@ returns g c =
     record {
       before = slot.part;
       after = c.serve.new.self.part;
-      lent = subst (λ (channel : ℕ). IsLentBy g.K.ChannelPort g.B.PartsName channel slot.part) (sym c.requires) (slot.seat.log, slot.kept.part_is);
+      lent = (slot.seat.log, subst (λ (channel : ℕ). ∥ IsPartWhereDue g.K.ChannelPort g.B.PartsName slot.part channel slot.seat.log ∥₁) (sym c.requires) slot.kept.part_is);
       serves = c.serve.ensures.serves;
+      has = served_line g.K.ChannelPort g.B.PartsName g.C.ChannelName.NUMBER slot.seat.log c.args.ticket c.serve.result slot.part c.serve.new.self.part slot.kept.part_is c.serve.ensures.serves;
     }

@@ -1,12 +1,13 @@
 -- A host reads.
-use Rattle.std.proofs.Common.{Err, Ok, Some, ap, arith, refl, subst, sym, ◌<◌, ◌∙◌, ◌≡◌}
+use Rattle.std.proofs.Common.{Err, List, Ok, Some, [], ap, arith, refl, subst, sym, ◌++◌, ◌<◌, ◌∙◌, ◌∷◌, ◌≡◌}
 use Rattle.std.proofs.Math.Logic.{∥∥₁_elim, ∥∥₁_map, ∥∥₁_prop}
 use Rattle.std.specs.Arc.{arc_value}
 use Rattle.atomic_table.specs.Seated.{TableId}
 use Rattle.channel_locks.specs.declared.parts_name.PartsName.{Ghosts as PartsGhosts}
 use Rattle.channel_locks.specs.PortMakes.{make_of}
 use Rattle.channel_locks.specs.Slots.{IsSlotKept}
-use Rattle.channel_log.specs.Log.{IsLogOf, LogNote, note_of}
+use Rattle.channel_log.specs.Log.{IsLogOf, LogNote, log_tells, note_of}
+use Rattle.channel_log.specs.ReadLines.{ReadsHaveLines}
 use Rattle.channel_log.specs.Seats.{AllLogs, OneLog}
 use Rattle.channel_log.specs.declared.entry.LogEntry.TheVariants.{Looked}
 use Rattle.channel_part.specs.Stands.{PartStands}
@@ -21,8 +22,8 @@ use Rattle.board_desk.specs.Views.{desk_of}
 use Rattle.board_desk.proofs.Asked.{asked_has, has_channel, lines_are, part_ended, part_lines, part_place, part_seen}
 use Rattle.board_desk.proofs.Followed.{Follows, behind, read_answered, read_refused}
 use Rattle.board_desk.proofs.Keeping.{kept_after}
-use Rattle.board_desk.proofs.Lending.{IsDue, channel_due, due_noted, due_part, none_due}
-use Rattle.board_desk.proofs.Noted.{elsewhere_noted, front_noted, logs_noted, seat_noted}
+use Rattle.board_desk.proofs.Lending.{IsDue, channel_due, due_noted, due_part, none_due, told_reads}
+use Rattle.board_desk.proofs.Noted.{elsewhere_noted, front_noted, logs_noted, seat_noted, still_of}
 use Rattle.board_desk.proofs.Ticketed.{ticket_of, ticket_stepped}
 use Rattle.board_desk.proofs.desk.Desk.read.Given.{Over}
 use Rattle.board_desk.proofs.desk.Desk.read.Goals.{After-inform, After-look_at}
@@ -114,6 +115,17 @@ module _ (g : Over) (c : After-look_at g) where
       read_answered g.B.PartsName before m s desk.kept.shape now refl refl refl refl refl refl refl g.K.ChannelPort part c.read_on.new.part log
       (has_channel g.B.PartsName before desk.kept.stands g.K.ChannelPort part g.C.ChannelName.NUMBER log part_due part_of) c.args.line c.in-Ok.got read refl logs c.look_at.ensures.most refl)
 
+  stands_now : ∥ ((m : Machine) × DeskStands g.B.PartsName now m) ∥₁
+  stands_now = ∥∥₁_elim c.settle.new.self.kept.stands ∥∥₁_prop (λ s. ∥∥₁_map (followed s.0 s.1) (λ f. (f.later, f.stands)))
+
+  reads : ∥ ReadsHaveLines g.B.PartsName.base (log_tells (c.settle.new.slot.seat.log ++ note ∷ [])) ∥₁
+  reads =
+      let desk = c.settle.new.self in
+      let seat = c.settle.new.slot.seat in
+      let own = c.settle.new.slot.kept.channel_is in
+      subst (λ (l : List LogNote). ∥ ReadsHaveLines g.B.PartsName.base (log_tells l) ∥₁) (ap (λ (s : OneLog). s.log) (seat_noted note desk.known desk.known c.look_at.new.known seat seat c.look_at.new.seat c.look_at.ensures.noted refl refl))
+      (told_reads g.B.PartsName now g.C.ChannelName.NUMBER c.look_at.new.seat.log stands_now (still_of note desk.known desk.known c.look_at.new.known seat seat c.look_at.new.seat c.look_at.ensures.noted refl refl g.C.ChannelName.NUMBER own part_of))
+
 pub invariant_of-slot : goal.invariant_of-slot
 invariant_of-slot g c =
     let at = goal.at.invariant_of-slot g c in
@@ -127,7 +139,7 @@ invariant_of-slot g c =
           (record {
             table = slot.kept.table;
             channel_is = slot.kept.channel_is;
-            part_is = due_noted g.B.PartsName L Looked c.in-Some.part later g.C.ChannelName.NUMBER slot.seat.log c.in-Ok.ensures.stands (record { rise = c.always.ensures }) tt (ap (λ (v : PortView). make_of v) c.in-Ok.ensures.rest) (part_due g it);
+            part_is = due_noted g.B.PartsName L Looked c.in-Some.part later g.C.ChannelName.NUMBER slot.seat.log c.in-Ok.ensures.stands (record { rise = c.always.ensures }) tt (ap (λ (v : PortView). make_of v) c.in-Ok.ensures.rest) (reads g it) (part_due g it);
           });
     }
 
@@ -142,7 +154,7 @@ invariant_of-self-clause-kept g c =
     kept_after g.B.BoardName g.B.PartsName (before g it) words desk.seat desk.tally.book.total desk.logs desk.known.table desk.kept (now g it) _ 0 c.look_at.new.known.table refl refl refl refl (omega arith)
     (c.inform.ensures.same ∙ desk.kept.shown ∙ ap (λ (b : TableId). seen_marks b front.accepted front.persisted) (sym desk.kept.board))
     (ap (λ (f : AllLogs). f.table) (front_noted (note g it) desk.known desk.known c.look_at.new.known slot.seat slot.seat c.look_at.new.seat c.look_at.ensures.noted refl refl))
-    (∥∥₁_elim desk.kept.stands ∥∥₁_prop (λ s. ∥∥₁_map (followed g it s.0 s.1) (λ f. (f.later, f.stands)))) _ (omega arith)
+    (stands_now g it) _ (omega arith)
 
 pub returns-in-Ok-clause-ok : goal.returns-in-Ok-clause-ok
 returns-in-Ok-clause-ok g c = λ m s.

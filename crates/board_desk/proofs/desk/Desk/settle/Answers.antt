@@ -1,14 +1,16 @@
 -- A channel is settled.
-use Rattle.std.proofs.Common.{Some, ap, refl, subst, sym, ◌∙◌, ◌≡◌}
+use Rattle.std.proofs.Common.{List, Some, [], ap, refl, subst, sym, ◌++◌, ◌∙◌, ◌∷◌, ◌≡◌}
+use Rattle.std.proofs.Math.Logic.{∥∥₁_elim, ∥∥₁_map, ∥∥₁_prop}
 use Rattle.channel_locks.specs.Slots.{IsSlotKept}
 use Rattle.channel_locks.specs.PortMakes.{make_of}
-use Rattle.channel_log.specs.Log.{IsLogOf, LogNote, note_of}
+use Rattle.channel_log.specs.Log.{IsLogOf, LogNote, log_tells, note_of}
+use Rattle.channel_log.specs.ReadLines.{ReadsHaveLines}
 use Rattle.channel_log.specs.Seats.{AllLogs, OneLog}
 use Rattle.channel_log.specs.declared.entry.LogEntry.TheVariants.{Looked}
 use Rattle.board_desk.specs.Answering.{Settles, SettlesPart}
 use Rattle.board_desk.specs.Views.{desk_of}
 use Rattle.board_desk.proofs.Keeping.{kept_settled}
-use Rattle.board_desk.proofs.Lending.{channel_due, due_noted, due_part, goes_on, returned_out}
+use Rattle.board_desk.proofs.Lending.{channel_due, due_noted, due_part, goes_on, returned_out, told_reads}
 use Rattle.board_desk.proofs.Noted.{front_noted, logs_noted, seat_noted, still_of, waits_told}
 use Rattle.board_desk.proofs.Settled.{comes_of_none}
 use Rattle.board_desk.proofs.desk.Desk.settle.Given.{Over}
@@ -43,6 +45,18 @@ module _ (g : Over) (c : After-look_at g) where
       (due_part g.B.PartsName g.K.ChannelPort slot.part c.in-Some.part g.C.ChannelName.NUMBER slot.seat.log c.in-Some.is slot.kept.part_is) c.look_at.new.known.logs
       (logs_noted note c.compare.new.self c.args.self.now.known c.look_at.new.known c.compare.new.seat slot.seat c.look_at.new.seat c.look_at.ensures.noted c.compare.ensures.front c.compare.ensures.seat g.C.ChannelName.NUMBER slot.kept.channel_is)
 
+  -- both seats know the log with the note
+  still : IsLogOf c.look_at.new.known.logs g.C.ChannelName.NUMBER c.look_at.new.seat.log
+  still = still_of note c.compare.new.self c.args.self.now.known c.look_at.new.known c.compare.new.seat c.args.slot.now.seat c.look_at.new.seat c.look_at.ensures.noted c.compare.ensures.front c.compare.ensures.seat g.C.ChannelName.NUMBER c.args.slot.now.kept.channel_is of
+
+  reads : ∥ ReadsHaveLines g.B.PartsName.base (log_tells (c.args.slot.now.seat.log ++ note ∷ [])) ∥₁
+  reads =
+      let desk = c.args.self.now in
+      subst (λ (l : List LogNote). ∥ ReadsHaveLines g.B.PartsName.base (log_tells l) ∥₁)
+      (ap (λ (s : OneLog). s.log) (seat_noted note c.compare.new.self desk.known c.look_at.new.known c.compare.new.seat c.args.slot.now.seat c.look_at.new.seat c.look_at.ensures.noted c.compare.ensures.front c.compare.ensures.seat))
+      (told_reads g.B.PartsName (record (desk_of g.K.ChannelPort g.D.SaveDevice g.E.Energy g.B.BoardName g.B.PartsName desk) { split = c.take_back.new.front; logs = c.look_at.new.known.logs }) g.C.ChannelName.NUMBER c.look_at.new.seat.log
+      (∥∥₁_elim desk.kept.stands ∥∥₁_prop (λ s. ∥∥₁_map (settles s.0 s.1) (λ on. (on.seen, on.stands)))) still)
+
 pub invariant_of-slot-2 : goal.invariant_of-slot-2
 invariant_of-slot-2 g c =
     let L = g.K.ChannelPort in
@@ -56,7 +70,7 @@ invariant_of-slot-2 g c =
             table = slot.kept.table;
             channel_is = slot.kept.channel_is;
             part_is = due_noted g.B.PartsName L Looked c.in-Some.part later g.C.ChannelName.NUMBER slot.seat.log c.take_back.ensures.stands (record { rise = c.always.ensures }) tt (ap (λ p. make_of (L.view p)) c.take_back.ensures.port)
-                (due_part g.B.PartsName L slot.part c.in-Some.part g.C.ChannelName.NUMBER slot.seat.log c.in-Some.is slot.kept.part_is);
+                (reads g at.After-look_at) (due_part g.B.PartsName L slot.part c.in-Some.part g.C.ChannelName.NUMBER slot.seat.log c.in-Some.is slot.kept.part_is);
           });
     }
 
@@ -83,8 +97,7 @@ returns-clause-settled g c =
     record {
       taken = c.take_back.ensures.none;
       waits = waits_told (note g at.After-look_at) c.compare.new.self c.args.self.now.known c.look_at.new.known c.compare.new.seat slot.seat c.look_at.new.seat c.look_at.ensures.noted c.compare.ensures.front c.compare.ensures.seat;
-      agreed = subst (λ k. IsLogOf c.look_at.new.known.logs k c.look_at.new.seat.log) (sym here)
-          (still_of (note g at.After-look_at) c.compare.new.self c.args.self.now.known c.look_at.new.known c.compare.new.seat slot.seat c.look_at.new.seat c.look_at.ensures.noted c.compare.ensures.front c.compare.ensures.seat g.C.ChannelName.NUMBER slot.kept.channel_is (of g at.After-look_at));
+      agreed = subst (λ k. IsLogOf c.look_at.new.known.logs k c.look_at.new.seat.log) (sym here) (still g at.After-look_at);
     }
 
 pub returns-clause-part : goal.returns-clause-part

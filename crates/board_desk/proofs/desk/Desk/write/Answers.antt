@@ -16,6 +16,7 @@ use Rattle.module_core.specs.declared.front.Front.{Front}
 use Rattle.nv_machine.specs.declared.events.Accepted.{Accepted}
 use Rattle.nv_machine.specs.declared.events.Event.{Event}
 use Rattle.nv_machine.specs.declared.events.Reply.{Reply}
+use Rattle.split_module.specs.Lending.{WroteOn}
 use Rattle.board_desk.specs.Answering.{HasSettled, IsSettledPart}
 use Rattle.board_desk.specs.Desk.{DeskStands, DeskView, shape_at}
 use Rattle.board_desk.specs.Views.{desk_of}
@@ -142,10 +143,16 @@ invariant_of-slot g c =
     let front = c.settle.new.self.split.front in
     let before = numbers c.write_on-reply.result front.accepted (λ n. AreBefore n (log_tells slot.seat.log).written) (number_of c.write_on-reply.result front c.write_on-reply.new.front.front c.write_on-reply.ensures.accepts)
     (accepted_before g.B.PartsName (mid g at.After-always) c.settle.new.self.kept.stands g.K.ChannelPort c.in-Some.part g.C.ChannelName.NUMBER slot.seat.log (due g at.After-always) (of g at.After-always)) in
+    let stands = c.settle.new.self.kept.stands in
+    let desk = mid g at.After-always in
+    let seen = part_seen g.B.PartsName desk stands g.K.ChannelPort c.in-Some.part g.C.ChannelName.NUMBER slot.seat.log (due g at.After-always) (of g at.After-always) (settled g at.After-always).waits in
+    let wrote : ∥ ((m : Machine) × DeskStands g.B.PartsName desk m × WroteOn g.K.ChannelPort (shape_at g.B.PartsName desk) desk.split c.in-Some.part c.args.write c.write_on-reply.result c.write_on-reply.new.front c.write_on-reply.new.part m desk.logs slot.seat.log) ∥₁ =
+    ∥∥₁_map stands (λ s. (s.0, s.1, c.write_on-reply.ensures.writes (shape_at g.B.PartsName desk) s.0 desk.logs slot.seat.log s.1.stands (settled g at.After-always).agreed seen (λ less. c.requires.asked.here less ∙ sym (own g at.After-always)))) in
     record {
       kept = slot_noted g.K.ChannelPort g.B.PartsName g.C.ChannelName.NUMBER c.in-Some.part c.write_on-reply.new.part c.args.write c.settle.new.self.known c.note_write.new.known slot.seat c.note_write.new.seat slot.kept.channel_is c.write_on-reply.result
           (record { noted = c.note_write.ensures.noted; front_is = c.note_write.ensures.known; seat_is = c.note_write.ensures.seat })
-          c.write_on-reply.ensures.stands c.write_on-reply.ensures.same_part c.write_on-reply.ensures.puts before (record { rise = c.always.ensures }) (due g at.After-always) slot.kept.table;
+          c.write_on-reply.ensures.stands c.write_on-reply.ensures.same_part c.write_on-reply.ensures.puts before (record { rise = c.always.ensures }) (due g at.After-always) slot.kept.table
+          (mid g at.After-always) c.write_on-reply.new.front wrote (own g at.After-always) (of g at.After-always);
     }
 
 pub note-requires-clause-room : goal.note-requires-clause-room

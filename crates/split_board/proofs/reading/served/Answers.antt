@@ -1,0 +1,26 @@
+-- A read that has to wait is served.
+use Rattle.std.proofs.Common.{ℕ, subst, sym}
+use Rattle.board_desk.specs.Answering.{IsTicketOf}
+use Rattle.channel_locks.proofs.ServedLines.{served_line}
+use Rattle.channel_locks.specs.Slots.{IsPartWhereDue}
+use Rattle.channel_port.specs.declared.answers.Got.{Got}
+use Rattle.split_board.specs.Turns.{ServesFirst}
+use Rattle.split_board.proofs.reading.served.Goals as goal
+
+pub returns-in-Later : goal.returns-in-Later
+returns-in-Later g c =
+    let L = g.K.ChannelPort in
+    let P = g.B.PartsName in
+    let slot = c.args.slot.now in
+    let here = subst (λ (got : Got). IsTicketOf g.C.ChannelName.NUMBER got) c.in-Later.is c.requires in
+    subst (λ (got : Got). ServesFirst L P c.args.line c.args.at got c.told_for.result) (sym c.in-Later.is) (
+      c.serve.result,
+      record {
+        before = slot.part;
+        after = c.serve.new.self.part;
+        lent = (slot.seat.log, subst (λ (channel : ℕ). ∥ IsPartWhereDue L P slot.part channel slot.seat.log ∥₁) (sym here) slot.kept.part_is);
+        serves = c.serve.ensures.serves;
+        has = served_line L P g.C.ChannelName.NUMBER slot.seat.log c.in-Later.ticket c.serve.result slot.part c.serve.new.self.part slot.kept.part_is c.serve.ensures.serves;
+      },
+      c.told_for.ensures,
+    )
