@@ -40,17 +40,19 @@ typedef struct {
     uint64_t second;
 } ph_numbers;
 
-/* What a call answers. Behind some are the two numbers that come with it. */
+/* What a call answers; ph_text has the words. Behind some are the two numbers that come with it. */
 enum {
     PH_DONE = 0,
     PH_NO_MEMORY = 1,
     PH_NO_PROFILE = 2,     /* the text is no profile */
     PH_BUFFER = 3,         /* the buffer isn't as long as a line */
+    PH_SIZE = 4,           /* the bytes of the store are another number: wanted, 0 */
     PH_DEVICE = 7,         /* a call of the device failed */
     PH_NO_HANDLE = 8,      /* the handle is closed */
     PH_ALREADY_OPEN = 9,   /* the handle is open */
-    PH_NULL = 11,          /* a pointer is null; this and the next are answered by the tests in this header */
+    PH_NULL = 11,          /* a pointer is null */
     PH_OVERLAP = 12,       /* buffers overlap */
+    PH_NO_PICK = 13,       /* there is no such pick */
     PH_FULL = 16,          /* the line's channel has as many pending writes as its queue holds */
     PH_ENERGY_LOW = 17,    /* the energy doesn't suffice for one more write: need, has */
     PH_DISARMING = 18,
@@ -59,6 +61,7 @@ enum {
     PH_NO_SUCH_LINE = 21,
     PH_READS_FULL = 22,    /* as many reads are open in the line's channel as there is room for */
     PH_READ_WAITS = 23,    /* the bytes didn't come within the turns of a read */
+    PH_NO_SUCH_WRITE = 24, /* so many writes weren't accepted: accepted, 0 */
     PH_NEED_ENERGY = 32,   /* the energy doesn't suffice to arm: need, has */
     PH_SAVE_RUNNING = 33,
     PH_UNSETTLED = 34,     /* a call of the device has failed since the last save */
@@ -73,6 +76,12 @@ enum {
     PH_DARK = 55           /* mains were lost, and the energy didn't suffice */
 };
 
+/* The modes that ph_mode tells. */
+enum { PH_MODE_DISARMED = 0, PH_MODE_ARMED = 1, PH_MODE_DISARMING = 2, PH_MODE_STRANDED = 3, PH_MODE_CLOSING = 4, PH_MODE_SAVED = 5 };
+
+/* Which bytes a stop leaves where the device hadn't settled them: those of the last sync, those of the last write, or any byte. */
+enum { PH_PICK_OLD = 0, PH_PICK_NEW = 1, PH_PICK_TORN = 2 };
+
 /* Opens a module of a profile (TOML) on a new device in memory, formatted, with a gauge that shows 0. */
 uint32_t ph_open_memory(ph_handle *handle, const uint8_t *profile, size_t profile_length);
 /* Closes a handle. */
@@ -82,16 +91,45 @@ uint32_t ph_close(ph_handle *handle);
 uint32_t ph_write(ph_handle *handle, uint64_t line, const uint8_t *bytes, size_t bytes_length, ph_numbers *numbers);
 /* Reads a line of the memory after all accepted writes into 64 bytes. */
 uint32_t ph_read(ph_handle *handle, uint64_t line, uint8_t *into, size_t into_length, ph_numbers *numbers);
+/* Issues one command of each channel, where it has one: how many, 0. A channel does nothing but by this, by reads that wait and by
+ * saves; so it is what makes room behind PH_FULL. */
+uint32_t ph_work(ph_handle *handle, ph_numbers *numbers);
 /* How many writes are persistent: exactly those with a number below it. */
 uint32_t ph_mark(ph_handle *handle, ph_numbers *numbers);
+/* How many writes were accepted. */
+uint32_t ph_accepted(ph_handle *handle, ph_numbers *numbers);
+/* Returns with PH_DONE once the write of this number is persistent: the mark. It saves where that is needed. */
+uint32_t ph_persist(ph_handle *handle, uint64_t number, ph_numbers *numbers);
 
+/* The mode: one of PH_MODE_.. */
+uint32_t ph_mode(ph_handle *handle, ph_numbers *numbers);
+/* Sets the level of the gauge, which the module reads: the level, the mode. */
+uint32_t ph_set_energy(ph_handle *handle, uint64_t level, ph_numbers *numbers);
+/* Arms: from then on each write is persistent once it is accepted. 1 where it was armed already, else 0. */
+uint32_t ph_arm(ph_handle *handle, ph_numbers *numbers);
+/* Begins to disarm. 1 where it was disarmed already, else 0. */
+uint32_t ph_disarm(ph_handle *handle, ph_numbers *numbers);
 /* Saves all accepted writes, or what is left of a save that runs: generation, count. */
 uint32_t ph_save(ph_handle *handle, ph_numbers *numbers);
+/* Makes one step of a save, which is begun where none runs. PH_DONE ends it: generation, count. */
+uint32_t ph_save_step(ph_handle *handle, ph_numbers *numbers);
 /* Mains are lost: an armed module saves its accepted writes on backup: generation, count. */
 uint32_t ph_power_loss(ph_handle *handle, ph_numbers *numbers);
 
-/* Tests of what a pointer may be, before each call: a null pointer is answered PH_NULL, and memory of two arguments that overlaps
- * PH_OVERLAP. With PH_UNCHECKED defined they are left out. */
+/* How many lines the module has, and how many bytes its device. */
+uint32_t ph_sizes(ph_handle *handle, ph_numbers *numbers);
+
+/* From now on the device passes so many calls and fails each later one. */
+uint32_t ph_stop_after(ph_handle *handle, uint64_t calls, ph_numbers *numbers);
+/* Stops the module here, as a loss of power that nothing saves, and closes the handle: the bytes that the stop leaves of the device. */
+uint32_t ph_stopped(ph_handle *handle, uint32_t pick, uint32_t byte, uint8_t *into, size_t into_length, ph_numbers *numbers);
+
+/* The words of a code, in UTF-8 and with no 0 behind them, as far as there is room; it answers how many bytes they are,
+ * and 0 of a null pointer. */
+size_t ph_text(uint32_t code, uint8_t *into, size_t into_length);
+
+/* Tests of what a pointer may be, before each call: a null pointer is answered PH_NULL, and memory of two arguments that overlaps PH_OVERLAP. With
+ * PH_UNCHECKED defined they are left out. */
 #ifndef PH_UNCHECKED
 static inline int ph_overlap_(const void *a, size_t a_length, const void *b, size_t b_length) {
     uintptr_t x = (uintptr_t)a, y = (uintptr_t)b;
@@ -128,11 +166,47 @@ static inline uint32_t ph_tested_read(ph_handle *handle, uint64_t line, uint8_t 
 }
 #define ph_read ph_tested_read
 
+static inline uint32_t ph_tested_work(ph_handle *handle, ph_numbers *numbers) {
+    uint32_t code = ph_test_(handle, "", 0, numbers);
+    return code ? code : ph_work(handle, numbers);
+}
+#define ph_work ph_tested_work
+
 static inline uint32_t ph_tested_mark(ph_handle *handle, ph_numbers *numbers) {
     uint32_t code = ph_test_(handle, "", 0, numbers);
     return code ? code : ph_mark(handle, numbers);
 }
 #define ph_mark ph_tested_mark
+
+static inline uint32_t ph_tested_accepted(ph_handle *handle, ph_numbers *numbers) {
+    uint32_t code = ph_test_(handle, "", 0, numbers);
+    return code ? code : ph_accepted(handle, numbers);
+}
+#define ph_accepted ph_tested_accepted
+
+static inline uint32_t ph_tested_mode(ph_handle *handle, ph_numbers *numbers) {
+    uint32_t code = ph_test_(handle, "", 0, numbers);
+    return code ? code : ph_mode(handle, numbers);
+}
+#define ph_mode ph_tested_mode
+
+static inline uint32_t ph_tested_sizes(ph_handle *handle, ph_numbers *numbers) {
+    uint32_t code = ph_test_(handle, "", 0, numbers);
+    return code ? code : ph_sizes(handle, numbers);
+}
+#define ph_sizes ph_tested_sizes
+
+static inline uint32_t ph_tested_arm(ph_handle *handle, ph_numbers *numbers) {
+    uint32_t code = ph_test_(handle, "", 0, numbers);
+    return code ? code : ph_arm(handle, numbers);
+}
+#define ph_arm ph_tested_arm
+
+static inline uint32_t ph_tested_disarm(ph_handle *handle, ph_numbers *numbers) {
+    uint32_t code = ph_test_(handle, "", 0, numbers);
+    return code ? code : ph_disarm(handle, numbers);
+}
+#define ph_disarm ph_tested_disarm
 
 static inline uint32_t ph_tested_save(ph_handle *handle, ph_numbers *numbers) {
     uint32_t code = ph_test_(handle, "", 0, numbers);
@@ -140,11 +214,46 @@ static inline uint32_t ph_tested_save(ph_handle *handle, ph_numbers *numbers) {
 }
 #define ph_save ph_tested_save
 
+static inline uint32_t ph_tested_save_step(ph_handle *handle, ph_numbers *numbers) {
+    uint32_t code = ph_test_(handle, "", 0, numbers);
+    return code ? code : ph_save_step(handle, numbers);
+}
+#define ph_save_step ph_tested_save_step
+
 static inline uint32_t ph_tested_power_loss(ph_handle *handle, ph_numbers *numbers) {
     uint32_t code = ph_test_(handle, "", 0, numbers);
     return code ? code : ph_power_loss(handle, numbers);
 }
 #define ph_power_loss ph_tested_power_loss
+
+static inline uint32_t ph_tested_persist(ph_handle *handle, uint64_t number, ph_numbers *numbers) {
+    uint32_t code = ph_test_(handle, "", 0, numbers);
+    return code ? code : ph_persist(handle, number, numbers);
+}
+#define ph_persist ph_tested_persist
+
+static inline uint32_t ph_tested_set_energy(ph_handle *handle, uint64_t level, ph_numbers *numbers) {
+    uint32_t code = ph_test_(handle, "", 0, numbers);
+    return code ? code : ph_set_energy(handle, level, numbers);
+}
+#define ph_set_energy ph_tested_set_energy
+
+static inline uint32_t ph_tested_stop_after(ph_handle *handle, uint64_t calls, ph_numbers *numbers) {
+    uint32_t code = ph_test_(handle, "", 0, numbers);
+    return code ? code : ph_stop_after(handle, calls, numbers);
+}
+#define ph_stop_after ph_tested_stop_after
+
+static inline uint32_t ph_tested_stopped(ph_handle *handle, uint32_t pick, uint32_t byte, uint8_t *into, size_t into_length, ph_numbers *numbers) {
+    uint32_t code = ph_test_(handle, into, into_length, numbers);
+    return code ? code : ph_stopped(handle, pick, byte, into, into_length, numbers);
+}
+#define ph_stopped ph_tested_stopped
+
+static inline size_t ph_tested_text(uint32_t code, uint8_t *into, size_t into_length) {
+    return into ? ph_text(code, into, into_length) : 0;
+}
+#define ph_text ph_tested_text
 
 #endif
 

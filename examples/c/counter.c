@@ -8,8 +8,9 @@
 #include <string.h>
 
 static void check(const char *what, uint32_t code) {
+    uint8_t words[80];
     if (code == PH_DONE) return;
-    fprintf(stderr, "counter: %s: code %" PRIu32 "\n", what, code);
+    fprintf(stderr, "counter: %s: %.*s\n", what, (int)ph_text(code, words, sizeof words), (char *)words);
     exit(1);
 }
 

@@ -1,2 +1,4 @@
 mod Opening
+mod Persisting
+mod Whole
 mod Writing

@@ -1,7 +1,13 @@
 -- The codes that C sees, with their numbers.
-use Rattle.std.specs.Prelude.{ℕ, Result, Ok, Err}
+use Rattle.std.specs.Prelude.{ℕ, Option, Some, None, Result, Ok, Err}
 use Rattle.arm_state.specs.declared.loss.Loss.{Loss}
 use Rattle.arm_state.specs.declared.loss.Loss.TheVariants as loss
+use Rattle.arm_state.specs.declared.mode.Mode.{Mode}
+use Rattle.arm_state.specs.declared.mode.Mode.TheVariants as mode
+use Rattle.arm_state.specs.declared.refusal.ArmReply.{ArmReply}
+use Rattle.arm_state.specs.declared.refusal.ArmReply.TheVariants as armed
+use Rattle.arm_state.specs.declared.refusal.DisarmReply.{DisarmReply}
+use Rattle.arm_state.specs.declared.refusal.DisarmReply.TheVariants as disarmed
 use Rattle.arm_state.specs.declared.refusal.ArmRefusal.{ArmRefusal}
 use Rattle.arm_state.specs.declared.refusal.ArmRefusal.TheVariants as arm
 use Rattle.arm_state.specs.declared.refusal.ReadRefusal.{ReadRefusal}
@@ -13,6 +19,7 @@ use Rattle.nv_machine.specs.declared.events.StepReply.{StepReply}
 use Rattle.nv_machine.specs.declared.events.StepReply.TheVariants as step
 use Rattle.nv_profile.specs.declared.reading.ProfileFault.{ProfileFault}
 use Rattle.nv_profile.specs.declared.reading.ProfileFault.TheVariants as profile
+use Rattle.nv_session.specs.declared.calls.Level.{Level}
 use Rattle.nv_session.specs.declared.lives.FormatError.{FormatError}
 use Rattle.nv_session.specs.declared.lives.FormatError.TheVariants as format
 use Rattle.nv_session.specs.declared.turns.LineSeen.{LineSeen}
@@ -55,6 +62,31 @@ refusal_told arm.Disarming = told_code 18
 refusal_told arm.Closed = told_code 19
 refusal_told arm.Spent = told_code 35
 refusal_told arm.Device = told_code 7
+
+abbrev pub arm_told : Result ArmReply ArmRefusal → Told
+arm_told (Ok armed.Armed) = told 0 0 0
+arm_told (Ok armed.AlreadyArmed) = told 0 1 0
+arm_told (Err refusal) = refusal_told refusal
+
+abbrev pub disarm_told : Result DisarmReply ArmRefusal → Told
+disarm_told (Ok disarmed.Disarming) = told 0 0 0
+disarm_told (Ok disarmed.AlreadyDisarmed) = told 0 1 0
+disarm_told (Err refusal) = refusal_told refusal
+
+abbrev pub mode_number : Option Mode → ℕ
+mode_number (Some mode.Disarmed) = 0
+mode_number (Some mode.Armed) = 1
+mode_number (Some mode.Disarming) = 2
+mode_number (Some mode.Stranded) = 3
+mode_number (Some mode.Closing) = 4
+mode_number (Some mode.Saved) = 5
+mode_number None = 6
+
+abbrev pub mode_told : Option Mode → Told
+mode_told now = told 0 (mode_number now) 0
+
+abbrev pub level_told : Level → Told
+level_told level = told 0 level.reading (mode_number level.mode)
 
 abbrev pub save_told : Result StepReply ArmRefusal → Told
 save_told (Ok (step.Saved generation count)) = told 0 generation count

@@ -1,11 +1,11 @@
 // What a call answers: a code, and numbers beside it. `include/panguhero.h` names the same codes.
 ghost use Rattle.std.specs.Prelude.{◌≡◌};
-ghost use Rattle.panguhero_c.specs.Codes.{format_code, loss_told, profile_code, read_told, refusal_told, save_told, write_told};
+ghost use Rattle.panguhero_c.specs.Codes.{arm_told, disarm_told, format_code, level_told, loss_told, mode_told, mode_number, profile_code, read_told, refusal_told, save_told, write_told};
 
-use arm_state::{ArmRefusal, Loss, ReadRefusal, WriteRefusal};
+use arm_state::{ArmRefusal, ArmReply, DisarmReply, Loss, Mode, ReadRefusal, WriteRefusal};
 use nv_machine::{Accepted, StepReply};
 use nv_profile::ProfileFault;
-use nv_session::{FormatError, LineSeen};
+use nv_session::{FormatError, Level, LineSeen};
 
 /// The numbers that go with a code; 0 where there is none.
 #[repr(C)]
@@ -30,11 +30,19 @@ pub(crate) const NO_PROFILE: u32 = 2;
 
 pub(crate) const BUFFER: u32 = 3;
 
-pub(crate) const DEVICE: u32 = 7;
+pub(crate) const SIZE: u32 = 4;
+
+const DEVICE: u32 = 7;
 
 pub(crate) const NO_HANDLE: u32 = 8;
 
 pub(crate) const ALREADY_OPEN: u32 = 9;
+
+pub(crate) const NULL: u32 = 11;
+
+pub(crate) const OVERLAP: u32 = 12;
+
+pub(crate) const NO_PICK: u32 = 13;
 
 const FULL: u32 = 16;
 
@@ -52,6 +60,8 @@ const READS_FULL: u32 = 22;
 
 const READ_WAITS: u32 = 23;
 
+pub(crate) const NO_SUCH_WRITE: u32 = 24;
+
 const NEED_ENERGY: u32 = 32;
 
 const SAVE_RUNNING: u32 = 33;
@@ -62,7 +72,7 @@ const SPENT: u32 = 35;
 
 const STEPPED: u32 = 48;
 
-const WAITING: u32 = 49;
+pub(crate) const WAITING: u32 = 49;
 
 const TURNED: u32 = 50;
 
@@ -138,6 +148,57 @@ fn refusal_told(refusal: ArmRefusal) -> Told
     }
 }
 
+/// What arming is answered.
+pub(crate) fn arm_told(reply: Result<ArmReply, ArmRefusal>) -> Told
+    ensures { result ≡ arm_told reply }
+{
+    match reply {
+        Ok(ArmReply::Armed) => Told::code(DONE),
+        Ok(ArmReply::AlreadyArmed) => Told::with(DONE, 1, 0),
+        Err(refusal) => refusal_told(refusal),
+    }
+}
+
+/// What disarming is answered.
+pub(crate) fn disarm_told(reply: Result<DisarmReply, ArmRefusal>) -> Told
+    ensures { result ≡ disarm_told reply }
+{
+    match reply {
+        Ok(DisarmReply::Disarming) => Told::code(DONE),
+        Ok(DisarmReply::AlreadyDisarmed) => Told::with(DONE, 1, 0),
+        Err(refusal) => refusal_told(refusal),
+    }
+}
+
+// The number of a mode.
+fn mode_number(mode: Option<Mode>) -> u64
+    ensures { result ≡ mode_number mode }
+{
+    match mode {
+        Some(Mode::Disarmed) => 0,
+        Some(Mode::Armed) => 1,
+        Some(Mode::Disarming) => 2,
+        Some(Mode::Stranded) => 3,
+        Some(Mode::Closing) => 4,
+        Some(Mode::Saved) => 5,
+        None => 6,
+    }
+}
+
+/// How a mode is told.
+pub(crate) fn mode_told(mode: Option<Mode>) -> Told
+    ensures { result ≡ mode_told mode }
+{
+    Told::with(DONE, mode_number(mode), 0)
+}
+
+/// How a reading of the gauge is told, with the mode.
+pub(crate) fn level_told(level: Level) -> Told
+    ensures { result ≡ level_told level }
+{
+    Told::with(DONE, level.reading, mode_number(level.mode))
+}
+
 /// What a save, or a step of one, is answered.
 pub(crate) fn save_told(reply: Result<StepReply, ArmRefusal>) -> Told
     ensures { result ≡ save_told reply }
@@ -184,5 +245,44 @@ pub(crate) fn format_code(error: FormatError) -> u32
     match error {
         FormatError::Device => DEVICE,
         FormatError::Memory => NO_MEMORY,
+    }
+}
+
+/// The words of a code.
+pub(crate) fn text_of(code: u32) -> &'static str {
+    match code {
+        DONE => "it was done",
+        NO_MEMORY => "there is no memory",
+        NO_PROFILE => "the text is no profile",
+        BUFFER => "the buffer isn't as long as a line",
+        SIZE => "the bytes of the store are of another length",
+        DEVICE => "a call of the device failed",
+        NO_HANDLE => "the handle is closed",
+        ALREADY_OPEN => "the handle is open",
+        NULL => "a pointer is null",
+        OVERLAP => "buffers overlap",
+        NO_PICK => "there is no such pick",
+        FULL => "the write queue of the line's channel is full",
+        ENERGY_LOW => "the energy is too low for one more write",
+        DISARMING => "the module is disarming",
+        CLOSED => "mains were lost",
+        TRAIL_FULL => "there is no room for one more write until a save",
+        NO_SUCH_LINE => "there is no such line",
+        READS_FULL => "there is no room for one more read",
+        READ_WAITS => "the bytes of the read didn't come in time",
+        NO_SUCH_WRITE => "there is no such write",
+        NEED_ENERGY => "the energy is too low to arm",
+        SAVE_RUNNING => "a save runs",
+        UNSETTLED => "the device has failed since the last save",
+        SPENT => "there is no generation left",
+        STEPPED => "a step of the save was made",
+        WAITING => "the save waits for a write",
+        TURNED => "the energy was low, so the module is disarming",
+        NO_SAVE => "no save runs",
+        RETRY => "the device failed, and the step is to be made again",
+        SAVE_FAULT => "the device failed, which ended the save",
+        UNSAVED => "mains were lost while disarmed",
+        DARK => "mains were lost, and the energy didn't suffice",
+        _ => "there is no such code",
     }
 }

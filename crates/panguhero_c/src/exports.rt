@@ -1,16 +1,16 @@
 // The calls, as C sees them.
-ghost use Rattle.std.specs.Prelude.{◌≡◌, ◌≢◌, None};
+ghost use Rattle.std.specs.Prelude.{◌≡◌, ◌≢◌, ℕ, List, length, None};
 ghost use Rattle.nv_profile.specs.Profile.{IsNoProfile};
-ghost use Rattle.panguhero_c.specs.Calls.{CallsOn, IfOpened, LosesMains, OpensNew, Reads, Saves, TellsMark, Writes};
+ghost use Rattle.panguhero_c.specs.Calls.{CallsOn, HasText, IfOpened, LosesMains, OpensNew, Reads, Saves, TellsMark, Writes};
 ghost use Rattle.panguhero_c.specs.Codes.{told_by};
 
-use crate::codes::{ALREADY_OPEN, DONE, NO_HANDLE, NO_MEMORY, Numbers, Told};
+use crate::codes::{ALREADY_OPEN, DONE, NO_HANDLE, NO_MEMORY, Numbers, Told, text_of};
 use crate::handle::Handle;
 use crate::opened::OpenModule;
 use std::alloc::Global;
 
 // Tells C the numbers, and gives the code.
-fn tell(told: Told, numbers: &mut Numbers) -> u32
+pub(crate) fn tell(told: Told, numbers: &mut Numbers) -> u32
     ensures { told_by result numbers.new ≡ told }
 {
     *numbers = told.numbers;
@@ -144,4 +144,15 @@ pub extern "C" fn ph_mark(alloc: Global, handle: &mut Handle, numbers: &mut Numb
     let told = Told::with(DONE, opened.mark(), 0);
     handle.put(opened);
     tell(told, numbers)
+}
+
+/// The words of a code, as far as there is room. It answers how many bytes they are.
+#[unsafe(no_mangle)]
+pub extern "C" fn ph_text(code: u32, into: &mut [u8]) -> usize
+    ensures { (words : List ℕ) × (result ≡ length words) × HasText words into.old into.new }
+{
+    let words = text_of(code).as_bytes();
+    let room = words.len().min(into.len());
+    into[..room].copy_from_slice(&words[..room]);
+    words.len()
 }

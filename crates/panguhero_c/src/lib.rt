@@ -3,7 +3,10 @@
 //! numbers beside it. `include/panguhero.h` has the calls as C sees them, and what a caller in C owes.
 #![tactic(auto)]
 
+mod calls;
 mod codes;
+mod control;
+mod crash;
 mod exports;
 mod handle;
 mod maybe_box;
@@ -11,5 +14,12 @@ mod opened;
 mod wiring;
 
 pub use codes::Numbers;
-pub use exports::{ph_close, ph_mark, ph_open_memory, ph_power_loss, ph_read, ph_save, ph_write};
+pub use control::{
+    ph_accepted, ph_arm, ph_disarm, ph_mode, ph_persist, ph_save_step, ph_set_energy, ph_sizes,
+    ph_work,
+};
+pub use crash::{ph_stop_after, ph_stopped};
+pub use exports::{
+    ph_close, ph_mark, ph_open_memory, ph_power_loss, ph_read, ph_save, ph_text, ph_write,
+};
 pub use handle::Handle;

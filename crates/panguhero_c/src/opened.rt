@@ -18,10 +18,12 @@ use nv_profile::{Profile, read_profile};
 use nv_session::{LineSeen, Session};
 use std::alloc::Global;
 
-/// A module that was opened, with its device and its gauge.
+/// A module that was opened, with its device and its gauge, and its profile beside it.
 #[derive(Drop)]
 pub struct OpenModule {
     pub(crate) session: Session<Ddr4Port<'static, ReadyMap>, ProfileWires<'static>>,
+    pub(crate) profile: Profile,
+    ghost same: { session.profile ≡ profile },
 }
 
 // What makes the modules of a profile, over a map that stays in memory until the program ends.
@@ -59,7 +61,7 @@ impl OpenModule {
             return Err(NO_MEMORY);
         };
         match session.format(alloc) {
-            Ok(()) => Ok(OpenModule { session }),
+            Ok(()) => Ok(OpenModule { session, profile }),
             Err(error) => Err(format_code(error)),
         }
     }
