@@ -4,3 +4,4 @@ pub mod Ringing
 pub mod Reading
 pub mod Opening
 pub mod Calling
+pub mod Finding

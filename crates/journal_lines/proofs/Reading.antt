@@ -1,12 +1,12 @@
 -- Which records the lines in use are those of, read one behind another.
-use Rattle.std.proofs.Common.{◌≡◌, ℕ, zero, suc, ◌+◌, ◌-◌, ◌/◌, ◌%◌, ◌<◌, ◌≤◌, List, [], ◌∷◌, ◌++◌, length, take, drop, replicate, refl, sym, ap, ◌∙◌, arith, append_assoc, length-append, length-drop, All}
-use Rattle.std.proofs.Math.Seq.{take-add}
+use Rattle.std.proofs.Common.{◌≡◌, ℕ, zero, suc, ◌+◌, ◌-◌, ◌/◌, ◌%◌, ◌<◌, ◌≤◌, List, [], ◌∷◌, ◌++◌, length, get_or, take, drop, replicate, refl, sym, ap, ◌∙◌, arith, append_assoc, length-append, length-drop, drop-cons, All}
+use Rattle.std.proofs.Math.Seq.{drop-append_seam, take-add}
 use Rattle.std.proofs.lemmas.Grind.{flat_map-append}
 use Rattle.std.proofs.lemmas.List.Elements.{All-nil, All-push}
 use Rattle.std.proofs.lemmas.List.{append_cancel_left, length-take, take-append-drop, take_all, take_at}
 use Rattle.std.proofs.lemmas.Nat.{mod_below}
 use Rattle.journal_log.specs.Lines.{line_with, lines_from, lines_of, size_of, sizes_of, spelled}
-use Rattle.journal_log.proofs.Spelling.{length-lines_of, sizes-least, sizes-push, spelled-push}
+use Rattle.journal_log.proofs.Spelling.{length-lines_of, sizes-least, sizes-push, spelled-parts, spelled-push}
 use Rattle.journal_lines.specs.Places.{places_of}
 use Rattle.journal_lines.specs.Scanning.{first_of}
 
@@ -93,3 +93,12 @@ read_few lines size first from places r =
 pub read_whole : (lines : List (List ℕ)) (size first from : ℕ) (places : List ℕ) → ReadUpTo lines size first from places → length lines ≤ from
     → (records : List (List ℕ)) × (lines ≡ spelled records) × (places ≡ places_of size first records)
 read_whole lines size first from places r all = (r.records, sym (take_all from lines all) ∙ r.are, r.begin)
+
+-- from where a record begins on, the first one is that record
+pub record_at : (lines : List (List ℕ)) (records : List (List ℕ)) (k : ℕ) (d : List ℕ) → k < length records → lines ≡ spelled records
+    → first_of (drop (sizes_of (take k records)) lines) ≡ get_or records k d
+record_at lines records k d less are =
+    ap (λ (ls : List (List ℕ)). first_of (drop (sizes_of (take k records)) ls)) (are ∙ spelled-parts k records)
+    ∙ ap first_of (drop-append_seam (spelled (take k records)) (spelled (drop k records)))
+    ∙ ap (λ (rs : List (List ℕ)). first_of (spelled rs)) (drop-cons records k d less)
+    ∙ first_record (get_or records k d) (spelled (drop (suc k) records))

@@ -19,7 +19,7 @@ struct Behind {
 }
 
 // How many places on in a ring of so many another one is, less than once round.
-fn ring_distance(from: u64, to: u64, ring: u64) -> u64
+pub(crate) fn ring_distance(from: u64, to: u64, ring: u64) -> u64
     requires from { from ≤ ring }
     requires to { to ≤ ring }
     requires small { ring ≤ 2 ^ 63 }

@@ -4,6 +4,7 @@
 mod calls;
 mod index;
 mod lines;
+mod record;
 mod scanning;
 
 pub use index::{Index, OpenRefusal};

@@ -31,7 +31,7 @@ fn ring_line(memory: &[Line], first: u64, number: u64) -> &Line
 }
 
 // The bytes of the record that begins at this line of those in use.
-fn bytes_at(
+pub(crate) fn bytes_at(
     alloc: Global,
     memory: &[Line],
     first: u64,

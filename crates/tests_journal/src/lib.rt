@@ -1,0 +1,7 @@
+//! Tests of a journal: what no clause says of it.
+#![tactic(auto)]
+
+#[cfg(test)]
+mod lines;
+#[cfg(test)]
+mod module;
