@@ -23,8 +23,8 @@ pub struct Level {
     pub mode: Option<Mode>,
 }
 
-// The command that was issued, if one was.
-fn command_of(done: Option<Done>) -> Option<Stamped>
+/// The command that was issued, if one was.
+pub fn command_of(done: Option<Done>) -> Option<Stamped>
     ensures { result ≡ option_map (λ done. done.command) done }
 {
     match done {

@@ -10,12 +10,12 @@ mod session;
 mod turns;
 mod wires;
 
-pub use calls::Level;
+pub use calls::{Level, command_of};
 pub use laws::{
     restore_after_any_stop, restore_after_save, sessions_keep_lives, sessions_live,
     sessions_survive,
 };
 pub use lives::FormatError;
 pub use session::Session;
-pub use turns::LineSeen;
+pub use turns::{LineSeen, read, save, step};
 pub use wires::Wires;

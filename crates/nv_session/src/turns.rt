@@ -53,7 +53,7 @@ fn await_read<K: ChannelPort>(running: &mut Module<K>, ticket: Ticket) -> LineSe
 }
 
 /// Reads a line of the memory after all accepted writes. Where its bytes are to come with a command, its channel is worked.
-pub(crate) fn read<K: ChannelPort>(
+pub fn read<K: ChannelPort>(
     running: &mut Module<K>,
     channels: u64,
     line: u64,
@@ -73,7 +73,7 @@ pub(crate) fn read<K: ChannelPort>(
 }
 
 /// Makes a step of the save that runs, or begins one and makes its first step.
-pub(crate) fn step<K: ChannelPort, D: SaveDevice, E: Energy>(
+pub fn step<K: ChannelPort, D: SaveDevice, E: Energy>(
     running: &mut Module<K>,
     device: &mut D,
     energy: &mut E,
@@ -130,7 +130,7 @@ fn work_where_waiting<K: ChannelPort>(running: &mut Module<K>, channels: u64, re
 
 /// Makes a whole save, or the rest of one that runs: a step in each turn, or where that waits a work on each channel. It
 /// answers the step that ended it, or `Waiting` where the turns don't suffice.
-pub(crate) fn save<K: ChannelPort, D: SaveDevice, E: Energy>(
+pub fn save<K: ChannelPort, D: SaveDevice, E: Energy>(
     running: &mut Module<K>,
     channels: u64,
     device: &mut D,

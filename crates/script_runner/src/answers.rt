@@ -10,7 +10,7 @@ use nv_session::LineSeen;
 use slot_store::{Head, RestoreError};
 
 /// The answer to a write.
-pub(crate) fn write_answer(reply: Result<Accepted, WriteRefusal>) -> Answer
+pub fn write_answer(reply: Result<Accepted, WriteRefusal>) -> Answer
     ensures { result ≡ write_told reply }
 {
     match reply {
@@ -20,7 +20,7 @@ pub(crate) fn write_answer(reply: Result<Accepted, WriteRefusal>) -> Answer
 }
 
 /// The answer to a read of a line.
-pub(crate) fn read_answer(line: u64, reply: Result<LineSeen, ReadRefusal>) -> Answer
+pub fn read_answer(line: u64, reply: Result<LineSeen, ReadRefusal>) -> Answer
     ensures { result ≡ read_told line reply }
 {
     match reply {
@@ -31,7 +31,7 @@ pub(crate) fn read_answer(line: u64, reply: Result<LineSeen, ReadRefusal>) -> An
 }
 
 /// The answer to one work on a channel.
-pub(crate) fn work_answer(channel: u64, command: Option<Stamped>) -> Answer
+pub fn work_answer(channel: u64, command: Option<Stamped>) -> Answer
     ensures { result ≡ work_told channel command }
 {
     match command {
@@ -41,7 +41,7 @@ pub(crate) fn work_answer(channel: u64, command: Option<Stamped>) -> Answer
 }
 
 /// The answer to a step of a save. A save that isn't over after its turns is waiting, whatever its last step was.
-pub(crate) fn step_answer(reply: Result<StepReply, ArmRefusal>) -> Answer
+pub fn step_answer(reply: Result<StepReply, ArmRefusal>) -> Answer
     ensures { result ≡ step_told reply }
 {
     match reply {
@@ -56,7 +56,7 @@ pub(crate) fn step_answer(reply: Result<StepReply, ArmRefusal>) -> Answer
 }
 
 /// The answer to a whole save.
-pub(crate) fn save_answer(reply: Result<StepReply, ArmRefusal>) -> Answer
+pub fn save_answer(reply: Result<StepReply, ArmRefusal>) -> Answer
     ensures { result ≡ save_told reply }
 {
     match reply {
@@ -66,7 +66,7 @@ pub(crate) fn save_answer(reply: Result<StepReply, ArmRefusal>) -> Answer
 }
 
 /// The answer to arming.
-pub(crate) fn arm_answer(reply: Result<ArmReply, ArmRefusal>) -> Answer
+pub fn arm_answer(reply: Result<ArmReply, ArmRefusal>) -> Answer
     ensures { result ≡ arm_told reply }
 {
     match reply {
@@ -78,7 +78,7 @@ pub(crate) fn arm_answer(reply: Result<ArmReply, ArmRefusal>) -> Answer
 }
 
 /// The answer to disarming.
-pub(crate) fn disarm_answer(reply: Result<DisarmReply, ArmRefusal>) -> Answer
+pub fn disarm_answer(reply: Result<DisarmReply, ArmRefusal>) -> Answer
     ensures { result ≡ disarm_told reply }
 {
     match reply {
@@ -89,7 +89,7 @@ pub(crate) fn disarm_answer(reply: Result<DisarmReply, ArmRefusal>) -> Answer
 }
 
 /// The answer to a restore.
-pub(crate) fn restore_answer(reply: Result<Head, RestoreError>) -> Answer
+pub fn restore_answer(reply: Result<Head, RestoreError>) -> Answer
     ensures { result ≡ restore_told reply }
 {
     match reply {

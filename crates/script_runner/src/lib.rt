@@ -8,7 +8,12 @@ mod running;
 mod script;
 mod wiring;
 
+pub use answers::{
+    arm_answer, disarm_answer, read_answer, restore_answer, save_answer, step_answer, work_answer,
+    write_answer,
+};
 pub use laws::{scripts_survive, scripts_tell_lists};
 pub use report::{Printer, Report};
 pub use running::{do_lines, run_lines, run_script};
+pub use script::{is_busy, turns_of};
 pub use wiring::Wiring;

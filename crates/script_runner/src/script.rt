@@ -44,8 +44,8 @@ where
     Ok(())
 }
 
-// How many answers a line may have.
-fn turns_of(line: ScriptLine) -> u64
+/// How many answers a line may have.
+pub fn turns_of(line: ScriptLine) -> u64
     ensures { result ≡ Rattle.script_runner.specs.Story.turns_of line }
 {
     match line {
@@ -54,8 +54,8 @@ fn turns_of(line: ScriptLine) -> u64
     }
 }
 
-// Whether more commands may follow this answer.
-fn is_busy(answer: Answer) -> bool
+/// Whether more commands may follow this answer.
+pub fn is_busy(answer: Answer) -> bool
     ensures { result ≡ Rattle.script_runner.specs.Story.is_busy answer }
 {
     !matches!(answer, Answer::Idle { .. })

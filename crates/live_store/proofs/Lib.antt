@@ -1,0 +1,5 @@
+pub mod Results
+pub mod Turns
+pub mod Talking
+pub mod Blank
+pub mod Hearing

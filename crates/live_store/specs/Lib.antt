@@ -1,0 +1,5 @@
+pub mod Lives
+pub mod Talks
+pub mod Starts
+pub mod Refusals
+pub mod Lived

@@ -1,0 +1,70 @@
+// A life on a file, with standard input.
+ghost use Rattle.std.specs.Prelude.{IfOk};
+ghost use Rattle.file_device.specs.Kept.{IfKept, IsAtRest};
+
+use crate::console::Console;
+use crate::fault::LiveFault;
+use crate::living::live_on;
+use file_device::{DiskFile, FileDevice, HostFile, OpenFault};
+use interleave_map::cells::line_count;
+use interleave_map::{Interleaving, ReadyMap};
+use nv_profile::Profile;
+use script_runner::Wiring;
+use slot_store::device_size;
+use std::io::{BufReader, Input, IsTerminal, Write};
+
+/// What a life asks of the system beside standard input: files for devices, and whether a person types.
+pub trait Host {
+    type File: DiskFile + Drop;
+
+    /// The file at the path, at rest, of so many bytes. It is made of zeros where there is none.
+    fn open_store(&self, path: &str, len: u64) -> Result<Self::File, OpenFault>
+        ensures { IfOk result (λ file. IfKept IsAtRest (Self.File.DiskFile.kept file)) };
+
+    /// Are standard input and standard output a terminal?
+    fn is_typed(&self) -> bool;
+}
+
+impl Host for HostRuntime {
+    type File = HostFile;
+
+    fn open_store(&self, path: &str, len: u64) -> Result<HostFile, OpenFault> {
+        HostFile::open(self, path, len)
+    }
+
+    fn is_typed(&self) -> bool {
+        self.stdin().is_terminal() && self.stdout().is_terminal()
+    }
+}
+
+/// Lives on the file of this name, as `live_on` does: answers the lines of standard input, each before the next one is read. The file
+/// is made where there is none. On a terminal the mode stands before each line that is typed.
+pub fn live<R: Host + Input + AllocGlobal, W: Write>(
+    rt: &R,
+    profile: &Profile,
+    path: &str,
+    writer: &mut W,
+) -> Result<(), LiveFault> {
+    let alloc = rt.alloc();
+    let size = device_size(line_count(&profile.checked) as usize);
+    let file = rt.open_store(path, size as u64)?;
+    let device = match FileDevice::over(alloc, file) {
+        Ok(device) => device,
+        Err(error) => return Err(LiveFault::Open(OpenFault::Io(error))),
+    };
+    let Ok(reader) = BufReader::new(alloc, rt.reader()) else {
+        return Err(LiveFault::Memory);
+    };
+    let mut console = Console::new(reader, writer, rt.is_typed());
+    let lines = ReadyMap {
+        interleaving: Interleaving::Lines,
+        checked: profile.checked,
+    };
+    let xor = ReadyMap {
+        interleaving: Interleaving::Xor,
+        checked: profile.checked,
+    };
+    let wiring = Wiring::new(&lines, &xor, profile);
+    let _after = live_on(alloc, profile, &wiring, device, &mut console)?;
+    Ok(())
+}
