@@ -5,8 +5,9 @@ use std::alloc::Global;
 
 // A line of the memory is written.
 fn put(memory: &mut Vec<Line>, write: Write) {
-    if (write.line as usize) < memory.len() {
-        memory[write.line as usize] = write.data;
+    let Write { line, data } = write;
+    if (line as usize) < memory.len() {
+        memory[line as usize] = data;
     }
 }
 
@@ -75,7 +76,7 @@ fn a_record_is_there_with_its_head(rt: HostRuntime) {
 #[test]
 fn other_memories_are_no_journals(rt: HostRuntime) {
     let alloc = rt.alloc();
-    let mut memory = zero_memory(alloc, 3).expect(&rt, "memory");
+    let mut memory = [[0; 64]; 3];
     assert!(&rt; found(alloc, &memory[..1]) == Some((0, 0)));
     assert!(&rt; found(alloc, &memory[..0]).is_none());
     // a head that counts more lines than there are, and one with a byte behind its numbers
