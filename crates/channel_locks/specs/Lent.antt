@@ -1,6 +1,6 @@
 -- What was done while a channel's lock lent what lies behind it. Which value it lent no clause can name, so these say that there is
 -- one.
-use Rattle.std.specs.Prelude.{◌≡◌, ℕ, List, Option}
+use Rattle.std.specs.Prelude.{◌≡◌, ℕ, Bool, List, Option}
 use Rattle.std.specs.Option.{ForSome}
 use Rattle.channel_log.specs.Log.{LogNote, Told, log_tells}
 use Rattle.channel_log.specs.ReadLines.{IsLineBehind}
@@ -54,3 +54,9 @@ module _ {K B : Type 0} (L : Ghosts K) (O : NameGhosts B) where
     pub after : Option (Part K L)
     pub lent : IsLentBy channel before
     pub room : MakesRoomAlone L before after
+
+  -- mains were lost by what the lock of this channel lent, or were there
+  pub record LentEnd (channel : ℕ) (ended : Bool) : Type 0 where
+    pub seen : Option (Part K L)
+    pub lent : IsLentBy channel seen
+    pub is : ended ≡ lost_mains_in L seen

@@ -1,7 +1,7 @@
 // The locks of all channels of a board.
 ghost use Rattle.std.specs.Prelude.{◌≡◌, ◌<◌, ◌≤◌};
 ghost use Rattle.channel_port.specs.declared.answers.Collected.TheVariants.{Unknown};
-ghost use Rattle.channel_locks.specs.Lent.{LentRoom, LentServe, LentTurn};
+ghost use Rattle.channel_locks.specs.Lent.{LentEnd, LentRoom, LentServe, LentTurn};
 
 use crate::channel_name::{
     ChannelFive, ChannelFour, ChannelOne, ChannelSeven, ChannelSix, ChannelThree, ChannelTwo,
@@ -107,5 +107,12 @@ impl<K: ChannelPort, B: PartsName> ChannelLocks<K, B> {
             6 => make_room_at(rt, &self.six),
             _ => make_room_at(rt, &self.seven),
         }
+    }
+
+    /// Were mains lost? The lock of channel 0, which each board has, is taken alone.
+    pub fn has_ended<R: Wait>(&self, rt: &R) -> bool
+        ensures { LentEnd K.ChannelPort B.PartsName 0 result }
+    {
+        take_lock(rt, &self.zero).has_ended()
     }
 }

@@ -12,6 +12,7 @@ use crate::cuts::{
 };
 use crate::silent::Silent;
 use crate::together::{lose_threads, read_beside_held, work_apart};
+use crate::waits::wait_for_marks;
 use channel_locks::PartsName;
 use channel_port::ChannelPort;
 use ddr4_boards::{Ready, formatted, open};
@@ -49,6 +50,7 @@ enum Case {
     Strange,
     Waits,
     Apart,
+    Marks,
     Parted,
     Held,
     Goes,
@@ -135,6 +137,7 @@ where
     match case {
         Case::Apart => work_apart(rt, &board, host),
         Case::Held => read_beside_held(rt, &board, host),
+        Case::Marks => wait_for_marks(rt, &board, host),
         _ => lose_threads(rt, &board, host),
     }
 }
@@ -154,7 +157,7 @@ where
     if ready.channels != CHANNELS {
         panic!(*rt; "two channels");
     }
-    if matches!(case, Case::Apart | Case::Parted | Case::Held) {
+    if matches!(case, Case::Apart | Case::Marks | Case::Parted | Case::Held) {
         try_threads::<K, D, E, B, R>(rt, alloc, ready, case);
     } else {
         let book = NoticeBook::with_room(alloc, 2).expect(rt, "memory");
@@ -267,4 +270,9 @@ fn a_cut_in_each_mode(rt: HostRuntime) {
 #[test]
 fn strangers_stop_a_cut(rt: HostRuntime) {
     try_case(&rt, rt.alloc(), Case::CutStrange);
+}
+
+#[test]
+fn waits_end_by_a_save_and_by_a_loss(rt: HostRuntime) {
+    try_case(&rt, rt.alloc(), Case::Marks);
 }

@@ -32,3 +32,5 @@ mod notices;
 mod silent;
 #[cfg(test)]
 mod together;
+#[cfg(test)]
+mod waits;
