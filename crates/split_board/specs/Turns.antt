@@ -1,5 +1,5 @@
 -- What a worker and a read that waits do under one channel's lock alone.
-use Rattle.std.specs.Prelude.{◌≡◌, ◌≢◌, ◌⊎◌, ℕ, ◌<◌, ◌≤◌, Result, Ok, Err, if◌then◌else◌}
+use Rattle.std.specs.Prelude.{◌≡◌, ◌≢◌, ◌⊎◌, ℕ, ◌<◌, ◌≤◌, Option, Result, Ok, Err, if◌then◌else◌}
 use Rattle.std.specs.Option.{is_some}
 use Rattle.arm_state.specs.declared.refusal.ReadRefusal.{ReadRefusal}
 use Rattle.arm_state.specs.declared.refusal.ReadRefusal.TheVariants as refusals
@@ -11,7 +11,9 @@ use Rattle.channel_port.specs.declared.answers.Ticket.{Ticket}
 use Rattle.channel_port.specs.declared.port.ChannelPort.{Ghosts}
 use Rattle.channel_locks.specs.declared.parts_name.PartsName.{Ghosts as PartsGhosts}
 use Rattle.channel_locks.specs.declared.turns.ChannelTurn.{ChannelTurn}
+use Rattle.channel_locks.specs.Alone.{ServesAlone}
 use Rattle.channel_locks.specs.Lent.{LentServe, LentTurn}
+use Rattle.channel_part.specs.declared.part.Part.{Part}
 use Rattle.worker_gate.specs.declared.Gate.{Ghosts as GateGhosts}
 use Rattle.worker_gate.specs.declared.Turn.{Turn}
 use Rattle.worker_loops.specs.declared.shift.Shift.{Ghosts as ShiftGhosts}
@@ -47,6 +49,13 @@ IsNotOwn line at answer = Unit {0}
 abbrev pub TellsOwn : ℕ → ℕ → Ticket → Collected → Got → Type 0
 TellsOwn line at ticket answer (Now bytes) = answer ≡ Data line bytes at
 TellsOwn line at ticket answer (Later left) = (left ≡ ticket) × IsNotOwn line at answer
+
+module _ {K : Type 0} (L : Ghosts K) where
+  -- A read's first answer, what the host is told, and what the channel's lock lent, before and behind it: where the read had to wait it
+  -- was served once, and nothing else was done.
+  abbrev pub ServesOnce : ℕ → ℕ → Got → Got → Option (Part K L) → Option (Part K L) → Type 0
+  ServesOnce line at (Now bytes) told old new = (told ≡ Now bytes) × (new ≡ old)
+  ServesOnce line at (Later ticket) told old new = (answer : Collected) × ServesAlone L ticket answer old new × TellsOwn line at ticket answer told
 
 module _ {K B : Type 0} (L : Ghosts K) (P : PartsGhosts B) where
   -- The worker of a channel took one turn under the channel's lock, and goes on so.

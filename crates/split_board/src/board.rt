@@ -1,5 +1,5 @@
 // The locks.
-ghost use Rattle.std.specs.Prelude.{◌<◌};
+ghost use Rattle.std.specs.Prelude.{◌≡◌, ◌<◌};
 ghost use Rattle.board_desk.specs.Answering.{IsAskedFor};
 ghost use Rattle.split_board.specs.Lines.{AreLinesOfBoard};
 
@@ -39,6 +39,8 @@ impl<K: ChannelPort, D: SaveDevice, E: Energy, B: BoardName + PartsName, N: Noti
         notices: N,
     ) -> Board<K, D, E, B, N>
         requires { AreLinesOfBoard B.BoardName.own B.PartsName lines }
+        ensures channels { result.channels ≡ channels }
+        ensures lines { result.lines ≡ lines }
     {
         Board {
             desk: Mutex::new(LockedDesk { desk: Some(desk) }),

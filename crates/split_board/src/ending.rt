@@ -33,7 +33,8 @@ pub struct NotClosed<
 /// history, and then the module is put together from what lay behind the locks, as it lay there, and comes back with its record and
 /// the notices.
 /// Where the board was cut, receipts with numbers below `from` and answers given behind fewer writes are past: they are counted,
-/// and not checked. A stranger among the others gives the board and the hosts back. It takes no memory.
+/// and not checked. A stranger among the others gives the board and the hosts back; the locks of the channels weren't touched then. It
+/// takes no memory.
 pub fn close<K, D, E, B, N>(
     board: Board<K, D, E, B, N>,
     hosts: Vec<Host<B>>,
@@ -58,6 +59,8 @@ where
     ensures lay { IfOk result (λ c. LiesBehindLocks K.ChannelPort D.SaveDevice E.Energy
         B.BoardName.own B.PartsName.own ⟦<BoardPort<K, B> as ChannelPort>⟧ c.recorded) }
     ensures hosts { IfErr result (λ left. left.hosts ≡ hosts) }
+    ensures channels { IfErr result (λ left. left.board.channels ≡ board.channels) }
+    ensures lines { IfErr result (λ left. left.board.lines ≡ board.lines) }
     ensures stranger { IfErr result (λ left.
         (desk : Desk K D E B K.ChannelPort D.SaveDevice E.Energy B.BoardName.own B.PartsName.own)
         × IsStranger desk.split.front.terms.start desk.history

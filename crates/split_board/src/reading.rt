@@ -2,7 +2,7 @@
 ghost use Rattle.std.specs.Prelude.{◌≡◌, ◌<◌, IfErr, IfOk, Err, Ok};
 ghost use Rattle.board_desk.specs.Answering.{IsAskedFor, IsTicketOf};
 ghost use Rattle.nv_workers.specs.Client.{SeesNoLess};
-ghost use Rattle.split_board.specs.Turns.{ServesFirst, TellsOwn};
+ghost use Rattle.split_board.specs.Turns.{ServesFirst, ServesOnce, TellsOwn};
 ghost use Rattle.split_board.specs.Hosts.{AnswersAskAtBoard, AnswersReadAtBoard, HasLostLine, HasReadLine, TellsAskAtBoard, asked_at};
 
 use crate::board::Board;
@@ -40,7 +40,8 @@ fn served<K: ChannelPort, B: PartsName, C: ChannelName>(
     got: Got,
 ) -> Got
     requires { IsTicketOf C.NUMBER got }
-    ensures { ServesFirst K.ChannelPort B.PartsName line at got result }
+    ensures serves { ServesFirst K.ChannelPort B.PartsName line at got result }
+    ensures once { ServesOnce K.ChannelPort line at got result slot.old.part slot.new.part }
 {
     match got {
         Got::Now(_) => got,

@@ -12,7 +12,7 @@ returns-in-Ok-clause-read g c = record {
     reads = c.in-Ok.ensures.ok;
     counted = c.in-Ok.ensures.at;
   };
-  serves = c.served-got.ensures;
+  serves = c.served-got.ensures.serves;
 }
 
 pub returns-in-Err-clause-read : goal.returns-in-Err-clause-read

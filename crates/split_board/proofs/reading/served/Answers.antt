@@ -4,11 +4,11 @@ use Rattle.board_desk.specs.Answering.{IsTicketOf}
 use Rattle.channel_locks.proofs.ServedLines.{served_line}
 use Rattle.channel_locks.specs.Slots.{IsPartWhereDue}
 use Rattle.channel_port.specs.declared.answers.Got.{Got}
-use Rattle.split_board.specs.Turns.{ServesFirst}
+use Rattle.split_board.specs.Turns.{ServesFirst, ServesOnce}
 use Rattle.split_board.proofs.reading.served.Goals as goal
 
-pub returns-in-Later : goal.returns-in-Later
-returns-in-Later g c =
+pub returns-in-Later-clause-serves : goal.returns-in-Later-clause-serves
+returns-in-Later-clause-serves g c =
     let L = g.K.ChannelPort in
     let P = g.B.PartsName in
     let slot = c.args.slot.now in
@@ -24,3 +24,8 @@ returns-in-Later g c =
       },
       c.told_for.ensures,
     )
+
+pub returns-in-Later-clause-once : goal.returns-in-Later-clause-once
+returns-in-Later-clause-once g c =
+    subst (λ (got : Got). ServesOnce g.K.ChannelPort c.args.line c.args.at got c.told_for.result c.args.slot.now.part c.serve.new.self.part) (sym c.in-Later.is)
+    (c.serve.result, c.serve.ensures.serves, c.told_for.ensures)
