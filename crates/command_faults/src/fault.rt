@@ -18,6 +18,9 @@ pub enum Fault<'a> {
     /// The text is no profile for these reasons, each a line.
     #[error("profile: {0}")]
     NoProfile(String),
+    /// What is wrong with the store that is to be lived on.
+    #[error("{0}")]
+    Store(String),
     /// The file can't be read or written. `-` is standard input or standard output.
     #[error("file {0}")]
     File(&'a str),

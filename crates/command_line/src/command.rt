@@ -7,6 +7,7 @@ use crate::check::check;
 use crate::crash::crash;
 use crate::draw::draw;
 use crate::lint::lint;
+use crate::live::live;
 use crate::profile::explain;
 use crate::script::answer;
 use crate::store::show;
@@ -14,6 +15,7 @@ use crate::words::program;
 use clap::error::ErrorKind;
 use clap::{ArgMatches, Error as UsageError};
 use command_faults::{Failure, Fault};
+use live_store::Host;
 use std::env::{self, Env};
 use std::io::{self, Eprint, Input, Print, Write};
 use std::process::ExitCode;
@@ -44,7 +46,7 @@ pub fn run<'a, R, W>(
     writer: &mut W,
 ) -> Result<ExitCode, Failure<'a>>
 where
-    R: Files + Input + Print + Eprint + Clock + AllocGlobal,
+    R: Files + Host + Input + Print + Eprint + Clock + AllocGlobal,
     W: Write,
 {
     let matches = match program(rt.alloc())?.try_get_matches_from(words) {
@@ -70,11 +72,12 @@ fn done<'a, R, W>(
     writer: &mut W,
 ) -> Result<ExitCode, Failure<'a>>
 where
-    R: Files + Input + Eprint + Clock + AllocGlobal,
+    R: Files + Host + Input + Eprint + Clock + AllocGlobal,
     W: Write,
 {
     match verb {
         "run" => answer(rt, matches, writer),
+        "live" => live(rt, matches, writer),
         "show" => show(rt, matches, writer),
         "lint" => lint(rt, matches, writer),
         "crash" => crash(rt, matches, is_watched, writer),

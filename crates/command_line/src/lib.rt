@@ -7,6 +7,7 @@ mod command;
 mod crash;
 mod draw;
 mod lint;
+mod live;
 mod outlet;
 mod profile;
 mod script;

@@ -19,6 +19,7 @@ pub(crate) fn program<'a>(alloc: Global) -> Result<Command<'a>, AllocError> {
         .arg(why_word(alloc))?
         .subcommand_required(true)
         .subcommand(run)?
+        .subcommand(live_command(alloc)?)?
         .subcommand(show)?
         .subcommand(lint_command(alloc)?)?
         .subcommand(crash)?
@@ -33,6 +34,13 @@ fn run_command<'a>(alloc: Global) -> Result<Command<'a>, AllocError> {
         .arg(profile_word(alloc))?
         .arg(script_word(alloc))?
         .arg(out_word(alloc))
+}
+
+fn live_command<'a>(alloc: Global) -> Result<Command<'a>, AllocError> {
+    Command::new(alloc, "live")
+        .about("Lives on a file: answers each line of standard input before it reads the next one")
+        .arg(profile_word(alloc))?
+        .arg(store_word(alloc).help("The store's file, which is made where there is none"))
 }
 
 fn why_word<'a>(alloc: Global) -> Arg<'a> {

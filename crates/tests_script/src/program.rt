@@ -3,6 +3,7 @@ use crate::check::same;
 use command_faults::{Failure, Fault, profile_of};
 use command_line::run;
 use interleave_map::Interleaving;
+use live_store::Host;
 use nv_profile::TINY;
 use nv_script::ScriptFault;
 use std::env::{self, Env};
@@ -15,7 +16,7 @@ use std::time::Clock;
 // What the program does: its exit status, and its lines on standard error but for the name in front.
 fn outcome<R, W>(rt: &R, place: &str, words: &[&str], writer: &mut W) -> (ExitCode, String)
 where
-    R: Abort + Files + Input + Print + Eprint + Clock + AllocGlobal,
+    R: Abort + Files + Host + Input + Print + Eprint + Clock + AllocGlobal,
     W: Write,
 {
     let mut given = Vec::new(rt.alloc());
@@ -46,7 +47,7 @@ fn shown<R: Abort + AllocGlobal>(rt: &R, fault: &Fault<'_>) -> String {
 // begin the names of a test's own files by a %, which stands for their place.
 pub(crate) fn ends<R>(rt: &R, place: &str, words: &[&str], code: ExitCode, line: &str, text: &str)
 where
-    R: Abort + Files + Input + Print + Eprint + Clock + AllocGlobal,
+    R: Abort + Files + Host + Input + Print + Eprint + Clock + AllocGlobal,
 {
     let mut written = Vec::new(rt.alloc());
     let (found, told) = outcome(rt, place, words, &mut written);

@@ -1,0 +1,58 @@
+//! The command `live`: a life on a file, of which standard input asks line by line.
+#![tactic(auto)]
+
+ghost use Rattle.std.specs.Prelude.{◌≡◌, IfErr};
+ghost use Rattle.command_faults.specs.Exit.{status_of};
+ghost use Rattle.live_command.specs.Faults.{IsFaultOf, IsOfStore};
+
+use command_faults::{Failure, Fault, profile_of};
+use live_store::{Host, LiveFault, TalkFault, live};
+use std::alloc::Global;
+use std::io::{Input, Write};
+use std::rt::Files;
+
+/// What the words of a life name.
+#[derive(Clone, Copy, Drop)]
+pub struct LiveWords<'a> {
+    /// `tiny`, `tiny2`, or a profile's file.
+    pub profile: &'a str,
+    /// The file that is lived on, which is made where there is none.
+    pub store: &'a str,
+}
+
+/// Lives on the file that the words name, with the answers to a writer, until standard input ends.
+pub fn live_named<'a, R, W>(rt: &R, words: LiveWords<'a>, writer: &mut W) -> Result<(), Failure<'a>>
+where
+    R: Files + Host + Input + AllocGlobal,
+    W: Write,
+    ensures { IfErr result (λ failure. status_of failure.fault ≡ 1) }
+{
+    let profile = profile_of(rt, words.profile)?;
+    match live(rt, &profile, words.store, writer) {
+        Ok(()) => Ok(()),
+        Err(fault) => Err(Failure::from(told(rt.alloc(), fault))),
+    }
+}
+
+// What is wrong with the store, in the fault's own words.
+fn of_store<'a>(alloc: Global, fault: LiveFault) -> Fault<'a>
+    ensures { IsOfStore result }
+{
+    match fault.to_string(alloc) {
+        Ok(why) => Fault::Store(why),
+        Err(_) => Fault::Memory,
+    }
+}
+
+// How the program tells why no life began, or why one ended before its input did.
+fn told<'a>(alloc: Global, fault: LiveFault) -> Fault<'a>
+    ensures { IsFaultOf fault result }
+{
+    match fault {
+        LiveFault::Memory | LiveFault::Talk(TalkFault::Memory) => Fault::Memory,
+        LiveFault::Talk(_) => Fault::File("-"),
+        LiveFault::Open(_) => of_store(alloc, fault),
+        LiveFault::Restore(_) => of_store(alloc, fault),
+        LiveFault::Format => of_store(alloc, fault),
+    }
+}
