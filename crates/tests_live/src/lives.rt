@@ -62,7 +62,11 @@ fn a_long_line_is_one_line(rt: HostRuntime) -> Result<(), Fail> {
 
 #[test]
 fn a_saved_write_survives_a_stop_of_its_file(rt: HostRuntime) -> Result<(), Fail> {
-    let ended = live(&rt, on_file(&rt, 0), "write 0 11\nsave\nwrite 1 22\nstep\nstep\n");
+    let ended = live(
+        &rt,
+        on_file(&rt, 0),
+        "write 0 11\nsave\nwrite 1 22\nstep\nstep\n",
+    );
     let ended = live(&rt, after_a_stop(&rt, ended.device?), "read 0\nread 1\n");
     assert_eq!(rt;
         str::from_utf8(&ended.text).ok(),
@@ -74,12 +78,13 @@ fn a_saved_write_survives_a_stop_of_its_file(rt: HostRuntime) -> Result<(), Fail
 #[test]
 fn a_failed_sync_is_made_up_for(rt: HostRuntime) -> Result<(), Fail> {
     // the calls of a formatting, of a save and of arming go well until one fails
-    let ended = live(&rt, on_file(&rt, 1 << 12), "write 0 11\nsave\nsave\nsave\nmark\n");
-    let ended = live(&rt, after_a_stop(&rt, ended.device?), "read 0\n");
-    assert_eq!(rt;
-        ended.text.ends_with(b"Complete\nline 0 = 11\n"),
-        true
+    let ended = live(
+        &rt,
+        on_file(&rt, 1 << 12),
+        "write 0 11\nsave\nsave\nsave\nmark\n",
     );
+    let ended = live(&rt, after_a_stop(&rt, ended.device?), "read 0\n");
+    assert_eq!(rt; ended.text.ends_with(b"Complete\nline 0 = 11\n"), true);
     Ok(())
 }
 
@@ -90,12 +95,7 @@ fn what_holds_something_is_not_formatted(rt: HostRuntime) -> Result<(), Fail> {
         *last = 1;
     }
     let ended = live(&rt, MemoryDevice::new(rt.alloc(), bytes)?, "mark\n");
-    assert!(rt;
-        matches!(
-            ended.device,
-            Err(LiveFault::Restore(RestoreError::NoImage))
-        )
-    );
+    assert!(rt; matches!(ended.device, Err(LiveFault::Restore(RestoreError::NoImage))));
     assert_eq!(rt; ended.text.len(), 0);
     let bytes = zeros(&rt, device_size(64));
     let ended = live(&rt, MemoryDevice::new(rt.alloc(), bytes)?, "mark\n");

@@ -10,13 +10,17 @@ use std::process::Abort;
 
 /// A life that ended: what it wrote, and its device, or why there was none.
 #[derive(Drop)]
-pub struct Ended<D: SaveDevice> {
+pub(crate) struct Ended<D: SaveDevice> {
     pub text: Vec<u8>,
     pub device: Result<D, LiveFault>,
 }
 
 /// Lives on a device of the profile `tiny`, and hears these lines.
-pub fn live<R: Abort + AllocGlobal, D: SaveDevice + Drop>(rt: &R, device: D, lines: &str) -> Ended<D> {
+pub(crate) fn live<R: Abort + AllocGlobal, D: SaveDevice + Drop>(
+    rt: &R,
+    device: D,
+    lines: &str,
+) -> Ended<D> {
     let alloc = rt.alloc();
     let profile = read_profile(alloc, TINY.as_bytes()).expect(rt, "a profile");
     let mut console = Console::new(lines.as_bytes(), Vec::new(alloc), false);
@@ -37,23 +41,23 @@ pub fn live<R: Abort + AllocGlobal, D: SaveDevice + Drop>(rt: &R, device: D, lin
 }
 
 /// So many zeros.
-pub fn zeros<R: Abort + AllocGlobal>(rt: &R, n: usize) -> Vec<u8> {
+pub(crate) fn zeros<R: Abort + AllocGlobal>(rt: &R, n: usize) -> Vec<u8> {
     Vec::from_elem(rt.alloc(), 0, n).expect(rt, "memory")
 }
 
 /// A device in memory with zeros.
-pub fn blank<R: Abort + AllocGlobal>(rt: &R) -> MemoryDevice {
+pub(crate) fn blank<R: Abort + AllocGlobal>(rt: &R) -> MemoryDevice {
     MemoryDevice::new(rt.alloc(), zeros(rt, device_size(128))).expect(rt, "memory")
 }
 
 /// A device over a file in memory with zeros, of which these calls fail.
-pub fn on_file<R: Abort + AllocGlobal>(rt: &R, faults: u64) -> FileDevice<ModelFile> {
+pub(crate) fn on_file<R: Abort + AllocGlobal>(rt: &R, faults: u64) -> FileDevice<ModelFile> {
     let file = ModelFile::new(rt.alloc(), zeros(rt, device_size(128)), faults).expect(rt, "memory");
     FileDevice::over(rt.alloc(), file).expect(rt, "memory")
 }
 
 /// The device over the same file once its machine has stopped and come back.
-pub fn after_a_stop<R: Abort + AllocGlobal>(
+pub(crate) fn after_a_stop<R: Abort + AllocGlobal>(
     rt: &R,
     device: FileDevice<ModelFile>,
 ) -> FileDevice<ModelFile> {
