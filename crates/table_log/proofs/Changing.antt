@@ -24,7 +24,7 @@ one_more log table change is short = record {
 }
 
 -- the journal behind a call holds the table behind it
-one_call : (lines : ℕ) (log : Log) (table : Table) (call : TableCall) → IsTable log table → IsLawful table call
+pub one_call : (lines : ℕ) (log : Log) (table : Table) (call : TableCall) → IsTable log table → IsLawful table call
     → IsTable (log_after lines log (journal_call call)) (table_after table call)
 one_call lines log table (Changes change) is lawful = one_more log table change is lawful
 one_call lines log table (Rewrites change) is lawful = one_more log table change is lawful.0
