@@ -1,3 +1,4 @@
 pub mod Writing
 pub mod Refusals
 pub mod Living
+pub mod Heads

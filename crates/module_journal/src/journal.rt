@@ -1,10 +1,11 @@
 // A journal, and its calls.
-ghost use Rattle.std.specs.Prelude.{◌≡◌, ◌⊎◌, ◌-◌, ◌<◌, ◌≤◌, Err, IfErr, IfOk, IfSome, IfNone, Ok, List, ℕ, length, nat_lt, slice_get, take, Some};
+ghost use Rattle.std.specs.Prelude.{◌≡◌, ◌⊎◌, ◌++◌, ◌∷◌, [], ◌-◌, ◌<◌, ◌≤◌, ◌↔◌, Err, IfErr, IfOk, IfSome, IfNone, IsTrue, Ok, List, ℕ, length, nat_lt, slice_get, take, Some};
 ghost use Rattle.journal_log.specs.Lines.{lines_of};
 ghost use Rattle.journal_log.specs.Log.{Holds, Log};
 ghost use Rattle.journal_log.specs.Calls.{Append, Truncate, call_writes, log_after};
 ghost use Rattle.journal_lines.specs.Indexed.{HasRoom, IsIndexOf, IsWithin, end_of_index};
 ghost use Rattle.module_core.specs.Stands.{setup_of};
+ghost use Rattle.module_journal.specs.Heads.{untold};
 ghost use Rattle.module_journal.specs.Writing.{HasWritten, IsMade, IsRefused};
 
 use crate::writing::put;
@@ -15,6 +16,8 @@ use line_memory::Line;
 use module_core::Module;
 use nv_machine::{Accepted, Reply};
 use std::alloc::{AllocError, Global};
+use std::collections::VecDeque;
+use std::ops::Range;
 use thiserror::Error;
 
 /// Why a record wasn't appended. Nothing of it is in the journal, and a later append takes its lines.
@@ -54,6 +57,8 @@ pub struct Appended {
 #[derive(Debug, Drop)]
 pub struct Journal {
     pub(crate) index: Index,
+    // the numbers of the writes of the heads of the last records, those that no mark has told stored yet
+    pub(crate) heads: VecDeque<u64>,
 }
 
 impl Appended {
@@ -65,6 +70,19 @@ impl Appended {
     }
 }
 
+// The heads go that a mark tells, up to the first one that it doesn't.
+fn drop_told(heads: &mut VecDeque<u64>, mark: u64)
+    ensures { heads.new.items ≡ untold mark heads.old.items }
+{
+    for _turn in 0..heads.len() {
+        let head = heads[0];
+        if head >= mark {
+            return;
+        }
+        let _told = heads.pop_front();
+    }
+}
+
 impl Journal {
     ghost use Rattle.module_journal.specs.Refusals.{IsAppendRefused, IsTruncateRefused};
 
@@ -73,11 +91,15 @@ impl Journal {
         ensures ok { IfOk result (λ journal.
             (log : Log) × Holds memory.now log × IsIndexOf journal.index log) }
         ensures lines { IfOk result (λ journal. journal.index.lines ≡ length memory.now) }
+        ensures heads { IfOk result (λ journal. journal.heads.items ≡ []) }
         ensures none { IfErr result (λ refusal. refusal ≡ OpenRefusal.NotJournal
             → (log : Log) → Holds memory.now log → ⊥) }
     {
         match Index::open(alloc, memory) {
-            Ok(index) => Ok(Journal { index }),
+            Ok(index) => Ok(Journal {
+                index,
+                heads: VecDeque::new(alloc),
+            }),
             Err(refusal) => Err(refusal),
         }
     }
@@ -94,6 +116,40 @@ impl Journal {
         ensures { result ≡ end_of_index self.now.index }
     {
         self.index.end()
+    }
+
+    /// How many records are there.
+    pub fn len(&self) -> u64
+        ensures { result ≡ length self.now.index.places.items }
+    {
+        let Range { start, end } = self.numbers();
+        end - start
+    }
+
+    /// Whether no record is there.
+    pub fn is_empty(&self) -> bool
+        ensures { IsTrue result ↔ (length self.now.index.places.items ≡ 0) }
+    {
+        self.len() == 0
+    }
+
+    /// The numbers of the records that are there, in their order: what to go over with `record`.
+    pub fn numbers(&self) -> Range<u64>
+        ensures start { result.start ≡ self.now.index.gone }
+        ensures end { result.end ≡ end_of_index self.now.index }
+    {
+        self.first()..self.end()
+    }
+
+    /// The number up to which a mark, or one that was asked of before, tells all records stored: those that the journal was opened
+    /// with, and of those that were appended since each whose head's write, and those before it, has a number below the mark.
+    pub fn stored(&mut self, mark: u64) -> u64
+        ensures upto { result ≡ end_of_index self.old.index - length (untold mark self.old.heads.items) }
+        ensures heads { self.new.heads.items ≡ untold mark self.old.heads.items }
+        ensures index { self.new.index ≡ self.old.index }
+    {
+        drop_told(&mut self.heads, mark);
+        self.end().saturating_sub(self.heads.len() as u64)
     }
 
     /// The bytes of the record with this number, from the memory that the journal lies in, as a restore found it; none exactly where
@@ -151,14 +207,17 @@ impl Journal {
         ensures record { IfOk result (λ appended. appended.record ≡ end_of_index self.old.index) }
         ensures is { IfOk result (λ appended. (log : Log) → IsIndexOf self.old.index log
             → IsIndexOf self.new.index (log_after self.old.index.lines log (Append bytes.now))) }
+        ensures heads { IfOk result (λ appended.
+            self.new.heads.items ≡ self.old.heads.items ++ appended.head.number ∷ []) }
         ensures kept { IfErr result (λ refusal. (log : Log) → IsIndexOf self.old.index log
             → IsIndexOf self.new.index log) }
+        ensures untold { IfErr result (λ refusal. self.new.heads.items ≡ self.old.heads.items) }
         ensures refused { IfErr result (λ refusal. IsAppendRefused K.ChannelPort refusal
             self.old.index bytes.now nvdimm.old nvdimm.new) }
         ensures lines { self.new.index.lines ≡ self.old.index.lines }
         ensures setup { setup_of K.ChannelPort nvdimm.new ≡ setup_of K.ChannelPort nvdimm.old }
     {
-        if self.index.reserve().is_err() {
+        if self.index.reserve().is_err() || self.heads.reserve(1).is_err() {
             return Err(AppendRefusal::Memory);
         }
         if !self.index.has_room(bytes) {
@@ -172,6 +231,7 @@ impl Journal {
         match put(nvdimm, write) {
             Ok(head) => {
                 self.index.append(bytes);
+                self.heads.push_back_reserved(head.number);
                 Ok(Appended { record, head })
             }
             Err(refusal) => Err(AppendRefusal::Refused(refusal)),
@@ -192,6 +252,7 @@ impl Journal {
         ensures none { IfOk result (λ cut. IfNone cut
             ((upto ≡ self.old.index.gone) × (self.new ≡ self.old) × (nvdimm.new ≡ nvdimm.old))) }
         ensures kept { IfErr result (λ refusal. self.new ≡ self.old) }
+        ensures heads { self.new.heads ≡ self.old.heads }
         ensures refused { IfErr result (λ refusal. IsTruncateRefused K.ChannelPort refusal
             self.old.index upto nvdimm.old nvdimm.new) }
         ensures lines { self.new.index.lines ≡ self.old.index.lines }

@@ -1,5 +1,4 @@
 use Rattle.std.proofs.Common.{[], refl, ◌∙◌}
-use Rattle.nv_machine.specs.declared.events.Reply.TheVariants as replies
 use Rattle.module_journal.proofs.Joining.{and_nothing, joined_last, none_written, then_done, then_refused}
 use Rattle.module_journal.proofs.writing.put.Goals as goal
 

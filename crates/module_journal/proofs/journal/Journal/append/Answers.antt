@@ -1,4 +1,4 @@
-use Rattle.std.proofs.Common.{◌≡◌, ℕ, ◌+◌, ◌≤◌, List, [], ◌∷◌, ◌++◌, length, take, refl, subst, arith, ◌∙◌, sym}
+use Rattle.std.proofs.Common.{◌≡◌, ℕ, List, [], ◌∷◌, ◌++◌, length, take, refl, subst, arith, ◌∙◌, sym}
 use Rattle.std.specs.Prelude.{Ok, Some, slice_get}
 use Rattle.line_memory.specs.declared.Write.{Write}
 use Rattle.nv_machine.specs.declared.events.Reply.TheVariants as replies

@@ -1,4 +1,4 @@
-use Rattle.std.proofs.Common.{◌≡◌, ℕ, ◌≤◌, List, [], ◌∷◌, sym, subst, arith}
+use Rattle.std.proofs.Common.{List, sym, subst, arith}
 use Rattle.line_memory.specs.declared.Write.{Write}
 use Rattle.nv_machine.specs.declared.events.Reply.TheVariants as replies
 use Rattle.std.specs.Prelude.{Ok}

@@ -1,4 +1,4 @@
-use Rattle.std.proofs.Common.{◌≡◌, ℕ, ◌≤◌, List, [], ◌∷◌, length, take, refl, sym, subst, arith, ◌∙◌}
+use Rattle.std.proofs.Common.{◌≡◌, ℕ, List, [], ◌∷◌, length, take, refl, sym, subst, arith, ◌∙◌}
 use Rattle.line_memory.specs.declared.Write.{Write}
 use Rattle.journal_log.specs.Lines.{lines_of}
 use Rattle.journal_log.specs.Calls.{Append, call_writes}
