@@ -1,11 +1,14 @@
 // Persistent writes of one thread.
+ghost use Rattle.module_core.specs.Stands.{HasDevice};
+
 use crate::check::{AMPLE, fresh, same, tiny};
 use arm_state::WriteRefusal;
 use channel_port::ChannelPort;
-use ddr4_boards::open;
+use ddr4_boards::{Ready, open};
 use energy_budget::Meter;
 use interleave_map::ReadyMap;
 use line_memory::Write;
+use module_core::Module;
 use notice_book::Persisted;
 use nv_machine::StepReply;
 use nv_profile::Profile;
@@ -22,7 +25,7 @@ const CALLS: u64 = 9;
 fn write_of(line: u64) -> Write {
     Write {
         line,
-        data: [line as u8; 64],
+        data: [(line % 256) as u8; 64],
     }
 }
 
@@ -34,7 +37,7 @@ fn with_module<R: Abort>(rt: &R, alloc: Global, profile: &Profile, calls: u64, c
     };
     let device = Fuse::new(fresh(rt, alloc, profile), calls);
     match open(alloc, &map, profile, device, Meter::with(AMPLE, 1), 1) {
-        Ok(ready) => try_case(rt, ready.recorded, case),
+        Ok(ready) => try_case(rt, ready, case),
         Err(_) => panic!(*rt; "not opened"),
     }
 }
@@ -49,30 +52,44 @@ enum Case {
     Lost,
 }
 
+// What comes before the write.
+fn prepare<K: ChannelPort + Drop, D: SaveDevice + Drop, R: Abort>(
+    rt: &R,
+    running: &mut Module<K>,
+    device: &mut D,
+    energy: &mut Meter,
+    case: Case,
+)
+    requires { HasDevice K.ChannelPort running.old (D.state device.old) }
+    ensures { HasDevice K.ChannelPort running.new (D.state device.new) }
+{
+    match case {
+        Case::Armed => same(rt, running.arm(device, energy).is_ok(), true),
+        Case::BesideASave => {
+            same(rt, running.write(write_of(9)).is_ok(), true);
+            same(rt, running.save_begin().is_ok(), true);
+        }
+        Case::Lost => {
+            let _lost = running.power_loss(device, energy);
+        }
+        Case::Disarmed | Case::Fault => {}
+    }
+}
+
 // Tries a case.
 fn try_case<K: ChannelPort + Drop, D: SaveDevice + Drop, R: Abort>(
     rt: &R,
-    recorded: RecordedModule<K, D, Meter>,
+    ready: Ready<K, D, Meter>,
     case: Case,
 ) {
+    let Ready { recorded, .. } = ready;
     let RecordedModule {
         mut running,
         mut device,
         mut energy,
         ..
     } = recorded;
-    match case {
-        Case::Armed => same(rt, running.arm(&mut device, &mut energy).is_ok(), true),
-        Case::BesideASave => {
-            let early = running.write(write_of(9));
-            same(rt, early.is_ok(), true);
-            same(rt, running.save_begin().is_ok(), true);
-        }
-        Case::Lost => {
-            let _lost = running.power_loss(&mut device, &mut energy);
-        }
-        Case::Disarmed | Case::Fault => {}
-    }
+    prepare(rt, &mut running, &mut device, &mut energy, case);
     let told = write_persistent(&mut running, &mut device, &mut energy, write_of(4));
     let wanted = match case {
         Case::Disarmed | Case::Armed => Ok(Persisted { number: 0, mark: 1 }),
