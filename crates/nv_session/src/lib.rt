@@ -5,6 +5,7 @@
 mod calls;
 mod laws;
 mod lives;
+mod parts;
 mod saving;
 mod session;
 mod turns;

@@ -38,7 +38,7 @@ pub struct Session<K: ChannelPort, A: Wires<K>> {
 pub(crate) const ALL_CALLS: u64 = u64::MAX;
 
 // A device around this one, of which no call is to fail.
-fn passing(device: MemoryDevice) -> OneFault<Fuse<MemoryDevice>>
+pub(crate) fn passing(device: MemoryDevice) -> OneFault<Fuse<MemoryDevice>>
     ensures device { innermost result ≡ device }
     ensures passes { PassesAll result }
 {

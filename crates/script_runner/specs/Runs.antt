@@ -41,26 +41,34 @@ module _ {K A : Type 0} {L : Ghosts K} {W : wires.Ghosts A K} where
     pub all : AreAllAnswered lines asked before after
     pub does : DoesAll all.answered.story first last
 
-  -- a session before its first line: no life runs, the device has zero bytes, which a stop leaves, and passes all calls, and the
+  -- a session before its first line: no life runs, the device has these bytes, which a stop leaves, and passes all calls, and the
   -- gauge shows 0 and has no leak
-  pub record IsNew (Wired : A → Type 0) (profile : Profile) (session : Session K A L W) : Type 0 where
+  pub record IsNewOn (Wired : A → Type 0) (profile : Profile) (bytes : List ℕ) (session : Session K A L W) : Type 0 where
     pub profile_is : session.profile ≡ profile
     pub wired : Wired session.wires
     pub life : session.life ≡ None
-    pub bytes : (state_of (innermost session.device)).bytes ≡ replicate (device_size (lines_of profile.checked.geometry)) 0
+    pub bytes_are : (state_of (innermost session.device)).bytes ≡ bytes
     pub settled : IsSettled (state_of (innermost session.device))
     pub passes : PassesAll session.device
     pub level : level_of session.gauge ≡ 0
     pub leak : leak_of session.gauge ≡ 0
 
--- The lines of a script are done by a new session with such wires, in turn: their answers are those that were reported, and tell
--- what each did. So they are those of a chain of lives. What the channels of the last one have issued keeps the timing rules. The
--- device is the session's at the end.
-pub record IsRun {K A : Type 0} (L : Ghosts K) (W : wires.Ghosts A K) (Wired : A → Type 0) (profile : Profile) (asked : List ScriptLine) (before after : List Answer) (device : MemoryDevice) : Type 0 where
+-- The lines of a script are done by a new session with such wires on these bytes, in turn: their answers are those that were reported,
+-- and tell what each did. So they are those of a chain of lives. What the channels of the last one have issued keeps the timing rules.
+-- The device is the session's at the end.
+pub record IsRunOn {K A : Type 0} (L : Ghosts K) (W : wires.Ghosts A K) (Wired : A → Type 0) (profile : Profile) (bytes : List ℕ) (asked : List ScriptLine) (before after : List Answer) (device : MemoryDevice) : Type 0 where
   pub first : Session K A L W
   pub last : Session K A L W
-  pub begins : IsNew Wired profile first
+  pub begins : IsNewOn Wired profile bytes first
   pub done : AreAllDone (lines_of profile.checked.geometry) asked before after first last
   pub lives : LivesInChain done.all.answered.story first last
   pub rules : KeepsRules last
   pub device_is : device ≡ innermost last.device
+
+-- the bytes of a device on which nothing was stored yet
+abbrev pub blank : Profile → List ℕ
+blank profile = replicate (device_size (lines_of profile.checked.geometry)) 0
+
+-- the same on a device of zero bytes
+abbrev pub IsRun : {K A : Type 0} (L : Ghosts K) (W : wires.Ghosts A K) (Wired : A → Type 0) (profile : Profile) (asked : List ScriptLine) (before after : List Answer) (device : MemoryDevice) → Type 0
+IsRun L W Wired profile asked before after device = IsRunOn L W Wired profile (blank profile) asked before after device

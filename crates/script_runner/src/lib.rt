@@ -14,6 +14,6 @@ pub use answers::{
 };
 pub use laws::{scripts_survive, scripts_tell_lists};
 pub use report::{Printer, Report};
-pub use running::{do_lines, run_lines, run_script};
+pub use running::{do_lines, do_lines_on, run_lines, run_script};
 pub use script::{is_busy, turns_of};
 pub use wiring::Wiring;
