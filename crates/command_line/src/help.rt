@@ -1,7 +1,9 @@
 // What the program tells of itself.
 use clap::ArgMatches;
 use command_faults::{Failure, Fault, Reason, flush};
-use command_help::{Shell, build_words, explained, known_terms, term_words, write_completions, write_terms};
+use command_help::{
+    Shell, build_words, explained, known_terms, term_words, write_completions, write_terms,
+};
 use near_word::near_word;
 use std::io::{Print, Write};
 use std::process::ExitCode;

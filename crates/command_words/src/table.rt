@@ -87,16 +87,14 @@ const CRASH: Verb = Verb {
     name: "crash",
     about: "Tells what a crash may leave of a script",
     operands: &[PROFILE, SCRIPT],
-    switches: &[
-        Switch {
-            name: "line",
-            value: Some(Value {
-                name: "N",
-                kind: Kind::Number,
-            }),
-            help: "Shows each stop within this line of the script alone",
-        },
-    ],
+    switches: &[Switch {
+        name: "line",
+        value: Some(Value {
+            name: "N",
+            kind: Kind::Number,
+        }),
+        help: "Shows each stop within this line of the script alone",
+    }],
     any_of: &[],
 };
 

@@ -13,6 +13,7 @@ const CLOSED_PIPE: u8 = 141;
 
 /// What a terminal takes for bold red letters, and for plain ones again.
 const RED: &str = "\u{1b}[1;31m";
+
 const PLAIN: &str = "\u{1b}[0m";
 
 fn main(rt: HostRuntime) -> io::Result<ExitCode> {

@@ -1,5 +1,7 @@
 // What the program tells of itself.
-use command_help::{Shell, explained, is_colored, known_terms, term_words, write_completions, write_page};
+use command_help::{
+    Shell, explained, is_colored, known_terms, term_words, write_completions, write_page,
+};
 use command_words::{parser, verbs};
 use std::process::Abort;
 use std::str;
@@ -75,11 +77,17 @@ Finish a save, then ask again."
 
 // Words of the program, and whether they are some that it takes.
 const TAKEN: [(&[&str], bool); 8] = [
-    (&["nvctl", "run", "tiny", "-", "--out", "store", "--json"], true),
+    (
+        &["nvctl", "run", "tiny", "-", "--out", "store", "--json"],
+        true,
+    ),
     (&["nvctl", "crash", "tiny", "-", "--line", "7"], true),
     (&["nvctl", "crash", "tiny", "-", "--line", "seven"], false),
     (&["nvctl", "draw", "tiny", "-"], false),
-    (&["nvctl", "draw", "tiny", "-", "--svg", "a", "--vcd", "b"], true),
+    (
+        &["nvctl", "draw", "tiny", "-", "--svg", "a", "--vcd", "b"],
+        true,
+    ),
     (&["nvctl", "explain"], true),
     (&["nvctl", "completions", "fish", "--why"], true),
     (&["nvctl", "completions", "csh"], false),
