@@ -617,31 +617,26 @@ fn profiles(rt: HostRuntime) {
 }
 
 // Words one after another, with the status, the line and the text.
-const EXPLAINED: [(&[&str], ExitCode, &str, &str); 4] = [
+const EXPLAINED: [(&[&str], u8, &str, &str); 4] = [
     (
         &["explain", "Closed"],
-        ExitCode::SUCCESS,
+        0,
         "",
         "A refusal: mains were lost, or no life runs.
 Nothing is accepted any more.
 Begin a life with format or restore.
 ",
     ),
-    (
-        &["explain", "closed"],
-        ExitCode::from(2),
-        "no word closed",
-        "",
-    ),
+    (&["explain", "closed"], 2, "no word closed", ""),
     (
         &["explain", "closed", "--why"],
-        ExitCode::from(2),
+        2,
         "no word closed\nClosed?",
         "",
     ),
     (
         &["explain", "xyzzy", "--why"],
-        ExitCode::from(2),
+        2,
         "no word xyzzy\nnvctl explain names those that there are",
         "",
     ),
@@ -650,7 +645,7 @@ Begin a life with format or restore.
 #[test]
 fn explained_words(rt: HostRuntime) {
     for (words, code, line, text) in EXPLAINED {
-        ends(&rt, "", words, code, line, text);
+        ends(&rt, "", words, ExitCode::from(code), line, text);
     }
 }
 
