@@ -1,2 +1,2 @@
 mod FlagRows
-mod Backing
+pub mod Backing

@@ -17,3 +17,4 @@ pub use file::DiskFile;
 pub use host::{HostFile, OpenFault};
 pub use laws::stops_leave_what_devices_may;
 pub use model::ModelFile;
+pub use places::Places;

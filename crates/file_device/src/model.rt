@@ -1,7 +1,7 @@
 // A file in memory, for tests.
-ghost use Rattle.std.specs.Prelude.{◌≡◌, ◌+◌, ◌≤◌, ℕ, Some, IfOk, length, true, false};
+ghost use Rattle.std.specs.Prelude.{◌≡◌, ◌⊎◌, ◌+◌, ◌≤◌, ℕ, Some, IfOk, IsTrue, length, true, false};
 ghost use Rattle.save_device.specs.Flags.{IsUp};
-ghost use Rattle.save_device.specs.Rows.{DiffersOnlyAt, overwritten};
+ghost use Rattle.save_device.specs.Rows.{DiffersOnlyAt, IsInRange, overwritten};
 ghost use Rattle.file_device.specs.Kept.{FileMayLeave, IsAtRest, Puts, Flushes};
 
 use crate::DiskFile;
@@ -53,6 +53,17 @@ impl ModelFile {
         spoil(&mut self.bytes, &self.unsettled, byte);
         self.unsettled.clear();
         self.stale.clear();
+    }
+
+    /// Makes n places from `at` on such that a stop may leave anything there, as on a disk that loses whole sectors.
+    pub fn unsettle(&mut self, at: usize, n: usize)
+        requires { at + n ≤ length (kept_of self.old).bytes }
+        ensures bytes { (kept_of self.new).bytes ≡ (kept_of self.old).bytes }
+        ensures unsettled { (place : ℕ) → IsTrue ((kept_of self.new).unsettled place)
+            → IsTrue ((kept_of self.old).unsettled place) ⊎ IsInRange at n place }
+        ensures stale { (kept_of self.new).stale ≡ (kept_of self.old).stale }
+    {
+        self.unsettled.add(at, n);
     }
 
     fn write(&mut self, at: usize, bytes: &[u8])

@@ -5,3 +5,5 @@
 mod host;
 #[cfg(test)]
 mod model;
+#[cfg(test)]
+mod sectors;

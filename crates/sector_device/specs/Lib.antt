@@ -1,0 +1,3 @@
+pub mod Sectors
+pub mod Spare
+pub mod Backing
