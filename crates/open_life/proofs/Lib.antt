@@ -1,0 +1,4 @@
+pub mod Goes
+mod Awaiting
+mod Seeing
+mod Beginning

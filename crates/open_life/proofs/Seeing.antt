@@ -1,0 +1,124 @@
+-- A read, at once or awaited.
+use Rattle.std.proofs.Common.{◌≡◌, ℕ, ◌<◌, ◌≤◌, List, [], ◌∷◌, ◌++◌, refl, sym, ap, subst, None, Ok, Err, All, inl, inr, arith}
+use Rattle.nv_session.proofs.Common.{AnswersAlone, ComesAlone, Event, Ghosts, IsPromised, Machine, Module}
+use Rattle.nv_session.proofs.Common.{ReadStep, Reply, SameButWaits, Setup, all_of}
+use Rattle.nv_session.proofs.Common.{assembly, memory_of, setup_of}
+use Rattle.channel_port.specs.declared.answers.Ticket.{Ticket}
+use Rattle.channel_port.specs.declared.answers.Got.TheVariants.{Now, Later}
+use Rattle.channel_port.specs.Waits.{OpenRead}
+use Rattle.line_memory.specs.Memory.{line_of}
+use Rattle.nv_machine.specs.declared.events.Event.TheVariants as events
+use Rattle.nv_machine.specs.declared.events.Reply.TheVariants as replies
+use Rattle.arm_state.specs.declared.refusal.ReadRefusal.{ReadRefusal}
+use Rattle.nv_machine.specs.Refusals.{read_refusal}
+use Rattle.open_life.specs.declared.turns.LineRead.{LineRead}
+use Rattle.open_life.specs.declared.turns.LineRead.TheVariants.{Content}
+use Rattle.open_life.specs.Reads.{AwaitsLine, ReadsLine, SeesLine, SeesPromised}
+use Rattle.nv_session.proofs.Coming.{Starts, starts_at, comes_further, comes_on}
+use Rattle.nv_session.proofs.Promised.{Has, promised_new}
+use Rattle.nv_session.proofs.Awaiting.{same_after}
+
+-- a ticket was given for a line
+record PromisesLine (setup : Setup) (line : ℕ) (ticket : Ticket) (asked : List Event) (told : List Reply) (old new : Machine) : Type 0 where
+  asked_is : asked ≡ events.Read line ∷ []
+  told_is : told ≡ replies.Read (Ok (Later ticket)) ∷ []
+  unrefused : read_refusal setup old line ≡ None
+  promised : IsPromised ticket (line_of (memory_of old) line) new
+  same : SameButWaits old new
+
+-- one behind none
+none_more : {X : Type 0} (none : List X) (it : X) → none ≡ [] → none ++ it ∷ [] ≡ it ∷ []
+none_more none it is = ap (λ xs. xs ++ it ∷ []) is
+
+now_seen : (most : ℕ) (setup : Setup) (line : ℕ) (bytes : List ℕ) (es : List Event) (rs : List Reply) (m n l : Machine)
+    → Starts es rs m n → ReadStep setup line (Ok (Now bytes)) n l → ReadsLine most setup line (Ok (Content bytes)) (es ++ events.Read line ∷ []) (rs ++ replies.Read (Ok (Now bytes)) ∷ []) m l
+now_seen most setup line bytes es rs m n l told step =
+    let fs : List Event = es ++ events.Read line ∷ [] in let ts : List Reply = rs ++ replies.Read (Ok (Now bytes)) ∷ [] in
+    record {
+      sees = subst (λ (x : Machine). SeesLine setup line (Ok (Content bytes)) fs ts x l) told.same (step.0, step.1.0, step.2);
+      are = inl (record { bytes = bytes; seen_is = refl; asked_is = none_more es (events.Read line) told.unasked; told_is = none_more rs (replies.Read (Ok (Now bytes))) told.untold });
+    }
+
+later_promised : (setup : Setup) (line : ℕ) (ticket : Ticket) (es : List Event) (rs : List Reply) (m n l : Machine)
+    → Starts es rs m n → ReadStep setup line (Ok (Later ticket)) n l → PromisesLine setup line ticket (es ++ events.Read line ∷ []) (rs ++ replies.Read (Ok (Later ticket)) ∷ []) m l
+later_promised setup line ticket es rs m n l told step =
+    let fs : List Event = es ++ events.Read line ∷ [] in let ts : List Reply = rs ++ replies.Read (Ok (Later ticket)) ∷ [] in
+    let bytes : List ℕ = line_of (memory_of n) line in let joins = step.1.2 in
+    subst (λ (x : Machine). PromisesLine setup line ticket fs ts x l) told.same
+    (record {
+      asked_is = none_more es (events.Read line) told.unasked;
+      told_is = none_more rs (replies.Read (Ok (Later ticket))) told.untold;
+      unrefused = step.0;
+      promised = subst (λ (reads : List OpenRead). All (Has ticket bytes) reads) (sym joins.2) (promised_new ticket line bytes (all_of n) joins.0 n.waits.reads step.1.1);
+      same = step.2;
+    })
+
+refused_seen : (most : ℕ) (setup : Setup) (line : ℕ) (refusal : ReadRefusal) (es : List Event) (rs : List Reply) (m n l : Machine)
+    → Starts es rs m n → ReadStep setup line (Err refusal) n l → ReadsLine most setup line (Err refusal) (es ++ events.Read line ∷ []) (rs ++ replies.Read (Err refusal) ∷ []) m l
+refused_seen most setup line refusal es rs m n l told step =
+    let fs : List Event = es ++ events.Read line ∷ [] in let ts : List Reply = rs ++ replies.Read (Err refusal) ∷ [] in
+    record {
+      sees = subst (λ (x : Machine). SeesLine setup line (Err refusal) fs ts x l) told.same (step.0, step.1);
+      are = (none_more es (events.Read line) told.unasked, none_more rs (replies.Read (Err refusal)) told.untold);
+    }
+
+promise_kept : (most : ℕ) (setup : Setup) (line : ℕ) (ticket : Ticket) (seen : LineRead) (es fs : List Event) (rs ts : List Reply) (m n l : Machine)
+    → PromisesLine setup line ticket es rs m n → AwaitsLine most ticket seen fs ts n l → ReadsLine most setup line (Ok seen) (es ++ fs) (rs ++ ts) m l
+promise_kept most setup line ticket seen es fs rs ts m n l told next =
+    let sees : SeesPromised ticket seen fs ts n l = next.sees in
+    record {
+      sees = (told.unrefused, sees.promised (line_of (memory_of m) line) told.promised, same_after m n l told.same sees.same);
+      are = inr (record {
+        ticket = ticket;
+        after = fs;
+        later = ts;
+        awaited = next.are;
+        asked_is = ap (λ (xs : List Event). xs ++ fs) told.asked_is;
+        told_is = ap (λ (xs : List Reply). xs ++ ts) told.told_is;
+      });
+    }
+
+-- a read that isn't refused is of a line of the module
+line_below : (setup : Setup) (m : Machine) (line : ℕ) → read_refusal setup m line ≡ None → line < setup.shape.lines
+line_below setup m line unrefused = grind arith
+
+module _ {K : Type 0} (L : Ghosts K) where
+  pub sees_now : (most : ℕ) (line : ℕ) (bytes : List ℕ) (old new : Module K L) → AnswersAlone L (events.Read line) (replies.Read (Ok (Now bytes))) old new
+      → ComesAlone L (ReadsLine most (setup_of L old) line (Ok (Content bytes))) old new
+  sees_now most line bytes old new answers device gauge =
+      comes_further L Starts (ReadsLine most (setup_of L old) line (Ok (Content bytes))) (events.Read line) (replies.Read (Ok (Now bytes))) (assembly old device gauge) (assembly old device gauge) (assembly new device gauge) refl
+      (starts_at L (assembly old device gauge)) (answers device gauge)
+      (λ es rs m n l stands told happens. now_seen most (setup_of L old) line bytes es rs m n l told happens.step.1)
+
+  pub sees_refusal : (most : ℕ) (line : ℕ) (refusal : ReadRefusal) (old new : Module K L) → AnswersAlone L (events.Read line) (replies.Read (Err refusal)) old new
+      → ComesAlone L (ReadsLine most (setup_of L old) line (Err refusal)) old new
+  sees_refusal most line refusal old new answers device gauge =
+      comes_further L Starts (ReadsLine most (setup_of L old) line (Err refusal)) (events.Read line) (replies.Read (Err refusal)) (assembly old device gauge) (assembly old device gauge) (assembly new device gauge) refl
+      (starts_at L (assembly old device gauge)) (answers device gauge)
+      (λ es rs m n l stands told happens. refused_seen most (setup_of L old) line refusal es rs m n l told happens.step.1)
+
+  promises_later : (line : ℕ) (ticket : Ticket) (old new : Module K L) → AnswersAlone L (events.Read line) (replies.Read (Ok (Later ticket))) old new
+      → ComesAlone L (PromisesLine (setup_of L old) line ticket) old new
+  promises_later line ticket old new answers device gauge =
+      comes_further L Starts (PromisesLine (setup_of L old) line ticket) (events.Read line) (replies.Read (Ok (Later ticket))) (assembly old device gauge) (assembly old device gauge) (assembly new device gauge) refl
+      (starts_at L (assembly old device gauge)) (answers device gauge)
+      (λ es rs m n l stands told happens. later_promised (setup_of L old) line ticket es rs m n l told happens.step.1)
+
+  pub sees_later : (most : ℕ) (line : ℕ) (ticket : Ticket) (seen : LineRead) (old mid new : Module K L) → setup_of L mid ≡ setup_of L old
+      → AnswersAlone L (events.Read line) (replies.Read (Ok (Later ticket))) old mid → ComesAlone L (AwaitsLine most ticket seen) mid new
+      → ComesAlone L (ReadsLine most (setup_of L old) line (Ok seen)) old new
+  sees_later most line ticket seen old mid new same answers next device gauge =
+      comes_on L (PromisesLine (setup_of L old) line ticket) (AwaitsLine most ticket seen) (ReadsLine most (setup_of L old) line (Ok seen)) (assembly old device gauge) (assembly mid device gauge) (assembly new device gauge) same
+      (promises_later line ticket old mid answers device gauge) (next device gauge)
+      (λ es fs rs ts m n l told later. promise_kept most (setup_of L old) line ticket seen es fs rs ts m n l told later)
+
+  -- no ticket is of a channel that isn't there
+  pub sees_nowhere : (most : ℕ) (line channels : ℕ) (ticket : Ticket) (seen : LineRead) (old new : Module K L) → channels ≡ (setup_of L old).shape.channels → channels ≤ ticket.channel
+      → AnswersAlone L (events.Read line) (replies.Read (Ok (Later ticket))) old new → ComesAlone L (ReadsLine most (setup_of L old) line (Ok seen)) old new
+  sees_nowhere most line channels ticket seen old new is beyond answers device gauge =
+      comes_further L Starts (ReadsLine most (setup_of L old) line (Ok seen)) (events.Read line) (replies.Read (Ok (Later ticket))) (assembly old device gauge) (assembly old device gauge) (assembly new device gauge) refl
+      (starts_at L (assembly old device gauge)) (answers device gauge)
+      (λ es rs m n l stands told happens.
+      let step = happens.step.1 in
+      let known = old.channels.shaped.known line (line_below (setup_of L old) n line step.0) in
+      absurd (let bad : ⊥ = omega (arith, is, beyond, known, step.1.0) in bad))

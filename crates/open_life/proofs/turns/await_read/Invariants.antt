@@ -1,0 +1,13 @@
+use Rattle.std.proofs.Common.{◌≡◌}
+use Rattle.nv_session.proofs.Common.{ComesAlone, SameStored, setup_of}
+use Rattle.nv_session.proofs.Awaiting.{AwaitsTurns}
+use Rattle.open_life.proofs.turns.await_read.Given as goal
+
+abbrev pub invariant-loop-turn : goal.invariant-loop-turn
+invariant-loop-turn g l =
+    let L = g.K.ChannelPort in
+    record {
+      setup : setup_of L l.running ≡ setup_of L l.fn.running;
+      stored : SameStored L l.fn.running l.running;
+      comes : ComesAlone L (AwaitsTurns l.fn.ticket l._turn) l.fn.running l.running;
+    }
