@@ -651,7 +651,7 @@ fn explained_words(rt: HostRuntime) {
 
 const OBJECTS: &str = r#"{"answer":"formatted"}
 {"answer":"accepted","mark":0,"number":0}
-{"answer":"idle","channel":0}
+{"answer":"command","bank":1,"channel":0,"clock":0,"command":"ACT","group":1,"rank":0,"row":0}
 {"answer":"saved","count":1,"generation":2}
 {"answer":"restored","count":1,"generation":2,"verdict":"Complete"}
 "#;
