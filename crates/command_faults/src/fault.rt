@@ -35,9 +35,6 @@ pub enum Fault<'a> {
     /// No command stands in a trace that is to be checked.
     #[error("empty trace")]
     EmptyTrace,
-    /// No such word is explained.
-    #[error("no word {0}")]
-    NoTerm(&'a str),
     /// The script runs no line of this number.
     #[error("no line {0}")]
     NoLine(u64),
@@ -55,7 +52,6 @@ impl Fault<'_> {
         match self {
             Fault::Words => ExitCode::from(2),
             Fault::Out(_) => ExitCode::from(2),
-            Fault::NoTerm(_) => ExitCode::from(2),
             _ => ExitCode::FAILURE,
         }
     }

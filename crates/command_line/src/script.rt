@@ -20,7 +20,6 @@ where
         profile: matches.get_str("PROFILE").unwrap_or("tiny"),
         script: matches.get_str("SCRIPT").unwrap_or("-"),
         store: matches.get_str("STORE"),
-        is_json: matches.get_flag("json"),
     };
     run_named(rt, words, writer)?;
     Ok(ExitCode::SUCCESS)

@@ -9,7 +9,6 @@ use clap::ArgMatches;
 use command_faults::{Failure, file_bytes, flush};
 use line_memory::Line;
 use nv_script::{Answer, ScriptFault};
-use run_command::JsonPrinter;
 use save_device::MemoryDevice;
 use script_runner::{Printer, Report};
 use slot_store::{RestoreError, device_size, restore};
@@ -119,11 +118,7 @@ where
 {
     // one byte more than a store may have
     let store = file_bytes(rt, matches.get_str("STORE").unwrap_or("-"), STORE_BYTES + 1)?;
-    let found = if matches.get_flag("json") {
-        answer_store(rt.alloc(), store, &mut JsonPrinter::new(rt.alloc(), writer))?
-    } else {
-        show_store(rt.alloc(), store, writer)?
-    };
+    let found = show_store(rt.alloc(), store, writer)?;
     flush(writer)?;
     Ok(status_by(found))
 }

@@ -3,8 +3,7 @@ ghost use Rattle.std.specs.Prelude.{◌≡◌, ◌⊎◌, ◌↔◌, codes, IsEr
 ghost use Rattle.command_faults.specs.Exit.{status_of};
 ghost use Rattle.run_command.specs.Refused.{NamesNoStore};
 
-use crate::json::JsonPrinter;
-use crate::maps::{report_on_maps, run_on_maps};
+use crate::maps::run_on_maps;
 use command_faults::{Failure, Fault, bytes_of, flush, profile_of};
 use nv_script::SCRIPT_BYTES;
 use save_device::{MemoryDevice, SaveDevice};
@@ -21,8 +20,6 @@ pub struct RunWords<'a> {
     pub script: &'a str,
     /// The file that the device's bytes are written to.
     pub store: Option<&'a str>,
-    /// Whether the answers are written as JSON.
-    pub is_json: bool,
 }
 
 /// Runs the script that the words name, with the answers to a writer, and writes the device's bytes to the file of the store
@@ -42,13 +39,7 @@ where
     let profile = profile_of(rt, words.profile)?;
     // as far as a good script can need them
     let script = bytes_of(rt, words.script, SCRIPT_BYTES)?;
-    let ran = if words.is_json {
-        let mut printer = JsonPrinter::new(rt.alloc(), writer);
-        report_on_maps(rt.alloc(), &profile, &script, &mut printer)
-    } else {
-        run_on_maps(rt.alloc(), &profile, &script, writer)
-    };
-    let device = match ran {
+    let device = match run_on_maps(rt.alloc(), &profile, &script, writer) {
         Ok(device) => device,
         Err(fault) => {
             let geometry = &profile.checked.geometry;

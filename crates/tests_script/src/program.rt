@@ -74,7 +74,7 @@ pub(crate) fn remove<R: Abort + Files + AllocGlobal>(rt: &R, place: &str, name: 
     fs::remove_file(rt, named(rt, place, name).as_str()).expect(rt, "a file");
 }
 
-const NO_USAGE: [&[&str]; 21] = [
+const NO_USAGE: [&[&str]; 19] = [
     &[],
     &["run"],
     &["run", "tiny"],
@@ -92,8 +92,6 @@ const NO_USAGE: [&[&str]; 21] = [
     &["draw", "tiny", "--svg", "picture"],
     &["profile"],
     &["profile", "tiny", "tiny"],
-    &["explain", "mark", "mark"],
-    &["completions", "csh"],
     &["walk"],
     &["--walk"],
 ];
@@ -552,7 +550,6 @@ fn texts_of_faults(rt: HostRuntime) {
         ),
         (Fault::EmptyTrace, "empty trace", ExitCode::FAILURE),
         (Fault::NoLine(7), "no line 7", ExitCode::FAILURE),
-        (Fault::NoTerm("wirte"), "no word wirte", ExitCode::from(2)),
         (Fault::Memory, "memory", ExitCode::FAILURE),
     ] {
         let told = shown(&rt, &fault);
@@ -614,78 +611,4 @@ fn profiles(rt: HostRuntime) {
     file_has_map(&rt, place, "%empty", b"".as_slice(), "profile");
     has_map(&rt, "tiny", "lines");
     has_map(&rt, "/no/such", "file /no/such");
-}
-
-// Words one after another, with the status, the line and the text.
-const EXPLAINED: [(&[&str], u8, &str, &str); 4] = [
-    (
-        &["explain", "Closed"],
-        0,
-        "",
-        "A refusal: mains were lost, or no life runs.
-Nothing is accepted any more.
-Begin a life with format or restore.
-",
-    ),
-    (&["explain", "closed"], 2, "no word closed", ""),
-    (
-        &["explain", "closed", "--why"],
-        2,
-        "no word closed\nClosed?",
-        "",
-    ),
-    (
-        &["explain", "xyzzy", "--why"],
-        2,
-        "no word xyzzy\nnvctl explain names those that there are",
-        "",
-    ),
-];
-
-#[test]
-fn explained_words(rt: HostRuntime) {
-    for (words, code, line, text) in EXPLAINED {
-        ends(&rt, "", words, ExitCode::from(code), line, text);
-    }
-}
-
-const OBJECTS: &str = r#"{"answer":"formatted"}
-{"answer":"accepted","mark":0,"number":0}
-{"answer":"command","bank":1,"channel":0,"clock":0,"command":"ACT","group":1,"rank":0,"row":0}
-{"answer":"saved","count":1,"generation":2}
-{"answer":"restored","count":1,"generation":2,"verdict":"Complete"}
-"#;
-
-// Words one after another, with the status and the objects.
-const WITH_OBJECTS: [(&[&str], ExitCode, &str); 2] = [
-    (
-        &["run", "tiny", "%saving", "--json", "--out", "%store"],
-        ExitCode::SUCCESS,
-        OBJECTS,
-    ),
-    (
-        &["show", "%store", "--json"],
-        ExitCode::SUCCESS,
-        r#"{"answer":"restored","count":1,"generation":2,"verdict":"Complete"}
-{"answer":"line","bytes":"a5a5a5a5a5a5a5a5a5a5a5a5a5a5a5a5a5a5a5a5a5a5a5a5a5a5a5a5a5a5a5a5a5a5a5a5a5a5a5a5a5a5a5a5a5a5a5a5a5a5a5a5a5a5a5a5a5a5a5a5a5a5a5a5","line":5}
-"#,
-    ),
-];
-
-#[test]
-fn answers_as_objects(rt: HostRuntime) {
-    let place = place(&rt, process::id(rt.process()));
-    let place = place.as_str();
-    make(
-        &rt,
-        place,
-        "%saving",
-        b"format\nwrite 5 a5\nwork 0 1\nsave\nrestore\n",
-    );
-    make(&rt, place, "%store", b"");
-    for (words, code, text) in WITH_OBJECTS {
-        ends(&rt, place, words, code, "", text);
-    }
-    remove(&rt, place, "%saving");
-    remove(&rt, place, "%store");
 }

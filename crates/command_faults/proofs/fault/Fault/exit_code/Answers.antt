@@ -5,6 +5,3 @@ returns-in-Words c = search
 
 pub returns-in-Out : goal.returns-in-Out
 returns-in-Out c = search
-
-pub returns-in-NoTerm : goal.returns-in-NoTerm
-returns-in-NoTerm c = search

@@ -1,4 +1,0 @@
-pub mod Told
-pub mod Commands
-pub mod Refusals
-pub mod Answers
