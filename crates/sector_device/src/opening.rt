@@ -90,6 +90,7 @@ impl<F: SectorFile + Drop> SectorDevice<F> {
         ensures bytes { IfOk result (λ device. IfKept (λ kept. (state_of device.mirror).bytes
             ≡ found_in (length (state_of device.mirror).bytes) kept.bytes) (F.kept file)) }
         ensures settled { IfOk result (λ device. IsSettled (state_of device.mirror)) }
+        ensures whole { IfOk result (λ device. device.is_broken ≡ false) }
     {
         let bytes = file.load(alloc)?;
         let Some(size) = device_len(bytes.len()) else {
