@@ -5,21 +5,22 @@ ghost use Rattle.file_device.specs.Kept.{IfKept, IsAtRest};
 use crate::console::Console;
 use crate::fault::LiveFault;
 use crate::living::live_on;
-use file_device::{DiskFile, FileDevice, HostFile, OpenFault};
+use file_device::{HostFile, OpenFault};
 use interleave_map::cells::line_count;
 use interleave_map::{Interleaving, ReadyMap};
 use nv_profile::Profile;
 use script_runner::Wiring;
+use sector_device::{SPARE_PLACE, SectorDevice, SectorFile};
 use slot_store::device_size;
 use std::io::{BufReader, Input, IsTerminal, Write};
 
 /// What a life asks of the system beside standard input: files for devices, and whether a person types.
 pub trait Host {
-    type File: DiskFile + Drop;
+    type File: SectorFile + Drop;
 
     /// The file at the path, at rest, of so many bytes. It is made of zeros where there is none.
     fn open_store(&self, path: &str, len: u64) -> Result<Self::File, OpenFault>
-        ensures { IfOk result (λ file. IfKept IsAtRest (Self.File.DiskFile.kept file)) };
+        ensures { IfOk result (λ file. IfKept IsAtRest (Self.File.SectorFile.kept file)) };
 
     /// Are standard input and standard output a terminal?
     fn is_typed(&self) -> bool;
@@ -38,7 +39,8 @@ impl Host for HostRuntime {
 }
 
 /// Lives on the file of this name, as `live_on` does: answers the lines of standard input, each before the next one is read. The file
-/// is made where there is none. On a terminal the mode stands before each line that is typed.
+/// is made where there is none; it has the bytes of the device and behind them its spare place. On a terminal the mode stands before
+/// each line that is typed.
 pub fn live<R: Host + Input + AllocGlobal, W: Write>(
     rt: &R,
     profile: &Profile,
@@ -47,8 +49,9 @@ pub fn live<R: Host + Input + AllocGlobal, W: Write>(
 ) -> Result<(), LiveFault> {
     let alloc = rt.alloc();
     let size = device_size(line_count(&profile.checked) as usize);
-    let file = rt.open_store(path, size as u64)?;
-    let device = match FileDevice::over(alloc, file) {
+    let len = (size as u64).saturating_add(SPARE_PLACE as u64);
+    let file = rt.open_store(path, len)?;
+    let device = match SectorDevice::over(alloc, file) {
         Ok(device) => device,
         Err(error) => return Err(LiveFault::Open(OpenFault::Io(error))),
     };

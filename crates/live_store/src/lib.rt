@@ -18,7 +18,7 @@ pub use answering::converse;
 pub use console::Console;
 pub use fault::LiveFault;
 pub use file::{Host, live};
-pub use laws::{file_stops_survived, turns_survive};
+pub use laws::{file_stops_survived, sector_stops_survived, turns_survive};
 pub use life::Life;
 pub use living::live_on;
 pub use opening::{Opened, open};

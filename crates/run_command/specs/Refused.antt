@@ -1,9 +1,18 @@
 -- Words of a run that name no file for its store.
-use Rattle.std.specs.Prelude.{◌≡◌, ◌⊎◌, codes}
+use Rattle.std.specs.Prelude.{◌≡◌, ◌⊎◌, List, ℕ, codes}
 use Rattle.std.specs.Option.{IsSomeAnd}
 use Rattle.run_command.specs.declared.script.RunWords.{RunWords}
+use Rattle.run_command.specs.declared.script.StoreWord.{StoreWord}
+use Rattle.run_command.specs.declared.script.StoreWord.TheVariants.{Out, Kept}
 
--- the store would be standard output, the profile or the script
+-- the file that a word names
+abbrev pub name_in : StoreWord → List ℕ
+name_in (Out name) = name.now
+name_in (Kept name) = name.now
+
+-- it would be standard output, the profile or the script
+abbrev pub IsNoStore : List ℕ → List ℕ → StoreWord → Type 0
+IsNoStore profile script store = (name_in store ≡ codes "-") ⊎ ((name_in store ≡ profile) ⊎ (name_in store ≡ script))
+
 abbrev pub NamesNoStore : RunWords → Type 0
-NamesNoStore words = IsSomeAnd words.store (λ store.
-    (store.now ≡ codes "-") ⊎ ((store.now ≡ words.profile.now) ⊎ (store.now ≡ words.script.now)))
+NamesNoStore words = IsSomeAnd words.store (IsNoStore words.profile.now words.script.now)

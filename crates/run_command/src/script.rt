@@ -1,15 +1,31 @@
 // A script, run.
-ghost use Rattle.std.specs.Prelude.{◌≡◌, ◌⊎◌, ◌↔◌, codes, IsErrAnd, IsSome};
+ghost use Rattle.std.specs.Prelude.{◌≡◌, ◌⊎◌, ◌↔◌, codes, IfSome, IsErrAnd, IsSome};
 ghost use Rattle.command_faults.specs.Exit.{status_of};
-ghost use Rattle.run_command.specs.Refused.{NamesNoStore};
+ghost use Rattle.run_command.specs.Refused.{IsNoStore, NamesNoStore};
 
-use crate::maps::run_on_maps;
+use crate::json::JsonPrinter;
+use crate::maps::{report_on_maps, run_on_maps};
+use crate::stored::{StoredFault, bytes_of_device, run_on_store};
 use command_faults::{Failure, Fault, bytes_of, flush, profile_of};
+use file_device::OpenFault;
+use interleave_map::{Interleaving, ReadyMap};
+use nv_profile::Profile;
 use nv_script::SCRIPT_BYTES;
-use save_device::{MemoryDevice, SaveDevice};
+use save_device::MemoryDevice;
+use std::alloc::Global;
 use std::fs;
-use std::io::{Input, Write};
+use std::io::{ErrorKind, Input, Write};
 use std::rt::Files;
+use store_file::StoreHost;
+
+/// A file for the bytes of a device.
+#[derive(Clone, Copy, Drop)]
+pub enum StoreWord<'a> {
+    /// It gets those behind the last line.
+    Out(&'a str),
+    /// The run begins with those that it has, and leaves its own there.
+    Kept(&'a str),
+}
 
 /// What the words of a run name.
 #[derive(Clone, Copy, Drop)]
@@ -18,39 +34,130 @@ pub struct RunWords<'a> {
     pub profile: &'a str,
     /// The script's file, or `-` for standard input.
     pub script: &'a str,
-    /// The file that the device's bytes are written to.
-    pub store: Option<&'a str>,
+    pub store: Option<StoreWord<'a>>,
+    /// Whether the answers are written as JSON.
+    pub is_json: bool,
 }
 
 /// Runs the script that the words name, with the answers to a writer, and writes the device's bytes to the file of the store
 /// last. Words that name no file for a store are refused with nothing written.
 pub fn run_named<'a, R, W>(rt: &R, words: RunWords<'a>, writer: &mut W) -> Result<(), Failure<'a>>
 where
-    R: Files + Input + AllocGlobal,
+    R: Files + StoreHost + Input + AllocGlobal,
     W: Write,
     ensures refused { NamesNoStore words.entry → (writer.new ≡ writer.old)
         × IsErrAnd result (λ failure. status_of failure.fault ≡ 2) }
 {
     if let Some(store) = words.store {
-        if let Some(why) = why_no_store(store, words.profile, words.script) {
-            return Err(Failure::from(Fault::Out(why)));
+        if let Some(fault) = refusal(store, words.profile, words.script) {
+            return Err(Failure::from(fault));
         }
     }
     let profile = profile_of(rt, words.profile)?;
     // as far as a good script can need them
     let script = bytes_of(rt, words.script, SCRIPT_BYTES)?;
-    let device = match run_on_maps(rt.alloc(), &profile, &script, writer) {
-        Ok(device) => device,
+    match words.store {
+        Some(StoreWord::Kept(name)) => {
+            run_kept(rt, &profile, &script, name, words.is_json, writer)
+        }
+        Some(StoreWord::Out(name)) => {
+            let device = run_told(rt.alloc(), &profile, &script, words.is_json, writer)?;
+            write_store(rt, device, name)
+        }
+        None => {
+            run_told(rt.alloc(), &profile, &script, words.is_json, writer)?;
+            Ok(())
+        }
+    }
+}
+
+// Runs a script on a device of zeros, and writes out the answers.
+fn run_told<'a, W: Write>(
+    alloc: Global,
+    profile: &Profile,
+    script: &[u8],
+    is_json: bool,
+    writer: &mut W,
+) -> Result<MemoryDevice, Failure<'a>> {
+    let ran = if is_json {
+        let mut printer = JsonPrinter::new(alloc, writer);
+        report_on_maps(alloc, profile, script, &mut printer)
+    } else {
+        run_on_maps(alloc, profile, script, writer)
+    };
+    match ran {
+        Ok(device) => {
+            flush(writer)?;
+            Ok(device)
+        }
         Err(fault) => {
             let geometry = &profile.checked.geometry;
-            return Err(Failure::of_script(rt.alloc(), fault, &script, geometry));
+            Err(Failure::of_script(alloc, fault, script, geometry))
         }
-    };
-    flush(writer)?;
-    match words.store {
-        Some(store) => write_store(rt, device, store),
-        None => Ok(()),
     }
+}
+
+// Runs a script on the store in the file of this name, and leaves its device there.
+fn run_kept<'a, R, W>(
+    rt: &R,
+    profile: &Profile,
+    script: &[u8],
+    name: &str,
+    is_json: bool,
+    writer: &mut W,
+) -> Result<(), Failure<'a>>
+where
+    R: Files + StoreHost + AllocGlobal,
+    W: Write,
+{
+    let mut store = match rt.open_kept(name) {
+        Ok(store) => store,
+        Err(fault) => return Err(of_store(rt.alloc(), fault)),
+    };
+    let lines = ReadyMap {
+        interleaving: Interleaving::Lines,
+        checked: profile.checked,
+    };
+    let xor = ReadyMap {
+        interleaving: Interleaving::Xor,
+        checked: profile.checked,
+    };
+    match run_on_store(
+        rt, profile, script, &lines, &xor, &mut store, is_json, writer,
+    ) {
+        Ok(()) => Ok(()),
+        Err(StoredFault::Store(fault)) => Err(of_store(rt.alloc(), fault)),
+        Err(StoredFault::Script(fault)) => {
+            let geometry = &profile.checked.geometry;
+            Err(Failure::of_script(rt.alloc(), fault, script, geometry))
+        }
+    }
+}
+
+// What is wrong with a store, in the fault's own words.
+fn of_store<'a>(alloc: Global, fault: OpenFault) -> Failure<'a> {
+    if let OpenFault::Io(error) = fault {
+        if error.kind() == ErrorKind::OutOfMemory {
+            return Failure::from(Fault::Memory);
+        }
+    }
+    match fault.to_string(alloc) {
+        Ok(why) => Failure::from(Fault::Store(why)),
+        Err(_) => Failure::from(Fault::Memory),
+    }
+}
+
+// Why a run has no store of this word, if it has none.
+fn refusal(store: StoreWord<'_>, profile: &str, script: &str) -> Option<Fault<'static>>
+    ensures none { IsNoStore profile.now script.now store.entry → IsSome result }
+    ensures status { IfSome result (λ fault. status_of fault ≡ 2) }
+{
+    let (StoreWord::Out(name) | StoreWord::Kept(name)) = store;
+    let why = why_no_store(name, profile, script)?;
+    Some(match store {
+        StoreWord::Out(_) => Fault::Out(why),
+        StoreWord::Kept(_) => Fault::Kept(why),
+    })
 }
 
 /// Why a run with these words for its profile and its script writes no store to a file of this name: that is standard output, which
@@ -73,13 +180,10 @@ pub fn why_no_store(store: &str, profile: &str, script: &str) -> Option<&'static
 // Writes the bytes of a device, as a read gives them, to a file.
 fn write_store<'a, R: Files + AllocGlobal>(
     rt: &R,
-    mut device: MemoryDevice,
+    device: MemoryDevice,
     name: &'a str,
 ) -> Result<(), Failure<'a>> {
-    let mut bytes = Vec::from_elem(rt.alloc(), 0, device.len())?;
-    let Ok(()) = device.read(0, &mut bytes) else {
-        return Err(Failure::from(Fault::File(name)));
-    };
+    let bytes = bytes_of_device(rt.alloc(), device)?;
     match fs::write(rt, name, &bytes) {
         Ok(()) => Ok(()),
         Err(error) => Err(Failure::of_file(name, &error)),

@@ -1,10 +1,13 @@
 // What a life answers, and what the next one on its device finds.
-use crate::talk::{after_a_stop, blank, live, on_file, zeros};
+use crate::talk::{after_a_stop, blank, live, on_file, on_sectors, sectors_after_a_stop, zeros};
 use live_store::LiveFault;
 use save_device::MemoryDevice;
 use slot_store::{RestoreError, device_size};
 use std::str;
 use std::test::Fail;
+
+/// The calls of a file by which a life restores, which is the first one, and arms, and some more.
+const CALLS: u64 = 16;
 
 #[test]
 fn each_line_is_answered(rt: HostRuntime) -> Result<(), Fail> {
@@ -72,6 +75,21 @@ fn a_saved_write_survives_a_stop_of_its_file(rt: HostRuntime) -> Result<(), Fail
         str::from_utf8(&ended.text).ok(),
         Some("restored 2 1 Complete\nline 0 = 11\nline 1 = 00\n")
     );
+    Ok(())
+}
+
+#[test]
+fn an_arming_that_loses_its_sector_leaves_the_image(rt: HostRuntime) -> Result<(), Fail> {
+    // one by one the calls of the file fail by which a life restores and arms, and what they were writing is lost
+    for call in 1..CALLS {
+        let ended = live(&rt, on_sectors(&rt), "write 0 11\nsave\n");
+        let device = sectors_after_a_stop(&rt, ended.device?, 1 << call);
+        let ended = live(&rt, device, "sense 100000000\narm\n");
+        let device = sectors_after_a_stop(&rt, ended.device?, 0);
+        let ended = live(&rt, device, "read 0\n");
+        assert!(rt; ended.text.starts_with(b"restored 2 1 "));
+        assert!(rt; ended.text.ends_with(b"\nline 0 = 11\n"));
+    }
     Ok(())
 }
 

@@ -5,6 +5,7 @@ use live_store::{Console, LiveFault, live_on};
 use nv_profile::{TINY, read_profile};
 use save_device::{MemoryDevice, SaveDevice};
 use script_runner::Wiring;
+use sector_device::{ModelSectorFile, SPARE_PLACE, SectorDevice};
 use slot_store::device_size;
 use std::process::Abort;
 
@@ -64,4 +65,24 @@ pub(crate) fn after_a_stop<R: Abort + AllocGlobal>(
     let mut file = device.into_file();
     file.stop(0xee);
     FileDevice::over(rt.alloc(), file).expect(rt, "memory")
+}
+
+/// A device over a file of sectors in memory with zeros.
+pub(crate) fn on_sectors<R: Abort + AllocGlobal>(rt: &R) -> SectorDevice<ModelSectorFile> {
+    let sectors = (device_size(128) + SPARE_PLACE) / 512;
+    let file = ModelSectorFile::new(rt.alloc(), sectors, 0).expect(rt, "memory");
+    SectorDevice::over(rt.alloc(), file).expect(rt, "memory")
+}
+
+/// The device over the same file once its machine has stopped, in a write or a sync if the file was told so, and come back. Of the
+/// calls of its file these fail.
+pub(crate) fn sectors_after_a_stop<R: Abort + AllocGlobal>(
+    rt: &R,
+    device: SectorDevice<ModelSectorFile>,
+    faults: u64,
+) -> SectorDevice<ModelSectorFile> {
+    let mut file = device.into_file();
+    file.stop(0xee);
+    file.fail(faults);
+    SectorDevice::over(rt.alloc(), file).expect(rt, "memory")
 }
