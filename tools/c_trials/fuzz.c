@@ -18,6 +18,9 @@ typedef struct {
     written *writes; /* all, from the formatting on */
     uint64_t accepted, room, mark;
     uint64_t *now; /* the seed of each line */
+    int waits; /* a read waits, by this ticket: its line, and the seed that it is to have */
+    ph_numbers ticket;
+    written read;
 } module_;
 
 static uint64_t state;
@@ -37,7 +40,7 @@ static void replay(module_ *m, uint64_t lines, uint64_t count) {
     memset(m->now, 0, lines * sizeof *m->now);
     for (uint64_t k = 0; k < count; k++) m->now[m->writes[k].line] = m->writes[k].seed;
     m->accepted = m->mark = count;
-    m->dark = 0;
+    m->waits = m->dark = 0;
 }
 
 int main(int argc, char **argv) {
@@ -85,13 +88,15 @@ int main(int argc, char **argv) {
         case 0: case 1: case 2: case 3: case 4: case 5:
             memset(line, 0x5a, sizeof line);
             memcpy(other, line, sizeof line);
-            code = ph_read(&m->handle, at, line, wrong, &numbers);
+            code = ph_read(&m->handle, at, any(3) ? PH_WAIT : any(4), line, wrong, &numbers);
+            if (code == PH_READ_WAITS) m->waits = 1, m->ticket = numbers, m->read = (written){at, m->now[at]};
             if (code == PH_DONE) fill(other, m->now[at]);
             WANT(!memcmp(line, other, sizeof line));
             break;
         case 6: code = ph_arm(&m->handle, &numbers); break;
         case 7: code = ph_disarm(&m->handle, &numbers); break;
         case 8: code = ph_set_energy(&m->handle, any(2) ? 100000000 : any(100000), &numbers); break;
+        case 9: code = ph_sense(&m->handle, &numbers); break;
         case 10: code = ph_save_step(&m->handle, &numbers); break;
         case 11:
             code = ph_save(&m->handle, &numbers);
@@ -119,6 +124,7 @@ int main(int argc, char **argv) {
             code = ph_power_loss(&m->handle, &numbers);
             m->dark = 1;
             break;
+        case 17: code = ph_store_bytes(&m->handle, store, any(4) ? sizes.second : any(sizes.second), &numbers); break;
         case 18:
             if (any(8)) break;
             code = ph_stop_after(&m->handle, any(64), &numbers);
@@ -129,7 +135,27 @@ int main(int argc, char **argv) {
             m->mark = numbers.first;
             code = ph_stopped(&m->handle, any(4), any(300), store, any(4) ? sizes.second : any(sizes.second), &numbers);
             if (code != PH_DONE) break;
-            m->open = 0;
+            code = ph_open_store(&m->handle, profile, length, store, sizes.second, 0, &numbers);
+            WANT(code == PH_DONE || code == PH_POSSIBLE_LOSS);
+            WANT(numbers.second <= m->accepted && (code != PH_DONE || numbers.second >= m->mark));
+            replay(m, sizes.first, numbers.second);
+            break;
+        case 20:
+            code = ph_open_store(&m->handle, profile, length, store, sizes.second, any(2), &numbers);
+            WANT(code == PH_ALREADY_OPEN);
+            break;
+        case 24:
+            if (!m->waits || !any(4)) {
+                code = ph_collect(&m->handle, any(3) ? any(4) : any(0), any(3) ? any(9) + 1000000 : any(0), line, sizeof line, &numbers);
+                WANT(code == PH_NO_SUCH_READ);
+                break;
+            }
+            code = ph_collect(&m->handle, m->ticket.first, m->ticket.second, line, sizeof line, &numbers);
+            if (code == PH_READ_WAITS) break;
+            m->waits = 0;
+            if (m->dark) break;
+            fill(other, m->read.seed);
+            WANT(code == PH_DONE && numbers.first == m->read.line && !memcmp(line, other, sizeof line));
             break;
         case 23:
             code = ph_work(&m->handle, &numbers);
@@ -143,8 +169,8 @@ int main(int argc, char **argv) {
             break;
         case 22:
             code = ph_write(0, at, line, sizeof line, &numbers);
-            WANT(code == PH_NULL && ph_read(&m->handle, at, 0, 64, &numbers) == PH_NULL && ph_mark(&m->handle, 0) == PH_NULL);
-            WANT(ph_read(&m->handle, at, (uint8_t *)&m->handle, 64, &numbers) == PH_OVERLAP);
+            WANT(code == PH_NULL && ph_read(&m->handle, at, 0, 0, 64, &numbers) == PH_NULL && ph_mark(&m->handle, 0) == PH_NULL);
+            WANT(ph_read(&m->handle, at, 0, (uint8_t *)&m->handle, 64, &numbers) == PH_OVERLAP);
             break;
         }
         WANT(code < 64);

@@ -30,6 +30,17 @@ static void check(const char *what, uint32_t code) {
     exit(1);
 }
 
+/* a read that has to wait works the channels until it has its bytes */
+static void read_line(ph_handle *h, uint64_t at, uint8_t *line) {
+    ph_numbers n, ticket;
+    uint32_t code = ph_read(h, at, PH_WAIT, line, PH_LINE_BYTES, &ticket);
+    while (code == PH_READ_WAITS) {
+        check("work", ph_work(h, &n));
+        code = ph_collect(h, ticket.first, ticket.second, line, PH_LINE_BYTES, &n);
+    }
+    check("read", code);
+}
+
 int main(int argc, char **argv) {
     static uint8_t profile[65536], line[PH_LINE_BYTES];
     FILE *file = argc == 4 ? fopen(argv[1], "rb") : 0;
@@ -52,10 +63,9 @@ int main(int argc, char **argv) {
             check("write", code);
         }
         writes += now() - from;
-        do check("work", ph_work(&h, &n)); while (n.first); /* no write waits, so no read has to for long */
         from = now();
         for (uint64_t k = 0; k < each; k++) {
-            check("read", ph_read(&h, any(sizes.first), line, sizeof line, &n));
+            read_line(&h, any(sizes.first), line);
             sum += line[0];
         }
         reads += now() - from;

@@ -1,7 +1,9 @@
 //! The codes of the calls, as an enum. Its text is the library's own (`ph_text`), so that a code has the same words in C and here.
 
-use crate::sys;
-use std::fmt;
+use crate::{sys, Ticket};
+use std::{fmt, io::ErrorKind};
+
+pub(crate) const POSSIBLE_LOSS: u32 = 10;
 
 /// Why a call did not do what was asked.
 #[derive(Clone, Copy, Debug, PartialEq, Eq)]
@@ -14,8 +16,18 @@ pub enum Error {
     Size {
         wanted: u64,
     },
+    /// Nothing is saved on the store.
+    NoImage,
+    /// What is saved there is damaged.
+    Damaged,
     /// A call of the device failed.
     Device,
+    /// A call of the device's file failed so, and the module is closed.
+    File(ErrorKind),
+    /// The module was closed, as a call of its file failed.
+    NoHandle,
+    /// The device is in a file, and its bytes are there.
+    InFile,
     /// As many writes wait in the line's channel as its queue holds.
     Full,
     /// The energy doesn't suffice for one more write.
@@ -31,8 +43,10 @@ pub enum Error {
     NoSuchLine,
     /// As many reads are open in the line's channel as there is room for.
     ReadsFull,
-    /// The bytes didn't come within the turns of a read.
-    ReadWaits,
+    /// The bytes didn't come within the turns of a read: [`Module::collect`](crate::Module::collect) has them later, by this ticket.
+    ReadWaits(Ticket),
+    /// No read of this ticket waits: it was collected, or mains were lost.
+    NoSuchRead,
     /// So few writes were accepted.
     NoSuchWrite {
         accepted: u64,
@@ -41,6 +55,14 @@ pub enum Error {
     NeedEnergy {
         need: u64,
         has: u64,
+    },
+    /// There is no such event; it has this number.
+    NoEvent {
+        number: u64,
+    },
+    /// There is room for another number of lines than this, or for fewer answers.
+    Room {
+        wanted: u64,
     },
     SaveRunning,
     /// A call of the device has failed since the last save.
@@ -73,7 +95,11 @@ impl Error {
             1 => Error::NoMemory,
             2 => Error::NoProfile,
             4 => Error::Size { wanted: first },
+            5 => Error::NoImage,
+            6 => Error::Damaged,
             7 => Error::Device,
+            8 => Error::NoHandle,
+            14 => Error::InFile,
             16 => Error::Full,
             17 => Error::EnergyLow { need: first, has: second },
             18 => Error::Disarming,
@@ -81,8 +107,14 @@ impl Error {
             20 => Error::TrailFull,
             21 => Error::NoSuchLine,
             22 => Error::ReadsFull,
-            23 => Error::ReadWaits,
+            23 => Error::ReadWaits(Ticket {
+                channel: first,
+                number: second,
+            }),
             24 => Error::NoSuchWrite { accepted: first },
+            25 => Error::NoSuchRead,
+            28 => Error::NoEvent { number: first },
+            29 => Error::Room { wanted: first },
             32 => Error::NeedEnergy { need: first, has: second },
             33 => Error::SaveRunning,
             34 => Error::Unsettled,
@@ -112,7 +144,11 @@ impl Error {
             Error::NoMemory => 1,
             Error::NoProfile => 2,
             Error::Size { .. } => 4,
-            Error::Device => 7,
+            Error::NoImage => 5,
+            Error::Damaged => 6,
+            Error::Device | Error::File(_) => 7,
+            Error::NoHandle => 8,
+            Error::InFile => 14,
             Error::Full => 16,
             Error::EnergyLow { .. } => 17,
             Error::Disarming => 18,
@@ -120,8 +156,11 @@ impl Error {
             Error::TrailFull => 20,
             Error::NoSuchLine => 21,
             Error::ReadsFull => 22,
-            Error::ReadWaits => 23,
+            Error::ReadWaits(_) => 23,
             Error::NoSuchWrite { .. } => 24,
+            Error::NoSuchRead => 25,
+            Error::NoEvent { .. } => 28,
+            Error::Room { .. } => 29,
             Error::NeedEnergy { .. } => 32,
             Error::SaveRunning => 33,
             Error::Unsettled => 34,
@@ -149,6 +188,9 @@ impl fmt::Display for Error {
             Error::EnergyLow { need, has } | Error::NeedEnergy { need, has } => write!(f, ": it needs {need} and has {has}"),
             Error::Size { wanted } => write!(f, ": {wanted} bytes are wanted"),
             Error::NoSuchWrite { accepted } => write!(f, ": {accepted} were accepted"),
+            Error::File(kind) => write!(f, ": {kind}"),
+            Error::NoEvent { number } => write!(f, ": number {number}"),
+            Error::Room { wanted } => write!(f, ": {wanted} are wanted"),
             Error::Other(code) => write!(f, ": code {code}"),
             _ => Ok(()),
         }

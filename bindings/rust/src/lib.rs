@@ -1,6 +1,6 @@
 //! A battery-backed memory module (NVDIMM-N): lines of 64 bytes that survive a loss of power, once they are persistent.
 //!
-//! ```
+//! ```no_run
 //! # fn main() -> Result<(), panguhero::Error> {
 //! let mut module = panguhero::Module::in_memory(include_bytes!("../../../examples/tiny.toml"))?;
 //! let write = module.write(3, &[7; 64])?;
@@ -14,10 +14,12 @@
 //! here needs `unsafe` of its caller, and dropping a [`Module`] closes it.
 
 mod error;
+pub mod lives;
+mod store_file;
 mod sys;
 
 pub use error::Error;
-use std::marker::PhantomData;
+use std::{fs::File, marker::PhantomData};
 
 /// The bytes of a line, the least that is written or read.
 pub type Line = [u8; 64];
@@ -31,12 +33,43 @@ pub struct Accepted {
     pub mark: u64,
 }
 
-/// An image that was saved.
+/// A read that waits for a command of its channel.
+#[derive(Clone, Copy, Debug, PartialEq, Eq)]
+pub struct Ticket {
+    pub channel: u64,
+    /// Its number among the reads of the channel that waited.
+    pub number: u64,
+}
+
+/// An image that was saved or restored.
 #[derive(Clone, Copy, Debug, PartialEq, Eq)]
 pub struct Image {
     pub generation: u64,
     /// How many writes it holds.
     pub count: u64,
+}
+
+/// What a store restored to.
+#[derive(Clone, Copy, Debug, PartialEq, Eq)]
+pub enum Restored {
+    /// Every write that was acknowledged persistent is there.
+    Complete(Image),
+    /// Writes behind the image's count may be missing, though they were acknowledged.
+    PossibleLoss(Image),
+}
+
+impl Restored {
+    fn of(code: u32, numbers: sys::Numbers) -> Result<Restored, Error> {
+        let image = Image {
+            generation: numbers.first,
+            count: numbers.second,
+        };
+        if code == error::POSSIBLE_LOSS {
+            return Ok(Restored::PossibleLoss(image));
+        }
+        Error::check(code, numbers)?;
+        Ok(Restored::Complete(image))
+    }
 }
 
 /// What a module does with writes, and which of them are persistent.
@@ -82,9 +115,18 @@ pub enum Pick {
     Torn(u8),
 }
 
-/// A module with its save device, in memory, and its energy gauge. It stays on the thread that opened it.
+/// What to do with a device on which nothing is saved.
+#[derive(Clone, Copy, Debug, PartialEq, Eq)]
+pub enum IfEmpty {
+    Refuse,
+    Format,
+}
+
+/// A module with its save device, in memory or in a file, and its energy gauge. It stays on the thread that opened it.
 pub struct Module {
     handle: sys::Handle,
+    // the file on which the device's changes are made, before a call is answered
+    file: Option<File>,
     one_thread: PhantomData<*mut ()>,
 }
 
@@ -98,6 +140,46 @@ impl Module {
         Ok(module)
     }
 
+    /// Opens a module on a device with these bytes, and restores what they hold. Where it formats them, it tells the image of no write.
+    pub fn on_store(profile: &[u8], store: &[u8], if_empty: IfEmpty) -> Result<(Module, Restored), Error> {
+        Module::opened(sys::ph_open_store, profile, store, if_empty)
+    }
+
+    /// Opens a module on a device in this file, which has to be open for reading and writing, and restores what it holds. Where nothing is
+    /// saved it formats it, if that is wanted, and fills an empty file first. The file is locked meanwhile; no one else may write it. Each
+    /// call makes the device's changes on the file before it is answered; one that fails there is [`Error::File`], and closes the module.
+    pub fn on_file(profile: &[u8], file: File, if_empty: IfEmpty) -> Result<(Module, Restored), Error> {
+        // no profile has a device of no bytes, so this tells how many it has, or what else is wrong
+        let wanted = match Module::opened(sys::ph_open_noted, profile, &[], if_empty) {
+            Err(Error::Size { wanted }) => wanted,
+            other => return other,
+        };
+        let store = store_file::bytes_of(&file, wanted, if_empty)?;
+        let (mut module, restored) = Module::opened(sys::ph_open_noted, profile, &store, if_empty)?;
+        module.file = Some(file);
+        module.settle()?;
+        Ok((module, restored))
+    }
+
+    fn opened(open: sys::Open, profile: &[u8], store: &[u8], if_empty: IfEmpty) -> Result<(Module, Restored), Error> {
+        let mut module = Module::closed();
+        let mut numbers = sys::Numbers::default();
+        let format = u32::from(if_empty == IfEmpty::Format);
+        // SAFETY: the handle is a closed one, and both slices are as long as told
+        let code = unsafe {
+            open(
+                &mut module.handle,
+                profile.as_ptr(),
+                profile.len(),
+                store.as_ptr(),
+                store.len(),
+                format,
+                &mut numbers,
+            )
+        };
+        Ok((module, Restored::of(code, numbers)?))
+    }
+
     /// Writes a line.
     pub fn write(&mut self, line: u64, bytes: &Line) -> Result<Accepted, Error> {
         // SAFETY: as `call` says; the bytes are as long as told
@@ -108,11 +190,27 @@ impl Module {
         })
     }
 
-    /// Reads a line of the memory after all accepted writes.
+    /// Reads a line of the memory after all accepted writes. A read whose bytes don't come within 64 turns of its channel is
+    /// [`Error::ReadWaits`], and stays open for [`Module::collect`].
     pub fn read(&mut self, line: u64) -> Result<Line, Error> {
+        self.read_within(line, 64)
+    }
+
+    /// The same within so many turns; 0 has the read answered at once.
+    pub fn read_within(&mut self, line: u64, turns: u64) -> Result<Line, Error> {
         let mut into = [0; 64];
         // SAFETY: as `call` says; the buffer is as long as told
-        self.call(|handle, numbers| unsafe { sys::ph_read(handle, line, into.as_mut_ptr(), into.len(), numbers) })?;
+        self.call(|handle, numbers| unsafe { sys::ph_read(handle, line, turns, into.as_mut_ptr(), into.len(), numbers) })?;
+        Ok(into)
+    }
+
+    /// The bytes of a read that waited, of the memory as it was when it was read. It is [`Error::ReadWaits`] again where they are
+    /// still to come; [`Module::work`] brings them nearer.
+    pub fn collect(&mut self, ticket: Ticket) -> Result<Line, Error> {
+        let mut into = [0; 64];
+        let Ticket { channel, number } = ticket;
+        // SAFETY: as `call` says; the buffer is as long as told
+        self.call(|handle, numbers| unsafe { sys::ph_collect(handle, channel, number, into.as_mut_ptr(), into.len(), numbers) })?;
         Ok(into)
     }
 
@@ -162,6 +260,12 @@ impl Module {
         Ok(self
             .call(|handle, numbers| unsafe { sys::ph_set_energy(handle, level, numbers) })?
             .first)
+    }
+
+    /// The module reads the gauge as it is.
+    pub fn sense(&mut self) -> Result<u64, Error> {
+        // SAFETY: as `call` says
+        Ok(self.call(|handle, numbers| unsafe { sys::ph_sense(handle, numbers) })?.first)
     }
 
     /// Arms: from then on each write is persistent once it is accepted.
@@ -224,6 +328,14 @@ impl Module {
         Ok(self.call(|handle, numbers| unsafe { sys::ph_sizes(handle, numbers) })?.second as usize)
     }
 
+    /// The bytes that a device in memory holds. One in a file is [`Error::InFile`], as by [`Module::stopped`].
+    pub fn store_bytes(&mut self) -> Result<Vec<u8>, Error> {
+        let mut store = vec![0; self.store_length()?];
+        // SAFETY: as `call` says; the buffer is as long as told
+        self.call(|handle, numbers| unsafe { sys::ph_store_bytes(handle, store.as_mut_ptr(), store.len(), numbers) })?;
+        Ok(store)
+    }
+
     /// From now on the device passes so many calls and fails each later one.
     pub fn stop_after(&mut self, calls: u64) -> Result<(), Error> {
         // SAFETY: as `call` says
@@ -244,11 +356,38 @@ impl Module {
         Ok(store)
     }
 
+    // Makes the device's changes on the file, if it has one. Behind one that fails the module is closed, so that none is made later: the
+    // file has what a stop left.
+    fn settle(&mut self) -> Result<(), Error> {
+        let Some(file) = &self.file else {
+            return Ok(());
+        };
+        let mut bytes = [0; sys::CHANGE_BYTES];
+        loop {
+            let mut told = sys::Numbers::default();
+            // SAFETY: the handle is this module's alone, and the buffer is as long as told
+            let code = unsafe { sys::ph_next_change(&mut self.handle, bytes.as_mut_ptr(), bytes.len(), &mut told) };
+            let made = match code {
+                sys::DONE => store_file::write(file, told.first, &bytes[..told.second as usize]),
+                sys::SYNC => file.sync_data(),
+                sys::NO_CHANGE => return Ok(()),
+                code => return Err(Error::of(code, told)),
+            };
+            if let Err(error) = made {
+                // SAFETY: the handle is this module's alone
+                unsafe { sys::ph_close(&mut self.handle) };
+                return Err(Error::File(error.kind()));
+            }
+        }
+    }
+
     // One call, on a handle that this module alone has, by `&mut`: so no two calls have it at once, and its numbers are apart from it.
     fn call(&mut self, call: impl FnOnce(&mut sys::Handle, &mut sys::Numbers) -> u32) -> Result<sys::Numbers, Error> {
         let mut numbers = sys::Numbers::default();
-        match call(&mut self.handle, &mut numbers) {
-            0 => Ok(numbers),
+        let code = call(&mut self.handle, &mut numbers);
+        self.settle()?;
+        match code {
+            sys::DONE => Ok(numbers),
             code => Err(Error::of(code, numbers)),
         }
     }
@@ -259,6 +398,7 @@ impl Module {
                 state: 0,
                 module: std::ptr::null_mut(),
             },
+            file: None,
             one_thread: PhantomData,
         }
     }

@@ -11,7 +11,7 @@ use Rattle.module_core.specs.Stands.{IsCut}
 use Rattle.nv_machine.proofs.SurvivedLives.{survived}
 use Rattle.nv_profile.specs.declared.profile.Profile.{Profile}
 use Rattle.nv_session.proofs.Common.{Answers, AnswersAlone, Assembly, Comes, ComesAlone, ComesTo, DeviceState, Event, Ghosts, HasDevice, HasLife, Head, IsCutToSaved, IsOneEvent, IsShapeFor, Module, ModuleStands, Reply, Setup, Tale, assembly, life_charged, life_on, set_to, setup_of}
-use Rattle.nv_session.proofs.Coming.{comes_retold, one_event}
+use Rattle.nv_session.proofs.Coming.{one_event}
 use Rattle.nv_session.proofs.Cutting.{ToldOfCut, comes_cut, now_cut}
 use Rattle.nv_session.proofs.SessionLives.{set_rises}
 use Rattle.save_image.specs.Image.{Image}

@@ -8,3 +8,5 @@ pub mod Reads
 pub mod Begins
 -- one of two devices
 pub mod Either
+-- the changes that a device notes
+pub mod Noted

@@ -1,16 +1,20 @@
-// What is set from outside: the level of the gauge, and the calls that a device passes.
+// What is set from outside, the level of the gauge and the calls that a device passes, and what is taken from it: its bytes, and the
+// changes that it notes.
 ghost use Rattle.std.specs.Prelude.{◌≡◌, length, true, false, None};
 ghost use Rattle.std.specs.Option.{IsSome};
 ghost use Rattle.ddr4_timing.specs.Limits.{lines_of};
 ghost use Rattle.energy_budget.specs.Meter.{meter_gauge};
 ghost use Rattle.nv_session.specs.Coming.{IsOneEvent};
+ghost use Rattle.noted_device.specs.Notes.{Hands};
 ghost use Rattle.nv_session.specs.Living.{set_to};
 ghost use Rattle.slot_store.specs.Slots.{device_size};
 ghost use Rattle.open_life.specs.Either.{first_in};
+ghost use Rattle.open_life.specs.Noted.{changes_in};
 
 use crate::either::EitherDevice;
 use crate::life::OpenLife;
 use channel_port::ChannelPort;
+use noted_device::{Handed, NotedDevice};
 use nv_machine::{Event, Reply};
 use save_device::{Fuse, MemoryDevice, SaveDevice};
 
@@ -92,6 +96,25 @@ impl<K: ChannelPort, B: SaveDevice> OpenLife<K, Fuse<EitherDevice<MemoryDevice, 
                 true
             }
             EitherDevice::Second(_) => false,
+        }
+    }
+}
+
+impl<K: ChannelPort, A: SaveDevice> OpenLife<K, Fuse<EitherDevice<A, NotedDevice>>> {
+    ghost use Rattle.open_life.specs.Now.{now_of};
+
+    /// Hands out the oldest change that its device notes, which isn't noted then: its bytes into the beginning of a buffer. It is no
+    /// call of the life.
+    pub fn hand_out(&mut self, into: &mut [u8]) -> Handed
+        ensures hands { Hands result (changes_in self.old.device.device)
+            (changes_in self.new.device.device) into.old into.new }
+        ensures now { now_of self.new ≡ now_of self.old }
+        ensures gauge { self.new.gauge ≡ self.old.gauge }
+        ensures profile { self.new.profile ≡ self.old.profile }
+    {
+        match &mut self.device.device {
+            EitherDevice::First(_) => Handed::Nothing,
+            EitherDevice::Second(noted) => noted.hand_out(into),
         }
     }
 }

@@ -1,4 +1,6 @@
-mod Opening
+mod Memory
 mod Persisting
+mod Refusing
+mod SettingUp
 mod Whole
 mod Writing

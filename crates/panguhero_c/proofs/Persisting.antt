@@ -1,18 +1,18 @@
 -- How a write is made persistent.
 use Rattle.std.proofs.Common.{◌≡◌, ◌<◌, ◌≤◌, ℕ, Option, Some, None, refl, arith}
 use Rattle.channel_port.specs.declared.port.ChannelPort.{Ghosts}
-use Rattle.nv_session.specs.declared.session.Session.{Session}
-use Rattle.nv_session.specs.declared.wires.Wires as wires
-use Rattle.panguhero_c.specs.declared.codes.Told.{Told}
+use Rattle.open_life.specs.declared.life.OpenLife.{OpenLife}
+use Rattle.save_device.specs.declared.device.SaveDevice as device
+use Rattle.reply_codes.specs.declared.codes.Told.{Told}
 use Rattle.panguhero_c.specs.Calls.{Persists, SavesFor, accepted_in, mark_in}
-use Rattle.panguhero_c.specs.Codes.{told}
+use Rattle.reply_codes.specs.Codes.{told}
 
 -- no value
 pub none_of : {X : Type 0} (it : Option X) → ((x : X) → it ≡ Some x → ⊥) → it ≡ None
 none_of None none = refl
 none_of (Some x) none = absurd (none x refl)
 
-module _ {K A : Type 0} {L : Ghosts K} {W : wires.Ghosts A K} (number : ℕ) (answered : Told) (old new : Session K A L W) where
+module _ {K D : Type 0} {L : Ghosts K} {S : device.Ghosts D} (number : ℕ) (answered : Told) (old new : OpenLife K D L S) where
   pub no_such_write : accepted_in old ≤ number → answered ≡ told 24 (accepted_in old) 0 → new ≡ old → Persists number answered old new
   no_such_write past is same = record {
     none = λ z. (is, same);

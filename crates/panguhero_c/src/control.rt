@@ -1,18 +1,18 @@
 // The calls on modes, energy and saves, as C sees them.
 ghost use Rattle.std.specs.Prelude.{◌≡◌};
-ghost use Rattle.panguhero_c.specs.Calls.{Arms, CallsOn, Disarms, MakesStep, Persists, Senses, TellsAccepted, TellsMode, TellsSizes, WorksAll};
-ghost use Rattle.panguhero_c.specs.Codes.{told_by};
+ghost use Rattle.panguhero_c.specs.Calls.{Arms, CallsOn, Disarms, MakesStep, Persists, ReadsGauge, Senses, TellsAccepted, TellsMode, TellsSizes, WorksAll};
+ghost use Rattle.reply_codes.specs.Codes.{told_by};
 
-use crate::codes::{NO_HANDLE, Numbers, Told};
 use crate::exports::tell;
 use crate::handle::Handle;
+use reply_codes::{NO_HANDLE, Numbers, Told};
 use std::alloc::Global;
 
 /// How many writes were accepted. Code 0 comes with it.
 #[unsafe(no_mangle)]
 pub extern "C" fn ph_accepted(alloc: Global, handle: &mut Handle, numbers: &mut Numbers) -> u32
     ensures { CallsOn (told_by result numbers.new)
-        (λ old later. (later ≡ old) × TellsAccepted (told_by result numbers.new) old.session)
+        (λ old later. (later ≡ old) × TellsAccepted (told_by result numbers.new) old.life)
         handle.old.boxed.value handle.new.boxed.value }
 {
     let Some(opened) = handle.take(alloc) else {
@@ -27,7 +27,7 @@ pub extern "C" fn ph_accepted(alloc: Global, handle: &mut Handle, numbers: &mut 
 #[unsafe(no_mangle)]
 pub extern "C" fn ph_mode(alloc: Global, handle: &mut Handle, numbers: &mut Numbers) -> u32
     ensures { CallsOn (told_by result numbers.new)
-        (λ old later. (later ≡ old) × TellsMode (told_by result numbers.new) old.session)
+        (λ old later. (later ≡ old) × TellsMode (told_by result numbers.new) old.life)
         handle.old.boxed.value handle.new.boxed.value }
 {
     let Some(opened) = handle.take(alloc) else {
@@ -42,7 +42,7 @@ pub extern "C" fn ph_mode(alloc: Global, handle: &mut Handle, numbers: &mut Numb
 #[unsafe(no_mangle)]
 pub extern "C" fn ph_sizes(alloc: Global, handle: &mut Handle, numbers: &mut Numbers) -> u32
     ensures { CallsOn (told_by result numbers.new)
-        (λ old later. (later ≡ old) × TellsSizes (told_by result numbers.new) old.session)
+        (λ old later. (later ≡ old) × TellsSizes (told_by result numbers.new) old.life)
         handle.old.boxed.value handle.new.boxed.value }
 {
     let Some(opened) = handle.take(alloc) else {
@@ -57,7 +57,7 @@ pub extern "C" fn ph_sizes(alloc: Global, handle: &mut Handle, numbers: &mut Num
 #[unsafe(no_mangle)]
 pub extern "C" fn ph_work(alloc: Global, handle: &mut Handle, numbers: &mut Numbers) -> u32
     ensures { CallsOn (told_by result numbers.new)
-        (λ old later. WorksAll (told_by result numbers.new) old.session later.session)
+        (λ old later. WorksAll (told_by result numbers.new) old.life later.life)
         handle.old.boxed.value handle.new.boxed.value }
 {
     let Some(mut opened) = handle.take(alloc) else {
@@ -78,7 +78,7 @@ pub extern "C" fn ph_persist(
 ) -> u32
     ensures { CallsOn (told_by result numbers.new)
         (λ old later. Persists number (told_by result numbers.new)
-        old.session later.session)
+        old.life later.life)
         handle.old.boxed.value handle.new.boxed.value }
 {
     let Some(mut opened) = handle.take(alloc) else {
@@ -99,7 +99,7 @@ pub extern "C" fn ph_set_energy(
 ) -> u32
     ensures { CallsOn (told_by result numbers.new)
         (λ old later. Senses level (told_by result numbers.new)
-        old.session later.session)
+        old.life later.life)
         handle.old.boxed.value handle.new.boxed.value }
 {
     let Some(mut opened) = handle.take(alloc) else {
@@ -110,12 +110,28 @@ pub extern "C" fn ph_set_energy(
     tell(told, numbers)
 }
 
+/// The module reads the gauge as it is. Code 0 comes with the reading and the mode.
+#[unsafe(no_mangle)]
+pub extern "C" fn ph_sense(alloc: Global, handle: &mut Handle, numbers: &mut Numbers) -> u32
+    ensures { CallsOn (told_by result numbers.new)
+        (λ old later. ReadsGauge (told_by result numbers.new)
+        old.life later.life)
+        handle.old.boxed.value handle.new.boxed.value }
+{
+    let Some(mut opened) = handle.take(alloc) else {
+        return tell(Told::code(NO_HANDLE), numbers);
+    };
+    let told = opened.sense();
+    handle.put(opened);
+    tell(told, numbers)
+}
+
 /// Arms: from then on each write is persistent once it is accepted. Code 0 comes with 1 where it was armed already, else 0.
 #[unsafe(no_mangle)]
 pub extern "C" fn ph_arm(alloc: Global, handle: &mut Handle, numbers: &mut Numbers) -> u32
     ensures { CallsOn (told_by result numbers.new)
         (λ old later. Arms (told_by result numbers.new)
-        old.session later.session)
+        old.life later.life)
         handle.old.boxed.value handle.new.boxed.value }
 {
     let Some(mut opened) = handle.take(alloc) else {
@@ -131,7 +147,7 @@ pub extern "C" fn ph_arm(alloc: Global, handle: &mut Handle, numbers: &mut Numbe
 pub extern "C" fn ph_disarm(alloc: Global, handle: &mut Handle, numbers: &mut Numbers) -> u32
     ensures { CallsOn (told_by result numbers.new)
         (λ old later. Disarms (told_by result numbers.new)
-        old.session later.session)
+        old.life later.life)
         handle.old.boxed.value handle.new.boxed.value }
 {
     let Some(mut opened) = handle.take(alloc) else {
@@ -147,7 +163,7 @@ pub extern "C" fn ph_disarm(alloc: Global, handle: &mut Handle, numbers: &mut Nu
 pub extern "C" fn ph_save_step(alloc: Global, handle: &mut Handle, numbers: &mut Numbers) -> u32
     ensures { CallsOn (told_by result numbers.new)
         (λ old later. MakesStep (told_by result numbers.new)
-        old.session later.session)
+        old.life later.life)
         handle.old.boxed.value handle.new.boxed.value }
 {
     let Some(mut opened) = handle.take(alloc) else {

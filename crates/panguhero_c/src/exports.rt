@@ -1,12 +1,13 @@
 // The calls, as C sees them.
 ghost use Rattle.std.specs.Prelude.{◌≡◌, ◌≢◌, ℕ, List, length, None};
 ghost use Rattle.nv_profile.specs.Profile.{IsNoProfile};
-ghost use Rattle.panguhero_c.specs.Calls.{CallsOn, HasText, IfOpened, LosesMains, OpensNew, Reads, Saves, TellsMark, Writes};
-ghost use Rattle.panguhero_c.specs.Codes.{told_by};
+ghost use Rattle.panguhero_c.specs.Calls.{CallsOn, Collects, HasText, IfOpened, LosesMains, OpensNew, Reads, Saves, TellsMark, Writes};
+ghost use Rattle.reply_codes.specs.Codes.{told_by};
 
-use crate::codes::{ALREADY_OPEN, DONE, NO_HANDLE, NO_MEMORY, Numbers, Told, text_of};
 use crate::handle::Handle;
 use crate::opened::OpenModule;
+use channel_port::Ticket;
+use reply_codes::{ALREADY_OPEN, DONE, NO_HANDLE, NO_MEMORY, Numbers, Told, text_of};
 use std::alloc::Global;
 
 // Tells C the numbers, and gives the code.
@@ -22,7 +23,7 @@ pub(crate) fn tell(told: Told, numbers: &mut Numbers) -> u32
 #[unsafe(no_mangle)]
 pub extern "C" fn ph_open_memory(alloc: Global, handle: &mut Handle, profile: &[u8]) -> u32
     ensures opens { result ≡ 0
-        → IfOpened handle.new.boxed.value (λ opened. OpensNew profile.now opened.session) }
+        → IfOpened handle.new.boxed.value (λ opened. OpensNew profile.now opened.life) }
     ensures no_profile { result ≡ 2 → IsNoProfile profile.now }
     ensures already { handle.old.boxed.value ≢ None → result ≡ 9 }
     ensures kept { result ≢ 0 → handle.new.boxed.value ≡ handle.old.boxed.value }
@@ -66,7 +67,7 @@ pub extern "C" fn ph_write(
     numbers: &mut Numbers,
 ) -> u32
     ensures { CallsOn (told_by result numbers.new)
-        (λ old later. Writes line bytes.now (told_by result numbers.new) old.session later.session)
+        (λ old later. Writes line bytes.now (told_by result numbers.new) old.life later.life)
         handle.old.boxed.value handle.new.boxed.value }
 {
     let Some(mut opened) = handle.take(alloc) else {
@@ -78,25 +79,54 @@ pub extern "C" fn ph_write(
 }
 
 /// Reads a line of the memory after all accepted writes into a buffer of 64 bytes. Where its bytes are to come with a command of
-/// its channel, that is worked for up to 64 turns.
+/// its channel, that is worked in `wait` turns at most; behind these code 23 comes with the read's channel and its number there, for
+/// `ph_collect`.
 #[unsafe(no_mangle)]
 pub extern "C" fn ph_read(
     alloc: Global,
     handle: &mut Handle,
     line: u64,
+    wait: u64,
     into: &mut [u8],
     numbers: &mut Numbers,
 ) -> u32
     ensures reads { CallsOn (told_by result numbers.new)
-        (λ old later. Reads line into.old into.new (told_by result numbers.new)
-        old.session later.session)
+        (λ old later. Reads line wait into.old into.new (told_by result numbers.new)
+        old.life later.life)
         handle.old.boxed.value handle.new.boxed.value }
     ensures closed { handle.old.boxed.value ≡ None → into.new ≡ into.old }
 {
     let Some(mut opened) = handle.take(alloc) else {
         return tell(Told::code(NO_HANDLE), numbers);
     };
-    let told = opened.read(line, into);
+    let told = opened.read(line, wait, into);
+    handle.put(opened);
+    tell(told, numbers)
+}
+
+/// The bytes of a read that was answered to wait, into a buffer of 64 bytes: by its channel and its number there, which came with
+/// that answer. Code 0 comes with the read's line and how many writes were accepted before it; code 23 where its command is still to
+/// come, which `ph_work` issues. A read is collected once.
+#[unsafe(no_mangle)]
+pub extern "C" fn ph_collect(
+    alloc: Global,
+    handle: &mut Handle,
+    channel: u64,
+    number: u64,
+    into: &mut [u8],
+    numbers: &mut Numbers,
+) -> u32
+    ensures collects { CallsOn (told_by result numbers.new)
+        (λ old later. Collects (record { channel = channel; serial = number })
+        into.old into.new (told_by result numbers.new) old.life later.life)
+        handle.old.boxed.value handle.new.boxed.value }
+    ensures closed { handle.old.boxed.value ≡ None → into.new ≡ into.old }
+{
+    let Some(mut opened) = handle.take(alloc) else {
+        return tell(Told::code(NO_HANDLE), numbers);
+    };
+    let serial = u128::from(number);
+    let told = opened.collect(Ticket { channel, serial }, into);
     handle.put(opened);
     tell(told, numbers)
 }
@@ -105,7 +135,7 @@ pub extern "C" fn ph_read(
 #[unsafe(no_mangle)]
 pub extern "C" fn ph_save(alloc: Global, handle: &mut Handle, numbers: &mut Numbers) -> u32
     ensures { CallsOn (told_by result numbers.new)
-        (λ old later. Saves (told_by result numbers.new) old.session later.session)
+        (λ old later. Saves (told_by result numbers.new) old.life later.life)
         handle.old.boxed.value handle.new.boxed.value }
 {
     let Some(mut opened) = handle.take(alloc) else {
@@ -120,7 +150,7 @@ pub extern "C" fn ph_save(alloc: Global, handle: &mut Handle, numbers: &mut Numb
 #[unsafe(no_mangle)]
 pub extern "C" fn ph_power_loss(alloc: Global, handle: &mut Handle, numbers: &mut Numbers) -> u32
     ensures { CallsOn (told_by result numbers.new)
-        (λ old later. LosesMains (told_by result numbers.new) old.session later.session)
+        (λ old later. LosesMains (told_by result numbers.new) old.life later.life)
         handle.old.boxed.value handle.new.boxed.value }
 {
     let Some(mut opened) = handle.take(alloc) else {
@@ -135,7 +165,7 @@ pub extern "C" fn ph_power_loss(alloc: Global, handle: &mut Handle, numbers: &mu
 #[unsafe(no_mangle)]
 pub extern "C" fn ph_mark(alloc: Global, handle: &mut Handle, numbers: &mut Numbers) -> u32
     ensures { CallsOn (told_by result numbers.new)
-        (λ old later. (later ≡ old) × TellsMark (told_by result numbers.new) old.session)
+        (λ old later. (later ≡ old) × TellsMark (told_by result numbers.new) old.life)
         handle.old.boxed.value handle.new.boxed.value }
 {
     let Some(opened) = handle.take(alloc) else {

@@ -1,5 +1,5 @@
 // What C holds of a module.
-ghost use Rattle.std.specs.Prelude.{◌≡◌, ◌≢◌, ◌↔◌, Some, None, IsSome, IsTrue};
+ghost use Rattle.std.specs.Prelude.{◌≡◌, ◌≢◌, ◌↔◌, Some, None, IsSome, IsTrue, false};
 ghost use Rattle.std.specs.Option.{option_map};
 ghost use Rattle.panguhero_c.specs.declared.handle.TheConstants.{OPEN};
 
@@ -44,7 +44,8 @@ fn opened(given: Box<OpenModule>) -> Handle
 impl Handle {
     /// Is there a module?
     pub(crate) fn is_open(&self) -> bool
-        ensures { (IsTrue result) ↔ (self.now.boxed.value ≢ None) }
+        ensures is { (IsTrue result) ↔ (self.now.boxed.value ≢ None) }
+        ensures closed { result ≡ false → self.now.boxed.value ≡ None }
     {
         self.state == OPEN
     }

@@ -4,10 +4,9 @@ use Rattle.panguhero_c.proofs.opened.OpenModule.write.Goals as goal
 pub returns-in-Some : goal.returns-in-Some
 returns-in-Some c =
     let chunk = c.in-Some.ensures.cases in
-    writes c.args.line c.args.bytes.now c.in-Some.bytes.now c.write_told.result c.args.self.now.session c.write.new.self chunk.long chunk.same (record {
+    writes c.args.line c.args.bytes.now c.in-Some.bytes.now c.write_told.result c.args.self.now.life c.write.new.self chunk.long chunk.same (record {
       result = c.write.result;
       told_is = c.write_told.ensures;
-      comes = c.write.ensures.comes;
-      at_rest = c.write.ensures.none;
-      same = record { device = c.write.ensures.device; gauge = c.write.ensures.gauge; profile = c.write.ensures.profile; wires = c.write.ensures.wires };
+      goes = c.write.ensures.goes;
+      same = record { device = c.write.ensures.device; gauge = c.write.ensures.gauge; profile = c.write.ensures.profile };
     })

@@ -1,5 +1,5 @@
 -- The codes that C sees, with their numbers.
-use Rattle.std.specs.Prelude.{ℕ, Option, Some, None, Result, Ok, Err}
+use Rattle.std.specs.Prelude.{◌≢◌, ℕ, ◌%◌, ◌^◌, Result, Ok, Err}
 use Rattle.arm_state.specs.declared.loss.Loss.{Loss}
 use Rattle.arm_state.specs.declared.loss.Loss.TheVariants as loss
 use Rattle.arm_state.specs.declared.mode.Mode.{Mode}
@@ -14,18 +14,33 @@ use Rattle.arm_state.specs.declared.refusal.ReadRefusal.{ReadRefusal}
 use Rattle.arm_state.specs.declared.refusal.ReadRefusal.TheVariants as read
 use Rattle.arm_state.specs.declared.refusal.WriteRefusal.{WriteRefusal}
 use Rattle.arm_state.specs.declared.refusal.WriteRefusal.TheVariants as write
+use Rattle.channel_port.specs.declared.answers.Collected.{Collected}
+use Rattle.channel_port.specs.declared.answers.Collected.TheVariants.{Data, Pending, Unknown}
+use Rattle.channel_port.specs.declared.answers.Ticket.{Ticket}
+use Rattle.noted_device.specs.declared.notes.Handed.{Handed}
+use Rattle.noted_device.specs.declared.notes.Handed.TheVariants as handed
 use Rattle.nv_machine.specs.declared.events.Accepted.{Accepted}
 use Rattle.nv_machine.specs.declared.events.StepReply.{StepReply}
 use Rattle.nv_machine.specs.declared.events.StepReply.TheVariants as step
 use Rattle.nv_profile.specs.declared.reading.ProfileFault.{ProfileFault}
 use Rattle.nv_profile.specs.declared.reading.ProfileFault.TheVariants as profile
-use Rattle.nv_session.specs.declared.calls.Level.{Level}
-use Rattle.nv_session.specs.declared.lives.FormatError.{FormatError}
-use Rattle.nv_session.specs.declared.lives.FormatError.TheVariants as format
-use Rattle.nv_session.specs.declared.turns.LineSeen.{LineSeen}
-use Rattle.nv_session.specs.declared.turns.LineSeen.TheVariants.{Content, Waiting}
-use Rattle.panguhero_c.specs.declared.codes.Numbers.{Numbers}
-use Rattle.panguhero_c.specs.declared.codes.Told.{Told}
+use Rattle.open_life.specs.declared.opening.Found as found
+use Rattle.open_life.specs.declared.opening.Found.TheVariants as founds
+use Rattle.open_life.specs.declared.opening.OpenFault.{OpenFault}
+use Rattle.open_life.specs.declared.opening.OpenFault.TheVariants as fault
+use Rattle.open_life.specs.declared.turns.LineRead.{LineRead}
+use Rattle.open_life.specs.declared.turns.LineRead.TheVariants.{Content, Waiting}
+use Rattle.slot_store.specs.declared.head.Head.{Head}
+use Rattle.slot_store.specs.declared.restoring.RestoreError.{RestoreError}
+use Rattle.slot_store.specs.declared.restoring.RestoreError.TheVariants as restore
+use Rattle.slot_store.specs.declared.restoring.Verdict.{Verdict}
+use Rattle.slot_store.specs.declared.restoring.Verdict.TheVariants.{Complete, PossibleLoss}
+use Rattle.reply_codes.specs.declared.codes.Numbers.{Numbers}
+use Rattle.reply_codes.specs.declared.codes.Told.{Told}
+
+-- a code of what wasn't done: neither that of a call that was, nor of an opening with a loss that may be, nor of a text that is no profile
+abbrev pub IsRefusal : ℕ → Type 0
+IsRefusal code = (code ≢ 0) × (code ≢ 10) × (code ≢ 2)
 
 -- a code with its numbers, and one with none
 abbrev pub told : ℕ → ℕ → ℕ → Told
@@ -47,9 +62,18 @@ write_told (Err write.Closed) = told_code 19
 write_told (Err write.TrailFull) = told_code 20
 write_told (Err write.NoSuchLine) = told_code 21
 
-abbrev pub read_told : Result LineSeen ReadRefusal → Told
+-- a ticket's number is told by its low 64 bits
+abbrev pub ticket_told : Ticket → Told
+ticket_told ticket = told 23 ticket.channel (ticket.serial % 2 ^ 64)
+
+abbrev pub collected_told : Ticket → Collected → Told
+collected_told ticket (Data line bytes at) = told 0 line at
+collected_told ticket Pending = ticket_told ticket
+collected_told ticket Unknown = told_code 25
+
+abbrev pub read_told : Result LineRead ReadRefusal → Told
 read_told (Ok (Content bytes)) = told_code 0
-read_told (Ok Waiting) = told_code 23
+read_told (Ok (Waiting ticket)) = ticket_told ticket
 read_told (Err read.Full) = told_code 22
 read_told (Err read.Closed) = told_code 19
 read_told (Err read.NoSuchLine) = told_code 21
@@ -73,20 +97,33 @@ disarm_told (Ok disarmed.Disarming) = told 0 0 0
 disarm_told (Ok disarmed.AlreadyDisarmed) = told 0 1 0
 disarm_told (Err refusal) = refusal_told refusal
 
-abbrev pub mode_number : Option Mode → ℕ
-mode_number (Some mode.Disarmed) = 0
-mode_number (Some mode.Armed) = 1
-mode_number (Some mode.Disarming) = 2
-mode_number (Some mode.Stranded) = 3
-mode_number (Some mode.Closing) = 4
-mode_number (Some mode.Saved) = 5
-mode_number None = 6
+abbrev pub mode_number : Mode → ℕ
+mode_number mode.Disarmed = 0
+mode_number mode.Armed = 1
+mode_number mode.Disarming = 2
+mode_number mode.Stranded = 3
+mode_number mode.Closing = 4
+mode_number mode.Saved = 5
 
-abbrev pub mode_told : Option Mode → Told
+abbrev pub mode_told : Mode → Told
 mode_told now = told 0 (mode_number now) 0
 
-abbrev pub level_told : Level → Told
-level_told level = told 0 level.reading (mode_number level.mode)
+abbrev pub level_told : ℕ → Mode → Told
+level_told reading now = told 0 reading (mode_number now)
+
+abbrev pub verdict_code : Verdict → ℕ
+verdict_code Complete = 0
+verdict_code (PossibleLoss after) = 10
+
+abbrev pub restore_told : Head → Told
+restore_told head = told (verdict_code head.verdict) head.newest.generation head.count
+
+abbrev pub restore_code : RestoreError → ℕ
+restore_code restore.NoImage = 5
+restore_code (restore.Damaged slot) = 6
+restore_code restore.WrongSize = 4
+restore_code restore.Device = 7
+restore_code restore.Memory = 1
 
 abbrev pub save_told : Result StepReply ArmRefusal → Told
 save_told (Ok (step.Saved generation count)) = told 0 generation count
@@ -105,10 +142,23 @@ loss_told loss.Dark = told_code 55
 loss_told loss.Fault = told_code 53
 loss_told loss.Closed = told_code 19
 
+-- a change that is handed out: the place and the number of its bytes
+abbrev pub handed_told : Handed → Told
+handed_told handed.Nothing = told_code 27
+handed_told handed.Sync = told_code 26
+handed_told (handed.Write at n) = told 0 at n
+handed_told (handed.Longer n) = told 15 n 0
+
 abbrev pub profile_code : ProfileFault → ℕ
 profile_code profile.Refused = 2
 profile_code profile.Memory = 1
 
-abbrev pub format_code : FormatError → ℕ
-format_code format.Device = 7
-format_code format.Memory = 1
+-- what a device held, as an opening on it tells that
+abbrev pub found_told : found.Found → Told
+found_told (founds.Restored head) = restore_told head
+found_told founds.Formatted = told_code 0
+
+abbrev pub open_code : OpenFault → ℕ
+open_code (fault.Restore error) = restore_code error
+open_code fault.Format = 7
+open_code fault.Memory = 1

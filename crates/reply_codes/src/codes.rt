@@ -1,11 +1,14 @@
 // What a call answers: a code, and numbers beside it. `include/panguhero.h` names the same codes.
 ghost use Rattle.std.specs.Prelude.{◌≡◌};
-ghost use Rattle.panguhero_c.specs.Codes.{arm_told, disarm_told, format_code, level_told, loss_told, mode_told, mode_number, profile_code, read_told, refusal_told, save_told, write_told};
+ghost use Rattle.reply_codes.specs.Codes.{arm_told, disarm_told, found_told, handed_told, level_told, loss_told, mode_told, mode_number, open_code, profile_code, read_told, ticket_told, collected_told, refusal_told, restore_code, restore_told, save_told, write_told};
 
 use arm_state::{ArmRefusal, ArmReply, DisarmReply, Loss, Mode, ReadRefusal, WriteRefusal};
+use channel_port::{Collected, Ticket};
+use noted_device::Handed;
 use nv_machine::{Accepted, StepReply};
 use nv_profile::ProfileFault;
-use nv_session::{FormatError, Level, LineSeen};
+use open_life::{Found, LineRead, OpenFault};
+use slot_store::{Head, RestoreError, Verdict};
 
 /// The numbers that go with a code; 0 where there is none.
 #[repr(C)]
@@ -17,85 +20,108 @@ pub struct Numbers {
 
 /// What a call answers.
 #[derive(Clone, Copy, Debug, PartialEq, Eq)]
-pub(crate) struct Told {
-    pub(crate) code: u32,
-    pub(crate) numbers: Numbers,
+pub struct Told {
+    pub code: u32,
+    pub numbers: Numbers,
 }
 
-pub(crate) const DONE: u32 = 0;
+pub const DONE: u32 = 0;
 
-pub(crate) const NO_MEMORY: u32 = 1;
+pub const NO_MEMORY: u32 = 1;
 
-pub(crate) const NO_PROFILE: u32 = 2;
+pub const NO_PROFILE: u32 = 2;
 
-pub(crate) const BUFFER: u32 = 3;
+pub const BUFFER: u32 = 3;
 
-pub(crate) const SIZE: u32 = 4;
+pub const SIZE: u32 = 4;
 
-const DEVICE: u32 = 7;
+pub const NO_IMAGE: u32 = 5;
 
-pub(crate) const NO_HANDLE: u32 = 8;
+pub const DAMAGED: u32 = 6;
 
-pub(crate) const ALREADY_OPEN: u32 = 9;
+pub const DEVICE: u32 = 7;
 
-pub(crate) const NULL: u32 = 11;
+pub const NO_HANDLE: u32 = 8;
 
-pub(crate) const OVERLAP: u32 = 12;
+pub const ALREADY_OPEN: u32 = 9;
 
-pub(crate) const NO_PICK: u32 = 13;
+pub const POSSIBLE_LOSS: u32 = 10;
 
-const FULL: u32 = 16;
+pub const NULL: u32 = 11;
 
-const ENERGY_LOW: u32 = 17;
+pub const OVERLAP: u32 = 12;
 
-const DISARMING: u32 = 18;
+pub const NO_PICK: u32 = 13;
 
-const CLOSED: u32 = 19;
+pub const IN_FILE: u32 = 14;
 
-const TRAIL_FULL: u32 = 20;
+pub const LONGER: u32 = 15;
 
-const NO_SUCH_LINE: u32 = 21;
+pub const FULL: u32 = 16;
 
-const READS_FULL: u32 = 22;
+pub const ENERGY_LOW: u32 = 17;
 
-const READ_WAITS: u32 = 23;
+pub const DISARMING: u32 = 18;
 
-pub(crate) const NO_SUCH_WRITE: u32 = 24;
+pub const CLOSED: u32 = 19;
 
-const NEED_ENERGY: u32 = 32;
+pub const TRAIL_FULL: u32 = 20;
 
-const SAVE_RUNNING: u32 = 33;
+pub const NO_SUCH_LINE: u32 = 21;
 
-const UNSETTLED: u32 = 34;
+pub const READS_FULL: u32 = 22;
 
-const SPENT: u32 = 35;
+pub const READ_WAITS: u32 = 23;
 
-const STEPPED: u32 = 48;
+pub const NO_SUCH_WRITE: u32 = 24;
 
-pub(crate) const WAITING: u32 = 49;
+pub const NO_SUCH_READ: u32 = 25;
 
-const TURNED: u32 = 50;
+pub const SYNC: u32 = 26;
 
-const NO_SAVE: u32 = 51;
+pub const NO_CHANGE: u32 = 27;
 
-const RETRY: u32 = 52;
+pub const NO_EVENT: u32 = 28;
 
-const SAVE_FAULT: u32 = 53;
+pub const ROOM: u32 = 29;
 
-const UNSAVED: u32 = 54;
+pub const NEED_ENERGY: u32 = 32;
 
-const DARK: u32 = 55;
+pub const SAVE_RUNNING: u32 = 33;
+
+pub const UNSETTLED: u32 = 34;
+
+pub const SPENT: u32 = 35;
+
+pub const STEPPED: u32 = 48;
+
+pub const WAITING: u32 = 49;
+
+pub const TURNED: u32 = 50;
+
+pub const NO_SAVE: u32 = 51;
+
+pub const RETRY: u32 = 52;
+
+pub const SAVE_FAULT: u32 = 53;
+
+pub const UNSAVED: u32 = 54;
+
+pub const DARK: u32 = 55;
+
+/// As many serial numbers of tickets as C can tell apart.
+const SERIALS: u128 = 1 << 64;
 
 impl Told {
     /// A code with no numbers.
-    pub(crate) fn code(code: u32) -> Told
+    pub fn code(code: u32) -> Told
         ensures { result ≡ record { code = code; numbers = record { first = 0; second = 0 } } }
     {
         Told::with(code, 0, 0)
     }
 
     /// A code with its numbers.
-    pub(crate) fn with(code: u32, first: u64, second: u64) -> Told
+    pub fn with(code: u32, first: u64, second: u64) -> Told
         ensures { result ≡ record { code = code; numbers = record { first = first; second = second } } }
     {
         Told {
@@ -106,7 +132,7 @@ impl Told {
 }
 
 /// What a write is answered.
-pub(crate) fn write_told(reply: Result<Accepted, WriteRefusal>) -> Told
+pub fn write_told(reply: Result<Accepted, WriteRefusal>) -> Told
     ensures { result ≡ write_told reply }
 {
     match reply {
@@ -120,21 +146,40 @@ pub(crate) fn write_told(reply: Result<Accepted, WriteRefusal>) -> Told
     }
 }
 
+/// What a read that waits is answered: its channel, and its number among the channel's.
+pub fn ticket_told(ticket: Ticket) -> Told
+    ensures { result ≡ ticket_told ticket }
+{
+    let low = ticket.serial % SERIALS;
+    Told::with(READ_WAITS, ticket.channel, low as u64)
+}
+
+/// What there is for a ticket.
+pub fn collected_told(ticket: Ticket, collected: Collected) -> Told
+    ensures { result ≡ collected_told ticket collected }
+{
+    match collected {
+        Collected::Data { line, at, .. } => Told::with(DONE, line, at),
+        Collected::Pending => ticket_told(ticket),
+        Collected::Unknown => Told::code(NO_SUCH_READ),
+    }
+}
+
 /// What a read is answered.
-pub(crate) fn read_told(reply: Result<LineSeen, ReadRefusal>) -> Told
+pub fn read_told(reply: Result<LineRead, ReadRefusal>) -> Told
     ensures { result ≡ read_told reply }
 {
     match reply {
-        Ok(LineSeen::Content(_)) => Told::code(DONE),
-        Ok(LineSeen::Waiting) => Told::code(READ_WAITS),
+        Ok(LineRead::Content(_)) => Told::code(DONE),
+        Ok(LineRead::Waiting(ticket)) => ticket_told(ticket),
         Err(ReadRefusal::Full) => Told::code(READS_FULL),
         Err(ReadRefusal::Closed) => Told::code(CLOSED),
         Err(ReadRefusal::NoSuchLine) => Told::code(NO_SUCH_LINE),
     }
 }
 
-// Why a module isn't armed, disarmed or saved.
-fn refusal_told(refusal: ArmRefusal) -> Told
+/// Why a module isn't armed, disarmed or saved.
+pub fn refusal_told(refusal: ArmRefusal) -> Told
     ensures { result ≡ refusal_told refusal }
 {
     match refusal {
@@ -149,7 +194,7 @@ fn refusal_told(refusal: ArmRefusal) -> Told
 }
 
 /// What arming is answered.
-pub(crate) fn arm_told(reply: Result<ArmReply, ArmRefusal>) -> Told
+pub fn arm_told(reply: Result<ArmReply, ArmRefusal>) -> Told
     ensures { result ≡ arm_told reply }
 {
     match reply {
@@ -160,7 +205,7 @@ pub(crate) fn arm_told(reply: Result<ArmReply, ArmRefusal>) -> Told
 }
 
 /// What disarming is answered.
-pub(crate) fn disarm_told(reply: Result<DisarmReply, ArmRefusal>) -> Told
+pub fn disarm_told(reply: Result<DisarmReply, ArmRefusal>) -> Told
     ensures { result ≡ disarm_told reply }
 {
     match reply {
@@ -171,36 +216,59 @@ pub(crate) fn disarm_told(reply: Result<DisarmReply, ArmRefusal>) -> Told
 }
 
 // The number of a mode.
-fn mode_number(mode: Option<Mode>) -> u64
+fn mode_number(mode: Mode) -> u64
     ensures { result ≡ mode_number mode }
 {
     match mode {
-        Some(Mode::Disarmed) => 0,
-        Some(Mode::Armed) => 1,
-        Some(Mode::Disarming) => 2,
-        Some(Mode::Stranded) => 3,
-        Some(Mode::Closing) => 4,
-        Some(Mode::Saved) => 5,
-        None => 6,
+        Mode::Disarmed => 0,
+        Mode::Armed => 1,
+        Mode::Disarming => 2,
+        Mode::Stranded => 3,
+        Mode::Closing => 4,
+        Mode::Saved => 5,
     }
 }
 
 /// How a mode is told.
-pub(crate) fn mode_told(mode: Option<Mode>) -> Told
+pub fn mode_told(mode: Mode) -> Told
     ensures { result ≡ mode_told mode }
 {
     Told::with(DONE, mode_number(mode), 0)
 }
 
 /// How a reading of the gauge is told, with the mode.
-pub(crate) fn level_told(level: Level) -> Told
-    ensures { result ≡ level_told level }
+pub fn level_told(reading: u64, mode: Mode) -> Told
+    ensures { result ≡ level_told reading mode }
 {
-    Told::with(DONE, level.reading, mode_number(level.mode))
+    Told::with(DONE, reading, mode_number(mode))
+}
+
+/// What a restore is answered.
+pub fn restore_told(head: Head) -> Told
+    ensures { result ≡ restore_told head }
+{
+    let code = match head.verdict {
+        Verdict::Complete => DONE,
+        Verdict::PossibleLoss { .. } => POSSIBLE_LOSS,
+    };
+    Told::with(code, head.newest.generation, head.count)
+}
+
+/// Why nothing is restored.
+pub fn restore_code(error: RestoreError) -> u32
+    ensures { result ≡ restore_code error }
+{
+    match error {
+        RestoreError::NoImage => NO_IMAGE,
+        RestoreError::Damaged { .. } => DAMAGED,
+        RestoreError::WrongSize => SIZE,
+        RestoreError::Device => DEVICE,
+        RestoreError::Memory => NO_MEMORY,
+    }
 }
 
 /// What a save, or a step of one, is answered.
-pub(crate) fn save_told(reply: Result<StepReply, ArmRefusal>) -> Told
+pub fn save_told(reply: Result<StepReply, ArmRefusal>) -> Told
     ensures { result ≡ save_told reply }
 {
     match reply {
@@ -216,7 +284,7 @@ pub(crate) fn save_told(reply: Result<StepReply, ArmRefusal>) -> Told
 }
 
 /// What a loss of mains is answered.
-pub(crate) fn loss_told(loss: Loss) -> Told
+pub fn loss_told(loss: Loss) -> Told
     ensures { result ≡ loss_told loss }
 {
     match loss {
@@ -228,8 +296,20 @@ pub(crate) fn loss_told(loss: Loss) -> Told
     }
 }
 
+/// How a change that is handed out is told.
+pub fn handed_told(handed: Handed) -> Told
+    ensures { result ≡ handed_told handed }
+{
+    match handed {
+        Handed::Nothing => Told::code(NO_CHANGE),
+        Handed::Sync => Told::code(SYNC),
+        Handed::Write { at, length } => Told::with(DONE, at as u64, length as u64),
+        Handed::Longer { length } => Told::with(LONGER, length as u64, 0),
+    }
+}
+
 /// Why a text gives no profile.
-pub(crate) fn profile_code(fault: ProfileFault) -> u32
+pub fn profile_code(fault: ProfileFault) -> u32
     ensures { result ≡ profile_code fault }
 {
     match fault {
@@ -238,30 +318,46 @@ pub(crate) fn profile_code(fault: ProfileFault) -> u32
     }
 }
 
-/// Why a device isn't formatted.
-pub(crate) fn format_code(error: FormatError) -> u32
-    ensures { result ≡ format_code error }
+/// What a device held, as an opening on it tells that.
+pub fn found_told(found: Found) -> Told
+    ensures { result ≡ found_told found }
 {
-    match error {
-        FormatError::Device => DEVICE,
-        FormatError::Memory => NO_MEMORY,
+    match found {
+        Found::Restored(head) => restore_told(head),
+        Found::Formatted => Told::code(DONE),
+    }
+}
+
+/// Why nothing was opened.
+pub fn open_code(fault: OpenFault) -> u32
+    ensures { result ≡ open_code fault }
+{
+    match fault {
+        OpenFault::Restore(error) => restore_code(error),
+        OpenFault::Format => DEVICE,
+        OpenFault::Memory => NO_MEMORY,
     }
 }
 
 /// The words of a code.
-pub(crate) fn text_of(code: u32) -> &'static str {
+pub fn text_of(code: u32) -> &'static str {
     match code {
         DONE => "it was done",
         NO_MEMORY => "there is no memory",
         NO_PROFILE => "the text is no profile",
         BUFFER => "the buffer isn't as long as a line",
         SIZE => "the bytes of the store are of another length",
+        NO_IMAGE => "nothing is saved there",
+        DAMAGED => "what is saved there is damaged",
         DEVICE => "a call of the device failed",
         NO_HANDLE => "the handle is closed",
         ALREADY_OPEN => "the handle is open",
+        POSSIBLE_LOSS => "acknowledged writes may be missing",
         NULL => "a pointer is null",
         OVERLAP => "buffers overlap",
         NO_PICK => "there is no such pick",
+        IN_FILE => "the device's bytes are in a store of the caller's",
+        LONGER => "the change has more bytes than the buffer",
         FULL => "the write queue of the line's channel is full",
         ENERGY_LOW => "the energy is too low for one more write",
         DISARMING => "the module is disarming",
@@ -271,6 +367,11 @@ pub(crate) fn text_of(code: u32) -> &'static str {
         READS_FULL => "there is no room for one more read",
         READ_WAITS => "the bytes of the read didn't come in time",
         NO_SUCH_WRITE => "there is no such write",
+        NO_SUCH_READ => "no read of this ticket waits",
+        SYNC => "what was written is to be made durable",
+        NO_CHANGE => "no change is noted",
+        NO_EVENT => "there is no such event",
+        ROOM => "there is room for another number",
         NEED_ENERGY => "the energy is too low to arm",
         SAVE_RUNNING => "a save runs",
         UNSETTLED => "the device has failed since the last save",

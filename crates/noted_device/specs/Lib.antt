@@ -1,0 +1,2 @@
+-- changes that are noted
+pub mod Notes

@@ -1,0 +1,2 @@
+-- the codes and their numbers
+pub mod Codes
