@@ -18,7 +18,7 @@ pub enum Fault<'a> {
     /// The text is no profile for these reasons, each a line.
     #[error("profile: {0}")]
     NoProfile(String),
-    /// What is wrong with the store that is to be lived on.
+    /// What is wrong with the store that is to be lived on, or run on.
     #[error("{0}")]
     Store(String),
     /// The file can't be read or written. `-` is standard input or standard output.
@@ -32,9 +32,15 @@ pub enum Fault<'a> {
     /// The word behind `--out` names no file for a store, for this reason.
     #[error("--out {0}")]
     Out(&'static str),
+    /// The word behind `--store` names no file for a store, for this reason.
+    #[error("--store {0}")]
+    Kept(&'static str),
     /// No command stands in a trace that is to be checked.
     #[error("empty trace")]
     EmptyTrace,
+    /// No such word is explained.
+    #[error("no word {0}")]
+    NoTerm(&'a str),
     /// The script runs no line of this number.
     #[error("no line {0}")]
     NoLine(u64),
@@ -52,6 +58,8 @@ impl Fault<'_> {
         match self {
             Fault::Words => ExitCode::from(2),
             Fault::Out(_) => ExitCode::from(2),
+            Fault::Kept(_) => ExitCode::from(2),
+            Fault::NoTerm(_) => ExitCode::from(2),
             _ => ExitCode::FAILURE,
         }
     }

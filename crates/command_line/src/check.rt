@@ -32,15 +32,12 @@ where
     } else {
         Source::Bytes(bytes_of(rt, name, u64::MAX)?)
     };
-    let others = matches.get_flag("answers");
-    match write_check(
-        rt,
-        &source,
-        others,
-        matches.get_flag("allow-empty"),
-        &profile.checked,
-        writer,
-    ) {
+    let asked = Asked {
+        others: matches.get_flag("answers"),
+        allows_empty: matches.get_flag("allow-empty"),
+        all: matches.get_flag("all"),
+    };
+    match write_check(rt, &source, asked, &profile.checked, writer) {
         Ok(checked) => {
             let code = checked?;
             flush(writer)?;
@@ -50,20 +47,33 @@ where
     }
 }
 
+// What is asked of a check.
+#[derive(Clone, Copy)]
+struct Asked {
+    // whether other answers of a run are passed over
+    others: bool,
+    allows_empty: bool,
+    // whether every fault counts
+    all: bool,
+}
+
 // Checks a trace and writes what that tells, where the trace isn't one without a command that is to have some.
 fn write_check<R: Files + AllocGlobal, W: Write>(
     rt: &R,
     source: &Source<'_>,
-    others: bool,
-    allows_empty: bool,
+    asked: Asked,
     checked: &Checked,
     writer: &mut W,
 ) -> Result<Result<ExitCode, Failure<'static>>, TraceFault> {
-    let form = source.form(rt, others)?;
+    let form = source.form(rt, asked.others)?;
     let check = source.check(rt, form, checked)?;
-    match verdict(&check, checked, allows_empty) {
+    match verdict(&check, checked, asked.allows_empty) {
         Ok(code) => {
-            source.write_verdicts(rt, form, checked, &check, writer)?;
+            if asked.all {
+                source.write_tallies(rt, form, checked, &check, writer)?;
+            } else {
+                source.write_verdicts(rt, form, checked, &check, writer)?;
+            }
             Ok(Ok(code))
         }
         Err(fault) => Ok(Err(Failure {

@@ -6,21 +6,26 @@ ghost use Rattle.command_faults.specs.Exit.{IsOfWords};
 use crate::check::check;
 use crate::crash::crash;
 use crate::draw::draw;
+use crate::help::{complete, explain_word, tell_version};
 use crate::lint::lint;
 use crate::live::live;
 use crate::profile::explain;
 use crate::script::answer;
 use crate::store::show;
-use crate::words::program;
 use clap::error::ErrorKind;
 use clap::{ArgMatches, Error as UsageError};
 use command_faults::{Failure, Fault};
+use command_words::parser;
 use live_store::Host;
 use std::env::{self, Env};
 use std::io::{self, Eprint, Input, Print, Write};
 use std::process::ExitCode;
 use std::rt::Files;
 use std::time::Clock;
+use store_file::StoreHost;
+
+/// The program's version.
+const VERSION: &str = "0.1.0";
 
 /// The words that the program was called with, its name first. `Words` where one of them isn't UTF-8.
 pub fn words_of<R: Env + AllocGlobal>(rt: &R) -> Result<Vec<String>, Fault<'static>>
@@ -46,10 +51,11 @@ pub fn run<'a, R, W>(
     writer: &mut W,
 ) -> Result<ExitCode, Failure<'a>>
 where
-    R: Files + Host + Input + Print + Eprint + Clock + AllocGlobal,
+    R: Files + Host + StoreHost + Input + Print + Eprint + Clock + AllocGlobal,
     W: Write,
 {
-    let matches = match program(rt.alloc())?.try_get_matches_from(words) {
+    let parser = parser(rt.alloc(), VERSION)?;
+    let matches = match parser.try_get_matches_from(words) {
         Ok(matches) => matches,
         Err(error) => return usage(rt, &error),
     };
@@ -72,7 +78,7 @@ fn done<'a, R, W>(
     writer: &mut W,
 ) -> Result<ExitCode, Failure<'a>>
 where
-    R: Files + Host + Input + Eprint + Clock + AllocGlobal,
+    R: Files + Host + StoreHost + Input + Eprint + Clock + AllocGlobal,
     W: Write,
 {
     match verb {
@@ -83,6 +89,8 @@ where
         "crash" => crash(rt, matches, is_watched, writer),
         "check" => check(rt, matches, writer),
         "draw" => draw(rt, matches, writer),
+        "explain" => explain_word(rt, matches, writer),
+        "completions" => complete(matches, writer),
         _ => explain(rt, matches, writer),
     }
 }
@@ -99,9 +107,15 @@ pub(crate) fn status_by(test: bool) -> ExitCode
 }
 
 // Tells why the words were refused, or gives the help that they ask for.
-fn usage<'a, R: Print + Eprint>(rt: &R, error: &UsageError) -> Result<ExitCode, Failure<'a>> {
+fn usage<'a, R>(rt: &R, error: &UsageError) -> Result<ExitCode, Failure<'a>>
+where
+    R: Files + Print + Eprint + AllocGlobal,
+{
     if error.kind() == ErrorKind::OutOfMemory {
         return Err(Failure::from(Fault::Memory));
+    }
+    if error.kind() == ErrorKind::DisplayVersion {
+        return tell_version(rt, VERSION);
     }
     match error.print(rt) {
         Ok(()) => Ok(ExitCode::from(error.exit_code() as u8)),

@@ -6,7 +6,9 @@ use command_trace::{TraceFault, TraceReader, form_of};
 use crash_table::Trials;
 use nv_profile::Profile;
 use nv_script::{ScriptFault, read_script};
-use schedule_drawing::{DrawFault, Schedule, read_entries, told_schedule, write_svg, write_vcd};
+use schedule_drawing::{
+    DrawFault, Schedule, flaws_of, read_entries, told_schedule, write_svg, write_vcd,
+};
 use std::alloc::{AllocError, Global};
 use std::fs::File;
 use std::io::{BufWriter, Input, Write};
@@ -59,7 +61,7 @@ where
     let profile = profile_of(rt, matches.get_str("PROFILE").unwrap_or("tiny"))?;
     let name = matches.get_str("SCHEDULE").unwrap_or("-");
     let bytes = bytes_of(rt, name, u64::MAX)?;
-    let schedule = match schedule_of(rt.alloc(), &profile, &bytes) {
+    let mut schedule = match schedule_of(rt.alloc(), &profile, &bytes) {
         Ok(schedule) => schedule,
         Err(NoSchedule::Script(fault)) => {
             let geometry = &profile.checked.geometry;
@@ -68,6 +70,7 @@ where
         Err(NoSchedule::Trace(fault)) => return Err(of_trace(rt.alloc(), name, fault)),
         Err(NoSchedule::Memory) => return Err(Failure::from(Fault::Memory)),
     };
+    show_range(rt.alloc(), matches, &mut schedule)?;
     if let Some(name) = matches.get_str("svg") {
         put_picture(rt, &schedule, Picture::Svg, name, writer)?;
     }
@@ -75,6 +78,20 @@ where
         put_picture(rt, &schedule, Picture::Vcd, name, writer)?;
     }
     Ok(ExitCode::SUCCESS)
+}
+
+// Leaves of a schedule the clocks that the words name, where they name some.
+fn show_range(
+    alloc: Global,
+    matches: &ArgMatches<'_>,
+    schedule: &mut Schedule,
+) -> Result<(), AllocError> {
+    let first = matches.get_one::<u64>("from");
+    let last = matches.get_one::<u64>("to");
+    if first.is_none() && last.is_none() {
+        return Ok(());
+    }
+    schedule.show(alloc, first.unwrap_or(0), last.unwrap_or(u64::MAX))
 }
 
 // The schedule of a trace or of a script. The first line of a trace that is neither empty nor a comment begins with a digit or
@@ -104,6 +121,7 @@ fn trace_schedule(alloc: Global, profile: &Profile, bytes: &[u8]) -> Result<Sche
     let entries = read_entries(alloc, &mut reader, geometry)?;
     let mut schedule = Schedule::new(alloc);
     schedule.add(alloc, &profile.checked.timing, 0, &entries)?;
+    schedule.flaws = flaws_of(alloc, &profile.checked, &entries)?;
     Ok(schedule)
 }
 

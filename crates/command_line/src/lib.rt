@@ -1,18 +1,19 @@
 //! The command line: its words, and what each verb does: scripts that are run, stores shown as lines, traces that are checked,
-//! profiles that are explained, bad lines of scripts, what a crash may leave of a script, and schedules that are drawn.
+//! profiles and words that are explained, bad lines of scripts, what a crash may leave of a script, schedules that are drawn, and
+//! completions.
 #![tactic(auto)]
 
 mod check;
 mod command;
 mod crash;
 mod draw;
+mod help;
 mod lint;
 mod live;
 mod outlet;
 mod profile;
 mod script;
 mod store;
-mod words;
 
 pub use check::verdict;
 pub use command::{run, words_of};

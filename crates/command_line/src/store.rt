@@ -9,6 +9,7 @@ use clap::ArgMatches;
 use command_faults::{Failure, file_bytes, flush};
 use line_memory::Line;
 use nv_script::{Answer, ScriptFault};
+use run_command::JsonPrinter;
 use save_device::MemoryDevice;
 use script_runner::{Printer, Report};
 use slot_store::{RestoreError, device_size, restore};
@@ -16,8 +17,9 @@ use std::alloc::Global;
 use std::io;
 use std::process::ExitCode;
 use std::rt::Files;
+use store_file::{SPARE_PLACE, device_bytes};
 
-/// No store has more bytes.
+/// No device has more bytes.
 pub const STORE_BYTES: u64 = 8_396_800;
 
 // How many lines the images of a store of so many bytes have.
@@ -106,6 +108,20 @@ pub fn show_store<W: io::Write>(
     answer_store(alloc, store, &mut Printer::new(writer))
 }
 
+// The bytes of a store's device. A store of no length that one has stays as it is.
+fn device_of(alloc: Global, store: Vec<u8>) -> Vec<u8> {
+    let Some(size) = store.len().checked_sub(SPARE_PLACE) else {
+        return store;
+    };
+    if lines_of(size).is_none() {
+        return store;
+    }
+    match device_bytes(store, size) {
+        Some(device) => device,
+        None => Vec::new(alloc),
+    }
+}
+
 /// Shows the store in the file that the words name; the exit status is 1 where nothing is restored from it.
 pub(crate) fn show<'a, R, W>(
     rt: &R,
@@ -117,8 +133,14 @@ where
     W: io::Write,
 {
     // one byte more than a store may have
-    let store = file_bytes(rt, matches.get_str("STORE").unwrap_or("-"), STORE_BYTES + 1)?;
-    let found = show_store(rt.alloc(), store, writer)?;
+    let most = STORE_BYTES + SPARE_PLACE as u64 + 1;
+    let store = file_bytes(rt, matches.get_str("STORE").unwrap_or("-"), most)?;
+    let store = device_of(rt.alloc(), store);
+    let found = if matches.get_flag("json") {
+        answer_store(rt.alloc(), store, &mut JsonPrinter::new(rt.alloc(), writer))?
+    } else {
+        show_store(rt.alloc(), store, writer)?
+    };
     flush(writer)?;
     Ok(status_by(found))
 }

@@ -1,3 +1,4 @@
 pub mod Following
 pub mod Channels
 pub mod Faults
+pub mod TallyLemmas

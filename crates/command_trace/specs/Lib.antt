@@ -3,3 +3,4 @@ pub mod Channels
 pub mod Kinds
 pub mod Reading
 pub mod Reasons
+pub mod Tallies

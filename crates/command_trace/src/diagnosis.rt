@@ -137,6 +137,35 @@ fn command_at(commands: &[Stamped], lines: &[u64], index: usize) -> Numbered
     }
 }
 
+/// A fault of a list of commands, which stand in the lines, with its two commands and why.
+pub(crate) fn told_at(
+    checked: &Checked,
+    commands: &[Stamped],
+    lines: &[u64],
+    fault: Fault,
+) -> Diagnosis
+    requires order { fault.first ≤ fault.second }
+    requires within { fault.second < length commands.now }
+    ensures fault { result.fault ≡ fault }
+    ensures first { slice_get commands.now fault.first ≡ Some result.first.command }
+    ensures second { slice_get commands.now fault.second ≡ Some result.second.command }
+    ensures first_line { result.first.line ≡ slice_index lines.now fault.first }
+    ensures second_line { result.second.line ≡ slice_index lines.now fault.second }
+    ensures reason { IsReasonOf checked.now fault.rule
+        (take fault.second commands.now) result.first.command result.second.command result.reason }
+{
+    let first = command_at(commands, lines, fault.first);
+    let second = command_at(commands, lines, fault.second);
+    let before = &commands[..fault.second];
+    let reason = Reason::of(checked, fault.rule, before, &first.command, &second.command);
+    Diagnosis {
+        fault,
+        first,
+        second,
+        reason,
+    }
+}
+
 /// The least fault of a list of commands, which stand in the lines, and why it is one; none of a lawful list.
 ///
 /// Linear in a lawful list; of another one, those up to the fault are then compared with its command.
@@ -156,16 +185,7 @@ pub fn diagnose(checked: &Checked, commands: &[Stamped], lines: &[u64]) -> Optio
     let Some(fault) = first_fault(checked, commands) else {
         return None;
     };
-    let first = command_at(commands, lines, fault.first);
-    let second = command_at(commands, lines, fault.second);
-    let before = &commands[..fault.second];
-    let reason = Reason::of(checked, fault.rule, before, &first.command, &second.command);
-    Some(Diagnosis {
-        fault,
-        first,
-        second,
-        reason,
-    })
+    Some(told_at(checked, commands, lines, fault))
 }
 
 impl From<AllocError> for TraceFault {

@@ -13,6 +13,7 @@ mod no_command;
 mod reading;
 mod reason;
 mod source;
+mod tally;
 mod trace_check;
 
 pub use asked::Asked;
@@ -24,4 +25,5 @@ pub use no_command::NoCommand;
 pub use reading::{Form, HEADER, TraceFault, TraceReader, form_of};
 pub use reason::Reason;
 pub use source::Source;
+pub use tally::{Tally, tallies};
 pub use trace_check::{MOST_CHANNELS, TraceCheck};

@@ -1,10 +1,12 @@
 // The check of a file's trace, written.
-ghost use Rattle.std.specs.Prelude.{◌<◌, IfOk};
-ghost use Rattle.command_trace.specs.Channels.{FollowsAll};
+ghost use Rattle.std.specs.Prelude.{◌<◌, ◌↔◌, IfOk, IsNone};
+ghost use Rattle.ddr4_timing.specs.Lawful.{IsLawful};
+ghost use Rattle.command_trace.specs.Channels.{FollowsAll, commands_of};
 ghost use Rattle.command_trace.specs.Reading.{IsFormWith};
 
-use crate::diagnosis::{Listed, check_trace, diagnose, list_commands};
+use crate::diagnosis::{Diagnosis, Listed, check_trace, diagnose, list_commands};
 use crate::reading::{Form, TraceFault, TraceReader, form_of};
+use crate::tally::{Tally, tallies};
 use crate::trace_check::{MOST_CHANNELS, TraceCheck};
 use ddr4_timing::timing::Checked;
 use std::alloc::Global;
@@ -62,6 +64,31 @@ impl Source<'_> {
         }
     }
 
+    /// The least fault of a channel, by the check of its trace; none where its commands are lawful. A file that isn't what it was
+    /// any more is refused.
+    pub fn diagnosis<R: Files + AllocGlobal>(
+        &self,
+        rt: &R,
+        form: Form,
+        checked: &Checked,
+        check: &TraceCheck,
+        channel: u64,
+    ) -> Result<Option<Diagnosis>, TraceFault>
+        requires { channel < MOST_CHANNELS }
+        ensures { FollowsAll checked.now check.now → IfOk result (λ found. IsNone found
+            ↔ IsLawful checked.now (commands_of channel check.now.given.items)) }
+    {
+        if check.is_lawful(checked, channel) {
+            return Ok(None);
+        }
+        let listed = self.list(rt, form, channel, check.line(channel))?;
+        match diagnose(checked, &listed.commands, &listed.lines) {
+            Some(found) => Ok(Some(found)),
+            // the file isn't what it was
+            None => Err(TraceFault::Reader),
+        }
+    }
+
     /// Writes what the check of its trace tells, a line for each channel: `CHANNEL lawful COUNT`, or `CHANNEL fault RULE` with
     /// what the rule asks and the commands of which it doesn't hold.
     pub fn write_verdicts<R: Files + AllocGlobal, W: Write>(
@@ -73,30 +100,71 @@ impl Source<'_> {
         writer: &mut W,
     ) -> Result<(), TraceFault> {
         for channel in 0..checked.geometry.channels {
-            if check.is_lawful(checked, channel) {
-                let count = check.count(channel);
-                writeln!(writer, "{channel} lawful {count}").map_err(|_| TraceFault::Writer)?;
-            } else {
-                let listed = self.list(rt, form, channel, check.line(channel))?;
-                write_fault(checked, channel, &listed, writer)?;
-            }
+            let found = self.diagnosis(rt, form, checked, check, channel)?;
+            write_verdict(channel, check.count(channel), found, writer)?;
         }
         Ok(())
     }
+
+    /// Writes the same with every fault: in place of a channel's least one a line for each rule that its commands break, with the
+    /// first command that does and how many do. Each command counts as issued, lawful or not.
+    pub fn write_tallies<R: Files + AllocGlobal, W: Write>(
+        &self,
+        rt: &R,
+        form: Form,
+        checked: &Checked,
+        check: &TraceCheck,
+        writer: &mut W,
+    ) -> Result<(), TraceFault> {
+        let channels = checked.geometry.channels;
+        for channel in 0..channels {
+            if check.is_lawful(checked, channel) {
+                write_verdict(channel, check.count(channel), None, writer)?;
+                continue;
+            }
+            let tallies = self.tallies(rt, form, checked, channel)?;
+            write_channel(channel, &tallies, writer)?;
+        }
+        Ok(())
+    }
+
+    /// The rules that the commands of a channel break, of each how many commands do, and the first of them.
+    pub fn tallies<R: Files + AllocGlobal>(
+        &self,
+        rt: &R,
+        form: Form,
+        checked: &Checked,
+        channel: u64,
+    ) -> Result<Vec<Tally>, TraceFault> {
+        let listed = self.list(rt, form, channel, u64::MAX)?;
+        Ok(tallies(rt.alloc(), checked, &listed)?)
+    }
 }
 
-// Writes the line of a channel with a fault.
-fn write_fault<W: Write>(
-    checked: &Checked,
+// Writes the line of a channel, with its least fault or with how many commands it has.
+fn write_verdict<W: Write>(
     channel: u64,
-    listed: &Listed,
+    count: u64,
+    found: Option<Diagnosis>,
     writer: &mut W,
 ) -> Result<(), TraceFault> {
-    let Some(found) = diagnose(checked, &listed.commands, &listed.lines) else {
-        // the file isn't what it was
-        return Err(TraceFault::Reader);
+    let written = match found {
+        None => writeln!(writer, "{channel} lawful {count}"),
+        Some(found) => writeln!(writer, "{channel} fault {found}"),
     };
-    writeln!(writer, "{channel} fault {found}").map_err(|_| TraceFault::Writer)
+    written.map_err(|_| TraceFault::Writer)
+}
+
+// Writes a line for each rule that the commands of a channel break.
+fn write_channel<W: Write>(
+    channel: u64,
+    tallies: &[Tally],
+    writer: &mut W,
+) -> Result<(), TraceFault> {
+    for tally in tallies {
+        writeln!(writer, "{channel} fault {tally}").map_err(|_| TraceFault::Writer)?;
+    }
+    Ok(())
 }
 
 fn open<R: Files>(rt: &R, name: &str) -> Result<R::File, TraceFault> {

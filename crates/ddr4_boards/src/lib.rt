@@ -5,5 +5,5 @@
 mod opening;
 mod ready;
 
-pub use opening::{NotOpened, formatted, open};
+pub use opening::{NotOpened, formatted, open, restore_device};
 pub use ready::Ready;

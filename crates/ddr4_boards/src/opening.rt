@@ -13,7 +13,7 @@ ghost use Rattle.slot_store.specs.Formatted.{IsFormatted};
 ghost use Rattle.slot_store.specs.Outcomes.{Found, first_image, restored};
 ghost use Rattle.slot_store.specs.Rest.{IsAtRestOn};
 ghost use Rattle.slot_store.specs.Slots.{IsCapacity, device_size};
-ghost use Rattle.slot_store.specs.Told.{Refuses, image_of_restored};
+ghost use Rattle.slot_store.specs.Told.{IsRestored, Refuses, image_of_restored};
 ghost use Rattle.ddr4_boards.specs.Restored.{RecordsRestored};
 ghost use Rattle.ddr4_boards.specs.Setup.{IsSetupOf};
 
@@ -68,6 +68,21 @@ pub fn formatted(alloc: Global, profile: &Profile) -> anyhow::Result<MemoryDevic
     let mut device = MemoryDevice::new(alloc, bytes)?;
     format(&mut device, lines)?;
     Ok(device)
+}
+
+/// Reads the newest image of a device of a profile. No byte of it changes.
+pub fn restore_device<D: SaveDevice>(
+    alloc: Global,
+    profile: &Profile,
+    device: &mut D,
+) -> Result<Restored, RestoreError>
+    ensures found { IfOk result (λ it. IsRestored it
+        (lines_of profile.now.checked.geometry) (D.state device.old).bytes) }
+    ensures refused { IfErr result (λ error. Refuses error
+        (restored (lines_of profile.now.checked.geometry) (D.state device.old).bytes)) }
+    ensures same { (D.state device.new).bytes ≡ (D.state device.old).bytes }
+{
+    restore(alloc, device, capacity_of(&profile.checked))
 }
 
 // The record of a life that begins with these lines, with room for so many writes.

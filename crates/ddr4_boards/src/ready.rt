@@ -1,5 +1,5 @@
 // A module with its record and the tables of its board, before the board has a name.
-ghost use Rattle.std.specs.Prelude.{◌≡◌, ◌+◌, ◌≤◌, [], length, vec_len, All, IfOk};
+ghost use Rattle.std.specs.Prelude.{◌≡◌, ◌+◌, ◌≤◌, [], length, vec_len, All, IfErr, IfOk};
 ghost use Rattle.module_core.specs.Stands.{HasDevice, setup_of};
 ghost use Rattle.nv_workers.specs.Client.{client};
 ghost use Rattle.nv_workers.specs.Kept.{IsOfNewLife, IsRecordKept};
@@ -43,6 +43,8 @@ impl<K: ChannelPort + Drop, D: SaveDevice + Drop, E: Energy + Drop> Ready<K, D, 
         ensures number { IfOk result (λ s. vec_len s.hosts ≡ B.parts) }
         ensures hosts { IfOk result (λ s.
             All (λ h. h ≡ client self.tables.opening.mark self.tables.opening.mark 0 []) s.hosts.items) }
+        ensures recorded { IfErr result (λ left. left.recorded ≡ self.recorded) }
+        ensures notices { IfErr result (λ left. left.notices ≡ notices) }
     {
         let Ready {
             tables,

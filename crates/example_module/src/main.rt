@@ -1,29 +1,72 @@
-//! The libraries as a program calls them: a module that is armed, loses its mains and is restored; a board that two hosts share;
-//! and the first fault of a list of commands.
+//! A module that one thread has alone: a write that is persistent once it returns, two writes while the module is armed, a loss of
+//! mains, and what its device restores to.
 #![tactic(auto)]
 
-mod board;
-mod commands;
-mod module;
+use panguhero::{
+    ChannelPort, MemoryDevice, Meter, Profile, Ready, ReadyMap, RecordedModule, TINY, Write,
+    formatted, open, read_profile, restore_device, write_persistent,
+};
+use std::alloc::Global;
 
-use crate::board::{Shared, share_a_board};
-use crate::commands::judge_two_lists;
-use crate::module::lose_and_restore;
-use interleave_map::{Interleaving, ReadyMap};
-use nv_profile::{TINY, read_profile};
+/// More energy than any save takes, in units.
+const AMPLE: u64 = 1 << 62;
+
+// A write of a line whose bytes are all this one.
+fn filled(line: u64, byte: u8) -> Write {
+    Write {
+        line,
+        data: [byte; 64],
+    }
+}
+
+// Writes a line while the module is disarmed and two while it is armed, and loses the mains; what is left is the device.
+fn lose<K: ChannelPort + Drop>(
+    rt: &HostRuntime,
+    ready: Ready<K, MemoryDevice, Meter>,
+) -> anyhow::Result<MemoryDevice> {
+    let Ready { recorded, .. } = ready;
+    let RecordedModule {
+        mut running,
+        mut device,
+        mut energy,
+        ..
+    } = recorded;
+    let told = write_persistent(&mut running, &mut device, &mut energy, filled(0, 0x11));
+    println!(*rt; "a persistent write: {told:?}")?;
+    let armed = running.arm(&mut device, &mut energy);
+    println!(*rt; "arm: {armed:?}")?;
+    let second = running.write(filled(1, 0x22));
+    let third = running.write(filled(2, 0x33));
+    println!(*rt; "two writes: {second:?}, {third:?}")?;
+    let lost = running.power_loss(&mut device, &mut energy);
+    println!(*rt; "loss of mains: {lost:?}")?;
+    Ok(device)
+}
+
+// A life from a formatted device to a loss of mains.
+fn live(rt: &HostRuntime, alloc: Global, profile: &Profile) -> anyhow::Result<MemoryDevice> {
+    let map = ReadyMap {
+        interleaving: profile.map,
+        checked: profile.checked,
+    };
+    let device = formatted(alloc, profile)?;
+    match open(alloc, &map, profile, device, Meter::with(AMPLE, 1), 1) {
+        Ok(ready) => lose(rt, ready),
+        Err(refused) => Err(refused.why.into()),
+    }
+}
 
 fn main(rt: HostRuntime) -> anyhow::Result<()> {
     let profile = read_profile(rt.alloc(), TINY.as_bytes())?;
-    let map = ReadyMap {
-        interleaving: Interleaving::Lines,
-        checked: profile.checked,
-    };
-    lose_and_restore(&rt, &map, &profile)?;
-    let Shared {
-        armed,
-        lost,
-        receipts,
-    } = share_a_board(&rt, rt.alloc(), &map, &profile)?;
-    println!(rt; "a board: {armed:?}, {receipts} receipts, {lost:?}")?;
-    judge_two_lists(&rt, &profile.checked)
+    let mut device = live(&rt, rt.alloc(), &profile)?;
+    let restored = restore_device(rt.alloc(), &profile, &mut device)?;
+    let head = restored.head;
+    println!(rt;
+        "restored: generation {}, {} writes, {}",
+        head.newest.generation, head.count, head.verdict
+    )?;
+    for (line, bytes) in restored.lines.iter().enumerate().take(3) {
+        println!(rt; "line {line}: {:02x}", bytes[0])?;
+    }
+    Ok(())
 }

@@ -6,7 +6,7 @@ use Rattle.nv_machine.proofs.Common.{List, [], ap, sym, ◌++◌, ◌∙◌, ◌
 use Rattle.nv_machine.proofs.EachEvent.{guarded_event, event_keeps}
 use Rattle.nv_machine.proofs.Guarded.{guarded_cut}
 use Rattle.nv_machine.proofs.StoppedLives.{guarded_first}
-use Rattle.journal_lives.specs.Promise.{accepted_in}
+use Rattle.nv_machine.specs.Rising.{accepted_in}
 
 module _ (setup : Setup) where
   run_adds : (events : List Event) (replies : List Reply) (old new : World) → AnyRun setup events replies old new → IsGuarded old.machine

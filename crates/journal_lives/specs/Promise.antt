@@ -7,18 +7,12 @@ use Rattle.slot_store.specs.declared.restoring.Verdict.TheVariants.{Complete}
 use Rattle.slot_store.specs.Outcomes.{Found, restored, verdict_of}
 use Rattle.nv_machine.specs.declared.events.Event.{Event}
 use Rattle.nv_machine.specs.declared.events.Reply.{Reply}
-use Rattle.nv_machine.specs.Rising.{added}
+use Rattle.nv_machine.specs.Rising.{accepted_in}
 use Rattle.nv_machine.specs.Causes.{HasCauseSince, OpenedWith}
 use Rattle.nv_machine.specs.Lives.{Lived, last_life}
 use Rattle.nv_machine.specs.Survival.{HasCauseAt, IsHonestLife, acknowledged}
 use Rattle.journal_log.specs.Log.{Holds, Log, end_of}
 use Rattle.journal_log.specs.Calls.{Append, AreAllowed, Attempt, Call, IsReadAs, appended_in, attempt, done_of, is_done, journal_writes, kept_in, log_after_all, writes_in}
-
--- the writes that were accepted among events
-abbrev pub accepted_in : List Event → List Reply → List Write
-accepted_in [] replies = []
-accepted_in (event ∷ events) [] = []
-accepted_in (event ∷ events) (reply ∷ replies) = added event reply ++ accepted_in events replies
 
 -- how many lines the memory of a life has
 abbrev pub lines_of_life : Lived → ℕ

@@ -25,7 +25,7 @@ use Rattle.journal_lines.specs.declared.index.Index.{Index}
 use Rattle.journal_lines.specs.Places.{places_of}
 use Rattle.journal_log.specs.Log.{Log}
 use Rattle.journal_lines.specs.Indexed.{HasRoom, IsIndexOf, IsSameIndex}
-use Rattle.journal_lives.specs.Promise.{accepted_in}
+use Rattle.nv_machine.specs.Rising.{accepted_in}
 use Rattle.module_journal.specs.Writing.{Accepts, EndsWith, HasWritten}
 
 pub accepted-append : (events more : List Event) (replies others : List Reply) → length events ≡ length replies

@@ -17,7 +17,8 @@ use Rattle.std.specs.Prelude.{Bool, true, false, if◌then◌else◌}
 use Rattle.journal_log.specs.Log.{Holds, Log}
 use Rattle.journal_log.specs.Calls.{AreAllowed, Attempt, Call, call_writes, done_of, is_done, journal_writes, log_after, log_after_all, log_behind, upto_write}
 use Rattle.journal_log.proofs.Cutting.{upto-allowed, upto-writes}
-use Rattle.journal_lives.specs.Promise.{IsJournaled, accepted_in}
+use Rattle.journal_lives.specs.Promise.{IsJournaled}
+use Rattle.nv_machine.specs.Rising.{accepted_in}
 use Rattle.journal_lives.proofs.Keeping.{life_keeps}
 use Rattle.module_core.specs.declared.module.Module.{Module}
 use Rattle.module_core.specs.InTurn.{AnswersCalls}

@@ -10,7 +10,8 @@ use Rattle.module_core.specs.ModuleLives.{HasAnswered}
 use Rattle.module_core.specs.Stands.{Assembly}
 use Rattle.journal_log.specs.Log.{Log}
 use Rattle.journal_log.specs.Calls.{Attempt, done_of, journal_writes, log_after_all, upto_write}
-use Rattle.journal_lives.specs.Promise.{JournalSurvives, accepted_in}
+use Rattle.journal_lives.specs.Promise.{JournalSurvives}
+use Rattle.nv_machine.specs.Rising.{accepted_in}
 
 -- the journal behind attempts on one that an image holds
 abbrev pub log_behind_all : Image → Log → List Attempt → Log

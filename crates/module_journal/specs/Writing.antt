@@ -15,7 +15,7 @@ use Rattle.journal_log.specs.Log.{Log}
 use Rattle.journal_log.specs.Calls.{Append, Call, call_writes, lines_before_head}
 use Rattle.journal_lines.specs.declared.index.Index.{Index}
 use Rattle.journal_lines.specs.Indexed.{HasRoom, IsIndexOf}
-use Rattle.journal_lives.specs.Promise.{accepted_in}
+use Rattle.nv_machine.specs.Rising.{accepted_in}
 
 module _ {K : Type 0} (L : Ghosts K) where
   -- Calls in turn, of which the accepted writes are these.

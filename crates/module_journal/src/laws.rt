@@ -13,7 +13,7 @@ ghost use Rattle.module_core.specs.declared.module.Module.{Module};
 ghost use Rattle.module_core.specs.InTurn.{AnswersCalls};
 ghost use Rattle.module_core.specs.Opening.{opened_with};
 ghost use Rattle.module_core.specs.Stands.{Assembly, ModuleStands, assembly};
-ghost use Rattle.journal_lives.specs.Promise.{accepted_in};
+ghost use Rattle.nv_machine.specs.Rising.{accepted_in};
 ghost use Rattle.module_journal.specs.Writing.{Accepts};
 ghost use Rattle.module_journal.specs.Living.{EndsKept, EndsKeptThere, HasJournaled, log_behind_all};
 

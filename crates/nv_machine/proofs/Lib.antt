@@ -21,6 +21,8 @@ pub mod Leaving
 -- what a run of events comes to
 pub mod JoinedRuns
 pub mod RisingMarks
+-- the writes that the replies of a run accepted, and their numbers
+pub mod AcceptedWrites
 pub mod GivenTickets
 pub mod OrderedWrites
 pub mod PaidEntries

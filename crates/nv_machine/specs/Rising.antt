@@ -1,7 +1,8 @@
 -- What only grows: the history of a life, and its two marks.
-use Rattle.std.specs.Prelude.{◌≡◌, ℕ, ◌<◌, ◌≤◌, List, [], ◌∷◌, ◌++◌, Ok, Option}
+use Rattle.std.specs.Prelude.{◌≡◌, ℕ, ◌<◌, ◌≤◌, List, [], ◌∷◌, ◌+◌, ◌++◌, length, Ok, Option}
 use Rattle.line_memory.specs.declared.Write.{Write}
 use Rattle.line_memory.specs.History.{write_at}
+use Rattle.nv_machine.specs.declared.events.Accepted.{Accepted}
 use Rattle.nv_machine.specs.declared.events.Event.{Event}
 use Rattle.nv_machine.specs.declared.events.Event.TheVariants as events
 use Rattle.nv_machine.specs.declared.events.Reply.{Reply}
@@ -21,6 +22,23 @@ pub record Rises (old new : Machine) : Type 0 where
 abbrev pub added : Event → Reply → List Write
 added (events.Write write) (replies.Write (Ok accepted)) = write ∷ []
 added event reply = []
+
+-- the writes that were accepted among events
+abbrev pub accepted_in : List Event → List Reply → List Write
+accepted_in [] replies = []
+accepted_in (event ∷ events) [] = []
+accepted_in (event ∷ events) (reply ∷ replies) = added event reply ++ accepted_in events replies
+
+-- if a write was accepted, this is the number that it was told
+abbrev pub TellsNumber : ℕ → Reply → Type 0
+TellsNumber number reply = (accepted : Accepted) → reply ≡ replies.Write (Ok accepted) → accepted.number ≡ number
+
+-- Each accepted write was told its place in the history, where so many were accepted before these events.
+abbrev pub AreNumberedFrom : ℕ → List Event → List Reply → Type 0
+AreNumberedFrom all [] replies = Unit {0}
+AreNumberedFrom all (event ∷ events) [] = Unit {0}
+AreNumberedFrom all (event ∷ events) (reply ∷ replies) =
+    TellsNumber all reply × AreNumberedFrom (all + length (added event reply)) events replies
 
 -- the accepted write of a number, where it is one of this life's
 abbrev pub accepted_write_of : Machine → ℕ → Option Write

@@ -3,3 +3,4 @@ pub mod Shown
 pub mod Ends
 pub mod OpenRows
 pub mod ToldLives
+pub mod FlawLemmas

@@ -5,3 +5,5 @@ pub mod OpenRows
 pub mod Lives
 pub mod Schedules
 pub mod Telling
+pub mod Range
+pub mod Flaws

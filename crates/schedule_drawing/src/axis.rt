@@ -36,7 +36,12 @@ fn next_knot(last: Knot, clock: u64) -> Knot {
 
 // The clocks that a picture shows, in their order, each once.
 fn clocks_of(alloc: Global, schedule: &Schedule) -> Result<Vec<u64>, AllocError> {
-    let mut clocks = schedule.begins.as_slice().to_vec(alloc)?;
+    let mut clocks = Vec::new(alloc);
+    for begin in &schedule.begins {
+        if schedule.shows(*begin) {
+            clocks.push(*begin)?;
+        }
+    }
     for shape in &schedule.shapes {
         clocks.extend_from_slice(&[shape.from(), shape.to()])?;
     }
@@ -46,11 +51,11 @@ fn clocks_of(alloc: Global, schedule: &Schedule) -> Result<Vec<u64>, AllocError>
 }
 
 impl Axis {
-    /// Of a schedule, from clock 0 on.
+    /// Of a schedule, from the first clock on that it shows.
     pub fn of(alloc: Global, schedule: &Schedule) -> Result<Axis, AllocError> {
         let clocks = clocks_of(alloc, schedule)?;
         let mut last = Knot {
-            clock: 0,
+            clock: schedule.first,
             x: 0,
             is_cut: false,
         };

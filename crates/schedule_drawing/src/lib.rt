@@ -6,9 +6,11 @@
 mod axis;
 mod entries;
 mod fault;
+mod flaws;
 mod lanes;
 mod layout;
 mod placing;
+mod range;
 mod schedule;
 mod shapes;
 mod svg;
@@ -17,6 +19,7 @@ mod vcd;
 
 pub use entries::read_entries;
 pub use fault::DrawFault;
+pub use flaws::{Flaw, flaws_of};
 pub use lanes::{Lane, LaneKind};
 pub use layout::Layout;
 pub use schedule::{Event, EventKind, Schedule};

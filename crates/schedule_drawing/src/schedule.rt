@@ -1,7 +1,10 @@
 // A schedule to be drawn.
-ghost use Rattle.std.specs.Prelude.{◌≡◌, ◌≢◌, [], OnOk, ◌≤◌, fold, max};
+ghost use Rattle.std.specs.Prelude.{◌≡◌, ◌≢◌, [], OnOk, ◌≤◌, filter, filter_map, fold, max};
 ghost use Rattle.schedule_drawing.specs.Lives.{EndBy, latest_clock};
+ghost use Rattle.schedule_drawing.specs.Range.{is_within, part_within};
 
+use crate::flaws::Flaw;
+use crate::range::parts_of;
 use crate::shapes::{Shape, shapes_of};
 use command_trace::Entry;
 use ddr4_timing::timing::Timing;
@@ -37,6 +40,10 @@ pub struct Schedule {
     pub shapes: Vec<Shape>,
     pub begins: Vec<u64>,
     pub events: Vec<Event>,
+    pub flaws: Vec<Flaw>,
+    // the clocks that are shown
+    pub(crate) first: u64,
+    pub(crate) last: u64,
     // no shape ends behind this clock
     end: u64,
     ghost ended: { EndBy end shapes.items },
@@ -75,6 +82,9 @@ impl Schedule {
             shapes: Vec::new(alloc),
             begins: Vec::new(alloc),
             events: Vec::new(alloc),
+            flaws: Vec::new(alloc),
+            first: 0,
+            last: u64::MAX,
             end: 0,
         }
     }
@@ -108,6 +118,32 @@ impl Schedule {
         self.end = end;
         self.shapes.extend_from_slice(&shapes)?;
         self.begins.push(begin)?;
+        Ok(())
+    }
+
+    /// Is a clock shown?
+    pub(crate) fn shows(&self, clock: u64) -> bool {
+        self.first <= clock && clock <= self.last
+    }
+
+    /// Leaves the clocks from one to another: of each shape the part that lies there, and the events and flaws there.
+    pub fn show(&mut self, alloc: Global, first: u64, last: u64) -> Result<(), AllocError>
+        ensures shapes { OnOk result (self.new.shapes.items
+            ≡ filter_map (part_within first last) self.old.shapes.items) }
+        ensures flaws { OnOk result (self.new.flaws.items
+            ≡ filter (λ flaw. is_within first last flaw.clock) self.old.flaws.items) }
+        ensures events { OnOk result (self.new.events.items
+            ≡ filter (λ event. is_within first last event.clock) self.old.events.items) }
+    {
+        let shapes = parts_of(alloc, first, last, &self.shapes)?;
+        self.end = end_of(self.end, &shapes);
+        self.shapes = shapes;
+        self.first = first;
+        self.last = last;
+        self.events
+            .retain(|event| first <= event.clock && event.clock <= last);
+        self.flaws
+            .retain(|flaw| first <= flaw.clock && flaw.clock <= last);
         Ok(())
     }
 }

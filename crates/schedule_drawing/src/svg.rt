@@ -1,6 +1,7 @@
 // A schedule as SVG.
 use crate::axis::Axis;
 use crate::fault::DrawFault;
+use crate::flaws::Flaw;
 use crate::lanes::{Lane, LaneKind};
 use crate::layout::Layout;
 use crate::placing::Placing;
@@ -26,6 +27,21 @@ const MARGIN: u64 = 60;
 /// Pixels that a clock's number takes on the axis.
 const NUMBER: u64 = 44;
 
+/// Pixels of a word of the key, and from the last line of events down to it.
+const KEY_WIDTH: u64 = 110;
+
+const KEY_HEIGHT: u64 = 24;
+
+/// The key: of each kind of shape its class and what it is.
+const KEY: [(&str, &str); 6] = [
+    ("row", "open row"),
+    ("open", "row left open"),
+    ("read", "data read"),
+    ("write", "data written"),
+    ("refresh", "refresh"),
+    ("flaw", "breaks a rule"),
+];
+
 /// The fills differ in how light they are, so that they read in grey.
 const STYLE: &str = "text { font: 10px sans-serif; fill: #111 }
 .lane { stroke: #ccc }
@@ -36,6 +52,7 @@ const STYLE: &str = "text { font: 10px sans-serif; fill: #111 }
 .write { fill: #c9803a; stroke: #333 }
 .refresh { fill: #555; fill-opacity: 0.3; stroke: #333 }
 .mark { stroke: #111; stroke-width: 2 }
+.flaw { fill: none; stroke: #d00; stroke-width: 2 }
 .cut { stroke: #777; stroke-dasharray: 2 3 }
 .tick { stroke: #ddd }
 .life { stroke: #111; stroke-width: 2; stroke-dasharray: 6 4 }
@@ -71,16 +88,20 @@ pub fn write_svg<W: Write>(
             .width()
             .saturating_add(MARGIN)
             .max(texts)
+            .max(KEY_WIDTH * 6)
             .saturating_add(LEFT),
         writer,
     };
-    picture.begin(device.lines().saturating_add(modes.lines()))?;
+    let lines = device.lines().saturating_add(modes.lines());
+    picture.begin(lines)?;
     picture.write_axis(schedule)?;
     picture.write_lanes()?;
     picture.write_shapes(&schedule.shapes)?;
-    picture.write_lives(&schedule.begins)?;
+    picture.write_flaws(&schedule.flaws)?;
+    picture.write_lives(schedule)?;
     picture.write_events("device", &device, 0)?;
     picture.write_events("mode", &modes, device.lines())?;
+    picture.write_key(lines)?;
     writeln!(picture.writer, "</svg>")?;
     Ok(())
 }
@@ -116,15 +137,23 @@ impl<W: Write> Picture<'_, W> {
             .saturating_add(EVENT + 6)
     }
 
+    // The lower edge of the key below so many lines of events.
+    fn key_y(&self, lines: u64) -> u64 {
+        self.event_y(lines).saturating_add(KEY_HEIGHT)
+    }
+
     // Begins a picture with so many lines of events below its lanes.
     fn begin(&mut self, lines: u64) -> Result<(), DrawFault> {
         let width = self.right;
-        let height = self.event_y(lines).saturating_add(10);
+        let height = self.key_y(lines).saturating_add(10);
         writeln!(
             self.writer,
             "<svg xmlns=\"http://www.w3.org/2000/svg\" width=\"{width}\" height=\"{height}\">"
         )?;
-        writeln!(self.writer, "<style>{STYLE}</style>")?;
+        writeln!(
+            self.writer,
+            "<title>DDR4 commands by their clocks</title>\n<style>{STYLE}</style>"
+        )?;
         writeln!(
             self.writer,
             "<rect width=\"{width}\" height=\"{height}\" fill=\"#fff\"/>"
@@ -135,6 +164,7 @@ impl<W: Write> Picture<'_, W> {
     // The clocks above, where there is room, and a line down from each.
     fn write_axis(&mut self, schedule: &Schedule) -> Result<(), DrawFault> {
         let bottom = self.bottom();
+        writeln!(self.writer, "<text x=\"6\" y=\"20\">clock</text>")?;
         let mut free = 0;
         for knot in &self.axis.knots {
             let x = knot.x.saturating_add(LEFT);
@@ -284,10 +314,28 @@ impl<W: Write> Picture<'_, W> {
         Ok(())
     }
 
+    // A red frame around each command that breaks a rule, with the rule as its title.
+    fn write_flaws(&mut self, flaws: &[Flaw]) -> Result<(), DrawFault> {
+        for flaw in flaws {
+            let x = self.x(flaw.clock).saturating_sub(2);
+            let y = self.y_of(&flaw.lane).saturating_add(1);
+            writeln!(
+                self.writer,
+                "<rect class=\"flaw\" x=\"{x}\" y=\"{y}\" width=\"28\" height=\"{}\"><title>breaks rule {}</title></rect>",
+                LANE - 2,
+                flaw.rule
+            )?;
+        }
+        Ok(())
+    }
+
     // A line down where each life but the first begins.
-    fn write_lives(&mut self, begins: &[u64]) -> Result<(), DrawFault> {
+    fn write_lives(&mut self, schedule: &Schedule) -> Result<(), DrawFault> {
         let bottom = self.bottom();
-        for begin in begins.iter().skip(1) {
+        for begin in schedule.begins.iter().skip(1) {
+            if !schedule.shows(*begin) {
+                continue;
+            }
             let x = self.x(*begin);
             writeln!(
                 self.writer,
@@ -318,6 +366,22 @@ impl<W: Write> Picture<'_, W> {
                 x.saturating_add(3),
                 event.text
             )?;
+        }
+        Ok(())
+    }
+
+    // What each kind of shape is, below so many lines of events.
+    fn write_key(&mut self, lines: u64) -> Result<(), DrawFault> {
+        let y = self.key_y(lines);
+        let mut x = LEFT;
+        for (class, name) in KEY {
+            writeln!(
+                self.writer,
+                "<rect x=\"{x}\" y=\"{}\" width=\"14\" height=\"10\" class=\"{class}\"/><text x=\"{}\" y=\"{y}\">{name}</text>",
+                y.saturating_sub(9),
+                x.saturating_add(18)
+            )?;
+            x = x.saturating_add(KEY_WIDTH);
         }
         Ok(())
     }

@@ -1,4 +1,5 @@
-// The text of each answer.
+// The text of each answer, and what is told of it.
+use answer_json::{told_of, write_answer};
 use arm_state::{ArmRefusal, Loss, Mode, ReadRefusal, WriteRefusal};
 use ddr4_timing::command::{Command, Stamped};
 use ddr4_timing::place::BankAddress;
@@ -6,10 +7,61 @@ use nv_script::Answer;
 use slot_store::{RestoreError, Slot, Step, Verdict};
 use std::process::Abort;
 
-// Fails where an answer isn't shown so.
+// Fails where an answer isn't shown so, or what is told of it.
 fn is_shown<R: Abort + AllocGlobal>(rt: &R, answer: Answer, text: &str) {
     let shown = answer.to_string(rt.alloc()).expect(rt, "memory");
     assert_eq!(*rt; shown.as_str(), text);
+    let told = told_of(&answer).to_string(rt.alloc());
+    assert_eq!(*rt; told.expect(rt, "memory").as_str(), text);
+}
+
+// Fails where the object of an answer isn't written so.
+fn is_written<R: Abort + AllocGlobal>(rt: &R, answer: Answer, text: &str) {
+    let mut written = Vec::new(rt.alloc());
+    write_answer(rt.alloc(), &answer, &mut written).expect(rt, "memory");
+    let line = format!(in rt.alloc(); "{text}\n").expect(rt, "memory");
+    assert_eq!(*rt; written.as_slice(), line.as_bytes());
+}
+
+#[test]
+fn objects(rt: HostRuntime) {
+    is_written(&rt, Answer::Formatted, r#"{"answer":"formatted"}"#);
+    is_written(
+        &rt,
+        Answer::Accepted { number: 3, mark: 2 },
+        r#"{"answer":"accepted","mark":2,"number":3}"#,
+    );
+    is_written(
+        &rt,
+        Answer::Content {
+            line: 5,
+            bytes: [0xa5; 64],
+        },
+        r#"{"answer":"line","bytes":"a5a5a5a5a5a5a5a5a5a5a5a5a5a5a5a5a5a5a5a5a5a5a5a5a5a5a5a5a5a5a5a5a5a5a5a5a5a5a5a5a5a5a5a5a5a5a5a5a5a5a5a5a5a5a5a5a5a5a5a5a5a5a5a5","line":5}"#,
+    );
+    is_written(
+        &rt,
+        Answer::Stepped(Step::Page(1)),
+        r#"{"answer":"step","page":1,"step":"page"}"#,
+    );
+    is_written(
+        &rt,
+        Answer::Fuse { calls: None },
+        r#"{"answer":"fuse","calls":"off"}"#,
+    );
+    is_written(
+        &rt,
+        Answer::WriteRefused(WriteRefusal::EnergyLow {
+            need: u64::MAX,
+            has: 5,
+        }),
+        r#"{"answer":"refused","call":"write","code":2,"has":5,"need":18446744073709551615,"reason":"EnergyLow"}"#,
+    );
+    is_written(
+        &rt,
+        Answer::RestoreRefused(RestoreError::Damaged { slot: Slot::Second }),
+        r#"{"answer":"refused","call":"restore","code":2,"reason":"Damaged","slot":1}"#,
+    );
 }
 
 #[test]

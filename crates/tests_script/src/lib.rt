@@ -11,6 +11,8 @@ mod devices;
 #[cfg(test)]
 mod drawings;
 #[cfg(test)]
+mod kept;
+#[cfg(test)]
 mod program;
 #[cfg(test)]
 mod running;

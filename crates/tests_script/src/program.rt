@@ -12,11 +12,12 @@ use std::io::{Eprint, Input, Print, Write};
 use std::process::{self, Abort, ExitCode};
 use std::rt::Files;
 use std::time::Clock;
+use store_file::StoreHost;
 
 // What the program does: its exit status, and its lines on standard error but for the name in front.
 fn outcome<R, W>(rt: &R, place: &str, words: &[&str], writer: &mut W) -> (ExitCode, String)
 where
-    R: Abort + Files + Host + Input + Print + Eprint + Clock + AllocGlobal,
+    R: Abort + Files + Host + StoreHost + Input + Print + Eprint + Clock + AllocGlobal,
     W: Write,
 {
     let mut given = Vec::new(rt.alloc());
@@ -47,7 +48,7 @@ fn shown<R: Abort + AllocGlobal>(rt: &R, fault: &Fault<'_>) -> String {
 // begin the names of a test's own files by a %, which stands for their place.
 pub(crate) fn ends<R>(rt: &R, place: &str, words: &[&str], code: ExitCode, line: &str, text: &str)
 where
-    R: Abort + Files + Host + Input + Print + Eprint + Clock + AllocGlobal,
+    R: Abort + Files + Host + StoreHost + Input + Print + Eprint + Clock + AllocGlobal,
 {
     let mut written = Vec::new(rt.alloc());
     let (found, told) = outcome(rt, place, words, &mut written);
@@ -74,7 +75,7 @@ pub(crate) fn remove<R: Abort + Files + AllocGlobal>(rt: &R, place: &str, name: 
     fs::remove_file(rt, named(rt, place, name).as_str()).expect(rt, "a file");
 }
 
-const NO_USAGE: [&[&str]; 19] = [
+const NO_USAGE: [&[&str]; 21] = [
     &[],
     &["run"],
     &["run", "tiny"],
@@ -92,6 +93,8 @@ const NO_USAGE: [&[&str]; 19] = [
     &["draw", "tiny", "--svg", "picture"],
     &["profile"],
     &["profile", "tiny", "tiny"],
+    &["explain", "mark", "mark"],
+    &["completions", "csh"],
     &["walk"],
     &["--walk"],
 ];
@@ -343,8 +346,11 @@ fn a_store_that_is_shown(rt: HostRuntime) {
 const EARLY: &str =
     "0 fault 3, ACT to RD, same bank: at least tRCD = 16, here 15; line 1: 0 ACT 0 0 0 1; line 2: 15 RD 0 0 0 3\n1 lawful 0\n";
 
+const ALL_EARLY: &str =
+    "0 fault 3, ACT to RD, same bank: at least tRCD = 16, here 15; line 1: 0 ACT 0 0 0 1; line 2: 15 RD 0 0 0 3; the first of 1\n1 lawful 0\n";
+
 // Words one after another, with the status, the line and the text.
-const CHECKS: [(&[&str], ExitCode, &str, &str); 8] = [
+const CHECKS: [(&[&str], ExitCode, &str, &str); 10] = [
     (
         &["check", "tiny", "%lawful"],
         ExitCode::SUCCESS,
@@ -352,6 +358,18 @@ const CHECKS: [(&[&str], ExitCode, &str, &str); 8] = [
         "0 lawful 2\n1 lawful 1\n",
     ),
     (&["check", "tiny", "%early"], ExitCode::FAILURE, "", EARLY),
+    (
+        &["check", "tiny", "%early", "--all"],
+        ExitCode::FAILURE,
+        "",
+        ALL_EARLY,
+    ),
+    (
+        &["check", "tiny", "%lawful", "--all"],
+        ExitCode::SUCCESS,
+        "",
+        "0 lawful 2\n1 lawful 1\n",
+    ),
     (
         &["check", "tiny", "%answers"],
         ExitCode::FAILURE,
@@ -548,8 +566,14 @@ fn texts_of_faults(rt: HostRuntime) {
             "--out names the script",
             ExitCode::from(2),
         ),
+        (
+            Fault::Kept("names the script"),
+            "--store names the script",
+            ExitCode::from(2),
+        ),
         (Fault::EmptyTrace, "empty trace", ExitCode::FAILURE),
         (Fault::NoLine(7), "no line 7", ExitCode::FAILURE),
+        (Fault::NoTerm("wirte"), "no word wirte", ExitCode::from(2)),
         (Fault::Memory, "memory", ExitCode::FAILURE),
     ] {
         let told = shown(&rt, &fault);
@@ -611,4 +635,78 @@ fn profiles(rt: HostRuntime) {
     file_has_map(&rt, place, "%empty", b"".as_slice(), "profile");
     has_map(&rt, "tiny", "lines");
     has_map(&rt, "/no/such", "file /no/such");
+}
+
+// Words one after another, with the status, the line and the text.
+const EXPLAINED: [(&[&str], u8, &str, &str); 4] = [
+    (
+        &["explain", "Closed"],
+        0,
+        "",
+        "A refusal: mains were lost, or no life runs.
+Nothing is accepted any more.
+Begin a life with format or restore.
+",
+    ),
+    (&["explain", "closed"], 2, "no word closed", ""),
+    (
+        &["explain", "closed", "--why"],
+        2,
+        "no word closed\nClosed?",
+        "",
+    ),
+    (
+        &["explain", "xyzzy", "--why"],
+        2,
+        "no word xyzzy\nnvctl explain names those that there are",
+        "",
+    ),
+];
+
+#[test]
+fn explained_words(rt: HostRuntime) {
+    for (words, code, line, text) in EXPLAINED {
+        ends(&rt, "", words, ExitCode::from(code), line, text);
+    }
+}
+
+const OBJECTS: &str = r#"{"answer":"formatted"}
+{"answer":"accepted","mark":0,"number":0}
+{"answer":"idle","channel":0}
+{"answer":"saved","count":1,"generation":2}
+{"answer":"restored","count":1,"generation":2,"verdict":"Complete"}
+"#;
+
+// Words one after another, with the status and the objects.
+const WITH_OBJECTS: [(&[&str], ExitCode, &str); 2] = [
+    (
+        &["run", "tiny", "%saving", "--json", "--out", "%store"],
+        ExitCode::SUCCESS,
+        OBJECTS,
+    ),
+    (
+        &["show", "%store", "--json"],
+        ExitCode::SUCCESS,
+        r#"{"answer":"restored","count":1,"generation":2,"verdict":"Complete"}
+{"answer":"line","bytes":"a5a5a5a5a5a5a5a5a5a5a5a5a5a5a5a5a5a5a5a5a5a5a5a5a5a5a5a5a5a5a5a5a5a5a5a5a5a5a5a5a5a5a5a5a5a5a5a5a5a5a5a5a5a5a5a5a5a5a5a5a5a5a5a5","line":5}
+"#,
+    ),
+];
+
+#[test]
+fn answers_as_objects(rt: HostRuntime) {
+    let place = place(&rt, process::id(rt.process()));
+    let place = place.as_str();
+    make(
+        &rt,
+        place,
+        "%saving",
+        b"format\nwrite 5 a5\nwork 0 1\nsave\nrestore\n",
+    );
+    make(&rt, place, "%store", b"");
+    for (words, code, text) in WITH_OBJECTS {
+        ends(&rt, place, words, code, "", text);
+    }
+    remove(&rt, place, "%saving");
+    remove(&rt, place, "%store");
 }

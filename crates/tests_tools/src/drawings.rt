@@ -4,7 +4,7 @@ use command_trace::{TraceReader, form_of};
 use ddr4_timing::command::{Command, Stamped};
 use nv_script::Answer;
 use schedule_drawing::{
-    Event, EventKind, Schedule, read_entries, told_schedule, write_svg, write_vcd,
+    Event, EventKind, Schedule, flaws_of, read_entries, told_schedule, write_svg, write_vcd,
 };
 use std::alloc::Global;
 use std::fmt::Write;
@@ -19,6 +19,7 @@ fn schedule(alloc: Global, text: &str) -> anyhow::Result<Schedule> {
     let mut schedule = Schedule::new(alloc);
     let begin = schedule.next_begin();
     schedule.add(alloc, &checked.timing, begin, &entries)?;
+    schedule.flaws = flaws_of(alloc, &checked, &entries)?;
     Ok(schedule)
 }
 
@@ -136,9 +137,59 @@ fn shapes_of_a_trace(rt: HostRuntime) -> Result<(), Fail> {
             ),
             ("<line class=\"cut\"", 2),
             (">9360</text>", 1),
+            (">clock</text>", 1),
+            ("<title>DDR4 commands by their clocks</title>", 1),
+            (">open row</text>", 1),
+            ("<rect class=\"flaw\"", 0),
             ("</svg>", 1),
         ],
     )
+}
+
+#[test]
+fn commands_that_break_rules(rt: HostRuntime) -> Result<(), Fail> {
+    let schedule = schedule(
+        rt.alloc(),
+        "0 0 ACT 0 0 0 1\n0 15 RD 0 0 0 3\n0 60 PRE 0 0 0\n",
+    )?;
+    // the read is one clock too early
+    has(
+        &rt,
+        &schedule,
+        &[
+            ("<rect class=\"flaw\"", 1),
+            (
+                "<rect class=\"flaw\" x=\"238\" y=\"57\" width=\"28\" height=\"24\"><title>breaks rule 3</title></rect>",
+                1,
+            ),
+        ],
+    )
+}
+
+#[test]
+fn a_range_of_clocks(rt: HostRuntime) -> Result<(), Fail> {
+    let mut schedule = schedule(rt.alloc(), SHORT)?;
+    schedule.show(rt.alloc(), 20, 60)?;
+    // of the row what lies behind clock 20, the data, and the precharge; neither the activate nor the refresh
+    has(
+        &rt,
+        &schedule,
+        &[
+            (
+                "<rect class=\"row\" x=\"150\" y=\"69\" width=\"240\" height=\"12\"/>",
+                1,
+            ),
+            ("<line class=\"mark\"", 1),
+            (">PRE</text>", 1),
+            ("<rect class=\"read\"", 1),
+            ("<rect class=\"refresh\" x", 0),
+            (">20</text>", 1),
+        ],
+    )?;
+    // a range that ends before it begins
+    schedule.show(rt.alloc(), 60, 20)?;
+    assert_eq!(rt; schedule.shapes.is_empty(), true);
+    Ok(())
 }
 
 #[test]

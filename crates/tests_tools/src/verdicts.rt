@@ -1,5 +1,5 @@
 // What a check tells of a trace.
-use command_trace::{TraceReader, check_trace, diagnose, form_of, list_commands};
+use command_trace::{TraceReader, check_trace, diagnose, form_of, list_commands, tallies};
 use ddr4_timing::profiles::TINY;
 use ddr4_timing::timing::{Checked, Geometry, ProfileError};
 use std::alloc::Global;
@@ -37,4 +37,42 @@ pub(crate) fn verdicts(alloc: Global, text: &str, others: bool) -> anyhow::Resul
         None => write!(said, "no fault")?,
     }
     Ok(said)
+}
+
+// The rules that a trace of one channel breaks, a line each.
+fn broken(alloc: Global, text: &str) -> anyhow::Result<String> {
+    let checked = checked()?;
+    let form = form_of(alloc, text.as_bytes(), false)?;
+    let mut reader = TraceReader::new(alloc, text.as_bytes(), form, 1);
+    let listed = list_commands(alloc, &mut reader, 0, u64::MAX)?;
+    let mut said = format!(in alloc; "")?;
+    for tally in &tallies(alloc, &checked, &listed)? {
+        writeln!(said, "{tally}")?;
+    }
+    Ok(said)
+}
+
+// A second row is opened in an open bank, and closed too soon; then a read and a write go to the closed bank, and a command to a
+// place that isn't there. Behind it all a read of another bank is lawful.
+const UNLAWFUL: &str = "0 0 ACT 0 0 0 1
+0 1 ACT 0 0 0 0
+0 2 PREA 0
+0 100 RD 0 0 0 3
+0 120 WR 0 0 0 3
+0 130 RD 0 9 0 0
+0 200 ACT 0 1 0 1
+0 216 RD 0 1 0 2
+";
+
+const BROKEN: &str = "2, ACT wants its bank closed; line 2: 1 ACT 0 0 0 0; the first of 4
+4, ACT to PREA, same bank: at least tRAS = 39, here 2; line 1: 0 ACT 0 0 0 1; line 3: 2 PREA 0; the first of 1
+6, ACT to ACT, same bank: at least tRAS + tRP = 55, here 1; line 1: 0 ACT 0 0 0 1; line 2: 1 ACT 0 0 0 0; the first of 1
+9, ACT to ACT, same bank group: at least tRRD_L = 6, here 1; line 1: 0 ACT 0 0 0 1; line 2: 1 ACT 0 0 0 0; the first of 1
+";
+
+#[test]
+fn rules_that_are_broken(rt: HostRuntime) -> anyhow::Result<()> {
+    assert_eq!(rt; broken(rt.alloc(), UNLAWFUL)?.as_str(), BROKEN);
+    assert_eq!(rt; broken(rt.alloc(), "0 0 ACT 0 0 0 1\n")?.as_str(), "");
+    Ok(())
 }

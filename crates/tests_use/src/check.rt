@@ -9,6 +9,9 @@ use std::process::Abort;
 /// More energy than any save takes, in units.
 pub(crate) const AMPLE: u64 = 1 << 62;
 
+/// How often a wait is tried.
+pub(crate) const TIMES: u64 = 200;
+
 /// Fails where a value isn't the wanted one.
 pub(crate) fn same<R: Abort, T: PartialEq + Debug + Drop>(rt: &R, got: T, wanted: T) {
     assert_eq!(*rt; got, wanted);

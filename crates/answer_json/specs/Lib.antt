@@ -1,0 +1,4 @@
+pub mod Told
+pub mod Commands
+pub mod Refusals
+pub mod Answers
