@@ -9,6 +9,7 @@ use clap::ArgMatches;
 use command_faults::{Failure, Fault, Reason, bytes_of, flush, is_file, profile_of};
 use command_trace::{Source, TraceCheck, TraceFault};
 use ddr4_timing::timing::Checked;
+use report_json::{write_tallies, write_verdicts};
 use std::alloc::Global;
 use std::io::{Input, Write};
 use std::process::ExitCode;
@@ -35,6 +36,7 @@ where
     let asked = Asked {
         others: matches.get_flag("answers"),
         allows_empty: matches.get_flag("allow-empty"),
+        is_json: matches.get_flag("json"),
         all: matches.get_flag("all"),
     };
     match write_check(rt, &source, asked, &profile.checked, writer) {
@@ -53,6 +55,7 @@ struct Asked {
     // whether other answers of a run are passed over
     others: bool,
     allows_empty: bool,
+    is_json: bool,
     // whether every fault counts
     all: bool,
 }
@@ -69,10 +72,11 @@ fn write_check<R: Files + AllocGlobal, W: Write>(
     let check = source.check(rt, form, checked)?;
     match verdict(&check, checked, asked.allows_empty) {
         Ok(code) => {
-            if asked.all {
-                source.write_tallies(rt, form, checked, &check, writer)?;
-            } else {
-                source.write_verdicts(rt, form, checked, &check, writer)?;
+            match (asked.is_json, asked.all) {
+                (true, true) => write_tallies(rt, source, form, checked, &check, writer)?,
+                (true, false) => write_verdicts(rt, source, form, checked, &check, writer)?,
+                (false, true) => source.write_tallies(rt, form, checked, &check, writer)?,
+                (false, false) => source.write_verdicts(rt, form, checked, &check, writer)?,
             }
             Ok(Ok(code))
         }

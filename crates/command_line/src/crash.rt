@@ -1,14 +1,23 @@
 // What a crash may leave of a script, told.
+use answer_json::write_object;
 use clap::ArgMatches;
 use command_faults::{Failure, Fault, bytes_of, flush, profile_of};
 use crash_table::{AtStop, Counts, PICKS, Progress, Script, Trials};
 use nv_profile::Profile;
 use nv_script::{SCRIPT_BYTES, ScriptFault};
+use report_json::{counts_object, stop_object, write_table};
 use std::alloc::Global;
 use std::io::{Eprint, Input, Write};
 use std::process::ExitCode;
 use std::rt::Files;
 use std::time::{Clock, Duration, Instant};
+
+// How it is told what a crash may leave.
+#[derive(Clone, Copy)]
+struct Form {
+    is_watched: bool,
+    is_json: bool,
+}
 
 /// Tells how far trials are, on standard error where someone looks at that.
 #[derive(Drop)]
@@ -33,32 +42,50 @@ impl<'r, R: Clock + Eprint> Watch<'r, R> {
         }
     }
 
-    // Has it taken longer than a second?
-    fn is_long(&self) -> bool {
-        match self.begun {
-            Some(begun) => match begun.elapsed(self.rt) {
-                Ok(passed) => passed >= Duration::from_secs(1),
-                Err(_) => false,
-            },
-            None => false,
+    // How long it has taken, where that is longer than a second.
+    fn passed(&self) -> Option<Duration> {
+        let passed = self.begun?.elapsed(self.rt).ok()?;
+        if passed >= Duration::from_secs(1) {
+            Some(passed)
+        } else {
+            None
         }
     }
 
     fn end(&self) {
         if self.is_shown {
-            let _told = eprint!(self.rt; "\r                              \r");
+            let _told = eprint!(self.rt; "\r                                                  \r");
         }
     }
 }
 
 impl<R: Clock + Eprint> Progress for Watch<'_, R> {
     fn tell(&mut self, done: usize, lines: usize) {
-        if self.is_long() {
-            self.is_shown = true;
-            // who looks loses a line that can't be written, and nothing else
-            let _told = eprint!(self.rt; "\r{done} of {lines} lines");
-        }
+        let Some(passed) = self.passed() else {
+            return;
+        };
+        self.is_shown = true;
+        let share = share_done(done, lines);
+        let left = seconds_left(passed, share);
+        // who looks loses a line that can't be written, and nothing else
+        let _told = eprint!(self.rt;
+            "\r{done} of {lines} lines, {} %, {left} s left   ",
+            share / 10
+        );
     }
+}
+
+// How many parts of a thousand of the trials are done. Those of a line run all lines before it.
+fn share_done(done: usize, lines: usize) -> u64 {
+    let done = done as u64;
+    let most = lines as u64;
+    done.saturating_mul(done).saturating_mul(1000) / most.saturating_mul(most).max(1)
+}
+
+// How many seconds the rest takes at the same pace.
+fn seconds_left(passed: Duration, share: u64) -> u64 {
+    let whole = passed.as_secs().saturating_mul(1000) / share.max(1);
+    whole.saturating_sub(passed.as_secs())
 }
 
 /// Tells what a crash may leave of the script that the words name, or of one of its lines.
@@ -75,9 +102,13 @@ where
     let profile = profile_of(rt, matches.get_str("PROFILE").unwrap_or("tiny"))?;
     let script = bytes_of(rt, matches.get_str("SCRIPT").unwrap_or("-"), SCRIPT_BYTES)?;
     let number = matches.get_one::<u64>("line");
+    let form = Form {
+        is_watched,
+        is_json: matches.get_flag("json"),
+    };
     let told = match number {
-        Some(number) => write_line(rt.alloc(), &profile, &script, number, writer),
-        None => write_crash(rt, is_watched, &profile, &script, writer).map(|()| true),
+        Some(number) => write_line(rt.alloc(), form, &profile, &script, number, writer),
+        None => write_crash(rt, form, &profile, &script, writer).map(|()| true),
     };
     match told {
         Ok(true) => flush(writer)?,
@@ -93,7 +124,7 @@ where
 // Writes what restores find at each stop of a script, line by line, and the counts.
 fn write_crash<R, W>(
     rt: &R,
-    is_watched: bool,
+    form: Form,
     profile: &Profile,
     script: &[u8],
     writer: &mut W,
@@ -103,16 +134,20 @@ where
     W: Write,
 {
     let script = Script::read(rt.alloc(), script, &profile.checked.geometry)?;
-    let mut watch = Watch::begin(rt, is_watched);
+    let mut watch = Watch::begin(rt, form.is_watched);
     let table = Trials::new(rt.alloc(), profile).table(&script, &mut watch);
     watch.end();
     let table = table?;
+    if form.is_json {
+        return write_table(rt.alloc(), &table, writer);
+    }
     writeln!(writer, "{table}").map_err(|_| ScriptFault::Writer)
 }
 
 // Writes what restores find at each stop of one line, by its number, and the counts. False where no such line is run.
 fn write_line<W: Write>(
     alloc: Global,
+    form: Form,
     profile: &Profile,
     script: &[u8],
     number: u64,
@@ -125,10 +160,18 @@ fn write_line<W: Write>(
     let tried = Trials::new(alloc, profile).tried(&script.lines[..place], script.lines[place])?;
     for at_stop in tried.chunks(PICKS.len()) {
         if let Some(told) = AtStop::of(alloc, number, at_stop)? {
-            writeln!(writer, "{told}").map_err(|_| ScriptFault::Writer)?;
+            if form.is_json {
+                write_object(alloc, &stop_object(alloc, &told)?, writer)?;
+            } else {
+                writeln!(writer, "{told}").map_err(|_| ScriptFault::Writer)?;
+            }
         }
     }
     let counts = Counts::of(&tried);
-    writeln!(writer, "{counts}").map_err(|_| ScriptFault::Writer)?;
+    if form.is_json {
+        write_object(alloc, &counts_object(alloc, &counts)?, writer)?;
+    } else {
+        writeln!(writer, "{counts}").map_err(|_| ScriptFault::Writer)?;
+    }
     Ok(true)
 }

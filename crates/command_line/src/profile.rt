@@ -1,7 +1,9 @@
 // A profile, explained.
+use answer_json::write_object;
 use clap::ArgMatches;
 use command_faults::{Failure, Fault, asked_profile, flush};
 use profile_report::Meaning;
+use report_json::meaning_object;
 use std::io::Write;
 use std::process::ExitCode;
 use std::rt::Files;
@@ -17,9 +19,12 @@ where
     W: Write,
 {
     let profile = asked_profile(rt, matches.get_str("PROFILE").unwrap_or("tiny"))?;
-    match writeln!(writer, "{}", Meaning::of(&profile)) {
-        Ok(()) => flush(writer)?,
-        Err(_) => return Err(Failure::from(Fault::File("-"))),
+    let meaning = Meaning::of(&profile);
+    if matches.get_flag("json") {
+        write_object(rt.alloc(), &meaning_object(rt.alloc(), &meaning)?, writer)?;
+    } else if writeln!(writer, "{meaning}").is_err() {
+        return Err(Failure::from(Fault::File("-")));
     }
+    flush(writer)?;
     Ok(ExitCode::SUCCESS)
 }

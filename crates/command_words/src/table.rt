@@ -95,14 +95,17 @@ const CRASH: Verb = Verb {
     name: "crash",
     about: "Tells what a crash may leave of a script",
     operands: &[PROFILE, SCRIPT],
-    switches: &[Switch {
-        name: "line",
-        value: Some(Value {
-            name: "N",
-            kind: Kind::Number,
-        }),
-        help: "Shows each stop within this line of the script alone",
-    }],
+    switches: &[
+        Switch {
+            name: "line",
+            value: Some(Value {
+                name: "N",
+                kind: Kind::Number,
+            }),
+            help: "Shows each stop within this line of the script alone",
+        },
+        JSON,
+    ],
     any_of: &[],
 };
 
@@ -134,6 +137,7 @@ const CHECK: Verb = Verb {
             value: None,
             help: "Tells each rule that is broken, how often and where first; each command counts as issued",
         },
+        JSON,
     ],
     any_of: &[],
 };
@@ -191,7 +195,7 @@ const PROFILE_VERB: Verb = Verb {
     name: "profile",
     about: "Tells what a profile means, or why a text is none",
     operands: &[PROFILE],
-    switches: &[],
+    switches: &[JSON],
     any_of: &[],
 };
 

@@ -15,6 +15,6 @@ pub use counts::Counts;
 pub use outcome::{Found, Outcome};
 pub use script::Script;
 pub use stop::{PICKS, Stop};
-pub use table::{AtStop, Row, Table};
+pub use table::{AtStop, Block, Row, Table};
 pub use trials::{Progress, Trials};
 pub use tried::Tried;

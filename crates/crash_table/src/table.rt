@@ -22,17 +22,17 @@ pub struct Row {
 /// What restores found at one stop of a line.
 #[derive(Drop)]
 pub struct AtStop {
-    line: u64,
-    stop: Stop,
-    rows: Vec<Row>,
+    pub line: u64,
+    pub stop: Stop,
+    pub rows: Vec<Row>,
 }
 
 /// Lines of a script, one behind another, whose stops have the same outcomes.
 #[derive(Drop)]
-struct Block {
-    first: u64,
-    last: u64,
-    rows: Vec<Row>,
+pub struct Block {
+    pub first: u64,
+    pub last: u64,
+    pub rows: Vec<Row>,
 }
 
 /// What restores found, line by line. Lines with the same outcomes stand together.
@@ -210,6 +210,13 @@ impl Table {
         let rows = rows_of(self.alloc, tried)?;
         put_line(&mut self.blocks, line, rows)?;
         Ok(())
+    }
+
+    /// Its lines, those with the same outcomes together.
+    pub fn blocks(&self) -> &[Block]
+        ensures { result.now ≡ self.now.blocks.items }
+    {
+        &self.blocks
     }
 
     /// Its counts.

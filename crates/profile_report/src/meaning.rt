@@ -1,6 +1,6 @@
 // What the numbers of a profile come to.
-ghost use Rattle.std.specs.Prelude.{◌≡◌, ◌≤◌};
-ghost use Rattle.profile_report.specs.Meaning.{IsMeaningOf};
+ghost use Rattle.std.specs.Prelude.{◌≡◌, ◌≤◌, All, IfSome};
+ghost use Rattle.profile_report.specs.Meaning.{IsMeaningOf, if_above, pending_told};
 
 use energy_budget::Costs;
 use interleave_map::cells::line_count;
@@ -40,13 +40,24 @@ impl Meaning {
         }
     }
 
-    // The writes that the queues of all channels may hold.
-    fn most_pending(&self) -> u64
-        ensures { result ≤ 1024 }
+    /// The numbers of pending writes for which it is told what a save takes: none, one, as many as one channel's queue holds, and
+    /// as many as those of all channels, each where it is above the one before.
+    pub fn pending(&self) -> [Option<u64>; 4]
+        ensures told { result ≡ pending_told self.now }
+        ensures few { All (λ told. IfSome told (λ pending. pending ≤ 1024)) result }
     {
+        let depth = self.profile.sizes.depth.min(1024);
         let channels = self.profile.checked.geometry.channels;
-        channels.saturating_mul(self.profile.sizes.depth).min(1024)
+        let most = channels.saturating_mul(self.profile.sizes.depth).min(1024);
+        [Some(0), Some(1), above(1, depth), above(depth, most)]
     }
+}
+
+// A number where it is above another one.
+fn above(other: u64, number: u64) -> Option<u64>
+    ensures { result ≡ if_above other number }
+{
+    if number > other { Some(number) } else { None }
 }
 
 // What a save of so many pending writes takes.
@@ -71,15 +82,10 @@ impl fmt::Display for Meaning {
         write!(f, "\ndevice {} bytes", self.device_bytes)?;
         write!(f, "\nentry {} clocks", self.entry)?;
         write!(f, "\nclose step {} clocks", self.close)?;
-        let depth = self.profile.sizes.depth.min(1024);
-        let most = self.most_pending();
-        write_needs(f, &self.costs, 0)?;
-        write_needs(f, &self.costs, 1)?;
-        if depth > 1 {
-            write_needs(f, &self.costs, depth)?;
-        }
-        if most > depth {
-            write_needs(f, &self.costs, most)?;
+        for pending in self.pending() {
+            if let Some(pending) = pending {
+                write_needs(f, &self.costs, pending)?;
+            }
         }
         Ok(())
     }

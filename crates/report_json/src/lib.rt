@@ -1,0 +1,10 @@
+//! What `check`, `profile` and `crash` tell, as objects of JSON.
+#![tactic(auto)]
+
+mod crashes;
+mod meanings;
+mod verdicts;
+
+pub use crashes::{block_object, counts_object, stop_object, write_table};
+pub use meanings::meaning_object;
+pub use verdicts::{fault_object, lawful_object, tally_object, write_tallies, write_verdicts};
