@@ -55,7 +55,7 @@ module _ {K : Type 0} (L : Ghosts K) (lent settled : Option (Part K L)) (part la
   refused_write (Err refusal) unchanged = keeps_port unchanged
 
   -- a read of a line behind so many writes, by whatever log the part stands for
-  GotByLog : ℕ → ℕ → Got → Type 0
+  abbrev GotByLog : ℕ → ℕ → Got → Type 0
   GotByLog line at got =
       (base : List (List ℕ)) (log : List LogNote) → PartStands L part part.channel base log
       → IsGot (line_of (after base (writes_of (log_tells log).written)) line) line at part.channel got (L.view part.port).waits (L.view later.port).waits
@@ -72,7 +72,7 @@ module _ {K : Type 0} (L : Ghosts K) (lent settled : Option (Part K L)) (part la
         got = ∥∥₁_map stands (λ s. (
           bytes,
           subst (λ (p : K). IsGot bytes line told.at channel told.got (L.view p).waits now) same
-          (subst (λ k. IsGot bytes line told.at k told.got (L.view part.port).waits now) here (got base log (subst (λ k. PartStands L part k base log) (sym here) s))),
+              (subst (λ k. IsGot bytes line told.at k told.got (L.view part.port).waits now) here (got base log (subst (λ k. PartStands L part k base log) (sym here) s))),
         ));
         issued = issued ∙ ap L.issued same;
       })
