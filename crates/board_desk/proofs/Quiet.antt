@@ -1,16 +1,15 @@
 -- What lay behind a channel's lock, behind a write, a read and a call: the commands that it issued.
-use Rattle.std.proofs.Common.{Err, IfErr, IfOk, List, None, Ok, Option, Result, Some, ap, map, refl, subst, sym, ℕ, ◌∙◌, ◌≡◌}
+use Rattle.std.proofs.Common.{Err, IfErr, IfOk, List, None, Ok, Option, Result, Some, ap, refl, subst, sym, ℕ, ◌∙◌, ◌≡◌}
 use Rattle.std.proofs.Math.Logic.{∥∥₁_elim, ∥∥₁_map}
 use Rattle.std.proofs.Props.{props}
 use Rattle.std.proofs.lemmas.Option.{same_Some}
 use Rattle.arm_state.specs.declared.loss.Loss.{Loss}
-use Rattle.arm_state.specs.declared.refusal.ReadRefusal.{ReadRefusal}
 use Rattle.arm_state.specs.declared.refusal.WriteRefusal.{WriteRefusal}
 use Rattle.channel_log.specs.Log.{LogNote, log_tells}
 use Rattle.channel_part.specs.Stands.{PartStands}
 use Rattle.channel_part.specs.declared.part.Part.{Part}
 use Rattle.channel_port.specs.Answers.{IsGot}
-use Rattle.channel_port.specs.View.{PortView, with_write}
+use Rattle.channel_port.specs.View.{with_write}
 use Rattle.channel_port.specs.Waits.{Waits}
 use Rattle.channel_port.specs.declared.answers.Got.{Got}
 use Rattle.channel_port.specs.declared.port.ChannelPort.{Ghosts}
