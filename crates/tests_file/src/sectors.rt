@@ -23,13 +23,14 @@ fn saves<D: SaveDevice>(device: &mut D, at: usize, bytes: &[u8]) -> Result<(), D
     }
 }
 
-// What an opening reads once the machine has stopped.
+// What an opening reads once the machine has stopped, with no further call of the file that fails.
 fn after_a_stop<R: Abort + AllocGlobal>(
     rt: &R,
     device: SectorDevice<ModelSectorFile>,
 ) -> [u8; 1024] {
     let mut file = device.into_file();
     file.stop(0xee);
+    file.fail(0);
     let mut device = SectorDevice::over(rt.alloc(), file).expect(rt, "memory");
     let mut bytes = [0xff; 1024];
     if device.len() == 1024 {
