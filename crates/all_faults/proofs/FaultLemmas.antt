@@ -11,7 +11,7 @@ use Rattle.ddr4_timing.specs.declared.fault.Fault.{Fault}
 use Rattle.ddr4_timing.specs.declared.rules.Rule.{Rule}
 use Rattle.ddr4_timing.specs.declared.rules.Rule.TheVariants.{Ccd, Cs, Faw, Order, Ras, Rc, Rcd, Refi, Rfc, Rows, Rp, Rrd, Rtp, Rtw, Wr, Wtr}
 use Rattle.ddr4_timing.specs.Command.{is_act, is_act_of, is_column, is_idle, is_precharge, is_rd, is_ref, is_wr, precharges, rank_of, same_bank, same_group, same_rank}
-use Rattle.ddr4_timing.specs.declared.timing.Checked.{Checked}
+use Rattle.ddr4_timing.specs.declared.timing.CommandRules.{CommandRules}
 use Rattle.ddr4_timing.specs.declared.timing.Timing.{Timing}
 use Rattle.ddr4_timing.specs.Gaps.{gap, pair_gap, faw_gap}
 use Rattle.ddr4_timing.specs.Lawful.{IsInGeometry, KeepsGap, KeepsRefresh, KeepsRule, ObeysRule}
@@ -22,20 +22,20 @@ use Rattle.all_faults.specs.Faults.{AreFaultsOf, AreFaultsUpTo, AreLatest, Comes
 use Rattle.all_faults.specs.Left.{most_asked}
 
 -- of the command that stands in the list what holds of it behind those before it
-pub keeps_there : (c : Checked) (list : List Stamped) (rule : Rule) (first second : ℕ) (d : Stamped) → second < length list
-    → ObeysRule c (take second list) (get_or list second d) rule first → KeepsRule c list rule first second
+pub keeps_there : (c : CommandRules) (list : List Stamped) (rule : Rule) (first second : ℕ) (d : Stamped) → second < length list
+    → ObeysRule c.timing c.geometry (take second list) (get_or list second d) rule first → KeepsRule c.timing c.geometry list rule first second
 keeps_there c list rule first second d here obeys = λ x s.
-    subst (λ (y : Stamped). ObeysRule c (take second list) y rule first) (get_or_from_slice_get list second x d s) obeys
+    subst (λ (y : Stamped). ObeysRule c.timing c.geometry (take second list) y rule first) (get_or_from_slice_get list second x d s) obeys
 
-pub asked_there : (c : Checked) (list : List Stamped) (rule : Rule) (second : ℕ) (d : Stamped) → second < length list
+pub asked_there : (c : CommandRules) (list : List Stamped) (rule : Rule) (second : ℕ) (d : Stamped) → second < length list
     → IsAskedOf c (get_or list second d) rule → IsAsked c list rule second
 asked_there c list rule second d here asked = λ x s.
     subst (λ (y : Stamped). IsAskedOf c y rule) (get_or_from_slice_get list second x d s) asked
 
 -- a fault of the command at a place
-pub fault_there : (c : Checked) (list : List Stamped) (f : Fault) (d : Stamped) → f.first ≤ f.second → f.second < length list
-    → IsAskedOf c (get_or list f.second d) f.rule → (ObeysRule c (take f.second list) (get_or list f.second d) f.rule f.first → ⊥)
-    → ((k : ℕ) → k < f.first → ObeysRule c (take f.second list) (get_or list f.second d) f.rule k) → IsFaultOf c list f
+pub fault_there : (c : CommandRules) (list : List Stamped) (f : Fault) (d : Stamped) → f.first ≤ f.second → f.second < length list
+    → IsAskedOf c (get_or list f.second d) f.rule → (ObeysRule c.timing c.geometry (take f.second list) (get_or list f.second d) f.rule f.first → ⊥)
+    → ((k : ℕ) → k < f.first → ObeysRule c.timing c.geometry (take f.second list) (get_or list f.second d) f.rule k) → IsFaultOf c list f
 fault_there c list f d order here asked broken least = record {
   order = order;
   within = here;
@@ -76,7 +76,7 @@ below_more : (faults : List Fault) (most : ℕ) → All (λ f. place_of f.rule f
 below_more faults most below = λ i d here. let low = below i d here in omega (arith, low)
 
 -- the rule and the command at the next place have no fault
-pub no_more : (c : Checked) (list : List Stamped) (most : ℕ) (faults : List Fault) (rule : Rule) (second : ℕ) → place_of rule second ≡ most + 1
+pub no_more : (c : CommandRules) (list : List Stamped) (most : ℕ) (faults : List Fault) (rule : Rule) (second : ℕ) → place_of rule second ≡ most + 1
     → (IsAsked c list rule second → Keeps c list rule second) → AreFaultsUpTo c list most faults → AreFaultsUpTo c list (most + 1) faults
 no_more c list most faults rule second here keeps so_far = record {
   are = so_far.are;
@@ -92,7 +92,7 @@ no_more c list most faults rule second here keeps so_far = record {
 }
 
 -- they have one
-pub one_more : (c : Checked) (list : List Stamped) (most : ℕ) (faults : List Fault) (f : Fault) → place_of f.rule f.second ≡ most + 1
+pub one_more : (c : CommandRules) (list : List Stamped) (most : ℕ) (faults : List Fault) (f : Fault) → place_of f.rule f.second ≡ most + 1
     → IsFaultOf c list f → AreFaultsUpTo c list most faults → AreFaultsUpTo c list (most + 1) (faults ++ f ∷ [])
 one_more c list most faults f here is so_far = record {
   are = All-push (IsFaultOf c list) faults f so_far.are is;
@@ -107,8 +107,8 @@ one_more c list most faults f here is so_far = record {
 }
 
 -- of the rule behind the first ones of a command: it holds
-pub none_at : (c : Checked) (list : List Stamped) (i second : ℕ) (d : Stamped) (faults : List Fault) → second < length list → i < 16
-    → (IsAskedOf c (get_or list second d) (get_or every_rule i Order) → (k : ℕ) → ObeysRule c (take second list) (get_or list second d) (get_or every_rule i Order) k)
+pub none_at : (c : CommandRules) (list : List Stamped) (i second : ℕ) (d : Stamped) (faults : List Fault) → second < length list → i < 16
+    → (IsAskedOf c (get_or list second d) (get_or every_rule i Order) → (k : ℕ) → ObeysRule c.timing c.geometry (take second list) (get_or list second d) (get_or every_rule i Order) k)
     → AreFaultsUpTo c list (16 * second + i) faults → AreFaultsUpTo c list (16 * second + (i + 1)) faults
 none_at c list i second d faults here few obeys so_far =
     let rule : Rule = get_or every_rule i Order in
@@ -120,9 +120,9 @@ none_at c list i second d faults here few obeys so_far =
     (λ asked first. keeps_there c list rule first second d here (obeys (asked (get_or list second d) (slice_get-get_or list second d here)) first)) so_far)
 
 -- it is broken
-pub some_at : (c : Checked) (list : List Stamped) (i second first : ℕ) (d : Stamped) (faults : List Fault) → second < length list → i < 16 → first ≤ length (take second list)
-    → IsAskedOf c (get_or list second d) (get_or every_rule i Order) → (ObeysRule c (take second list) (get_or list second d) (get_or every_rule i Order) first → ⊥)
-    → ((k : ℕ) → k < first → ObeysRule c (take second list) (get_or list second d) (get_or every_rule i Order) k)
+pub some_at : (c : CommandRules) (list : List Stamped) (i second first : ℕ) (d : Stamped) (faults : List Fault) → second < length list → i < 16 → first ≤ length (take second list)
+    → IsAskedOf c (get_or list second d) (get_or every_rule i Order) → (ObeysRule c.timing c.geometry (take second list) (get_or list second d) (get_or every_rule i Order) first → ⊥)
+    → ((k : ℕ) → k < first → ObeysRule c.timing c.geometry (take second list) (get_or list second d) (get_or every_rule i Order) k)
     → AreFaultsUpTo c list (16 * second + i) faults
     → AreFaultsUpTo c list (16 * second + (i + 1)) (faults ++ record { first = first; second = second; rule = get_or every_rule i Order } ∷ [])
 some_at c list i second first d faults here few order asked broken least so_far =
@@ -136,7 +136,7 @@ some_at c list i second first d faults here few order asked broken least so_far 
     (one_more c list (16 * second + i) faults fault place (fault_there c list fault d (omega (arith, order, size)) here asked broken least) so_far)
 
 -- behind the last command all places are
-pub all_places : (c : Checked) (list : List Stamped) (faults : List Fault) → AreFaultsUpTo c list (16 * length list) faults → AreFaultsOf c list faults
+pub all_places : (c : CommandRules) (list : List Stamped) (faults : List Fault) → AreFaultsUpTo c list (16 * length list) faults → AreFaultsOf c list faults
 all_places c list faults upto = record {
   are = upto.are;
   once = upto.once;
@@ -146,7 +146,7 @@ all_places c list faults upto = record {
   ];
 }
 
-pub none_yet : (c : Checked) (list : List Stamped) → AreFaultsUpTo c list 0 []
+pub none_yet : (c : CommandRules) (list : List Stamped) → AreFaultsUpTo c list 0 []
 none_yet c list = record {
   are = All-nil (IsFaultOf c list);
   once = λ i j d before here. absurd (omega arith);
@@ -159,17 +159,17 @@ cond_most true m k n first second = first
 cond_most false m k n first second = second
 
 -- of a rule that is on the command alone no place before it is broken
-pub refresh_least : (c : Checked) (before : List Stamped) (x : Stamped) (rule : Rule) (found : Option ℕ) → rule ≡ Refi
-    → IfSome found (λ first. (first ≡ length before) × (KeepsRefresh c.timing before x → ⊥)) → IfSome found (λ first. (k : ℕ) → k < first → ObeysRule c before x rule k)
+pub refresh_least : (c : CommandRules) (before : List Stamped) (x : Stamped) (rule : Rule) (found : Option ℕ) → rule ≡ Refi
+    → IfSome found (λ first. (first ≡ length before) × (KeepsRefresh c.timing before x → ⊥)) → IfSome found (λ first. (k : ℕ) → k < first → ObeysRule c.timing c.geometry before x rule k)
 refresh_least c before x rule None is there = there
 refresh_least c before x rule (Some first) is there = λ k below.
-    ObeysRule-alone c before x rule k (inr is) (λ e. absurd cc) (λ _ at. absurd (let place = there.0 in omega (arith, at, place, below)))
+    ObeysRule-alone c.timing c.geometry before x rule k (inr is) (λ e. absurd cc) (λ _ at. absurd (let place = there.0 in omega (arith, at, place, below)))
 
-pub refresh_none : (c : Checked) (before : List Stamped) (x : Stamped) (rule : Rule) (found : Option ℕ) → rule ≡ Refi
-    → IfNone found (IsInGeometry c.geometry x.cmd → KeepsRefresh c.timing before x) → IfNone found (IsAskedOf c x rule → (k : ℕ) → ObeysRule c before x rule k)
+pub refresh_none : (c : CommandRules) (before : List Stamped) (x : Stamped) (rule : Rule) (found : Option ℕ) → rule ≡ Refi
+    → IfNone found (IsInGeometry c.geometry x.cmd → KeepsRefresh c.timing before x) → IfNone found (IsAskedOf c x rule → (k : ℕ) → ObeysRule c.timing c.geometry before x rule k)
 refresh_none c before x rule (Some first) is keeps = keeps
 refresh_none c before x rule None is keeps = λ asked k.
-    ObeysRule-alone c before x rule k (inr is) (λ e. absurd cc) (λ _ _. elim asked [ inl e ↦ absurd cc | inr here ↦ keeps here ])
+    ObeysRule-alone c.timing c.geometry before x rule k (inr is) (λ e. absurd cc) (λ _ _. elim asked [ inl e ↦ absurd cc | inr here ↦ keeps here ])
 
 -- what a rule on two commands asks for is no more than the most
 pub gap_within : (t : Timing) (rule : Rule) (a b : Command) (between : List Stamped) → gap t rule a between b ≤ most_asked t
@@ -201,18 +201,18 @@ gap_within t Rfc a b between = cond_most (is_ref a && (is_act b || is_idle b) &&
 gap_within t Refi a b between = omega arith
 
 -- commands that are too far from a clock keep each rule on two
-pub far_keeps : (c : Checked) (before : List Stamped) (from : ℕ) (x : Stamped) (rule : Rule) → IsFarBefore c before from x.clock
+pub far_keeps : (c : CommandRules) (before : List Stamped) (from : ℕ) (x : Stamped) (rule : Rule) → IsFarBefore c before from x.clock
     → (k : ℕ) → k < from → KeepsGap c.timing before x rule k
 far_keeps c before from x rule far k below = λ a s.
     let most = gap_within c.timing rule a.cmd x.cmd (drop (k + 1) before) in
     let there = far k a below s in omega (arith, most, there)
 
-pub far_before : (c : Checked) (before : List Stamped) (latest : List ℕ) (i clock : ℕ) → AreLatest before latest → i < length latest
+pub far_before : (c : CommandRules) (before : List Stamped) (latest : List ℕ) (i clock : ℕ) → AreLatest before latest → i < length latest
     → slice_index latest i + most_asked c.timing ≤ clock → IsFarBefore c before (i + 1) clock
 far_before c before latest i clock are within far = λ k a below s.
     let early = are.reach i k a (omega (arith, below)) within s in omega (arith, early, far)
 
-pub far_none : (c : Checked) (before : List Stamped) (clock : ℕ) → IsFarBefore c before 0 clock
+pub far_none : (c : CommandRules) (before : List Stamped) (clock : ℕ) → IsFarBefore c before 0 clock
 far_none c before clock = λ k a below s. absurd (omega (arith, below))
 
 -- an element of a list with one more is of the list, or the last

@@ -14,9 +14,9 @@ use Rattle.ddr4_timing.specs.declared.timing.Geometry.{Geometry}
 use Rattle.ddr4_timing.specs.declared.timing.Timing.{Timing}
 use Rattle.ddr4_timing.specs.Command.{is_ref, is_ref_of, is_sre_of, rank_of}
 use Rattle.ddr4_timing.specs.Lawful.{KeepsRefresh, is_asleep, last_ref, open_row, ref_count, row_after}
-use Rattle.ddr4_timing.specs.Limits.{IsSmall}
+use Rattle.ddr4_timing.specs.Limits.{HasFewBanks}
 use Rattle.ddr4_timing.specs.Places.{HasBank, is_bank, slot_of}
-use Rattle.ddr4_timing.proofs.Addresses.{has_slot, same_address, same_slot, slot_small}
+use Rattle.ddr4_timing.proofs.Addresses.{has_room, same_address, same_slot, slot_small}
 use Rattle.ddr4_timing.proofs.FloorLemmas.{is_asleep_push, last_ref_push, open_row_push, ref_count_push}
 use Rattle.all_faults.specs.declared.left.Banks.{Banks}
 use Rattle.all_faults.specs.declared.left.Left.{Left}
@@ -147,18 +147,18 @@ if_is : (b c : Bool) (row was : Option ℕ) → b ≡ c → (if b then row else 
 if_is b c row was e = ap (λ (t : Bool). if t then row else was) e
 
 -- in one rank a bank is told by its slot
-slot_tells : (g : Geometry) (at b : BankAddress) → IsSmall g → HasBank g at → HasBank g b → at.rank ≡ b.rank → (slot_of at == slot_of b) ≡ is_bank at b
+slot_tells : (g : Geometry) (at b : BankAddress) → HasFewBanks g → HasBank g at → HasBank g b → at.rank ≡ b.rank → (slot_of at == slot_of b) ≡ is_bank at b
 slot_tells g at b small here there rank =
     elim (cases_eq (slot_of at) (slot_of b)) [
       | inl one ↦
-          let equal : at ≡ b = same_slot at b (has_slot g at small here) (has_slot g b small there) rank one in
+          let equal : at ≡ b = same_slot at b (has_room g at small here) (has_room g b small there) rank one in
           eq-eqb (slot_of at) (slot_of b) one ∙ sym (ap (λ (a : BankAddress). is_bank a b) equal ∙ is_bank-self b)
       | inr other ↦ ne_eqb (slot_of at) (slot_of b) other ∙ sym (is_bank_other at b (λ e. other (ap slot_of e)))
     ]
 
 -- a row put into a bank of a rank
-pub row_put : (g : Geometry) (ranks : List Banks) (at b : BankAddress) (row was bank : Option ℕ) (none banks new : Banks) → IsSmall g → HasBank g at → HasBank g b
-    → length ranks ≡ 4 → PutsSlot (slot_of at) row (slice_index_or ranks at.rank none) new → slice_index_or (slice_index_or ranks b.rank banks).rows (slot_of b) bank ≡ was
+pub row_put : (g : Geometry) (ranks : List Banks) (at b : BankAddress) (row was bank : Option ℕ) (none banks new : Banks) → HasFewBanks g → HasBank g at → HasBank g b
+    → length ranks ≡ 8 → PutsSlot (slot_of at) row (slice_index_or ranks at.rank none) new → slice_index_or (slice_index_or ranks b.rank banks).rows (slot_of b) bank ≡ was
     → slice_index_or (slice_index_or (slice_set ranks at.rank new) b.rank banks).rows (slot_of b) bank ≡ (if is_bank at b then row else was)
 row_put g ranks at b row was bank none banks new small here there size puts is =
     let rank : at.rank < length ranks = omega (arith, size, here.rank, small.ranks) in
@@ -167,7 +167,7 @@ row_put g ranks at b row was bank none banks new small here there size puts is =
           let outer : slice_index_or (slice_set ranks at.rank new) b.rank banks ≡ new = get_or-set_at ranks at.rank b.rank new banks same rank in
           let inner : slice_index_or ranks at.rank none ≡ slice_index_or ranks b.rank banks = get_or_default ranks at.rank none banks rank ∙ ap (λ (n : ℕ). slice_index_or ranks n banks) (sym same) in
           let old : slice_index_or (slice_index_or ranks at.rank none).rows (slot_of b) bank ≡ was = ap (λ (xs : Banks). slice_index_or xs.rows (slot_of b) bank) inner ∙ is in
-          ap (λ (xs : Banks). slice_index_or xs.rows (slot_of b) bank) outer ∙ puts (slot_of b) bank (slot_small b (has_slot g b small there))
+          ap (λ (xs : Banks). slice_index_or xs.rows (slot_of b) bank) outer ∙ puts (slot_of b) bank (slot_small b (has_room g b small there))
           ∙ ap (λ (o : Option ℕ). if slot_of at == slot_of b then row else o) old ∙ if_is (slot_of at == slot_of b) (is_bank at b) row was (slot_tells g at b small here there (sym same))
       | inr other ↦
           ap (λ (xs : Banks). slice_index_or xs.rows (slot_of b) bank) (get_or-set_other ranks at.rank b.rank new banks other)
@@ -179,5 +179,5 @@ pub refresh_told : (t : Timing) (list : List Stamped) (x : Stamped) (refs : ℕ)
     → IsTrue (is_ref x.cmd) → (IsTrue (nat_lt refs (x.clock / t.t_refi)) → KeepsRefresh t list x) × (KeepsRefresh t list x → IsTrue (nat_lt refs (x.clock / t.t_refi)))
 refresh_told t list x refs some in_time is ref = grind (arith, common_steps)
 
-pub slot_below : (g : Geometry) (at : BankAddress) → IsSmall g → HasBank g at → slot_of at < 16
-slot_below g at small here = slot_small at (has_slot g at small here)
+pub slot_below : (g : Geometry) (at : BankAddress) → HasFewBanks g → HasBank g at → slot_of at < 16
+slot_below g at small here = slot_small at (has_room g at small here)

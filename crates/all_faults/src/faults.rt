@@ -11,11 +11,11 @@ use crate::left::{Left, is_in_geometry};
 use ddr4_timing::command::Stamped;
 use ddr4_timing::fault::Fault;
 use ddr4_timing::rules::Rule;
-use ddr4_timing::timing::Checked;
+use ddr4_timing::timing::CommandRules;
 use std::alloc::{AllocError, Global};
 
 // From where on commands may be too near a clock, by the latest clock as far as each.
-fn near_from(c: &Checked, latest: &[u64], clock: u64) -> usize
+fn near_from(c: &CommandRules, latest: &[u64], clock: u64) -> usize
     ensures within { result ≤ length latest.now }
     ensures far { (before : List Stamped) → AreLatest before latest.now
         → IsFarBefore c.now before result clock }
@@ -31,7 +31,7 @@ fn near_from(c: &Checked, latest: &[u64], clock: u64) -> usize
 
 // The first command of which a rule on two doesn't hold, where those before this place are too far from the command.
 fn pair_fault(
-    c: &Checked,
+    c: &CommandRules,
     before: &[Stamped],
     from: usize,
     x: &Stamped,
@@ -56,7 +56,7 @@ fn pair_fault(
 
 // The same of a command whose place lies in the geometry.
 fn near_fault(
-    c: &Checked,
+    c: &CommandRules,
     before: &[Stamped],
     from: usize,
     x: &Stamped,
@@ -78,7 +78,7 @@ fn near_fault(
 }
 
 // The place behind the others, where the rule on refreshes doesn't hold of a command whose place lies in the geometry.
-fn refresh_fault(c: &Checked, left: &Left, before: &[Stamped], x: &Stamped) -> Option<usize>
+fn refresh_fault(c: &CommandRules, left: &Left, before: &[Stamped], x: &Stamped) -> Option<usize>
     requires { IsLeftBy c.now.geometry left.now before.now }
     ensures asked { IfSome result (λ first. IsInGeometry c.now.geometry x.now.cmd) }
     ensures found { IfSome result (λ first. (first ≡ length before.now)
@@ -95,7 +95,7 @@ fn refresh_fault(c: &Checked, left: &Left, before: &[Stamped], x: &Stamped) -> O
 
 // The first place of which a rule doesn't hold that is asked of the command.
 fn broken_at(
-    c: &Checked,
+    c: &CommandRules,
     left: &Left,
     before: &[Stamped],
     from: usize,
@@ -107,11 +107,12 @@ fn broken_at(
     requires far { IsFarBefore c.now before.now from x.now.clock }
     ensures asked { IfSome result (λ first. IsAskedOf c.now x.now rule) }
     ensures order { IfSome result (λ first. first ≤ length before.now) }
-    ensures found { IfSome result (λ first. ¬ ObeysRule c.now before.now x.now rule first) }
+    ensures found { IfSome result (λ first.
+        ¬ ObeysRule c.now.timing c.now.geometry before.now x.now rule first) }
     ensures least { IfSome result (λ first. (k : ℕ) → k < first
-        → ObeysRule c.now before.now x.now rule k) }
+        → ObeysRule c.now.timing c.now.geometry before.now x.now rule k) }
     ensures none { IfNone result (IsAskedOf c.now x.now rule
-        → (k : ℕ) → ObeysRule c.now before.now x.now rule k) }
+        → (k : ℕ) → ObeysRule c.now.timing c.now.geometry before.now x.now rule k) }
 {
     match rule {
         Rule::Rows => if left.keeps_rows(c, &x.cmd) {
@@ -127,7 +128,7 @@ fn broken_at(
 // Takes in the faults of a command: each rule that is asked of it and that it breaks.
 fn add_faults(
     faults: &mut Vec<Fault>,
-    c: &Checked,
+    c: &CommandRules,
     left: &Left,
     list: &[Stamped],
     latest: &[u64],
@@ -159,7 +160,11 @@ fn add_faults(
 /// and no other is asked of it.
 ///
 /// A command is compared with those before it that a rule on two may still be on.
-pub fn all_faults(alloc: Global, c: &Checked, list: &[Stamped]) -> Result<Vec<Fault>, AllocError>
+pub fn all_faults(
+    alloc: Global,
+    c: &CommandRules,
+    list: &[Stamped],
+) -> Result<Vec<Fault>, AllocError>
     ensures { IfOk result (λ faults. AreFaultsOf c.now list.now faults.items) }
 {
     let mut left = Left::new(c);

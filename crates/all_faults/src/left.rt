@@ -8,7 +8,7 @@ ghost use Rattle.ddr4_timing.specs.declared.command.Stamped.{Stamped};
 use crate::gaps::is_ref;
 use ddr4_timing::command::{Command, Stamped};
 use ddr4_timing::place::BankAddress;
-use ddr4_timing::timing::{Checked, Geometry};
+use ddr4_timing::timing::{CommandRules, Geometry};
 
 /// The row that is open in each bank of a rank, by the bank's slot.
 #[derive(Clone, Copy)]
@@ -32,10 +32,10 @@ impl Banks {
 /// of its last REF, how many it had, and whether it sleeps.
 #[derive(Clone, Copy)]
 pub(crate) struct Left {
-    ranks: [Banks; 4],
-    last: [u64; 4],
-    refs: [u64; 4],
-    asleep: [bool; 4],
+    ranks: [Banks; 8],
+    last: [u64; 8],
+    refs: [u64; 8],
+    asleep: [bool; 8],
 }
 
 /// Does the place that a command names lie in the geometry?
@@ -55,21 +55,21 @@ impl Left {
     ghost use Rattle.all_faults.specs.Left.{ClosesAll, IsLeftBy, PutsRef, PutsRow, PutsToSleep, SameRanks};
 
     /// Before any command.
-    pub(crate) fn new(c: &Checked) -> Left
+    pub(crate) fn new(c: &CommandRules) -> Left
         ensures { IsLeftBy c.now.geometry result [] }
     {
         // the contract is of this profile, and no step of the code is
         let _of = c;
         Left {
-            ranks: [Banks { rows: [None; 16] }; 4],
-            last: [0; 4],
-            refs: [0; 4],
-            asleep: [false; 4],
+            ranks: [Banks { rows: [None; 16] }; 8],
+            last: [0; 8],
+            refs: [0; 8],
+            asleep: [false; 8],
         }
     }
 
     // The row that is open in a bank.
-    fn row(&self, c: &Checked, at: BankAddress) -> Option<u64>
+    fn row(&self, c: &CommandRules, at: BankAddress) -> Option<u64>
         requires { HasBank c.now.geometry at }
         ensures { (list : List Stamped) → IsLeftBy c.now.geometry self.now list
             → result ≡ open_row at list }
@@ -79,7 +79,7 @@ impl Left {
     }
 
     // Are all banks of the rank closed?
-    fn all_closed(&self, c: &Checked, rank: u64) -> bool
+    fn all_closed(&self, c: &CommandRules, rank: u64) -> bool
         requires { rank < c.now.geometry.ranks }
         ensures { (list : List Stamped) → IsLeftBy c.now.geometry self.now list
             → (IsTrue result ↔ AllClosed c.now.geometry rank list) }
@@ -95,7 +95,7 @@ impl Left {
     }
 
     // Are the banks as the command wants them?
-    fn fits_rows(&self, c: &Checked, x: &Command) -> bool
+    fn fits_rows(&self, c: &CommandRules, x: &Command) -> bool
         requires { IsInGeometry c.now.geometry x.now }
         ensures { (list : List Stamped) → IsLeftBy c.now.geometry self.now list
             → (IsTrue result ↔ FitsRows c.now.geometry list x.now) }
@@ -110,7 +110,7 @@ impl Left {
     }
 
     // Does the rank of a command sleep?
-    fn is_asleep(&self, c: &Checked, rank: u64) -> bool
+    fn is_asleep(&self, c: &CommandRules, rank: u64) -> bool
         requires { rank < c.now.geometry.ranks }
         ensures { (list : List Stamped) → IsLeftBy c.now.geometry self.now list
             → result ≡ is_asleep rank list }
@@ -120,7 +120,7 @@ impl Left {
     }
 
     /// Does the command keep the rule on rows?
-    pub(crate) fn keeps_rows(&self, c: &Checked, x: &Command) -> bool
+    pub(crate) fn keeps_rows(&self, c: &CommandRules, x: &Command) -> bool
         ensures { (list : List Stamped) → IsLeftBy c.now.geometry self.now list
             → (IsTrue result ↔ KeepsRows c.now.geometry list x.now) }
     {
@@ -128,7 +128,7 @@ impl Left {
     }
 
     /// Does the command, whose place lies in the geometry, keep the rule on refreshes?
-    pub(crate) fn keeps_refresh(&self, c: &Checked, x: &Stamped) -> bool
+    pub(crate) fn keeps_refresh(&self, c: &CommandRules, x: &Stamped) -> bool
         requires { IsInGeometry c.now.geometry x.now.cmd }
         ensures { (list : List Stamped) → IsLeftBy c.now.geometry self.now list
             → (IsTrue result ↔ KeepsRefresh c.now.timing list x.now) }
@@ -141,7 +141,7 @@ impl Left {
     }
 
     // A command that names a bank of the geometry leaves this row in it.
-    fn put_row(&mut self, c: &Checked, at: BankAddress, row: Option<u64>)
+    fn put_row(&mut self, c: &CommandRules, at: BankAddress, row: Option<u64>)
         ensures rows { PutsRow c.now.geometry at row self.old self.new }
         ensures ranks { SameRanks self.old self.new }
     {
@@ -151,7 +151,7 @@ impl Left {
     }
 
     // A REF goes to a rank at a clock.
-    fn put_ref(&mut self, c: &Checked, rank: u64, clock: u64)
+    fn put_ref(&mut self, c: &CommandRules, rank: u64, clock: u64)
         ensures { PutsRef c.now.geometry rank clock self.old self.new }
     {
         if rank < c.geometry.ranks {
@@ -161,7 +161,7 @@ impl Left {
     }
 
     // A PREA goes to a rank.
-    fn close_all(&mut self, c: &Checked, rank: u64)
+    fn close_all(&mut self, c: &CommandRules, rank: u64)
         ensures rows { ClosesAll c.now.geometry rank self.old self.new }
         ensures ranks { SameRanks self.old self.new }
     {
@@ -171,7 +171,7 @@ impl Left {
     }
 
     // An SRE goes to a rank.
-    fn put_to_sleep(&mut self, c: &Checked, rank: u64)
+    fn put_to_sleep(&mut self, c: &CommandRules, rank: u64)
         ensures { PutsToSleep c.now.geometry rank self.old self.new }
     {
         if rank < c.geometry.ranks {
@@ -180,7 +180,7 @@ impl Left {
     }
 
     /// The command is issued, lawful or not.
-    pub(crate) fn take(&mut self, c: &Checked, x: &Stamped)
+    pub(crate) fn take(&mut self, c: &CommandRules, x: &Stamped)
         ensures { (list : List Stamped) → length list < 2 ^ 64 - 1
             → IsLeftBy c.now.geometry self.old list
             → IsLeftBy c.now.geometry self.new (list ++ x.now ∷ []) }

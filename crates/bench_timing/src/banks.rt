@@ -77,7 +77,7 @@ fn time_lists(rt: &HostRuntime, checked: &Checked, commands: &[Command]) -> anyh
     for length in [1_000, 10_000, 100_000] {
         let list = lawful(rt.alloc(), checked, commands, length)?;
         let start = Instant::now(rt)?;
-        let fault = first_fault(checked, &list);
+        let fault = first_fault(&checked.rules(), &list);
         let micros = start.elapsed(rt)?.as_micros();
         println!(rt;
             "{} commands, fault {}: {micros} microseconds",

@@ -35,8 +35,8 @@ fn lines(alloc: Global, commands: &[Stamped]) -> anyhow::Result<Vec<u8>> {
 fn is_lawful(alloc: Global, checked: &Checked, text: &[u8]) -> anyhow::Result<bool> {
     let form = Form::Lines { others: false };
     let mut reader = TraceReader::new(alloc, text, form, 1);
-    let check = check_trace(checked, &mut reader)?;
-    Ok(check.is_lawful(checked, 0))
+    let check = check_trace(&checked.rules(), &mut reader)?;
+    Ok(check.is_lawful(&checked.rules(), 0))
 }
 
 // How many a second.
@@ -53,7 +53,7 @@ fn measure(rt: &HostRuntime, name: &str, checked: &Checked, timed: bool) -> anyh
     let lawful = is_lawful(rt.alloc(), checked, &text)?;
     let checked_in = start.elapsed(rt)?.as_nanos();
     let start = Instant::now(rt)?;
-    let fault = first_fault(checked, &commands);
+    let fault = first_fault(&checked.rules(), &commands);
     let found_in = start.elapsed(rt)?.as_nanos();
     let last = commands.last().map_or(0, |command| command.clock);
     println!(rt;

@@ -5,7 +5,10 @@ ghost use Rattle.command_faults.specs.Exit.{IsNoProfile, IsOfFile, IsOfNoFile, I
 
 use crate::failure::{Failure, Reason};
 use crate::fault::Fault;
-use nv_profile::{MOST_BYTES, Profile, ProfileFault, read_profile, ready_profile};
+use ddr4_timing::timing::CommandRules;
+use nv_profile::{
+    MOST_BYTES, Numbers, Profile, ProfileFault, read_numbers, read_profile, ready_profile,
+};
 use profile_report::reasons;
 use std::alloc::{AllocError, Global};
 use std::fs::{self, File};
@@ -45,17 +48,39 @@ pub fn profile_of<'a, R: Files + AllocGlobal>(rt: &R, word: &'a str) -> Result<P
     }
 }
 
-/// The same for who asks what a profile means: the fault itself says why it is none.
-pub fn asked_profile<'a, R: Files + AllocGlobal>(
+/// The numbers by which commands alone are checked, by the word of a profile: `tiny`, `tiny2`, or a file of TOML, which is a
+/// profile or has its tables of the timing and of the geometry and no other.
+pub fn rules_of<'a, R: Files + AllocGlobal>(
     rt: &R,
     word: &'a str,
-) -> Result<Profile, Failure<'a>>
+) -> Result<CommandRules, Failure<'a>>
+    ensures ready { IsReadyWord word.entry.now
+        → IfErr result (λ failure. IsOfNoFile failure.fault) }
+    ensures file { IfErr result (λ failure. IsOfNoFile failure.fault
+        ⊎ IsOfFile word.entry failure.fault) }
+{
+    let text = profile_text(rt, word)?;
+    match read_numbers(rt.alloc(), &text) {
+        Ok(numbers) => Ok(numbers.rules()),
+        Err(ProfileFault::Refused) => Err(Failure {
+            fault: Fault::Profile,
+            reason: why_no_profile(rt.alloc(), &text).ok().map(Reason::Told),
+        }),
+        Err(ProfileFault::Memory) => Err(Failure::from(Fault::Memory)),
+    }
+}
+
+/// The same for who asks what numbers mean: the fault itself says why a text has none.
+pub fn asked_numbers<'a, R: Files + AllocGlobal>(
+    rt: &R,
+    word: &'a str,
+) -> Result<Numbers, Failure<'a>>
     ensures file { IfErr result (λ failure. IsNoProfile failure.fault
         ⊎ IsOfFile word.entry failure.fault) }
 {
     let text = profile_text(rt, word)?;
-    match read_profile(rt.alloc(), &text) {
-        Ok(profile) => Ok(profile),
+    match read_numbers(rt.alloc(), &text) {
+        Ok(numbers) => Ok(numbers),
         Err(ProfileFault::Refused) => {
             let why = why_no_profile(rt.alloc(), &text)?;
             Err(Failure::from(Fault::NoProfile(why)))

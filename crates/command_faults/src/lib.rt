@@ -7,4 +7,4 @@ mod files;
 
 pub use failure::{Failure, Reason};
 pub use fault::Fault;
-pub use files::{asked_profile, bytes_of, file_bytes, flush, is_file, profile_of};
+pub use files::{asked_numbers, bytes_of, file_bytes, flush, is_file, profile_of, rules_of};

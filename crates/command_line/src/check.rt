@@ -6,9 +6,9 @@ ghost use Rattle.command_faults.specs.declared.fault.Fault.TheVariants.{EmptyTra
 
 use crate::command::status_by;
 use clap::ArgMatches;
-use command_faults::{Failure, Fault, Reason, bytes_of, flush, is_file, profile_of};
+use command_faults::{Failure, Fault, Reason, bytes_of, flush, is_file, rules_of};
 use command_trace::{Source, TraceCheck, TraceFault};
-use ddr4_timing::timing::Checked;
+use ddr4_timing::timing::CommandRules;
 use report_json::{write_tallies, write_verdicts};
 use std::alloc::Global;
 use std::io::{Input, Write};
@@ -26,7 +26,7 @@ where
     R: Files + Input + AllocGlobal,
     W: Write,
 {
-    let profile = profile_of(rt, matches.get_str("PROFILE").unwrap_or("tiny"))?;
+    let rules = rules_of(rt, matches.get_str("PROFILE").unwrap_or("tiny"))?;
     let name = matches.get_str("TRACE").unwrap_or("-");
     let source = if name != "-" && is_file(rt, name)? {
         Source::File(name)
@@ -39,7 +39,7 @@ where
         is_json: matches.get_flag("json"),
         all: matches.get_flag("all"),
     };
-    match write_check(rt, &source, asked, &profile.checked, writer) {
+    match write_check(rt, &source, asked, &rules, writer) {
         Ok(checked) => {
             let code = checked?;
             flush(writer)?;
@@ -65,18 +65,18 @@ fn write_check<R: Files + AllocGlobal, W: Write>(
     rt: &R,
     source: &Source<'_>,
     asked: Asked,
-    checked: &Checked,
+    rules: &CommandRules,
     writer: &mut W,
 ) -> Result<Result<ExitCode, Failure<'static>>, TraceFault> {
     let form = source.form(rt, asked.others)?;
-    let check = source.check(rt, form, checked)?;
-    match verdict(&check, checked, asked.allows_empty) {
+    let check = source.check(rt, form, rules)?;
+    match verdict(&check, rules, asked.allows_empty) {
         Ok(code) => {
             match (asked.is_json, asked.all) {
-                (true, true) => write_tallies(rt, source, form, checked, &check, writer)?,
-                (true, false) => write_verdicts(rt, source, form, checked, &check, writer)?,
-                (false, true) => source.write_tallies(rt, form, checked, &check, writer)?,
-                (false, false) => source.write_verdicts(rt, form, checked, &check, writer)?,
+                (true, true) => write_tallies(rt, source, form, rules, &check, writer)?,
+                (true, false) => write_verdicts(rt, source, form, rules, &check, writer)?,
+                (false, true) => source.write_tallies(rt, form, rules, &check, writer)?,
+                (false, false) => source.write_verdicts(rt, form, rules, &check, writer)?,
             }
             Ok(Ok(code))
         }
@@ -93,11 +93,11 @@ fn write_check<R: Files + AllocGlobal, W: Write>(
 /// command is a fault, unless that is allowed.
 pub fn verdict(
     check: &TraceCheck,
-    checked: &Checked,
+    rules: &CommandRules,
     allows_empty: bool,
 ) -> Result<ExitCode, Fault<'static>>
-    ensures status { FollowsAll checked.now check.now → IfOk result (λ code.
-        (exit_status code ≡ 0) ↔ AreLawful checked.now check.now) }
+    ensures status { FollowsAll rules.now check.now → IfOk result (λ code.
+        (exit_status code ≡ 0) ↔ AreLawful rules.now check.now) }
     ensures some { check.now.given.items ≡ [] → allows_empty ≡ false
         → result ≡ Err EmptyTrace }
     ensures empty { IfErr result (λ fault. (fault ≡ EmptyTrace)
@@ -106,7 +106,7 @@ pub fn verdict(
     if check.is_empty() && !allows_empty {
         return Err(Fault::EmptyTrace);
     }
-    Ok(status_by(check.are_lawful(checked)))
+    Ok(status_by(check.are_lawful(rules)))
 }
 
 /// Why a trace of this name isn't read.

@@ -1,9 +1,10 @@
 // A schedule drawn: of a trace, or of the commands that a script's work prints.
 use crate::check::of_trace;
 use clap::ArgMatches;
-use command_faults::{Failure, Fault, bytes_of, profile_of};
+use command_faults::{Failure, Fault, bytes_of, profile_of, rules_of};
 use command_trace::{TraceFault, TraceReader, form_of};
 use crash_table::Trials;
+use ddr4_timing::timing::CommandRules;
 use nv_profile::Profile;
 use nv_script::{ScriptFault, read_script};
 use schedule_drawing::{
@@ -22,32 +23,6 @@ enum Picture {
     Vcd,
 }
 
-// Why there is no schedule.
-#[derive(Drop)]
-enum NoSchedule {
-    Script(ScriptFault),
-    Trace(TraceFault),
-    Memory,
-}
-
-impl From<AllocError> for NoSchedule {
-    fn from(_: AllocError) -> NoSchedule {
-        NoSchedule::Memory
-    }
-}
-
-impl From<ScriptFault> for NoSchedule {
-    fn from(fault: ScriptFault) -> NoSchedule {
-        NoSchedule::Script(fault)
-    }
-}
-
-impl From<TraceFault> for NoSchedule {
-    fn from(fault: TraceFault) -> NoSchedule {
-        NoSchedule::Trace(fault)
-    }
-}
-
 /// Draws the trace or the script that the words name, as each picture that they ask for: into a file, or to standard output.
 pub(crate) fn draw<'a, R, W>(
     rt: &R,
@@ -58,18 +33,10 @@ where
     R: Files + Input + AllocGlobal,
     W: Write,
 {
-    let profile = profile_of(rt, matches.get_str("PROFILE").unwrap_or("tiny"))?;
+    let word = matches.get_str("PROFILE").unwrap_or("tiny");
     let name = matches.get_str("SCHEDULE").unwrap_or("-");
     let bytes = bytes_of(rt, name, u64::MAX)?;
-    let mut schedule = match schedule_of(rt.alloc(), &profile, &bytes) {
-        Ok(schedule) => schedule,
-        Err(NoSchedule::Script(fault)) => {
-            let geometry = &profile.checked.geometry;
-            return Err(Failure::of_script(rt.alloc(), fault, &bytes, geometry));
-        }
-        Err(NoSchedule::Trace(fault)) => return Err(of_trace(rt.alloc(), name, fault)),
-        Err(NoSchedule::Memory) => return Err(Failure::from(Fault::Memory)),
-    };
+    let mut schedule = schedule_of(rt, word, name, &bytes)?;
     show_range(rt.alloc(), matches, &mut schedule)?;
     if let Some(name) = matches.get_str("svg") {
         put_picture(rt, &schedule, Picture::Svg, name, writer)?;
@@ -95,12 +62,27 @@ fn show_range(
 }
 
 // The schedule of a trace or of a script. The first line of a trace that is neither empty nor a comment begins with a digit or
-// has a comma.
-fn schedule_of(alloc: Global, profile: &Profile, bytes: &[u8]) -> Result<Schedule, NoSchedule> {
+// has a comma. A trace is drawn by the numbers for commands alone, a script by those of a profile.
+fn schedule_of<'a, R: Files + AllocGlobal>(
+    rt: &R,
+    word: &'a str,
+    name: &'a str,
+    bytes: &[u8],
+) -> Result<Schedule, Failure<'a>> {
     if is_trace(bytes) {
-        trace_schedule(alloc, profile, bytes)
-    } else {
-        script_schedule(alloc, profile, bytes)
+        let rules = rules_of(rt, word)?;
+        return match trace_schedule(rt.alloc(), &rules, bytes) {
+            Ok(schedule) => Ok(schedule),
+            Err(fault) => Err(of_trace(rt.alloc(), name, fault)),
+        };
+    }
+    let profile = profile_of(rt, word)?;
+    match script_schedule(rt.alloc(), &profile, bytes) {
+        Ok(schedule) => Ok(schedule),
+        Err(fault) => {
+            let geometry = &profile.checked.geometry;
+            Err(Failure::of_script(rt.alloc(), fault, bytes, geometry))
+        }
     }
 }
 
@@ -114,18 +96,26 @@ fn is_trace(bytes: &[u8]) -> bool {
     false
 }
 
-fn trace_schedule(alloc: Global, profile: &Profile, bytes: &[u8]) -> Result<Schedule, NoSchedule> {
-    let geometry = &profile.checked.geometry;
+fn trace_schedule(
+    alloc: Global,
+    rules: &CommandRules,
+    bytes: &[u8],
+) -> Result<Schedule, TraceFault> {
+    let geometry = &rules.geometry;
     let form = form_of(alloc, bytes, false)?;
     let mut reader = TraceReader::new(alloc, bytes, form, geometry.channels);
     let entries = read_entries(alloc, &mut reader, geometry)?;
     let mut schedule = Schedule::new(alloc);
-    schedule.add(alloc, &profile.checked.timing, 0, &entries)?;
-    schedule.flaws = flaws_of(alloc, &profile.checked, &entries)?;
+    schedule.add(alloc, &rules.timing, 0, &entries)?;
+    schedule.flaws = flaws_of(alloc, rules, &entries)?;
     Ok(schedule)
 }
 
-fn script_schedule(alloc: Global, profile: &Profile, bytes: &[u8]) -> Result<Schedule, NoSchedule> {
+fn script_schedule(
+    alloc: Global,
+    profile: &Profile,
+    bytes: &[u8],
+) -> Result<Schedule, ScriptFault> {
     let lines = read_script(alloc, bytes, &profile.checked.geometry)?;
     let answers = Trials::new(alloc, profile).answers(&lines)?;
     Ok(told_schedule(alloc, &profile.checked.timing, &answers)?)

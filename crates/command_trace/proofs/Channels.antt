@@ -5,7 +5,7 @@ use Rattle.std.proofs.lemmas.List.{get_or-set_same, get_or-set_other, map-append
 use Rattle.std.proofs.lemmas.List.Elements.{filter-append}
 use Rattle.std.proofs.lemmas.List.Sums.{take_while-cons}
 use Rattle.std.specs.List.{take_while}
-use Rattle.ddr4_timing.specs.declared.timing.Checked.{Checked}
+use Rattle.ddr4_timing.specs.declared.timing.CommandRules.{CommandRules}
 use Rattle.command_trace.specs.declared.diagnosis.Listed.{Listed}
 use Rattle.command_trace.specs.declared.entry.Located.{Located}
 use Rattle.command_trace.specs.declared.front.Front.{Front}
@@ -31,13 +31,13 @@ pub found_of-other : (channel : ℕ) (found : List Located) (x : Located) → x.
 found_of-other channel found x other = added channel found x [] (rw (apart x.entry.channel channel other) refl) ∙ append-nil _
 
 -- a front behind a command of its channel, among those of all channels
-pub follows_all : (c : Checked) (fronts : List Front) (found : List Located) (x : Located) (new : Front) → x.entry.channel < length fronts
-    → ((channel : ℕ) (none : Front) → channel < 8 → FollowsCommands c (slice_index_or fronts channel none) (found_of channel found))
-    → FollowsCommands c new (found_of x.entry.channel found ++ x ∷ [])
-    → (channel : ℕ) (none : Front) → channel < 8 → FollowsCommands c (slice_index_or (slice_set fronts x.entry.channel new) channel none) (found_of channel (found ++ x ∷ []))
-follows_all c fronts found x new within all one channel none below =
+pub follows_all : (r : CommandRules) (fronts : List Front) (found : List Located) (x : Located) (new : Front) → x.entry.channel < length fronts
+    → ((channel : ℕ) (none : Front) → channel < 8 → FollowsCommands r (slice_index_or fronts channel none) (found_of channel found))
+    → FollowsCommands r new (found_of x.entry.channel found ++ x ∷ [])
+    → (channel : ℕ) (none : Front) → channel < 8 → FollowsCommands r (slice_index_or (slice_set fronts x.entry.channel new) channel none) (found_of channel (found ++ x ∷ []))
+follows_all r fronts found x new within all one channel none below =
     elim (cases_eq x.entry.channel channel) [
-      | inl same ↦ subst (λ (n : ℕ). FollowsCommands c (get_or (set fronts x.entry.channel new) n none) (found_of n (found ++ x ∷ []))) same
+      | inl same ↦ subst (λ (n : ℕ). FollowsCommands r (get_or (set fronts x.entry.channel new) n none) (found_of n (found ++ x ∷ []))) same
           (rw (get_or-set_same fronts x.entry.channel new none within, found_of-at x.entry.channel found x refl) one)
       | inr other ↦ rw (get_or-set_other fronts x.entry.channel channel new none (λ s. other (sym s)), found_of-other channel found x other) (all channel none below)
     ]

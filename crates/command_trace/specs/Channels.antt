@@ -1,9 +1,9 @@
 -- The channels of a trace.
 use Rattle.std.specs.Prelude.{◌≡◌, ℕ, ◌<◌, ◌==◌, List, filter, map, nat_le, slice_index_or}
 use Rattle.std.specs.List.{take_while}
-use Rattle.ddr4_timing.specs.Lawful.{IsLawful}
+use Rattle.ddr4_timing.specs.Lawful.{IsLawfulBy}
 use Rattle.ddr4_timing.specs.declared.command.Stamped.{Stamped}
-use Rattle.ddr4_timing.specs.declared.timing.Checked.{Checked}
+use Rattle.ddr4_timing.specs.declared.timing.CommandRules.{CommandRules}
 use Rattle.command_trace.specs.declared.diagnosis.Listed.{Listed}
 use Rattle.command_trace.specs.declared.entry.Located.{Located}
 use Rattle.command_trace.specs.declared.front.Front.{Front}
@@ -28,11 +28,11 @@ Lists channel listed found =
     (listed.commands.items ≡ commands_of channel found) × (listed.lines.items ≡ map (λ l. l.line) (found_of channel found))
 
 -- each channel's front follows the commands of that channel
-abbrev pub FollowsAll : Checked → TraceCheck → Type 0
-FollowsAll c check =
+abbrev pub FollowsAll : CommandRules → TraceCheck → Type 0
+FollowsAll r check =
     (channel : ℕ) (none : Front) → channel < 8 →
-    FollowsCommands c (slice_index_or check.fronts channel none) (found_of channel check.given.items)
+    FollowsCommands r (slice_index_or check.fronts channel none) (found_of channel check.given.items)
 
 -- the commands of each channel of the geometry are lawful
-abbrev pub AreLawful : Checked → TraceCheck → Type 0
-AreLawful c check = (channel : ℕ) → channel < c.geometry.channels → IsLawful c (commands_of channel check.given.items)
+abbrev pub AreLawful : CommandRules → TraceCheck → Type 0
+AreLawful r check = (channel : ℕ) → channel < r.geometry.channels → IsLawfulBy r (commands_of channel check.given.items)

@@ -8,7 +8,7 @@ use Rattle.ddr4_timing.specs.declared.command.Command.TheVariants.{Act, Rd, Wr, 
 use Rattle.ddr4_timing.specs.declared.command.Stamped.{Stamped}
 use Rattle.ddr4_timing.specs.declared.rules.Rule.{Rule}
 use Rattle.ddr4_timing.specs.declared.rules.Rule.TheVariants as rules
-use Rattle.ddr4_timing.specs.declared.timing.Checked.{Checked}
+use Rattle.ddr4_timing.specs.declared.timing.CommandRules.{CommandRules}
 use Rattle.ddr4_timing.specs.declared.timing.Geometry.{Geometry}
 use Rattle.ddr4_timing.specs.declared.timing.Timing.{Timing}
 use Rattle.command_trace.specs.declared.asked.Asked.{Asked}
@@ -44,15 +44,15 @@ abbrev pub next_ref : List Stamped → Command → ℕ
 next_ref before x = ref_count (rank_of x) before + 1
 
 -- the reason of a rule, of the command b and, where the rule is on two, of the earlier command a
-abbrev pub IsReasonOf : Checked → Rule → List Stamped → Stamped → Stamped → Reason → Type 0
-IsReasonOf c rule before a b (why.Order first second) =
+abbrev pub IsReasonOf : CommandRules → Rule → List Stamped → Stamped → Stamped → Reason → Type 0
+IsReasonOf r rule before a b (why.Order first second) =
     (rule ≡ rules.Order) × (first ≡ a.clock) × (second ≡ b.clock)
-IsReasonOf c rule before a b (why.Gap of asked first second) =
-    (of ≡ rule) × Asks c.timing rule a.cmd b.cmd asked × (first ≡ a) × (second ≡ b)
-IsReasonOf c rule before a b (why.Rows command wanted) =
-    (rule ≡ rules.Rows) × (command ≡ b.cmd) × IsWanted c.geometry before b.cmd wanted.now
-IsReasonOf c rule before a b (why.Late most passed) =
-    (rule ≡ rules.Refi) × (most ≡ 9 * c.timing.t_refi) × (passed ≡ since_ref before b) × (most < passed)
-IsReasonOf c rule before a b (why.Early count least clock) =
+IsReasonOf r rule before a b (why.Gap of asked first second) =
+    (of ≡ rule) × Asks r.timing rule a.cmd b.cmd asked × (first ≡ a) × (second ≡ b)
+IsReasonOf r rule before a b (why.Rows command wanted) =
+    (rule ≡ rules.Rows) × (command ≡ b.cmd) × IsWanted r.geometry before b.cmd wanted.now
+IsReasonOf r rule before a b (why.Late most passed) =
+    (rule ≡ rules.Refi) × (most ≡ 9 * r.timing.t_refi) × (passed ≡ since_ref before b) × (most < passed)
+IsReasonOf r rule before a b (why.Early count least clock) =
     (rule ≡ rules.Refi) × (count ≡ next_ref before b.cmd) × (clock ≡ b.clock)
-    × (count * c.timing.t_refi < 2 ^ 64 → least ≡ count * c.timing.t_refi)
+    × (count * r.timing.t_refi < 2 ^ 64 → least ≡ count * r.timing.t_refi)

@@ -4,7 +4,7 @@ use Rattle.std.specs.Option.{option_map, option_to_list}
 use Rattle.ddr4_timing.specs.declared.command.Stamped.{Stamped}
 use Rattle.ddr4_timing.specs.declared.fault.Fault.{Fault}
 use Rattle.ddr4_timing.specs.declared.rules.Rule.{Rule}
-use Rattle.ddr4_timing.specs.declared.timing.Checked.{Checked}
+use Rattle.ddr4_timing.specs.declared.timing.CommandRules.{CommandRules}
 use Rattle.ddr4_timing.specs.Rules.{every_rule, rule_number}
 use Rattle.all_faults.specs.Faults.{AreFaultsOf}
 use Rattle.command_trace.specs.declared.tally.Tally.{Tally}
@@ -24,7 +24,7 @@ abbrev pub AddsTally : List Fault → Rule → List Tally → List Tally → Typ
 AddsTally faults rule old new = map tally_told new ≡ map tally_told old ++ option_to_list (rule_told faults rule)
 
 -- what is told is of the faults of the list, rule by rule
-pub record AreTallies (c : Checked) (list : List Stamped) (tallies : List Tally) : Type 0 where
+pub record AreTallies (rules : CommandRules) (list : List Stamped) (tallies : List Tally) : Type 0 where
   pub faults : List Fault
-  pub are : AreFaultsOf c list faults
+  pub are : AreFaultsOf rules list faults
   pub told : map tally_told tallies ≡ filter_map (rule_told faults) every_rule

@@ -1,6 +1,6 @@
 // The check of a trace, and the least fault of a channel.
 ghost use Rattle.std.specs.Prelude.{◌≡◌, ℕ, [], ◌∷◌, ◌++◌, ◌≤◌, ◌<◌, ◌↔◌, List, length, slice_get, slice_index, take, Some, IfOk, OnOk, IfSome, IsNone};
-ghost use Rattle.ddr4_timing.specs.Lawful.{IsLawful, IsLeastFault};
+ghost use Rattle.ddr4_timing.specs.Lawful.{IsLawfulBy, IsLeastFault};
 ghost use Rattle.command_trace.specs.Channels.{FollowsAll, Lists, found_up_to};
 ghost use Rattle.command_trace.specs.Reasons.{IsReasonOf};
 ghost use Rattle.command_trace.specs.declared.entry.Located.{Located};
@@ -11,28 +11,28 @@ use crate::reason::Reason;
 use crate::trace_check::TraceCheck;
 use ddr4_timing::command::Stamped;
 use ddr4_timing::fault::{Fault, first_fault};
-use ddr4_timing::timing::Checked;
+use ddr4_timing::timing::CommandRules;
 use std::alloc::{AllocError, Global};
 use std::fmt;
 use std::io::Read;
 
 /// Reads a trace to its end, and checks the commands of each channel. Takes the same memory for each trace.
 pub fn check_trace<R: Read + Drop>(
-    checked: &Checked,
+    rules: &CommandRules,
     reader: &mut TraceReader<R>,
 ) -> Result<TraceCheck, TraceFault>
     requires channels { reader.old.channels ≤ 8 }
     requires fresh { reader.old.given.items ≡ [] }
-    ensures follows { IfOk result (FollowsAll checked.now) }
+    ensures follows { IfOk result (FollowsAll rules.now) }
     ensures whole { IfOk result (λ check. check.given.items ≡ reader.new.given.items) }
 {
-    let mut check = TraceCheck::new(checked);
+    let mut check = TraceCheck::new(rules);
     for _ in 0..u64::MAX {
         let Some(found) = reader.next()? else {
             break;
         };
         // `is_lawful` and `are_lawful` of the check answer it in the end
-        let _lawful = check.take(checked, &found);
+        let _lawful = check.take(rules, &found);
     }
     Ok(check)
 }
@@ -139,7 +139,7 @@ fn command_at(commands: &[Stamped], lines: &[u64], index: usize) -> Numbered
 
 /// A fault of a list of commands, which stand in the lines, with its two commands and why.
 pub(crate) fn told_at(
-    checked: &Checked,
+    rules: &CommandRules,
     commands: &[Stamped],
     lines: &[u64],
     fault: Fault,
@@ -151,13 +151,13 @@ pub(crate) fn told_at(
     ensures second { slice_get commands.now fault.second ≡ Some result.second.command }
     ensures first_line { result.first.line ≡ slice_index lines.now fault.first }
     ensures second_line { result.second.line ≡ slice_index lines.now fault.second }
-    ensures reason { IsReasonOf checked.now fault.rule
+    ensures reason { IsReasonOf rules.now fault.rule
         (take fault.second commands.now) result.first.command result.second.command result.reason }
 {
     let first = command_at(commands, lines, fault.first);
     let second = command_at(commands, lines, fault.second);
     let before = &commands[..fault.second];
-    let reason = Reason::of(checked, fault.rule, before, &first.command, &second.command);
+    let reason = Reason::of(rules, fault.rule, before, &first.command, &second.command);
     Diagnosis {
         fault,
         first,
@@ -169,9 +169,10 @@ pub(crate) fn told_at(
 /// The least fault of a list of commands, which stand in the lines, and why it is one; none of a lawful list.
 ///
 /// Linear in a lawful list; of another one, those up to the fault are then compared with its command.
-pub fn diagnose(checked: &Checked, commands: &[Stamped], lines: &[u64]) -> Option<Diagnosis>
-    ensures lawful { IsNone result ↔ IsLawful checked.now commands.now }
-    ensures least { IfSome result (λ d. IsLeastFault checked.now commands.now d.fault) }
+pub fn diagnose(rules: &CommandRules, commands: &[Stamped], lines: &[u64]) -> Option<Diagnosis>
+    ensures lawful { IsNone result ↔ IsLawfulBy rules.now commands.now }
+    ensures least { IfSome result (λ d.
+        IsLeastFault rules.now.timing rules.now.geometry commands.now d.fault) }
     ensures first { IfSome result (λ d.
         slice_get commands.now d.fault.first ≡ Some d.first.command) }
     ensures second { IfSome result (λ d.
@@ -179,13 +180,13 @@ pub fn diagnose(checked: &Checked, commands: &[Stamped], lines: &[u64]) -> Optio
     ensures first_line { IfSome result (λ d. d.first.line ≡ slice_index lines.now d.fault.first) }
     ensures second_line { IfSome result (λ d.
         d.second.line ≡ slice_index lines.now d.fault.second) }
-    ensures reason { IfSome result (λ d. IsReasonOf checked.now d.fault.rule
+    ensures reason { IfSome result (λ d. IsReasonOf rules.now d.fault.rule
         (take d.fault.second commands.now) d.first.command d.second.command d.reason) }
 {
-    let Some(fault) = first_fault(checked, commands) else {
+    let Some(fault) = first_fault(rules, commands) else {
         return None;
     };
-    Some(told_at(checked, commands, lines, fault))
+    Some(told_at(rules, commands, lines, fault))
 }
 
 impl From<AllocError> for TraceFault {

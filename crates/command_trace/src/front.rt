@@ -1,12 +1,12 @@
 // Whether the commands of a channel are lawful, in a constant size.
 ghost use Rattle.std.specs.Prelude.{◌≡◌, ◌<◌, ◌^◌, ◌-◌, ◌↔◌, IsTrue, List, [], ◌∷◌, ◌++◌, length, min};
-ghost use Rattle.ddr4_timing.specs.Lawful.{IsLawful};
+ghost use Rattle.ddr4_timing.specs.Lawful.{IsLawfulBy};
 ghost use Rattle.command_trace.specs.declared.entry.Located.{Located};
 ghost use Rattle.command_trace.specs.Following.{FollowsCommands, IsFirstFault, commands_in};
 
 use crate::entry::Located;
 use ddr4_timing::command::Stamped;
-use ddr4_timing::timing::Checked;
+use ddr4_timing::timing::CommandRules;
 use ddr4_timing::timing_state::TimingState;
 
 /// Whether the commands that came are lawful, and what they leave to the next one while they are. How many they are, and the
@@ -23,11 +23,11 @@ pub struct Front {
 
 impl Front {
     /// Before any command.
-    pub fn new(checked: &Checked) -> Front
-        ensures { FollowsCommands checked.now result [] }
+    pub fn new(rules: &CommandRules) -> Front
+        ensures { FollowsCommands rules.now result [] }
     {
         Front {
-            state: TimingState::new(checked),
+            state: TimingState::new(&rules.timing, &rules.geometry),
             is_lawful: true,
             count: 0,
             line: 0,
@@ -35,40 +35,42 @@ impl Front {
     }
 
     /// Takes the next command. Answers whether all commands until now are lawful.
-    pub fn take(&mut self, checked: &Checked, next: &Located) -> bool
+    pub fn take(&mut self, rules: &CommandRules, next: &Located) -> bool
         requires { next.now.entry.command.clock < 2 ^ 63 }
-        ensures follows { (found : List Located) → FollowsCommands checked.now self.old found →
-            FollowsCommands checked.now self.new (found ++ next.now ∷ []) }
-        ensures lawful { (found : List Located) → FollowsCommands checked.now self.old found →
-            (IsTrue result ↔ IsLawful checked.now (commands_in (found ++ next.now ∷ []))) }
+        ensures follows { (found : List Located) → FollowsCommands rules.now self.old found →
+            FollowsCommands rules.now self.new (found ++ next.now ∷ []) }
+        ensures lawful { (found : List Located) → FollowsCommands rules.now self.old found →
+            (IsTrue result ↔ IsLawfulBy rules.now (commands_in (found ++ next.now ∷ []))) }
     {
         self.count = self.count.saturating_add(1);
         if !self.is_lawful {
             return false;
         }
         let Stamped { clock, cmd } = next.entry.command;
-        if !self.state.ready(checked, &cmd, clock) {
+        let t = &rules.timing;
+        let g = &rules.geometry;
+        if !self.state.ready(t, g, &cmd, clock) {
             self.is_lawful = false;
             self.line = next.line;
             return false;
         }
-        self.state.issue(checked, &cmd, clock);
+        self.state.issue(t, g, &cmd, clock);
         true
     }
 
     /// Are the commands that came lawful?
     pub fn is_lawful(&self) -> bool
-        ensures { (checked : Checked) (found : List Located) →
-            FollowsCommands checked self.now found →
-            (IsTrue result ↔ IsLawful checked (commands_in found)) }
+        ensures { (rules : CommandRules) (found : List Located) →
+            FollowsCommands rules self.now found →
+            (IsTrue result ↔ IsLawfulBy rules (commands_in found)) }
     {
         self.is_lawful
     }
 
     /// How many commands came.
     pub fn count(&self) -> u64
-        ensures { (checked : Checked) (found : List Located) →
-            FollowsCommands checked self.now found →
+        ensures { (rules : CommandRules) (found : List Located) →
+            FollowsCommands rules self.now found →
             result ≡ min (length found) (2 ^ 64 - 1) }
     {
         self.count
@@ -76,12 +78,12 @@ impl Front {
 
     /// The line of the first command that isn't lawful behind those before it; 0 where all are.
     pub fn line(&self) -> u64
-        ensures none { (checked : Checked) (found : List Located) →
-            FollowsCommands checked self.now found → IsLawful checked (commands_in found) →
+        ensures none { (rules : CommandRules) (found : List Located) →
+            FollowsCommands rules self.now found → IsLawfulBy rules (commands_in found) →
             result ≡ 0 }
-        ensures first { (checked : Checked) (found : List Located) →
-            FollowsCommands checked self.now found → ¬ IsLawful checked (commands_in found) →
-            IsFirstFault checked found result }
+        ensures first { (rules : CommandRules) (found : List Located) →
+            FollowsCommands rules self.now found → ¬ IsLawfulBy rules (commands_in found) →
+            IsFirstFault rules found result }
     {
         self.line
     }

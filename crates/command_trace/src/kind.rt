@@ -50,11 +50,11 @@ impl Kind {
             Some(Kind::Wr)
         } else if is_either("PRE", "PRECHARGE", name) {
             Some(Kind::Pre)
-        } else if "PREA".eq_ignore_ascii_case(name) {
+        } else if is_either("PREA", "PREAB", name) {
             Some(Kind::PreAll)
-        } else if is_either("REF", "REFRESH", name) {
+        } else if is_any("REF", "REFRESH", "REFAB", name) {
             Some(Kind::Ref)
-        } else if is_either("SRE", "SREF_ENTER", name) {
+        } else if is_any("SRE", "SREF_ENTER", "SELF_REFRESH_ENTER", name) {
             Some(Kind::Sre)
         } else {
             None
@@ -132,6 +132,14 @@ fn is_either(short: &str, long: &str, name: &str) -> bool
     ensures { IsTrue result ↔ (IsWord short.now name.now ⊎ IsWord long.now name.now) }
 {
     short.eq_ignore_ascii_case(name) || long.eq_ignore_ascii_case(name)
+}
+
+// Is the name one of three words, in any case?
+fn is_any(short: &str, long: &str, other: &str, name: &str) -> bool
+    ensures { IsTrue result ↔ (IsWord short.now name.now ⊎ IsWord long.now name.now
+        ⊎ IsWord other.now name.now) }
+{
+    is_either(short, long, name) || other.eq_ignore_ascii_case(name)
 }
 
 fn bank_of(rank: &u64, group: &u64, bank: &u64) -> BankAddress

@@ -9,7 +9,7 @@ use crate::asked::Asked;
 use crate::kind::name_of;
 use ddr4_timing::command::{Command, Stamped};
 use ddr4_timing::rules::Rule;
-use ddr4_timing::timing::{Checked, Geometry};
+use ddr4_timing::timing::{CommandRules, Geometry};
 use std::fmt;
 
 /// What a rule asks of a command, and what it found.
@@ -180,17 +180,17 @@ fn ref_count(rank: u64, before: &[Stamped]) -> usize
 impl Reason {
     // What a command that breaks the rule on refreshes lacks.
     fn of_refresh(
-        checked: &Checked,
+        rules: &CommandRules,
         before: &[Stamped],
         first: &Stamped,
         second: &Stamped,
     ) -> Reason
-        ensures { IsReasonOf checked.now Refi before.now first.now second.now result }
+        ensures { IsReasonOf rules.now Refi before.now first.now second.now result }
     {
         // the earlier command says nothing here
         let _first = first;
         let rank = second.cmd.rank();
-        let most = 9 * checked.timing.t_refi;
+        let most = 9 * rules.timing.t_refi;
         let passed = second.clock.saturating_sub(last_ref(rank, before));
         if passed > most {
             return Reason::Late { most, passed };
@@ -198,7 +198,7 @@ impl Reason {
         let count = ref_count(rank, before) as u64 + 1;
         Reason::Early {
             count,
-            least: count.saturating_mul(checked.timing.t_refi),
+            least: count.saturating_mul(rules.timing.t_refi),
             clock: second.clock,
         }
     }
@@ -206,13 +206,13 @@ impl Reason {
     /// Why the rule doesn't hold of the command `second`, which stands behind the lawful commands `before`, and of the earlier
     /// command `first`, where the rule is on two.
     pub fn of(
-        checked: &Checked,
+        rules: &CommandRules,
         rule: Rule,
         before: &[Stamped],
         first: &Stamped,
         second: &Stamped,
     ) -> Reason
-        ensures { IsReasonOf checked.now rule before.now first.now second.now result }
+        ensures { IsReasonOf rules.now rule before.now first.now second.now result }
     {
         match rule {
             Rule::Order => Reason::Order {
@@ -221,12 +221,12 @@ impl Reason {
             },
             Rule::Rows => Reason::Rows {
                 command: second.cmd,
-                wanted: wanted(&checked.geometry, before, &second.cmd),
+                wanted: wanted(&rules.geometry, before, &second.cmd),
             },
-            Rule::Refi => Reason::of_refresh(checked, before, first, second),
+            Rule::Refi => Reason::of_refresh(rules, before, first, second),
             _ => Reason::Gap {
                 rule,
-                asked: Asked::of(&checked.timing, rule, &first.cmd, &second.cmd),
+                asked: Asked::of(&rules.timing, rule, &first.cmd, &second.cmd),
                 first: *first,
                 second: *second,
             },

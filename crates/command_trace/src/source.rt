@@ -1,6 +1,6 @@
 // The check of a file's trace, written.
 ghost use Rattle.std.specs.Prelude.{◌<◌, ◌↔◌, IfOk, IsNone};
-ghost use Rattle.ddr4_timing.specs.Lawful.{IsLawful};
+ghost use Rattle.ddr4_timing.specs.Lawful.{IsLawfulBy};
 ghost use Rattle.command_trace.specs.Channels.{FollowsAll, commands_of};
 ghost use Rattle.command_trace.specs.Reading.{IsFormWith};
 
@@ -8,7 +8,7 @@ use crate::diagnosis::{Diagnosis, Listed, check_trace, diagnose, list_commands};
 use crate::reading::{Form, TraceFault, TraceReader, form_of};
 use crate::tally::{Tally, tallies};
 use crate::trace_check::{MOST_CHANNELS, TraceCheck};
-use ddr4_timing::timing::Checked;
+use ddr4_timing::timing::CommandRules;
 use std::alloc::Global;
 use std::fs::File;
 use std::io::{self, Read, Write};
@@ -40,13 +40,13 @@ impl Source<'_> {
         &self,
         rt: &R,
         form: Form,
-        checked: &Checked,
+        rules: &CommandRules,
     ) -> Result<TraceCheck, TraceFault>
-        ensures { IfOk result (FollowsAll checked.now) }
+        ensures { IfOk result (FollowsAll rules.now) }
     {
         match self {
-            Source::File(name) => check_of(rt.alloc(), open(rt, name)?, form, checked),
-            Source::Bytes(bytes) => check_of(rt.alloc(), bytes.as_slice(), form, checked),
+            Source::File(name) => check_of(rt.alloc(), open(rt, name)?, form, rules),
+            Source::Bytes(bytes) => check_of(rt.alloc(), bytes.as_slice(), form, rules),
         }
     }
 
@@ -70,19 +70,19 @@ impl Source<'_> {
         &self,
         rt: &R,
         form: Form,
-        checked: &Checked,
+        rules: &CommandRules,
         check: &TraceCheck,
         channel: u64,
     ) -> Result<Option<Diagnosis>, TraceFault>
         requires { channel < MOST_CHANNELS }
-        ensures { FollowsAll checked.now check.now → IfOk result (λ found. IsNone found
-            ↔ IsLawful checked.now (commands_of channel check.now.given.items)) }
+        ensures { FollowsAll rules.now check.now → IfOk result (λ found. IsNone found
+            ↔ IsLawfulBy rules.now (commands_of channel check.now.given.items)) }
     {
-        if check.is_lawful(checked, channel) {
+        if check.is_lawful(rules, channel) {
             return Ok(None);
         }
         let listed = self.list(rt, form, channel, check.line(channel))?;
-        match diagnose(checked, &listed.commands, &listed.lines) {
+        match diagnose(rules, &listed.commands, &listed.lines) {
             Some(found) => Ok(Some(found)),
             // the file isn't what it was
             None => Err(TraceFault::Reader),
@@ -95,12 +95,12 @@ impl Source<'_> {
         &self,
         rt: &R,
         form: Form,
-        checked: &Checked,
+        rules: &CommandRules,
         check: &TraceCheck,
         writer: &mut W,
     ) -> Result<(), TraceFault> {
-        for channel in 0..checked.geometry.channels {
-            let found = self.diagnosis(rt, form, checked, check, channel)?;
+        for channel in 0..rules.geometry.channels {
+            let found = self.diagnosis(rt, form, rules, check, channel)?;
             write_verdict(channel, check.count(channel), found, writer)?;
         }
         Ok(())
@@ -112,17 +112,17 @@ impl Source<'_> {
         &self,
         rt: &R,
         form: Form,
-        checked: &Checked,
+        rules: &CommandRules,
         check: &TraceCheck,
         writer: &mut W,
     ) -> Result<(), TraceFault> {
-        let channels = checked.geometry.channels;
+        let channels = rules.geometry.channels;
         for channel in 0..channels {
-            if check.is_lawful(checked, channel) {
+            if check.is_lawful(rules, channel) {
                 write_verdict(channel, check.count(channel), None, writer)?;
                 continue;
             }
-            let tallies = self.tallies(rt, form, checked, channel)?;
+            let tallies = self.tallies(rt, form, rules, channel)?;
             write_channel(channel, &tallies, writer)?;
         }
         Ok(())
@@ -133,11 +133,11 @@ impl Source<'_> {
         &self,
         rt: &R,
         form: Form,
-        checked: &Checked,
+        rules: &CommandRules,
         channel: u64,
     ) -> Result<Vec<Tally>, TraceFault> {
         let listed = self.list(rt, form, channel, u64::MAX)?;
-        Ok(tallies(rt.alloc(), checked, &listed)?)
+        Ok(tallies(rt.alloc(), rules, &listed)?)
     }
 }
 
@@ -179,12 +179,12 @@ fn check_of<S: Read + Drop>(
     alloc: Global,
     trace: S,
     form: Form,
-    checked: &Checked,
+    rules: &CommandRules,
 ) -> Result<TraceCheck, TraceFault>
-    ensures { IfOk result (FollowsAll checked.now) }
+    ensures { IfOk result (FollowsAll rules.now) }
 {
-    let mut reader = TraceReader::new(alloc, trace, form, checked.geometry.channels);
-    check_trace(checked, &mut reader)
+    let mut reader = TraceReader::new(alloc, trace, form, rules.geometry.channels);
+    check_trace(rules, &mut reader)
 }
 
 fn list_of<S: Read + Drop>(

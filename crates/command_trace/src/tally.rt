@@ -7,7 +7,7 @@ use crate::diagnosis::{Diagnosis, Listed, told_at};
 use all_faults::{all_faults, count_of_rule, first_of_rule};
 use ddr4_timing::fault::Fault;
 use ddr4_timing::rules::Rule;
-use ddr4_timing::timing::Checked;
+use ddr4_timing::timing::CommandRules;
 use std::alloc::{AllocError, Global};
 use std::fmt;
 
@@ -27,32 +27,36 @@ impl fmt::Display for Tally {
 // Takes in a rule, where one of the faults is of it.
 fn add_tally(
     tallies: &mut Vec<Tally>,
-    checked: &Checked,
+    rules: &CommandRules,
     listed: &Listed,
     faults: &[Fault],
     rule: Rule,
 ) -> Result<(), AllocError>
-    requires { AreFaultsOf checked.now listed.now.commands.items faults.now }
+    requires { AreFaultsOf rules.now listed.now.commands.items faults.now }
     ensures { OnOk result (AddsTally faults.now rule tallies.old.items tallies.new.items) }
 {
     let Some(first) = first_of_rule(faults, rule) else {
         return Ok(());
     };
-    let first = told_at(checked, &listed.commands, &listed.lines, first);
+    let first = told_at(rules, &listed.commands, &listed.lines, first);
     let count = count_of_rule(faults, rule);
     tallies.push(Tally { count, first })?;
     Ok(())
 }
 
 /// The rules that the commands of a list break, in their order: of each how many commands do, and the first of them.
-pub fn tallies(alloc: Global, checked: &Checked, listed: &Listed) -> Result<Vec<Tally>, AllocError>
+pub fn tallies(
+    alloc: Global,
+    rules: &CommandRules,
+    listed: &Listed,
+) -> Result<Vec<Tally>, AllocError>
     ensures { IfOk result (λ tallies.
-        AreTallies checked.now listed.now.commands.items tallies.items) }
+        AreTallies rules.now listed.now.commands.items tallies.items) }
 {
-    let faults = all_faults(alloc, checked, &listed.commands)?;
+    let faults = all_faults(alloc, rules, &listed.commands)?;
     let mut tallies = Vec::new(alloc);
     for rule in Rule::ALL {
-        add_tally(&mut tallies, checked, listed, &faults, rule)?;
+        add_tally(&mut tallies, rules, listed, &faults, rule)?;
     }
     Ok(tallies)
 }

@@ -3,7 +3,7 @@ ghost use Rattle.std.specs.Prelude.{◌≡◌, ◌<◌, ◌^◌, ◌-◌, ◌↔
 
 use crate::entry::Located;
 use crate::front::Front;
-use ddr4_timing::timing::Checked;
+use ddr4_timing::timing::CommandRules;
 use ghost_trace::Trace;
 
 /// No geometry has more channels.
@@ -22,33 +22,33 @@ pub struct TraceCheck {
 }
 
 impl TraceCheck {
-    ghost use Rattle.ddr4_timing.specs.Lawful.{IsLawful};
+    ghost use Rattle.ddr4_timing.specs.Lawful.{IsLawfulBy};
     ghost use Rattle.command_trace.specs.Channels.{AreLawful, FollowsAll, commands_of, found_of};
     ghost use Rattle.command_trace.specs.Following.{IsFirstFault};
 
     /// Before any command.
-    pub fn new(checked: &Checked) -> TraceCheck
+    pub fn new(rules: &CommandRules) -> TraceCheck
         ensures empty { result.given.items ≡ [] }
-        ensures follows { FollowsAll checked.now result }
+        ensures follows { FollowsAll rules.now result }
     {
         TraceCheck {
-            fronts: [Front::new(checked); 8],
+            fronts: [Front::new(rules); 8],
             is_empty: true,
             given: Trace::new(),
         }
     }
 
     /// Takes the next command. Answers whether all commands of its channel are lawful until now.
-    pub fn take(&mut self, checked: &Checked, next: &Located) -> bool
+    pub fn take(&mut self, rules: &CommandRules, next: &Located) -> bool
         requires channel { next.now.entry.channel < MOST_CHANNELS }
         requires clock { next.now.entry.command.clock < 2 ^ 63 }
         ensures adds { self.new.given.items ≡ self.old.given.items ++ next.now ∷ [] }
-        ensures follows { FollowsAll checked.now self.old → FollowsAll checked.now self.new }
-        ensures lawful { FollowsAll checked.now self.old → (IsTrue result
-            ↔ IsLawful checked.now (commands_of next.now.entry.channel self.new.given.items)) }
+        ensures follows { FollowsAll rules.now self.old → FollowsAll rules.now self.new }
+        ensures lawful { FollowsAll rules.now self.old → (IsTrue result
+            ↔ IsLawfulBy rules.now (commands_of next.now.entry.channel self.new.given.items)) }
     {
         let channel = next.entry.channel as usize;
-        let is_lawful = self.fronts[channel].take(checked, next);
+        let is_lawful = self.fronts[channel].take(rules, next);
         self.given.note(next);
         self.is_empty = false;
         is_lawful
@@ -62,23 +62,23 @@ impl TraceCheck {
     }
 
     /// Are the commands of the channel lawful?
-    pub fn is_lawful(&self, checked: &Checked, channel: u64) -> bool
+    pub fn is_lawful(&self, rules: &CommandRules, channel: u64) -> bool
         requires { channel < MOST_CHANNELS }
-        ensures { FollowsAll checked.now self.now → (IsTrue result
-            ↔ IsLawful checked.now (commands_of channel self.now.given.items)) }
+        ensures { FollowsAll rules.now self.now → (IsTrue result
+            ↔ IsLawfulBy rules.now (commands_of channel self.now.given.items)) }
     {
         // the contract is of this profile, and the fronts know it already
-        let _of = checked;
+        let _of = rules;
         self.fronts[channel as usize].is_lawful()
     }
 
     /// Are the commands of every channel lawful?
-    pub fn are_lawful(&self, checked: &Checked) -> bool
-        ensures { FollowsAll checked.now self.now
-            → (IsTrue result ↔ AreLawful checked.now self.now) }
+    pub fn are_lawful(&self, rules: &CommandRules) -> bool
+        ensures { FollowsAll rules.now self.now
+            → (IsTrue result ↔ AreLawful rules.now self.now) }
     {
-        for channel in 0..checked.geometry.channels {
-            if !self.is_lawful(checked, channel) {
+        for channel in 0..rules.geometry.channels {
+            if !self.is_lawful(rules, channel) {
                 return false;
             }
         }
@@ -88,7 +88,7 @@ impl TraceCheck {
     /// How many commands the channel has.
     pub fn count(&self, channel: u64) -> u64
         requires { channel < MOST_CHANNELS }
-        ensures { (checked : Checked) → FollowsAll checked self.now
+        ensures { (rules : CommandRules) → FollowsAll rules self.now
             → result ≡ min (length (found_of channel self.now.given.items)) (2 ^ 64 - 1) }
     {
         self.fronts[channel as usize].count()
@@ -97,11 +97,11 @@ impl TraceCheck {
     /// The line of the first command of the channel that isn't lawful behind those before it; 0 where all are.
     pub fn line(&self, channel: u64) -> u64
         requires { channel < MOST_CHANNELS }
-        ensures none { (checked : Checked) → FollowsAll checked self.now
-            → IsLawful checked (commands_of channel self.now.given.items) → result ≡ 0 }
-        ensures first { (checked : Checked) → FollowsAll checked self.now
-            → ¬ IsLawful checked (commands_of channel self.now.given.items)
-            → IsFirstFault checked (found_of channel self.now.given.items) result }
+        ensures none { (rules : CommandRules) → FollowsAll rules self.now
+            → IsLawfulBy rules (commands_of channel self.now.given.items) → result ≡ 0 }
+        ensures first { (rules : CommandRules) → FollowsAll rules self.now
+            → ¬ IsLawfulBy rules (commands_of channel self.now.given.items)
+            → IsFirstFault rules (found_of channel self.now.given.items) result }
     {
         self.fronts[channel as usize].line()
     }

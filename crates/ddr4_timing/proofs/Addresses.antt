@@ -1,6 +1,6 @@
 -- Banks are the same where their numbers are.
 use Rattle.std.proofs.Common.{◌≡◌, ℕ, ◌<◌, ap, ◌∙◌, arith}
-use Rattle.ddr4_timing.proofs.Common.{Act, BankAddress, Command, Geometry, HasBank, HasSlot, IsInGeometry, IsSmall, rank_of, slot_of}
+use Rattle.ddr4_timing.proofs.Common.{Act, BankAddress, Command, Geometry, HasBank, HasFewBanks, HasSlot, IsInGeometry, IsSmall, rank_of, slot_of}
 
 pub same_address : (a b : BankAddress) → a.rank ≡ b.rank → a.group ≡ b.group → a.bank ≡ b.bank → a ≡ b
 same_address a b rank group bank =
@@ -10,6 +10,12 @@ same_address a b rank group bank =
 
 pub has_slot : (g : Geometry) (at : BankAddress) → IsSmall g → HasBank g at → HasSlot at
 has_slot g at small h = record { group = omega arith; bank = omega arith }
+
+pub has_room : (g : Geometry) (at : BankAddress) → HasFewBanks g → HasBank g at → HasSlot at
+has_room g at few h = record { group = omega arith; bank = omega arith }
+
+pub few_of_small : (g : Geometry) → IsSmall g → HasFewBanks g
+few_of_small g small = record { ranks = omega arith; groups = small.groups; banks = small.banks }
 
 pub slot_small : (at : BankAddress) → HasSlot at → slot_of at < 16
 slot_small at h = omega arith

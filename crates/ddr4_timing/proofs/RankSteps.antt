@@ -5,8 +5,8 @@ use Rattle.std.proofs.lemmas.Bool.{cases_eq, cases_Bool, eq-eqb, ne_eqb, and_rig
 use Rattle.std.proofs.lemmas.Bool.Decides.{nat_tests}
 use Rattle.std.proofs.lemmas.Grind.{get_or-set_at}
 use Rattle.std.proofs.lemmas.List.{get_or_default}
-use Rattle.ddr4_timing.proofs.Common.{Act, BankAddress, BankCells, BankRises, BankStands, BanksRise, ChannelTakes, Checked, ClockRises, Command, GroupsRise, HasSlot, KeepsRefresh, TimingState, Pre, PreAll, RankStands, RankState, RankTakes, Rd, Ref, Refresh, RefreshStands, Sre, Stamped, Timing, Window, WindowStands, Wr, bank_of, beyond_rank, demand_of, in_groups, in_rank, is_act, is_act_of, is_bank, is_ref, is_ref_of, is_sre, rank_of, row_after, row_in, slot_of, with_command}
-use Rattle.ddr4_timing.proofs.Addresses.{has_slot, same_slot, slot_small}
+use Rattle.ddr4_timing.proofs.Common.{Act, BankAddress, BankCells, BankRises, BankStands, BanksRise, ChannelTakes, ClockRises, Command, Geometry, GroupsRise, HasFewBanks, HasSlot, IsNotEarly, TimingState, Pre, PreAll, RankStands, RankState, RankTakes, Rd, Ref, Refresh, RefreshStands, Sre, Stamped, Timing, Window, WindowStands, Wr, bank_of, beyond_rank, demand_of, in_groups, in_rank, is_act, is_act_of, is_bank, is_ref, is_ref_of, is_sre, rank_of, row_after, row_in, slot_of, with_command}
+use Rattle.ddr4_timing.proofs.Addresses.{has_room, same_slot, slot_small}
 use Rattle.ddr4_timing.proofs.FloorLemmas.{floor_push, open_row_push, window-yes, window-first, window-no, ref_count_push, last_ref_push, is_asleep_push}
 use Rattle.ddr4_timing.proofs.GapParts.{cond_same, tells_gaps}
 
@@ -110,11 +110,11 @@ window_kept t rank k list x w e s = record {
   last = s.last ∙ sym (window-no t rank 0 list _ e);
 }
 
-pub refresh_taken : (t : Timing) (rank k : ℕ) (list : List Stamped) (r : Refresh) (next : ℕ) → RefreshStands t rank list r → KeepsRefresh t list (record { clock = k; cmd = Ref rank }) → next ≡ min (r.next + t.t_refi) 18446744073709551615 →
+pub refresh_taken : (t : Timing) (rank k : ℕ) (list : List Stamped) (r : Refresh) (next : ℕ) → RefreshStands t rank list r → IsNotEarly t list (record { clock = k; cmd = Ref rank }) → next ≡ min (r.next + t.t_refi) 18446744073709551615 →
     k < 2 ^ 63 → t.t_refi ≤ 1000000 → RefreshStands t rank (with_command list k (Ref rank)) (record { next = next; deadline = k + 9 * t.t_refi })
 refresh_taken t rank k list r next s keeps e early small =
     let here = eqb_self rank in
-    let room = keeps.not_early refl in
+    let room = keeps refl in
     record {
       next = rw (ref_count_push, here) (omega (arith, s.next, e, room));
       deadline = rw (last_ref_push, here) refl;
@@ -128,17 +128,17 @@ refresh_kept t rank k list x r e s = record {
 
 -- a command of the rank
 
-pub own_rank : (c : Checked) (list : List Stamped) (k next write write' column column' : ℕ) (x : Command) (old new : RankState) → RankTakes c.timing k x old new → KeepsRefresh c.timing list (record { clock = k; cmd = x }) →
-    ClockRises k (beyond_rank x (rank_of x) (demand_of c.timing x).beyond) column column' → ClockRises k (demand_of c.timing x).write write write' →
-    RankStands c list next write column (rank_of x) old → RankStands c (with_command list k x) (max next (k + 1)) write' column' (rank_of x) new
-own_rank c list k next write write' column column' x old new h keeps beyond writes s =
-    let demand = tells_gaps c.timing x in
+pub own_rank : (t : Timing) (g : Geometry) → HasFewBanks g → (list : List Stamped) (k next write write' column column' : ℕ) (x : Command) (old new : RankState) → RankTakes t k x old new → IsNotEarly t list (record { clock = k; cmd = x }) →
+    ClockRises k (beyond_rank x (rank_of x) (demand_of t x).beyond) column column' → ClockRises k (demand_of t x).write write write' →
+    RankStands t g list next write column (rank_of x) old → RankStands t g (with_command list k x) (max next (k + 1)) write' column' (rank_of x) new
+own_rank t g few list k next write write' column column' x old new h keeps beyond writes s =
+    let demand = tells_gaps t x in
     let here = eqb_self (rank_of x) in
     record {
       banks = λ at bank none there own.
-          let slot = has_slot c.geometry at c.is_small there in
+          let slot = has_room g at few there in
           let same = eq-eqb (rank_of x) at.rank (sym own) in
-          bank_stands c.timing list k next write write' column column' x at old new _ _ _ _ _ _ _ _
+          bank_stands t list k next write write' column column' x at old new _ _ _ _ _ _ _ _
           (record {
             bank = h.cells.banks at bank slot own;
             group_act = h.cells.group_act at none slot own;
@@ -146,7 +146,7 @@ own_rank c list k next write write' column column' x old new h keeps beyond writ
             group_wr = h.cells.group_wr at none slot own;
             rank_act = rw same h.cells.act;
           })
-          (subst (λ (r : ℕ). ClockRises k (beyond_rank x r (demand_of c.timing x).beyond) column column') (sym own) beyond) writes (h.rows at slot own) (s.banks at bank none there own);
+          (subst (λ (r : ℕ). ClockRises k (beyond_rank x r (demand_of t x).beyond) column column') (sym own) beyond) writes (h.rows at slot own) (s.banks at bank none there own);
       pre_all = least_rises k next _ _ _ _ _ _ (rw here h.cells.pre_all) s.pre_all (demand.pre_all (rank_of x)) (floor_push _ list _ (PreAll (rank_of x)));
       refresh = least_rises k next _ _ _ _ _ _ (rw here h.cells.idle) s.refresh (demand.refresh (rank_of x)) (floor_push _ list _ (Ref (rank_of x)));
       sleep = least_rises k next _ _ _ _ _ _ (rw here h.cells.idle) s.sleep (demand.sleep (rank_of x)) (floor_push _ list _ (Sre (rank_of x)));
@@ -163,16 +163,16 @@ row_elsewhere at row (Pre a) e = rw e refl
 row_elsewhere at row (PreAll r) e = rw e refl
 row_elsewhere at row x e = refl
 
-other_rank : (c : Checked) (list : List Stamped) (k next write write' column column' : ℕ) (x : Command) (rank : ℕ) (r : RankState) → rank_of x ≢ rank →
-    ClockRises k (beyond_rank x rank (demand_of c.timing x).beyond) column column' → ClockRises k (demand_of c.timing x).write write write' →
-    RankStands c list next write column rank r → RankStands c (with_command list k x) (max next (k + 1)) write' column' rank r
-other_rank c list k next write write' column column' x rank r n beyond writes s =
-    let demand = tells_gaps c.timing x in
+other_rank : (t : Timing) (g : Geometry) (list : List Stamped) (k next write write' column column' : ℕ) (x : Command) (rank : ℕ) (r : RankState) → rank_of x ≢ rank →
+    ClockRises k (beyond_rank x rank (demand_of t x).beyond) column column' → ClockRises k (demand_of t x).write write write' →
+    RankStands t g list next write column rank r → RankStands t g (with_command list k x) (max next (k + 1)) write' column' rank r
+other_rank t g list k next write write' column column' x rank r n beyond writes s =
+    let demand = tells_gaps t x in
     let elsewhere = ne_eqb (rank_of x) rank n in
     record {
       banks = λ at bank none h own.
           let other = ne_eqb (rank_of x) at.rank (λ q. n (q ∙ own)) in
-          bank_stands c.timing list k next write write' column column' x at r r _ _ _ _ _ _ _ _
+          bank_stands t list k next write write' column column' x at r r _ _ _ _ _ _ _ _
           (record {
             bank = record { act = rw other (kept k _); column = rw other (kept k _); pre = rw other (kept k _) };
             group_act = rw other (kept k _);
@@ -180,35 +180,35 @@ other_rank c list k next write write' column column' x rank r n beyond writes s 
             group_wr = rw other (kept k _);
             rank_act = rw other (kept k _);
           })
-          (subst (λ (m : ℕ). ClockRises k (beyond_rank x m (demand_of c.timing x).beyond) column column') (sym own) beyond) writes (sym (row_elsewhere at _ x other)) (s.banks at bank none h own);
+          (subst (λ (m : ℕ). ClockRises k (beyond_rank x m (demand_of t x).beyond) column column') (sym own) beyond) writes (sym (row_elsewhere at _ x other)) (s.banks at bank none h own);
       pre_all = least_rises k next _ _ _ _ _ _ (rw elsewhere (kept k _)) s.pre_all (demand.pre_all rank) (floor_push _ list _ (PreAll rank));
       refresh = least_rises k next _ _ _ _ _ _ (rw elsewhere (kept k _)) s.refresh (demand.refresh rank) (floor_push _ list _ (Ref rank));
       sleep = least_rises k next _ _ _ _ _ _ (rw elsewhere (kept k _)) s.sleep (demand.sleep rank) (floor_push _ list _ (Sre rank));
-      windows = window_kept c.timing rank k list x r.window (and_right (is_act x) _ elsewhere) s.windows;
-      refreshes = refresh_kept c.timing rank k list x r.refresh (and_right (is_ref x) _ elsewhere) s.refreshes;
+      windows = window_kept t rank k list x r.window (and_right (is_act x) _ elsewhere) s.windows;
+      refreshes = refresh_kept t rank k list x r.refresh (and_right (is_ref x) _ elsewhere) s.refreshes;
       asleep = rw (is_asleep_push rank list (record { clock = k; cmd = x }), and_right (is_sre x) _ elsewhere) (s.asleep ∙ sym (or-false _));
     }
 
 -- each rank, behind a command that one of them takes
-pub each_rank : (c : Checked) (list : List Stamped) (k : ℕ) (x : Command) (old new : TimingState) (taken d : RankState) (i : ℕ) → length old.ranks ≡ 4 → length old.columns ≡ 4 → i ≡ rank_of x →
-    KeepsRefresh c.timing list (record { clock = k; cmd = x }) → RankTakes c.timing k x (get_or old.ranks i d) taken → ChannelTakes c.timing k x (record old { ranks = set old.ranks i taken }) new →
-    ((rank column : ℕ) (none : RankState) → rank < c.geometry.ranks → RankStands c list old.next old.write (get_or old.columns rank column) rank (get_or old.ranks rank none)) →
-    (rank column : ℕ) (none : RankState) → rank < c.geometry.ranks → RankStands c (with_command list k x) new.next new.write (get_or new.columns rank column) rank (get_or new.ranks rank none)
-each_rank c list k x old new taken d i size wide at keeps takes shares stands rank column none h =
-    let four = c.is_small.ranks in
-    let beyond = shares.columns rank column (omega (arith, h, four, wide)) in
+pub each_rank : (t : Timing) (g : Geometry) → HasFewBanks g → (list : List Stamped) (k : ℕ) (x : Command) (old new : TimingState) (taken d : RankState) (i : ℕ) → length old.ranks ≡ 8 → length old.columns ≡ 8 → i ≡ rank_of x →
+    IsNotEarly t list (record { clock = k; cmd = x }) → RankTakes t k x (get_or old.ranks i d) taken → ChannelTakes t k x (record old { ranks = set old.ranks i taken }) new →
+    ((rank column : ℕ) (none : RankState) → rank < g.ranks → RankStands t g list old.next old.write (get_or old.columns rank column) rank (get_or old.ranks rank none)) →
+    (rank column : ℕ) (none : RankState) → rank < g.ranks → RankStands t g (with_command list k x) new.next new.write (get_or new.columns rank column) rank (get_or new.ranks rank none)
+each_rank t g few list k x old new taken d i size wide at keeps takes shares stands rank column none h =
+    let most = few.ranks in
+    let beyond = shares.columns rank column (omega (arith, h, most, wide)) in
     elim (cases_eq i rank) [
       | inl same ↦
           let own = sym at ∙ same in
-          let here : get_or old.ranks i d ≡ get_or old.ranks rank none = ap (λ (j : ℕ). get_or old.ranks j d) same ∙ get_or_default old.ranks rank d none (omega (arith, h, four, size)) in
-          rw (shares.ranks, get_or-set_at old.ranks i rank taken none (sym same) (omega (arith, h, four, size, same)), shares.next)
-          (subst (λ (r : ℕ). RankStands c (with_command list k x) (max old.next (k + 1)) new.write (get_or new.columns rank column) r taken) own
-          (own_rank c list k old.next old.write new.write (get_or old.columns rank column) (get_or new.columns rank column) x (get_or old.ranks i d) taken takes keeps
-          (subst (λ (r : ℕ). ClockRises k (beyond_rank x r (demand_of c.timing x).beyond) (get_or old.columns rank column) (get_or new.columns rank column)) (sym own) beyond) shares.write
-          (subst (λ (r : ℕ). RankStands c list old.next old.write (get_or old.columns rank column) r (get_or old.ranks i d)) (sym own) (subst (λ (r : RankState). RankStands c list old.next old.write (get_or old.columns rank column) rank r) (sym here) (stands rank column none h)))))
+          let here : get_or old.ranks i d ≡ get_or old.ranks rank none = ap (λ (j : ℕ). get_or old.ranks j d) same ∙ get_or_default old.ranks rank d none (omega (arith, h, most, size)) in
+          rw (shares.ranks, get_or-set_at old.ranks i rank taken none (sym same) (omega (arith, h, most, size, same)), shares.next)
+          (subst (λ (r : ℕ). RankStands t g (with_command list k x) (max old.next (k + 1)) new.write (get_or new.columns rank column) r taken) own
+          (own_rank t g few list k old.next old.write new.write (get_or old.columns rank column) (get_or new.columns rank column) x (get_or old.ranks i d) taken takes keeps
+          (subst (λ (r : ℕ). ClockRises k (beyond_rank x r (demand_of t x).beyond) (get_or old.columns rank column) (get_or new.columns rank column)) (sym own) beyond) shares.write
+          (subst (λ (r : ℕ). RankStands t g list old.next old.write (get_or old.columns rank column) r (get_or old.ranks i d)) (sym own) (subst (λ (r : RankState). RankStands t g list old.next old.write (get_or old.columns rank column) rank r) (sym here) (stands rank column none h)))))
       | inr n ↦
           rw (shares.ranks, get_or-set_other old.ranks i rank taken none (λ e. n (sym e)), shares.next)
-          (other_rank c list k old.next old.write new.write (get_or old.columns rank column) (get_or new.columns rank column) x rank (get_or old.ranks rank none) (λ e. n (at ∙ e)) beyond shares.write (stands rank column none h))
+          (other_rank t g list k old.next old.write new.write (get_or old.columns rank column) (get_or new.columns rank column) x rank (get_or old.ranks rank none) (λ e. n (at ∙ e)) beyond shares.write (stands rank column none h))
     ]
 
 pub ruleset takes = (rules, kept, raised, banks_kept, banks_raised, groups_kept, groups_raised, window_taken, window_kept, refresh_taken, refresh_kept, eqb_self, or-true)

@@ -5,7 +5,7 @@ use Rattle.ddr4_timing.specs.declared.command.Command.{Command}
 use Rattle.ddr4_timing.specs.declared.command.Command.TheVariants.{Act, Rd, Wr, Pre, PreAll, Ref, Sre}
 use Rattle.ddr4_timing.specs.declared.command.Stamped.{Stamped}
 use Rattle.ddr4_timing.specs.declared.timing.Timing.{Timing}
-use Rattle.ddr4_timing.specs.declared.timing.Checked.{Checked}
+use Rattle.ddr4_timing.specs.declared.timing.Geometry.{Geometry}
 use Rattle.ddr4_timing.specs.declared.cells.BankCells.{BankCells}
 use Rattle.ddr4_timing.specs.declared.rank.RankState.{RankState}
 use Rattle.ddr4_timing.specs.declared.rank.Window.{Window}
@@ -14,7 +14,7 @@ use Rattle.ddr4_timing.specs.declared.timing_state.TimingState.{TimingState}
 use Rattle.ddr4_timing.specs.Command.{is_sre, rank_of}
 use Rattle.ddr4_timing.specs.Demands.{Demand, beyond_rank, demand_of, in_bank, in_groups}
 use Rattle.ddr4_timing.specs.Floors.{floor, least_clock, window}
-use Rattle.ddr4_timing.specs.Lawful.{row_after, open_row, last_ref, ref_count, is_asleep, with_command, AllClosed, FitsRows, IsLawful, KeepsRefresh, KeepsRows}
+use Rattle.ddr4_timing.specs.Lawful.{row_after, open_row, last_ref, ref_count, is_asleep, with_command, AllClosed, FitsRows, IsLawfulIn, IsNotEarly, KeepsRows, MayComeNext}
 use Rattle.ddr4_timing.specs.Places.{HasBank, HasSlot, slot_of}
 use Rattle.ddr4_timing.specs.Rows.{row_in}
 
@@ -40,56 +40,72 @@ pub record RefreshStands (t : Timing) (rank : ℕ) (list : List Stamped) (r : Re
   pub deadline : r.deadline ≡ last_ref rank list + 9 * t.t_refi
 
 -- a rank's banks, windows, refreshes and sleep, and the least clock of each command to it
-pub record RankStands (c : Checked) (list : List Stamped) (next write column rank : ℕ) (r : RankState) : Type 0 where
-  pub banks : (at : BankAddress) (bank : BankCells) (none : ℕ) → HasBank c.geometry at → at.rank ≡ rank →
-      BankStands c.timing list next write column at r (slice_index_or r.banks (slot_of at) bank)
+pub record RankStands (t : Timing) (g : Geometry) (list : List Stamped) (next write column rank : ℕ) (r : RankState) : Type 0 where
+  pub banks : (at : BankAddress) (bank : BankCells) (none : ℕ) → HasBank g at → at.rank ≡ rank →
+      BankStands t list next write column at r (slice_index_or r.banks (slot_of at) bank)
       (slice_index_or r.group_act at.group none) (slice_index_or r.group_rd at.group none) (slice_index_or r.group_wr at.group none)
-  pub pre_all : max next r.pre_all ≡ floor c.timing list (PreAll rank)
-  pub refresh : max next r.idle ≡ floor c.timing list (Ref rank)
-  pub sleep : max next r.idle ≡ floor c.timing list (Sre rank)
-  pub windows : WindowStands c.timing rank list r.window
-  pub refreshes : RefreshStands c.timing rank list r.refresh
+  pub pre_all : max next r.pre_all ≡ floor t list (PreAll rank)
+  pub refresh : max next r.idle ≡ floor t list (Ref rank)
+  pub sleep : max next r.idle ≡ floor t list (Sre rank)
+  pub windows : WindowStands t rank list r.window
+  pub refreshes : RefreshStands t rank list r.refresh
   pub asleep : r.is_asleep ≡ is_asleep rank list
 
--- The list is lawful, and the clocks and rows are those that it leaves.
-pub record StandsFor (c : Checked) (m : TimingState) (list : List Stamped) : Type 0 where
-  pub lawful : IsLawful c list
-  pub ranks : (rank column : ℕ) (none : RankState) → rank < c.geometry.ranks →
-      RankStands c list m.next m.write (slice_index_or m.columns rank column) rank (slice_index_or m.ranks rank none)
+-- The clocks and rows are those that the list leaves.
+abbrev pub Keeps : Timing → Geometry → TimingState → List Stamped → Type 0
+Keeps t g m list =
+    (rank column : ℕ) (none : RankState) → rank < g.ranks →
+    RankStands t g list m.next m.write (slice_index_or m.columns rank column) rank (slice_index_or m.ranks rank none)
+
+-- And the list is lawful.
+pub record StandsFor (t : Timing) (g : Geometry) (m : TimingState) (list : List Stamped) : Type 0 where
+  pub lawful : IsLawfulIn t g list
+  pub ranks : Keeps t g m list
 
 -- new is the state old after a command, for each list that the command leaves lawful
-abbrev pub IsStateAfter : Checked → ℕ → Command → TimingState → TimingState → Type 0
-IsStateAfter c clock x old new =
-    (list : List Stamped) → StandsFor c old list → IsLawful c (with_command list clock x) →
-    StandsFor c new (with_command list clock x)
+abbrev pub IsStateAfter : Timing → Geometry → ℕ → Command → TimingState → TimingState → Type 0
+IsStateAfter t g clock x old new =
+    (list : List Stamped) → StandsFor t g old list → IsLawfulIn t g (with_command list clock x) →
+    StandsFor t g new (with_command list clock x)
+
+-- and for each list, where the command isn't an early REF
+abbrev pub IsKeptAfter : Timing → Geometry → ℕ → Command → TimingState → TimingState → Type 0
+IsKeptAfter t g clock x old new =
+    (list : List Stamped) → Keeps t g old list → IsNotEarly t list (record { clock = clock; cmd = x }) →
+    Keeps t g new (with_command list clock x)
 
 -- r is what the state keeps of a rank
-abbrev pub IsRankOf : Checked → TimingState → ℕ → RankState → Type 0
-IsRankOf c m rank r =
-    (list : List Stamped) (column : ℕ) → StandsFor c m list →
-    RankStands c list m.next m.write (slice_index_or m.columns rank column) rank r
+abbrev pub IsRankOf : Timing → Geometry → TimingState → ℕ → RankState → Type 0
+IsRankOf t g m rank r =
+    (list : List Stamped) (column : ℕ) → Keeps t g m list →
+    RankStands t g list m.next m.write (slice_index_or m.columns rank column) rank r
 
--- The answers of a state, of each list that it stands for: whether a rank's banks are all closed,
-abbrev pub TellsClosed : Checked → TimingState → ℕ → Bool → Type 0
-TellsClosed c m rank answer =
-    (list : List Stamped) → StandsFor c m list → (IsTrue answer ↔ AllClosed c.geometry rank list)
+-- The answers of a state, of each list that it keeps: whether a rank's banks are all closed,
+abbrev pub TellsClosed : Timing → Geometry → TimingState → ℕ → Bool → Type 0
+TellsClosed t g m rank answer =
+    (list : List Stamped) → Keeps t g m list → (IsTrue answer ↔ AllClosed g rank list)
 
 -- whether the banks are as a command wants them,
-abbrev pub TellsFit : Checked → TimingState → Command → Bool → Type 0
-TellsFit c m x answer = (list : List Stamped) → StandsFor c m list → (IsTrue answer ↔ FitsRows c.geometry list x)
+abbrev pub TellsFit : Timing → Geometry → TimingState → Command → Bool → Type 0
+TellsFit t g m x answer = (list : List Stamped) → Keeps t g m list → (IsTrue answer ↔ FitsRows g list x)
 
 -- whether it keeps the rule on rows,
-abbrev pub TellsRows : Checked → TimingState → Command → Bool → Type 0
-TellsRows c m x answer = (list : List Stamped) → StandsFor c m list → (IsTrue answer ↔ KeepsRows c.geometry list x)
+abbrev pub TellsRows : Timing → Geometry → TimingState → Command → Bool → Type 0
+TellsRows t g m x answer = (list : List Stamped) → Keeps t g m list → (IsTrue answer ↔ KeepsRows g list x)
 
 -- its least clock,
-abbrev pub TellsLeastClock : Checked → TimingState → Command → ℕ → Type 0
-TellsLeastClock c m x answer = (list : List Stamped) → StandsFor c m list → answer ≡ least_clock c.timing list x
+abbrev pub TellsLeastClock : Timing → Geometry → TimingState → Command → ℕ → Type 0
+TellsLeastClock t g m x answer = (list : List Stamped) → Keeps t g m list → answer ≡ least_clock t list x
 
--- and whether the list with it is lawful
-abbrev pub TellsLawful : Checked → TimingState → Command → ℕ → Bool → Type 0
-TellsLawful c m x clock answer =
-    (list : List Stamped) → StandsFor c m list → (IsTrue answer ↔ IsLawful c (with_command list clock x))
+-- whether it may come next,
+abbrev pub TellsNext : Timing → Geometry → TimingState → Command → ℕ → Bool → Type 0
+TellsNext t g m x clock answer =
+    (list : List Stamped) → Keeps t g m list → (IsTrue answer ↔ MayComeNext t g list (record { clock = clock; cmd = x }))
+
+-- and of each list that it stands for, whether the list with it is lawful
+abbrev pub TellsLawful : Timing → Geometry → TimingState → Command → ℕ → Bool → Type 0
+TellsLawful t g m x clock answer =
+    (list : List Stamped) → StandsFor t g m list → (IsTrue answer ↔ IsLawfulIn t g (with_command list clock x))
 
 -- the least clock that a rank's own commands leave to an ACT,
 abbrev pub LeavesToAct : RankState → BankAddress → ℕ → Type 0
@@ -143,7 +159,7 @@ pub record CellsRise (clock : ℕ) (x : Command) (d : Demand) (old new : RankSta
 -- a rank's windows, refreshes and sleep, behind a command of it
 pub record HistoryFollows (t : Timing) (clock : ℕ) (x : Command) (old new : RankState) : Type 0 where
   pub windows : (list : List Stamped) → WindowStands t (rank_of x) list old.window → WindowStands t (rank_of x) (with_command list clock x) new.window
-  pub refreshes : (list : List Stamped) → RefreshStands t (rank_of x) list old.refresh → KeepsRefresh t list (record { clock = clock; cmd = x }) →
+  pub refreshes : (list : List Stamped) → RefreshStands t (rank_of x) list old.refresh → IsNotEarly t list (record { clock = clock; cmd = x }) →
       RefreshStands t (rank_of x) (with_command list clock x) new.refresh
   pub asleep : new.is_asleep ≡ (old.is_asleep || is_sre x)
 

@@ -31,7 +31,7 @@ impl fmt::Display for BankAddress {
 
 impl BankAddress {
     ghost use Rattle.ddr4_timing.specs.Places.{HasBank, HasSlot, bank_index, is_bank, is_group, slot_of};
-    ghost use Rattle.ddr4_timing.specs.Limits.{IsSmall};
+    ghost use Rattle.ddr4_timing.specs.Limits.{HasFewBanks, IsSmall};
 
     /// The first bank of a rank.
     pub(crate) fn first_of(rank: u64) -> BankAddress
@@ -84,6 +84,19 @@ impl BankAddress {
         // the `requires` are of this geometry, and no step of the code is
         let _geometry = *g;
         (self.rank * 16 + self.group * 4 + self.bank) as usize
+    }
+
+    /// Where the bank stands in a table of the 128 banks that the commands of a channel may name.
+    pub fn number(&self, g: &Geometry) -> usize
+        requires few { HasFewBanks g.now }
+        requires lies { HasBank g.now self.now }
+        ensures value { result ≡ bank_index self.now }
+        ensures small { result < 128 }
+    {
+        // the `requires` are of this geometry, and no step of the code is
+        let _geometry = *g;
+        let in_rank = self.group * 4 + self.bank;
+        (self.rank * 16 + in_rank) as usize
     }
 }
 

@@ -8,7 +8,7 @@ use crate::cells::{BankCells, raise, raise_all};
 use crate::command::Command;
 use crate::place::BankAddress;
 use crate::rows::Rows;
-use crate::timing::Checked;
+use crate::timing::Timing;
 
 /// tFAW after each of a rank's last four ACT, 0 where it had fewer.
 #[derive(Clone, Copy)]
@@ -44,11 +44,15 @@ pub struct RankState {
 }
 
 impl RankState {
+    ghost use Rattle.ddr4_timing.specs.Limits.{AreInLimits, HasFewBanks};
+    ghost use Rattle.ddr4_timing.specs.declared.timing.Geometry.{Geometry};
     ghost use Rattle.ddr4_timing.specs.TimingState.{LeavesToAct, LeavesToRd, LeavesToWr, RankStands, RankTakes};
 
     /// A rank before any command.
-    pub(crate) fn new(checked: &Checked) -> RankState
-        ensures { (rank : ℕ) → RankStands checked.now [] 0 0 0 rank result }
+    pub(crate) fn new(t: &Timing) -> RankState
+        requires { AreInLimits t.now }
+        ensures { (g : Geometry) (rank : ℕ) → HasFewBanks g →
+            RankStands t.now g [] 0 0 0 rank result }
     {
         RankState {
             rows: Rows::new(),
@@ -70,20 +74,20 @@ impl RankState {
                 last: 0,
             },
             refresh: Refresh {
-                next: checked.timing.t_refi,
-                deadline: 9 * checked.timing.t_refi,
+                next: t.t_refi,
+                deadline: 9 * t.t_refi,
             },
             is_asleep: false,
         }
     }
 
     /// An ACT of the rank goes.
-    pub(crate) fn take_act(&mut self, checked: &Checked, at: BankAddress, row: u64, clock: u64)
+    pub(crate) fn take_act(&mut self, t: &Timing, at: BankAddress, row: u64, clock: u64)
+        requires limits { AreInLimits t.now }
         requires early { clock < 2 ^ 63 }
         requires slot { HasSlot at }
-        ensures { RankTakes checked.now.timing clock (Act at row) self.old self.new }
+        ensures { RankTakes t.now clock (Act at row) self.old self.new }
     {
-        let t = &checked.timing;
         self.rows.open(at, row);
         let bank = &mut self.banks[at.slot()];
         raise(&mut bank.act, clock + (t.t_ras + t.t_rp));
@@ -101,12 +105,12 @@ impl RankState {
     }
 
     /// A RD of the rank goes.
-    pub(crate) fn take_rd(&mut self, checked: &Checked, at: BankAddress, column: u64, clock: u64)
+    pub(crate) fn take_rd(&mut self, t: &Timing, at: BankAddress, column: u64, clock: u64)
+        requires limits { AreInLimits t.now }
         requires early { clock < 2 ^ 63 }
         requires slot { HasSlot at }
-        ensures { RankTakes checked.now.timing clock (Rd at column) self.old self.new }
+        ensures { RankTakes t.now clock (Rd at column) self.old self.new }
     {
-        let t = &checked.timing;
         raise(&mut self.banks[at.slot()].pre, clock + t.t_rtp);
         let (near, far) = (clock + t.t_ccd_l, clock + t.t_ccd_s);
         raise_all(&mut self.group_rd, at.group, near, far);
@@ -114,12 +118,12 @@ impl RankState {
     }
 
     /// A WR of the rank goes.
-    pub(crate) fn take_wr(&mut self, checked: &Checked, at: BankAddress, column: u64, clock: u64)
+    pub(crate) fn take_wr(&mut self, t: &Timing, at: BankAddress, column: u64, clock: u64)
+        requires limits { AreInLimits t.now }
         requires early { clock < 2 ^ 63 }
         requires slot { HasSlot at }
-        ensures { RankTakes checked.now.timing clock (Wr at column) self.old self.new }
+        ensures { RankTakes t.now clock (Wr at column) self.old self.new }
     {
-        let t = &checked.timing;
         let (burst, recovery) = (t.cwl + 4, t.cwl + 4 + t.t_wr);
         raise(&mut self.banks[at.slot()].pre, clock + recovery);
         let (near, far) = (burst + t.t_wtr_l, burst + t.t_wtr_s);
@@ -130,34 +134,34 @@ impl RankState {
     }
 
     /// A PRE of the rank goes.
-    pub(crate) fn take_pre(&mut self, checked: &Checked, at: BankAddress, clock: u64)
+    pub(crate) fn take_pre(&mut self, t: &Timing, at: BankAddress, clock: u64)
+        requires limits { AreInLimits t.now }
         requires early { clock < 2 ^ 63 }
         requires slot { HasSlot at }
-        ensures { RankTakes checked.now.timing clock (Pre at) self.old self.new }
+        ensures { RankTakes t.now clock (Pre at) self.old self.new }
     {
-        let t = &checked.timing;
         self.rows.close(at);
         raise(&mut self.banks[at.slot()].act, clock + t.t_rp);
         raise(&mut self.idle, clock + t.t_rp);
     }
 
     /// A PREA of the rank goes.
-    pub(crate) fn take_pre_all(&mut self, checked: &Checked, rank: u64, clock: u64)
-        requires { clock < 2 ^ 63 }
-        ensures { RankTakes checked.now.timing clock (PreAll rank) self.old self.new }
+    pub(crate) fn take_pre_all(&mut self, t: &Timing, rank: u64, clock: u64)
+        requires limits { AreInLimits t.now }
+        requires early { clock < 2 ^ 63 }
+        ensures { RankTakes t.now clock (PreAll rank) self.old self.new }
     {
-        let t = &checked.timing;
         self.rows.close_all();
         raise(&mut self.act, clock + t.t_rp);
         raise(&mut self.idle, clock + t.t_rp);
     }
 
     /// A REF of the rank goes.
-    pub(crate) fn take_ref(&mut self, checked: &Checked, rank: u64, clock: u64)
-        requires { clock < 2 ^ 63 }
-        ensures { RankTakes checked.now.timing clock (Ref rank) self.old self.new }
+    pub(crate) fn take_ref(&mut self, t: &Timing, rank: u64, clock: u64)
+        requires limits { AreInLimits t.now }
+        requires early { clock < 2 ^ 63 }
+        ensures { RankTakes t.now clock (Ref rank) self.old self.new }
     {
-        let t = &checked.timing;
         raise(&mut self.act, clock + t.t_rfc);
         raise(&mut self.idle, clock + t.t_rfc);
         self.refresh = Refresh {
@@ -167,26 +171,27 @@ impl RankState {
     }
 
     /// An SRE of the rank goes.
-    pub(crate) fn take_sre(&mut self, checked: &Checked, rank: u64, clock: u64)
-        ensures { RankTakes checked.now.timing clock (Sre rank) self.old self.new }
+    pub(crate) fn take_sre(&mut self, t: &Timing, rank: u64, clock: u64)
+        ensures { RankTakes t.now clock (Sre rank) self.old self.new }
     {
         self.is_asleep = true;
     }
 
     /// A command of the rank goes.
-    pub(crate) fn take(&mut self, checked: &Checked, cmd: &Command, clock: u64)
+    pub(crate) fn take(&mut self, t: &Timing, cmd: &Command, clock: u64)
+        requires limits { AreInLimits t.now }
         requires early { clock < 2 ^ 63 }
         requires slot { HasSlot (bank_of cmd.now) }
-        ensures { RankTakes checked.now.timing clock cmd.now self.old self.new }
+        ensures { RankTakes t.now clock cmd.now self.old self.new }
     {
         match *cmd {
-            Command::Act { at, row } => self.take_act(checked, at, row, clock),
-            Command::Rd { at, column } => self.take_rd(checked, at, column, clock),
-            Command::Wr { at, column } => self.take_wr(checked, at, column, clock),
-            Command::Pre { at } => self.take_pre(checked, at, clock),
-            Command::PreAll { rank } => self.take_pre_all(checked, rank, clock),
-            Command::Ref { rank } => self.take_ref(checked, rank, clock),
-            Command::Sre { rank } => self.take_sre(checked, rank, clock),
+            Command::Act { at, row } => self.take_act(t, at, row, clock),
+            Command::Rd { at, column } => self.take_rd(t, at, column, clock),
+            Command::Wr { at, column } => self.take_wr(t, at, column, clock),
+            Command::Pre { at } => self.take_pre(t, at, clock),
+            Command::PreAll { rank } => self.take_pre_all(t, rank, clock),
+            Command::Ref { rank } => self.take_ref(t, rank, clock),
+            Command::Sre { rank } => self.take_sre(t, rank, clock),
         }
     }
 

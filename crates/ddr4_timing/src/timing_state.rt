@@ -10,44 +10,49 @@ use crate::command::Command;
 use crate::fault::is_in_geometry;
 use crate::place::BankAddress;
 use crate::rank::RankState;
-use crate::timing::{Checked, Timing};
+use crate::timing::{Geometry, Timing};
 
 /// What is open, and the least clock of each kind of command to each bank and rank.
 ///
-/// Each call is given the profile for which the state was made.
+/// Each call is given the timing numbers and the geometry for which the state was made.
 #[derive(Clone, Copy)]
 pub struct TimingState {
-    ranks: [RankState; 4],
-    columns: [u64; 4],
+    ranks: [RankState; 8],
+    columns: [u64; 8],
     next: u64,
     write: u64,
 }
 
 impl TimingState {
-    ghost use Rattle.ddr4_timing.specs.Limits.{AreInLimits};
-    ghost use Rattle.ddr4_timing.specs.TimingState.{ChannelTakes, IsStateAfter, IsRankOf, StandsFor, TellsClosed, TellsFit, TellsLawful, TellsLeastClock, TellsRows};
+    ghost use Rattle.ddr4_timing.specs.Limits.{AreInLimits, HasFewBanks};
+    ghost use Rattle.ddr4_timing.specs.TimingState.{ChannelTakes, IsKeptAfter, IsStateAfter, IsRankOf, Keeps, StandsFor, TellsClosed, TellsFit, TellsLawful, TellsLeastClock, TellsNext, TellsRows};
 
     /// Before any command.
-    pub fn new(checked: &Checked) -> TimingState
-        ensures { StandsFor checked.now result [] }
+    pub fn new(t: &Timing, g: &Geometry) -> TimingState
+        requires limits { AreInLimits t.now }
+        requires few { HasFewBanks g.now }
+        ensures { StandsFor t.now g.now result [] }
     {
         TimingState {
-            ranks: [RankState::new(checked); 4],
-            columns: [0; 4],
+            ranks: [RankState::new(t); 8],
+            columns: [0; 8],
             next: 0,
             write: 0,
         }
     }
 
     /// The command goes at the clock. Takes a number of steps that doesn't grow with the banks.
-    pub fn issue(&mut self, checked: &Checked, cmd: &Command, clock: u64)
+    pub fn issue(&mut self, t: &Timing, g: &Geometry, cmd: &Command, clock: u64)
+        requires limits { AreInLimits t.now }
+        requires few { HasFewBanks g.now }
         requires early { clock < 2 ^ 63 }
-        requires place { IsInGeometry checked.now.geometry cmd.now }
-        ensures { IsStateAfter checked.now clock cmd.now self.old self.new }
+        requires place { IsInGeometry g.now cmd.now }
+        ensures after { IsStateAfter t.now g.now clock cmd.now self.old self.new }
+        ensures kept { IsKeptAfter t.now g.now clock cmd.now self.old self.new }
     {
         let rank = cmd.rank();
-        self.ranks[rank as usize].take(checked, cmd, clock);
-        self.share(&checked.timing, cmd, rank, clock);
+        self.ranks[rank as usize].take(t, cmd, clock);
+        self.share(t, cmd, rank, clock);
     }
 
     /// What all ranks share after a command: its clock, and what a RD or WR leaves to those of other ranks.
@@ -69,68 +74,74 @@ impl TimingState {
     }
 
     /// What is kept of a rank.
-    pub fn rank(&self, checked: &Checked, rank: u64) -> &RankState
-        requires { rank < checked.now.geometry.ranks }
-        ensures { IsRankOf checked.now self.now rank result.now }
+    pub fn rank(&self, t: &Timing, g: &Geometry, rank: u64) -> &RankState
+        requires few { HasFewBanks g.now }
+        requires rank { rank < g.now.ranks }
+        ensures { IsRankOf t.now g.now self.now rank result.now }
     {
         &self.ranks[rank as usize]
     }
 
     /// The row that is open in a bank.
-    pub fn open_row(&self, checked: &Checked, at: BankAddress) -> Option<u64>
-        requires { HasBank checked.now.geometry at }
-        ensures { (list : List Stamped) → StandsFor checked.now self.now list →
+    pub fn open_row(&self, t: &Timing, g: &Geometry, at: BankAddress) -> Option<u64>
+        requires few { HasFewBanks g.now }
+        requires bank { HasBank g.now at }
+        ensures { (list : List Stamped) → Keeps t.now g.now self.now list →
             result ≡ open_row at list }
     {
-        self.rank(checked, at.rank).rows.open_row(at)
+        self.rank(t, g, at.rank).rows.open_row(at)
     }
 
     /// Is every bank of the rank closed?
-    pub fn all_closed(&self, checked: &Checked, rank: u64) -> bool
-        requires { rank < checked.now.geometry.ranks }
-        ensures { TellsClosed checked.now self.now rank result }
+    pub fn all_closed(&self, t: &Timing, g: &Geometry, rank: u64) -> bool
+        requires few { HasFewBanks g.now }
+        requires rank { rank < g.now.ranks }
+        ensures { TellsClosed t.now g.now self.now rank result }
     {
-        let banks = checked.geometry.groups * checked.geometry.banks;
-        self.rank(checked, rank).rows.all_closed(banks as usize)
+        let banks = g.groups * g.banks;
+        self.rank(t, g, rank).rows.all_closed(banks as usize)
     }
 
     /// Does the place lie in the geometry, is the rank awake, and are the banks as the command wants them?
-    pub fn keeps_rows(&self, checked: &Checked, cmd: &Command) -> bool
-        ensures place { IsTrue result → IsInGeometry checked.now.geometry cmd.now }
-        ensures rows { TellsRows checked.now self.now cmd.now result }
+    pub fn keeps_rows(&self, t: &Timing, g: &Geometry, cmd: &Command) -> bool
+        requires { HasFewBanks g.now }
+        ensures place { IsTrue result → IsInGeometry g.now cmd.now }
+        ensures rows { TellsRows t.now g.now self.now cmd.now result }
     {
-        if !is_in_geometry(&checked.geometry, cmd) {
+        if !is_in_geometry(g, cmd) {
             return false;
         }
-        if self.rank(checked, cmd.rank()).is_asleep {
+        if self.rank(t, g, cmd.rank()).is_asleep {
             return false;
         }
-        self.fits_rows(checked, cmd)
+        self.fits_rows(t, g, cmd)
     }
 
     /// Are the banks as the command wants them?
-    fn fits_rows(&self, checked: &Checked, cmd: &Command) -> bool
-        requires { IsInGeometry checked.now.geometry cmd.now }
-        ensures { TellsFit checked.now self.now cmd.now result }
+    fn fits_rows(&self, t: &Timing, g: &Geometry, cmd: &Command) -> bool
+        requires few { HasFewBanks g.now }
+        requires place { IsInGeometry g.now cmd.now }
+        ensures { TellsFit t.now g.now self.now cmd.now result }
     {
         match *cmd {
-            Command::Act { at, .. } => self.open_row(checked, at).is_none(),
-            Command::Rd { at, .. } | Command::Wr { at, .. } => self.open_row(checked, at).is_some(),
-            Command::Pre { at } => self.open_row(checked, at).is_some(),
-            Command::PreAll { rank } => !self.all_closed(checked, rank),
-            Command::Ref { rank } | Command::Sre { rank } => self.all_closed(checked, rank),
+            Command::Act { at, .. } => self.open_row(t, g, at).is_none(),
+            Command::Rd { at, .. } | Command::Wr { at, .. } => self.open_row(t, g, at).is_some(),
+            Command::Pre { at } => self.open_row(t, g, at).is_some(),
+            Command::PreAll { rank } => !self.all_closed(t, g, rank),
+            Command::Ref { rank } | Command::Sre { rank } => self.all_closed(t, g, rank),
         }
     }
 
     /// The least clock by every rule but the one on rows and the refresh deadline.
     #[inline]
     #[tactic(auto, unfolding(crate::specs::Floors::least_clock))]
-    pub fn least_clock(&self, checked: &Checked, cmd: &Command) -> u64
-        requires { IsInGeometry checked.now.geometry cmd.now }
-        ensures { TellsLeastClock checked.now self.now cmd.now result }
+    pub fn least_clock(&self, t: &Timing, g: &Geometry, cmd: &Command) -> u64
+        requires few { HasFewBanks g.now }
+        requires place { IsInGeometry g.now cmd.now }
+        ensures { TellsLeastClock t.now g.now self.now cmd.now result }
     {
         let number = cmd.rank();
-        let rank = self.rank(checked, number);
+        let rank = self.rank(t, g, number);
         let column = self.columns[number as usize];
         let least = match *cmd {
             Command::Act { at, .. } => rank.act_clock(at).max(rank.window.fourth),
@@ -145,16 +156,19 @@ impl TimingState {
     }
 
     /// May the command go at this clock?
-    pub fn ready(&self, checked: &Checked, cmd: &Command, clock: u64) -> bool
-        ensures place { IsTrue result → IsInGeometry checked.now.geometry cmd.now }
-        ensures exact { TellsLawful checked.now self.now cmd.now clock result }
+    pub fn ready(&self, t: &Timing, g: &Geometry, cmd: &Command, clock: u64) -> bool
+        requires limits { AreInLimits t.now }
+        requires few { HasFewBanks g.now }
+        ensures place { IsTrue result → IsInGeometry g.now cmd.now }
+        ensures next { TellsNext t.now g.now self.now cmd.now clock result }
+        ensures exact { TellsLawful t.now g.now self.now cmd.now clock result }
     {
-        if !self.keeps_rows(checked, cmd) {
+        if !self.keeps_rows(t, g, cmd) {
             return false;
         }
-        if clock < self.least_clock(checked, cmd) {
+        if clock < self.least_clock(t, g, cmd) {
             return false;
         }
-        clock <= self.rank(checked, cmd.rank()).refresh.deadline
+        clock <= self.rank(t, g, cmd.rank()).refresh.deadline
     }
 }

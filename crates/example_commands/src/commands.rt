@@ -25,9 +25,9 @@ fn read_at(clock: u64) -> [Stamped; 2] {
 
 /// A read one clock before tRCD has passed, and one when it has.
 pub(crate) fn judge_two_lists(rt: &HostRuntime, checked: &Checked) -> anyhow::Result<()> {
-    let early = first_fault(checked, &read_at(15));
+    let early = first_fault(&checked.rules(), &read_at(15));
     println!(*rt; "a read at clock 15: {early:?}")?;
-    let ready = first_fault(checked, &read_at(16));
+    let ready = first_fault(&checked.rules(), &read_at(16));
     println!(*rt; "a read at clock 16: {ready:?}")?;
     Ok(())
 }

@@ -2,7 +2,11 @@
 use Rattle.std.specs.Prelude.{◌≡◌, ℕ, ◌≤◌, List, length, codes, Some, IsSomeAnd, IsUtf8, if◌then◌else◌}
 use Rattle.ddr4_timing.specs.declared.timing.Timing.{Timing}
 use Rattle.ddr4_timing.specs.declared.timing.Geometry.{Geometry}
+use Rattle.ddr4_timing.specs.Checks.{PassesForCommands}
 use Rattle.ddr4_timing.specs.Limits.{Passes}
+use Rattle.ddr4_timing.specs.declared.timing.CommandRules.{CommandRules}
+use Rattle.nv_profile.specs.declared.reading.Numbers.{Numbers}
+use Rattle.nv_profile.specs.declared.reading.Numbers.TheVariants.{Commands, Module}
 use Rattle.energy_budget.specs.declared.costs.CostNumbers.{CostNumbers}
 use Rattle.energy_budget.specs.CostNumbers.{AreCostsInLimits}
 use Rattle.toml.specs.Data.{Members}
@@ -91,11 +95,42 @@ pub record SaysProfile (table : Members) (profile : Profile) : Type 0 where
   pub sizes : Under (codes "module") table (λ t. SaysModule t profile.sizes profile.map)
   pub passes : Passes profile.checked.timing profile.checked.geometry
 
+-- the tables of the timing and of the geometry and no further key, whose numbers commands may be checked by
+pub record SaysRules (table : Members) (rules : CommandRules) : Type 0 where
+  pub size : size_of table ≡ 2
+  pub timing : Under (codes "timing") table (λ t. SaysTiming t rules.timing)
+  pub geometry : Under (codes "geometry") table (λ t. SaysGeometry t rules.geometry)
+  pub passes : PassesForCommands rules.timing rules.geometry
+
 -- the bytes are UTF-8, and TOML that says the profile
 pub record IsProfileText (bytes : List ℕ) (profile : Profile) : Type 0 where
   pub short : length bytes ≤ MOST_BYTES
   pub utf8 : IsUtf8 bytes
   pub says : IsSomeAnd (parse_document bytes) (λ table. SaysProfile table profile)
+
+-- the same of the numbers for commands alone
+pub record IsRulesText (bytes : List ℕ) (rules : CommandRules) : Type 0 where
+  pub short : length bytes ≤ MOST_BYTES
+  pub utf8 : IsUtf8 bytes
+  pub says : IsSomeAnd (parse_document bytes) (λ table. SaysRules table rules)
+
+-- no text of such numbers
+abbrev pub IsNoRules : List ℕ → Type 0
+IsNoRules bytes = HoldsOfNone (IsRulesText bytes)
+
+-- the bytes say these numbers: those of a profile, or those for commands alone
+abbrev pub IsNumbersText : List ℕ → Numbers → Type 0
+IsNumbersText bytes (Module profile) = IsProfileText bytes profile
+IsNumbersText bytes (Commands rules) = IsRulesText bytes rules
+
+-- the timing and the geometry by which commands are checked
+abbrev pub timing_in : Numbers → Timing
+timing_in (Module profile) = profile.checked.timing
+timing_in (Commands rules) = rules.timing
+
+abbrev pub geometry_in : Numbers → Geometry
+geometry_in (Module profile) = profile.checked.geometry
+geometry_in (Commands rules) = rules.geometry
 
 -- no profile's text
 abbrev pub IsNoProfile : List ℕ → Type 0

@@ -13,6 +13,6 @@ mod table;
 mod timing;
 
 pub use profile::Profile;
-pub use reading::{MOST_BYTES, ProfileFault, read_profile};
+pub use reading::{MOST_BYTES, Numbers, ProfileFault, read_numbers, read_profile, read_rules};
 pub use ready::{TINY, TINY2, ready_profile};
 pub use sizes::ModuleSizes;

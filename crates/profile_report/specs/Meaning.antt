@@ -1,9 +1,11 @@
 -- What a profile means.
 use Rattle.std.specs.Prelude.{◌≡◌, ℕ, ◌*◌, List, [], ◌∷◌, min, nat_lt, if◌then◌else◌, Option, Some, None}
 use Rattle.ddr4_timing.specs.Limits.{close_of, entry_of, lines_of}
+use Rattle.ddr4_timing.specs.declared.timing.CommandRules.{CommandRules}
 use Rattle.energy_budget.specs.Costs.{AreReckonedFor}
 use Rattle.nv_profile.specs.declared.profile.Profile.{Profile}
 use Rattle.slot_store.specs.Slots.{device_size}
+use Rattle.profile_report.specs.declared.command_meaning.CommandMeaning.{CommandMeaning}
 use Rattle.profile_report.specs.declared.meaning.Meaning.{Meaning}
 
 pub record IsMeaningOf (profile : Profile) (m : Meaning) : Type 0 where
@@ -15,6 +17,11 @@ pub record IsMeaningOf (profile : Profile) (m : Meaning) : Type 0 where
   pub costs : AreReckonedFor profile.checked m.costs
   pub numbers : m.costs.numbers ≡ profile.costs
   pub retries : m.costs.retries ≡ profile.sizes.retries
+
+-- of numbers by which commands alone are checked
+pub record IsCommandMeaningOf (rules : CommandRules) (m : CommandMeaning) : Type 0 where
+  pub rules_are : m.rules ≡ rules
+  pub banks : m.banks ≡ rules.geometry.ranks * rules.geometry.groups * rules.geometry.banks
 
 -- a number where it is above another one
 abbrev pub if_above : ℕ → ℕ → Option ℕ

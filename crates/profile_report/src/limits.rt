@@ -20,28 +20,31 @@ pub(crate) struct KnownTable {
 /// The names of the tables.
 pub(crate) const TABLE_NAMES: [&str; 4] = ["timing", "geometry", "costs", "module"];
 
+/// The table of the times.
+const TIMING: KnownTable = KnownTable {
+    name: "timing",
+    limits: &[
+        Limits {
+            keys: &[
+                "tRCD", "tRP", "tRAS", "CL", "CWL", "tCCD_S", "tCCD_L", "tRRD_S", "tRRD_L", "tFAW",
+                "tWR", "tWTR_S", "tWTR_L", "tRTP", "tRTW", "tCS", "tRFC",
+            ],
+            least: 1,
+            most: 100_000,
+            optional: false,
+        },
+        Limits {
+            keys: &["tREFI"],
+            least: 1,
+            most: 1_000_000,
+            optional: false,
+        },
+    ],
+};
+
 /// The tables. That of the module has the key `map` too.
 pub(crate) const TABLES: [KnownTable; 4] = [
-    KnownTable {
-        name: "timing",
-        limits: &[
-            Limits {
-                keys: &[
-                    "tRCD", "tRP", "tRAS", "CL", "CWL", "tCCD_S", "tCCD_L", "tRRD_S", "tRRD_L",
-                    "tFAW", "tWR", "tWTR_S", "tWTR_L", "tRTP", "tRTW", "tCS", "tRFC",
-                ],
-                least: 1,
-                most: 100_000,
-                optional: false,
-            },
-            Limits {
-                keys: &["tREFI"],
-                least: 1,
-                most: 1_000_000,
-                optional: false,
-            },
-        ],
-    },
+    TIMING,
     KnownTable {
         name: "geometry",
         limits: &[
@@ -123,6 +126,46 @@ pub(crate) const TABLES: [KnownTable; 4] = [
                 least: 0,
                 most: 16,
                 optional: true,
+            },
+        ],
+    },
+];
+
+/// The tables of the numbers for commands alone.
+pub(crate) const COMMAND_TABLES: [KnownTable; 2] = [
+    TIMING,
+    KnownTable {
+        name: "geometry",
+        limits: &[
+            Limits {
+                keys: &["channels", "ranks"],
+                least: 1,
+                most: 8,
+                optional: false,
+            },
+            Limits {
+                keys: &["groups"],
+                least: 2,
+                most: 4,
+                optional: false,
+            },
+            Limits {
+                keys: &["banks"],
+                least: 4,
+                most: 4,
+                optional: false,
+            },
+            Limits {
+                keys: &["rows"],
+                least: 1,
+                most: 262_144,
+                optional: false,
+            },
+            Limits {
+                keys: &["columns"],
+                least: 1,
+                most: 1_024,
+                optional: false,
             },
         ],
     },

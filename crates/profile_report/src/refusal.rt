@@ -2,7 +2,7 @@
 ghost use Rattle.std.specs.Prelude.{◌<◌, length, IfOk};
 ghost use Rattle.ddr4_timing.specs.Checks.{FailsEntry};
 
-use crate::limits::{KnownTable, Limits, TABLE_NAMES, TABLES};
+use crate::limits::{COMMAND_TABLES, KnownTable, Limits, TABLE_NAMES, TABLES};
 use ddr4_timing::timing::{Geometry, ProfileError, Timing};
 use interleave_map::Interleaving;
 use near_word::near_word;
@@ -14,6 +14,9 @@ use toml::{Table, Value, table_from_slice};
 /// Why the bytes are no profile, in words: that the text is too long or isn't TOML, with the place where it breaks; else each
 /// table and key that is missing, further or past its limits; and of tables without such a fault the first check of the timing and
 /// the geometry that isn't passed. No reasons of a profile.
+///
+/// A text that has no tables but those of the timing and of the geometry is asked for the numbers by which commands alone are
+/// checked.
 pub fn reasons(alloc: Global, bytes: &[u8]) -> Result<Vec<String>, AllocError>
     ensures { MOST_BYTES < length bytes.now
         → IfOk result (λ reasons. 0 < length reasons.items) }
@@ -44,18 +47,52 @@ fn why_no_toml(alloc: Global, bytes: &[u8], error: &Error) -> Result<String, All
 }
 
 fn add_reasons(alloc: Global, table: &Table, reasons: &mut Vec<String>) -> Result<(), AllocError> {
+    if is_for_commands(table) {
+        return add_command_reasons(alloc, table, reasons);
+    }
     for known in &TABLES {
         add_inner(alloc, table, known, reasons)?;
     }
+    add_tables(alloc, table, reasons)?;
+    if reasons.is_empty() {
+        if let Some(why) = why_of_checks(alloc, table)? {
+            reasons.push(why)?;
+        }
+    }
+    Ok(())
+}
+
+// Has it the tables of the timing and of the geometry, and no other?
+fn is_for_commands(table: &Table) -> bool {
+    table.len() == 2
+        && COMMAND_TABLES
+            .iter()
+            .all(|known| table.get(known.name).is_some())
+}
+
+// The reasons why commands aren't checked by the numbers of a table.
+fn add_command_reasons(
+    alloc: Global,
+    table: &Table,
+    reasons: &mut Vec<String>,
+) -> Result<(), AllocError> {
+    for known in &COMMAND_TABLES {
+        add_inner(alloc, table, known, reasons)?;
+    }
+    let geometry = geometry_of(table);
+    if reasons.is_empty() && timing_of(table).check_commands(&geometry).is_err() {
+        let groups = geometry.groups;
+        reasons.push(format!(in alloc; "geometry.groups = {groups}, and 2 or 4 are allowed")?)?;
+    }
+    Ok(())
+}
+
+// Which tables aren't known.
+fn add_tables(alloc: Global, table: &Table, reasons: &mut Vec<String>) -> Result<(), AllocError> {
     for (key, _value) in table {
         if !TABLES.iter().any(|known| known.name == key.as_str()) {
             let near = near_word(alloc, key.as_str(), &TABLE_NAMES)?;
             reasons.push(unknown(alloc, "", key.as_str(), near)?)?;
-        }
-    }
-    if reasons.is_empty() {
-        if let Some(why) = why_of_checks(alloc, table)? {
-            reasons.push(why)?;
         }
     }
     Ok(())

@@ -5,6 +5,7 @@ use Rattle.energy_budget.specs.Sums.{floor_level, needed_level, reserve, steps}
 use Rattle.energy_budget.specs.declared.costs.Costs.{Costs}
 use Rattle.interleave_map.specs.Ready.{text_of}
 use Rattle.profile_report.specs.Meaning.{pending_told}
+use Rattle.profile_report.specs.declared.command_meaning.CommandMeaning.{CommandMeaning}
 use Rattle.profile_report.specs.declared.meaning.Meaning.{Meaning}
 use Rattle.serde_json.specs.Data.{Data, number, unsigned, string, array, object, Items, member, no_members}
 use Rattle.serde_json.specs.View.{items_of}
@@ -17,6 +18,12 @@ save_data costs pending = object (member (codes "answer") (string (codes "save")
 -- one for each number of pending writes that is told
 abbrev pub saves_data : Meaning → Items
 saves_data m = items_of (map (save_data m.costs) (flat_map option_to_list (pending_told m)))
+
+abbrev pub command_meaning_data : CommandMeaning → Data
+command_meaning_data m = object (member (codes "answer") (string (codes "rules"))
+    (member (codes "banks") (number (unsigned m.banks)) (member (codes "channels") (number (unsigned m.rules.geometry.channels))
+    (member (codes "columns") (number (unsigned m.rules.geometry.columns)) (member (codes "ranks") (number (unsigned m.rules.geometry.ranks))
+    (member (codes "rows") (number (unsigned m.rules.geometry.rows)) no_members))))))
 
 abbrev pub meaning_data : Meaning → Data
 meaning_data m = object (member (codes "answer") (string (codes "profile"))

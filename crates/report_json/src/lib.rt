@@ -6,5 +6,5 @@ mod meanings;
 mod verdicts;
 
 pub use crashes::{block_object, counts_object, stop_object, write_table};
-pub use meanings::meaning_object;
+pub use meanings::{command_meaning_object, meaning_object};
 pub use verdicts::{fault_object, lawful_object, tally_object, write_tallies, write_verdicts};

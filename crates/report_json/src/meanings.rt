@@ -3,10 +3,10 @@ ghost use Rattle.std.specs.Prelude.{◌≡◌, ◌≤◌, IfOk, flat_map, map};
 ghost use Rattle.std.specs.Option.{option_to_list};
 ghost use Rattle.profile_report.specs.Meaning.{pending_told};
 ghost use Rattle.serde_json.specs.View.{view};
-ghost use Rattle.report_json.specs.Meanings.{meaning_data, save_data};
+ghost use Rattle.report_json.specs.Meanings.{command_meaning_data, meaning_data, save_data};
 
 use energy_budget::Costs;
-use profile_report::Meaning;
+use profile_report::{CommandMeaning, Meaning};
 use serde_json::{Value, json, push};
 use std::alloc::{AllocError, Global};
 
@@ -55,5 +55,21 @@ pub fn meaning_object(alloc: Global, meaning: &Meaning) -> Result<Value, AllocEr
         "lines": meaning.lines,
         "map": map,
         "saves": saves
+    })
+}
+
+/// The object of what numbers for commands alone mean: the channels, and of each its ranks and banks, and the rows and columns of a
+/// bank.
+pub fn command_meaning_object(alloc: Global, meaning: &CommandMeaning) -> Result<Value, AllocError>
+    ensures { IfOk result (λ value. view value ≡ command_meaning_data meaning.now) }
+{
+    let geometry = &meaning.rules.geometry;
+    json!(in alloc; {
+        "answer": "rules",
+        "banks": meaning.banks,
+        "channels": geometry.channels,
+        "columns": geometry.columns,
+        "ranks": geometry.ranks,
+        "rows": geometry.rows
     })
 }

@@ -5,7 +5,7 @@ ghost use Rattle.report_json.specs.Verdicts.{fault_data, lawful_data, numbered_d
 
 use answer_json::{told_of_numbered, write_object};
 use command_trace::{Diagnosis, Form, Numbered, Source, Tally, TraceCheck, TraceFault};
-use ddr4_timing::timing::Checked;
+use ddr4_timing::timing::CommandRules;
 use nv_script::ScriptFault;
 use serde_json::{Value, json};
 use std::alloc::{AllocError, Global};
@@ -85,13 +85,13 @@ pub fn write_verdicts<R: Files + AllocGlobal, W: Write>(
     rt: &R,
     source: &Source<'_>,
     form: Form,
-    checked: &Checked,
+    rules: &CommandRules,
     check: &TraceCheck,
     writer: &mut W,
 ) -> Result<(), TraceFault> {
     let alloc = rt.alloc();
-    for channel in 0..checked.geometry.channels {
-        let found = source.diagnosis(rt, form, checked, check, channel)?;
+    for channel in 0..rules.geometry.channels {
+        let found = source.diagnosis(rt, form, rules, check, channel)?;
         let object = verdict_object(alloc, channel, check.count(channel), found)?;
         write_line(alloc, &object, writer)?;
     }
@@ -112,18 +112,18 @@ pub fn write_tallies<R: Files + AllocGlobal, W: Write>(
     rt: &R,
     source: &Source<'_>,
     form: Form,
-    checked: &Checked,
+    rules: &CommandRules,
     check: &TraceCheck,
     writer: &mut W,
 ) -> Result<(), TraceFault> {
     let alloc = rt.alloc();
-    for channel in 0..checked.geometry.channels {
-        if check.is_lawful(checked, channel) {
+    for channel in 0..rules.geometry.channels {
+        if check.is_lawful(rules, channel) {
             let object = lawful_object(alloc, channel, check.count(channel))?;
             write_line(alloc, &object, writer)?;
             continue;
         }
-        let tallies = source.tallies(rt, form, checked, channel)?;
+        let tallies = source.tallies(rt, form, rules, channel)?;
         write_channel(alloc, channel, &tallies, writer)?;
     }
     Ok(())

@@ -8,7 +8,7 @@ use command_trace::Entry;
 use ddr4_timing::command::Stamped;
 use ddr4_timing::fault::Fault;
 use ddr4_timing::rules::Rule;
-use ddr4_timing::timing::Checked;
+use ddr4_timing::timing::CommandRules;
 use std::alloc::{AllocError, Global};
 
 /// A command that breaks a rule, where it goes.
@@ -68,7 +68,7 @@ fn put_flaws(flaws: &mut Vec<Flaw>, own: &[Entry], faults: &[Fault]) -> Result<(
 fn add_flaws(
     flaws: &mut Vec<Flaw>,
     alloc: Global,
-    c: &Checked,
+    c: &CommandRules,
     channel: u64,
     entries: &[Entry],
 ) -> Result<(), AllocError>
@@ -82,7 +82,7 @@ fn add_flaws(
 
 /// The commands of a trace that break a rule, channel by channel, each with its rule.
 #[tactic(auto, using(crate::proofs::FlawLemmas::adds_more))]
-pub fn flaws_of(alloc: Global, c: &Checked, entries: &[Entry]) -> Result<Vec<Flaw>, AllocError>
+pub fn flaws_of(alloc: Global, c: &CommandRules, entries: &[Entry]) -> Result<Vec<Flaw>, AllocError>
     ensures { IfOk result (λ flaws. AreFlawsOf c.now entries.now flaws.items) }
 {
     let mut flaws = Vec::new(alloc);

@@ -3,7 +3,9 @@ use crate::check::same;
 use ddr4_timing::profiles;
 use energy_budget::{CostNumbers, TINY_COSTS};
 use interleave_map::Interleaving;
-use nv_profile::{ModuleSizes, Profile, ProfileFault, TINY, read_profile, ready_profile};
+use nv_profile::{
+    ModuleSizes, Profile, ProfileFault, TINY, read_profile, read_rules, ready_profile,
+};
 use std::alloc::Global;
 use std::process::Abort;
 
@@ -336,4 +338,34 @@ fn the_longest_profile(rt: HostRuntime) {
     assert!(rt; is_profile(rt.alloc(), &bytes));
     bytes.push(b'x').expect(&rt, "memory");
     assert!(rt; is_refused(rt.alloc(), &bytes));
+}
+
+// The tables of the timing and of the geometry of `tiny`, with another text in place of a part of them.
+fn rules_without<R: Abort + AllocGlobal>(rt: &R, part: &str, other: &str) -> String {
+    let (tables, _) = TINY.split_once("[costs]").expect(rt, "the costs");
+    let (before, after) = tables.split_once(part).expect(rt, "the part");
+    format!(in rt.alloc(); "{before}{other}{after}").expect(rt, "memory")
+}
+
+// Whether they are numbers by which commands are checked.
+fn are_rules<R: Abort + AllocGlobal>(rt: &R, part: &str, other: &str, wanted: bool) {
+    let text = rules_without(rt, part, other);
+    let read = read_rules(rt.alloc(), text.as_bytes());
+    assert_eq!(*rt; read.is_ok(), wanted, "{other} for {part}");
+}
+
+#[test]
+fn numbers_of_commands_alone(rt: HostRuntime) {
+    are_rules(&rt, "rows = 2", "rows = 262144", true);
+    are_rules(&rt, "rows = 2", "rows = 262145", false);
+    are_rules(&rt, "columns = 4", "columns = 1024", true);
+    are_rules(&rt, "columns = 4", "columns = 1025", false);
+    are_rules(&rt, "ranks = 1", "ranks = 8", true);
+    are_rules(&rt, "ranks = 1", "ranks = 9", false);
+    are_rules(&rt, "channels = 2", "channels = 3", true);
+    are_rules(&rt, "channels = 2", "", false);
+    are_rules(&rt, "[geometry]", "[costs]\n[geometry]", false);
+    are_rules(&rt, "tRFC = 420", "tRFC = 0", false);
+    let whole = read_rules(rt.alloc(), TINY.as_bytes());
+    assert!(rt; whole.is_err(), "a profile has further tables");
 }

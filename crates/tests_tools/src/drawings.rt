@@ -19,7 +19,7 @@ fn schedule(alloc: Global, text: &str) -> anyhow::Result<Schedule> {
     let mut schedule = Schedule::new(alloc);
     let begin = schedule.next_begin();
     schedule.add(alloc, &checked.timing, begin, &entries)?;
-    schedule.flaws = flaws_of(alloc, &checked, &entries)?;
+    schedule.flaws = flaws_of(alloc, &checked.rules(), &entries)?;
     Ok(schedule)
 }
 

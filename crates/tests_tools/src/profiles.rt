@@ -1,6 +1,6 @@
 // What is told of profiles, and why a text is none.
-use nv_profile::{TINY, read_profile};
-use profile_report::{Meaning, reasons};
+use nv_profile::{TINY, read_profile, read_rules};
+use profile_report::{CommandMeaning, Meaning, reasons};
 use std::process::Abort;
 
 #[test]
@@ -39,6 +39,62 @@ fn refused<R: Abort + AllocGlobal>(
 ) -> anyhow::Result<()> {
     let text = TINY.replace(rt.alloc(), old, new)?;
     tells(rt, &text, wanted)
+}
+
+// The same of the small profile's timing and geometry, which are numbers for commands alone.
+fn for_commands<R: Abort + AllocGlobal>(
+    rt: &R,
+    old: &str,
+    new: &str,
+    wanted: &str,
+) -> anyhow::Result<()> {
+    let (tables, _) = TINY.split_once("[costs]").expect(rt, "the costs");
+    let text = tables.replace(rt.alloc(), old, new)?;
+    let said = reasons(rt.alloc(), text.as_bytes())?.join(rt.alloc(), "\n")?;
+    assert_eq!(*rt; said.as_str(), wanted);
+    let is_read = read_rules(rt.alloc(), text.as_bytes()).is_ok();
+    assert_eq!(*rt; is_read, wanted.is_empty());
+    Ok(())
+}
+
+#[test]
+fn numbers_for_commands(rt: HostRuntime) -> anyhow::Result<()> {
+    for_commands(&rt, "ranks = 1", "ranks = 8", "")?;
+    for_commands(&rt, "rows = 2", "rows = 3", "")?;
+    for_commands(
+        &rt,
+        "ranks = 1",
+        "ranks = 9",
+        "geometry.ranks = 9, and 1 to 8 are allowed",
+    )?;
+    for_commands(
+        &rt,
+        "groups = 2",
+        "groups = 3",
+        "geometry.groups = 3, and 2 or 4 are allowed",
+    )?;
+    for_commands(
+        &rt,
+        "rows = 2",
+        "rows = 262145",
+        "geometry.rows = 262145, and 1 to 262144 are allowed",
+    )?;
+    for_commands(
+        &rt,
+        "columns = 4",
+        "columns = 1025",
+        "geometry.columns = 1025, and 1 to 1024 are allowed",
+    )?;
+    for_commands(&rt, "channels = 2\n", "", "no key geometry.channels")?;
+    let (tables, _) = TINY.split_once("[costs]").expect(&rt, "the costs");
+    let rules = read_rules(rt.alloc(), tables.as_bytes())?;
+    assert_eq!(rt;
+        CommandMeaning::of(&rules).to_string(rt.alloc())?.as_str(),
+        "commands on 2 channels, of each ranks 1, banks 8
+of each bank rows 2, columns 4
+no module: no tables costs and module"
+    );
+    Ok(())
 }
 
 #[test]

@@ -21,18 +21,18 @@ pub(crate) fn checked() -> Result<Checked, ProfileError> {
 
 /// The verdict on each channel of a trace, a line each.
 pub(crate) fn verdicts(alloc: Global, text: &str, others: bool) -> anyhow::Result<String> {
-    let checked = checked()?;
+    let rules = checked()?.rules();
     let form = form_of(alloc, text.as_bytes(), others)?;
     let mut reader = TraceReader::new(alloc, text.as_bytes(), form, 1);
-    let check = check_trace(&checked, &mut reader)?;
+    let check = check_trace(&rules, &mut reader)?;
     let mut said = format!(in alloc; "")?;
-    if check.are_lawful(&checked) {
+    if check.are_lawful(&rules) {
         write!(said, "lawful {}", check.count(0))?;
         return Ok(said);
     }
     let mut again = TraceReader::new(alloc, text.as_bytes(), form, 1);
     let listed = list_commands(alloc, &mut again, 0, check.line(0))?;
-    match diagnose(&checked, &listed.commands, &listed.lines) {
+    match diagnose(&rules, &listed.commands, &listed.lines) {
         Some(found) => write!(said, "fault {found}")?,
         None => write!(said, "no fault")?,
     }
@@ -41,12 +41,12 @@ pub(crate) fn verdicts(alloc: Global, text: &str, others: bool) -> anyhow::Resul
 
 // The rules that a trace of one channel breaks, a line each.
 fn broken(alloc: Global, text: &str) -> anyhow::Result<String> {
-    let checked = checked()?;
+    let rules = checked()?.rules();
     let form = form_of(alloc, text.as_bytes(), false)?;
     let mut reader = TraceReader::new(alloc, text.as_bytes(), form, 1);
     let listed = list_commands(alloc, &mut reader, 0, u64::MAX)?;
     let mut said = format!(in alloc; "")?;
-    for tally in &tallies(alloc, &checked, &listed)? {
+    for tally in &tallies(alloc, &rules, &listed)? {
         writeln!(said, "{tally}")?;
     }
     Ok(said)
@@ -74,5 +74,37 @@ const BROKEN: &str = "2, ACT wants its bank closed; line 2: 1 ACT 0 0 0 0; the f
 fn rules_that_are_broken(rt: HostRuntime) -> anyhow::Result<()> {
     assert_eq!(rt; broken(rt.alloc(), UNLAWFUL)?.as_str(), BROKEN);
     assert_eq!(rt; broken(rt.alloc(), "0 0 ACT 0 0 0 1\n")?.as_str(), "");
+    Ok(())
+}
+
+/// The most that commands alone may have.
+const MOST: Geometry = Geometry {
+    channels: 8,
+    ranks: 8,
+    groups: 4,
+    banks: 4,
+    rows: 1 << 18,
+    columns: 1 << 10,
+};
+
+// The line of the first command of the last channel that isn't lawful there; 0 where all are.
+fn line_of_a_fault(alloc: Global, text: &str) -> anyhow::Result<u64> {
+    let rules = TINY.check_commands(&MOST)?;
+    let form = form_of(alloc, text.as_bytes(), false)?;
+    let mut reader = TraceReader::new(alloc, text.as_bytes(), form, 8);
+    Ok(check_trace(&rules, &mut reader)?.line(7))
+}
+
+#[test]
+fn the_last_bank_of_a_trace(rt: HostRuntime) -> anyhow::Result<()> {
+    for (text, line) in [
+        ("7 0 ACT 7 3 3 262143\n7 16 RD 7 3 3 1023\n", 0),
+        ("7 0 ACT 7 3 3 262143\n7 15 RD 7 3 3 1023\n", 2),
+        ("7 0 ACT 7 3 3 262144\n", 1),
+        ("7 0 ACT 7 3 3 262143\n7 16 RD 7 3 3 1024\n", 2),
+        ("7 0 ACT 8 3 3 262143\n", 1),
+    ] {
+        assert_eq!(rt; line_of_a_fault(rt.alloc(), text)?, line, "{text}");
+    }
     Ok(())
 }

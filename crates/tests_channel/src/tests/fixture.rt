@@ -163,6 +163,6 @@ impl Fixture {
 
     /// The first fault of a list of commands, on its profile.
     pub(crate) fn fault(&self, list: &[Stamped]) -> Option<Fault> {
-        first_fault(&self.map.checked, list)
+        first_fault(&self.map.checked.rules(), list)
     }
 }

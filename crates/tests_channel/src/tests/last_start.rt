@@ -78,7 +78,7 @@ fn drain_behind<R: Abort>(
         clock,
         cmd: Command::Act { at, row: 1 },
     };
-    assert!(*rt; first_fault(checked, &[opened]).is_none());
+    assert!(*rt; first_fault(&checked.rules(), &[opened]).is_none());
     drain_opened(channel, &costs, at, 1, clock)
 }
 
@@ -129,6 +129,6 @@ fn a_drain_at_the_last_start(rt: HostRuntime) {
     let report = drain_behind(&rt, &checked, &mut channel, 83_801);
     let list = recent(&rt, &channel);
     same(&rt, list.as_slice(), behind(&rt, 0, &LAST).as_slice());
-    same(&rt, first_fault(&checked, &list), None);
+    same(&rt, first_fault(&checked.rules(), &list), None);
     same(&rt, (report.clocks, report.spent), (541, 570));
 }

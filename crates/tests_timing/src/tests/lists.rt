@@ -3,6 +3,7 @@ use crate::tests::check::same;
 use crate::tests::commands::{act, at, pre, rd, wr};
 use ddr4_timing::command::{Command, Stamped};
 use ddr4_timing::fault::{Fault, first_fault};
+use ddr4_timing::place::BankAddress;
 use ddr4_timing::profiles::{SMALL, TINY};
 use ddr4_timing::rules::Rule;
 use ddr4_timing::timing::{Checked, Geometry};
@@ -24,7 +25,7 @@ fn tiny<R: Abort>(rt: &R) -> Checked {
 
 // The list has this first fault.
 fn has<R: Abort>(rt: &R, c: &Checked, list: &[Stamped], expected: Option<Fault>) {
-    same(rt, first_fault(c, list), expected);
+    same(rt, first_fault(&c.rules(), list), expected);
 }
 
 #[test]
@@ -39,6 +40,47 @@ fn finds_first_faults(rt: HostRuntime) {
     has(&rt, &c, &[at(9360, REF)], None);
     has(&rt, &c, &[at(84241, act(0, 0, 0))], early);
     has(&rt, &c, &[at(84240, act(0, 0, 0))], None);
+}
+
+// The last row of the last bank of the eighth rank.
+const LAST_BANK: BankAddress = BankAddress {
+    rank: 7,
+    group: 3,
+    bank: 3,
+};
+
+fn open_last(row: u64) -> Stamped {
+    at(0, Command::Act { at: LAST_BANK, row })
+}
+
+fn read_last(clock: u64) -> Stamped {
+    let column = 1023;
+    at(
+        clock,
+        Command::Rd {
+            at: LAST_BANK,
+            column,
+        },
+    )
+}
+
+#[test]
+fn the_last_bank_of_commands(rt: HostRuntime) {
+    let devices = Geometry {
+        ranks: 8,
+        groups: 4,
+        rows: 1 << 18,
+        columns: 1 << 10,
+        ..SMALL
+    };
+    let rules = TINY.check_commands(&devices).expect(&rt, "numbers");
+    let last = (1 << 18) - 1;
+    let early = [open_last(last), read_last(15)];
+    same(&rt, first_fault(&rules, &early), fault(0, 1, Rule::Rcd));
+    let ready = [open_last(last), read_last(16)];
+    same(&rt, first_fault(&rules, &ready), None);
+    let past = [open_last(last + 1)];
+    same(&rt, first_fault(&rules, &past), fault(0, 0, Rule::Rows));
 }
 
 // The first fault of five rows, the last of them opened at this clock.
@@ -97,7 +139,7 @@ fn fault_with<R: Abort + AllocGlobal>(
 ) -> Option<Fault> {
     let mut list = before.to_vec(rt.alloc()).expect(rt, "memory");
     list.push(last).expect(rt, "memory");
-    first_fault(c, &list)
+    first_fault(&c.rules(), &list)
 }
 
 // Behind the list a command at the clock breaks a rule, and breaks none one clock later.

@@ -67,6 +67,66 @@ fn checks_geometries(rt: HostRuntime) {
     is(&rt, &LONG, &MANY, Some(ProfileError::Geometry));
 }
 
+// The most that commands alone may have.
+const DEVICES: Geometry = Geometry {
+    channels: 8,
+    ranks: 8,
+    groups: 4,
+    banks: 4,
+    rows: 1 << 18,
+    columns: 1 << 10,
+};
+
+// The check for commands alone answers so.
+fn of_commands<R: Abort>(
+    rt: &R,
+    timing: &Timing,
+    geometry: &Geometry,
+    refused: Option<ProfileError>,
+) {
+    same(rt, timing.check_commands(geometry).err(), refused);
+}
+
+#[test]
+fn checks_geometries_of_commands(rt: HostRuntime) {
+    of_commands(&rt, &TINY, &DEVICES, None);
+    of_commands(&rt, &BOTH, &DEVICES, None);
+    of_commands(&rt, &HUGE, &MANY, Some(ProfileError::Overflow));
+    for past in [
+        Geometry {
+            channels: 9,
+            ..DEVICES
+        },
+        Geometry {
+            ranks: 9,
+            ..DEVICES
+        },
+        Geometry {
+            groups: 3,
+            ..DEVICES
+        },
+        Geometry {
+            banks: 2,
+            ..DEVICES
+        },
+        Geometry {
+            rows: (1 << 18) + 1,
+            ..DEVICES
+        },
+        Geometry {
+            columns: (1 << 10) + 1,
+            ..DEVICES
+        },
+        Geometry {
+            channels: 0,
+            ..DEVICES
+        },
+        Geometry { rows: 0, ..DEVICES },
+    ] {
+        of_commands(&rt, &TINY, &past, Some(ProfileError::Geometry));
+    }
+}
+
 const LAST: Place = Place {
     channel: 1,
     rank: 0,

@@ -82,7 +82,7 @@ fn goes_on_for_fifty_intervals(rt: HostRuntime) -> Result<(), Fail> {
     let list = run(rt.alloc(), &checked, 9000)?;
     let last = list.last().ok_or("empty")?;
     assert!(rt; last.clock >= 50 * 184);
-    assert_eq!(rt; first_fault(&checked, &list), None);
+    assert_eq!(rt; first_fault(&checked.rules(), &list), None);
     assert!(rt; refreshes(&list) >= 4 * 42);
     Ok(())
 }

@@ -22,7 +22,7 @@ no_rank = record {
 
 -- what a rank keeps, for each list
 rank_of_list : (b : BanksState) (list : List Stamped) (rank : ℕ) → Stands b list → rank < b.checked.geometry.ranks →
-    RankStands b.checked list b.state.next b.state.write (slice_index_or b.state.columns rank 0) rank (slice_index_or b.state.ranks rank no_rank)
+    RankStands b.checked.timing b.checked.geometry list b.state.next b.state.write (slice_index_or b.state.columns rank 0) rank (slice_index_or b.state.ranks rank no_rank)
 rank_of_list b list rank s h = s.ranks rank 0 no_rank h
 
 bank_of_list : (b : BanksState) (list : List Stamped) (at : BankAddress) → Stands b list → HasBank b.checked.geometry at →

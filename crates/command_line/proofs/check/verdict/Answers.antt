@@ -5,4 +5,4 @@ use Rattle.command_line.proofs.check.verdict.Goals as goal
 
 pub returns-clause-status : goal.returns-clause-status
 returns-clause-status c all =
-    status_tells (AreLawful c.args.checked.now c.args.check.now) (exit_status c.status_by.result) c.are_lawful.result c.status_by.ensures (c.are_lawful.ensures all)
+    status_tells (AreLawful c.args.rules.now c.args.check.now) (exit_status c.status_by.result) c.are_lawful.result c.status_by.ensures (c.are_lawful.ensures all)

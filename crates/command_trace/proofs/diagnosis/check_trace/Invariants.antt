@@ -3,4 +3,4 @@ use Rattle.command_trace.specs.Channels.{FollowsAll}
 use Rattle.command_trace.proofs.diagnosis.check_trace.Given as goal
 
 abbrev pub invariant-loop : goal.invariant-loop
-invariant-loop g l = (l.reader.channels ≡ l.fn.reader.channels) × FollowsAll l.checked l.check × (l.check.given.items ≡ l.reader.given.items)
+invariant-loop g l = (l.reader.channels ≡ l.fn.reader.channels) × FollowsAll l.rules l.check × (l.check.given.items ≡ l.reader.given.items)

@@ -13,10 +13,10 @@ returns c = record {
   rows = λ at here bank banks.
       let none : Option ℕ = None in
       let empty : Banks = record { rows = replicate 16 none } in
-      let rank : at.rank < 4 = omega (arith, here.rank, c.args.c.now.is_small.ranks) in
-      ap (λ (row : Banks). slice_index_or row.rows (slot_of at) bank) (get_or-replicate 4 at.rank empty banks rank)
-      ∙ get_or-replicate 16 (slot_of at) none bank (slot_below c.args.c.now.geometry at c.args.c.now.is_small here);
-  last = λ rank none here. get_or-replicate 4 rank 0 none (omega (arith, here, c.args.c.now.is_small.ranks));
-  refs = λ rank none here. get_or-replicate 4 rank 0 none (omega (arith, here, c.args.c.now.is_small.ranks));
-  asleep = λ rank none here. get_or-replicate 4 rank false none (omega (arith, here, c.args.c.now.is_small.ranks));
+      let rank : at.rank < 8 = omega (arith, here.rank, c.args.c.now.few_banks.ranks) in
+      ap (λ (row : Banks). slice_index_or row.rows (slot_of at) bank) (get_or-replicate 8 at.rank empty banks rank)
+      ∙ get_or-replicate 16 (slot_of at) none bank (slot_below c.args.c.now.geometry at c.args.c.now.few_banks here);
+  last = λ rank none here. get_or-replicate 8 rank 0 none (omega (arith, here, c.args.c.now.few_banks.ranks));
+  refs = λ rank none here. get_or-replicate 8 rank 0 none (omega (arith, here, c.args.c.now.few_banks.ranks));
+  asleep = λ rank none here. get_or-replicate 8 rank false none (omega (arith, here, c.args.c.now.few_banks.ranks));
 }

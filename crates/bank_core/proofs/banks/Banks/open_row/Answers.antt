@@ -1,5 +1,4 @@
-use Rattle.std.proofs.Common.{rules}
 use Rattle.bank_core.proofs.banks.Banks.open_row.Goals as goal
 
 pub returns : goal.returns
-returns c = search rules
+returns c = rw (← c.self.view_is) (λ list s. c.open_row.ensures list s.ranks)

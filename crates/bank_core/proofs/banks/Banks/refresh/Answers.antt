@@ -7,14 +7,17 @@ use Rattle.bank_core.proofs.banks.Banks.refresh.Goals.{then-all_closed, else-all
 pub returns-clause-closed : goal.returns-clause-closed
 returns-clause-closed c = rw (← c.self.view_is) (λ list s all. elim c.if-all_closed.branch [
   | then-all_closed w ↦ w.cmd-is
-  | else-all_closed w ↦ let shut = (c.all_closed.ensures list s).1 all in absurd (let e : true ≡ false = sym shut ∙ w.if-all_closed.false in cc)
+  | else-all_closed w ↦ let shut = (c.all_closed.ensures list s.ranks).1 all in absurd (let e : true ≡ false = sym shut ∙ w.if-all_closed.false in cc)
 ])
 
 pub returns-clause-opened : goal.returns-clause-opened
 returns-clause-opened c = rw (← c.self.view_is) (λ list s some. elim c.if-all_closed.branch [
-  | then-all_closed w ↦ absurd (some ((c.all_closed.ensures list s).0 w.if-all_closed.true))
+  | then-all_closed w ↦ absurd (some ((c.all_closed.ensures list s.ranks).0 w.if-all_closed.true))
   | else-all_closed w ↦ w.cmd-is
 ])
+
+pub returns-clause-clock : goal.returns-clause-clock
+returns-clause-clock c = rw (← c.self.view_is) (λ list s. c.least_clock.ensures list s.ranks)
 
 pub returns-clause-exact : goal.returns-clause-exact
 returns-clause-exact c =
@@ -22,8 +25,8 @@ returns-clause-exact c =
     rw (← c.self.view_is) (λ list s k.
     let b = c.self.inside.checked in
     let x : Stamped = record { clock = k; cmd = c.if-all_closed.cmd } in
-    let closed = c.all_closed.ensures list s in
-    let least = c.least_clock.ensures list s in
+    let closed = c.all_closed.ensures list s.ranks in
+    let least = c.least_clock.ensures list s.ranks in
     let (own, place, fits) : (rank_of x.cmd ≡ c.args.rank) × IsInGeometry b.geometry x.cmd × FitsRows b.geometry list x.cmd = elim c.if-all_closed.branch [
       | then-all_closed w ↦ rw w.cmd-is (refl, within, closed.0 w.if-all_closed.true)
       | else-all_closed w ↦ rw w.cmd-is (refl, within, λ all. absurd (let shut = closed.1 all in let e : true ≡ false = sym shut ∙ w.if-all_closed.false in cc))

@@ -1,6 +1,6 @@
 use Rattle.std.proofs.Common.{◌≡◌, ℕ, refl, subst, inl, inr, arith}
 use Rattle.std.proofs.lemmas.Bool.{cases_lt}
-use Rattle.ddr4_timing.specs.Lawful.{IsLawful}
+use Rattle.ddr4_timing.specs.Lawful.{IsLawfulBy}
 use Rattle.command_trace.specs.Channels.{commands_of}
 use Rattle.command_trace.proofs.trace_check.TraceCheck.are_lawful.Goals as goal
 
@@ -13,7 +13,7 @@ loop-channel-preserved c all channel below = elim (cases_lt channel c.loop-chann
   | inl before ↦ c.loop-channel.invariant all channel before
   | inr last ↦
       let same : c.loop-channel.channel ≡ channel = omega arith in
-      subst (λ (n : ℕ). IsLawful c.args.checked.now (commands_of n c.args.self.now.given.items)) same ((c.if-not-is_lawful.ensures all).0 refl)
+      subst (λ (n : ℕ). IsLawfulBy c.args.rules.now (commands_of n c.args.self.now.given.items)) same ((c.if-not-is_lawful.ensures all).0 refl)
 ]
 
 pub returns : goal.returns

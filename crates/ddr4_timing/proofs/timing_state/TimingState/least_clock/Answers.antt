@@ -12,8 +12,8 @@ returns c list s =
     let column = slice_index_or old.columns c.rank-number.result 0 in
     let none : BankCells = record { act = 0; column = 0; pre = 0 } in
     let stands = λ (x : Command) (is : c.args.cmd.now ≡ x).
-    subst (λ (r : ℕ). RankStands c.args.checked.now list old.next old.write column r rank) (c.rank-number.ensures ∙ ap (λ (y : Command). rank_of y) is) (c.rank-rank.ensures list 0 s) in
-    let lies = λ (x : Command) (is : c.args.cmd.now ≡ x). subst (λ (y : Command). IsInGeometry c.args.checked.now.geometry y) is c.requires in
+    subst (λ (r : ℕ). RankStands c.args.t.now c.args.g.now list old.next old.write column r rank) (c.rank-number.ensures ∙ ap (λ (y : Command). rank_of y) is) (c.rank-rank.ensures list 0 s) in
+    let lies = λ (x : Command) (is : c.args.cmd.now ≡ x). subst (λ (y : Command). IsInGeometry c.args.g.now y) is c.requires.place in
     rw c.max-2.ensures (elim c.match-cmd.branch [
       | in-Act w ↦
           let here = stands _ w.in-Act.is in

@@ -6,6 +6,6 @@ pub returns : goal.returns
 returns c = record {
   lawful = λ rule first second x s. absurd cc;
   ranks = λ rank column none h.
-      let small : rank < 4 = let r = c.args.checked.now.is_small.ranks in omega (arith, h, r) in
-      rw (get_or-replicate 4 rank 0 column small, get_or-replicate 4 rank c.new.result none small) (c.new.ensures rank);
+      let small : rank < 8 = let r = c.requires.few.ranks in omega (arith, h, r) in
+      rw (get_or-replicate 8 rank 0 column small, get_or-replicate 8 rank c.new.result none small) (c.new.ensures c.args.g.now rank c.requires.few);
 }
