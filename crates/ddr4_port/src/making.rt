@@ -23,7 +23,7 @@ use line_memory::Line;
 use std::alloc::{AllocError, Global};
 
 impl<'m, M: LineMap> Ddr4Port<'m, M> {
-    // The channel of a number, of zero lines, before any command.
+    // The channel of a number, of zero lines, before any command, which keeps its commands if it is to.
     fn unused(
         alloc: Global,
         map: &'m M,
@@ -31,6 +31,7 @@ impl<'m, M: LineMap> Ddr4Port<'m, M> {
         number: u64,
         depth: usize,
         reads: usize,
+        keeps_commands: bool,
     ) -> Result<Self, AllocError>
         requires lawful { M.is_lawful map.now }
         requires geometry { M.geometry_of map.now ≡ checked.now.geometry }
@@ -39,7 +40,10 @@ impl<'m, M: LineMap> Ddr4Port<'m, M> {
         ensures { IfOk result (IsUnused (M.place_of map.now) checked.now depth reads number) }
     {
         map.interleaves();
-        let channel = Channel::new(alloc, checked, number, depth, reads)?;
+        let mut channel = Channel::new(alloc, checked, number, depth, reads)?;
+        if keeps_commands {
+            channel.keep_commands(alloc);
+        }
         channel.always();
         Ok(Ddr4Port {
             channel,
@@ -67,6 +71,7 @@ fn unused_ports<'m, M: LineMap>(
     checked: &Checked,
     depth: usize,
     reads: usize,
+    keeps_commands: bool,
 ) -> Result<Vec<Ddr4Port<'m, M>>, AllocError>
     requires lawful { M.is_lawful map.now }
     requires geometry { M.geometry_of map.now ≡ checked.now.geometry }
@@ -77,7 +82,7 @@ fn unused_ports<'m, M: LineMap>(
 {
     let mut ports = Vec::with_capacity(alloc, checked.geometry.channels as usize)?;
     for number in 0..checked.geometry.channels {
-        let port = Ddr4Port::unused(alloc, map, checked, number, depth, reads)?;
+        let port = Ddr4Port::unused(alloc, map, checked, number, depth, reads, keeps_commands)?;
         ports.push_reserved(port);
     }
     Ok(ports)
@@ -85,7 +90,7 @@ fn unused_ports<'m, M: LineMap>(
 
 /// The channels of a profile over a lawful map of its geometry, whose arrays hold this memory. Nothing waits on them, no
 /// write is held, and none has issued a command. `depth` is how many writes may wait in a channel, and `reads` how many of
-/// its reads may be open. It refuses only where there is no memory.
+/// its reads may be open; each keeps its commands if it is to. It refuses only where there is no memory.
 pub fn channels_with_memory<'m, M: LineMap>(
     alloc: Global,
     map: &'m M,
@@ -93,6 +98,7 @@ pub fn channels_with_memory<'m, M: LineMap>(
     memory: &[Line],
     depth: usize,
     reads: usize,
+    keeps_commands: bool,
     costs: Costs,
 ) -> Result<ChannelSet<Ddr4Port<'m, M>>, AllocError>
     requires lawful { M.is_lawful map.now }
@@ -115,7 +121,7 @@ pub fn channels_with_memory<'m, M: LineMap>(
         → CarriesAll ⟦<Ddr4Port<'m, M> as ChannelPort>⟧ set memory.now start []) }
 {
     map.interleaves();
-    let mut ports = unused_ports(alloc, map, checked, depth, reads)?;
+    let mut ports = unused_ports(alloc, map, checked, depth, reads, keeps_commands)?;
     for (line, bytes) in memory.iter().enumerate() {
         let place = map.place(line as u64);
         ports[place.channel as usize].load(place, *bytes);
