@@ -19,12 +19,7 @@ impl<'l> Telling<'l> {
     }
 
     // Tells the commands of a channel up to a clock that aren't told yet.
-    fn tell(
-        &mut self,
-        whole: &mut Vec<Answer>,
-        channel: u64,
-        last: u64,
-    ) -> Result<(), AllocError> {
+    fn tell(&mut self, whole: &mut Vec<Answer>, channel: u64, last: u64) -> Result<(), AllocError> {
         let Some(commands) = self.channels.get(channel as usize) else {
             return Ok(());
         };

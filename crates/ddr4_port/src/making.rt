@@ -1,9 +1,12 @@
 // The ports of a memory.
 ghost use Rattle.std.specs.Prelude.{◌≡◌, ◌≤◌, ℕ, [], None, IfOk, length};
+ghost use Rattle.line_memory.specs.Memory.{zero_lines};
 ghost use Rattle.ddr4_timing.specs.Limits.{lines_of};
+ghost use Rattle.interleave_map.specs.Cells.{cells_of};
 ghost use Rattle.energy_budget.specs.Costs.{AreReckonedFor};
 ghost use Rattle.chan_core.specs.Calls.{loaded_at};
 ghost use Rattle.chan_core.specs.Mapped.{IsPlaceOn};
+ghost use Rattle.chan_core.specs.State.{new_channel};
 ghost use Rattle.channel_port.specs.declared.stage.Stage.TheVariants.{OnMains};
 ghost use Rattle.channel_port.specs.Waits.{nothing};
 ghost use Rattle.channel_set.specs.Set.{AreAt, shape_of, view_of};
@@ -22,8 +25,29 @@ use interleave_map::line_map::LineMap;
 use line_memory::Line;
 use std::alloc::{AllocError, Global};
 
+// The channel of a number, of zero lines, before any command, which keeps its commands if it is to.
+fn unused_channel(
+    alloc: Global,
+    checked: &Checked,
+    number: u64,
+    depth: usize,
+    reads: usize,
+    keeps_commands: bool,
+) -> Result<Channel, AllocError>
+    requires depth { (1 ≤ depth) × (depth ≤ 64) }
+    requires reads { reads ≤ 64 }
+    ensures { IfOk result (λ new. new ≡ new_channel checked.now number
+        (zero_lines (cells_of checked.now.geometry)) depth reads) }
+{
+    let mut channel = Channel::new(alloc, checked, number, depth, reads)?;
+    if keeps_commands {
+        channel.keep_commands(alloc);
+    }
+    Ok(channel)
+}
+
 impl<'m, M: LineMap> Ddr4Port<'m, M> {
-    // The channel of a number, of zero lines, before any command, which keeps its commands if it is to.
+    // A port of that channel.
     fn unused(
         alloc: Global,
         map: &'m M,
@@ -40,10 +64,7 @@ impl<'m, M: LineMap> Ddr4Port<'m, M> {
         ensures { IfOk result (IsUnused (M.place_of map.now) checked.now depth reads number) }
     {
         map.interleaves();
-        let mut channel = Channel::new(alloc, checked, number, depth, reads)?;
-        if keeps_commands {
-            channel.keep_commands(alloc);
-        }
+        let channel = unused_channel(alloc, checked, number, depth, reads, keeps_commands)?;
         channel.always();
         Ok(Ddr4Port {
             channel,

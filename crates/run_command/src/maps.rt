@@ -27,7 +27,13 @@ pub fn run_on_maps<W: Write>(
     writer: &mut W,
 ) -> Result<MemoryDevice, ScriptFault> {
     let mut printer = Printer::new(writer);
-    report_on_maps(alloc, profile, script, &mut printer, &mut CommandBook::closed(alloc))
+    report_on_maps(
+        alloc,
+        profile,
+        script,
+        &mut printer,
+        &mut CommandBook::closed(alloc),
+    )
 }
 
 /// The same, with the answers to a report, and the commands of the script's lives to a new book.

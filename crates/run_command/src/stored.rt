@@ -78,7 +78,9 @@ pub fn report_on_bytes<'m, M: LineMap, R: Report>(
 {
     let lines = read_script(alloc, script, &profile.checked.geometry)?;
     let device = MemoryDevice::new(alloc, bytes)?;
-    do_lines_on(alloc, profile, &lines, lines_map, xor_map, device, report, book)
+    do_lines_on(
+        alloc, profile, &lines, lines_map, xor_map, device, report, book,
+    )
 }
 
 /// The bytes of a device, as a read gives them.

@@ -9,6 +9,7 @@ pub mod Turns
 pub mod Stories
 pub mod Doing
 pub mod Runs
+pub mod Ended
 pub mod Chains
 pub mod Issued
 pub mod Lawful

@@ -97,7 +97,8 @@ impl CommandBook {
     pub fn into_lives(self) -> Option<Vec<LifeCommands>>
         ensures { option_map (λ lives. lives.items) result ≡ self }
     {
-        self.lives
+        let CommandBook { lives, .. } = self;
+        lives
     }
 
     // One life more. Where there is none, none is kept any longer.

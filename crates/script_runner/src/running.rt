@@ -80,9 +80,7 @@ pub fn do_lines<'m, M: LineMap, R: Report>(
         (R.refusals report.old) (R.refusals report.new)) }
 {
     let mut book = CommandBook::closed(alloc);
-    do_lines_kept(
-        alloc, profile, lines, lines_map, xor_map, report, &mut book,
-    )
+    do_lines_kept(alloc, profile, lines, lines_map, xor_map, report, &mut book)
 }
 
 /// Runs lines on a device of zero bytes, as `do_lines_on` does.
@@ -114,7 +112,9 @@ pub fn do_lines_kept<'m, M: LineMap, R: Report>(
     let size = device_size(line_count(&profile.checked) as usize);
     let bytes = Vec::from_elem(alloc, 0, size)?;
     let device = MemoryDevice::new(alloc, bytes)?;
-    do_lines_on(alloc, profile, lines, lines_map, xor_map, device, report, book)
+    do_lines_on(
+        alloc, profile, lines, lines_map, xor_map, device, report, book,
+    )
 }
 
 /// Runs lines on a device that has the size for the profile's lines, and is settled. The session begins with no life and a gauge that
