@@ -26,7 +26,10 @@ impl<'l> Telling<'l> {
         let Some(told) = self.told.get_mut(channel as usize) else {
             return Ok(());
         };
-        for command in commands.get(*told..).unwrap_or_default() {
+        let Some(rest) = commands.get(*told..) else {
+            return Ok(());
+        };
+        for command in rest {
             if command.clock > last {
                 return Ok(());
             }
@@ -46,6 +49,14 @@ impl<'l> Telling<'l> {
     }
 }
 
+// A life ends: what it has left untold is told.
+fn end_life(telling: &mut Option<Telling<'_>>, whole: &mut Vec<Answer>) -> Result<(), AllocError> {
+    match telling {
+        Some(telling) => telling.tell_rest(whole),
+        None => Ok(()),
+    }
+}
+
 /// The answers of a script, where each life tells all commands of its channels: those that no answer told stand before the next one of
 /// their channel that is told, or behind the life's last answer. `lives` are the lives that the answers tell to begin.
 pub(crate) fn told_whole(
@@ -54,23 +65,25 @@ pub(crate) fn told_whole(
     lives: &[LifeCommands],
 ) -> Result<Vec<Answer>, AllocError> {
     let mut whole = Vec::new(alloc);
-    let mut telling = Telling::of(alloc, &[])?;
+    let mut telling = None;
     let mut later = lives.iter();
     for answer in answers {
         match *answer {
             Answer::Issued { channel, command } => {
-                telling.tell(&mut whole, channel, command.clock)?;
+                if let Some(telling) = &mut telling {
+                    telling.tell(&mut whole, channel, command.clock)?;
+                }
             }
             Answer::Formatted | Answer::Restored { .. } => {
-                telling.tell_rest(&mut whole)?;
+                end_life(&mut telling, &mut whole)?;
                 if let Some(life) = later.next() {
-                    telling = Telling::of(alloc, life.channels())?;
+                    telling = Some(Telling::of(alloc, life.channels())?);
                 }
                 whole.push(*answer)?;
             }
             _ => whole.push(*answer)?,
         }
     }
-    telling.tell_rest(&mut whole)?;
+    end_life(&mut telling, &mut whole)?;
     Ok(whole)
 }

@@ -1,7 +1,6 @@
 // The commands that the channels of a run's lives have issued, kept.
 ghost use Rattle.std.specs.Prelude.{◌≡◌, ◌↔◌, [], ◌∷◌, Option, None, Some, IfSome, IsSome, IsTrue, map, option_to_list, slice_get};
 ghost use Rattle.std.specs.Option.{option_map};
-ghost use Rattle.ddr4_port.specs.Port.{PortState};
 ghost use Rattle.channel_set.specs.Issuing.{issued_in};
 ghost use Rattle.script_runner.specs.Ended.{Lives, Notes};
 ghost use Rattle.script_runner.specs.Issued.{LifeKeepsRules};
@@ -125,9 +124,9 @@ fn commands_on<'m, M: LineMap>(
     channels: &ChannelSet<Ddr4Port<'m, M>>,
     number: u64,
 ) -> Option<Vec<Stamped>>
-    ensures { IfSome result (λ commands. (port : PortState)
-        → slice_get channels.now.ports.items number ≡ Some port
-        → commands.items ≡ port.channel.commands) }
+    ensures { IfSome result (λ commands.
+        slice_get (issued_in ⟦<Ddr4Port<'m, M> as ChannelPort>⟧ channels.now) number
+        ≡ Some commands.items) }
 {
     let port = channels.port(number)?;
     let commands = port.channel().commands()?;
