@@ -65,7 +65,7 @@ pub(crate) fn told_whole(
     lives: &[LifeCommands],
 ) -> Result<Vec<Answer>, AllocError> {
     let mut whole = Vec::new(alloc);
-    let mut telling = None;
+    let mut telling: Option<Telling<'_>> = None;
     let mut later = lives.iter();
     for answer in answers {
         match *answer {
