@@ -1,5 +1,5 @@
 -- Calls in turn accept what each of them does.
-use Rattle.std.proofs.Common.{◌≡◌, ℕ, zero, suc, ◌+◌, ◌-◌, ◌<◌, ◌≤◌, List, [], ◌∷◌, ◌++◌, length, take, refl, sym, ap, subst, ◌∙◌, arith, append_assoc, length-append}
+use Rattle.std.proofs.Common.{◌≡◌, ℕ, ◌+◌, ◌≤◌, List, [], ◌∷◌, ◌++◌, length, take, refl, sym, ap, subst, ◌∙◌, arith, append_assoc, length-append}
 use Rattle.std.specs.Prelude.{Result, Ok, Err, IfOk, IfErr, Some, slice_get}
 use Rattle.std.proofs.lemmas.List.{append-nil, take_all, take_more}
 use Rattle.std.proofs.lemmas.Option.{get_or_from_slice_get, slice_get_within}
@@ -9,7 +9,6 @@ use Rattle.energy_budget.proofs.Charging.{rises_none}
 use Rattle.energy_budget.specs.Gauge.{Gauge}
 use Rattle.channel_port.specs.declared.port.ChannelPort.{Ghosts}
 use Rattle.arm_state.specs.declared.refusal.WriteRefusal.{WriteRefusal}
-use Rattle.nv_machine.specs.State.{Setup}
 use Rattle.nv_machine.specs.declared.events.Accepted.{Accepted}
 use Rattle.nv_machine.specs.declared.events.Event.{Event}
 use Rattle.nv_machine.specs.declared.events.Event.TheVariants as events
@@ -17,10 +16,8 @@ use Rattle.nv_machine.specs.declared.events.Reply.{Reply}
 use Rattle.nv_machine.specs.declared.events.Reply.TheVariants as replies
 use Rattle.nv_machine.specs.Rising.{added}
 use Rattle.module_core.specs.declared.module.Module.{Module}
-use Rattle.module_core.specs.InTurn.{AnswersCalls}
 use Rattle.module_core.specs.Stands.{AnswersAlone, assembly, setup_of}
 use Rattle.module_core.proofs.CallsInTurn.{calls_in_turn, goes_on_in_turn, rests_in_turn}
-use Rattle.journal_log.specs.Calls.{Append, call_writes}
 use Rattle.journal_lines.specs.declared.index.Index.{Index}
 use Rattle.journal_lines.specs.Places.{places_of}
 use Rattle.journal_log.specs.Log.{Log}

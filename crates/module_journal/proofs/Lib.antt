@@ -1,3 +1,5 @@
 pub mod Joining
 pub mod Living
 pub mod Telling
+pub mod Storing
+pub mod Allowing

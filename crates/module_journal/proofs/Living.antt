@@ -1,5 +1,5 @@
 -- Appends go on with a life.
-use Rattle.std.proofs.Common.{◌≡◌, ℕ, ◌+◌, ◌≤◌, ◌^◌, List, [], ◌∷◌, ◌++◌, length, take, refl, suc, sym, ap, subst, ◌∙◌, arith, append_assoc, length-append}
+use Rattle.std.proofs.Common.{◌≡◌, ℕ, List, [], ◌∷◌, ◌++◌, length, take, refl, suc, sym, ap, ◌∙◌, arith, append_assoc, length-append}
 use Rattle.std.specs.Prelude.{None}
 use Rattle.std.proofs.lemmas.List.{append-nil, take_at}
 use Rattle.line_memory.specs.declared.Write.{Write}
@@ -8,16 +8,15 @@ use Rattle.energy_budget.specs.Gauge.{Gauge}
 use Rattle.save_image.specs.Image.{Image}
 use Rattle.slot_store.specs.declared.head.Head.{Head}
 use Rattle.channel_port.specs.declared.port.ChannelPort.{Ghosts}
-use Rattle.nv_machine.specs.Lives.{Lived, IsLived, IsLeftAt, moments_since, unanswered_event}
+use Rattle.nv_machine.specs.Lives.{Lived, IsLeftAt, moments_since, unanswered_event}
 use Rattle.nv_machine.specs.State.{Setup, World}
 use Rattle.nv_machine.specs.Headline.{Run}
 use Rattle.nv_machine.specs.declared.events.Event.{Event}
 use Rattle.nv_machine.specs.declared.events.Reply.{Reply}
 use Rattle.std.specs.Prelude.{Bool, true, false, if◌then◌else◌}
 use Rattle.journal_log.specs.Log.{Holds, Log}
-use Rattle.journal_log.specs.Calls.{AreAllowed, Attempt, Call, call_writes, done_of, is_done, journal_writes, log_after, log_after_all, log_behind, upto_write}
+use Rattle.journal_log.specs.Calls.{AreAllowed, Attempt, call_writes, done_of, is_done, journal_writes, log_after, log_after_all, log_behind, upto_write}
 use Rattle.journal_log.proofs.Cutting.{upto-allowed, upto-writes}
-use Rattle.journal_lives.specs.Promise.{IsJournaled}
 use Rattle.nv_machine.specs.Rising.{accepted_in}
 use Rattle.journal_lives.proofs.Keeping.{life_keeps}
 use Rattle.module_core.specs.declared.module.Module.{Module}
@@ -92,6 +91,7 @@ module _ {K : Type 0} (L : Ghosts K) (found : Head) (image : Image) (log : Log) 
         lived = ends.lived;
         same = refl;
         left = refl;
+        journaled = record { writes = so.are; allowed = allowed };
         survives = life_keeps life log attempts ends.lived held (record { writes = so.are; allowed = allowed });
       }
 
@@ -117,6 +117,7 @@ module _ {K : Type 0} (L : Ghosts K) (found : Head) (image : Image) (log : Log) 
           lived = ends.lived;
           same = refl;
           left = refl;
+          journaled = record { writes = are; allowed = upto-allowed attempts (length image.memory) log upto allowed };
           survives = life_keeps life log (upto_write upto attempts) ends.lived held (record { writes = are; allowed = upto-allowed attempts (length image.memory) log upto allowed });
         };
       }

@@ -1,5 +1,5 @@
 -- Which heads a mark tells, one after another.
-use Rattle.std.proofs.Common.{◌≡◌, ◌∙◌, ◌<◌, ◌≤◌, ℕ, suc, List, [], ◌∷◌, ap, arith, drop, drop-cons, get_or, length, refl, sym}
+use Rattle.std.proofs.Common.{◌≡◌, ◌∙◌, ◌<◌, ◌≤◌, ℕ, List, [], ◌∷◌, ap, arith, drop, drop-cons, get_or, length, refl, sym}
 use Rattle.std.specs.Prelude.{Bool, true, false, if◌then◌else◌, nat_lt}
 use Rattle.module_journal.specs.Heads.{untold}
 

@@ -1,5 +1,5 @@
 -- Why a call of a journal is refused, and what was written then.
-use Rattle.std.specs.Prelude.{◌≡◌, ◌≤◌, ◌<◌, ◌⊎◌, ℕ, List}
+use Rattle.std.specs.Prelude.{◌≡◌, ◌<◌, ◌⊎◌, ℕ, List}
 use Rattle.channel_port.specs.declared.port.ChannelPort.{Ghosts}
 use Rattle.module_core.specs.declared.module.Module.{Module}
 use Rattle.journal_log.specs.Calls.{Append, Truncate}

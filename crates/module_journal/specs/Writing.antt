@@ -1,5 +1,5 @@
 -- What a module accepted in some of its calls.
-use Rattle.std.specs.Prelude.{◌≡◌, ◌≤◌, ◌<◌, ℕ, List, [], ◌∷◌, length, take, ◌++◌, Err}
+use Rattle.std.specs.Prelude.{◌≡◌, ◌≤◌, ℕ, List, [], ◌∷◌, length, take, ◌++◌, Err}
 use Rattle.line_memory.specs.declared.Write.{Write}
 use Rattle.save_device.specs.Device.{DeviceState}
 use Rattle.energy_budget.specs.Gauge.{Gauge}
@@ -12,9 +12,9 @@ use Rattle.module_core.specs.declared.module.Module.{Module}
 use Rattle.module_core.specs.InTurn.{AnswersCalls}
 use Rattle.module_core.specs.Stands.{assembly}
 use Rattle.journal_log.specs.Log.{Log}
-use Rattle.journal_log.specs.Calls.{Append, Call, call_writes, lines_before_head}
+use Rattle.journal_log.specs.Calls.{Call, call_writes, lines_before_head}
 use Rattle.journal_lines.specs.declared.index.Index.{Index}
-use Rattle.journal_lines.specs.Indexed.{HasRoom, IsIndexOf}
+use Rattle.journal_lines.specs.Indexed.{IsIndexOf}
 use Rattle.nv_machine.specs.Rising.{accepted_in}
 
 module _ {K : Type 0} (L : Ghosts K) where

@@ -204,6 +204,7 @@ impl Journal {
         ensures done { IfOk result (λ appended.
             IsMade K.ChannelPort (Reply.Write (Ok appended.head)) self.old.index
             (Append bytes.now) nvdimm.old nvdimm.new) }
+        ensures room { IfOk result (λ appended. HasRoom self.old.index bytes.now) }
         ensures record { IfOk result (λ appended. appended.record ≡ end_of_index self.old.index) }
         ensures is { IfOk result (λ appended. (log : Log) → IsIndexOf self.old.index log
             → IsIndexOf self.new.index (log_after self.old.index.lines log (Append bytes.now))) }
@@ -249,6 +250,7 @@ impl Journal {
             (Truncate upto) nvdimm.old nvdimm.new)) }
         ensures is { IfOk result (λ cut. IfSome cut (λ head. (log : Log) → IsIndexOf self.old.index log
             → IsIndexOf self.new.index (log_after self.old.index.lines log (Truncate upto)))) }
+        ensures within { IfOk result (λ cut. IfSome cut (λ head. IsWithin self.old.index upto)) }
         ensures none { IfOk result (λ cut. IfNone cut
             ((upto ≡ self.old.index.gone) × (self.new ≡ self.old) × (nvdimm.new ≡ nvdimm.old))) }
         ensures kept { IfErr result (λ refusal. self.new ≡ self.old) }

@@ -7,4 +7,4 @@ mod laws;
 mod writing;
 
 pub use journal::{AppendRefusal, Appended, Journal, TruncateRefusal};
-pub use laws::journals_live;
+pub use laws::{calls_are_allowed, journals_live, stored_records_are_told};

@@ -20,11 +20,11 @@ one_done true call others rest same = ap (λ (calls : List Call). journal_call c
 one_done false call others rest same = same
 
 -- the calls of a table that were done, as calls of the journal
-done_calls : (attempts : List TableAttempt) → done_of (map journal_attempt attempts) ≡ map journal_call (calls_done attempts)
+pub done_calls : (attempts : List TableAttempt) → done_of (map journal_attempt attempts) ≡ map journal_call (calls_done attempts)
 done_calls [] = refl
 done_calls (a ∷ rest) = one_done (is_done (journal_attempt a)) a.call (done_of (map journal_attempt rest)) (calls_done rest) (done_calls rest)
 
-done-append : (first rest : List TableAttempt) → calls_done (first ++ rest) ≡ calls_done first ++ calls_done rest
+pub done-append : (first rest : List TableAttempt) → calls_done (first ++ rest) ≡ calls_done first ++ calls_done rest
 done-append [] rest = refl
 done-append (a ∷ first) rest =
     ap (λ (calls : List TableCall). (if is_done (journal_attempt a) then a.call ∷ [] else []) ++ calls) (done-append first rest)

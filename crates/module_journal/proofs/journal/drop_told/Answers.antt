@@ -1,4 +1,4 @@
-use Rattle.std.proofs.Common.{◌≡◌, ◌∙◌, ◌<◌, arith, ap, length, length-drop, refl, sym}
+use Rattle.std.proofs.Common.{◌∙◌, arith, ap, length, length-drop, refl, sym}
 use Rattle.module_journal.specs.Heads.{untold}
 use Rattle.module_journal.proofs.Telling.{none_there, none_told, one_told}
 use Rattle.module_journal.proofs.journal.drop_told.Goals as goal

@@ -45,3 +45,6 @@ returns-in-Err-put-clause-refused g c = (
             c.in-Err-put.ensures.refused;
       },
 )
+
+pub returns-in-Ok-clause-room : goal.returns-in-Ok-clause-room
+returns-in-Ok-clause-room g c = room_same c.args.self.now.index c.reserve.new.self c.args.bytes.now c.reserve.ensures.same (c.if-not-has_room.ensures.0 refl)

@@ -17,3 +17,9 @@ returns-in-Err-clause-refused g c = (
   },
   λ log is. record { made = 0; few = omega arith; ends = c.in-Err.ensures.refused },
 )
+
+pub returns-in-Ok-clause-within : goal.returns-in-Ok-clause-within
+returns-in-Ok-clause-within g c = record {
+  above = omega (arith, c.gone.ensures, c.gone-2.ensures, c.if-upto-gone.false, c.if-upto-gone-2.false);
+  most = omega (arith, c.end.ensures, c.if-end-upto.false);
+}

@@ -1,0 +1,5 @@
+pub mod Parts
+pub mod Values
+pub mod Standing
+pub mod Calling
+pub mod Living
