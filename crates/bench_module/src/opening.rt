@@ -23,6 +23,7 @@ const SIZES: Sizes = Sizes {
     depth: DEPTH,
     reads: DEPTH,
     trail: 1 << 40,
+    keeps_commands: false,
 };
 
 /// How many lines a profile has, where they make whole pages.

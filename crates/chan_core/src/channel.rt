@@ -19,9 +19,9 @@ use ddr4_timing::place::Place;
 use ddr4_timing::timing::Checked;
 use frfcfs::next::next_command;
 use frfcfs::queue::Queue;
-use ghost_trace::Trace;
 use interleave_map::cells::{cell_of, cells, line_count};
 use interleave_map::line_map::LineMap;
+use kept_trace::KeptTrace;
 use line_memory::{Line, zero_memory};
 use std::alloc::{AllocError, Global};
 use std::marker::Model;
@@ -33,8 +33,8 @@ pub const RECENT: usize = 64;
 /// One channel: its array of lines, its write queue and its reads, its banks and its clock.
 ///
 /// Contracts see it as a `ChannelState` (`specs/State.antt`); `channel_memory` of it is its lines after all accepted writes.
-/// What is true of every channel is `IsChannel` (`specs/Always.antt`), which `always` tells. The list of all its commands is
-/// for contracts alone, and takes no bytes.
+/// What is true of every channel is `IsChannel` (`specs/Always.antt`), which `always` tells. The list of all its commands takes
+/// no bytes, unless it is to be kept.
 #[derive(Drop)]
 pub struct Channel {
     pub(crate) banks: Banks,
@@ -87,10 +87,26 @@ impl Channel {
                 most_reads: reads,
                 serial: 0,
                 hold: None,
-                issued: Trace::new(),
+                issued: KeptTrace::new(),
                 phase: Phase::Running,
             },
         })
+    }
+
+    /// Keeps all commands, so that `commands` gives them; none was issued yet. From now on a command takes memory. Where there is
+    /// none for it, it goes all the same, and the commands are kept no longer.
+    pub fn keep_commands(&mut self, alloc: Global)
+        requires { self.old.commands ≡ [] }
+        ensures { self.new ≡ self.old }
+    {
+        self.memory.keep_commands(alloc);
+    }
+
+    /// All commands that it has issued, the oldest first; None where they aren't kept, or memory gave out.
+    pub fn commands(&self) -> Option<&[Stamped]>
+        ensures { IfSome result (λ commands. commands.now ≡ self.now.commands) }
+    {
+        self.memory.issued.kept()
     }
 
     /// What is true of every channel. It has no code.
@@ -253,7 +269,7 @@ impl Channel {
     ///
     /// None, and nothing changes, exactly where no request is eligible and no rank is in lead at the present clock, where
     /// every rank had its SRE, and from clock 2^62 on; while single commands are issued that isn't promised. It takes no
-    /// memory and costs the number of pending requests.
+    /// memory but for commands that are kept, and costs the number of pending requests.
     pub fn work(&mut self) -> Option<Done>
         ensures none { self.old.phase ≢ Stepping → ((result ≡ None) ↔ HasNothingToSend self.old) }
         ensures stays { IfNone result (self.new ≡ self.old) }

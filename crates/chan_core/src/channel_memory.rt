@@ -21,8 +21,9 @@ use ddr4_timing::place::Place;
 use ddr4_timing::timing::Checked;
 use frfcfs::pending::{Kind, Pending};
 use frfcfs::queue::Queue;
-use ghost_trace::Trace;
+use kept_trace::KeptTrace;
 use line_memory::Line;
+use std::alloc::Global;
 use std::marker::Model;
 use wpq_core::Wpq;
 
@@ -38,7 +39,7 @@ pub struct ChannelMemory {
     // that of the next read that waits
     pub(crate) serial: u128,
     pub(crate) hold: Option<u64>,
-    pub(crate) issued: Trace<Stamped>,
+    pub(crate) issued: KeptTrace<Stamped>,
     pub(crate) phase: Phase,
 }
 
@@ -64,6 +65,14 @@ impl ChannelMemory {
         self.hold = from;
     }
 
+    /// Keeps all commands, of which none was issued yet.
+    pub(crate) fn keep_commands(&mut self, alloc: Global)
+        requires { self.old.commands ≡ [] }
+        ensures { self.new ≡ self.old }
+    {
+        self.issued.keep(alloc);
+    }
+
     /// A command goes, and serves the request at an index, whose RD or WR it is: a write goes into the array, a read gets
     /// the bytes of its line there.
     pub(crate) fn issue(&mut self, index: Option<usize>, command: Stamped) -> Option<Served>
@@ -73,7 +82,7 @@ impl ChannelMemory {
         ensures memory { channel_memory self.new ≡ channel_memory self.old }
         ensures below { KeepsBelow self.old self.new }
     {
-        self.issued.note(&command);
+        self.issued.note(command);
         let Some(index) = index else {
             return None;
         };
@@ -122,7 +131,7 @@ impl ChannelMemory {
             &mut self.queue,
             &mut self.waiting,
         );
-        self.issued.note(&command);
+        self.issued.note(command);
         self.phase = phase;
     }
 }

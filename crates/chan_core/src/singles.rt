@@ -61,8 +61,8 @@ impl Channel {
 
     /// A single command goes at a clock, as a drain sends them; `earliest` says at which it may. A WR takes the oldest pending
     /// write to the array, held or not. All reads are lost: their tickets are unknown from now on. From the first single
-    /// command until every rank had its SRE no refresh is promised in its time. It takes no memory and costs the number of
-    /// ranks, and where a read is open the number of pending requests.
+    /// command until every rank had its SRE no refresh is promised in its time. It takes no memory but for commands that are
+    /// kept, and costs the number of ranks, and where a read is open the number of pending requests.
     pub fn issue(&mut self, cmd: Command, clock: u64)
         requires lawful { IsLawful self.old.checked (with_command self.old.commands clock cmd) }
         requires early { clock < 2 ^ 63 }

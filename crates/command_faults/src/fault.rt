@@ -35,6 +35,9 @@ pub enum Fault<'a> {
     /// The word behind `--store` names no file for a store, for this reason.
     #[error("--store {0}")]
     Kept(&'static str),
+    /// The word behind `--commands` names no file for commands, for this reason.
+    #[error("--commands {0}")]
+    Commands(&'static str),
     /// No command stands in a trace that is to be checked.
     #[error("empty trace")]
     EmptyTrace,
@@ -59,6 +62,7 @@ impl Fault<'_> {
             Fault::Words => ExitCode::from(2),
             Fault::Out(_) => ExitCode::from(2),
             Fault::Kept(_) => ExitCode::from(2),
+            Fault::Commands(_) => ExitCode::from(2),
             Fault::NoTerm(_) => ExitCode::from(2),
             _ => ExitCode::FAILURE,
         }

@@ -1,5 +1,6 @@
-// A schedule drawn: of a trace, or of the commands that a script's work prints.
+// A schedule drawn: of a trace, or of all commands of a script.
 use crate::check::of_trace;
+use crate::whole::told_whole;
 use clap::ArgMatches;
 use command_faults::{Failure, Fault, bytes_of, profile_of, rules_of};
 use command_trace::{TraceFault, TraceReader, form_of};
@@ -10,6 +11,7 @@ use nv_script::{ScriptFault, read_script};
 use schedule_drawing::{
     DrawFault, Schedule, flaws_of, read_entries, told_schedule, write_svg, write_vcd,
 };
+use script_runner::CommandBook;
 use std::alloc::{AllocError, Global};
 use std::fs::File;
 use std::io::{BufWriter, Input, Write};
@@ -117,7 +119,12 @@ fn script_schedule(
     bytes: &[u8],
 ) -> Result<Schedule, ScriptFault> {
     let lines = read_script(alloc, bytes, &profile.checked.geometry)?;
-    let answers = Trials::new(alloc, profile).answers(&lines)?;
+    let mut book = CommandBook::open(alloc);
+    let answers = Trials::new(alloc, profile).answers_kept(&lines, &mut book)?;
+    let Some(lives) = book.into_lives() else {
+        return Err(NoSchedule::Memory);
+    };
+    let answers = told_whole(alloc, &answers, &lives)?;
     Ok(told_schedule(alloc, &profile.checked.timing, &answers)?)
 }
 

@@ -14,6 +14,7 @@ mod outlet;
 mod profile;
 mod script;
 mod store;
+mod whole;
 
 pub use check::verdict;
 pub use command::{run, words_of};

@@ -22,6 +22,7 @@ where
         script: matches.get_str("SCRIPT").unwrap_or("-"),
         store: store_word(matches)?,
         is_json: matches.get_flag("json"),
+        commands: matches.get_str("commands"),
     };
     run_named(rt, words, writer)?;
     Ok(ExitCode::SUCCESS)

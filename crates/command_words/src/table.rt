@@ -49,6 +49,14 @@ const RUN: Verb = Verb {
             }),
             help: "A file whose device the run begins with, and leaves there; it is made where there is none",
         },
+        Switch {
+            name: "commands",
+            value: Some(Value {
+                name: "TRACE",
+                kind: Kind::File,
+            }),
+            help: "A file for all commands of the first life, those of reads, saves and drains too; the n-th life has TRACE.n",
+        },
         JSON,
     ],
     any_of: &[],

@@ -1,5 +1,5 @@
 // Scripts that are stopped and restored.
-ghost use Rattle.std.specs.Prelude.{◌≡◌, [], map, All, IfOk, IfErr};
+ghost use Rattle.std.specs.Prelude.{◌≡◌, [], map, All, IfOk, IfErr, IfSome};
 ghost use Rattle.ddr4_timing.specs.Limits.{lines_of};
 ghost use Rattle.nv_script.specs.Line.{NamesChannelOf};
 ghost use Rattle.script_runner.specs.Story.{AreAllAnswered, GivesOut};
@@ -18,7 +18,7 @@ use interleave_map::{Interleaving, ReadyMap};
 use nv_profile::Profile;
 use nv_script::{Answer, ScriptFault, ScriptLine};
 use save_device::Pick;
-use script_runner::run_lines;
+use script_runner::{CommandBook, do_lines_kept};
 use std::alloc::Global;
 
 /// Who is told how far trials are.
@@ -59,17 +59,33 @@ impl<'p> Trials<'p> {
             (lines_of self.now.profile.now.checked.geometry) lines.now [] answers.items) }
         ensures fault { IfErr result GivesOut }
     {
+        self.answers_kept(lines, &mut CommandBook::closed(self.alloc))
+    }
+
+    /// The same, with the commands of the lines' lives for a new book.
+    pub fn answers_kept(
+        &self,
+        lines: &[ScriptLine],
+        book: &mut CommandBook,
+    ) -> Result<Vec<Answer>, ScriptFault>
+        requires lines { All (NamesChannelOf self.now.profile.now.checked.geometry) lines.now }
+        requires book { IfSome book.old (λ lives. lives ≡ []) }
+        ensures answered { IfOk result (λ answers. AreAllAnswered
+            (lines_of self.now.profile.now.checked.geometry) lines.now [] answers.items) }
+        ensures fault { IfErr result GivesOut }
+    {
         let lines_map = self.map(Interleaving::Lines);
         let xor_map = self.map(Interleaving::Xor);
         let mut answers = Answers::new(self.alloc);
         // what the device holds in the end is told by the answers
-        let _device = run_lines(
+        let _device = do_lines_kept(
             self.alloc,
             self.profile,
             lines,
             &lines_map,
             &xor_map,
             &mut answers,
+            book,
         )?;
         Ok(answers.taken)
     }

@@ -124,6 +124,7 @@ impl Trials<'_> {
                 depth: profile.sizes.depth,
                 reads: profile.sizes.reads,
                 trail: profile.sizes.trail,
+                keeps_commands: false,
             },
             events,
             &mut frail,

@@ -139,6 +139,7 @@ fn begin<'m, M: LineMap>(
         depth: profile.sizes.depth,
         reads: profile.sizes.reads,
         trail: profile.sizes.trail,
+        keeps_commands: false,
     };
     let history = record_of(alloc, &restored.lines, restored.head.count, sizes.trail)?;
     let running = match ddr4_module::open(alloc, restored, map, &profile.checked, costs, sizes) {

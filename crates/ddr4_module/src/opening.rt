@@ -29,6 +29,8 @@ pub struct Sizes {
     pub reads: u64,
     /// How many writes the life may accept.
     pub trail: u64,
+    /// Whether each channel keeps the commands that it issues. Where one does, a command takes memory.
+    pub keeps_commands: bool,
 }
 
 /// Begins a life, disarmed, with what a device restored to, over a lawful map of the profile's geometry: over a device at rest on
@@ -68,10 +70,20 @@ pub fn open<'m, M: LineMap>(
         depth,
         reads,
         trail,
+        keeps_commands,
     } = sizes;
     let (depth, reads) = (depth as usize, reads as usize);
     let memory = &restored.lines;
-    match channels_with_memory(alloc, map, checked, memory, depth, reads, costs) {
+    match channels_with_memory(
+        alloc,
+        map,
+        checked,
+        memory,
+        depth,
+        reads,
+        keeps_commands,
+        costs,
+    ) {
         Ok(channels) => Ok(Module::open(channels, restored.head, trail)),
         Err(error) => Err((restored, error)),
     }

@@ -1,9 +1,12 @@
 // The ports of a memory.
 ghost use Rattle.std.specs.Prelude.{◌≡◌, ◌≤◌, ℕ, [], None, IfOk, length};
+ghost use Rattle.line_memory.specs.Memory.{zero_lines};
 ghost use Rattle.ddr4_timing.specs.Limits.{lines_of};
+ghost use Rattle.interleave_map.specs.Cells.{cells_of};
 ghost use Rattle.energy_budget.specs.Costs.{AreReckonedFor};
 ghost use Rattle.chan_core.specs.Calls.{loaded_at};
 ghost use Rattle.chan_core.specs.Mapped.{IsPlaceOn};
+ghost use Rattle.chan_core.specs.State.{new_channel};
 ghost use Rattle.channel_port.specs.declared.stage.Stage.TheVariants.{OnMains};
 ghost use Rattle.channel_port.specs.Waits.{nothing};
 ghost use Rattle.channel_set.specs.Set.{AreAt, shape_of, view_of};
@@ -22,8 +25,29 @@ use interleave_map::line_map::LineMap;
 use line_memory::Line;
 use std::alloc::{AllocError, Global};
 
+// The channel of a number, of zero lines, before any command, which keeps its commands if it is to.
+fn unused_channel(
+    alloc: Global,
+    checked: &Checked,
+    number: u64,
+    depth: usize,
+    reads: usize,
+    keeps_commands: bool,
+) -> Result<Channel, AllocError>
+    requires depth { (1 ≤ depth) × (depth ≤ 64) }
+    requires reads { reads ≤ 64 }
+    ensures { IfOk result (λ new. new ≡ new_channel checked.now number
+        (zero_lines (cells_of checked.now.geometry)) depth reads) }
+{
+    let mut channel = Channel::new(alloc, checked, number, depth, reads)?;
+    if keeps_commands {
+        channel.keep_commands(alloc);
+    }
+    Ok(channel)
+}
+
 impl<'m, M: LineMap> Ddr4Port<'m, M> {
-    // The channel of a number, of zero lines, before any command.
+    // A port of that channel.
     fn unused(
         alloc: Global,
         map: &'m M,
@@ -31,6 +55,7 @@ impl<'m, M: LineMap> Ddr4Port<'m, M> {
         number: u64,
         depth: usize,
         reads: usize,
+        keeps_commands: bool,
     ) -> Result<Self, AllocError>
         requires lawful { M.is_lawful map.now }
         requires geometry { M.geometry_of map.now ≡ checked.now.geometry }
@@ -39,7 +64,7 @@ impl<'m, M: LineMap> Ddr4Port<'m, M> {
         ensures { IfOk result (IsUnused (M.place_of map.now) checked.now depth reads number) }
     {
         map.interleaves();
-        let channel = Channel::new(alloc, checked, number, depth, reads)?;
+        let channel = unused_channel(alloc, checked, number, depth, reads, keeps_commands)?;
         channel.always();
         Ok(Ddr4Port {
             channel,
@@ -67,6 +92,7 @@ fn unused_ports<'m, M: LineMap>(
     checked: &Checked,
     depth: usize,
     reads: usize,
+    keeps_commands: bool,
 ) -> Result<Vec<Ddr4Port<'m, M>>, AllocError>
     requires lawful { M.is_lawful map.now }
     requires geometry { M.geometry_of map.now ≡ checked.now.geometry }
@@ -77,7 +103,7 @@ fn unused_ports<'m, M: LineMap>(
 {
     let mut ports = Vec::with_capacity(alloc, checked.geometry.channels as usize)?;
     for number in 0..checked.geometry.channels {
-        let port = Ddr4Port::unused(alloc, map, checked, number, depth, reads)?;
+        let port = Ddr4Port::unused(alloc, map, checked, number, depth, reads, keeps_commands)?;
         ports.push_reserved(port);
     }
     Ok(ports)
@@ -85,7 +111,7 @@ fn unused_ports<'m, M: LineMap>(
 
 /// The channels of a profile over a lawful map of its geometry, whose arrays hold this memory. Nothing waits on them, no
 /// write is held, and none has issued a command. `depth` is how many writes may wait in a channel, and `reads` how many of
-/// its reads may be open. It refuses only where there is no memory.
+/// its reads may be open; each keeps its commands if it is to. It refuses only where there is no memory.
 pub fn channels_with_memory<'m, M: LineMap>(
     alloc: Global,
     map: &'m M,
@@ -93,6 +119,7 @@ pub fn channels_with_memory<'m, M: LineMap>(
     memory: &[Line],
     depth: usize,
     reads: usize,
+    keeps_commands: bool,
     costs: Costs,
 ) -> Result<ChannelSet<Ddr4Port<'m, M>>, AllocError>
     requires lawful { M.is_lawful map.now }
@@ -115,7 +142,7 @@ pub fn channels_with_memory<'m, M: LineMap>(
         → CarriesAll ⟦<Ddr4Port<'m, M> as ChannelPort>⟧ set memory.now start []) }
 {
     map.interleaves();
-    let mut ports = unused_ports(alloc, map, checked, depth, reads)?;
+    let mut ports = unused_ports(alloc, map, checked, depth, reads, keeps_commands)?;
     for (line, bytes) in memory.iter().enumerate() {
         let place = map.place(line as u64);
         ports[place.channel as usize].load(place, *bytes);

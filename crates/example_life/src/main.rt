@@ -52,6 +52,7 @@ fn live(alloc: Global, profile: &Profile) -> anyhow::Result<Vec<Reply>> {
         depth: profile.sizes.depth,
         reads: profile.sizes.reads,
         trail: profile.sizes.trail,
+        keeps_commands: false,
     };
     Ok(wild_life(
         alloc,

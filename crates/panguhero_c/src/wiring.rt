@@ -74,6 +74,7 @@ impl<'m> Wires<Ddr4Port<'m, ReadyMap>> for ProfileWires<'m> {
             depth: self.profile.sizes.depth,
             reads: self.profile.sizes.reads,
             trail,
+            keeps_commands: false,
         };
         open(
             alloc,

@@ -1,23 +1,24 @@
 -- A run on the device of a store, told of the store.
-use Rattle.std.proofs.Common.{◌≡◌, ℕ, List, [], ap, subst, sym, ◌∙◌}
+use Rattle.std.proofs.Common.{◌≡◌, ℕ, List, [], Option, ap, subst, sym, ◌∙◌}
 use Rattle.save_device.specs.Memory.{state_of}
 use Rattle.save_device.specs.declared.memory.MemoryDevice.{MemoryDevice}
 use Rattle.channel_port.specs.declared.port.ChannelPort.{Ghosts}
 use Rattle.nv_profile.specs.declared.profile.Profile.{Profile}
 use Rattle.nv_session.specs.declared.wires.Wires as wires
 use Rattle.nv_script.specs.declared.answer.Answer.{Answer}
+use Rattle.script_runner.specs.Ended.{Lives}
 use Rattle.store_file.specs.Stores.{device_in}
 use Rattle.run_command.specs.Stored.{RunsOnStore, RunsScriptOn, size_for}
 
-module _ {K A : Type 0} (L : Ghosts K) (W : wires.Ghosts A K) (Wired : A → Type 0) (profile : Profile) (text : List ℕ) (device : MemoryDevice) where
+module _ {K A : Type 0} (L : Ghosts K) (W : wires.Ghosts A K) (Wired : A → Type 0) (profile : Profile) (text : List ℕ) (kept : Option Lives) (device : MemoryDevice) where
   pub runs_on_store : (size : ℕ) (bytes old new : List ℕ) → size ≡ size_for profile → bytes ≡ device_in size old
-      → ((answers : List Answer) × RunsScriptOn L W Wired profile bytes text [] answers device)
-      → device_in size new ≡ (state_of device).bytes → RunsOnStore L W Wired profile text old new
+      → ((answers : List Answer) × RunsScriptOn L W Wired profile bytes text [] answers kept device)
+      → device_in size new ≡ (state_of device).bytes → RunsOnStore L W Wired profile text kept old new
   runs_on_store size bytes old new is begun ran left =
       let on_old : bytes ≡ device_in (size_for profile) old = begun ∙ ap (λ (n : ℕ). device_in n old) is in
       record {
         answers = ran.0;
         device = device;
-        runs = subst (λ (row : List ℕ). RunsScriptOn L W Wired profile row text [] ran.0 device) on_old ran.1;
+        runs = subst (λ (row : List ℕ). RunsScriptOn L W Wired profile row text [] ran.0 kept device) on_old ran.1;
         left = ap (λ (n : ℕ). device_in n new) (sym is) ∙ left;
       }

@@ -16,3 +16,7 @@ IsNoStore profile script store = (name_in store ≡ codes "-") ⊎ ((name_in sto
 
 abbrev pub NamesNoStore : RunWords → Type 0
 NamesNoStore words = IsSomeAnd words.store (IsNoStore words.profile.now words.script.now)
+
+-- the file for commands would be one of these, or the store
+abbrev pub NamesNoCommands : RunWords → Type 0
+NamesNoCommands words = IsSomeAnd words.commands (λ name. (name.now ≡ codes "-") ⊎ ((name.now ≡ words.profile.now) ⊎ ((name.now ≡ words.script.now) ⊎ IsSomeAnd words.store (λ store. name_in store ≡ name.now))))

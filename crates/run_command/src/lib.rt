@@ -2,6 +2,7 @@
 #![tactic(auto)]
 
 mod json;
+mod lives;
 mod maps;
 mod script;
 mod stored;

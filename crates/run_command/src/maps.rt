@@ -1,5 +1,5 @@
 // Scripts over closures of both ready-made maps.
-ghost use Rattle.std.specs.Prelude.{◌≡◌, ◌<◌, List, OnOk};
+ghost use Rattle.std.specs.Prelude.{◌≡◌, ◌<◌, List, [], IfSome, OnOk};
 ghost use Rattle.ddr4_timing.specs.Limits.{lines_of};
 ghost use Rattle.ddr4_timing.specs.Places.{LiesIn};
 ghost use Rattle.interleave_map.specs.Ready.{place_by};
@@ -14,7 +14,7 @@ use interleave_map::{Interleaving, ReadyMap};
 use nv_profile::Profile;
 use nv_script::{ScriptFault, read_script};
 use save_device::MemoryDevice;
-use script_runner::{Printer, Report, do_lines};
+use script_runner::{CommandBook, Printer, Report, do_lines_kept};
 use std::alloc::Global;
 use std::io::Write;
 
@@ -26,16 +26,25 @@ pub fn run_on_maps<W: Write>(
     script: &[u8],
     writer: &mut W,
 ) -> Result<MemoryDevice, ScriptFault> {
-    report_on_maps(alloc, profile, script, &mut Printer::new(writer))
+    let mut printer = Printer::new(writer);
+    report_on_maps(
+        alloc,
+        profile,
+        script,
+        &mut printer,
+        &mut CommandBook::closed(alloc),
+    )
 }
 
-/// The same, with the answers to a report.
+/// The same, with the answers to a report, and the commands of the script's lives to a new book.
 pub fn report_on_maps<R: Report>(
     alloc: Global,
     profile: &Profile,
     script: &[u8],
     report: &mut R,
+    book: &mut CommandBook,
 ) -> Result<MemoryDevice, ScriptFault>
+    requires { IfSome book.old (λ lives. lives ≡ []) }
     ensures answered { OnOk result ((lines : List ScriptLine)
         × IsScript profile.now.checked.geometry script.now lines
         × AreAllAnswered (lines_of profile.now.checked.geometry) lines
@@ -66,5 +75,5 @@ pub fn report_on_maps<R: Report>(
     let lines_map = Map::new(split, join, by_lines, &profile.checked);
     let (split, join) = ways(by_xor);
     let xor_map = Map::new(split, join, by_xor, &profile.checked);
-    do_lines(alloc, profile, &lines, &lines_map, &xor_map, report)
+    do_lines_kept(alloc, profile, &lines, &lines_map, &xor_map, report, book)
 }

@@ -1,10 +1,11 @@
 // A script, run.
-ghost use Rattle.std.specs.Prelude.{◌≡◌, ◌⊎◌, ◌↔◌, codes, IfSome, IsErrAnd, IsSome};
+ghost use Rattle.std.specs.Prelude.{◌≡◌, ◌⊎◌, ◌↔◌, [], codes, IfSome, IsErrAnd, IsSome};
 ghost use Rattle.command_faults.specs.Exit.{status_of};
-ghost use Rattle.run_command.specs.Refused.{IsNoStore, NamesNoStore};
+ghost use Rattle.run_command.specs.Refused.{IsNoStore, NamesNoCommands, NamesNoStore};
 
 use crate::json::JsonPrinter;
-use crate::maps::{report_on_maps, run_on_maps};
+use crate::lives::write_lives;
+use crate::maps::report_on_maps;
 use crate::stored::{StoredFault, bytes_of_device, run_on_store};
 use command_faults::{Failure, Fault, bytes_of, flush, profile_of};
 use file_device::OpenFault;
@@ -12,6 +13,7 @@ use interleave_map::{Interleaving, ReadyMap};
 use nv_profile::Profile;
 use nv_script::SCRIPT_BYTES;
 use save_device::MemoryDevice;
+use script_runner::{CommandBook, Printer};
 use std::alloc::Global;
 use std::fs;
 use std::io::{ErrorKind, Input, Write};
@@ -37,15 +39,19 @@ pub struct RunWords<'a> {
     pub store: Option<StoreWord<'a>>,
     /// Whether the answers are written as JSON.
     pub is_json: bool,
+    /// A file for all commands of the script's first life. Those of its later lives have files beside it.
+    pub commands: Option<&'a str>,
 }
 
 /// Runs the script that the words name, with the answers to a writer, and writes the device's bytes to the file of the store
-/// last. Words that name no file for a store are refused with nothing written.
+/// then, and last the commands of the script's lives to theirs. Words that name no file for a store or for commands are refused with
+/// nothing written.
 pub fn run_named<'a, R, W>(rt: &R, words: RunWords<'a>, writer: &mut W) -> Result<(), Failure<'a>>
 where
     R: Files + StoreHost + Input + AllocGlobal,
     W: Write,
-    ensures refused { NamesNoStore words.entry → (writer.new ≡ writer.old)
+    ensures refused { NamesNoStore words.entry ⊎ NamesNoCommands words.entry
+        → (writer.new ≡ writer.old)
         × IsErrAnd result (λ failure. status_of failure.fault ≡ 2) }
 {
     if let Some(store) = words.store {
@@ -53,19 +59,54 @@ where
             return Err(Failure::from(fault));
         }
     }
+    if let Some(fault) = commands_refusal(words) {
+        return Err(Failure::from(fault));
+    }
     let profile = profile_of(rt, words.profile)?;
     // as far as a good script can need them
     let script = bytes_of(rt, words.script, SCRIPT_BYTES)?;
+    let mut book = book_for(rt.alloc(), words.commands);
+    run_words(rt, &profile, &script, words, writer, &mut book)?;
+    match words.commands {
+        Some(name) => write_lives(rt, book, name),
+        None => Ok(()),
+    }
+}
+
+// The book of a run whose commands are to be kept if there is a file for them.
+fn book_for(alloc: Global, file: Option<&str>) -> CommandBook
+    ensures { IfSome result (λ lives. lives ≡ []) }
+{
+    match file {
+        Some(_) => CommandBook::open(alloc),
+        None => CommandBook::closed(alloc),
+    }
+}
+
+// Runs a script as the words say, all but its commands.
+fn run_words<'a, R, W>(
+    rt: &R,
+    profile: &Profile,
+    script: &[u8],
+    words: RunWords<'a>,
+    writer: &mut W,
+    book: &mut CommandBook,
+) -> Result<(), Failure<'a>>
+where
+    R: Files + StoreHost + AllocGlobal,
+    W: Write,
+    requires { IfSome book.old (λ lives. lives ≡ []) }
+{
     match words.store {
         Some(StoreWord::Kept(name)) => {
-            run_kept(rt, &profile, &script, name, words.is_json, writer)
+            run_kept(rt, profile, script, name, words.is_json, writer, book)
         }
         Some(StoreWord::Out(name)) => {
-            let device = run_told(rt.alloc(), &profile, &script, words.is_json, writer)?;
+            let device = run_told(rt.alloc(), profile, script, words.is_json, writer, book)?;
             write_store(rt, device, name)
         }
         None => {
-            run_told(rt.alloc(), &profile, &script, words.is_json, writer)?;
+            run_told(rt.alloc(), profile, script, words.is_json, writer, book)?;
             Ok(())
         }
     }
@@ -78,12 +119,16 @@ fn run_told<'a, W: Write>(
     script: &[u8],
     is_json: bool,
     writer: &mut W,
-) -> Result<MemoryDevice, Failure<'a>> {
+    book: &mut CommandBook,
+) -> Result<MemoryDevice, Failure<'a>>
+    requires { IfSome book.old (λ lives. lives ≡ []) }
+{
     let ran = if is_json {
         let mut printer = JsonPrinter::new(alloc, writer);
-        report_on_maps(alloc, profile, script, &mut printer)
+        report_on_maps(alloc, profile, script, &mut printer, book)
     } else {
-        run_on_maps(alloc, profile, script, writer)
+        let mut printer = Printer::new(writer);
+        report_on_maps(alloc, profile, script, &mut printer, book)
     };
     match ran {
         Ok(device) => {
@@ -105,10 +150,12 @@ fn run_kept<'a, R, W>(
     name: &str,
     is_json: bool,
     writer: &mut W,
+    book: &mut CommandBook,
 ) -> Result<(), Failure<'a>>
 where
     R: Files + StoreHost + AllocGlobal,
     W: Write,
+    requires { IfSome book.old (λ lives. lives ≡ []) }
 {
     let mut store = match rt.open_kept(name) {
         Ok(store) => store,
@@ -123,7 +170,7 @@ where
         checked: profile.checked,
     };
     match run_on_store(
-        rt, profile, script, &lines, &xor, &mut store, is_json, writer,
+        rt, profile, script, &lines, &xor, &mut store, is_json, writer, book,
     ) {
         Ok(()) => Ok(()),
         Err(StoredFault::Store(fault)) => Err(of_store(rt.alloc(), fault)),
@@ -158,6 +205,22 @@ fn refusal(store: StoreWord<'_>, profile: &str, script: &str) -> Option<Fault<'s
         StoreWord::Out(_) => Fault::Out(why),
         StoreWord::Kept(_) => Fault::Kept(why),
     })
+}
+
+// Why a run writes no commands to the file of its words, if it has one for them.
+fn commands_refusal(words: RunWords<'_>) -> Option<Fault<'static>>
+    ensures some { NamesNoCommands words.entry → IsSome result }
+    ensures status { IfSome result (λ fault. status_of fault ≡ 2) }
+{
+    let name = words.commands?;
+    if let Some(why) = why_no_store(name, words.profile, words.script) {
+        return Some(Fault::Commands(why));
+    }
+    let (StoreWord::Out(store) | StoreWord::Kept(store)) = words.store?;
+    if store == name {
+        return Some(Fault::Commands("names the store"));
+    }
+    None
 }
 
 /// Why a run with these words for its profile and its script writes no store to a file of this name: that is standard output, which

@@ -1,5 +1,5 @@
 // Scripts on a store, whose device they begin with and leave there.
-ghost use Rattle.std.specs.Prelude.{◌≡◌, List, [], IfOk, OnOk, length};
+ghost use Rattle.std.specs.Prelude.{◌≡◌, List, [], IfOk, IfSome, OnOk, length};
 ghost use Rattle.save_device.specs.Memory.{state_of};
 ghost use Rattle.nv_script.specs.declared.answer.Answer.{Answer};
 ghost use Rattle.script_runner.specs.Wiring.{IsMapOf, IsWiredFor};
@@ -16,7 +16,7 @@ use nv_profile::Profile;
 use nv_script::{ScriptFault, read_script};
 use nv_session::Wires;
 use save_device::{MemoryDevice, SaveDevice};
-use script_runner::{Printer, Report, Wiring, do_lines_on};
+use script_runner::{CommandBook, Printer, Report, Wiring, do_lines_on};
 use slot_store::device_size;
 use std::alloc::{AllocError, Global};
 use std::io::{self, ErrorKind, Write};
@@ -56,7 +56,7 @@ impl From<AllocError> for StoredFault {
 }
 
 /// Runs a script over two lawful maps of the profile's geometry, on a device that begins with these bytes, with the answers to a report.
-/// Answers the device as the script left it. A script with a bad line runs nothing.
+/// Answers the device as the script left it, and a new book has the commands of the script's lives. A script with a bad line runs nothing.
 pub fn report_on_bytes<'m, M: LineMap, R: Report>(
     alloc: Global,
     profile: &Profile,
@@ -65,18 +65,22 @@ pub fn report_on_bytes<'m, M: LineMap, R: Report>(
     xor_map: &'m M,
     bytes: Vec<u8>,
     report: &mut R,
+    book: &mut CommandBook,
 ) -> Result<MemoryDevice, ScriptFault>
     requires lines_map { IsMapOf M.LineMap profile.now.checked.geometry lines_map.now }
     requires xor_map { IsMapOf M.LineMap profile.now.checked.geometry xor_map.now }
     requires size { length bytes.items ≡ size_for profile.now }
+    requires book { IfSome book.old (λ lives. lives ≡ []) }
     ensures { IfOk result (λ device. RunsScriptOn ⟦<Ddr4Port<'m, M> as ChannelPort>⟧
         ⟦<Wiring<'m, M> as Wires<Ddr4Port<'m, M>>>⟧
         (IsWiredFor lines_map.now xor_map.now profile.now) profile.now
-        bytes.items script.now (R.answers report.old) (R.answers report.new) device) }
+        bytes.items script.now (R.answers report.old) (R.answers report.new) book.new device) }
 {
     let lines = read_script(alloc, script, &profile.checked.geometry)?;
     let device = MemoryDevice::new(alloc, bytes)?;
-    do_lines_on(alloc, profile, &lines, lines_map, xor_map, device, report)
+    do_lines_on(
+        alloc, profile, &lines, lines_map, xor_map, device, report, book,
+    )
 }
 
 /// The bytes of a device, as a read gives them.
@@ -101,15 +105,17 @@ fn write_on_bytes<'m, M: LineMap, W: Write>(
     bytes: Vec<u8>,
     is_json: bool,
     writer: &mut W,
+    book: &mut CommandBook,
 ) -> Result<MemoryDevice, ScriptFault>
     requires lines_map { IsMapOf M.LineMap profile.now.checked.geometry lines_map.now }
     requires xor_map { IsMapOf M.LineMap profile.now.checked.geometry xor_map.now }
     requires size { length bytes.items ≡ size_for profile.now }
+    requires book { IfSome book.old (λ lives. lives ≡ []) }
     ensures { IfOk result (λ device. (answers : List Answer)
         × RunsScriptOn ⟦<Ddr4Port<'m, M> as ChannelPort>⟧
         ⟦<Wiring<'m, M> as Wires<Ddr4Port<'m, M>>>⟧
         (IsWiredFor lines_map.now xor_map.now profile.now) profile.now
-        bytes.items script.now [] answers device) }
+        bytes.items script.now [] answers book.new device) }
 {
     if is_json {
         let mut printer = JsonPrinter::new(alloc, writer);
@@ -121,6 +127,7 @@ fn write_on_bytes<'m, M: LineMap, W: Write>(
             xor_map,
             bytes,
             &mut printer,
+            book,
         )
     } else {
         let mut printer = Printer::new(writer);
@@ -132,6 +139,7 @@ fn write_on_bytes<'m, M: LineMap, W: Write>(
             xor_map,
             bytes,
             &mut printer,
+            book,
         )
     }
 }
@@ -178,7 +186,8 @@ fn leave<S: Store, R: Files + AllocGlobal>(
 }
 
 /// Runs a script on the device that a store has, and writes each answer as a line, of JSON if it is to be. Once the answers are out, the
-/// store has the device as the script left it. Where the run comes to no end, the store stays as it was.
+/// store has the device as the script left it, and a new book the commands of the script's lives. Where the run comes to no end, the
+/// store stays as it was.
 pub fn run_on_store<'m, M: LineMap, S: Store, R: Files + AllocGlobal, W: Write>(
     rt: &R,
     profile: &Profile,
@@ -188,20 +197,22 @@ pub fn run_on_store<'m, M: LineMap, S: Store, R: Files + AllocGlobal, W: Write>(
     store: &mut S,
     is_json: bool,
     writer: &mut W,
+    book: &mut CommandBook,
 ) -> Result<(), StoredFault>
     requires lines_map { IsMapOf M.LineMap profile.now.checked.geometry lines_map.now }
     requires xor_map { IsMapOf M.LineMap profile.now.checked.geometry xor_map.now }
+    requires book { IfSome book.old (λ lives. lives ≡ []) }
     ensures { OnOk result (IfHas (λ old. IfHas
         (RunsOnStore ⟦<Ddr4Port<'m, M> as ChannelPort>⟧
         ⟦<Wiring<'m, M> as Wires<Ddr4Port<'m, M>>>⟧
-        (IsWiredFor lines_map.now xor_map.now profile.now) profile.now script.now old)
+        (IsWiredFor lines_map.now xor_map.now profile.now) profile.now script.now book.new old)
         (S.kept store.new)) (S.kept store.old)) }
 {
     let alloc = rt.alloc();
     let size = device_size(line_count(&profile.checked) as usize);
     let Begun { bytes, form } = begin(alloc, size, store)?;
     let device = write_on_bytes(
-        alloc, profile, script, lines_map, xor_map, bytes, is_json, writer,
+        alloc, profile, script, lines_map, xor_map, bytes, is_json, writer, book,
     )?;
     if writer.flush().is_err() {
         return Err(StoredFault::Script(ScriptFault::Writer));

@@ -9,6 +9,8 @@ pub mod Turns
 pub mod Stories
 pub mod Doing
 pub mod Runs
+pub mod Ended
+pub mod Books
 pub mod Chains
 pub mod Issued
 pub mod Lawful

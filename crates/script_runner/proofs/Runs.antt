@@ -5,7 +5,7 @@ use Rattle.script_runner.proofs.Common.{Answer, AnswersTruly, Ghosts, ScriptLine
 use Rattle.nv_session.specs.declared.session.Session.{Session}
 use Rattle.nv_session.specs.declared.wires.Wires as wires
 use Rattle.script_runner.specs.Doing.{Does, DoesAll, DoesEach, KeepsTerms}
-use Rattle.script_runner.specs.Runs.{AreAllDone, DoesLine, DoesLines, DoesTurns}
+use Rattle.script_runner.specs.Runs.{DoesLine, DoesLines, DoesTurns}
 use Rattle.script_runner.specs.Story.{Exchange, is_busy, turns_of}
 use Rattle.script_runner.proofs.Stories.{pushed, through_begins}
 use Rattle.script_runner.proofs.Turns.{turns_begin, turns_grow, turns_end, turns_idle}
@@ -48,27 +48,12 @@ module _ {K A : Type 0} {L : Ghosts K} {W : wires.Ghosts A K} where
     does = each_push asked so_far.answers.line.part.given answer first last next so_far.does does keeps;
   }
 
-  pub lines_begin : (lines : ℕ) (old : List Answer) (at : Session K A L W) → DoesLines lines [] old old at at
+  abbrev pub lines_begin : (lines : ℕ) (old : List Answer) (at : Session K A L W) → DoesLines lines [] old old at at
   lines_begin lines old at = record { through = through_begins L lines old (moment_in at); does = refl }
 
-  line_pushed : (lines : ℕ) (asked : List ScriptLine) (line : ScriptLine) (old mid new : List Answer) (first last next : Session K A L W) → DoesLines lines asked old mid first last
+  abbrev pub line_pushed : (lines : ℕ) (asked : List ScriptLine) (line : ScriptLine) (old mid new : List Answer) (first last next : Session K A L W) → DoesLines lines asked old mid first last
       → DoesLine lines line mid new last next → DoesLines lines (asked ++ line ∷ []) old new first next
   line_pushed lines asked line old mid new first last next so_far done = record {
     through = pushed L lines asked line old mid new (moment_in last) (moment_in next) so_far.through done.answers;
     does = all_push so_far.through.answered.story (record { asked = line; answers = done.answers.line.part.given }) first last next so_far.does done.does;
   }
-
-  -- the next of the lines
-  pub lines_grow : (lines other : ℕ) → other ≡ lines → (script : List ScriptLine) (i : ℕ) (none : ScriptLine) (old mid new : List Answer) (first last next : Session K A L W) → i < length script
-      → DoesLines lines (take i script) old mid first last → DoesLine other (get_or script i none) mid new last next → DoesLines lines (take (i + 1) script) old new first next
-  lines_grow lines other same script i none old mid new first last next inside so_far done =
-      subst (λ (ls : List ScriptLine). DoesLines lines ls old new first next) (sym (take_more script i none inside))
-      (line_pushed lines (take i script) (get_or script i none) old mid new first last next so_far
-      (subst (λ (n : ℕ). DoesLine n (get_or script i none) mid new last next) same done))
-
-  pub lines_end : (lines : ℕ) (script : List ScriptLine) (i : ℕ) (old new : List Answer) (first last : Session K A L W) → i ≡ length script → DoesLines lines (take i script) old new first last
-      → AreAllDone lines script old new first last
-  lines_end lines script i old new first last all so_far =
-      let taken : take i script ≡ script = ap (λ (n : ℕ). take n script) all ∙ take-length script in
-      let done : DoesLines lines script old new first last = subst (λ (ls : List ScriptLine). DoesLines lines ls old new first last) taken so_far in
-      record { all = record { answered = done.through.answered; whole = done.through.whole }; does = done.does }

@@ -54,6 +54,10 @@ pub record IsToldWhole (story : List Exchange) (rest : List Exchange) : Type 0 w
   pub answered : begin.answers ≡ given ∷ []
   pub tells : All (λ exchange. tells_all exchange.asked ≡ true) rest
 
+-- what each channel of a life has issued keeps the timing rules of its profile
+abbrev pub LifeKeepsRules : {K : Type 0} (L : Ghosts K) → Module K L → Type 0
+LifeKeepsRules L it = (channel : ℕ) → channel < length it.channels.ports.items → IsLawful it.channels.terms.checked (issued_on L it.channels channel)
+
 module _ {K A : Type 0} {L : Ghosts K} {W : wires.Ghosts A K} where
   -- Each channel of the life that runs is of the session's profile, and has issued the commands that these answers tell of it, in
   -- turn, and no other.
@@ -63,8 +67,7 @@ module _ {K A : Type 0} {L : Ghosts K} {W : wires.Ghosts A K} where
 
   -- what each channel of the life that runs has issued keeps the timing rules of its profile
   abbrev pub KeepsRules : Session K A L W → Type 0
-  KeepsRules session =
-      (it : Module K L) → session.life ≡ Some it → (channel : ℕ) → channel < length it.channels.ports.items → IsLawful it.channels.terms.checked (issued_on L it.channels channel)
+  KeepsRules session = (it : Module K L) → session.life ≡ Some it → LifeKeepsRules L it
 
 -- so it is behind a story whose last life was told whole
 abbrev pub TellsItsLists : (K A : Type 0) (L : Ghosts K) (W : wires.Ghosts A K) → Type 0

@@ -6,5 +6,6 @@ pub mod Keeping
 pub mod Doing
 pub mod Issued
 pub mod Chains
+pub mod Ended
 pub mod Runs
 pub mod Scripts

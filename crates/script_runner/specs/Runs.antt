@@ -1,5 +1,5 @@
 -- What a session does at the lines of a script, with answers that are true of it.
-use Rattle.std.specs.Prelude.{◌≡◌, ℕ, List, None, replicate}
+use Rattle.std.specs.Prelude.{◌≡◌, ℕ, List, Option, None, IfSome, replicate}
 use Rattle.ddr4_timing.specs.Limits.{lines_of}
 use Rattle.save_device.specs.Device.{IsSettled}
 use Rattle.save_device.specs.Memory.{state_of}
@@ -16,6 +16,7 @@ use Rattle.nv_script.specs.declared.line.ScriptLine.{ScriptLine}
 use Rattle.nv_script.specs.declared.answer.Answer.{Answer}
 use Rattle.script_runner.specs.Chains.{LivesInChain}
 use Rattle.script_runner.specs.Doing.{DoesAll, DoesEach}
+use Rattle.script_runner.specs.Ended.{AreLives, EndLives, Lives}
 use Rattle.script_runner.specs.Keeping.{AnswersTurns, AnswersWhole, GoesThrough}
 use Rattle.script_runner.specs.Issued.{KeepsRules}
 use Rattle.script_runner.specs.Story.{AreAllAnswered}
@@ -36,10 +37,20 @@ module _ {K A : Type 0} {L : Ghosts K} {W : wires.Ghosts A K} where
     pub through : GoesThrough L lines asked before after (moment_in new)
     pub does : DoesAll through.answered.story first new
 
+  -- and if the lists of the lives that they ended are kept, they are these
+  pub record NotesLines (lines : ℕ) (asked : List ScriptLine) (before after : List Answer) (kept : Option Lives) (first new : Session K A L W) : Type 0 where
+    pub done : DoesLines lines asked before after first new
+    pub ended : IfSome kept (EndLives done.through.answered.story first new)
+
   -- these were the lines of a script
   pub record AreAllDone (lines : ℕ) (asked : List ScriptLine) (before after : List Answer) (first last : Session K A L W) : Type 0 where
     pub all : AreAllAnswered lines asked before after
     pub does : DoesAll all.answered.story first last
+
+  -- and if the lists of the lives that they ended are kept, they are these
+  pub record AreAllNoted (lines : ℕ) (asked : List ScriptLine) (before after : List Answer) (kept : Option Lives) (first last : Session K A L W) : Type 0 where
+    pub done : AreAllDone lines asked before after first last
+    pub ended : IfSome kept (EndLives done.all.answered.story first last)
 
   -- a session before its first line: no life runs, the device has these bytes, which a stop leaves, and passes all calls, and the
   -- gauge shows 0 and has no leak
@@ -65,6 +76,11 @@ pub record IsRunOn {K A : Type 0} (L : Ghosts K) (W : wires.Ghosts A K) (Wired :
   pub rules : KeepsRules last
   pub device_is : device ≡ innermost last.device
 
+-- the same, and if the lists of the run's lives are kept, they are these
+pub record IsKeptRunOn {K A : Type 0} (L : Ghosts K) (W : wires.Ghosts A K) (Wired : A → Type 0) (profile : Profile) (bytes : List ℕ) (asked : List ScriptLine) (before after : List Answer) (kept : Option Lives) (device : MemoryDevice) : Type 0 where
+  pub run : IsRunOn L W Wired profile bytes asked before after device
+  pub lists : IfSome kept (AreLives run.done.all.answered.story run.first run.last)
+
 -- the bytes of a device on which nothing was stored yet
 abbrev pub blank : Profile → List ℕ
 blank profile = replicate (device_size (lines_of profile.checked.geometry)) 0
@@ -72,3 +88,6 @@ blank profile = replicate (device_size (lines_of profile.checked.geometry)) 0
 -- the same on a device of zero bytes
 abbrev pub IsRun : {K A : Type 0} (L : Ghosts K) (W : wires.Ghosts A K) (Wired : A → Type 0) (profile : Profile) (asked : List ScriptLine) (before after : List Answer) (device : MemoryDevice) → Type 0
 IsRun L W Wired profile asked before after device = IsRunOn L W Wired profile (blank profile) asked before after device
+
+abbrev pub IsKeptRun : {K A : Type 0} (L : Ghosts K) (W : wires.Ghosts A K) (Wired : A → Type 0) (profile : Profile) (asked : List ScriptLine) (before after : List Answer) (kept : Option Lives) (device : MemoryDevice) → Type 0
+IsKeptRun L W Wired profile asked before after kept device = IsKeptRunOn L W Wired profile (blank profile) asked before after kept device

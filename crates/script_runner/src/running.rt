@@ -1,5 +1,5 @@
 // Scripts over two maps of a profile.
-ghost use Rattle.std.specs.Prelude.{◌≡◌, List, [], IfErr, IfOk, OnOk, All};
+ghost use Rattle.std.specs.Prelude.{◌≡◌, List, [], IfErr, IfOk, IfSome, OnOk, All};
 ghost use Rattle.ddr4_timing.specs.Limits.{lines_of};
 ghost use Rattle.save_device.specs.Device.{IsSettled};
 ghost use Rattle.save_device.specs.Memory.{state_of};
@@ -7,16 +7,16 @@ ghost use Rattle.slot_store.specs.Slots.{HasSize};
 ghost use Rattle.nv_script.specs.declared.answer.Answer.{Answer};
 ghost use Rattle.nv_script.specs.Line.{NamesChannelOf};
 ghost use Rattle.script_runner.specs.Wiring.{IsMapOf, IsWiredFor};
-ghost use Rattle.script_runner.specs.Issued.{KeepsRules};
-ghost use Rattle.script_runner.specs.Runs.{IsRun, IsRunOn};
+ghost use Rattle.script_runner.specs.Runs.{IsKeptRun, IsKeptRunOn, IsRun};
 ghost use Rattle.script_runner.specs.Scripts.{EndsScript, EndsScriptBy, IsBadText, RunsScript};
 ghost use Rattle.script_runner.specs.Story.{AreAllAnswered, AreCutShort, EndsBy};
 
+use crate::book::CommandBook;
 use crate::report::{Printer, Report};
-use crate::script::answer_lines;
+use crate::script::{answer_lines, note_life};
 use crate::wiring::Wiring;
 use channel_port::ChannelPort;
-use ddr4_port::{Ddr4Port, keep_rules};
+use ddr4_port::Ddr4Port;
 use interleave_map::cells::line_count;
 use interleave_map::line_map::LineMap;
 use nv_profile::Profile;
@@ -55,16 +55,7 @@ pub fn run_lines<M: LineMap, R: Report>(
     do_lines(alloc, profile, lines, lines_map, xor_map, report)
 }
 
-// What the channels of a session's life have issued keeps the timing rules.
-fn session_keeps_rules<'m, M: LineMap>(session: &Session<Ddr4Port<'m, M>, Wiring<'m, M>>)
-    ensures { KeepsRules session.now }
-{
-    if let Some(life) = session.life() {
-        keep_rules(life.channels());
-    }
-}
-
-/// Runs lines as `run_lines` does, which makes this call, on a device of zero bytes, as `do_lines_on` does.
+/// Runs lines as `run_lines` does, which makes this call, on a device of zero bytes, as `do_lines_kept` does.
 pub fn do_lines<'m, M: LineMap, R: Report>(
     alloc: Global,
     profile: &Profile,
@@ -88,16 +79,49 @@ pub fn do_lines<'m, M: LineMap, R: Report>(
     ensures fault { IfErr result (λ fault. EndsBy fault
         (R.refusals report.old) (R.refusals report.new)) }
 {
+    let mut book = CommandBook::closed(alloc);
+    do_lines_kept(alloc, profile, lines, lines_map, xor_map, report, &mut book)
+}
+
+/// Runs lines on a device of zero bytes, as `do_lines_on` does.
+pub fn do_lines_kept<'m, M: LineMap, R: Report>(
+    alloc: Global,
+    profile: &Profile,
+    lines: &[ScriptLine],
+    lines_map: &'m M,
+    xor_map: &'m M,
+    report: &mut R,
+    book: &mut CommandBook,
+) -> Result<MemoryDevice, ScriptFault>
+    requires lines { All (NamesChannelOf profile.now.checked.geometry) lines.now }
+    requires lines_map { IsMapOf M.LineMap profile.now.checked.geometry lines_map.now }
+    requires xor_map { IsMapOf M.LineMap profile.now.checked.geometry xor_map.now }
+    requires book { IfSome book.old (λ lives. lives ≡ []) }
+    ensures answered { OnOk result (AreAllAnswered (lines_of profile.now.checked.geometry)
+        lines.now (R.answers report.old) (R.answers report.new)) }
+    ensures runs { IfOk result (λ device. IsKeptRun ⟦<Ddr4Port<'m, M> as ChannelPort>⟧
+        ⟦<Wiring<'m, M> as Wires<Ddr4Port<'m, M>>>⟧
+        (IsWiredFor lines_map.now xor_map.now profile.now) profile.now
+        lines.now (R.answers report.old) (R.answers report.new) book.new device) }
+    ensures cut { IfErr result (λ fault. AreCutShort (lines_of profile.now.checked.geometry)
+        lines.now (R.answers report.old) (R.answers report.new)) }
+    ensures unrefused { OnOk result (R.refusals report.new ≡ R.refusals report.old) }
+    ensures fault { IfErr result (λ fault. EndsBy fault
+        (R.refusals report.old) (R.refusals report.new)) }
+{
     let size = device_size(line_count(&profile.checked) as usize);
     let bytes = Vec::from_elem(alloc, 0, size)?;
     let device = MemoryDevice::new(alloc, bytes)?;
-    do_lines_on(alloc, profile, lines, lines_map, xor_map, device, report)
+    do_lines_on(
+        alloc, profile, lines, lines_map, xor_map, device, report, book,
+    )
 }
 
 /// Runs lines on a device that has the size for the profile's lines, and is settled. The session begins with no life and a gauge that
 /// shows 0 and has no leak; it does line by line, each with the line's own words, and each answer tells of what its line did: the
 /// answers are those of a chain of lives, and what the channels of the last one have issued keeps the timing rules. Answers the device
-/// as the lines left it.
+/// as the lines left it. A new book that is open has all commands that the channels of each life have issued, those of the one that runs
+/// at the end too; where memory gave out for them it has none.
 pub fn do_lines_on<'m, M: LineMap, R: Report>(
     alloc: Global,
     profile: &Profile,
@@ -106,28 +130,30 @@ pub fn do_lines_on<'m, M: LineMap, R: Report>(
     xor_map: &'m M,
     device: MemoryDevice,
     report: &mut R,
+    book: &mut CommandBook,
 ) -> Result<MemoryDevice, ScriptFault>
     requires lines { All (NamesChannelOf profile.now.checked.geometry) lines.now }
     requires lines_map { IsMapOf M.LineMap profile.now.checked.geometry lines_map.now }
     requires xor_map { IsMapOf M.LineMap profile.now.checked.geometry xor_map.now }
     requires size { HasSize (lines_of profile.now.checked.geometry) (state_of device) }
+    requires book { IfSome book.old (λ lives. lives ≡ []) }
     requires settled { IsSettled (state_of device) }
     ensures answered { OnOk result (AreAllAnswered (lines_of profile.now.checked.geometry)
         lines.now (R.answers report.old) (R.answers report.new)) }
-    ensures runs { IfOk result (λ after. IsRunOn ⟦<Ddr4Port<'m, M> as ChannelPort>⟧
+    ensures runs { IfOk result (λ after. IsKeptRunOn ⟦<Ddr4Port<'m, M> as ChannelPort>⟧
         ⟦<Wiring<'m, M> as Wires<Ddr4Port<'m, M>>>⟧
         (IsWiredFor lines_map.now xor_map.now profile.now) profile.now (state_of device).bytes
-        lines.now (R.answers report.old) (R.answers report.new) after) }
+        lines.now (R.answers report.old) (R.answers report.new) book.new after) }
     ensures cut { IfErr result (λ fault. AreCutShort (lines_of profile.now.checked.geometry)
         lines.now (R.answers report.old) (R.answers report.new)) }
     ensures unrefused { OnOk result (R.refusals report.new ≡ R.refusals report.old) }
     ensures fault { IfErr result (λ fault. EndsBy fault
         (R.refusals report.old) (R.refusals report.new)) }
 {
-    let wiring = Wiring::new(lines_map, xor_map, profile);
+    let wiring = Wiring::new(lines_map, xor_map, profile).with_commands(book.is_open());
     let mut session = Session::over(device, profile, wiring);
-    answer_lines(alloc, &mut session, lines, report)?;
-    session_keeps_rules(&session);
+    answer_lines(alloc, &mut session, lines, report, book)?;
+    note_life(&session, book);
     Ok(session.into_device())
 }
 

@@ -1,9 +1,11 @@
 // Scripts, run on a session.
-ghost use Rattle.std.specs.Prelude.{◌≡◌, ◌<◌, IfErr, IfOk, OnOk, All};
+ghost use Rattle.std.specs.Prelude.{◌≡◌, ◌<◌, [], true, IfErr, IfOk, IfSome, OnOk, All};
 ghost use Rattle.nv_session.specs.Sessions.{line_count_in, moment_in};
 ghost use Rattle.nv_script.specs.Line.{NamesChannelOf};
 ghost use Rattle.script_runner.specs.Doing.{Does};
-ghost use Rattle.script_runner.specs.Runs.{AreAllDone, DoesLine};
+ghost use Rattle.script_runner.specs.Ended.{Notes, ended_by, lists_in};
+ghost use Rattle.script_runner.specs.Issued.{KeepsRules};
+ghost use Rattle.script_runner.specs.Runs.{AreAllNoted, DoesLine};
 ghost use Rattle.script_runner.specs.Story.{AreCutShort, EndsBy};
 ghost use Rattle.script_runner.specs.Keeping.{AnswersTruly, AnswersPart};
 
@@ -11,6 +13,7 @@ use crate::answers::{
     arm_answer, disarm_answer, read_answer, restore_answer, save_answer, step_answer, work_answer,
     write_answer,
 };
+use crate::book::LifeBook;
 use crate::report::Report;
 use channel_port::ChannelPort;
 use nv_script::{Answer, ScriptFault, ScriptLine};
@@ -18,20 +21,24 @@ use nv_session::{FormatError, Level, Session, Wires};
 use save_device::Pick;
 use std::alloc::Global;
 
-/// Does lines, and reports their answers.
-pub(crate) fn answer_lines<K, A, R>(
+/// Does lines, and reports their answers. A new book is shown each life that one of them ends.
+pub(crate) fn answer_lines<K, A, R, B>(
     alloc: Global,
     session: &mut Session<K, A>,
     lines: &[ScriptLine],
     report: &mut R,
+    book: &mut B,
 ) -> Result<(), ScriptFault>
 where
     K: ChannelPort + Drop,
     A: Wires<K> + Drop,
     R: Report,
+    B: LifeBook<K>,
     requires names { All (NamesChannelOf session.old.profile.checked.geometry) lines.now }
-    ensures done { OnOk result (AreAllDone (line_count_in session.old)
-        lines.now (R.answers report.old) (R.answers report.new) session.old session.new) }
+    requires book { IfSome (B.lives book.old) (λ lives. lives ≡ []) }
+    ensures done { OnOk result (AreAllNoted (line_count_in session.old) lines.now
+        (R.answers report.old) (R.answers report.new) (B.lives book.new)
+        session.old session.new) }
     ensures cut { IfErr result (λ fault. AreCutShort (line_count_in session.old)
         lines.now (R.answers report.old) (R.answers report.new)) }
     ensures unrefused { OnOk result (R.refusals report.new ≡ R.refusals report.old) }
@@ -39,9 +46,46 @@ where
         (R.refusals report.old) (R.refusals report.new)) }
 {
     for line in lines {
+        note_end(session, *line, book);
         answer_line(alloc, session, *line, report)?;
     }
     Ok(())
+}
+
+// Whether a life begins with a line, and the one before it ends.
+fn begins_life(line: ScriptLine) -> bool
+    ensures { result ≡ Rattle.script_runner.specs.Issued.begins_life line }
+{
+    matches!(line, ScriptLine::Format | ScriptLine::Restore { .. })
+}
+
+/// Shows a book the life that runs, if one does. It keeps the timing rules.
+pub(crate) fn note_life<K, A, B>(session: &Session<K, A>, book: &mut B)
+where
+    K: ChannelPort + Drop,
+    A: Wires<K> + Drop,
+    B: LifeBook<K>,
+    ensures notes { Notes (lists_in session.now) (B.lives book.old) (B.lives book.new) }
+    ensures rules { KeepsRules session.now }
+{
+    if let Some(life) = session.life() {
+        book.end(life);
+    }
+}
+
+// Shows a book the life that a line ends.
+fn note_end<K, A, B>(session: &Session<K, A>, line: ScriptLine, book: &mut B)
+where
+    K: ChannelPort + Drop,
+    A: Wires<K> + Drop,
+    B: LifeBook<K>,
+    ensures notes { Notes (ended_by line session.now) (B.lives book.old) (B.lives book.new) }
+    ensures rules { Rattle.script_runner.specs.Issued.begins_life line ≡ true
+        → KeepsRules session.now }
+{
+    if begins_life(line) {
+        note_life(session, book);
+    }
 }
 
 /// How many answers a line may have.

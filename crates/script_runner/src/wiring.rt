@@ -22,6 +22,7 @@ pub struct Wiring<'m, M: LineMap> {
     xor_map: &'m M,
     profile: Profile,
     costs: Costs,
+    keeps_commands: bool,
 }
 
 impl<'m, M: LineMap> Model for Wiring<'m, M> {
@@ -64,6 +65,17 @@ impl<'m, M: LineMap> Wiring<'m, M> {
             xor_map,
             profile: *profile,
             costs: Costs::of(&profile.checked, &profile.costs).with_retries(profile.sizes.retries),
+            keeps_commands: false,
+        }
+    }
+
+    /// The same, for modules whose channels keep their commands, or don't.
+    pub fn with_commands(self, keeps_commands: bool) -> Wiring<'m, M>
+        ensures { result ≡ self }
+    {
+        Wiring {
+            keeps_commands,
+            ..self
         }
     }
 
@@ -97,6 +109,7 @@ impl<'m, M: LineMap> Wires<Ddr4Port<'m, M>> for Wiring<'m, M> {
             depth: self.profile.sizes.depth,
             reads: self.profile.sizes.reads,
             trail,
+            keeps_commands: self.keeps_commands,
         };
         let map = self.map_of(map);
         open(

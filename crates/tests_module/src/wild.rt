@@ -42,6 +42,7 @@ fn sizes_of(profile: &Profile) -> Sizes
         depth: profile.sizes.depth,
         reads: profile.sizes.reads,
         trail: profile.sizes.trail,
+        keeps_commands: false,
     }
 }
 

@@ -4,6 +4,7 @@ use crate::program::{ends, make, named, place, remove};
 use interleave_map::{Interleaving, ReadyMap};
 use nv_profile::{TINY, read_profile};
 use run_command::run_on_store;
+use script_runner::CommandBook;
 use std::fs;
 use std::process::{self, Abort, ExitCode};
 use store_file::{HostStore, ModelStore};
@@ -120,7 +121,10 @@ fn tells<R: Abort + std::rt::Files + AllocGlobal>(
         checked: profile.checked,
     };
     let mut told = Vec::new(rt.alloc());
-    let ran = run_on_store(rt, &profile, script, &lines, &xor, store, false, &mut told);
+    let mut book = CommandBook::closed(rt.alloc());
+    let ran = run_on_store(
+        rt, &profile, script, &lines, &xor, store, false, &mut told, &mut book,
+    );
     same(rt, (ran.is_ok(), told.as_slice()), (true, text.as_bytes()));
 }
 

@@ -43,6 +43,7 @@ fn live_on(
         depth: profile.sizes.depth,
         reads: profile.sizes.reads,
         trail: profile.sizes.trail,
+        keeps_commands: false,
     };
     let costs = Costs::of(&profile.checked, &profile.costs).with_retries(profile.sizes.retries);
     let Some(mut device) = device_of(alloc, bytes) else {

@@ -1,27 +1,31 @@
-use Rattle.std.proofs.Common.{sym, subst, All}
+use Rattle.std.proofs.Common.{sym, subst, All, Option}
 use Rattle.ddr4_timing.specs.Limits.{lines_of}
 use Rattle.nv_profile.specs.declared.profile.Profile.{Profile}
 use Rattle.nv_script.specs.Line.{NamesChannelOf}
 use Rattle.save_device.specs.Device.{IsSettled}
 use Rattle.save_device.specs.Memory.{state_of}
 use Rattle.save_device.specs.declared.memory.MemoryDevice.{MemoryDevice}
-use Rattle.script_runner.specs.Runs.{AreAllDone}
+use Rattle.script_runner.specs.Ended.{Lives}
+use Rattle.script_runner.specs.Runs.{AreAllNoted, IsRunOn}
 use Rattle.script_runner.specs.Wiring.{IsWiredFor, WiredMaps}
 use Rattle.script_runner.proofs.Chains.{lives_in_chain}
+use Rattle.script_runner.proofs.Ended.{all_lives}
 use Rattle.script_runner.proofs.running.do_lines_on.Goals as goal
 
 pub answer_lines-requires : goal.answer_lines-requires
 answer_lines-requires g c =
     let Names : Profile → Type 0 = λ profile. All (NamesChannelOf profile.checked.geometry) c.args.lines.now in
-    record { names = subst Names (sym c.over-session.ensures.profile) c.requires.lines }
+    record { names = subst Names (sym c.over-session.ensures.profile) c.requires.lines; book = c.requires.book }
 
 pub returns-clause-runs : goal.returns-clause-runs
 returns-clause-runs g c =
     let made = c.over-session.ensures in let wiring = c.new-wiring.ensures in let first = c.over-session.result in let last = c.answer_lines.new.session in
     let before = g.R.Report.answers c.args.report.now in let after = g.R.Report.answers c.answer_lines.new.report in
-    let done : AreAllDone (lines_of c.args.profile.now.checked.geometry) c.args.lines.now before after first last =
-    subst (λ (profile : Profile). AreAllDone (lines_of profile.checked.geometry) c.args.lines.now before after first last) made.profile c.in_ok-answer_lines.ensures.done in
-    record {
+    let kept : Option Lives = c.answer_lines.new.book in
+    let noted : AreAllNoted (lines_of c.args.profile.now.checked.geometry) c.args.lines.now before after kept first last =
+    subst (λ (profile : Profile). AreAllNoted (lines_of profile.checked.geometry) c.args.lines.now before after kept first last) made.profile c.in_ok-answer_lines.ensures.done in
+    let done = noted.done in
+    let run : IsRunOn _ _ (IsWiredFor c.args.lines_map.now c.args.xor_map.now c.args.profile.now) c.args.profile.now (state_of c.args.device).bytes c.args.lines.now before after c.into_device.result = record {
       first = first;
       last = last;
       begins = record {
@@ -36,7 +40,8 @@ returns-clause-runs g c =
         leak = made.leak;
       };
       done = done;
-      rules = c.session_keeps_rules.ensures;
+      rules = c.note_life.ensures.rules;
       lives = lives_in_chain done.all.answered.story first last done.does;
       device_is = cc;
-    }
+    } in
+    record { run = run; lists = all_lives done.all.answered.story first last kept c.note_life.new.book noted.ended c.note_life.ensures.notes }

@@ -28,7 +28,7 @@ invariant_of-self-in-Write c =
     let eligible = chosen c.requests.ensures.value c.self.view_is c.in-Some.is c.requires _ in
     let e = c.take_write-bytes.ensures in
     record {
-      are = rw c.note.ensures
+      are = rw c.note.ensures.noted
           (write-holds (contents_of c.self.inside) c.take_write-bytes.new.queue c.take.new.self c.args.command c.in-Some.index _ c.take_write-bytes.result c.self.invariant.are eligible.here c.in-Write.is e.size c.take.ensures.left e.queue e.depth e.takes);
       room_for_reads = c.self.invariant.room_for_reads;
     }
@@ -43,7 +43,7 @@ returns-in-Write c =
     let bytes = c.take_write-bytes.result in
     let takes = c.take_write-bytes.ensures.takes in
     let kind = c.in-Write.is in
-    rw (← c.self.view_is, c.in-Some.is, c.note.ensures) (record {
+    rw (← c.self.view_is, c.in-Some.is, c.note.ensures.noted) (record {
       same = rw c.take_write-bytes.ensures.depth refl;
       serves = record {
         p = _;
@@ -79,7 +79,7 @@ pub invariant_of-self-in-Read : goal.invariant_of-self-in-Read
 invariant_of-self-in-Read c =
     let eligible = chosen c.requests.ensures.value c.self.view_is c.in-Some.is c.requires _ in
     record {
-      are = rw c.note.ensures
+      are = rw c.note.ensures.noted
           (read-holds (contents_of c.self.inside) c.take.new.self c.answer-serial.new.reads.items c.args.command c.in-Some.index _ _ c.answer-serial.result c.self.invariant.are eligible.here c.in-Read.is c.take.ensures.left c.answer-serial.ensures.answers);
       room_for_reads = omega (arith, c.self.invariant.room_for_reads, c.answer-serial.ensures.capacity);
     }
@@ -91,7 +91,7 @@ returns-in-Read c =
     let are = c.self.invariant.are in
     let whole = read-at s.array _ c.index-bytes.result.now [] (line-within s are c.in-Some.index _ eligible.here) c.index-bytes.ensures in
     let answers = rw whole at c.answer-serial.ensures.answers in
-    rw (← c.self.view_is, c.in-Some.is, c.note.ensures) (record {
+    rw (← c.self.view_is, c.in-Some.is, c.note.ensures.noted) (record {
       same = refl;
       serves = record {
         p = _;

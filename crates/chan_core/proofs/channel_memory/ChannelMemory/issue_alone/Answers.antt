@@ -25,7 +25,7 @@ invariant_of-self c =
     let size = ap length (rw c.deref_mut.ensures.value at stored.array) ∙ length-after_pending s.array (take k s.queue.writes) in
     let filled = with_items_is c.self.inside.array c.store_by.new.array (omega (arith, size, c.self.inside.array.ok)) in
     record {
-      are = rw (filled, c.lose_reads.ensures.none, c.note.ensures)
+      are = rw (filled, c.lose_reads.ensures.none, c.note.ensures.noted)
           (alone-holds s c.args.command k c.args.phase c.store_by.new.array c.store_by.new.queue c.lose_reads.new.waiting c.store_by.new.waiting are (left s c.lose_reads.new.waiting are c.lose_reads.ensures.waiting) c.requires.single (one-write c.args.command.cmd) size
           (stored.whole (rw (← c.deref_mut.ensures.value) at are.array.whole)) stored.queue stored.waiting);
       room_for_reads = omega (arith, c.self.invariant.room_for_reads, c.lose_reads.ensures.capacity);
@@ -40,4 +40,4 @@ returns-clause-issues c =
     let size = ap length array-is ∙ length-after_pending s.array (take (writes_by c.args.command.cmd) s.queue.writes) in
     let filled = with_items_is c.self.inside.array c.store_by.new.array (omega (arith, size, c.self.inside.array.ok)) in
     rw (← c.self.view_is, filled, c.lose_reads.ensures.none)
-    (alone-issues s c.args.command c.args.phase c.store_by.new.array c.store_by.new.queue c.lose_reads.new.waiting c.store_by.new.waiting c.note.new.self.items (left s c.lose_reads.new.waiting are c.lose_reads.ensures.waiting) array-is stored.queue stored.waiting c.note.ensures c.requires.single (rw (← c.self.view_is) at c.requires.asleep))
+    (alone-issues s c.args.command c.args.phase c.store_by.new.array c.store_by.new.queue c.lose_reads.new.waiting c.store_by.new.waiting c.note.new.self.items (left s c.lose_reads.new.waiting are c.lose_reads.ensures.waiting) array-is stored.queue stored.waiting c.note.ensures.noted c.requires.single (rw (← c.self.view_is) at c.requires.asleep))

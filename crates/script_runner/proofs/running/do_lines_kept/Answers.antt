@@ -3,7 +3,7 @@ use Rattle.ddr4_timing.specs.Limits.{lines_of}
 use Rattle.script_runner.specs.Story.{AreCutShort}
 use Rattle.script_runner.proofs.Results.{if_err_so}
 use Rattle.script_runner.proofs.Stories.{cut_first}
-use Rattle.script_runner.proofs.running.do_lines.Goals as goal
+use Rattle.script_runner.proofs.running.do_lines_kept.Goals as goal
 
 pub returns-in_err-bytes-clause-cut : goal.returns-in_err-bytes-clause-cut
 returns-in_err-bytes-clause-cut g c =
