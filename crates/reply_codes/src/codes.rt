@@ -1,6 +1,6 @@
 // What a call answers: a code, and numbers beside it. `include/panguhero.h` names the same codes.
 ghost use Rattle.std.specs.Prelude.{◌≡◌};
-ghost use Rattle.reply_codes.specs.Codes.{arm_told, disarm_told, found_told, handed_told, level_told, loss_told, mode_told, mode_number, open_code, profile_code, read_told, ticket_told, collected_told, refusal_told, restore_code, restore_told, save_told, write_told};
+ghost use Rattle.reply_codes.specs.Codes.{arm_told, disarm_told, found_told, handed_told, level_told, loss_told, mode_told, mode_number, open_code, profile_code, read_told, ticket_told, collected_told, refusal_told, restore_code, restore_told, save_told, told, told_code, write_told};
 
 use arm_state::{ArmRefusal, ArmReply, DisarmReply, Loss, Mode, ReadRefusal, WriteRefusal};
 use channel_port::{Collected, Ticket};
@@ -115,14 +115,14 @@ const SERIALS: u128 = 1 << 64;
 impl Told {
     /// A code with no numbers.
     pub fn code(code: u32) -> Told
-        ensures { result ≡ record { code = code; numbers = record { first = 0; second = 0 } } }
+        ensures { result ≡ told_code code }
     {
         Told::with(code, 0, 0)
     }
 
     /// A code with its numbers.
     pub fn with(code: u32, first: u64, second: u64) -> Told
-        ensures { result ≡ record { code = code; numbers = record { first = first; second = second } } }
+        ensures { result ≡ told code first second }
     {
         Told {
             code,
@@ -339,9 +339,9 @@ pub fn open_code(fault: OpenFault) -> u32
     }
 }
 
-/// The words of a code.
-pub fn text_of(code: u32) -> &'static str {
-    match code {
+// The words of a code about handles, buffers and stores.
+fn handle_text(code: u32) -> Option<&'static str> {
+    let words = match code {
         DONE => "it was done",
         NO_MEMORY => "there is no memory",
         NO_PROFILE => "the text is no profile",
@@ -358,6 +358,14 @@ pub fn text_of(code: u32) -> &'static str {
         NO_PICK => "there is no such pick",
         IN_FILE => "the device's bytes are in a store of the caller's",
         LONGER => "the change has more bytes than the buffer",
+        _ => return None,
+    };
+    Some(words)
+}
+
+// The words of a code about lines, reads, changes and events.
+fn line_text(code: u32) -> Option<&'static str> {
+    let words = match code {
         FULL => "the write queue of the line's channel is full",
         ENERGY_LOW => "the energy is too low for one more write",
         DISARMING => "the module is disarming",
@@ -372,6 +380,14 @@ pub fn text_of(code: u32) -> &'static str {
         NO_CHANGE => "no change is noted",
         NO_EVENT => "there is no such event",
         ROOM => "there is room for another number",
+        _ => return None,
+    };
+    Some(words)
+}
+
+// The words of a code about arming, saves and mains.
+fn save_text(code: u32) -> Option<&'static str> {
+    let words = match code {
         NEED_ENERGY => "the energy is too low to arm",
         SAVE_RUNNING => "a save runs",
         UNSETTLED => "the device has failed since the last save",
@@ -384,6 +400,15 @@ pub fn text_of(code: u32) -> &'static str {
         SAVE_FAULT => "the device failed, which ended the save",
         UNSAVED => "mains were lost while disarmed",
         DARK => "mains were lost, and the energy didn't suffice",
-        _ => "there is no such code",
-    }
+        _ => return None,
+    };
+    Some(words)
+}
+
+/// The words of a code.
+pub fn text_of(code: u32) -> &'static str {
+    handle_text(code)
+        .or(line_text(code))
+        .or(save_text(code))
+        .unwrap_or("there is no such code")
 }
