@@ -12,13 +12,15 @@ use nv_profile::Profile;
 use script_runner::Wiring;
 use sector_device::{SPARE_PLACE, SectorDevice, SectorFile};
 use slot_store::device_size;
+use std::fs::{OpenOptions, TryLockError};
 use std::io::{BufReader, Input, IsTerminal, Write};
 
 /// What a life asks of the system beside standard input: files for devices, and whether a person types.
 pub trait Host {
     type File: SectorFile + Drop;
 
-    /// The file at the path, at rest, of so many bytes. It is made of zeros where there is none.
+    /// The file at the path, at rest, of so many bytes. It is made of zeros where there is none, and one that lacks the spare place
+    /// alone grows by it first.
     fn open_store(&self, path: &str, len: u64) -> Result<Self::File, OpenFault>
         ensures { IfOk result (λ file. IfKept IsAtRest (Self.File.SectorFile.kept file)) };
 
@@ -26,10 +28,31 @@ pub trait Host {
     fn is_typed(&self) -> bool;
 }
 
+// Lets a file that lacks its last bytes, those of a spare place, grow by zeros up to this length, and makes that durable. Nothing is
+// written to it, so that a stop leaves the one length or the other. What isn't such a file stays as it is.
+fn grow(rt: &HostRuntime, path: &str, len: u64) -> Result<(), OpenFault> {
+    let Ok(file) = OpenOptions::new().read(true).write(true).open(rt, path) else {
+        return Ok(());
+    };
+    match file.try_lock() {
+        Ok(()) => {}
+        Err(TryLockError::WouldBlock) => return Err(OpenFault::Busy),
+        Err(TryLockError::Error(error)) => return Err(OpenFault::Io(error)),
+    }
+    let found = file.metadata()?;
+    let bare = len.saturating_sub(SPARE_PLACE as u64);
+    if found.is_file() && found.len() > 0 && found.len() == bare {
+        file.set_len(len)?;
+        file.sync_all()?;
+    }
+    Ok(())
+}
+
 impl Host for HostRuntime {
     type File = HostFile;
 
     fn open_store(&self, path: &str, len: u64) -> Result<HostFile, OpenFault> {
+        grow(self, path, len)?;
         HostFile::open(self, path, len)
     }
 

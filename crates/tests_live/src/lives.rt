@@ -1,16 +1,21 @@
 // What a life answers, and what the next one on its device finds.
 use crate::talk::{after_a_stop, blank, live, on_file, on_sectors, sectors_after_a_stop, zeros};
-use live_store::LiveFault;
-use save_device::MemoryDevice;
+use file_device::OpenFault;
+use live_store::{Host, LiveFault};
+use save_device::{MemoryDevice, SaveDevice};
+use sector_device::{SPARE_PLACE, SectorDevice};
 use slot_store::{RestoreError, device_size};
-use std::str;
 use std::test::Fail;
+use std::{fs, str};
 
 /// The calls of a file by which a life restores, which is the first one, and arms, and some more.
 const CALLS: u64 = 16;
 
-/// The calls by which it restores and saves, and some more.
-const SAVE_CALLS: u64 = 48;
+/// A store in the folder in which the tests run.
+const PATH: &str = "tests_live_store.bin";
+
+/// Every third of the calls by which it restores and saves.
+const SAVE_CALLS: u64 = 12;
 
 #[test]
 fn each_line_is_answered(rt: HostRuntime) -> Result<(), Fail> {
@@ -111,15 +116,50 @@ fn a_failed_sync_is_made_up_for(rt: HostRuntime) -> Result<(), Fail> {
 
 #[test]
 fn a_failed_call_of_a_file_of_sectors_is_made_up_for(rt: HostRuntime) -> Result<(), Fail> {
-    // one by one the calls of the file fail by which a life saves, and no later one
-    for call in 1..SAVE_CALLS {
+    // a call of the file fails by which a life saves, and no later one
+    for part in 0..SAVE_CALLS {
+        let call = 3 * part + 1;
         let ended = live(&rt, on_sectors(&rt), "write 0 11\nsave\n");
         let device = sectors_after_a_stop(&rt, ended.device?, 1 << call);
         let ended = live(&rt, device, "write 1 22\nsave\nsave\nsave\n");
         let device = sectors_after_a_stop(&rt, ended.device?, 0);
         let ended = live(&rt, device, "read 0\nread 1\n");
-        assert!(rt; ended.text.ends_with(b"Complete\nline 0 = 11\nline 1 = 22\n"));
+        assert!(rt;
+            ended
+                .text
+                .ends_with(b"Complete\nline 0 = 11\nline 1 = 22\n")
+        );
     }
+    Ok(())
+}
+
+#[test]
+fn a_store_without_a_spare_place_grows_by_one(rt: HostRuntime) -> Result<(), Fail> {
+    let ended = live(&rt, blank(&rt), "write 0 11\nsave\n");
+    let mut device = ended.device?;
+    let mut bytes = zeros(&rt, device_size(128));
+    if device.len() == bytes.len() {
+        let _done = device.read(0, &mut bytes);
+    }
+    fs::write(&rt, PATH, &bytes)?;
+    let len = (bytes.len() as u64).saturating_add(SPARE_PLACE as u64);
+    let file = rt.open_store(PATH, len)?;
+    let ended = live(&rt, SectorDevice::over(rt.alloc(), file)?, "read 0\n");
+    assert_eq!(rt;
+        str::from_utf8(&ended.text).ok(),
+        Some("restored 2 1 Complete\nline 0 = 11\n")
+    );
+    assert_eq!(rt; fs::metadata(&rt, PATH)?.len(), len);
+    drop(ended);
+    bytes.truncate(1000);
+    fs::write(&rt, PATH, &bytes)?;
+    assert!(rt;
+        matches!(
+            rt.open_store(PATH, len),
+            Err(OpenFault::WrongLength { found: 1000, .. })
+        )
+    );
+    fs::remove_file(&rt, PATH)?;
     Ok(())
 }
 
