@@ -1,0 +1,180 @@
+// A life of a module with a journal in it.
+ghost use Rattle.std.specs.Prelude.{◌≡◌};
+ghost use Rattle.module_core.specs.Stands.{HasDevice, setup_of};
+
+use arm_state::{Loss, WriteRefusal};
+use channel_port::ChannelPort;
+use energy_budget::Meter;
+use line_memory::Write;
+use module_core::Module;
+use module_journal::{AppendRefusal, Appended, Journal, TruncateRefusal};
+use nv_machine::{Accepted, StepReply};
+use save_device::SaveDevice;
+use thiserror::Error;
+
+/// How often a channel is worked for one write.
+const TURNS: u64 = 65_536;
+
+/// How many turns a save may take.
+const SAVE_TURNS: u64 = 1 << 20;
+
+/// More energy than any save takes, in units.
+const AMPLE: u64 = 1 << 62;
+
+/// Why a life can't go on.
+#[derive(Clone, Copy, Debug, PartialEq, Eq, Error)]
+pub enum Stall {
+    #[error("no such costs")]
+    Costs,
+    #[error("no such device")]
+    Device,
+    #[error("no room for a record")]
+    Room,
+    #[error("no such write")]
+    Write,
+    #[error("no save")]
+    Save,
+    #[error("not armed")]
+    Arm,
+    #[error("not there in time")]
+    Turns,
+}
+
+/// A module with its device, its gauge and a journal.
+#[derive(Drop)]
+pub struct JournalLife<K: ChannelPort, D: SaveDevice> {
+    running: Module<K>,
+    journal: Journal,
+    device: D,
+    gauge: Meter,
+    channels: u64,
+    ghost counted: { channels ≡ (setup_of K.ChannelPort running).shape.channels },
+    ghost sized: { HasDevice K.ChannelPort running (D.state device) },
+}
+
+impl<K: ChannelPort + Drop, D: SaveDevice + Drop> JournalLife<K, D> {
+    /// A module that was opened on this device, and the journal in its memory.
+    pub fn new(running: Module<K>, journal: Journal, device: D, channels: u64) -> JournalLife<K, D>
+        requires channels { channels ≡ (setup_of K.ChannelPort running).shape.channels }
+        requires size { HasDevice K.ChannelPort running (D.state device) }
+    {
+        JournalLife {
+            running,
+            journal,
+            device,
+            gauge: Meter::with(AMPLE, 0),
+            channels,
+        }
+    }
+
+    /// The device, without the module.
+    pub fn into_device(self) -> D {
+        self.device
+    }
+
+    /// The journal, to be asked which records are there.
+    pub fn journal(&self) -> &Journal {
+        &self.journal
+    }
+
+    /// How many writes the module accepted, and the number of those that are persistent.
+    pub fn marks(&self) -> (u64, u64) {
+        (self.running.accepted(), self.running.mark())
+    }
+
+    /// The number up to which the module's mark tells all records stored.
+    pub fn stored(&mut self) -> u64 {
+        let mark = self.running.mark();
+        self.journal.stored(mark)
+    }
+
+    /// Appends a record.
+    pub fn append(&mut self, bytes: &[u8]) -> Result<Appended, AppendRefusal> {
+        self.journal.append(&mut self.running, bytes)
+    }
+
+    /// Cuts the records below a number.
+    pub fn truncate(&mut self, upto: u64) -> Result<Option<Accepted>, TruncateRefusal> {
+        self.journal.truncate(&mut self.running, upto)
+    }
+
+    // Issues one command of a channel, where there is the channel and it has one.
+    fn work(&mut self, channel: u64) -> bool {
+        channel < self.channels && self.running.work(channel).is_some()
+    }
+
+    /// Makes a write by hand, and works the channel of its line, which the low part of the line names, while that is full.
+    pub fn write(&mut self, write: Write) -> Result<Accepted, Stall> {
+        for _turn in 0..TURNS {
+            match self.running.write(write) {
+                Ok(accepted) => return Ok(accepted),
+                Err(WriteRefusal::Full) => {
+                    // a channel that is full has a command
+                    let _issued = self.work(write.line.checked_rem(self.channels).unwrap_or(0));
+                }
+                Err(_) => return Err(Stall::Write),
+            }
+        }
+        Err(Stall::Turns)
+    }
+
+    /// Arms, with energy for any save.
+    pub fn arm(&mut self) -> Result<(), Stall> {
+        match self.running.arm(&mut self.device, &mut self.gauge) {
+            Ok(_) => Ok(()),
+            Err(_) => Err(Stall::Arm),
+        }
+    }
+
+    /// Begins to disarm; a save ends it.
+    pub fn disarm(&mut self) -> Result<(), Stall> {
+        match self.running.disarm() {
+            Ok(_) => Ok(()),
+            Err(_) => Err(Stall::Arm),
+        }
+    }
+
+    // One command of each channel that has one.
+    fn work_each(&mut self) {
+        for channel in 0..self.channels {
+            // a channel may have no command at this turn
+            let _issued = self.work(channel);
+        }
+    }
+
+    // Makes a step of the save that runs; whether it was the last one.
+    fn step(&mut self) -> Result<bool, Stall> {
+        match self.running.save_step(&mut self.device, &mut self.gauge) {
+            StepReply::Saved { .. } => Ok(true),
+            StepReply::Did(_) | StepReply::Retry => Ok(false),
+            StepReply::Waiting => {
+                self.work_each();
+                Ok(false)
+            }
+            _ => Err(Stall::Save),
+        }
+    }
+
+    /// Makes the steps of the save that runs, up to the last one.
+    pub fn finish_save(&mut self) -> Result<(), Stall> {
+        for _turn in 0..SAVE_TURNS {
+            if self.step()? {
+                return Ok(());
+            }
+        }
+        Err(Stall::Turns)
+    }
+
+    /// A whole save.
+    pub fn save(&mut self) -> Result<(), Stall> {
+        if self.running.save_begin().is_err() {
+            return Err(Stall::Save);
+        }
+        self.finish_save()
+    }
+
+    /// Loses the mains.
+    pub fn lose(&mut self) -> Loss {
+        self.running.power_loss(&mut self.device, &mut self.gauge)
+    }
+}
