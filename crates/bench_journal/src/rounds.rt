@@ -5,9 +5,12 @@ use channel_port::ChannelPort;
 use interleave_map::ReadyMap;
 use interleave_map::cells::line_count;
 use journal_lines::Index;
-use journal_load::{JournalLife, begin, formatted};
+use ddr4_port::Ddr4Port;
+use journal_load::{JournalLife, begin, capacity_of, formatted};
 use line_memory::{Write, zero_memory};
-use save_device::SaveDevice;
+use save_device::{MemoryDevice, SaveDevice};
+use slot_store::restore;
+use std::alloc::Global;
 
 /// The records of a round.
 pub const EACH: u64 = 1_000;
@@ -77,6 +80,17 @@ fn hand_round<K: ChannelPort + Drop, D: SaveDevice + Drop>(
     Ok(())
 }
 
+// A life of zero lines on a device in memory.
+fn fresh<'m>(
+    alloc: Global,
+    map: &'m ReadyMap,
+) -> anyhow::Result<JournalLife<Ddr4Port<'m, ReadyMap>, MemoryDevice>> {
+    let lines = capacity_of(&map.checked)?;
+    let mut device = formatted(alloc, &map.checked)?;
+    let restored = restore(alloc, &mut device, lines)?;
+    begin(alloc, map, restored, device)
+}
+
 /// Rounds of a journal.
 pub(crate) fn journal_rounds(
     rt: &HostRuntime,
@@ -87,7 +101,7 @@ pub(crate) fn journal_rounds(
 ) -> anyhow::Result<Spent> {
     let alloc = rt.alloc();
     let bytes = Vec::from_elem(alloc, 7, size)?;
-    let mut life = open(alloc, map, formatted(alloc, &map.checked)?, u64::MAX)?;
+    let mut life = fresh(alloc, map)?;
     if armed {
         life.arm()?;
     }
@@ -116,7 +130,7 @@ pub(crate) fn hand_rounds(
     let bytes = Vec::from_elem(alloc, 7, size)?;
     let memory = zero_memory(alloc, line_count(&map.checked) as usize)?;
     let mut index = Index::open(alloc, &memory)?;
-    let mut life = open(alloc, map, formatted(alloc, &map.checked)?, u64::MAX)?;
+    let mut life = fresh(alloc, map)?;
     if armed {
         life.arm()?;
     }

@@ -30,7 +30,11 @@ fn is_unused<D: SaveDevice>(device: &mut D) -> anyhow::Result<bool> {
     let mut page = [0; 4096];
     let pages = device.len() / 4096;
     for number in 0..pages {
-        device.read(4096 * number, &mut page)?;
+        let at = 4096 * number;
+        if device.len() < at + 4096 {
+            return Ok(false);
+        }
+        device.read(at, &mut page)?;
         if page.iter().any(|byte| *byte != 0) {
             return Ok(false);
         }
@@ -48,10 +52,7 @@ fn restore_or_format<D: SaveDevice>(
     ensures memory { IfOk result (λ it. IsMemory lines it.lines.items) }
     ensures numbers { IfOk result (λ it. Fits it.head.newest.generation it.head.count) }
 {
-    if device.len() != device_size(lines) {
-        anyhow::bail!("the store is not restored: another size");
-    }
-    if is_unused(device)? {
+    if is_unused(device)? && device.len() == device_size(lines) {
         format(device, lines)?;
         println!(rt; "formatted")?;
         return Ok(restore(rt.alloc(), device, lines)?);
@@ -74,7 +75,8 @@ fn live<D: SaveDevice + Drop>(rt: &HostRuntime, map: &ReadyMap, mut device: D) -
     let life = begin(rt.alloc(), map, restored, device)?;
     let mut keeper = Keeper { life, texts };
     for line in rt.lines(rt.alloc()) {
-        match request_of(line?.as_str()) {
+        let line = line?;
+        match request_of(line.as_str()) {
             Ok(request) => keeper.answer(rt, request)?,
             Err(none) => println!(rt; "{none}")?,
         }
