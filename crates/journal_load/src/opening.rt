@@ -66,12 +66,7 @@ pub fn begin<'m, D: SaveDevice + Drop>(
     }
     let journal = Journal::open(alloc, &restored.lines)?;
     match ddr4_module::open(alloc, restored, map, checked, costs, SIZES) {
-        Ok(running) => Ok(JournalLife::new(
-            running,
-            journal,
-            device,
-            checked.geometry.channels,
-        )),
+        Ok(running) => Ok(JournalLife::new(running, journal, device, checked.geometry.channels)),
         Err((_, error)) => Err(error.into()),
     }
 }

@@ -25,7 +25,10 @@ pub(crate) struct Script {
 const SAVES: [Step; 8] = [
     Step::Append { count: 3, size: 20 },
     Step::Save,
-    Step::Append { count: 2, size: 200 },
+    Step::Append {
+        count: 2,
+        size: 200,
+    },
     Step::Truncate { count: 2 },
     Step::Save,
     Step::Append { count: 1, size: 0 },
@@ -39,14 +42,20 @@ const ARMED: [Step; 6] = [
     Step::Arm,
     Step::Append { count: 4, size: 63 },
     Step::Truncate { count: 3 },
-    Step::Append { count: 2, size: 124 },
+    Step::Append {
+        count: 2,
+        size: 124,
+    },
     Step::Lose,
 ];
 
 // An armed module that is disarmed again, and goes on.
 const DISARMED: [Step; 8] = [
     Step::Arm,
-    Step::Append { count: 3, size: 100 },
+    Step::Append {
+        count: 3,
+        size: 100,
+    },
     Step::Disarm,
     Step::Append { count: 1, size: 10 },
     Step::Truncate { count: 1 },
@@ -57,16 +66,28 @@ const DISARMED: [Step; 8] = [
 
 // So many records, cut as they come, that the ring is gone round.
 const ROUND: [Step; 12] = [
-    Step::Append { count: 5, size: 1_000 },
+    Step::Append {
+        count: 5,
+        size: 1_000,
+    },
     Step::Save,
     Step::Truncate { count: 4 },
-    Step::Append { count: 5, size: 1_000 },
+    Step::Append {
+        count: 5,
+        size: 1_000,
+    },
     Step::Save,
     Step::Truncate { count: 5 },
-    Step::Append { count: 4, size: 1_200 },
+    Step::Append {
+        count: 4,
+        size: 1_200,
+    },
     Step::Arm,
     Step::Truncate { count: 3 },
-    Step::Append { count: 2, size: 1_300 },
+    Step::Append {
+        count: 2,
+        size: 1_300,
+    },
     Step::Truncate { count: 2 },
     Step::Lose,
 ];

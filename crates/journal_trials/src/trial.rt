@@ -1,4 +1,6 @@
 // One run of a script, and what a restore finds behind it.
+ghost use Rattle.std.specs.Prelude.{◌≡◌, length};
+
 use crate::ledger::{Ledger, Plain};
 use crate::script::{Script, Step};
 use channel_port::ChannelPort;
@@ -28,7 +30,7 @@ fn append<K: ChannelPort + Drop, D: SaveDevice + Drop>(
     alloc: Global,
     size: usize,
 ) -> anyhow::Result<()> {
-    let byte = ledger.len() as u8;
+    let byte = (ledger.len() % 251) as u8;
     let bytes = Vec::from_elem(alloc, byte, size)?;
     // a module that was stopped refuses, and so does one without room
     if let Ok(appended) = life.append(&bytes) {
@@ -86,7 +88,9 @@ fn take<K: ChannelPort + Drop, D: SaveDevice + Drop>(
 }
 
 // Whether a journal has just these records.
-fn is_same(alloc: Global, journal: &Journal, memory: &[Line], plain: &Plain) -> anyhow::Result<bool> {
+fn is_same(alloc: Global, journal: &Journal, memory: &[Line], plain: &Plain) -> anyhow::Result<bool>
+    requires { length memory.now ≡ journal.now.index.lines }
+{
     if journal.first() != plain.first || journal.len() != plain.records.len() as u64 {
         return Ok(false);
     }
@@ -108,7 +112,9 @@ fn is_right(
     memory: &[Line],
     ledger: &Ledger,
     least: usize,
-) -> anyhow::Result<bool> {
+) -> anyhow::Result<bool>
+    requires { length memory.now ≡ journal.now.index.lines }
+{
     for calls in least..=ledger.len() {
         if is_same(alloc, journal, memory, &ledger.behind(calls)?)? {
             return Ok(true);
