@@ -26,18 +26,22 @@ fn nanos_between(from: Duration, to: Duration) -> u128 {
     to.as_nanos().saturating_sub(from.as_nanos())
 }
 
-/// A life, and the state of the order.
+/// A life, how many lines it has, the state of the order, and the line that was read last.
 #[derive(Drop)]
 pub(crate) struct Load<K: ChannelPort, D: SaveDevice> {
     life: OpenLife<K, D>,
+    lines: u64,
     state: u64,
+    bytes: Line,
 }
 
 impl<K: ChannelPort, D: SaveDevice> Load<K, D> {
     pub(crate) fn new(life: OpenLife<K, D>) -> Load<K, D> {
         Load {
+            lines: life.line_count(),
             life,
             state: 88_172_645_463_325_252,
+            bytes: [0; 64],
         }
     }
 
@@ -45,7 +49,7 @@ impl<K: ChannelPort, D: SaveDevice> Load<K, D> {
         self.state ^= self.state << 13;
         self.state ^= self.state >> 7;
         self.state ^= self.state << 17;
-        self.state.checked_rem(self.life.line_count()).unwrap_or(0)
+        self.state.checked_rem(self.lines).unwrap_or(0)
     }
 
     fn write(&mut self, line: u64, data: Line) -> anyhow::Result<()> {
@@ -62,19 +66,23 @@ impl<K: ChannelPort, D: SaveDevice> Load<K, D> {
     }
 
     // Works the channels until a read that waited has its bytes.
-    fn await_read(&mut self, ticket: Ticket) -> anyhow::Result<Line> {
+    fn await_read(&mut self, ticket: Ticket) -> anyhow::Result<()> {
         for _turn in 0..TURNS {
             let _issued = self.life.work_each();
             if let Collected::Data { bytes, .. } = self.life.collect(ticket) {
-                return Ok(bytes);
+                self.bytes = bytes;
+                return Ok(());
             }
         }
         anyhow::bail!("a read found no bytes")
     }
 
-    fn read(&mut self, line: u64) -> anyhow::Result<Line> {
+    fn read(&mut self, line: u64) -> anyhow::Result<()> {
         match self.life.read(line, WAIT) {
-            Ok(LineRead::Content(bytes)) => Ok(bytes),
+            Ok(LineRead::Content(bytes)) => {
+                self.bytes = bytes;
+                Ok(())
+            }
             Ok(LineRead::Waiting(ticket)) => self.await_read(ticket),
             Err(_) => anyhow::bail!("a read was refused"),
         }
@@ -90,11 +98,13 @@ impl<K: ChannelPort, D: SaveDevice> Load<K, D> {
         Ok(())
     }
 
+    // Of each line that was read the sum takes one byte, whose place the order tells, so that the line is wanted whole.
     fn reads(&mut self, each: u64, sum: &mut u64) -> anyhow::Result<()> {
         for _ in 0..each {
             let line = self.line();
-            let bytes = self.read(line)?;
-            *sum = sum.wrapping_add(u64::from(bytes[0]));
+            self.read(line)?;
+            let place = self.state & 63;
+            *sum = sum.wrapping_add(u64::from(self.bytes[place as usize]));
         }
         Ok(())
     }

@@ -10,16 +10,42 @@ use crate::load::{Load, Tally};
 use ddr4_port::Ddr4Port;
 use interleave_map::cells::line_count;
 use interleave_map::{Interleaving, ReadyMap};
+use noted_device::NotedDevice;
 use nv_profile::{Profile, read_profile};
-use open_life::open_new;
-use save_device::MemoryDevice;
+use open_life::{EitherDevice, open_new};
+use save_device::{Fuse, MemoryDevice};
 use script_runner::Wiring;
 use slot_store::device_size;
+use std::alloc::Global;
 use std::{env, fs};
+use whole_lives::{Answer, Ask, format_store, live};
+
+// The device of the library's module.
+type StoreDevice = Fuse<EitherDevice<MemoryDevice, NotedDevice>>;
 
 // How many a second.
 fn rate(count: u64, nanos: u128) -> u128 {
     (count as u128).saturating_mul(1_000_000_000) / nanos.max(1)
+}
+
+// One event of a whole life on a store of the profile of a text. The library has such lives, and what they share with an open one is
+// compiled otherwise where there is but one caller.
+fn live_once(alloc: Global, text: &[u8], size: usize, kind: u64) -> anyhow::Result<u32> {
+    let mut store = Vec::from_elem(alloc, 0, size)?;
+    let _formatted = format_store(alloc, text, &mut store);
+    let ask = Ask {
+        kind,
+        first: 0,
+        second: 0,
+        data: [0; 64],
+    };
+    let mut answers = [Answer {
+        code: 0,
+        first: 0,
+        second: 0,
+        data: [0; 64],
+    }];
+    Ok(live(alloc, text, &mut store, 0, &[ask], &mut answers).code)
 }
 
 // What the rounds on a profile took.
@@ -38,12 +64,12 @@ fn measure(rt: &HostRuntime, profile: &Profile, rounds: u64, each: u64) -> anyho
         0,
         device_size(line_count(&profile.checked) as usize),
     )?;
-    let device = MemoryDevice::new(rt.alloc(), bytes)?;
-    let Ok(life) = open_new::<Ddr4Port<'_, ReadyMap>, Wiring<'_, ReadyMap>, MemoryDevice>(
+    let device = EitherDevice::First(MemoryDevice::new(rt.alloc(), bytes)?);
+    let Ok(life) = open_new::<Ddr4Port<'_, ReadyMap>, Wiring<'_, ReadyMap>, StoreDevice>(
         rt.alloc(),
         profile,
         &wiring,
-        device,
+        Fuse::new(device, u64::MAX),
     ) else {
         anyhow::bail!("no life was opened");
     };
@@ -69,6 +95,8 @@ fn main(rt: HostRuntime) -> anyhow::Result<()> {
     let rounds: u64 = rounds.parse()?;
     let each: u64 = each.parse()?;
     let tally = measure(&rt, &profile, rounds, each)?;
+    let size = device_size(line_count(&profile.checked) as usize);
+    let _code = live_once(rt.alloc(), text.as_bytes(), size, rounds)?;
     let calls = rounds.saturating_mul(each);
     let writes = rate(calls, tally.writes);
     let reads = rate(calls, tally.reads);

@@ -19,3 +19,4 @@ pub mod Wrote
 pub mod Ticketed
 pub mod Recorded
 pub mod Drained
+pub mod Quiet

@@ -5,6 +5,8 @@ use Rattle.channel_locks.specs.PortMakes.{PortMake}
 use Rattle.channel_locks.specs.declared.parts_name.PartsName.{Ghosts as PartsGhosts}
 use Rattle.channel_part.specs.declared.part.Part.{Part}
 use Rattle.channel_part.specs.Stands.{returned_of}
+use Rattle.channel_port.specs.Answers.{IsGot}
+use Rattle.channel_port.specs.View.{with_write}
 use Rattle.channel_port.specs.declared.answers.Got.{Got}
 use Rattle.channel_port.specs.declared.answers.Got.TheVariants.{Now, Later}
 use Rattle.channel_port.specs.declared.port.ChannelPort.{Ghosts}
@@ -12,6 +14,7 @@ use Rattle.nv_machine.specs.declared.events.Event.{Event}
 use Rattle.nv_machine.specs.declared.events.Reply.{Reply}
 use Rattle.nv_machine.specs.Headline.{Happens}
 use Rattle.nv_machine.specs.State.{Machine}
+use Rattle.nv_workers.specs.declared.host.GotAt.{GotAt}
 use Rattle.split_machine.specs.OwnEvents.{ComesOfOwn}
 use Rattle.board_desk.specs.Desk.{DeskStands, DeskView, setup_at, world_at}
 
@@ -66,6 +69,29 @@ module _ {K : Type 0} (L : Ghosts K) where
   abbrev pub SettlesPart : Option (Part K L) → Option (Part K L) → Type 0
   SettlesPart None new = new ≡ None
   SettlesPart (Some old) new = (later : Part K L) × (new ≡ Some later) × SameButCredits old later
+
+  -- Contracts see of the port what they saw before, and it has issued no command since.
+  pub record KeepsPort (old new : Part K L) : Type 0 where
+    pub view : L.view new.port ≡ L.view old.port
+    pub issued : L.issued new.port ≡ L.issued old.port
+
+  -- A write of this number waits in the port now. Nothing else of it has changed, its open reads too are those that they were, and it
+  -- has issued no command.
+  pub record PutsWrite (number : ℕ) (old new : Part K L) : Type 0 where
+    pub view : L.view new.port ≡ with_write number (L.view old.port)
+    pub issued : L.issued new.port ≡ L.issued old.port
+
+  -- A line was read of the port of this channel: at once, which leaves no read open, or by one ticket that was never given before.
+  -- Nothing else of it has changed, and it has issued no command.
+  pub record ReadsLine (line channel : ℕ) (told : GotAt) (old new : Part K L) : Type 0 where
+    pub view : L.view new.port ≡ record (L.view old.port) { waits = (L.view new.port).waits }
+    pub got : ∥ ((bytes : List ℕ) × IsGot bytes line told.at channel told.got (L.view old.port).waits (L.view new.port).waits) ∥₁
+    pub issued : L.issued new.port ≡ L.issued old.port
+
+  -- A channel's lock lent a part with which this was done.
+  abbrev pub DoneWithLent : (Part K L → Part K L → Type 0) → Option (Part K L) → Option (Part K L) → Type 0
+  DoneWithLent Does None new = ⊥
+  DoneWithLent Does (Some old) new = (later : Part K L) × (new ≡ Some later) × Does old later
 
 -- the ticket of an answer is this channel's, where it has one
 abbrev pub IsTicketOf : ℕ → Got → Type 0

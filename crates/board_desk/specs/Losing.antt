@@ -2,6 +2,7 @@
 use Rattle.std.specs.Prelude.{◌≡◌, List, length}
 use Rattle.arm_state.specs.Modes.{has_ended}
 use Rattle.arm_state.specs.declared.loss.Loss.{Loss}
+use Rattle.arm_state.specs.declared.loss.Loss.TheVariants as loss
 use Rattle.channel_locks.specs.declared.parts_name.PartsName.{Ghosts as PartsGhosts}
 use Rattle.channel_log.specs.Log.{LogNote}
 use Rattle.channel_port.specs.Draining.{at_once}
@@ -21,6 +22,12 @@ use Rattle.board_desk.specs.Loans.{AreRestated}
 use Rattle.board_desk.specs.Pieces.{ArePiecesKept}
 use Rattle.board_desk.specs.Whole.{ComesOfChannels}
 use Rattle.board_desk.specs.declared.pieces.RecordedPieces.{RecordedPieces}
+
+-- so it is where a loss of mains begins no drain: mains were lost before, or nothing is to be saved
+abbrev pub WhereUndrained : Loss → Type 0 → Type 0
+WhereUndrained loss.Closed P = P
+WhereUndrained loss.Unsaved P = P
+WhereUndrained lost P = Unit {0}
 
 module _ {K : Type 0} (L : Ghosts K) where
   -- The ports were the channels of a module that lost its mains, and each of them, also one on which nothing waited, is as its own

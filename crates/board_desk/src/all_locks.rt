@@ -1,10 +1,10 @@
 // With all locks of a board held: its module is put together, asked, and taken apart again.
 ghost use Rattle.std.specs.Prelude.{◌≡◌, [], ◌∷◌};
-ghost use Rattle.channel_locks.specs.Unlocked.{ports_in};
+ghost use Rattle.channel_locks.specs.Unlocked.{issued_by, ports_in};
 ghost use Rattle.module_core.specs.Draining.{WhereDrained};
 ghost use Rattle.board_desk.specs.Calling.{loss_course};
 ghost use Rattle.board_desk.specs.Loans.{IsReadyToLend};
-ghost use Rattle.board_desk.specs.Losing.{DrainsBehind, LosesWhole};
+ghost use Rattle.board_desk.specs.Losing.{DrainsBehind, LosesWhole, WhereUndrained};
 ghost use Rattle.board_desk.specs.Views.{SameButCounts, desk_of};
 ghost use Rattle.board_desk.specs.Whole.{SettlesAll, WholeAnswers};
 
@@ -73,7 +73,7 @@ fn settle_all<K: ChannelPort, D: SaveDevice, E: Energy, B: BoardName + PartsName
 }
 
 /// Makes a call of the whole module, with all nine locks held: each channel is settled and lends its port, the module is put
-/// together and asked, and the ports go back. It takes no memory.
+/// together and asked, and the ports go back. No channel issues a command. It takes no memory.
 pub fn whole<
     K: ChannelPort + Drop,
     D: SaveDevice,
@@ -96,6 +96,10 @@ pub fn whole<
         (desk_of K.ChannelPort D.SaveDevice E.Energy B.BoardName.own B.PartsName.own desk)
         (desk_of K.ChannelPort D.SaveDevice E.Energy B.BoardName.own B.PartsName.own result.desk) }
     ensures told { W.told result.answer desk.split.front.saved desk.history result.desk.history }
+    ensures issued { issued_by K.ChannelPort (zero.new.part ∷ one.new.part ∷ two.new.part
+        ∷ three.new.part ∷ four.new.part ∷ five.new.part ∷ six.new.part ∷ seven.new.part ∷ [])
+        ≡ issued_by K.ChannelPort (zero.old.part ∷ one.old.part ∷ two.old.part ∷ three.old.part
+        ∷ four.old.part ∷ five.old.part ∷ six.old.part ∷ seven.old.part ∷ []) }
 {
     let LentDesk { rest, books } = lend_out(
         settle_all(desk, zero, one, two, three, four, five, six, seven),
@@ -140,7 +144,7 @@ pub fn whole<
 
 /// Mains were lost, with all nine locks held as at `whole`: where acknowledged writes are to be saved, the channels are drained at
 /// once and all accepted writes saved, as `Module::power_loss_with`. Behind a loss whose drains were paid for the gate was asked before
-/// the drain of each channel, and each is as its own drain leaves it.
+/// the drain of each channel, and each is as its own drain leaves it. A loss that begins no drain issues no command.
 pub fn lose<K, D, E, B, G, R>(
     desk: Desk<K, D, E, B>,
     zero: &mut Slot<K, B, ChannelZero>,
@@ -167,6 +171,11 @@ where
     ensures loses { LosesWhole B.PartsName.own result.answer
         (desk_of K.ChannelPort D.SaveDevice E.Energy B.BoardName.own B.PartsName.own desk)
         (desk_of K.ChannelPort D.SaveDevice E.Energy B.BoardName.own B.PartsName.own result.desk) }
+    ensures issued { WhereUndrained result.answer (
+        issued_by K.ChannelPort (zero.new.part ∷ one.new.part ∷ two.new.part
+        ∷ three.new.part ∷ four.new.part ∷ five.new.part ∷ six.new.part ∷ seven.new.part ∷ [])
+        ≡ issued_by K.ChannelPort (zero.old.part ∷ one.old.part ∷ two.old.part ∷ three.old.part
+        ∷ four.old.part ∷ five.old.part ∷ six.old.part ∷ seven.old.part ∷ [])) }
     ensures drains { WhereDrained result.answer (DrainsBehind K.ChannelPort G.Gate gate.now
         (ports_in K.ChannelPort (zero.old.part ∷ one.old.part ∷ two.old.part ∷ three.old.part
         ∷ four.old.part ∷ five.old.part ∷ six.old.part ∷ seven.old.part ∷ []))

@@ -2,13 +2,14 @@
 ghost use Rattle.std.specs.Prelude.{◌≡◌, ℕ};
 ghost use Rattle.line_memory.specs.History.{Recorded};
 ghost use Rattle.channel_port.specs.Draining.{at_once};
+ghost use Rattle.channel_set.specs.Issuing.{IssuesNone};
 ghost use Rattle.module_core.specs.Draining.{WhereDrained};
 ghost use Rattle.module_core.specs.Losing.{LosesBy};
 ghost use Rattle.module_core.specs.Stands.{setup_of};
 ghost use Rattle.nv_workers.specs.Kept.{IsRecordKept};
 ghost use Rattle.nv_workers.specs.Lived.{assembly_of};
 ghost use Rattle.board_desk.specs.Calling.{AddsNone, Course, GoesBy, loss_course};
-ghost use Rattle.board_desk.specs.Losing.{DrainsBehind};
+ghost use Rattle.board_desk.specs.Losing.{DrainsBehind, WhereUndrained};
 
 use arm_state::{ArmRefusal, ArmReply, DisarmReply, Loss};
 use channel_port::ChannelPort;
@@ -19,7 +20,7 @@ use save_device::SaveDevice;
 use std::thread::Threads;
 use worker_gate::Gate;
 
-/// A call of a module with its device, its gauge and its record. It accepts no write.
+/// A call of a module with its device, its gauge and its record. It accepts no write, and no channel issues a command.
 pub trait WholeCall<K: ChannelPort, D: SaveDevice, E: Energy> {
     /// What the call answers.
     type Answer;
@@ -37,7 +38,8 @@ pub trait WholeCall<K: ChannelPort, D: SaveDevice, E: Energy> {
         ensures setup { setup_of K.ChannelPort it.new.running
             ≡ setup_of K.ChannelPort it.old.running }
         ensures room { it.new.history.room ≡ it.old.history.room }
-        ensures told { told result it.old.running.front.saved it.old.history it.new.history };
+        ensures told { told result it.old.running.front.saved it.old.history it.new.history }
+        ensures issues { IssuesNone K.ChannelPort it.old.running.channels it.new.running.channels };
 
     /// The life has the writes that it had.
     ghost adds_none: { (answer : Self.Answer) → AddsNone (course answer) };
@@ -188,6 +190,8 @@ where
     ensures loses { LosesBy K.ChannelPort at_once result
         (assembly_of K.ChannelPort D.SaveDevice E.Energy it.old)
         (assembly_of K.ChannelPort D.SaveDevice E.Energy it.new) }
+    ensures issues { WhereUndrained result
+        (IssuesNone K.ChannelPort it.old.running.channels it.new.running.channels) }
     ensures drains { WhereDrained result (DrainsBehind K.ChannelPort G.Gate gate.now
         it.old.running.channels.ports.items it.new.running.channels.ports.items) }
 {

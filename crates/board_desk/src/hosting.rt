@@ -14,6 +14,7 @@ use save_device::SaveDevice;
 
 impl<K: ChannelPort, D: SaveDevice, E: Energy, B: BoardName + PartsName> Desk<K, D, E, B> {
     ghost use Rattle.board_desk.specs.Answering.{DeskAnswers, IsAskedFor, IsTicketOf, SameElsewhere};
+    ghost use Rattle.board_desk.specs.Answering.{DoneWithLent, KeepsPort, PutsWrite, ReadsLine};
     ghost use Rattle.board_desk.specs.Hosting.{HostWritesAtDesk};
     ghost use Rattle.board_desk.specs.Views.{KeepsAround, SameButCounts, desk_of};
 
@@ -27,6 +28,10 @@ impl<K: ChannelPort, D: SaveDevice, E: Energy, B: BoardName + PartsName> Desk<K,
         requires asked { IsAskedFor B.make write.line C.NUMBER }
         ensures writes { HostWritesAtDesk K.ChannelPort D.SaveDevice E.Energy B.BoardName.own
             B.PartsName.own C.NUMBER write result host.old host.new self.old self.new }
+        ensures puts { IfOk result (λ receipt. DoneWithLent K.ChannelPort
+            (PutsWrite K.ChannelPort receipt.number) slot.old.part slot.new.part) }
+        ensures keeps { IfErr result (λ _. DoneWithLent K.ChannelPort
+            (KeepsPort K.ChannelPort) slot.old.part slot.new.part) }
         ensures rises { SeesNoLess host.old host.new }
         ensures rest { KeepsAround K.ChannelPort D.SaveDevice E.Energy B.BoardName.own
             B.PartsName.own self.old self.new }
@@ -65,6 +70,10 @@ impl<K: ChannelPort, D: SaveDevice, E: Energy, B: BoardName + PartsName> Desk<K,
         ensures ticket { IfOk result (λ r. IsTicketOf C.NUMBER r.got) }
         ensures at { IfOk result (λ r. r.at ≡ self.old.split.front.accepted) }
         ensures seen { IfOk result (λ r. r.at ≡ host.new.accepted) }
+        ensures reads { IfOk result (λ r. DoneWithLent K.ChannelPort
+            (ReadsLine K.ChannelPort line C.NUMBER r) slot.old.part slot.new.part) }
+        ensures keeps { IfErr result (λ _. DoneWithLent K.ChannelPort
+            (KeepsPort K.ChannelPort) slot.old.part slot.new.part) }
         ensures rises { SeesNoLess host.old host.new }
         ensures writes { host.new.writes ≡ host.old.writes }
         ensures same { SameButCounts K.ChannelPort D.SaveDevice E.Energy B.BoardName.own

@@ -1,11 +1,11 @@
 // A module in pieces is put together, asked, and taken apart again.
-ghost use Rattle.std.specs.Prelude.{◌≡◌, Some, slice_get};
+ghost use Rattle.std.specs.Prelude.{◌≡◌, Some, map, slice_get};
 ghost use Rattle.channel_locks.specs.PortMakes.{make_of};
 ghost use Rattle.module_core.specs.Draining.{WhereDrained};
 ghost use Rattle.split_module.specs.Gathering.{FitAsModule, IsMadeOf, StandsGathered, StandsSplit};
 ghost use Rattle.board_desk.specs.Asking.{AreOfBoard, LedAs};
 ghost use Rattle.board_desk.specs.Calling.{loss_course};
-ghost use Rattle.board_desk.specs.Losing.{DrainsBehind, LedAtOnce};
+ghost use Rattle.board_desk.specs.Losing.{DrainsBehind, LedAtOnce, WhereUndrained};
 
 use crate::board_port::BoardPort;
 use crate::calling::{WholeCall, lose_mains};
@@ -92,6 +92,8 @@ impl<K: ChannelPort, D: SaveDevice, E: Energy, B: PartsName> RecordedPieces<K, D
             (W.course result.answer) self result.rest }
         ensures told { W.told result.answer self.pieces.front.front.saved self.history
             result.rest.history }
+        ensures issued { map K.issued result.rest.pieces.ports.items
+            ≡ map K.issued self.pieces.ports.items }
     {
         let mut it = self.gather();
         let answer = call.call(&mut it);
@@ -114,6 +116,8 @@ impl<K: ChannelPort, D: SaveDevice, E: Energy, B: PartsName> RecordedPieces<K, D
             (loss_course result.answer) self result.rest }
         ensures loses { LedAtOnce K.ChannelPort D.SaveDevice E.Energy B.PartsName
             result.answer self result.rest }
+        ensures issued { WhereUndrained result.answer (map K.issued result.rest.pieces.ports.items
+            ≡ map K.issued self.pieces.ports.items) }
         ensures drains { WhereDrained result.answer (DrainsBehind K.ChannelPort G.Gate gate.now
             self.pieces.ports.items result.rest.pieces.ports.items) }
     {

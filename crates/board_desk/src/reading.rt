@@ -24,11 +24,13 @@ fn accepted_by(split: &SplitFront) -> u64
 
 impl<K: ChannelPort, D: SaveDevice, E: Energy, B: BoardName + PartsName> Desk<K, D, E, B> {
     ghost use Rattle.board_desk.specs.Answering.{DeskAnswers, IsAskedFor, IsTicketOf, SameElsewhere};
+    ghost use Rattle.board_desk.specs.Answering.{DoneWithLent, KeepsPort, ReadsLine};
     ghost use Rattle.board_desk.specs.Views.{SameButCounts, desk_of};
 
     /// Reads a line of the slot's channel for a host, whose seat then sees the marks: the bytes or a ticket, and how many writes
     /// were accepted before. What the channel did since both locks were held is seen before, and its returned credits are taken
-    /// back.
+    /// back. The channel issues no command. A read that is refused or answered at once leaves no read open, and one with a ticket
+    /// that one.
     pub fn read<C: ChannelName>(
         &mut self,
         slot: &mut Slot<K, B, C>,
@@ -49,6 +51,10 @@ impl<K: ChannelPort, D: SaveDevice, E: Energy, B: BoardName + PartsName> Desk<K,
             self.new)) }
         ensures ticket { IfOk result (λ r. IsTicketOf C.NUMBER r.got) }
         ensures at { IfOk result (λ r. r.at ≡ self.old.split.front.accepted) }
+        ensures reads { IfOk result (λ r. DoneWithLent K.ChannelPort
+            (ReadsLine K.ChannelPort line C.NUMBER r) slot.old.part slot.new.part) }
+        ensures keeps { IfErr result (λ _. DoneWithLent K.ChannelPort
+            (KeepsPort K.ChannelPort) slot.old.part slot.new.part) }
         ensures same { SameButCounts K.ChannelPort D.SaveDevice E.Energy B.BoardName.own
             B.PartsName.own self.old self.new }
         ensures elsewhere { SameElsewhere C.NUMBER self.old.known.logs self.new.known.logs }

@@ -1,5 +1,5 @@
 // A host's write and read, with the part of its line's channel.
-ghost use Rattle.std.specs.Prelude.{◌≡◌, ◌+◌, ◌<◌, ◌++◌, length, IfOk};
+ghost use Rattle.std.specs.Prelude.{◌≡◌, ◌+◌, ◌<◌, ◌++◌, length, IfErr, IfOk};
 ghost use Rattle.mark_board.specs.SeenMarks.{IsNotAbove, seen_marks};
 ghost use Rattle.module_core.specs.Fronts.{AcceptsOne};
 ghost use Rattle.nv_machine.specs.Rising.{added};
@@ -32,10 +32,12 @@ fn show(marks: &MarkBoard, seat: &mut BoardSeat, split: &SplitFront)
 
 impl<K: ChannelPort, D: SaveDevice, E: Energy, B: BoardName + PartsName> Desk<K, D, E, B> {
     ghost use Rattle.board_desk.specs.Answering.{DeskAnswers, IsAskedFor, SameElsewhere};
+    ghost use Rattle.board_desk.specs.Answering.{DoneWithLent, KeepsPort, PutsWrite};
     ghost use Rattle.board_desk.specs.Views.{KeepsAround, desk_of};
 
     /// Writes a line of the slot's channel for a host, whose share counts the write if it was accepted, and whose seat then sees
-    /// the marks. What the channel did since both locks were held is seen before, and its returned credits are taken back.
+    /// the marks. What the channel did since both locks were held is seen before, and its returned credits are taken back. The
+    /// channel issues no command, and none of its reads is answered or collected.
     pub fn write<C: ChannelName>(
         &mut self,
         slot: &mut Slot<K, B, C>,
@@ -55,6 +57,10 @@ impl<K: ChannelPort, D: SaveDevice, E: Energy, B: BoardName + PartsName> Desk<K,
         ensures rest { KeepsAround K.ChannelPort D.SaveDevice E.Energy B.BoardName.own
             B.PartsName.own self.old self.new }
         ensures elsewhere { SameElsewhere C.NUMBER self.old.known.logs self.new.known.logs }
+        ensures puts { IfOk result (λ accepted. DoneWithLent K.ChannelPort
+            (PutsWrite K.ChannelPort accepted.number) slot.old.part slot.new.part) }
+        ensures keeps { IfErr result (λ _. DoneWithLent K.ChannelPort
+            (KeepsPort K.ChannelPort) slot.old.part slot.new.part) }
         ensures history { self.new.history.writes
             ≡ self.old.history.writes ++ added (Event.Write write) (Reply.Write result) }
         ensures seen { host.new ≡ seen_marks B.board

@@ -7,26 +7,29 @@ use Rattle.channel_port.specs.declared.answers.Done.{Done}
 use Rattle.channel_port.specs.declared.answers.Ticket.{Ticket}
 use Rattle.channel_port.specs.declared.port.ChannelPort.{Ghosts}
 use Rattle.channel_port.specs.Answers.{IsCollected, IsServed}
+use Rattle.channel_port.specs.Issuing.{with_issued}
 use Rattle.channel_part.specs.declared.part.Part.{Part}
 use Rattle.channel_part.specs.Queue.{returned_by}
 use Rattle.channel_part.specs.Stands.{SameButPort, queue_of, returned_of}
 
 module _ {K : Type 0} (L : Ghosts K) where
-  -- The part was worked once: it issued the command that came next, or had none, or mains were lost. The credit of a write that
-  -- went to the array is a returned one from then on.
+  -- The part was worked once: it issued the command that came next and no other, or had none, or mains were lost. The credit of a write
+  -- that went to the array is a returned one from then on.
   pub record WorksPart (done : Option Done) (old new : Part K L) : Type 0 where
     pub ended : old.ended ≡ true → (done ≡ None) × (new ≡ old)
     pub next : old.ended ≡ false → L.next_command old.port (option_map (λ (d : Done). d.command) done)
     pub served : IfSome done (λ d. IsServed (L.view old.port).hold old.channel d.served (L.view old.port).waits (L.view new.port).waits)
     pub stays : IfNone done (L.view new.port ≡ L.view old.port)
     pub returned : returned_of L new ≡ returned_of L old + returned_by done
+    pub issued : L.issued new.port ≡ with_issued (option_map (λ (d : Done). d.command) done) (L.issued old.port)
     pub same : SameButPort L old new
 
-  -- The part was asked for a ticket. One of another channel is unknown to it.
+  -- The part was asked for a ticket, and issued no command. A ticket of another channel is unknown to it.
   pub record CollectsPart (ticket : Ticket) (answer : Collected) (old new : Part K L) : Type 0 where
     pub elsewhere : ticket.channel ≢ old.channel → (answer ≡ Unknown) × (new ≡ old)
     pub collected : IsCollected ticket answer (L.view old.port).waits (L.view new.port).waits
     pub writes : queue_of L new ≡ queue_of L old
+    pub issued : L.issued new.port ≡ L.issued old.port
     pub same : SameButPort L old new
 
   -- the same of what a lock lends; where the board lacks the channel there is nothing

@@ -1,5 +1,6 @@
 -- The ports of a board's channels, as they lie behind the locks.
-use Rattle.std.specs.Prelude.{List, [], ◌∷◌, ◌++◌, Option, Some, None}
+use Rattle.std.specs.Prelude.{List, [], ◌∷◌, ◌++◌, map, Option, Some, None}
+use Rattle.ddr4_timing.specs.declared.command.Stamped.{Stamped}
 use Rattle.channel_port.specs.declared.port.ChannelPort.{Ghosts}
 use Rattle.channel_part.specs.declared.part.Part.{Part}
 use Rattle.channel_locks.specs.declared.parts_name.PartsName.{Ghosts as NameGhosts}
@@ -15,6 +16,10 @@ module _ {K : Type 0} (L : Ghosts K) where
   abbrev pub ports_in : List (Option (Part K L)) → List K
   ports_in [] = []
   ports_in (part ∷ parts) = port_in part ++ ports_in parts
+
+  -- the commands that the channels of these parts have issued, channel by channel, each with its oldest first
+  abbrev pub issued_by : List (Option (Part K L)) → List (List Stamped)
+  issued_by parts = map L.issued (ports_in parts)
 
   -- the parts of all channels, in order
   abbrev pub parts_of : {B : Type 0} (O : NameGhosts B) → UnlockedChannels K B L O → List (Option (Part K L))

@@ -18,6 +18,7 @@ impl<K: ChannelPort> Part<K> {
         ensures held { K.view self.new.port
             ≡ record (K.view self.old.port) { hold = Some number } }
         ensures cost { K.drain_cost self.new.port ≡ K.drain_cost self.old.port }
+        ensures issued { K.issued self.new.port ≡ K.issued self.old.port }
         ensures same { SameButPort K.ChannelPort self.old self.new }
         ensures stands { (channel : ℕ) (base : List (List ℕ)) (log : List LogNote)
             → PartStands K.ChannelPort self.old channel base log
@@ -33,6 +34,7 @@ impl<K: ChannelPort> Part<K> {
         requires { returned_of K.ChannelPort self.old ≡ 0 }
         ensures held { K.view self.new.port ≡ record (K.view self.old.port) { hold = None } }
         ensures cost { K.drain_cost self.new.port ≡ K.drain_cost self.old.port }
+        ensures issued { K.issued self.new.port ≡ K.issued self.old.port }
         ensures same { SameButPort K.ChannelPort self.old self.new }
         ensures stands { StandsNoted K.ChannelPort Released self.old self.new }
     {
@@ -48,6 +50,7 @@ impl<K: ChannelPort> Part<K> {
         ensures channel { self.new.channel ≡ self.old.channel }
         ensures credits { self.new.credits ≡ self.old.credits }
         ensures cost { K.drain_cost self.new.port ≡ K.drain_cost self.old.port }
+        ensures issued { K.issued self.new.port ≡ K.issued self.old.port }
         ensures stands { StandsNoted K.ChannelPort Ended self.old self.new }
     {
         self.port.lose_mains();

@@ -7,6 +7,7 @@ ghost use Rattle.channel_log.specs.declared.entry.LogEntry.TheVariants.{Wrote, L
 ghost use Rattle.channel_log.specs.Log.{LogNote, log_tells};
 ghost use Rattle.channel_port.specs.declared.answers.Collected.TheVariants.{Unknown};
 ghost use Rattle.channel_port.specs.Answers.{IsCollected, IsGot, IsServed};
+ghost use Rattle.channel_port.specs.Issuing.{with_issued};
 ghost use Rattle.channel_port.specs.View.{is_full_of_reads, with_write};
 ghost use Rattle.channel_port.specs.Waits.{AllBelow};
 ghost use Rattle.channel_part.specs.Queue.{returned_by};
@@ -44,6 +45,7 @@ impl<K: ChannelPort> Part<K> {
         requires taken { returned_of K.ChannelPort self.old ≡ 0 }
         requires room { (self.old.credits == (K.view self.old.port).depth) ≡ false }
         ensures puts { K.view self.new.port ≡ with_write number (K.view self.old.port) }
+        ensures issued { K.issued self.new.port ≡ K.issued self.old.port }
         ensures credits { self.new.credits ≡ self.old.credits + 1 }
         ensures taken { returned_of K.ChannelPort self.new ≡ 0 }
         ensures channel { self.new.channel ≡ self.old.channel }
@@ -72,6 +74,7 @@ impl<K: ChannelPort> Part<K> {
         ensures rest { K.view self.new.port ≡ record (K.view self.old.port) {
           waits = (K.view self.new.port).waits;
         } }
+        ensures issued { K.issued self.new.port ≡ K.issued self.old.port }
         ensures same { SameButPort K.ChannelPort self.old self.new }
         ensures stands { StandsNoted K.ChannelPort Looked self.old self.new }
     {
@@ -94,6 +97,8 @@ impl<K: ChannelPort> Part<K> {
           waits = (K.view self.new.port).waits;
           stored = (K.view self.new.port).stored;
         } }
+        ensures issued { K.issued self.new.port
+            ≡ with_issued (option_map (λ done. done.command) result) (K.issued self.old.port) }
         ensures same { SameButPort K.ChannelPort self.old self.new }
         ensures stands { StandsStill K.ChannelPort self.old self.new }
     {
@@ -113,6 +118,7 @@ impl<K: ChannelPort> Part<K> {
         ensures rest { K.view self.new.port ≡ record (K.view self.old.port) {
           waits = (K.view self.new.port).waits;
         } }
+        ensures issued { K.issued self.new.port ≡ K.issued self.old.port }
         ensures same { SameButPort K.ChannelPort self.old self.new }
         ensures stands { StandsStill K.ChannelPort self.old self.new }
     {

@@ -5,7 +5,8 @@ ghost use Rattle.line_memory.specs.History.{recorded};
 ghost use Rattle.line_memory.specs.Memory.{IsMemory};
 ghost use Rattle.module_core.specs.Opening.{opened_with};
 ghost use Rattle.module_core.specs.Stands.{ModuleStands, setup_of};
-ghost use Rattle.save_device.specs.Device.{DeviceState, IsSettled};
+ghost use Rattle.channel_set.specs.Issuing.{HaveIssuedNone};
+ghost use Rattle.save_device.specs.Device.{DeviceState, IsSettled, faults_of};
 ghost use Rattle.save_device.specs.Memory.{state_of};
 ghost use Rattle.save_image.specs.Header.{Fits};
 ghost use Rattle.slot_store.specs.declared.slots.Slot.TheVariants.{First};
@@ -13,8 +14,8 @@ ghost use Rattle.slot_store.specs.Formatted.{IsFormatted};
 ghost use Rattle.slot_store.specs.Outcomes.{Found, first_image, restored};
 ghost use Rattle.slot_store.specs.Rest.{IsAtRestOn};
 ghost use Rattle.slot_store.specs.Slots.{IsCapacity, device_size};
-ghost use Rattle.slot_store.specs.Told.{IsRestored, Refuses, image_of_restored};
-ghost use Rattle.ddr4_boards.specs.Restored.{RecordsRestored};
+ghost use Rattle.slot_store.specs.Told.{CallsOfRestore, IsRestored, Refuses, image_of_restored};
+ghost use Rattle.ddr4_boards.specs.Restored.{HadOneRefused, HadOneRestore, IsToldByFaults, RecordsRestored};
 ghost use Rattle.ddr4_boards.specs.Setup.{IsSetupOf};
 
 use crate::ready::Ready;
@@ -70,7 +71,7 @@ pub fn formatted(alloc: Global, profile: &Profile) -> anyhow::Result<MemoryDevic
     Ok(device)
 }
 
-/// Reads the newest image of a device of a profile. No byte of it changes.
+/// Reads the newest image of a device of a profile, by the calls of one restore. No byte of it changes.
 pub fn restore_device<D: SaveDevice>(
     alloc: Global,
     profile: &Profile,
@@ -80,6 +81,8 @@ pub fn restore_device<D: SaveDevice>(
         (lines_of profile.now.checked.geometry) (D.state device.old).bytes) }
     ensures refused { IfErr result (λ error. Refuses error
         (restored (lines_of profile.now.checked.geometry) (D.state device.old).bytes)) }
+    ensures calls { CallsOfRestore (lines_of profile.now.checked.geometry) result
+        (D.state device.old) (D.state device.new) }
     ensures same { (D.state device.new).bytes ≡ (D.state device.old).bytes }
 {
     restore(alloc, device, capacity_of(&profile.checked))
@@ -124,6 +127,8 @@ fn begin<'m, M: LineMap>(
         (lines_of profile.now.checked.geometry) restored.head.closed at
         → ModuleStands ⟦<Ddr4Port<'m, M> as ChannelPort>⟧ begun.running at
         (opened_with restored.head (image_of_restored restored arm))) }
+    ensures issued { IfOk result (λ begun.
+        HaveIssuedNone ⟦<Ddr4Port<'m, M> as ChannelPort>⟧ begun.running.channels) }
     ensures setup { IfOk result (λ begun. IsSetupOf (M.place_of map.now) profile.now
         (setup_of ⟦<Ddr4Port<'m, M> as ChannelPort>⟧ begun.running)) }
     ensures history { IfOk result (λ begun. begun.history
@@ -150,7 +155,9 @@ fn begin<'m, M: LineMap>(
 }
 
 /// A module of a profile over a lawful map of its geometry, with the memory that a device restores to, its record, and the tables
-/// of its board for so many hosts. No byte of the device changes. Where none is opened the device and the gauge are given back.
+/// of its board for so many hosts. The device is restored once, and nothing else is asked of it: no byte of it changes. No channel has
+/// issued a command. Where none is opened the device and the gauge are given back: `Device` where a call of the device failed, and
+/// only there; `Memory` only where there was none.
 pub fn open<'m, M: LineMap, D: SaveDevice + Drop, E: Energy + Drop>(
     alloc: Global,
     map: &'m M,
@@ -168,11 +175,22 @@ pub fn open<'m, M: LineMap, D: SaveDevice + Drop, E: Energy + Drop>(
         profile.now.sizes.trail ready.recorded.history) }
     ensures same { IfOk result (λ ready.
         (D.state ready.recorded.device).bytes ≡ (D.state device).bytes) }
+    ensures calls { IfOk result (λ ready. HadOneRestore (lines_of profile.now.checked.geometry)
+        (D.state device) (D.state ready.recorded.device)) }
+    ensures spared { IfOk result (λ ready.
+        faults_of (D.state ready.recorded.device) ≡ faults_of (D.state device)) }
     ensures gauge { IfOk result (λ ready. ready.recorded.energy ≡ energy) }
+    ensures issued { IfOk result (λ ready.
+        HaveIssuedNone ⟦<Ddr4Port<'m, M> as ChannelPort>⟧ ready.recorded.running.channels) }
     ensures setup { IfOk result (λ ready. IsSetupOf (M.place_of map.now) profile.now
         (setup_of ⟦<Ddr4Port<'m, M> as ChannelPort>⟧ ready.recorded.running)) }
     ensures refused { IfErr result (λ none. Refuses none.why
         (restored (lines_of profile.now.checked.geometry) (D.state device).bytes)) }
+    ensures refused_calls { IfErr result (λ none. HadOneRefused
+        (lines_of profile.now.checked.geometry) none.why
+        (D.state device) (D.state none.device)) }
+    ensures faults { IfErr result (λ none. IsToldByFaults none.why
+        (faults_of (D.state device)) (faults_of (D.state none.device))) }
     ensures device { IfErr result (λ none. (D.state none.device).bytes ≡ (D.state device).bytes) }
     ensures energy { IfErr result (λ none. none.energy ≡ energy) }
 {

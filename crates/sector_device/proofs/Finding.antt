@@ -1,7 +1,6 @@
 -- What an opening finds.
 use Rattle.std.proofs.Common.{◌≡◌, ◌≢◌, ◌⊎◌, ⊎_elim, inl, inr, ℕ, ◌+◌, ◌-◌, ◌*◌, ◌<◌, ◌≤◌, Bool, true, false, List, length, take, drop, get_or, length-drop, sym, ◌∙◌, ap, subst, arith}
 use Rattle.std.specs.Prelude.{◌==◌, IsTrue, if◌then◌else◌, nat_lt, not, slice_range}
-use Rattle.std.specs.Int.{w64, from_le_bytes}
 use Rattle.std.proofs.lemmas.Bool.{and_from, and_left, and_right, cases_Bool, cases_lt, eq-eqb, eqb-false, eqb-true, le-ltb, lt-ltb, ne_eqb, not_from_false, not_from_true}
 use Rattle.std.proofs.lemmas.Grind.{same_number_lists}
 use Rattle.std.proofs.lemmas.List.{get_or-drop, get_or-take, get_or_past, length-take-le}
@@ -9,8 +8,8 @@ use Rattle.save_device.specs.Device.{Moment}
 use Rattle.save_device.specs.Rows.{overwritten, DiffersOnlyAt}
 use Rattle.save_device.proofs.Rows.{holds-after, holds-before, holds-length, holds-within}
 use Rattle.sector_device.specs.Sectors.{IsInSector}
-use Rattle.sector_device.specs.Spare.{HoldsSector, found_in, is_open, spare_content, spare_number}
-use Rattle.sector_device.specs.Backing.{FindsLeft}
+use Rattle.sector_device.specs.Spare.{found_in, is_open, spare_content, spare_number}
+use Rattle.sector_device.specs.Backing.{FindsLeft, HasSectors}
 
 -- a part of a row
 pub length-part : (row : List ℕ) (from to : ℕ) → to ≤ length row → length (slice_range row from to) ≡ to - from
@@ -44,65 +43,65 @@ found_open size bytes opened less =
     (not_from_false (get_or bytes (size + 1024) 0 == 0) (ne_eqb (get_or bytes (size + 1024) 0) 0 opened)) (lt-ltb (512 * spare_number size bytes) size less) in
     ap (λ (opened : Bool). if opened then overwritten (take size bytes) (512 * spare_number size bytes) (spare_content size bytes) else take size bytes) yes
 
--- the spare place of a row that is the same there
-pub holds_same : (number : ℕ) (device a b : List ℕ) → length device + 1024 ≤ length a → length device + 1024 ≤ length b
-    → ((k : ℕ) → length device ≤ k → k < length device + 1024 → get_or a k 0 ≡ get_or b k 0) → HoldsSector number device b → HoldsSector number device a
-holds_same number device a b fits room same holds =
-    let size = length device in
-    record {
-      inside = holds.inside;
-      content = same_part a b size (size + 512) (omega (arith, fits)) (omega (arith, room)) (λ k least less. same k least (omega (arith, less))) ∙ holds.content;
-      number_is = ap (from_le_bytes w64) (same_part a b (size + 512) (size + 520) (omega (arith, fits)) (omega (arith, room)) (λ k least less. same k (omega (arith, least)) (omega (arith, less)))) ∙ holds.number_is;
-    }
-
 module _ (moment : Moment) where
   abbrev pub size : ℕ
   size = length moment.bytes
 
-  -- a row whose first bytes are the same
-  pub data_same : (places : ℕ → Type 0) (a b : List ℕ) → size ≤ length a → ((k : ℕ) → k < size → ¬ places k → get_or a k 0 ≡ get_or b k 0) → DiffersOnlyAt places moment.bytes (take size b)
-      → DiffersOnlyAt places moment.bytes (take size a)
-  data_same places a b fits same differs =
-      let long = length-take-le size a fits in
+  -- a row whose first bytes are the device's settled ones
+  pub settled_row : (places : ℕ → Type 0) (row : List ℕ) → size ≤ length row → ((k : ℕ) → k < size → ¬ places k → get_or row k 0 ≡ get_or moment.bytes k 0) → DiffersOnlyAt places moment.bytes (take size row)
+  settled_row places row fits same =
+      let long = length-take-le size row fits in
       record {
         size = long;
         outside = λ place out. elim (cases_lt place size) [
-          | inl less ↦ get_or-take size a place 0 less ∙ same place less out ∙ sym (get_or-take size b place 0 less) ∙ differs.outside place out
-          | inr past ↦ get_or_past (take size a) place 0 (omega (arith, long, past)) ∙ sym (get_or_past moment.bytes place 0 past)
+          | inl less ↦ get_or-take size row place 0 less ∙ same place less out
+          | inr past ↦ get_or_past (take size row) place 0 (omega (arith, long, past)) ∙ sym (get_or_past moment.bytes place 0 past)
         ];
       }
 
-  pub finds_shut : (image : List ℕ) → get_or image (size + 1024) 0 ≡ 0 → DiffersOnlyAt (λ place. IsTrue (moment.unsettled place)) moment.bytes (take size image) → FindsLeft moment image
-  finds_shut image shut differs = subst (λ (row : List ℕ). DiffersOnlyAt (λ place. IsTrue (moment.unsettled place)) moment.bytes row) (sym (found_shut size image shut)) differs
+  pub finds_own : (image : List ℕ) → size ≤ length image → found_in size image ≡ take size image → ((k : ℕ) → k < size → ¬ IsTrue (moment.unsettled k) → get_or image k 0 ≡ get_or moment.bytes k 0)
+      → FindsLeft moment image
+  finds_own image fits own same =
+      subst (λ (row : List ℕ). DiffersOnlyAt (λ place. IsTrue (moment.unsettled place)) moment.bytes row) (sym own) (settled_row (λ place. IsTrue (moment.unsettled place)) image fits same)
 
-  pub finds_held : (number : ℕ) (image : List ℕ) → get_or image (size + 1024) 0 ≢ 0 → HoldsSector number moment.bytes image
-      → DiffersOnlyAt (λ place. IsTrue (moment.unsettled place) ⊎ IsInSector number place) moment.bytes (take size image) → FindsLeft moment image
-  finds_held number image opened holds differs =
-      let at = 512 * number in let own : List ℕ = take size image in let content : List ℕ = slice_range moment.bytes at (at + 512) in
-      let inside : at + 512 ≤ size = holds.inside in
-      let found : found_in size image ≡ overwritten own at content =
-      found_open size image opened (subst (λ (k : ℕ). 512 * k < size) (sym holds.number_is) (omega (arith, inside)))
-      ∙ ap (λ (k : ℕ). overwritten own (512 * k) (spare_content size image)) holds.number_is ∙ ap (λ (part : List ℕ). overwritten own at part) holds.content in
-      let long : 512 ≡ length content = sym (length-part moment.bytes at (at + 512) inside ∙ omega (arith, inside)) in
-      let room : at + 512 ≤ length own = omega (arith, differs.size, inside) in
+  pub finds_held : (number : ℕ) (image : List ℕ) → length image ≡ size + 1536 → get_or image (size + 1024) 0 ≢ 0 → 512 * number + 512 ≤ size → spare_number size image ≡ number
+      → ((k : ℕ) → k < 512 → ¬ IsTrue (moment.unsettled (512 * number + k)) → get_or image (size + k) 0 ≡ get_or moment.bytes (512 * number + k) 0)
+      → ((k : ℕ) → k < size → ¬ IsTrue (moment.unsettled k) → ¬ IsInSector number k → get_or image k 0 ≡ get_or moment.bytes k 0) → FindsLeft moment image
+  finds_held number image sized opened inside named content beside =
+      let at = 512 * number in let own : List ℕ = take size image in let spare : List ℕ = spare_content size image in
+      let found : found_in size image ≡ overwritten own at spare =
+      found_open size image opened (subst (λ (k : ℕ). 512 * k < size) (sym named) (omega (arith, inside)))
+      ∙ ap (λ (k : ℕ). overwritten own (512 * k) spare) named in
+      let long : 512 ≡ length spare = sym (length-part image size (size + 512) (omega (arith, sized)) ∙ omega arith) in
+      let own_long : length own ≡ size = length-take-le size image (omega (arith, sized)) in
+      let room : at + 512 ≤ length own = omega (arith, own_long, inside) in
+      let outer : (k : ℕ) → ¬ IsTrue (moment.unsettled k) → ¬ IsInSector number k → get_or own k 0 ≡ get_or moment.bytes k 0 =
+      λ k still out. (settled_row (λ place. IsTrue (moment.unsettled place) ⊎ IsInSector number place) image (omega (arith, sized)) (λ k less out. beside k less (λ up. out (inl up)) (λ w. out (inr w)))).outside k
+      (λ either. ⊎_elim still out either) in
       record {
-        size = holds-length own (found_in size image) content at 512 long room found ∙ differs.size;
-        outside = λ place out. elim (cases_lt place at) [
-          | inl before ↦ holds-before own (found_in size image) content at 512 long room found place 0 before
-              ∙ differs.outside place (λ either. ⊎_elim out (λ (w : IsInSector number place). let bad : ⊥ = omega (arith, w.0, before) in bad) either)
+        size = holds-length own (found_in size image) spare at 512 long room found ∙ own_long;
+        outside = λ place still. elim (cases_lt place at) [
+          | inl before ↦ holds-before own (found_in size image) spare at 512 long room found place 0 before ∙ outer place still (λ w. let bad : ⊥ = omega (arith, w.0, before) in bad)
           | inr least ↦ elim (cases_lt place (at + 512)) [
             | inl less ↦
-                let same : at + (place - at) ≡ place = omega (arith, least) in
-                holds-within own (found_in size image) content at 512 long room found place 0 least less ∙ part_at moment.bytes at (at + 512) (place - at) (omega (arith, least, less)) ∙ ap (λ (k : ℕ). get_or moment.bytes k 0) same
-            | inr after ↦ holds-after own (found_in size image) content at 512 long room found place 0 after
-                ∙ differs.outside place (λ either. ⊎_elim out (λ (w : IsInSector number place). let bad : ⊥ = omega (arith, w.1, after) in bad) either)
+                let k = place - at in let same : at + k ≡ place = omega (arith, least) in let low : k < 512 = omega (arith, least, less) in
+                holds-within own (found_in size image) spare at 512 long room found place 0 least less ∙ part_at image size (size + 512) k (omega (arith, low))
+                ∙ content k low (λ up. still (subst (λ (p : ℕ). IsTrue (moment.unsettled p)) same up)) ∙ ap (λ (p : ℕ). get_or moment.bytes p 0) same
+            | inr after ↦ holds-after own (found_in size image) spare at 512 long room found place 0 after ∙ outer place still (λ w. let bad : ⊥ = omega (arith, w.1, after) in bad)
           ]
         ];
       }
 
   -- whether the gate is found shut or not
-  pub finds_either : (number : ℕ) (image : List ℕ) → HoldsSector number moment.bytes image → DiffersOnlyAt (λ place. IsTrue (moment.unsettled place)) moment.bytes (take size image) → FindsLeft moment image
-  finds_either number image holds differs = elim (cases_Bool (get_or image (size + 1024) 0 == 0)) [
-    | inl shut ↦ finds_shut image (eqb-true (get_or image (size + 1024) 0) 0 shut) differs
-    | inr opened ↦ finds_held number image (eqb-false (get_or image (size + 1024) 0) 0 opened) holds (record { size = differs.size; outside = λ place out. differs.outside place (λ up. out (inl up)) })
+  pub finds_either : (number : ℕ) (image : List ℕ) → HasSectors size → length image ≡ size + 1536 → spare_number size image ≡ number
+      → ((k : ℕ) → k < 512 → 512 * number + k < size → ¬ IsTrue (moment.unsettled (512 * number + k)) → get_or image (size + k) 0 ≡ get_or moment.bytes (512 * number + k) 0)
+      → ((k : ℕ) → k < size → ¬ IsTrue (moment.unsettled k) → get_or image k 0 ≡ get_or moment.bytes k 0) → FindsLeft moment image
+  finds_either number image sectors sized named content same = elim (cases_Bool (get_or image (size + 1024) 0 == 0)) [
+    | inl shut ↦ finds_own image (omega (arith, sized)) (found_shut size image (eqb-true (get_or image (size + 1024) 0) 0 shut)) same
+    | inr opened ↦ elim (cases_lt (512 * number) size) [
+      | inl less ↦
+          let inside : 512 * number + 512 ≤ size = omega (arith, less, sectors) in
+          finds_held number image sized (eqb-false (get_or image (size + 1024) 0) 0 opened) inside named (λ k low still. content k low (omega (arith, low, inside)) still) (λ k less still out. same k less still)
+      | inr past ↦ finds_own image (omega (arith, sized)) (found_none size image (subst (λ (k : ℕ). size ≤ 512 * k) (sym named) past)) same
+    ]
   ]

@@ -1,17 +1,20 @@
 -- What an opening makes of a file.
-use Rattle.std.proofs.Common.{◌≡◌, ◌≢◌, inl, inr, ℕ, ◌+◌, ◌*◌, ◌≤◌, Bool, true, false, List, ◌++◌, length, take, get_or, length-append, refl, sym, ◌∙◌, ap, ap₂, subst, arith, drop, length-drop, Option, Some, None}
-use Rattle.std.specs.Prelude.{◌==◌, ◌&&◌, IfSome, IsNone, if◌then◌else◌, nat_lt, not, slice_range}
+use Rattle.std.proofs.Common.{◌≡◌, ◌≢◌, inl, inr, ℕ, ◌+◌, ◌-◌, ◌*◌, ◌<◌, ◌≤◌, Bool, true, false, List, ◌++◌, length, take, get_or, length-append, refl, sym, ◌∙◌, ap, ap₂, subst, arith, drop, length-drop, Option, Some, None}
+use Rattle.std.specs.Prelude.{◌==◌, ◌&&◌, IfSome, IsNone, if◌then◌else◌, nat_lt, not}
 use Rattle.std.proofs.lemmas.Bool.{cases_lt, eq-eqb, ltb-false, ne_eqb, not_from_false, not_from_true, and_left}
 use Rattle.std.proofs.lemmas.List.{append-nil, drop_all, get_or-take, length-take-le, take-append-le, take_all}
 use borrow.Rule.Slice.PartMut.{put_mid}
 use Rattle.save_device.specs.Device.{Moment}
 use Rattle.save_device.specs.Rows.{overwritten}
-use Rattle.save_device.proofs.Rows.{holds-after, holds-before}
+use Rattle.save_device.proofs.Rows.{holds-after, holds-before, holds-within}
 use Rattle.file_device.specs.Kept.{Kept, IsAtRest}
+use Rattle.sector_device.specs.declared.device.Gate.{Gate}
+use Rattle.sector_device.specs.declared.device.Gate.TheVariants.{Shut, Ajar, Open}
+use Rattle.sector_device.specs.Sectors.{IsOnDisk}
 use Rattle.sector_device.specs.Spare.{found_in, is_open, spare_content, spare_number}
-use Rattle.sector_device.specs.Backing.{BacksSectors, IsHeld, IsIdle, IsOpenFor}
-use Rattle.sector_device.proofs.Finding.{found_own, found_shut, length-part}
-use Rattle.sector_device.proofs.Steps.{opened_left, part_put, rests_shut}
+use Rattle.sector_device.specs.Backing.{IsAjar, IsForSector, IsFoundGate, IsOpenFor, IsShut, Stands}
+use Rattle.sector_device.proofs.Finding.{found_own, found_shut, length-part, part_at}
+use Rattle.sector_device.proofs.Steps.{stands_ajar, stands_open, stands_shut}
 
 -- an open gate isn't shut
 pub open_gate : (size : ℕ) (bytes : List ℕ) → is_open size bytes ≡ true → get_or bytes (size + 1024) 0 ≢ 0
@@ -26,7 +29,7 @@ idle_number true y none is = none
 idle_number false y none is = let bad : ⊥ = cc in absurd bad
 
 -- what is found where the gate is open for this sector
-pub found_held : (size number : ℕ) (bytes : List ℕ) → is_open size bytes ≡ true → number ≡ spare_number size bytes
+found_held : (size number : ℕ) (bytes : List ℕ) → is_open size bytes ≡ true → number ≡ spare_number size bytes
     → found_in size bytes ≡ overwritten (take size bytes) (512 * number) (spare_content size bytes)
 found_held size number bytes so is =
     ap (λ (opened : Bool). if opened then overwritten (take size bytes) (512 * spare_number size bytes) (spare_content size bytes) else take size bytes) so
@@ -36,8 +39,14 @@ module _ (moment : Moment) (kept : Kept) (rest : IsAtRest kept) (long : length k
   abbrev size : ℕ
   size = length moment.bytes
 
+  there : (place byte : ℕ) → get_or kept.bytes place 0 ≡ byte → IsOnDisk kept place byte
+  there place byte has = record { settled = rest.settled place; put = record { fresh = rest.fresh place; is = has } }
+
+  own_there : moment.bytes ≡ take size kept.bytes → (place : ℕ) → place < size → IsOnDisk kept place (get_or moment.bytes place 0)
+  own_there own place less = there place (get_or moment.bytes place 0) (sym (ap (λ (row : List ℕ). get_or row place 0) own ∙ get_or-take size kept.bytes place 0 less))
+
   -- the gate is open for a sector
-  pub opened_held : (number : ℕ) → is_open size kept.bytes ≡ true → number ≡ spare_number size kept.bytes → 512 * number + 512 ≤ size → IsHeld number moment kept
+  pub opened_held : (number : ℕ) → is_open size kept.bytes ≡ true → number ≡ spare_number size kept.bytes → 512 * number + 512 ≤ size → IsOpenFor number moment kept
   opened_held number so named inside =
       let at = 512 * number in let own : List ℕ = take size kept.bytes in let content : List ℕ = spare_content size kept.bytes in
       let now : moment.bytes ≡ overwritten own at content = is ∙ found_held size number kept.bytes so named in
@@ -45,65 +54,64 @@ module _ (moment : Moment) (kept : Kept) (rest : IsAtRest kept) (long : length k
       let own_long : length own ≡ size = length-take-le size kept.bytes (omega (arith, long)) in
       let fits : at + 512 ≤ length own = omega (arith, own_long, inside) in
       record {
-        rest = rest;
         size = long;
-        gate = open_gate size kept.bytes so;
+        inside = inside;
+        opens = open_gate size kept.bytes so;
+        gate = there (size + 1024) (get_or kept.bytes (size + 1024) 0) refl;
         holds = record {
-          inside = inside;
-          content = sym (ap (λ (row : List ℕ). slice_range row at (at + 512)) now
-              ∙ part_put own content content at 0 512 at (at + 512) (omega (arith, fits, width)) (omega (arith, width)) width (omega arith) refl (λ k less. let same : 0 + k ≡ k = omega arith in ap (λ (i : ℕ). get_or content i 0) same));
+          rests = λ place w. there place (get_or kept.bytes place 0) refl;
           number_is = sym named;
+          content = λ k low less still.
+              let same : at + k - at ≡ k = omega arith in
+              sym (holds-within own moment.bytes content at 512 (sym width) fits now (at + k) 0 (omega arith) (omega (arith, low)) ∙ ap (λ (i : ℕ). get_or content i 0) same
+              ∙ part_at kept.bytes size (size + 512) k (omega (arith, low)));
         };
-        outside = record {
-          size = own_long;
-          outside = λ place out. elim (cases_lt place at) [
-            | inl before ↦ sym (holds-before own moment.bytes content at 512 (sym width) fits now place 0 before)
-            | inr least ↦ elim (cases_lt place (at + 512)) [
-              | inl less ↦ absurd (out (inr (least, less)))
-              | inr after ↦ sym (holds-after own moment.bytes content at 512 (sym width) fits now place 0 after)
-            ]
-          ];
-        };
-        current = λ place less. sym (get_or-take size kept.bytes place 0 (omega (arith, less, inside))) ∙ sym (holds-before own moment.bytes content at 512 (sym width) fits now place 0 less);
+        beside = λ place out less still. there place (get_or moment.bytes place 0) (sym (elim (cases_lt place at) [
+          | inl before ↦ holds-before own moment.bytes content at 512 (sym width) fits now place 0 before ∙ get_or-take size kept.bytes place 0 less
+          | inr least ↦ elim (cases_lt place (at + 512)) [
+            | inl high ↦ absurd (out (least, high))
+            | inr after ↦ holds-after own moment.bytes content at 512 (sym width) fits now place 0 after ∙ get_or-take size kept.bytes place 0 less
+          ]
+        ]));
       }
 
   -- it isn't shut, and open for none
-  pub opened_idle : get_or kept.bytes (size + 1024) 0 ≢ 0 → is_open size kept.bytes ≡ false → IsIdle moment kept
-  opened_idle ajar none = record {
-    rest = rest;
+  pub opened_idle : get_or kept.bytes (size + 1024) 0 ≢ 0 → is_open size kept.bytes ≡ false → IsAjar moment kept
+  opened_idle ajar none =
+      let past : size ≤ 512 * spare_number size kept.bytes = ltb-false (512 * spare_number size kept.bytes) size
+      (idle_number (not (get_or kept.bytes (size + 1024) 0 == 0)) (nat_lt (512 * spare_number size kept.bytes) size) none
+      (not_from_false (get_or kept.bytes (size + 1024) 0 == 0) (ne_eqb (get_or kept.bytes (size + 1024) 0) 0 ajar))) in
+      record {
+        size = long;
+        holds = record {
+          rests = λ place w. there place (get_or kept.bytes place 0) refl;
+          number_is = refl;
+          content = λ k low less still. let bad : ⊥ = omega (arith, less, past) in absurd bad;
+        };
+        settled = λ place less still. own_there (is ∙ found_own size kept.bytes none) place less;
+      }
+
+  -- it is shut
+  pub opened_shut : get_or kept.bytes (size + 1024) 0 ≡ 0 → IsShut moment kept
+  opened_shut shut = record {
     size = long;
-    none = ltb-false (512 * spare_number size kept.bytes) size
-        (idle_number (not (get_or kept.bytes (size + 1024) 0 == 0)) (nat_lt (512 * spare_number size kept.bytes) size) none
-        (not_from_false (get_or kept.bytes (size + 1024) 0 == 0) (ne_eqb (get_or kept.bytes (size + 1024) 0) 0 ajar)));
-    same = sym (found_own size kept.bytes none) ∙ sym is;
+    gate = there (size + 1024) 0 shut;
+    settled = λ place less still. own_there (is ∙ found_shut size kept.bytes shut) place less;
   }
 
-  -- a device that was opened so
-  pub opened_backs : (broken : Bool) → (broken ≡ false → get_or kept.bytes (size + 1024) 0 ≡ 0) → BacksSectors broken moment kept
-  opened_backs broken shut = record {
-    left = opened_left moment kept rest is;
-    whole = λ fine. (rest, rests_shut moment kept rest long (shut fine) (sym (found_shut size kept.bytes (shut fine)) ∙ sym is));
-  }
+  -- however it stands
+  pub opened_stands : (held : Option ℕ) (gate : Gate) → IfSome held (λ number. (is_open size kept.bytes ≡ true) × (number ≡ spare_number size kept.bytes))
+      → (IsNone held → is_open size kept.bytes ≡ false) → IfSome held (λ number. 512 * number + 512 ≤ size) → IsFoundGate size kept.bytes held gate → Stands gate moment kept
+  opened_stands (Some number) gate some none inside finds = subst (λ (g : Gate). Stands g moment kept) (sym finds) (stands_open number moment kept (opened_held number some.0 some.1 inside))
+  opened_stands None Shut some none inside finds = stands_shut moment kept (opened_shut finds)
+  opened_stands None Ajar some none inside finds = stands_ajar moment kept (opened_idle finds (none refl))
+  opened_stands None (Open number) some none inside finds = absurd finds
 
-by_held : (moment : Moment) (kept : Kept) → IsAtRest kept → length kept.bytes ≡ length moment.bytes + 1536 → moment.bytes ≡ found_in (length moment.bytes) kept.bytes
-    → (held : Option ℕ) → IfSome held (λ number. (is_open (length moment.bytes) kept.bytes ≡ true) × (number ≡ spare_number (length moment.bytes) kept.bytes))
-    → (IsNone held → is_open (length moment.bytes) kept.bytes ≡ false) → IfSome held (λ number. 512 * number + 512 ≤ length moment.bytes) → get_or kept.bytes (length moment.bytes + 1024) 0 ≢ 0 → IsOpenFor held moment kept
-by_held moment kept rest long is (Some number) some none inside ajar = opened_held moment kept rest long is number some.0 some.1 inside
-by_held moment kept rest long is None some none inside ajar = opened_idle moment kept rest long is ajar (none refl)
-
--- whichever sector an opening found the gate open for, or none
-pub open_for : (moment : Moment) (kept : Kept) (size : ℕ) (bytes : List ℕ) (held : Option ℕ) → IsAtRest kept → length moment.bytes ≡ size → bytes ≡ kept.bytes → length bytes ≡ size + 1536 → moment.bytes ≡ found_in size bytes
-    → IfSome held (λ number. (is_open size bytes ≡ true) × (number ≡ spare_number size bytes)) → (IsNone held → is_open size bytes ≡ false) → IfSome held (λ number. 512 * number + 512 ≤ size)
-    → get_or bytes (size + 1024) 0 ≢ 0 → IsOpenFor held moment kept
-open_for moment kept size bytes held rest sizes read long is some none inside ajar =
-    let to : (P : ℕ → List ℕ → Type 0) → P size bytes → P (length moment.bytes) kept.bytes = λ P p. subst (λ (n : ℕ). P n kept.bytes) (sym sizes) (subst (λ (row : List ℕ). P size row) read p) in
-    let long_now : length kept.bytes ≡ length moment.bytes + 1536 = to (λ n row. length row ≡ n + 1536) long in
-    let is_now : moment.bytes ≡ found_in (length moment.bytes) kept.bytes = to (λ n row. moment.bytes ≡ found_in n row) is in
-    by_held moment kept rest long_now is_now held
-    (to (λ n row. IfSome held (λ number. (is_open n row ≡ true) × (number ≡ spare_number n row))) some)
-    (to (λ n row. IsNone held → is_open n row ≡ false) none)
-    (subst (λ (n : ℕ). IfSome held (λ number. 512 * number + 512 ≤ n)) (sym sizes) inside)
-    (to (λ n row. get_or row (n + 1024) 0 ≢ 0) ajar)
+pub found_sector : (n : ℕ) (bytes : List ℕ) (held : Option ℕ) (gate : Gate) → IfSome held (λ number. 512 * number + 512 ≤ n) → IsFoundGate n bytes held gate → IsForSector gate n
+found_sector n bytes (Some number) gate inside finds other is = let opened : Open number ≡ Open other = sym finds ∙ is in let same : number ≡ other = cc in subst (λ (k : ℕ). 512 * k + 512 ≤ n) same inside
+found_sector n bytes None Shut inside finds other is = absurd (let none : ⊥ = cc in none)
+found_sector n bytes None Ajar inside finds other is = absurd (let none : ⊥ = cc in none)
+found_sector n bytes None (Open number) inside finds other is = absurd finds
 
 -- the first part of two
 pub first_part : (a b : List ℕ) (n : ℕ) → length a ≡ n → take n (a ++ b) ≡ a

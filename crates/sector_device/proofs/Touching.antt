@@ -59,4 +59,5 @@ puts_touched at bytes good old mid next same stale unsettled puts = record {
         | inr failed ↦ inr (failed, written_touched at (length bytes) place w)
       ])
       (puts.stale place up);
+  renewed = puts.renewed;
 }

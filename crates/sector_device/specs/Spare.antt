@@ -1,6 +1,6 @@
 -- The spare place of a file, and what an opening finds by it. Behind a device's bytes stand a sector's content, in the next sector its
 -- number, and in a third one the gate, which is 0 but while the sector is to be put back.
-use Rattle.std.specs.Prelude.{◌≡◌, ◌≤◌, ◌++◌, ℕ, ◌+◌, ◌*◌, ◌==◌, ◌&&◌, Bool, not, nat_lt, List, length, slice_index, slice_range, take, if◌then◌else◌}
+use Rattle.std.specs.Prelude.{◌++◌, ℕ, ◌+◌, ◌*◌, ◌==◌, ◌&&◌, Bool, not, nat_lt, List, slice_index, slice_range, take, if◌then◌else◌}
 use Rattle.std.specs.Int.{w64, from_le_bytes, to_le_bytes}
 use Rattle.save_device.specs.Rows.{overwritten}
 
@@ -32,9 +32,3 @@ found_in size bytes =
 -- a sector of these bytes, as the spare place has it
 abbrev pub spare_of : ℕ → List ℕ → List ℕ
 spare_of number bytes = slice_range bytes (512 * number) (512 * number + 512) ++ to_le_bytes w64 number
-
--- the spare place behind a device's bytes has this sector of it
-pub record HoldsSector (number : ℕ) (device bytes : List ℕ) : Type 0 where
-  pub inside : 512 * number + 512 ≤ length device
-  pub content : spare_content (length device) bytes ≡ slice_range device (512 * number) (512 * number + 512)
-  pub number_is : spare_number (length device) bytes ≡ number

@@ -1,5 +1,5 @@
 // A device over a file of sectors.
-ghost use Rattle.std.specs.Prelude.{◌≡◌, ◌+◌, ◌*◌, ◌<◌, ◌≤◌, ◌^◌, ◌++◌, length, is_ok, slice_range, IsTrue, IfSome, OnOk, true, false, not, [], ◌∷◌, ℕ};
+ghost use Rattle.std.specs.Prelude.{◌≡◌, ◌+◌, ◌*◌, ◌<◌, ◌≤◌, ◌^◌, ◌++◌, length, is_ok, slice_range, IsTrue, IfSome, OnOk, true, false, [], ◌∷◌, ℕ};
 ghost use Rattle.std.specs.Int.{w64, to_le_bytes};
 ghost use Rattle.save_device.specs.declared.calls.CallKind.TheVariants.{Read};
 ghost use Rattle.save_device.specs.Device.{IsSettled, present, with_calls};
@@ -7,10 +7,10 @@ ghost use Rattle.save_device.specs.Flags.{IsUp};
 ghost use Rattle.save_device.specs.Memory.{state_of};
 ghost use Rattle.save_device.specs.Changes.{Put, Settle, IsCall, Makes};
 ghost use Rattle.save_device.specs.Rows.{IsInRange};
-ghost use Rattle.file_device.specs.Kept.{IfKept, BothKept, IsAtRest, Marks};
-ghost use Rattle.sector_device.specs.Sectors.{IsFresh, PutsDurably, PutsSectors};
+ghost use Rattle.file_device.specs.Kept.{BothKept, Flushes, IfKept, Marks};
+ghost use Rattle.sector_device.specs.Sectors.{PutsDurably, PutsSectors};
 ghost use Rattle.sector_device.specs.Spare.{gate_at, spare_of, spare_size};
-ghost use Rattle.sector_device.specs.Backing.{BacksSectors, HasSectors, IsHeld, IsOpenFor, IsSavedWhole, IsShut, IsWritten, IsWrittenWhole, LeavesLeftWithin};
+ghost use Rattle.sector_device.specs.Backing.{HasSectors, HoldsSector, IsAjar, IsForSector, IsPutBelow, IsPutWhole, IsSavedWhole, LeavesLeftWithin, PutsBelow, Stands, StandsWithin};
 
 use crate::SectorFile;
 use crate::file::SECTOR;
@@ -18,13 +18,24 @@ use file_device::Places;
 use save_device::{CallKind, CallLog, DeviceFault, MemoryDevice, SaveDevice};
 
 /// How many bytes are written to the file at once.
-const CHUNK: usize = 4096;
+const CHUNK: usize = 1 << 16;
 
 /// Where the gate stands behind a device's bytes.
 pub(crate) const GATE: usize = 2 * SECTOR;
 
 /// The bytes of a sector and its number.
 const SPARE: usize = SECTOR + 8;
+
+/// How the gate of the spare place stands.
+#[derive(Clone, Copy)]
+pub enum Gate {
+    /// It is shut.
+    Shut,
+    /// It was being written, so that an opening may find it open or shut. Either is right: the disk has each settled byte in its place.
+    Ajar,
+    /// It is open for the sector of this number. The spare place has its settled bytes, and its own place may have anything.
+    Open(usize),
+}
 
 /// A device whose bytes stand in a file on a disk that loses whole sectors. A read takes them from a copy in memory, and so does a
 /// write; a sync writes all unsettled places to the file and flushes it.
@@ -33,22 +44,22 @@ const SPARE: usize = SECTOR + 8;
 /// gate is opened and flushed, then the sector is written and flushed, and then the gate is shut and flushed. So a sector in part
 /// costs four flushes. A sector with no settled byte is written in its place.
 ///
-/// A call of the file that fails is told as a fault, and so is each later write and sync: the next opening goes on.
+/// A call of the file that fails is told as a fault of the sync, and the device goes on: the next sync first shuts the gate, behind the
+/// sector for which it is open, and writes all unsettled places again, since no flush is known to make up for one that failed.
 #[derive(Drop)]
 pub struct SectorDevice<F: SectorFile> {
     pub(crate) mirror: MemoryDevice,
     // the unsettled places of the mirror
     pub(crate) unsettled: Places,
     pub(crate) file: F,
-    // a call of the file failed, or is being made
-    pub(crate) is_broken: bool,
+    pub(crate) gate: Gate,
     pub(crate) calls: CallLog,
     pub ghost fits: { length (state_of mirror).bytes < 2 ^ 64 },
     pub ghost room: { length (state_of mirror).bytes + spare_size < 2 ^ 64 },
     pub ghost sectors: { HasSectors (length (state_of mirror).bytes) },
     pub ghost marked: { Marks unsettled.flags.items (state_of mirror) },
-    pub ghost backed: { IfKept (BacksSectors is_broken (present (state_of mirror)))
-        (F.kept file) },
+    pub ghost inside: { IsForSector gate (length (state_of mirror).bytes) },
+    pub ghost backed: { IfKept (Stands gate (present (state_of mirror))) (F.kept file) },
 }
 
 // Whether one of the places of a sector is among these.
@@ -77,7 +88,7 @@ fn spare_bytes(sector: &[u8; 512], number: usize) -> [u8; 520]
 
 // Writes n bytes of the mirror from `at` on to the file, and says whether that went well.
 fn copy_out<F: SectorFile>(mirror: &mut MemoryDevice, file: &mut F, at: usize, n: usize) -> bool
-    requires most { n ≤ 4096 }
+    requires most { n ≤ 65536 }
     requires fits { at + n ≤ length (state_of mirror.old).bytes }
     requires file_fits { IfKept (λ kept. at + n ≤ length kept.bytes) (F.kept file.old) }
     ensures puts { BothKept
@@ -92,67 +103,155 @@ fn copy_out<F: SectorFile>(mirror: &mut MemoryDevice, file: &mut F, at: usize, n
 }
 
 impl<F: SectorFile> SectorDevice<F> {
-    // Writes bytes to the file and flushes it, and says whether that went well. It is done only where a stop at any moment of it
-    // leaves what one may leave of the device.
+    // Writes bytes to the file, and says whether that went well. It is done only where the file backs the device whatever becomes of
+    // the sectors that it touches.
+    fn put(&mut self, at: usize, bytes: &[u8]) -> bool
+        requires fits { IfKept (λ kept. at + length bytes.now ≤ length kept.bytes)
+            (F.kept self.old.file) }
+        requires within { IfKept (StandsWithin self.old.gate
+            (present (state_of self.old.mirror)) at (length bytes.now)) (F.kept self.old.file) }
+        ensures puts { BothKept (PutsSectors at bytes.now result)
+            (F.kept self.old.file) (F.kept self.new.file) }
+        ensures mirror { self.new.mirror ≡ self.old.mirror }
+        ensures places { self.new.unsettled ≡ self.old.unsettled }
+        ensures calls { self.new.calls ≡ self.old.calls }
+        ensures gate { self.new.gate ≡ self.old.gate }
+
+        // A stop at any moment of it leaves what one may leave of the device.
+        ensures left { IfKept (LeavesLeftWithin (present (state_of self.old.mirror))
+            at (length bytes.now)) (F.kept self.old.file) }
+    {
+        self.file.put(at, bytes).is_ok()
+    }
+
+    // Makes what was put durable, and says whether that went well.
+    fn flush(&mut self) -> bool
+        ensures flushes { BothKept (Flushes result)
+            (F.kept self.old.file) (F.kept self.new.file) }
+        ensures mirror { self.new.mirror ≡ self.old.mirror }
+        ensures places { self.new.unsettled ≡ self.old.unsettled }
+        ensures calls { self.new.calls ≡ self.old.calls }
+        ensures gate { self.new.gate ≡ self.old.gate }
+    {
+        self.file.flush().is_ok()
+    }
+
+    // Writes bytes to the file and flushes it, and says whether that went well.
     fn put_durably(&mut self, at: usize, bytes: &[u8]) -> bool
         requires fits { IfKept (λ kept. at + length bytes.now ≤ length kept.bytes)
             (F.kept self.old.file) }
-        requires fresh { IfKept IsFresh (F.kept self.old.file) }
-        requires left { IfKept
-            (LeavesLeftWithin (present (state_of self.old.mirror)) at (length bytes.now))
-            (F.kept self.old.file) }
+        requires within { IfKept (StandsWithin self.old.gate
+            (present (state_of self.old.mirror)) at (length bytes.now)) (F.kept self.old.file) }
         ensures puts { BothKept (PutsDurably at bytes.now result)
             (F.kept self.old.file) (F.kept self.new.file) }
         ensures mirror { self.new.mirror ≡ self.old.mirror }
         ensures places { self.new.unsettled ≡ self.old.unsettled }
         ensures calls { self.new.calls ≡ self.old.calls }
-        ensures broken { self.new.is_broken ≡ true }
+        ensures gate { self.new.gate ≡ self.old.gate }
     {
-        self.is_broken = true;
-        if self.file.put(at, bytes).is_err() {
+        if !self.put(at, bytes) {
             return false;
         }
-        self.file.flush().is_ok()
+        self.flush()
     }
 
     // Opens the gate by 1, or shuts it by 0.
     fn put_gate(&mut self, gate: u8) -> bool
-        requires long { IfKept (λ kept. length kept.bytes
-            ≡ length (state_of self.old.mirror).bytes + spare_size) (F.kept self.old.file) }
-        requires fresh { IfKept IsFresh (F.kept self.old.file) }
-        requires left { IfKept (LeavesLeftWithin (present (state_of self.old.mirror))
-            (gate_at (length (state_of self.old.mirror).bytes)) 1) (F.kept self.old.file) }
+        requires { self.old.gate ≡ Gate.Ajar }
         ensures puts { BothKept
             (PutsDurably (gate_at (length (state_of self.old.mirror).bytes)) (gate ∷ []) result)
             (F.kept self.old.file) (F.kept self.new.file) }
         ensures mirror { self.new.mirror ≡ self.old.mirror }
         ensures places { self.new.unsettled ≡ self.old.unsettled }
         ensures calls { self.new.calls ≡ self.old.calls }
-        ensures broken { self.new.is_broken ≡ true }
+        ensures gate { self.new.gate ≡ Gate.Ajar }
     {
         let size = self.mirror.len();
         self.put_durably(size + GATE, &[gate])
     }
 
-    // Writes the sector that the spare place has in its place, and shuts the gate.
-    fn put_back(&mut self, number: usize, sector: &[u8]) -> bool
-        requires sector { sector.now
-            ≡ slice_range (state_of self.old.mirror).bytes (512 * number) (512 * number + 512) }
+    // Opens the gate for the sector that the spare place has.
+    fn open_gate(&mut self, number: usize) -> bool
+        requires shut { self.old.gate ≡ Gate.Shut }
         requires inside { 512 * number + 512 ≤ length (state_of self.old.mirror).bytes }
-        requires held { IfKept (IsHeld number (present (state_of self.old.mirror)))
+        requires holds { IfKept (HoldsSector number (present (state_of self.old.mirror)))
             (F.kept self.old.file) }
-        ensures written { result ≡ true → IfKept (λ kept. IsAtRest kept
-            × IsWritten (512 * number + 512) (present (state_of self.new.mirror)) kept)
-            (F.kept self.new.file) }
+        ensures open { result ≡ true → self.new.gate ≡ Gate.Open number }
+        ensures puts { BothKept
+            (PutsDurably (gate_at (length (state_of self.old.mirror).bytes)) (1 ∷ []) result)
+            (F.kept self.old.file) (F.kept self.new.file) }
         ensures mirror { self.new.mirror ≡ self.old.mirror }
         ensures places { self.new.unsettled ≡ self.old.unsettled }
         ensures calls { self.new.calls ≡ self.old.calls }
-        ensures broken { self.new.is_broken ≡ true }
     {
-        if !self.put_durably(SECTOR * number, sector) {
+        self.gate = Gate::Ajar;
+        if !self.put_gate(1) {
             return false;
         }
-        self.put_gate(0)
+        self.gate = Gate::Open(number);
+        true
+    }
+
+    // Shuts the gate, where the disk has each settled byte in its place.
+    fn shut_gate(&mut self) -> bool
+        requires { IfKept (IsAjar (present (state_of self.old.mirror))) (F.kept self.old.file) }
+        ensures shut { result ≡ true → self.new.gate ≡ Gate.Shut }
+        ensures puts { BothKept
+            (PutsDurably (gate_at (length (state_of self.old.mirror).bytes)) (0 ∷ []) result)
+            (F.kept self.old.file) (F.kept self.new.file) }
+        ensures mirror { self.new.mirror ≡ self.old.mirror }
+        ensures places { self.new.unsettled ≡ self.old.unsettled }
+        ensures calls { self.new.calls ≡ self.old.calls }
+    {
+        self.gate = Gate::Ajar;
+        if !self.put_gate(0) {
+            return false;
+        }
+        self.gate = Gate::Shut;
+        true
+    }
+
+    // Writes n bytes of the device to their place, and says whether that went well.
+    fn put_own(&mut self, at: usize, n: usize) -> bool
+        requires most { n ≤ 65536 }
+        requires fits { at + n ≤ length (state_of self.old.mirror).bytes }
+        requires within { IfKept (StandsWithin self.old.gate
+            (present (state_of self.old.mirror)) at n) (F.kept self.old.file) }
+        ensures puts { BothKept
+            (PutsSectors at (slice_range (state_of self.old.mirror).bytes at (at + n)) result)
+            (F.kept self.old.file) (F.kept self.new.file) }
+        ensures same { present (state_of self.new.mirror) ≡ present (state_of self.old.mirror) }
+        ensures earlier { (state_of self.new.mirror).earlier ≡ (state_of self.old.mirror).earlier }
+        ensures places { self.new.unsettled ≡ self.old.unsettled }
+        ensures calls { self.new.calls ≡ self.old.calls }
+        ensures gate { self.new.gate ≡ self.old.gate }
+
+        // A stop at any moment of it leaves what one may leave of the device.
+        ensures left { IfKept (LeavesLeftWithin (present (state_of self.old.mirror)) at n)
+            (F.kept self.old.file) }
+    {
+        copy_out(&mut self.mirror, &mut self.file, at, n)
+    }
+
+    // Writes the sector for which the gate is open, and shuts the gate.
+    fn put_held(&mut self, number: usize) -> bool
+        requires { self.old.gate ≡ Gate.Open number }
+        ensures shut { result ≡ true → self.new.gate ≡ Gate.Shut }
+        ensures put { BothKept (PutsBelow (512 * number) (512 * number + 512)
+            (present (state_of self.old.mirror)) result)
+            (F.kept self.old.file) (F.kept self.new.file) }
+        ensures same { present (state_of self.new.mirror) ≡ present (state_of self.old.mirror) }
+        ensures earlier { (state_of self.new.mirror).earlier ≡ (state_of self.old.mirror).earlier }
+        ensures places { self.new.unsettled ≡ self.old.unsettled }
+        ensures calls { self.new.calls ≡ self.old.calls }
+    {
+        if !self.put_own(SECTOR * number, SECTOR) {
+            return false;
+        }
+        if !self.flush() {
+            return false;
+        }
+        self.shut_gate()
     }
 
     // The bytes of a sector.
@@ -165,120 +264,81 @@ impl<F: SectorFile> SectorDevice<F> {
         ensures file { self.new.file ≡ self.old.file }
         ensures places { self.new.unsettled ≡ self.old.unsettled }
         ensures calls { self.new.calls ≡ self.old.calls }
-        ensures broken { self.new.is_broken ≡ self.old.is_broken }
+        ensures gate { self.new.gate ≡ self.old.gate }
     {
         let mut sector = [0; SECTOR];
         let _done = self.mirror.read(SECTOR * number, &mut sector);
         sector
     }
 
-    // Writes the sector that the spare place has in its place, and shuts the gate.
-    fn put_held(&mut self, number: usize) -> bool
-        requires inside { 512 * number + 512 ≤ length (state_of self.old.mirror).bytes }
-        requires held { IfKept (IsHeld number (present (state_of self.old.mirror)))
-            (F.kept self.old.file) }
-        ensures written { result ≡ true → IfKept (λ kept. IsAtRest kept
-            × IsWritten (512 * number + 512) (present (state_of self.new.mirror)) kept)
-            (F.kept self.new.file) }
-        ensures same { present (state_of self.new.mirror) ≡ present (state_of self.old.mirror) }
-        ensures earlier { (state_of self.new.mirror).earlier ≡ (state_of self.old.mirror).earlier }
-        ensures places { self.new.unsettled ≡ self.old.unsettled }
-        ensures calls { self.new.calls ≡ self.old.calls }
-        ensures broken { self.new.is_broken ≡ true }
-    {
-        let sector = self.sector(number);
-        self.put_back(number, &sector)
-    }
-
-    // Writes a sector to the spare place, and opens the gate.
+    // Writes a sector to the spare place.
     fn put_spare(&mut self, number: usize) -> bool
+        requires shut { self.old.gate ≡ Gate.Shut }
         requires inside { 512 * number + 512 ≤ length (state_of self.old.mirror).bytes }
-        requires written { IfKept (IsWritten (512 * number) (present (state_of self.old.mirror)))
-            (F.kept self.old.file) }
-        ensures held { result ≡ true → IfKept
-            (IsHeld number (present (state_of self.new.mirror))) (F.kept self.new.file) }
+        ensures puts { BothKept (PutsDurably (length (state_of self.old.mirror).bytes)
+            (spare_of number (state_of self.old.mirror).bytes) result)
+            (F.kept self.old.file) (F.kept self.new.file) }
         ensures same { present (state_of self.new.mirror) ≡ present (state_of self.old.mirror) }
         ensures earlier { (state_of self.new.mirror).earlier ≡ (state_of self.old.mirror).earlier }
         ensures places { self.new.unsettled ≡ self.old.unsettled }
         ensures calls { self.new.calls ≡ self.old.calls }
-        ensures broken { self.new.is_broken ≡ true }
+        ensures gate { self.new.gate ≡ Gate.Shut }
     {
         let sector = self.sector(number);
         let spare = spare_bytes(&sector, number);
         let size = self.mirror.len();
-        if !self.put_durably(size, &spare) {
-            return false;
-        }
-        self.put_gate(1)
+        self.put_durably(size, &spare)
     }
 
     // Writes a sector by the spare place.
     fn put_by_spare(&mut self, number: usize) -> bool
+        requires shut { self.old.gate ≡ Gate.Shut }
         requires inside { 512 * number + 512 ≤ length (state_of self.old.mirror).bytes }
-        requires written { IfKept (IsWritten (512 * number) (present (state_of self.old.mirror)))
-            (F.kept self.old.file) }
-        ensures written { result ≡ true → IfKept
-            (IsWritten (512 * number + 512) (present (state_of self.new.mirror)))
-            (F.kept self.new.file) }
+        ensures shut { result ≡ true → self.new.gate ≡ Gate.Shut }
+        ensures put { BothKept (PutsBelow (512 * number) (512 * number + 512)
+            (present (state_of self.old.mirror)) result)
+            (F.kept self.old.file) (F.kept self.new.file) }
         ensures same { present (state_of self.new.mirror) ≡ present (state_of self.old.mirror) }
         ensures earlier { (state_of self.new.mirror).earlier ≡ (state_of self.old.mirror).earlier }
         ensures places { self.new.unsettled ≡ self.old.unsettled }
         ensures calls { self.new.calls ≡ self.old.calls }
-        ensures broken { self.new.is_broken ≡ true }
     {
         if !self.put_spare(number) {
+            return false;
+        }
+        if !self.open_gate(number) {
             return false;
         }
         self.put_held(number)
     }
 
-    // Writes what an opening found in the spare place, if the gate is open for a sector, and shuts the gate.
-    fn put_found(&mut self, held: Option<usize>) -> bool
-        requires inside { IfSome held
-            (λ number. 512 * number + 512 ≤ length (state_of self.old.mirror).bytes) }
-        requires opened { IfKept (IsOpenFor held (present (state_of self.old.mirror)))
-            (F.kept self.old.file) }
-        ensures shut { result ≡ true → IfKept (λ kept. IsAtRest kept
-            × IsShut (present (state_of self.new.mirror)) kept) (F.kept self.new.file) }
-        ensures same { present (state_of self.new.mirror) ≡ present (state_of self.old.mirror) }
-        ensures broken { self.new.is_broken ≡ true }
-    {
-        match held {
-            Some(number) => self.put_held(number),
-            None => self.put_gate(0),
-        }
-    }
-
-    // Shuts the gate as an opening found it: behind the sector of the spare place, where it is open for one.
-    pub(crate) fn shut(&mut self, held: Option<usize>) -> bool
-        requires inside { IfSome held
-            (λ number. 512 * number + 512 ≤ length (state_of self.old.mirror).bytes) }
-        requires opened { IfKept (IsOpenFor held (present (state_of self.old.mirror)))
-            (F.kept self.old.file) }
-        ensures same { present (state_of self.new.mirror) ≡ present (state_of self.old.mirror) }
-        ensures broken { self.new.is_broken ≡ not result }
-    {
-        if !self.put_found(held) {
-            return false;
-        }
-        self.is_broken = false;
-        true
-    }
-
-    // Writes a sector by the spare place, if one of its bytes is unsettled.
-    fn put_covered(&mut self, number: usize) -> bool
-        requires inside { 512 * number + 512 ≤ length (state_of self.old.mirror).bytes }
-        requires broken { self.old.is_broken ≡ true }
-        requires written { IfKept (IsWritten (512 * number) (present (state_of self.old.mirror)))
-            (F.kept self.old.file) }
-        ensures written { result ≡ true → IfKept
-            (IsWritten (512 * number + 512) (present (state_of self.new.mirror)))
-            (F.kept self.new.file) }
+    // Shuts the gate as it stands behind a call that failed, or as an opening found it: behind the sector for which it is open.
+    pub(crate) fn shut(&mut self) -> bool
+        ensures shut { result ≡ true → self.new.gate ≡ Gate.Shut }
         ensures same { present (state_of self.new.mirror) ≡ present (state_of self.old.mirror) }
         ensures earlier { (state_of self.new.mirror).earlier ≡ (state_of self.old.mirror).earlier }
         ensures places { self.new.unsettled ≡ self.old.unsettled }
         ensures calls { self.new.calls ≡ self.old.calls }
-        ensures broken { self.new.is_broken ≡ true }
+    {
+        match self.gate {
+            Gate::Shut => true,
+            Gate::Ajar => self.shut_gate(),
+            Gate::Open(number) => self.put_held(number),
+        }
+    }
+
+    // Writes a sector by the spare place, if one of its bytes is unsettled.
+    fn put_covered(&mut self, number: usize) -> bool
+        requires shut { self.old.gate ≡ Gate.Shut }
+        requires inside { 512 * number + 512 ≤ length (state_of self.old.mirror).bytes }
+        ensures shut { result ≡ true → self.new.gate ≡ Gate.Shut }
+        ensures put { BothKept (PutsBelow (512 * number) (512 * number + 512)
+            (present (state_of self.old.mirror)) result)
+            (F.kept self.old.file) (F.kept self.new.file) }
+        ensures same { present (state_of self.new.mirror) ≡ present (state_of self.old.mirror) }
+        ensures earlier { (state_of self.new.mirror).earlier ≡ (state_of self.old.mirror).earlier }
+        ensures places { self.new.unsettled ≡ self.old.unsettled }
+        ensures calls { self.new.calls ≡ self.old.calls }
     {
         if !touches(&self.unsettled, SECTOR * number) {
             return true;
@@ -288,45 +348,40 @@ impl<F: SectorFile> SectorDevice<F> {
 
     // Writes whole sectors that have no settled byte.
     fn put_whole(&mut self, at: usize, n: usize) -> bool
-        requires broken { self.old.is_broken ≡ true }
-        requires most { n ≤ 4096 }
+        requires shut { self.old.gate ≡ Gate.Shut }
+        requires most { n ≤ 65536 }
         requires from { HasSectors at }
         requires sectors { HasSectors n }
         requires fits { at + n ≤ length (state_of self.old.mirror).bytes }
         requires unsettled { (place : ℕ) → IsInRange at n place
             → IsTrue ((state_of self.old.mirror).unsettled place) }
-        requires written { IfKept (IsWritten at (present (state_of self.old.mirror)))
-            (F.kept self.old.file) }
-        ensures within { IfKept (LeavesLeftWithin (present (state_of self.old.mirror)) at n)
-            (F.kept self.old.file) }
-        ensures written { result ≡ true → IfKept
-            (IsWritten (at + n) (present (state_of self.new.mirror))) (F.kept self.new.file) }
+        ensures put { BothKept (PutsBelow at (at + n)
+            (present (state_of self.old.mirror)) result)
+            (F.kept self.old.file) (F.kept self.new.file) }
         ensures same { present (state_of self.new.mirror) ≡ present (state_of self.old.mirror) }
         ensures earlier { (state_of self.new.mirror).earlier ≡ (state_of self.old.mirror).earlier }
         ensures places { self.new.unsettled ≡ self.old.unsettled }
         ensures calls { self.new.calls ≡ self.old.calls }
-        ensures broken { self.new.is_broken ≡ true }
+        ensures gate { self.new.gate ≡ Gate.Shut }
     {
-        copy_out(&mut self.mirror, &mut self.file, at, n)
+        self.put_own(at, n)
     }
 
     // Writes the next sector, or more of them where they have no settled byte, and says how many; none where a call failed.
     fn put_next(&mut self, number: usize) -> Option<usize>
+        requires shut { self.old.gate ≡ Gate.Shut }
         requires inside { 512 * number < length (state_of self.old.mirror).bytes }
-        requires broken { self.old.is_broken ≡ true }
-        requires written { IfKept (IsWritten (512 * number) (present (state_of self.old.mirror)))
-            (F.kept self.old.file) }
         ensures some { IfSome result (λ count. 0 < count) }
+        ensures shut { IfSome result (λ _. self.new.gate ≡ Gate.Shut) }
         ensures inside { IfSome result (λ count. 512 * (number + count)
             ≤ length (state_of self.new.mirror).bytes) }
-        ensures written { IfSome result (λ count. IfKept
-            (IsWritten (512 * (number + count)) (present (state_of self.new.mirror)))
-            (F.kept self.new.file)) }
+        ensures put { IfSome result (λ count. BothKept (PutsBelow (512 * number)
+            (512 * (number + count)) (present (state_of self.old.mirror)) true)
+            (F.kept self.old.file) (F.kept self.new.file)) }
         ensures same { present (state_of self.new.mirror) ≡ present (state_of self.old.mirror) }
         ensures earlier { (state_of self.new.mirror).earlier ≡ (state_of self.old.mirror).earlier }
         ensures places { self.new.unsettled ≡ self.old.unsettled }
         ensures calls { self.new.calls ≡ self.old.calls }
-        ensures broken { self.new.is_broken ≡ true }
     {
         let at = SECTOR * number;
         let whole = self.unsettled.run_at(at, CHUNK) / SECTOR;
@@ -342,15 +397,14 @@ impl<F: SectorFile> SectorDevice<F> {
 
     // Writes all unsettled places, and says whether that went well.
     fn write_out(&mut self) -> bool
-        requires { self.old.is_broken ≡ false }
-        ensures written { result ≡ true → IfKept
-            (IsWrittenWhole (present (state_of self.new.mirror))) (F.kept self.new.file) }
+        requires { self.old.gate ≡ Gate.Shut }
+        ensures shut { result ≡ true → self.new.gate ≡ Gate.Shut }
+        ensures put { result ≡ true → IfKept
+            (IsPutWhole (present (state_of self.new.mirror))) (F.kept self.new.file) }
         ensures same { present (state_of self.new.mirror) ≡ present (state_of self.old.mirror) }
         ensures earlier { (state_of self.new.mirror).earlier ≡ (state_of self.old.mirror).earlier }
         ensures calls { self.new.calls ≡ self.old.calls }
-        ensures broken { self.new.is_broken ≡ true }
     {
-        self.is_broken = true;
         let mut number = self.unsettled.first().min(self.unsettled.end()) / SECTOR;
         while SECTOR * number < self.unsettled.end() {
             let Some(count) = self.put_next(number) else {
@@ -363,29 +417,28 @@ impl<F: SectorFile> SectorDevice<F> {
 
     // Makes durable what was written, and says whether that went well.
     fn flush_out(&mut self) -> bool
-        requires { IfKept (IsWrittenWhole (present (state_of self.old.mirror)))
+        requires shut { self.old.gate ≡ Gate.Shut }
+        requires put { IfKept (IsPutWhole (present (state_of self.old.mirror)))
             (F.kept self.old.file) }
         ensures saved { result ≡ true → IfKept
             (IsSavedWhole (present (state_of self.new.mirror))) (F.kept self.new.file) }
         ensures same { self.new.mirror ≡ self.old.mirror }
         ensures calls { self.new.calls ≡ self.old.calls }
-        ensures broken { self.new.is_broken ≡ not result }
+        ensures gate { self.new.gate ≡ Gate.Shut }
     {
-        self.is_broken = self.file.flush().is_err();
-        !self.is_broken
+        self.flush()
     }
 
-    // Writes all unsettled places and makes them durable, if no call has failed so far, and says whether that went well.
+    // Writes all unsettled places and makes them durable, and says whether that went well.
     fn save(&mut self) -> bool
+        ensures shut { result ≡ true → self.new.gate ≡ Gate.Shut }
         ensures saved { result ≡ true → IfKept
             (IsSavedWhole (present (state_of self.new.mirror))) (F.kept self.new.file) }
         ensures same { present (state_of self.new.mirror) ≡ present (state_of self.old.mirror) }
         ensures earlier { (state_of self.new.mirror).earlier ≡ (state_of self.old.mirror).earlier }
         ensures calls { self.new.calls ≡ self.old.calls }
-        ensures fault { self.old.is_broken ≡ true → result ≡ false }
-        ensures broken { self.new.is_broken ≡ not result }
     {
-        if self.is_broken {
+        if !self.shut() {
             return false;
         }
         if !self.write_out() {
@@ -411,11 +464,9 @@ impl<F: SectorFile> SaveDevice for SectorDevice<F> {
     }
 
     fn write_at(&mut self, at: usize, bytes: &[u8]) -> Result<(), DeviceFault> {
-        let _done = self.mirror.write_at(at, bytes);
         self.unsettled.add(at, bytes.len());
-        let is_good = !self.is_broken;
-        self.calls.note(CallKind::Write, is_good);
-        if is_good { Ok(()) } else { Err(DeviceFault) }
+        self.calls.note(CallKind::Write, true);
+        self.mirror.write_at(at, bytes)
     }
 
     fn sync(&mut self) -> Result<(), DeviceFault>
@@ -423,7 +474,7 @@ impl<F: SectorFile> SaveDevice for SectorDevice<F> {
             (with_calls (state_of self.old.mirror) self.old.calls)
             (with_calls (state_of self.new.mirror) self.new.calls) }
 
-        // The file has all bytes on the disk where it is told so.
+        // The disk has all bytes where it is told so.
         ensures saved { OnOk result
             (IfKept (IsSavedWhole (present (state_of self.new.mirror)))
             (F.kept self.new.file)) }

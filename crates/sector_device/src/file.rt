@@ -13,7 +13,8 @@ pub(crate) const SECTOR: usize = 512;
 /// that says `None` claims nothing, as that of a real file does.
 ///
 /// Where it is said: what was flushed stays. A stop at whatever moment of a call may leave anything in each sector of 512 bytes that
-/// was touched since, and leaves all other bytes as they are. A flush doesn't settle what was put before a call failed.
+/// was touched since, and leaves all other bytes as they are. A flush doesn't settle what was put before a call failed, until it is
+/// put again: a kernel may drop pages that it failed to write.
 pub trait SectorFile {
     /// What is known of the file.
     ghost kept: { Self → Option Kept };

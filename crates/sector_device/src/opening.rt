@@ -1,14 +1,14 @@
 // The opening of a device over a file of sectors.
-ghost use Rattle.std.specs.Prelude.{◌≡◌, ◌≢◌, ◌+◌, ◌*◌, ◌≤◌, length, slice_index, slice_range, IfOk, IfSome, IsNone, true, false};
+ghost use Rattle.std.specs.Prelude.{◌≡◌, ◌+◌, ◌*◌, ◌≤◌, length, slice_range, IfOk, IfSome, IsNone, true, false};
 ghost use Rattle.std.specs.Int.{w64, from_le_bytes};
 ghost use Rattle.save_device.specs.Device.{IsSettled};
 ghost use Rattle.save_device.specs.Memory.{state_of};
 ghost use Rattle.file_device.specs.Kept.{IfKept, IsAtRest};
-ghost use Rattle.sector_device.specs.Spare.{found_in, gate_at, is_open, spare_number, spare_size};
-ghost use Rattle.sector_device.specs.Backing.{HasSectors, IsOpenFor};
+ghost use Rattle.sector_device.specs.Spare.{found_in, is_open, spare_number, spare_size};
+ghost use Rattle.sector_device.specs.Backing.{HasSectors, IsFoundGate};
 
 use crate::SectorFile;
-use crate::device::{GATE, SectorDevice};
+use crate::device::{GATE, Gate, SectorDevice};
 use crate::file::SECTOR;
 use file_device::Places;
 use save_device::{CallLog, MemoryDevice, SaveDevice};
@@ -24,15 +24,6 @@ fn device_len(n: usize) -> Option<usize>
 {
     let size = n.checked_sub(SPARE_PLACE)?;
     if size % SECTOR == 0 { Some(size) } else { None }
-}
-
-// Whether the gate of a device of so many bytes is shut.
-fn is_shut(bytes: &[u8], size: usize) -> bool
-    requires { length bytes.now ≡ size + spare_size }
-    ensures shut { result ≡ true → slice_index bytes.now (gate_at size) ≡ 0 }
-    ensures ajar { result ≡ false → slice_index bytes.now (gate_at size) ≢ 0 }
-{
-    bytes[size + GATE] == 0
 }
 
 // The number in eight bytes.
@@ -81,6 +72,18 @@ fn found(mut bytes: Vec<u8>, size: usize, held: Option<usize>) -> Vec<u8>
     bytes
 }
 
+// How the gate stands as an opening finds it.
+fn gate_found(bytes: &[u8], size: usize, held: Option<usize>) -> Gate
+    requires { length bytes.now ≡ size + spare_size }
+    ensures { IsFoundGate size bytes.now held result }
+{
+    match held {
+        Some(number) => Gate::Open(number),
+        None if bytes[size + GATE] == 0 => Gate::Shut,
+        None => Gate::Ajar,
+    }
+}
+
 impl<F: SectorFile + Drop> SectorDevice<F> {
     /// A device with what an opening of the file finds, all of which is on the disk: where a stop came while a sector was written
     /// by the spare place, it is put back first. A file whose length isn't one of whole sectors with the spare place is refused. It
@@ -90,27 +93,24 @@ impl<F: SectorFile + Drop> SectorDevice<F> {
         ensures bytes { IfOk result (λ device. IfKept (λ kept. (state_of device.mirror).bytes
             ≡ found_in (length (state_of device.mirror).bytes) kept.bytes) (F.kept file)) }
         ensures settled { IfOk result (λ device. IsSettled (state_of device.mirror)) }
-        ensures whole { IfOk result (λ device. device.is_broken ≡ false) }
+        ensures shut { IfOk result (λ device. device.gate ≡ Gate.Shut) }
     {
         let bytes = file.load(alloc)?;
         let Some(size) = device_len(bytes.len()) else {
             return Err(ErrorKind::InvalidData.into());
         };
-        let is_shut = is_shut(&bytes, size);
         let held = open_sector(&bytes, size);
+        let gate = gate_found(&bytes, size, held);
         let mirror = MemoryDevice::new(alloc, found(bytes, size, held))?;
         let unsettled = Places::none(alloc, size)?;
         let mut device = SectorDevice {
             mirror,
             unsettled,
             file,
-            is_broken: !is_shut,
+            gate,
             calls: CallLog::new(),
         };
-        if is_shut {
-            return Ok(device);
-        }
-        if !device.shut(held) {
+        if !device.shut() {
             return Err(ErrorKind::Other.into());
         }
         Ok(device)

@@ -8,3 +8,4 @@ mod Begun
 mod Beginning
 mod ByGate
 mod OwnLines
+mod Leaving

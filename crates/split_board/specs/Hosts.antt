@@ -1,5 +1,5 @@
 -- What a host's write and read at a board come to.
-use Rattle.std.specs.Prelude.{◌≡◌, ◌⊎◌, ℕ, List, Result, Ok, Err}
+use Rattle.std.specs.Prelude.{◌≡◌, ◌⊎◌, ℕ, List, Option, Result, Ok, Err}
 use Rattle.line_memory.specs.declared.Write.{Write}
 use Rattle.save_device.specs.declared.device.SaveDevice.{Ghosts as DeviceGhosts}
 use Rattle.energy_budget.specs.declared.energy.Energy.{Ghosts as GaugeGhosts}
@@ -9,9 +9,10 @@ use Rattle.channel_port.specs.declared.answers.Collected.TheVariants.{Data}
 use Rattle.channel_port.specs.declared.answers.Got.{Got}
 use Rattle.channel_port.specs.declared.answers.Got.TheVariants.{Now, Later}
 use Rattle.channel_port.specs.declared.answers.Ticket.{Ticket}
+use Rattle.channel_part.specs.declared.part.Part.{Part}
 use Rattle.channel_port.specs.declared.port.ChannelPort.{Ghosts}
 use Rattle.channel_locks.specs.declared.parts_name.PartsName.{Ghosts as PartsGhosts}
-use Rattle.channel_locks.specs.Lent.{LentRoom}
+use Rattle.channel_locks.specs.Lent.{IsLentBy, LentRoom}
 use Rattle.nv_machine.specs.declared.events.Event.TheVariants as events
 use Rattle.nv_machine.specs.declared.events.Reply.TheVariants as replies
 use Rattle.nv_workers.specs.declared.board_name.BoardName.{Ghosts as BoardGhosts}
@@ -19,7 +20,7 @@ use Rattle.nv_workers.specs.declared.host.GotAt.{GotAt}
 use Rattle.nv_workers.specs.declared.host.Receipt.{Receipt}
 use Rattle.nv_workers.specs.Client.{Client}
 use Rattle.board_desk.specs.declared.desk.Desk.{Desk}
-use Rattle.board_desk.specs.Answering.{DeskAnswers, IsAskedFor}
+use Rattle.board_desk.specs.Answering.{DeskAnswers, DoneWithLent, IsAskedFor, KeepsPort, PutsWrite, ReadsLine}
 use Rattle.board_desk.specs.Hosting.{HostWritesAtDesk}
 use Rattle.board_desk.specs.Views.{desk_of}
 use Rattle.split_board.specs.Turns.{AwaitsOwn, LooksFor, ServesFirst}
@@ -31,12 +32,27 @@ abbrev pub asked_at : {B : Type 0} → Asked B → ℕ
 asked_at (asked.Now seen) = seen.at
 asked_at (asked.Later claim) = claim.at
 
+module _ {K : Type 0} (L : Ghosts K) where
+  -- What a write with this answer left of what its channel's lock lent: an accepted one waits there. No command was issued.
+  abbrev pub WritesLent : Result Receipt WriteRefusal → Option (Part K L) → Option (Part K L) → Type 0
+  WritesLent (Ok receipt) old new = DoneWithLent L (PutsWrite L receipt.number) old new
+  WritesLent (Err refusal) old new = DoneWithLent L (KeepsPort L) old new
+
+  -- What a read of a line with this answer left: a ticket is open there. No command was issued.
+  abbrev pub ReadsLent : ℕ → ℕ → Result Got ReadRefusal → ℕ → Option (Part K L) → Option (Part K L) → Type 0
+  ReadsLent channel line (Ok got) at old new = DoneWithLent L (ReadsLine L line channel (record { got = got; at = at })) old new
+  ReadsLent channel line (Err refusal) at old new = DoneWithLent L (KeepsPort L) old new
+
 module _ {K D E B : Type 0} (L : Ghosts K) (M : DeviceGhosts D) (N : GaugeGhosts E) (O : BoardGhosts B) (P : PartsGhosts B) where
   -- Under the board's lock and this channel's a write was answered so.
   pub record LentForWrite (channel : ℕ) (write : Write) (result : Result Receipt WriteRefusal) (host told : Client) : Type 0 where
     pub before : Desk K D E B L M N O P
     pub after : Desk K D E B L M N O P
     pub writes : HostWritesAtDesk L M N O P channel write result host told before after
+    pub part : Option (Part K L)
+    pub lent : IsLentBy L P channel part
+    pub left : Option (Part K L)
+    pub leaves : WritesLent L result part left
 
   -- Room was made on the line's channel under that channel's lock alone, and then the write was answered so.
   pub record WritesAtBoard (write : Write) (result : Result Receipt WriteRefusal) (host told : Client) : Type 0 where
@@ -51,6 +67,10 @@ module _ {K D E B : Type 0} (L : Ghosts K) (M : DeviceGhosts D) (N : GaugeGhosts
     pub after : Desk K D E B L M N O P
     pub reads : DeskAnswers P channel (events.Read line) (replies.Read answer) (desk_of L M N O P before) (desk_of L M N O P after)
     pub counted : at ≡ before.split.front.accepted
+    pub part : Option (Part K L)
+    pub lent : IsLentBy L P channel part
+    pub left : Option (Part K L)
+    pub leaves : ReadsLent L channel line answer at part left
 
   -- a line was asked for at its channel, and this was answered there
   pub record AsksAtBoard (line : ℕ) (told : Got) (at : ℕ) : Type 0 where

@@ -8,7 +8,7 @@ use Rattle.channel_port.specs.declared.port.ChannelPort.{Ghosts}
 use Rattle.channel_part.specs.declared.part.Part.{Part}
 use Rattle.channel_locks.specs.declared.parts_name.PartsName.{Ghosts as PartsGhosts}
 use Rattle.channel_locks.specs.Lent.{IsLentBy}
-use Rattle.channel_locks.specs.Unlocked.{ports_in}
+use Rattle.channel_locks.specs.Unlocked.{issued_by, ports_in}
 use Rattle.module_core.specs.Draining.{WhereDrained}
 use Rattle.nv_machine.specs.State.{Machine}
 use Rattle.nv_workers.specs.declared.board_name.BoardName.{Ghosts as BoardGhosts}
@@ -17,6 +17,7 @@ use Rattle.nv_workers.specs.declared.checking.Stranger.{Stranger}
 use Rattle.nv_workers.specs.declared.host.Receipt.{Receipt}
 use Rattle.worker_loops.specs.declared.awaiting.Seen.{Seen}
 use Rattle.nv_workers.specs.declared.saver.Saving.{Saving}
+use Rattle.nv_machine.specs.declared.events.StepReply.TheVariants as step
 use Rattle.nv_workers.specs.declared.saver.Saving.TheVariants.{Began, Stepped, Rested, Closed}
 use Rattle.nv_workers.specs.Ending.{AreChecked, IsStranger}
 use Rattle.nv_workers.specs.Savers.{turn_of, turn_taken, working_of}
@@ -25,14 +26,31 @@ use Rattle.worker_loops.specs.declared.shift.Working.{Working}
 use Rattle.board_desk.specs.declared.desk.Desk.{Desk}
 use Rattle.board_desk.specs.Calling.{Course, Paused, loss_course, save_begin_course, save_step_course}
 use Rattle.board_desk.specs.Desk.{DeskStands}
-use Rattle.board_desk.specs.Losing.{DrainsBehind, LosesWhole}
+use Rattle.board_desk.specs.Losing.{DrainsBehind, LosesWhole, WhereUndrained}
 use Rattle.board_desk.specs.Views.{desk_of}
 use Rattle.board_desk.specs.Whole.{WholeAnswers}
 
+-- how long a saver sleeps behind a turn in which it worked, in microseconds: three milliseconds behind the end of a save, whether that
+-- went well or not, and one microsecond behind any other
+abbrev pub sleep_behind : Saving → ℕ
+sleep_behind (Stepped (step.Saved generation count)) = 3000
+sleep_behind (Stepped step.Fault) = 3000
+sleep_behind saving = 1
+
 module _ {K D E B : Type 0} (L : Ghosts K) (M : DeviceGhosts D) (N : GaugeGhosts E) (O : BoardGhosts B) (P : PartsGhosts B) where
-  -- A call of the whole module was this to the life.
-  abbrev pub CallsWhole : Course → Desk K D E B L M N O P → Desk K D E B L M N O P → Type 0
-  CallsWhole course old new = WholeAnswers P course (desk_of L M N O P old) (desk_of L M N O P new)
+  -- the locks of the channels from this one on lent these, in order
+  abbrev pub AreLentFrom : ℕ → List (Option (Part K L)) → Type 0
+  AreLentFrom channel [] = Unit {0}
+  AreLentFrom channel (part ∷ parts) = IsLentBy L P channel part × AreLentFrom (suc channel) parts
+
+  -- A call of the whole module was this to the life. None of the channels that the eight locks lent for it has issued a command in it.
+  pub record CallsWhole (course : Course) (old new : Desk K D E B L M N O P) : Type 0 where
+    pub answers : WholeAnswers P course (desk_of L M N O P old) (desk_of L M N O P new)
+    pub parts : List (Option (Part K L))
+    pub eight : length parts ≡ 8
+    pub lent : AreLentFrom 0 parts
+    pub left : List (Option (Part K L))
+    pub issued : issued_by L left ≡ issued_by L parts
 
   -- the same of what lies behind the board's lock, with what the call's answer tells of the record
   pub record CallsLocked (course : Course) (told : ℕ → Recorded → Recorded → Type 0) (old new : Option (Desk K D E B L M N O P)) : Type 0 where
@@ -49,20 +67,17 @@ module _ {K D E B : Type 0} (L : Ghosts K) (M : DeviceGhosts D) (N : GaugeGhosts
     pub after : Desk K D E B L M N O P
     pub calls : CallsWhole course before after
 
-  -- the locks of the channels from this one on lent these, in order
-  abbrev pub AreLentFrom : ℕ → List (Option (Part K L)) → Type 0
-  AreLentFrom channel [] = Unit {0}
-  AreLentFrom channel (part ∷ parts) = IsLentBy L P channel part × AreLentFrom (suc channel) parts
-
   -- Mains were lost: it was this to the life, and all drains were paid for before the first of them. Where they were paid for, the gate
   -- that was given was asked before the drain of each channel, and what the eight locks lent has the ports that these drains leave.
+  -- Where no drain was begun no channel has issued a command.
   pub record LosesAtDesk {G : Type 0} (H : GateGhosts G) (gate : G) (lost : Loss) (old new : Desk K D E B L M N O P) : Type 0 where
-    pub calls : CallsWhole (loss_course lost) old new
+    pub answers : WholeAnswers P (loss_course lost) (desk_of L M N O P old) (desk_of L M N O P new)
     pub loses : LosesWhole P lost (desk_of L M N O P old) (desk_of L M N O P new)
     pub parts : List (Option (Part K L))
     pub eight : length parts ≡ 8
     pub lent : AreLentFrom 0 parts
     pub left : List (Option (Part K L))
+    pub issued : WhereUndrained lost (issued_by L left ≡ issued_by L parts)
     pub drains : WhereDrained lost (DrainsBehind L H gate (ports_in L parts) (ports_in L left))
 
   -- the same of what lies behind the board's lock

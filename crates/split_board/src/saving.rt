@@ -1,7 +1,7 @@
 // The saver.
 ghost use Rattle.std.specs.Prelude.{◌≡◌};
 ghost use Rattle.split_board.specs.Turns.{WorksByGate};
-ghost use Rattle.split_board.specs.Wholes.{LentTurnOfSaver, SavesLocked, WorksAsSaver};
+ghost use Rattle.split_board.specs.Wholes.{LentTurnOfSaver, SavesLocked, WorksAsSaver, sleep_behind};
 
 use crate::board::Board;
 use crate::calling::call_locked;
@@ -30,7 +30,9 @@ const LETS_IN: u64 = 1;
 const BETWEEN_SAVES: u64 = 3_000;
 
 // How long a saver sleeps behind a turn in which it worked, in microseconds.
-fn sleep_behind(saving: Saving) -> u64 {
+fn sleep_behind(saving: Saving) -> u64
+    ensures { result ≡ sleep_behind saving }
+{
     match saving {
         Saving::Stepped(StepReply::Saved { .. } | StepReply::Fault) => BETWEEN_SAVES,
         _ => LETS_IN,

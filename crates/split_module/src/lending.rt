@@ -1,10 +1,13 @@
 // What becomes of a front with the part of one channel.
-ghost use Rattle.std.specs.Prelude.{◌≡◌, ◌+◌, ◌<◌, ◌≤◌, IfErr, IfOk};
+ghost use Rattle.std.specs.Prelude.{◌≡◌, ◌+◌, ◌<◌, ◌≤◌, ℕ, List, IfErr, IfOk};
 ghost use Rattle.arm_state.specs.Modes.{has_ended};
 ghost use Rattle.channel_log.specs.declared.entry.LogEntry.TheVariants.{Looked, Wrote};
+ghost use Rattle.channel_log.specs.Log.{LogNote, log_tells};
+ghost use Rattle.channel_port.specs.Answers.{IsGot};
 ghost use Rattle.channel_port.specs.Waits.{AllBelow};
-ghost use Rattle.line_memory.specs.Parts.{numbered};
-ghost use Rattle.channel_part.specs.Stands.{SameButPort, StandsNoted, queue_of, returned_of};
+ghost use Rattle.line_memory.specs.Memory.{after, line_of};
+ghost use Rattle.line_memory.specs.Parts.{numbered, writes_of};
+ghost use Rattle.channel_part.specs.Stands.{PartStands, SameButPort, StandsNoted, queue_of, returned_of};
 ghost use Rattle.channel_port.specs.View.{with_write};
 ghost use Rattle.module_core.specs.Fronts.{AcceptsOne};
 ghost use Rattle.split_module.specs.Lending.{LooksAt, ReadsOn, WritesOn};
@@ -54,6 +57,7 @@ pub fn write_on<K: ChannelPort>(
     ensures taken { returned_of K.ChannelPort part.new ≡ 0 }
     ensures puts { IfOk result (λ accepted. K.view part.new.port
         ≡ with_write accepted.number (K.view part.old.port)) }
+    ensures issued { K.issued part.new.port ≡ K.issued part.old.port }
     ensures channel { part.new.channel ≡ part.old.channel }
     ensures ended { part.new.ended ≡ part.old.ended }
     ensures accepts { IfOk result (λ accepted.
@@ -96,6 +100,13 @@ pub fn read_on<K: ChannelPort>(
     ensures rest { K.view part.new.port ≡ record (K.view part.old.port) {
       waits = (K.view part.new.port).waits;
     } }
+    ensures got { (base : List (List ℕ)) (log : List LogNote)
+        → PartStands K.ChannelPort part.old part.old.channel base log
+        → IfOk result (λ got. IsGot
+        (line_of (after base (writes_of (log_tells log).written)) line)
+        line front.now.front.accepted part.old.channel got
+        (K.view part.old.port).waits (K.view part.new.port).waits) }
+    ensures issued { K.issued part.new.port ≡ K.issued part.old.port }
     ensures kept { SameButPort K.ChannelPort part.old part.new }
     ensures same { IfErr result (λ refusal. part.new ≡ part.old) }
 {

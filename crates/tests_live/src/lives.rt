@@ -9,6 +9,9 @@ use std::test::Fail;
 /// The calls of a file by which a life restores, which is the first one, and arms, and some more.
 const CALLS: u64 = 16;
 
+/// The calls by which it restores and saves, and some more.
+const SAVE_CALLS: u64 = 48;
+
 #[test]
 fn each_line_is_answered(rt: HostRuntime) -> Result<(), Fail> {
     let ended = live(
@@ -103,6 +106,20 @@ fn a_failed_sync_is_made_up_for(rt: HostRuntime) -> Result<(), Fail> {
     );
     let ended = live(&rt, after_a_stop(&rt, ended.device?), "read 0\n");
     assert_eq!(rt; ended.text.ends_with(b"Complete\nline 0 = 11\n"), true);
+    Ok(())
+}
+
+#[test]
+fn a_failed_call_of_a_file_of_sectors_is_made_up_for(rt: HostRuntime) -> Result<(), Fail> {
+    // one by one the calls of the file fail by which a life saves, and no later one
+    for call in 1..SAVE_CALLS {
+        let ended = live(&rt, on_sectors(&rt), "write 0 11\nsave\n");
+        let device = sectors_after_a_stop(&rt, ended.device?, 1 << call);
+        let ended = live(&rt, device, "write 1 22\nsave\nsave\nsave\n");
+        let device = sectors_after_a_stop(&rt, ended.device?, 0);
+        let ended = live(&rt, device, "read 0\nread 1\n");
+        assert!(rt; ended.text.ends_with(b"Complete\nline 0 = 11\nline 1 = 22\n"));
+    }
     Ok(())
 }
 

@@ -1,5 +1,5 @@
 -- Mains are lost, with all locks held.
-use Rattle.std.proofs.Common.{subst, sym, ◌∙◌}
+use Rattle.std.proofs.Common.{ap, map, subst, sym, ◌∙◌}
 use Rattle.nv_machine.specs.State.{Machine}
 use Rattle.std.specs.Arc.{arc_value}
 use Rattle.board_desk.specs.Asking.{CameBy, pieces_with}
@@ -10,6 +10,7 @@ use Rattle.board_desk.specs.Views.{desk_of}
 use Rattle.board_desk.specs.Whole.{CallAnswers, WholeAnswers}
 use Rattle.board_desk.proofs.Drained.{drains_same}
 use Rattle.board_desk.proofs.KeptWhole.{pieces_kept}
+use Rattle.board_desk.proofs.Quiet.{undrained_by}
 use Rattle.board_desk.proofs.Wholly.{loses_whole, same_world, whole_answers}
 use Rattle.board_desk.proofs.all_locks.lose.Given.{Over}
 use Rattle.board_desk.proofs.all_locks.lose.Goals.{After-lose}
@@ -66,6 +67,8 @@ returns g c =
           (subst (λ (d : DeskView). Loses g at.After-lose d later) c.lend_out-rest.ensures.view
           (subst (λ (d : DeskView). Loses g at.After-lose (lent g at.After-lose) d) (sym c.bring_back.ensures.view)
           (λ m s. lost g at.After-lose m s c.bring_back.result.desk.known.logs c.bring_back.ensures.restated))));
+      issued = undrained_by c.bring_back.result.answer c.lose.result.answer c.bring_back.ensures.answer
+          (λ none. sym (ap (map g.K.ChannelPort.issued) c.bring_back.ensures.ports) ∙ none ∙ ap (map g.K.ChannelPort.issued) (c.lend_out-rest.ensures.ports ∙ c.settle_all.ensures.ports)) c.lose.ensures.issued;
       drains = drains_same g.K.ChannelPort g.G.Gate c.args.gate.now c.bring_back.result.answer c.lose.result.answer c.bring_back.ensures.answer _ _ c.lend_out-rest.result.rest.pieces.ports.items c.lose.result.rest.pieces.ports.items
           (c.lend_out-rest.ensures.ports ∙ c.settle_all.ensures.ports) c.bring_back.ensures.ports c.lose.ensures.drains;
     }

@@ -1,5 +1,5 @@
 -- A call of the whole module, with all locks held.
-use Rattle.std.proofs.Common.{ap, subst, sym, ℕ, ◌∙◌, ◌≡◌}
+use Rattle.std.proofs.Common.{ap, map, subst, sym, ℕ, ◌∙◌, ◌≡◌}
 use Rattle.std.specs.Arc.{arc_value}
 use Rattle.line_memory.specs.History.{Recorded}
 use Rattle.module_core.specs.declared.front.Front.{Front}
@@ -62,3 +62,8 @@ returns-clause-told g c =
     (subst (λ (h : Recorded). told done.answer c.args.desk.split.front.saved c.args.desk.history h) (sym c.bring_back.ensures.history)
     (subst (λ (h : Recorded). told done.answer c.args.desk.split.front.saved h done.rest.history) first
     (subst (λ (n : ℕ). told done.answer n c.lend_out-rest.result.rest.history done.rest.history) saved c.call.ensures.told)))
+
+pub returns-clause-issued : goal.returns-clause-issued
+returns-clause-issued g c =
+    let Lists = map g.K.ChannelPort.issued in
+    sym (ap Lists c.bring_back.ensures.ports) ∙ c.call.ensures.issued ∙ ap Lists (c.lend_out-rest.ensures.ports ∙ c.settle_all.ensures.ports)

@@ -1,4 +1,4 @@
-use Rattle.std.proofs.Common.{◌≡◌, ◌∙◌, ℕ, [], ap, arith, subst, sym}
+use Rattle.std.proofs.Common.{◌≡◌, ◌∙◌, ℕ, [], ap, arith, inr, subst, sym}
 use Rattle.std.proofs.lemmas.Grind.{merely}
 use Rattle.line_memory.specs.History.{Recorded, recorded}
 use Rattle.save_device.specs.Device.{DeviceState}
@@ -8,6 +8,7 @@ use Rattle.slot_store.specs.Rest.{IsAtRestOn}
 use Rattle.slot_store.specs.Slots.{HasSize}
 use Rattle.slot_store.specs.Told.{image_of_restored}
 use Rattle.slot_store.specs.declared.head.Head.{Head}
+use Rattle.slot_store.specs.declared.restoring.RestoreError.{RestoreError}
 use Rattle.channel_port.specs.declared.port.ChannelPort.{Ghosts}
 use Rattle.save_device.specs.declared.device.SaveDevice.{Ghosts as DeviceGhosts}
 use Rattle.nv_machine.specs.State.{Setup}
@@ -16,6 +17,8 @@ use Rattle.module_core.specs.Opening.{opened_with}
 use Rattle.module_core.specs.Stands.{ModuleStands}
 use Rattle.nv_workers.specs.Kept.{HasJustBegun}
 use Rattle.nv_workers.proofs.Beginning.{begun_is_kept, begun_is_whole}
+use Rattle.ddr4_boards.specs.Restored.{HadOneRefused, HadOneRestore}
+use Rattle.ddr4_boards.proofs.Restoring.{had_one_refused, refused_by_faults, restored_spared}
 use Rattle.ddr4_boards.proofs.opening.open.Goals as goal
 use Rattle.ddr4_boards.proofs.opening.open.Goals.{In-Ok-begin}
 
@@ -82,3 +85,37 @@ returns-clause-restored g c =
       finds = subst (λ (lines : ℕ). restored lines bytes ≡ Found it.head.newest.slot image) c.capacity_of-lines.ensures.is read.found.newest;
       records = c.in-Ok-begin.ensures.history;
     }
+
+-- the calls that found the image
+restored_once : (g : _) (c : In-Ok-begin g) → HadOneRestore c.capacity_of-lines.result (g.D.SaveDevice.state c.args.device) (g.D.SaveDevice.state c.restore.new.device)
+restored_once g c = (c.in-Ok.restored, c.in-Ok.ensures.calls)
+
+pub returns-clause-calls : goal.returns-clause-calls
+returns-clause-calls g c =
+    let at = goal.at.returns-clause-calls g c in
+    subst (λ (lines : ℕ). HadOneRestore lines (g.D.SaveDevice.state c.args.device) (g.D.SaveDevice.state c.restore.new.device)) c.capacity_of-lines.ensures.is (restored_once g at.In-Ok-begin)
+
+pub returns-clause-spared : goal.returns-clause-spared
+returns-clause-spared g c =
+    let at = goal.at.returns-clause-spared g c in
+    restored_spared c.capacity_of-lines.result (g.D.SaveDevice.state c.args.device) (g.D.SaveDevice.state c.restore.new.device) (restored_once g at.In-Ok-begin)
+
+pub returns-in-Err-clause-refused_calls : goal.returns-in-Err-clause-refused_calls
+returns-in-Err-clause-refused_calls g c =
+    let old = g.D.SaveDevice.state c.args.device in
+    let new = g.D.SaveDevice.state c.restore.new.device in
+    subst (λ (lines : ℕ). HadOneRefused lines c.in-Err.error old new) c.capacity_of-lines.ensures.is (had_one_refused c.capacity_of-lines.result c.in-Err.error old new c.in-Err.ensures.calls)
+
+pub returns-in-Err-clause-faults : goal.returns-in-Err-clause-faults
+returns-in-Err-clause-faults g c =
+    refused_by_faults c.capacity_of-lines.result c.in-Err.error (g.D.SaveDevice.state c.args.device) (g.D.SaveDevice.state c.restore.new.device) c.in-Err.ensures.calls
+
+pub returns-in_default-clause-refused_calls : goal.returns-in_default-clause-refused_calls
+returns-in_default-clause-refused_calls g c =
+    let old = g.D.SaveDevice.state c.args.device in
+    let new = g.D.SaveDevice.state c.restore.new.device in
+    subst (λ (lines : ℕ). HadOneRefused lines RestoreError.Memory old new) c.capacity_of-lines.ensures.is (inr (c.in-Ok.restored, c.in-Ok.ensures.calls))
+
+pub returns-in_default-clause-faults : goal.returns-in_default-clause-faults
+returns-in_default-clause-faults g c =
+    restored_spared c.capacity_of-lines.result (g.D.SaveDevice.state c.args.device) (g.D.SaveDevice.state c.restore.new.device) (c.in-Ok.restored, c.in-Ok.ensures.calls)

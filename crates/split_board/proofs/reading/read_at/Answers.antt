@@ -11,6 +11,10 @@ returns-in-Ok-clause-read g c = record {
     after = c.read_in.new.self;
     reads = c.in-Ok.ensures.ok;
     counted = c.in-Ok.ensures.at;
+    part = c.deref_mut-2.result.now.part;
+    lent = (c.deref_mut-2.result.now.seat.log, c.deref_mut-2.result.now.kept.part_is);
+    left = c.read_in.new.slot.part;
+    leaves = c.in-Ok.ensures.reads;
   };
   serves = c.served-got.ensures.serves;
 }
@@ -25,5 +29,9 @@ returns-in-Err-clause-read g c = record {
     after = c.read_in.new.self;
     reads = c.in-Err.ensures.err;
     counted = refl;
+    part = c.deref_mut-2.result.now.part;
+    lent = (c.deref_mut-2.result.now.seat.log, c.deref_mut-2.result.now.kept.part_is);
+    left = c.read_in.new.slot.part;
+    leaves = c.in-Err.ensures.keeps;
   };
 }

@@ -37,3 +37,10 @@ returns-in-None-clause-reads g c = λ shape m logs log s of seen stands on.
     let got = subst (λ k. IsGot bytes c.args.line k part.channel c.read.result (L.view part.port).waits (L.view later.port).waits) c.accepted.ensures.is (c.read.ensures.got part.channel (base_of_life m.life) log stands) in
     read L front part later c.args.line c.read.result c.read.ensures.writes shape m logs log s of seen (on least) own got
     (sym (c.read_refusal.ensures.refusal shape m c.args.line s.matches least full) ∙ c.in-None.is)
+
+pub returns-in-None-clause-got : goal.returns-in-None-clause-got
+returns-in-None-clause-got g c = λ base log stands.
+    let L = g.K.ChannelPort in
+    let part = c.args.part.now in
+    let bytes = line_of (after base (writes_of (log_tells log).written)) c.args.line in
+    subst (λ k. IsGot bytes c.args.line k part.channel c.read.result (L.view part.port).waits (L.view c.read.new.self.port).waits) c.accepted.ensures.is (c.read.ensures.got part.channel base log stands)

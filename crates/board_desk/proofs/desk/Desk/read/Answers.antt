@@ -27,6 +27,10 @@ use Rattle.board_desk.proofs.Noted.{elsewhere_noted, front_noted, logs_noted, se
 use Rattle.board_desk.proofs.Ticketed.{ticket_of, ticket_stepped}
 use Rattle.board_desk.proofs.desk.Desk.read.Given.{Over}
 use Rattle.board_desk.proofs.desk.Desk.read.Goals.{After-inform, After-look_at}
+use Rattle.channel_port.specs.Answers.{IsGot}
+use Rattle.line_memory.specs.Memory.{after, line_of}
+use Rattle.line_memory.specs.Parts.{writes_of}
+use Rattle.board_desk.proofs.Quiet.{keeps_port, reads_line}
 use Rattle.board_desk.proofs.desk.Desk.read.Goals as goal
 
 pub unreachable-requires : goal.unreachable-requires
@@ -210,3 +214,21 @@ returns-in-Err-clause-err g c = λ m s.
     behind P g.C.ChannelName.NUMBER (Event.Read c.args.line) (Reply.Read (Err c.in-Err.refusal)) old (mid g it) (mid g it) m same.front same.costs (ap g.D.SaveDevice.state same.device) (ap g.E.Energy.gauge same.energy) on
     (read_refused P (mid g it) on.seen on.stands desk.kept.shape (mid g it) refl refl refl refl refl refl refl g.K.ChannelPort part c.read_on.new.part log
     (has_channel P (mid g it) desk.kept.stands g.K.ChannelPort part g.C.ChannelName.NUMBER log (due g it) (of g it)) c.args.line c.in-Err.refusal read refl refl refl)))
+
+pub returns-in-Ok-clause-reads : goal.returns-in-Ok-clause-reads
+returns-in-Ok-clause-reads g c =
+    let at = goal.at.returns-in-Ok-clause-reads g c in
+    let it = at.After-look_at in
+    let L = g.K.ChannelPort in
+    let part = c.in-Some.part in
+    let later = c.read_on.new.part in
+    let log = c.settle.new.slot.seat.log in
+    reads_line L c.args.slot.now.part c.settle.new.slot.part part later c.settle.ensures.part c.in-Some.is c.args.line g.C.ChannelName.NUMBER _ g.B.PartsName.base log c.in-Ok.ensures.rest c.in-Ok.ensures.issued (part_own g it)
+    (λ base log stands.
+    subst (λ n. IsGot (line_of (after base (writes_of (log_tells log).written)) c.args.line) c.args.line n part.channel c.in-Ok.got (L.view part.port).waits (L.view later.port).waits) (sym c.accepted_by-at.ensures)
+    (c.in-Ok.ensures.got base log stands))
+    (∥∥₁_map (part_due g it) (λ h. h.1.stands))
+
+pub returns-in-Err-clause-keeps : goal.returns-in-Err-clause-keeps
+returns-in-Err-clause-keeps g c =
+    keeps_port g.K.ChannelPort c.args.slot.now.part c.settle.new.slot.part c.in-Some.part c.read_on.new.part c.settle.ensures.part c.in-Some.is c.in-Err.ensures.same

@@ -27,6 +27,7 @@ use Rattle.board_desk.proofs.Lending.{IsDue, channel_due, due_part, none_due}
 use Rattle.board_desk.proofs.Wrote.{IsNotedWrite, Written, elsewhere_noted, follows, has_room, more_accepted, same_terms, shows_no_more, slot_noted, table_noted}
 use Rattle.board_desk.proofs.desk.Desk.write.Given.{Over}
 use Rattle.board_desk.proofs.desk.Desk.write.Goals.{After-always, After-note, After-note_write}
+use Rattle.board_desk.proofs.Quiet.{puts_write, refused_write}
 use Rattle.board_desk.proofs.desk.Desk.write.Goals as goal
 
 pub unreachable-requires : goal.unreachable-requires
@@ -214,3 +215,13 @@ returns-clause-elsewhere g c = λ other apart.
     elsewhere_noted g.K.ChannelPort g.B.PartsName g.C.ChannelName.NUMBER c.in-Some.part c.write_on-reply.new.part c.args.write c.settle.new.self.known c.note_write.new.known c.settle.new.slot.seat c.note_write.new.seat c.settle.new.slot.kept.channel_is c.write_on-reply.result
     (is_noted g at.After-note) other apart
     ∙ c.settle.ensures.elsewhere other apart
+
+pub returns-clause-puts : goal.returns-clause-puts
+returns-clause-puts g c =
+    let reply = c.write_on-reply in
+    puts_write g.K.ChannelPort c.args.slot.now.part c.settle.new.slot.part c.in-Some.part reply.new.part c.settle.ensures.part c.in-Some.is reply.ensures.issued reply.result reply.ensures.puts
+
+pub returns-clause-keeps : goal.returns-clause-keeps
+returns-clause-keeps g c =
+    let reply = c.write_on-reply in
+    refused_write g.K.ChannelPort c.args.slot.now.part c.settle.new.slot.part c.in-Some.part reply.new.part c.settle.ensures.part c.in-Some.is reply.result reply.ensures.same_part

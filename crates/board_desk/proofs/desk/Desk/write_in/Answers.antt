@@ -29,3 +29,17 @@ returns-clause-writes g c =
       | in-Err w ↦ rw w.result-is
           (w.in-Err.ensures.answers, record { none = omega (arith, w.in-Err.ensures.amount, writes); stays = w.in-Err.ensures.history ∙ append-nil _ })
     ]
+
+pub returns-clause-puts : goal.returns-clause-puts
+returns-clause-puts g c =
+    elim c.match-write.branch [
+      | in-Ok w ↦ rw w.result-is w.in-Ok.ensures.puts
+      | in-Err w ↦ rw w.result-is tt
+    ]
+
+pub returns-clause-keeps : goal.returns-clause-keeps
+returns-clause-keeps g c =
+    elim c.match-write.branch [
+      | in-Ok w ↦ rw w.result-is tt
+      | in-Err w ↦ rw w.result-is w.in-Err.ensures.keeps
+    ]

@@ -1,5 +1,5 @@
 -- A call of the module that pieces are.
-use Rattle.std.proofs.Common.{refl, subst, sym}
+use Rattle.std.proofs.Common.{ap, map, refl, subst, sym, ◌∙◌}
 use Rattle.line_memory.specs.History.{Recorded}
 use Rattle.module_core.specs.declared.front.Front.{Front}
 use Rattle.std.proofs.Math.Logic.{∥∥₁_elim, ∥∥₁_map, ∥∥₁_prop}
@@ -7,6 +7,8 @@ use Rattle.std.proofs.Props.{props}
 use Rattle.board_desk.proofs.Joined.{fits_named}
 use Rattle.board_desk.proofs.Parted.{did, record_joined}
 use Rattle.board_desk.proofs.Restored.{fits_lent}
+use Rattle.std.specs.Global.{Global}
+use Rattle.std.specs.Prelude.{Vec}
 use Rattle.board_desk.proofs.pieces.RecordedPieces.call.Goals as goal
 
 pub gather-it-requires : goal.gather-it-requires
@@ -41,3 +43,8 @@ returns-clause-told g c =
     subst (λ (h : Recorded). told answer self.pieces.front.front.saved self.history h) (sym c.of-rest.ensures.history)
     (subst (λ (h : Recorded). told answer self.pieces.front.front.saved h after.history) c.gather-it.ensures.history
     (subst (λ (f : Front). told answer f.saved it.history after.history) (sym c.gather-it.ensures.pieces.front) c.call-answer.ensures.told))
+
+pub returns-clause-issued : goal.returns-clause-issued
+returns-clause-issued g c =
+    let Lists = λ (v : Vec g.row.K.Denot Global). map g.K.ChannelPort.issued v.items in
+    ap Lists c.of-rest.ensures.pieces.ports ∙ c.call-answer.ensures.issues.lists ∙ sym (ap Lists c.gather-it.ensures.pieces.ports)

@@ -1,5 +1,5 @@
 -- Mains are lost, of the module that pieces are.
-use Rattle.std.proofs.Common.{ap, refl, sym}
+use Rattle.std.proofs.Common.{ap, map, refl, sym, ◌∙◌}
 use Rattle.std.specs.Global.{Global}
 use Rattle.std.specs.Prelude.{Vec}
 use Rattle.std.proofs.Math.Logic.{∥∥₁_elim, ∥∥₁_map, ∥∥₁_prop}
@@ -8,6 +8,7 @@ use Rattle.board_desk.specs.Calling.{loss_course}
 use Rattle.board_desk.proofs.Joined.{fits_named}
 use Rattle.split_machine.specs.Telling.{AreOwn}
 use Rattle.board_desk.proofs.Drained.{drains_same}
+use Rattle.board_desk.proofs.Quiet.{undrained_by}
 use Rattle.board_desk.proofs.Parted.{did, lost_restated, record_joined}
 use Rattle.board_desk.proofs.Restored.{fits_lent}
 use Rattle.board_desk.proofs.pieces.RecordedPieces.lose.Given.{Over}
@@ -47,6 +48,8 @@ returns g c =
           lost_restated g.K.ChannelPort g.D.SaveDevice g.E.Energy g.B.PartsName self.pieces self.device self.energy self.history logs kept it.result it.ensures.pieces it.ensures.stands it.ensures.device it.ensures.energy it.ensures.history
           lost.new.it lost.ensures.setup rest.pieces rest.device rest.energy rest.history of.pieces of.fit of.stands of.device of.energy (laws g at.After-of-rest)
           lost.result lost.ensures.loses;
+      issued = undrained_by lost.result lost.result refl
+          (λ none. ap (λ (v : Vec g.row.K.Denot Global). map g.K.ChannelPort.issued v.items) of.pieces.ports ∙ none.lists ∙ sym (ap (λ (v : Vec g.row.K.Denot Global). map g.K.ChannelPort.issued v.items) it.ensures.pieces.ports)) lost.ensures.issues;
       drains = drains_same g.K.ChannelPort g.G.Gate c.args.gate.now lost.result lost.result refl self.pieces.ports.items rest.pieces.ports.items it.result.running.channels.ports.items lost.new.it.running.channels.ports.items
           (ap (λ (v : Vec g.row.K.Denot Global). v.items) (sym it.ensures.pieces.ports)) (ap (λ (v : Vec g.row.K.Denot Global). v.items) (sym of.pieces.ports)) lost.ensures.drains;
     }

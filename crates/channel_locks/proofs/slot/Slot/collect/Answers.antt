@@ -18,4 +18,4 @@ pub returns-in-Some-clause-collects : goal.returns-in-Some-clause-collects
 returns-in-Some-clause-collects g c =
     let later = c.collect.new.self in let did = c.collect.ensures in
     subst (λ before. CollectsAlone g.K.ChannelPort c.args.ticket c.collect.result before (Some later)) (sym c.in-Some.is)
-    (later, refl, record { elsewhere = did.elsewhere; collected = did.collected; writes = did.writes; same = did.same })
+    (later, refl, record { elsewhere = did.elsewhere; collected = did.collected; writes = did.writes; issued = did.issued; same = did.same })

@@ -18,4 +18,4 @@ pub returns-in-Some-clause-works : goal.returns-in-Some-clause-works
 returns-in-Some-clause-works g c =
     let later = c.work.new.self in let did = c.work.ensures in
     subst (λ before. WorksAlone g.K.ChannelPort c.work.result before (Some later)) (sym c.in-Some.is)
-    (later, refl, record { ended = did.ended; next = did.next; served = did.served; stays = did.stays; returned = did.returned; same = did.same })
+    (later, refl, record { ended = did.ended; next = did.next; served = did.served; stays = did.stays; returned = did.returned; issued = did.issued; same = did.same })

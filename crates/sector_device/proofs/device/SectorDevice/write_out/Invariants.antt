@@ -1,8 +1,9 @@
-use Rattle.std.proofs.Common.{◌≡◌, ◌-◌, ◌*◌, ◌≤◌, length, true}
+use Rattle.std.proofs.Common.{◌≡◌, ◌-◌, ◌*◌, ◌≤◌, length}
 use Rattle.save_device.specs.Device.{present}
 use Rattle.save_device.specs.Memory.{state_of}
 use Rattle.file_device.specs.Kept.{IfKept}
-use Rattle.sector_device.specs.Backing.{IsWritten}
+use Rattle.sector_device.specs.declared.device.Gate.TheVariants.{Shut}
+use Rattle.sector_device.specs.Backing.{IsPutBelow}
 use Rattle.sector_device.proofs.device.SectorDevice.write_out.Given as goal
 
 abbrev pub invariant-loop-number : goal.invariant-loop-number
@@ -12,8 +13,8 @@ invariant-loop-number g l = record {
   earlier : (state_of l.self.mirror).earlier ≡ (state_of l.initial.self.mirror).earlier;
   calls : l.self.calls ≡ l.initial.self.calls;
   places : l.self.unsettled ≡ l.initial.self.unsettled;
-  broken : l.self.is_broken ≡ true;
-  written : IfKept (IsWritten (512 * l.number) (present (state_of l.self.mirror))) (g.F.SectorFile.kept l.self.file);
+  gate : l.self.gate ≡ Shut;
+  put : IfKept (IsPutBelow (512 * l.number) (present (state_of l.self.mirror))) (g.F.SectorFile.kept l.self.file);
 }
 
 abbrev pub decreases-loop-number : goal.decreases-loop-number
