@@ -29,10 +29,22 @@ fn rate(count: u64, millis: u64) -> u64 {
 }
 
 // What some rounds came to.
-fn show(rt: &HostRuntime, name: &str, size: usize, amount: Amount, spent: Spent) -> anyhow::Result<()> {
-    println!(rt; "{name}, {size} bytes: {} records, {} writes", spent.records, spent.writes)?;
+fn show(
+    rt: &HostRuntime,
+    name: &str,
+    size: usize,
+    amount: Amount,
+    spent: Spent,
+) -> anyhow::Result<()> {
+    println!(rt;
+        "{name}, {size} bytes: {} records, {} writes",
+        spent.records, spent.writes
+    )?;
     if amount.timed {
-        println!(rt; "    {} records a second", rate(spent.records, spent.millis))?;
+        println!(rt;
+            "    {} records a second",
+            rate(spent.records, spent.millis)
+        )?;
     }
     Ok(())
 }
@@ -75,9 +87,23 @@ fn measure(rt: &HostRuntime, amount: Amount, path: Option<&str>) -> anyhow::Resu
 fn main(rt: HostRuntime) -> anyhow::Result<()> {
     let words: Vec<String> = env::args(&rt)?.collect(rt.alloc())?;
     match words.as_slice() {
-        [_] => measure(&rt, Amount { rounds: 1, timed: false }, None),
+        [_] => measure(
+            &rt,
+            Amount {
+                rounds: 1,
+                timed: false,
+            },
+            None,
+        ),
         [_, word, path] if word.as_str() == "time" => {
-            measure(&rt, Amount { rounds: 40, timed: true }, Some(path.as_str()))
+            measure(
+                &rt,
+                Amount {
+                    rounds: 40,
+                    timed: true,
+                },
+                Some(path.as_str()),
+            )
         }
         _ => anyhow::bail!("no word, or time and a file"),
     }

@@ -2,10 +2,10 @@
 use crate::hand::writes_of_round;
 use crate::processor::held_millis;
 use channel_port::ChannelPort;
+use ddr4_port::Ddr4Port;
 use interleave_map::ReadyMap;
 use interleave_map::cells::line_count;
 use journal_lines::Index;
-use ddr4_port::Ddr4Port;
 use journal_load::{JournalLife, begin, capacity_of, formatted};
 use line_memory::{Write, zero_memory};
 use save_device::{MemoryDevice, SaveDevice};

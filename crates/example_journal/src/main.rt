@@ -2,8 +2,8 @@
 //!
 //!     example_journal FILE
 //!
-//! reads lines and answers each: `add TEXT`, `save`, `arm`, `lose`, `list`, `stored`. What `stored` counts is in the file then, and the next
-//! start finds it, wherever this one was ended.
+//! reads lines and answers each: `add TEXT`, `save`, `arm`, `lose`, `list`, `stored`. What `stored` tells behind a save is found by the
+//! next start, wherever this one is ended; what it tells while armed is found behind `lose`.
 #![tactic(auto)]
 
 ghost use Rattle.std.specs.Prelude.{IfOk};
@@ -14,7 +14,7 @@ ghost use Rattle.slot_store.specs.Slots.{IsCapacity};
 mod keeper;
 mod request;
 
-use crate::keeper::{Keeper, texts_in};
+use crate::keeper::Keeper;
 use crate::request::request_of;
 use ddr4_timing::profiles::{SMALL, TINY};
 use file_device::HostFile;
@@ -67,13 +67,16 @@ fn restore_or_format<D: SaveDevice>(
 }
 
 // Lives on a device: answers each line that is read.
-fn live<D: SaveDevice + Drop>(rt: &HostRuntime, map: &ReadyMap, mut device: D) -> anyhow::Result<()> {
+fn live<D: SaveDevice + Drop>(
+    rt: &HostRuntime,
+    map: &ReadyMap,
+    mut device: D,
+) -> anyhow::Result<()> {
     let lines = capacity_of(&map.checked)?;
     let restored = restore_or_format(rt, &mut device, lines)?;
-    let texts = texts_in(rt.alloc(), &restored.lines)?;
-    println!(rt; "{} records", texts.len())?;
     let life = begin(rt.alloc(), map, restored, device)?;
-    let mut keeper = Keeper { life, texts };
+    println!(rt; "{} records", life.journal().len())?;
+    let mut keeper = Keeper { life };
     for line in rt.lines(rt.alloc()) {
         let line = line?;
         match request_of(line.as_str()) {

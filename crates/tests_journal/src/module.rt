@@ -16,7 +16,7 @@ use std::alloc::Global;
 use std::process::Abort;
 
 /// The lines of the small profile.
-const LINES: usize = 128;
+pub(crate) const LINES: usize = 128;
 
 /// More energy than any save takes, in units.
 const AMPLE: u64 = 1 << 62;
@@ -133,7 +133,7 @@ fn try_sizes<K: ChannelPort + Drop, R: Abort>(
 }
 
 // The small profile.
-fn small<R: Abort>(rt: &R, alloc: Global) -> Profile {
+pub(crate) fn small<R: Abort>(rt: &R, alloc: Global) -> Profile {
     let Ok(profile) = read_profile(alloc, TINY.as_bytes()) else {
         panic!(*rt; "a profile");
     };
@@ -141,7 +141,7 @@ fn small<R: Abort>(rt: &R, alloc: Global) -> Profile {
 }
 
 // A life of zero lines on its channels.
-fn opened<'m, R: Abort>(
+pub(crate) fn opened<'m, R: Abort>(
     rt: &R,
     alloc: Global,
     map: &'m ReadyMap,
@@ -159,7 +159,7 @@ fn opened<'m, R: Abort>(
 }
 
 // A map of its lines.
-fn map_of(profile: &Profile) -> ReadyMap
+pub(crate) fn map_of(profile: &Profile) -> ReadyMap
     ensures { result.checked ≡ profile.now.checked }
 {
     ReadyMap {
