@@ -1,5 +1,5 @@
 -- Where the lines of a record lie.
-use Rattle.std.proofs.Common.{◌≡◌, ℕ, zero, suc, ◌+◌, ◌-◌, ◌/◌, ◌%◌, ◌<◌, ◌≤◌, List, [], ◌∷◌, ◌++◌, length, get_or, take, drop, replicate, refl, sym, ap, ◌∙◌, arith, drop-cons, length-append, length-drop}
+use Rattle.std.proofs.Common.{◌≡◌, ℕ, zero, suc, ◌+◌, ◌-◌, ◌/◌, ◌%◌, ◌<◌, List, [], ◌∷◌, ◌++◌, length, get_or, take, drop, replicate, refl, sym, ap, ◌∙◌, arith, drop-cons, length-append}
 use Rattle.std.specs.Prelude.{Some, slice_get, slice_index_or}
 use Rattle.std.proofs.Math.Nat.{mod-add-mod}
 use Rattle.std.specs.List.{flat_map}
@@ -12,7 +12,7 @@ use Rattle.journal_log.proofs.Spelling.{length-lines_of, sizes-parts, spelled-pa
 use Rattle.journal_lines.specs.Indexed.{IsIndexOf}
 use Rattle.journal_lines.specs.Scanning.{held_by}
 use Rattle.journal_lines.specs.declared.index.Index.{Index}
-use Rattle.journal_lines.proofs.Calling.{fewer_lines, place-get}
+use Rattle.journal_lines.proofs.Calling.{place-get}
 use Rattle.journal_lines.proofs.Ringing.{line_read}
 
 module _ (records : List (List ℕ)) (k : ℕ) (bytes : List ℕ) (there : slice_get records k ≡ Some bytes) where
