@@ -2,19 +2,22 @@
 //! beside a plain file.
 //!
 //!     bench_journal               what each comes to, in short
-//!     bench_journal time FILE     appends a second of processor time, armed and disarmed, and into this file
+//!     bench_journal time FILE     appends and puts a second of processor time, armed and disarmed, and appends into this file
 //!
 //! A thousand records are appended, then the module is saved where it is disarmed, and the records are truncated; so it goes on round the
 //! ring. By hand the same writes are made from a list, a write that finds its channel full after a command of that channel. Into the file
-//! each record is written behind the others, and `fdatasync` called.
+//! each record is written behind the others, and `fdatasync` called. Into a table each of a thousand keys is put in a round, and the table is
+//! compacted behind each sixteenth.
 #![tactic(auto)]
 
 mod hand;
 mod plain;
 mod processor;
+mod puts;
 mod rounds;
 
 use crate::plain::file_rounds;
+use crate::puts::put_rounds;
 use crate::rounds::{Amount, Spent, hand_rounds, journal_rounds};
 use ddr4_timing::profiles::{TINY, WIDEST};
 use interleave_map::{Interleaving, ReadyMap};
@@ -51,10 +54,10 @@ fn show(
 
 // A journal and its writes by hand, armed or disarmed.
 fn compare(rt: &HostRuntime, map: &ReadyMap, armed: bool, amount: Amount) -> anyhow::Result<()> {
-    let (journal, hand) = if armed {
-        ("armed journal", "armed by hand")
+    let (journal, hand, table) = if armed {
+        ("armed journal", "armed by hand", "armed table")
     } else {
-        ("disarmed journal", "disarmed by hand")
+        ("disarmed journal", "disarmed by hand", "disarmed table")
     };
     for size in SIZES {
         let spent = journal_rounds(rt, map, armed, size, amount)?;
@@ -62,6 +65,8 @@ fn compare(rt: &HostRuntime, map: &ReadyMap, armed: bool, amount: Amount) -> any
         let spent = hand_rounds(rt, map, armed, size, amount)?;
         show(rt, hand, size, amount, spent)?;
     }
+    let spent = put_rounds(rt, map, armed, amount)?;
+    show(rt, table, 117, amount, spent)?;
     Ok(())
 }
 

@@ -30,15 +30,15 @@ pub struct Spent {
     pub millis: u64,
 }
 
-// How long something held a processor that began then.
-fn held_since(rt: &HostRuntime, start: Option<u64>) -> u64 {
+/// How long something held a processor that began then.
+pub(crate) fn held_since(rt: &HostRuntime, start: Option<u64>) -> u64 {
     held_millis(rt)
         .unwrap_or(0)
         .saturating_sub(start.unwrap_or(0))
 }
 
-// A save, where the module isn't armed.
-fn save_where<K: ChannelPort + Drop, D: SaveDevice + Drop>(
+/// A save, where the module isn't armed.
+pub(crate) fn save_where<K: ChannelPort + Drop, D: SaveDevice + Drop>(
     life: &mut JournalLife<K, D>,
     armed: bool,
 ) -> anyhow::Result<()> {
@@ -80,8 +80,8 @@ fn hand_round<K: ChannelPort + Drop, D: SaveDevice + Drop>(
     Ok(())
 }
 
-// A life of zero lines on a device in memory.
-fn fresh<'m>(
+/// A life of zero lines on a device in memory.
+pub(crate) fn fresh<'m>(
     alloc: Global,
     map: &'m ReadyMap,
 ) -> anyhow::Result<JournalLife<Ddr4Port<'m, ReadyMap>, MemoryDevice>> {

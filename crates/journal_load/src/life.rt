@@ -2,6 +2,11 @@
 ghost use Rattle.std.specs.Prelude.{◌≡◌, ◌-◌, IfErr, IfNone, IfOk, IfSome, IsTrue, Ok, OnOk, length};
 ghost use Rattle.energy_budget.specs.Meter.{meter_gauge};
 ghost use Rattle.journal_log.specs.Calls.{Append, Truncate};
+ghost use Rattle.journal_log.specs.Log.{Log};
+ghost use Rattle.journal_table.specs.Calling.{IsCompacted};
+ghost use Rattle.journal_table.specs.Standing.{IsTableOf};
+ghost use Rattle.table_log.specs.Changes.{Put, record_of};
+ghost use Rattle.table_log.specs.Tables.{Table};
 ghost use Rattle.journal_lines.specs.Indexed.{HasNumber, end_of_index};
 ghost use Rattle.module_core.specs.Stands.{Answers, HasDevice, assembly, setup_of};
 ghost use Rattle.module_journal.specs.Heads.{untold};
@@ -15,6 +20,7 @@ use arm_state::{Loss, WriteRefusal};
 use channel_port::ChannelPort;
 use energy_budget::Meter;
 use journal_reads::{NotRead, get};
+use journal_table::{CompactRefusal, JournalTable};
 use line_memory::Write;
 use module_core::Module;
 use module_journal::{AppendRefusal, Appended, Journal, TruncateRefusal};
@@ -121,6 +127,37 @@ impl<K: ChannelPort + Drop, D: SaveDevice + Drop> JournalLife<K, D> {
             self.old.journal.index bytes.now self.old.running self.new.running) }
     {
         self.journal.append(&mut self.running, bytes)
+    }
+
+    /// A key of a table in this module, in place of its journal, gets a value.
+    pub fn put(
+        &mut self,
+        alloc: Global,
+        table: &mut JournalTable,
+        key: &[u8],
+        value: &[u8],
+    ) -> Result<Appended, AppendRefusal>
+        ensures done { IfOk result (λ appended. IsMade K.ChannelPort
+            (Reply.Write (Ok appended.head)) table.old.journal.index
+            (Append (record_of (Put key.now value.now))) self.old.running self.new.running) }
+        ensures refused { IfErr result (λ refusal. IsAppendRefused K.ChannelPort refusal
+            table.old.journal.index (record_of (Put key.now value.now))
+            self.old.running self.new.running) }
+    {
+        table.put(alloc, &mut self.running, key, value)
+    }
+
+    /// The changes of a table in this module that count no more go.
+    pub fn compact(
+        &mut self,
+        alloc: Global,
+        table: &mut JournalTable,
+    ) -> Result<Option<Accepted>, CompactRefusal>
+        ensures { IfOk result (λ cut. (log : Log) (held : Table) → IsTableOf table.old log held
+            → IsCompacted K.ChannelPort table.old.journal.index.lines log held table.new
+            self.old.running self.new.running) }
+    {
+        table.compact(alloc, &mut self.running)
     }
 
     /// The bytes of a record by its number, read from the module as it is now; none where no such record is there.
