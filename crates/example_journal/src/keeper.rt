@@ -21,6 +21,15 @@ impl<K: ChannelPort + Drop, D: SaveDevice + Drop> Keeper<K, D> {
         Ok(())
     }
 
+    // The records below a number go, where the module takes that.
+    fn cut(&mut self, rt: &HostRuntime, upto: u64) -> anyhow::Result<()> {
+        match self.life.truncate(upto) {
+            Ok(_) => println!(rt; "cut {upto}")?,
+            Err(refusal) => println!(rt; "refused: {refusal}")?,
+        }
+        Ok(())
+    }
+
     // Reads a record from the module, and writes its text.
     fn show(&mut self, rt: &HostRuntime, number: u64) -> anyhow::Result<()> {
         match self.life.record(rt.alloc(), number) {
@@ -54,6 +63,7 @@ impl<K: ChannelPort + Drop, D: SaveDevice + Drop> Keeper<K, D> {
     pub(crate) fn answer(&mut self, rt: &HostRuntime, request: Request<'_>) -> anyhow::Result<()> {
         match request {
             Request::Add(text) => self.add(rt, text)?,
+            Request::Cut(upto) => self.cut(rt, upto)?,
             Request::Save => match self.life.save() {
                 Ok(()) => println!(rt; "saved")?,
                 Err(stall) => println!(rt; "refused: {stall}")?,

@@ -2,7 +2,7 @@
 //!
 //!     example_journal FILE
 //!
-//! reads lines and answers each: `add TEXT`, `save`, `arm`, `lose`, `list`, `stored`. What `stored` tells behind a save is found by the
+//! reads lines and answers each: `add TEXT`, `cut NUMBER`, `save`, `arm`, `lose`, `list`, `stored`. What `stored` tells behind a save is found by the
 //! next start, wherever this one is ended; what it tells while armed is found behind `lose`.
 #![tactic(auto)]
 
@@ -75,7 +75,8 @@ fn live<D: SaveDevice + Drop>(
     let lines = capacity_of(&map.checked)?;
     let restored = restore_or_format(rt, &mut device, lines)?;
     let life = begin(rt.alloc(), map, restored, device)?;
-    println!(rt; "{} records", life.journal().len())?;
+    let numbers = life.journal().numbers();
+    println!(rt; "records {} to {}", numbers.start, numbers.end)?;
     let mut keeper = Keeper { life };
     for line in rt.lines(rt.alloc()) {
         let line = line?;

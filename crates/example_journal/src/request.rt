@@ -12,6 +12,8 @@ pub(crate) enum Request<'a> {
     Arm,
     /// The mains are lost; an armed store saves then.
     Lose,
+    /// The records below a number go.
+    Cut(u64),
     /// All records.
     List,
     /// How many of them are told stored.
@@ -24,7 +26,9 @@ pub(crate) struct NoRequest;
 
 impl fmt::Display for NoRequest {
     fn fmt<W: fmt::Write>(&self, f: &mut fmt::Formatter<W>) -> fmt::Result {
-        f.write_str("refused: add TEXT, save, arm, lose, list and stored are all that there is")
+        f.write_str(
+            "refused: add TEXT, cut NUMBER, save, arm, lose, list and stored are all that there is",
+        )
     }
 }
 
@@ -32,6 +36,9 @@ impl fmt::Display for NoRequest {
 pub(crate) fn request_of(line: &str) -> Result<Request<'_>, NoRequest> {
     if let Some(text) = line.strip_prefix("add ") {
         return Ok(Request::Add(text));
+    }
+    if let Some(number) = line.strip_prefix("cut ") {
+        return number.parse().map(Request::Cut).map_err(|_| NoRequest);
     }
     match line {
         "save" => Ok(Request::Save),
