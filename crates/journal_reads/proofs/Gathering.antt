@@ -1,6 +1,6 @@
 -- A record that is read line by line.
 use Rattle.std.proofs.Common.{◌≡◌, ℕ, suc, ◌+◌, ◌-◌, ◌<◌, ◌≤◌, List, [], ◌∷◌, ◌++◌, length, get_or, drop, refl, sym, ap, subst, ◌∙◌, arith, append_assoc, drop-cons}
-use Rattle.std.specs.Prelude.{Result, Ok, Err, Some, slice_get, slice_index_or}
+use Rattle.std.specs.Prelude.{Ok, Err, Some, slice_get, slice_index_or}
 use Rattle.std.specs.List.{flat_map}
 use Rattle.std.proofs.lemmas.List.{append-nil, drop_all}
 use Rattle.std.proofs.lemmas.Option.{slice_get-get_or}
@@ -9,14 +9,12 @@ use Rattle.arm_state.specs.declared.refusal.ReadRefusal.{ReadRefusal}
 use Rattle.channel_port.specs.declared.port.ChannelPort.{Ghosts}
 use Rattle.nv_machine.specs.declared.events.Event.{Event}
 use Rattle.nv_machine.specs.declared.events.Reply.{Reply}
-use Rattle.nv_machine.specs.Refusals.{read_refusal}
 use Rattle.nv_machine.specs.State.{Machine, Setup, memory_of}
 use Rattle.module_core.specs.declared.module.Module.{Module}
 use Rattle.module_core.specs.Stands.{assembly, setup_of}
 use Rattle.nv_session.specs.Coming.{ComesAlone}
-use Rattle.nv_session.specs.Turns.{IsSeen, SameButWaits, SeesLine}
+use Rattle.nv_session.specs.Turns.{SameButWaits}
 use Rattle.nv_session.specs.ReadTurns.{ReadsLine}
-use Rattle.nv_session.specs.declared.turns.LineSeen.{LineSeen}
 use Rattle.nv_session.specs.declared.turns.LineSeen.TheVariants.{Content, Waiting}
 use Rattle.nv_session.proofs.Awaiting.{same_after}
 use Rattle.nv_session.proofs.Coming.{comes_on, comes_retold, comes_to_itself}
@@ -30,7 +28,7 @@ use Rattle.journal_lines.proofs.Lying.{held_in_all}
 use Rattle.journal_lines.proofs.Reading.{length-places}
 use Rattle.journal_reads.specs.declared.reading.NotRead.{NotRead}
 use Rattle.journal_reads.specs.declared.reading.NotRead.TheVariants as why
-use Rattle.journal_reads.specs.Reading.{IsLineRead, IsLineRefused, IsNotRead, IsWhy, ReadsRecord}
+use Rattle.journal_reads.specs.Reading.{IsLineRead, IsNotRead, ReadsRecord}
 
 -- So many lines of a record are read, which held these bytes; its other lines hold the rest.
 pub record HasReadLines (index : Index) (number at : ℕ) (bytes : List ℕ) (events : List Event) (replies : List Reply) (old new : Machine) : Type 0 where
@@ -47,7 +45,7 @@ module _ (setup : Setup) (line : ℕ) (es : List Event) (rs : List Reply) (m n :
   waiting_read reads = record { same = reads.sees.2; is = tt }
 
   refused_read : (refusal : ReadRefusal) → ReadsLine setup line (Err refusal) es rs m n → IsLineRead setup line (Err (why.Refused refusal)) es rs m n
-  refused_read refusal reads = record { same = reads.sees.1; is = record { line = line; now = m; same = refl; refused = reads.sees.0 } }
+  refused_read refusal reads = record { same = reads.sees.1 ∙ ap (λ (x : Machine). record m { waits = x.waits }) (sym reads.sees.1); is = record { line = line; now = m; same = refl; refused = reads.sees.0 } }
 
 module _ {K : Type 0} (L : Ghosts K) (line : ℕ) (old new : Module K L) where
   pub content : (bytes : List ℕ) → ComesAlone L (ReadsLine (setup_of L old) line (Ok (Content bytes))) old new → ComesAlone L (IsLineRead (setup_of L old) line (Ok bytes)) old new
@@ -155,8 +153,10 @@ module _ {K : Type 0} (L : Ghosts K) (index : Index) (number : ℕ) where
       (λ es fs rs ts m n l told later. not_further (setup_of L old) reason at line bytes es fs rs ts m n l told later)
 
   -- there is no memory for what a line holds
-  pub no_memory : (at line : ℕ) (bytes more line_bytes : List ℕ) (old new : Module K L)
-      → ComesAlone L (HasReadLines index number at bytes) old new → ComesAlone L (IsNotRead (setup_of L old) why.Memory) old new
-  no_memory at line bytes more line_bytes old new comes device gauge =
-      comes_retold L (HasReadLines index number at bytes) (IsNotRead (setup_of L old) why.Memory) (assembly old device gauge) (assembly new device gauge) (comes device gauge)
-      (λ es rs m n told. record { same = told.same; is = tt })
+  pub no_memory : (at line : ℕ) (bytes line_bytes : List ℕ) (old mid new : Module K L) → setup_of L mid ≡ setup_of L old
+      → ComesAlone L (HasReadLines index number at bytes) old mid → ComesAlone L (IsLineRead (setup_of L mid) line (Ok line_bytes)) mid new
+      → ComesAlone L (IsNotRead (setup_of L old) why.Memory) old new
+  no_memory at line bytes line_bytes old mid new same so_far next device gauge =
+      comes_on L (HasReadLines index number at bytes) (IsLineRead (setup_of L mid) line (Ok line_bytes)) (IsNotRead (setup_of L old) why.Memory)
+      (assembly old device gauge) (assembly mid device gauge) (assembly new device gauge) same (so_far device gauge) (next device gauge)
+      (λ es fs rs ts m n l told later. record { same = same_after m n l told.same later.1; is = tt })

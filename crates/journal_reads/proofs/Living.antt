@@ -1,7 +1,7 @@
 -- A read in the life of a journal.
-use Rattle.std.proofs.Common.{◌≡◌, ℕ, ◌-◌, ◌≤◌, List, [], ◌∷◌, ◌++◌, length, take, refl, sym, ap, subst, ◌∙◌, arith}
+use Rattle.std.proofs.Common.{◌≡◌, ℕ, ◌-◌, ◌≤◌, List, [], ◌++◌, length, take, sym, ap, subst, ◌∙◌, arith}
 use Rattle.std.specs.Prelude.{Some, slice_get}
-use Rattle.std.proofs.lemmas.List.{append-nil, take_all}
+use Rattle.std.proofs.lemmas.List.{append-nil, append_cancel_left, take_all}
 use Rattle.line_memory.specs.declared.Write.{Write}
 use Rattle.line_memory.specs.Memory.{after}
 use Rattle.save_image.specs.Image.{Image}
@@ -12,7 +12,7 @@ use Rattle.nv_machine.specs.declared.events.Event.{Event}
 use Rattle.nv_machine.specs.declared.events.Reply.{Reply}
 use Rattle.nv_machine.specs.Headline.{Run}
 use Rattle.nv_machine.specs.Rising.{accepted_in}
-use Rattle.nv_machine.specs.State.{Machine, memory_of}
+use Rattle.nv_machine.specs.State.{Machine, World, memory_of}
 use Rattle.nv_machine.proofs.AcceptedWrites.{run_accepts}
 use Rattle.nv_machine.proofs.Guarded.{guarded_new}
 use Rattle.nv_machine.proofs.RisingMarks.{run_rises}
@@ -30,6 +30,7 @@ use Rattle.journal_log.proofs.Placing.{length-after}
 use Rattle.journal_lines.specs.Indexed.{IsIndexOf}
 use Rattle.journal_lines.specs.declared.index.Index.{Index}
 use Rattle.module_journal.specs.Living.{HasJournaled, log_behind_all}
+use Rattle.module_journal.proofs.Joining.{accepted-append}
 use Rattle.module_journal.proofs.Living.{run_paired}
 use Rattle.journal_reads.specs.Reading.{ReadsRecord}
 
@@ -104,10 +105,17 @@ module _ {K : Type 0} (L : Ghosts K) (found : Head) (image : Image) (log : Log) 
     goes_on keeps same =
         let runs : RunsTo L (so.events ++ c.events) (so.replies ++ c.replies) first (opened_with found image) new =
         runs_on L so.events c.events so.replies c.replies first (opened_with found image) old new so.answered.setup so.answered.runs c.runs in
+        let from : World = world_of L old m in let to : World = world_of L new c.runs.last in
+        let run : Run (setup_of L old.it) c.events c.replies from to = run_worlds L (setup_of L old.it) c.events c.replies (point_of L old m) (point_of L new c.runs.last) c.runs.run in
+        let adds : c.runs.last.life.writes ≡ m.life.writes ++ accepted_in c.events c.replies =
+        run_accepts RisesTo (setup_of L old.it) c.events c.replies from to run so.answered.runs.stands.guarded in
+        let none : accepted_in c.events c.replies ≡ [] =
+        append_cancel_left m.life.writes (accepted_in c.events c.replies) []
+        (sym adds ∙ ap (λ (n : Machine). n.life.writes) (keeps c.events c.replies m c.runs.last c.told) ∙ sym (append-nil m.life.writes)) in
         let writes : accepted_in (so.events ++ c.events) (so.replies ++ c.replies) ≡ accepted_in so.events so.replies =
-        sym (writes_are L found image (so.events ++ c.events) (so.replies ++ c.replies) first new runs)
-        ∙ ap (λ (n : Machine). n.life.writes) (keeps c.events c.replies m c.runs.last c.told)
-        ∙ writes_are L found image so.events so.replies first old so.answered.runs in
+        accepted-append so.events c.events so.replies c.replies so.paired
+        ∙ ap (λ (ws : List Write). accepted_in so.events so.replies ++ ws) none
+        ∙ append-nil (accepted_in so.events so.replies) in
         record {
           events = so.events ++ c.events;
           replies = so.replies ++ c.replies;

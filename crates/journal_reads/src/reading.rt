@@ -63,9 +63,9 @@ fn read_lines<K: ChannelPort>(
             Ok(line) => line,
             Err(why) => return Err(why),
         };
-        if bytes.extend_from_slice(held(&line)).is_err() {
+        let Ok(()) = bytes.extend_from_slice(held(&line)) else {
             return Err(NotRead::Memory);
-        }
+        };
     }
     Ok(bytes)
 }
