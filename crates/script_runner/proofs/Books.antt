@@ -1,10 +1,15 @@
 -- What a book keeps of a life, and the lists of a life, channel by channel.
 use Rattle.std.proofs.Common.{◌≡◌, ◌∙◌, ℕ, ◌+◌, ◌<◌, List, [], ◌∷◌, ◌++◌, Option, Some, None, length, map, slice_get, take, ap, refl, subst, sym}
 use Rattle.std.specs.Prelude.{IfSome, IsSome, option_to_list}
-use Rattle.std.proofs.lemmas.Option.{get_or_from_slice_get, slice_get_within}
+use Rattle.std.proofs.lemmas.Option.{get_or_from_slice_get, slice_get-map, slice_get_within}
+use Rattle.std.specs.Option.{option_map}
 use Rattle.ddr4_timing.specs.declared.command.Stamped.{Stamped}
 use Rattle.script_runner.specs.Ended.{Lives, Notes}
 use Rattle.script_runner.proofs.Common.{take_more}
+
+-- the list of a port
+pub list_at_port : {K : Type 0} (f : K → List Stamped) (ports : List K) (number : ℕ) (port : K) → slice_get ports number ≡ Some port → slice_get (map f ports) number ≡ Some (f port)
+list_at_port f ports number port at = slice_get-map f ports number ∙ ap (option_map f) at
 
 -- the next list
 pub list_more : {X : Type 0} (lists : List X) (number : ℕ) (list : X) → slice_get lists number ≡ Some list → take (number + 1) lists ≡ take number lists ++ list ∷ []

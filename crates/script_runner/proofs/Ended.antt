@@ -76,7 +76,7 @@ module _ {K A : Type 0} {L : Ghosts K} {W : wires.Ghosts A K} where
   notes_end lines script i old new kept first last all so_far =
       let taken : take i script ≡ script = ap (λ (n : ℕ). take n script) all ∙ take-length script in
       let noted : NotesLines lines script old new kept first last = subst (λ (ls : List ScriptLine). NotesLines lines ls old new kept first last) taken so_far in
-      record { done = record { all = record { answered = noted.done.through.answered; whole = noted.done.through.whole }; does = noted.done.does }; ended = noted.ended }
+      record { done = record { all = record { answered = noted.done.through.answered; whole = noted.done.through.whole }; does = noted.done.does; bears = noted.done.through.bears }; ended = noted.ended }
 
   -- the life that runs at the end too
   pub all_lives : (story : List Exchange) (first last : Session K A L W) (before after : Option Lives) → IfSome before (EndLives story first last) → Notes (lists_in last) before after
