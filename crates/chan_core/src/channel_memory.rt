@@ -169,10 +169,10 @@ fn take_write(queue: &mut Wpq, number: u64) -> Line
     ensures size { length result ≡ 64 }
     ensures queue { queues.IsWriteQueue queue.new }
 {
-    match queue.take(number) {
-        Some(bytes) => bytes,
-        None => [0; 64],
-    }
+    let Some(bytes) = queue.take(number) else {
+        unreachable!();
+    };
+    bytes
 }
 
 // The write of a single command goes to the array: the oldest one, where the command is a WR.

@@ -1,6 +1,9 @@
--- Faults of the device that a call of a session tells.
-use Rattle.std.specs.Prelude.{◌≡◌, ◌+◌, Bool, true, false, cond, Result, Err}
+-- What a call of a session makes of the device's calls and faults.
+use Rattle.std.specs.Prelude.{◌≡◌, ◌⊎◌, ℕ, ◌+◌, Bool, true, false, cond, List, Result, Ok, Err}
+use Rattle.save_device.specs.declared.calls.Call.{Call}
+use Rattle.save_device.specs.Calls.{MakesCalls}
 use Rattle.save_device.specs.Device.{DeviceState, faults_of}
+use Rattle.slot_store.specs.Steps.{format_calls}
 use Rattle.nv_session.specs.declared.lives.FormatError.{FormatError}
 use Rattle.nv_session.specs.declared.lives.FormatError.TheVariants as errors
 
@@ -12,3 +15,10 @@ CountsFault fails old new = faults_of new ≡ faults_of old + cond fails 1 0
 abbrev pub is_format_fault : {T : Type 0} → Result T FormatError → Bool
 is_format_fault (Err errors.Device) = true
 is_format_fault result = false
+
+-- The device had the calls of one format of so many lines: up to the first that failed where one did. For want of memory it had
+-- none, or all.
+abbrev pub HadOneFormat : {T : Type 0} → ℕ → Result T FormatError → List Call → List Call → Type 0
+HadOneFormat lines (Ok done) old new = MakesCalls (format_calls lines) true old new
+HadOneFormat lines (Err errors.Device) old new = MakesCalls (format_calls lines) false old new
+HadOneFormat lines (Err errors.Memory) old new = (new ≡ old) ⊎ MakesCalls (format_calls lines) true old new

@@ -12,7 +12,7 @@ ghost use Rattle.energy_budget.specs.Meter.{meter_gauge, lie_of};
 ghost use Rattle.channel_set.specs.Issuing.{HaveIssuedNone};
 ghost use Rattle.module_core.specs.Opening.{opened_with};
 ghost use Rattle.module_core.specs.Stands.{ModuleStands, assembly, setup_of};
-ghost use Rattle.nv_session.specs.Faults.{CountsFault, is_format_fault};
+ghost use Rattle.nv_session.specs.Faults.{CountsFault, HadOneFormat, is_format_fault};
 ghost use Rattle.nv_session.specs.Living.{HasLife, IsCutToSaved, PassesAll, RunsUnissued, RunsWith, device_state, innermost};
 
 use crate::session::Session;
@@ -91,6 +91,8 @@ impl<K: ChannelPort + Drop, A: Wires<K> + Drop> Session<K, A> {
         ensures none { IfErr result (λ error. self.new.life ≡ None) }
         ensures faults { CountsFault (is_format_fault result)
             (device_state self.old.device) (device_state self.new.device) }
+        ensures calls { HadOneFormat (line_count_in self.old) result
+            (device_state self.old.device).calls (device_state self.new.device).calls }
         ensures gauge { self.new.gauge ≡ self.old.gauge }
         ensures profile { self.new.profile ≡ self.old.profile }
         ensures wires { self.new.wires ≡ self.old.wires }
@@ -116,7 +118,8 @@ impl<K: ChannelPort + Drop, A: Wires<K> + Drop> Session<K, A> {
     }
 
     /// Makes the device a store of zero lines, and begins a life on it over the profile's map, whose channels have issued no
-    /// command. First it ends what runs, any lie, and what was to fail of the device. `Device` comes only where a call of the device failed.
+    /// command. First it ends what runs, any lie, and what was to fail of the device, which has the calls of one format. `Device` comes
+    /// only where one of them failed.
     pub fn format(&mut self, alloc: Global) -> Result<(), FormatError>
         ensures begins { OnOk result (RunsWith K.ChannelPort
             (setup_over self.old self.old.profile.map)
@@ -127,6 +130,8 @@ impl<K: ChannelPort + Drop, A: Wires<K> + Drop> Session<K, A> {
         ensures none { IfErr result (λ error. self.new.life ≡ None) }
         ensures faults { CountsFault (is_format_fault result)
             (device_state self.old.device) (device_state self.new.device) }
+        ensures calls { HadOneFormat (line_count_in self.old) result
+            (device_state self.old.device).calls (device_state self.new.device).calls }
         ensures lie { lie_of self.new.gauge ≡ None }
         ensures gauge { meter_gauge self.new.gauge ≡ meter_gauge self.old.gauge }
         ensures profile { self.new.profile ≡ self.old.profile }

@@ -1,9 +1,10 @@
-use Rattle.std.proofs.Common.{◌∙◌, ℕ, List, true, false, ap, sym, subst}
+use Rattle.std.proofs.Common.{◌∙◌, ℕ, List, true, false, inl, inr, refl, ap, sym, subst}
 use Rattle.std.proofs.lemmas.Grind.{merely}
 use Rattle.nv_session.proofs.Common.{DeviceState, ModuleStands, assembly, device_state, first_image, life_begins}
 use Rattle.nv_session.proofs.Common.{lines_of, meter_gauge}
 use Rattle.line_memory.specs.Memory.{IsMemory, zero_lines}
 use Rattle.line_memory.proofs.MemoryLaws.{zero_lines-IsMemory}
+use Rattle.save_device.specs.Calls.{MakesCalls}
 use Rattle.slot_store.specs.Formatted.{first_head}
 use Rattle.slot_store.specs.Steps.{format_calls}
 use Rattle.module_core.specs.Opening.{opened_with}
@@ -61,3 +62,20 @@ returns-clause-faults g c =
 
 pub returns-clause-issued : goal.returns-clause-issued
 returns-clause-issued g c = record { it = c.in-Ok-open.life; runs = c.begin.ensures.life; checked_is = c.in-Ok-open.ensures.checked; none = c.in-Ok-open.ensures.issued }
+
+pub returns-in_default-clause-calls : goal.returns-in_default-clause-calls
+returns-in_default-clause-calls g c = inl refl
+
+pub returns-in_default-format-clause-calls : goal.returns-in_default-format-clause-calls
+returns-in_default-format-clause-calls g c =
+    subst (λ (n : ℕ). MakesCalls (format_calls n) false (device_state c.args.self.now.device).calls (device_state c.format.new.device).calls) c.lines-lines.ensures.is c.in_default-format.ensures.calls
+
+pub returns-in_default-open-clause-calls : goal.returns-in_default-open-clause-calls
+returns-in_default-open-clause-calls g c =
+    inr (subst (λ (n : ℕ). MakesCalls (format_calls n) true (device_state c.args.self.now.device).calls (device_state c.format.new.device).calls) c.lines-lines.ensures.is c.in-Ok-format.ensures.calls)
+
+pub returns-clause-calls : goal.returns-clause-calls
+returns-clause-calls g c =
+    let old = device_state c.args.self.now.device in let lines : ℕ = lines_of c.args.self.now.profile.checked.geometry in
+    subst (λ (d : DeviceState). MakesCalls (format_calls lines) true old.calls d.calls) (sym c.begin.ensures.device)
+    (subst (λ (n : ℕ). MakesCalls (format_calls n) true old.calls (device_state c.format.new.device).calls) c.lines-lines.ensures.is c.in-Ok-format.ensures.calls)

@@ -1,9 +1,10 @@
 use Rattle.std.specs.Prelude.{OnOk}
-use Rattle.std.proofs.Common.{ap, subst}
+use Rattle.std.proofs.Common.{List, ap, subst}
 use Rattle.nv_session.proofs.Common.{ModuleStands, Profile, RunsWith, Setup, device_state, first_image, lines_of}
+use Rattle.save_device.specs.declared.calls.Call.{Call}
 use Rattle.slot_store.specs.Formatted.{first_head}
 use Rattle.module_core.specs.Opening.{opened_with}
-use Rattle.nv_session.specs.Faults.{is_format_fault}
+use Rattle.nv_session.specs.Faults.{HadOneFormat, is_format_fault}
 use Rattle.nv_session.specs.Sessions.{setup_over}
 use Rattle.nv_session.proofs.Beginning.{same_setup}
 use Rattle.nv_session.proofs.Faults.{counts_behind}
@@ -24,3 +25,9 @@ returns-clause-faults g c =
 
 pub returns-clause-issued : goal.returns-clause-issued
 returns-clause-issued g c = subst (λ (p : Profile). OnOk c.create.result (RunsUnissued g.K.ChannelPort p.checked c.create.new.self.life)) c.stop.ensures.profile c.create.ensures.issued
+
+pub returns-clause-calls : goal.returns-clause-calls
+returns-clause-calls g c =
+    let old = c.args.self.now in let stopped = c.stop.new.self in let new : List Call = (device_state c.create.new.self.device).calls in
+    subst (λ (was : List Call). HadOneFormat (lines_of old.profile.checked.geometry) c.create.result was new) c.stop.ensures.calls
+    (subst (λ (p : Profile). HadOneFormat (lines_of p.checked.geometry) c.create.result (device_state stopped.device).calls new) c.stop.ensures.profile c.create.ensures.calls)
