@@ -4,4 +4,3 @@ pub mod Counting
 pub mod Rows
 pub mod Blocks
 pub mod Tables
-pub mod Lefts
