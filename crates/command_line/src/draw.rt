@@ -122,7 +122,7 @@ fn script_schedule(
     let mut book = CommandBook::open(alloc);
     let answers = Trials::new(alloc, profile).answers_kept(&lines, &mut book)?;
     let Some(lives) = book.into_lives() else {
-        return Err(NoSchedule::Memory);
+        return Err(ScriptFault::Memory);
     };
     let answers = told_whole(alloc, &answers, &lives)?;
     Ok(told_schedule(alloc, &profile.checked.timing, &answers)?)

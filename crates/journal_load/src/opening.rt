@@ -22,6 +22,7 @@ const SIZES: Sizes = Sizes {
     depth: 64,
     reads: 64,
     trail: 1 << 40,
+    keeps_commands: false,
 };
 
 /// How many lines a profile has, where they make whole pages.

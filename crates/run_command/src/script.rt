@@ -15,10 +15,9 @@ use nv_script::SCRIPT_BYTES;
 use save_device::MemoryDevice;
 use script_runner::{CommandBook, Printer};
 use std::alloc::Global;
-use std::fs;
 use std::io::{ErrorKind, Input, Write};
 use std::rt::Files;
-use store_file::StoreHost;
+use store_file::{StoreHost, leave_file};
 
 /// A file for the bytes of a device.
 #[derive(Clone, Copy, Drop)]
@@ -247,7 +246,7 @@ fn write_store<'a, R: Files + AllocGlobal>(
     name: &'a str,
 ) -> Result<(), Failure<'a>> {
     let bytes = bytes_of_device(rt.alloc(), device)?;
-    match fs::write(rt, name, &bytes) {
+    match leave_file(rt, name, &bytes) {
         Ok(()) => Ok(()),
         Err(error) => Err(Failure::of_file(name, &error)),
     }

@@ -6,9 +6,9 @@ use crate::store::{Store, StoreHost};
 use file_device::OpenFault;
 use sector_device::SPARE_PLACE;
 use std::alloc::Global;
-use std::fs::{self, File, OpenFile, OpenOptions, TryLockError};
+use std::fs::{self, File, OpenFile, OpenOptions, Permissions, TryLockError};
 use std::io::{self, ErrorKind, Write};
-use std::os::unix::fs::{FileExt, OpenOptionsExt};
+use std::os::unix::fs::{FileExt, OpenOptionsExt, PermissionsExt};
 use std::path::Path;
 use std::rt::Files;
 
@@ -77,23 +77,50 @@ fn sync_folder<R: Files>(rt: &R, path: &str) -> io::Result<()> {
     File::open(rt, folder)?.sync_all()
 }
 
-fn write_whole<R: Files>(rt: &R, path: &str, bytes: &[u8]) -> io::Result<()> {
+// Who may read and write a file that takes the place of another one.
+#[derive(Drop)]
+enum Access {
+    Owner,
+    // as the system lets a file be made
+    Usual,
+    Kept(Permissions),
+}
+
+impl Access {
+    fn mode(&self) -> u32 {
+        match self {
+            Access::Owner => 0o600,
+            Access::Usual => 0o666,
+            Access::Kept(permissions) => permissions.mode(),
+        }
+    }
+}
+
+fn write_whole<R: Files>(rt: &R, path: &str, bytes: &[u8], access: Access) -> io::Result<()> {
     let mut file = OpenOptions::new()
         .write(true)
         .create(true)
         .truncate(true)
-        .mode(0o600)
+        .mode(access.mode())
         .open(rt, path)?;
     file.write_all(bytes)?;
+    if let Access::Kept(permissions) = access {
+        fs::set_permissions(rt, path, permissions)?;
+    }
     file.sync_all()
 }
 
 // Gives the file at the path these bytes, by one beside it, `PATH.new`, which is flushed and then renamed over it, and the folder is
 // flushed behind that. Where a call fails before the renaming, the old one stays as it was.
-fn replace_file<R: Files + AllocGlobal>(rt: &R, path: &str, bytes: &[u8]) -> io::Result<()> {
+fn replace_file<R: Files + AllocGlobal>(
+    rt: &R,
+    path: &str,
+    bytes: &[u8],
+    access: Access,
+) -> io::Result<()> {
     let mut beside = owned(rt.alloc(), path)?;
     beside.push_str(".new")?;
-    let mut replaced = write_whole(rt, &beside, bytes);
+    let mut replaced = write_whole(rt, &beside, bytes, access);
     if replaced.is_ok() {
         replaced = fs::rename(rt, beside.as_str(), path);
     }
@@ -102,6 +129,33 @@ fn replace_file<R: Files + AllocGlobal>(rt: &R, path: &str, bytes: &[u8]) -> io:
         return replaced;
     }
     sync_folder(rt, path)
+}
+
+// The same with a file that is there, behind a link too. One that may not be written is refused.
+fn replace_regular<R: Files + AllocGlobal>(
+    rt: &R,
+    path: &str,
+    bytes: &[u8],
+    access: Access,
+) -> io::Result<()> {
+    OpenOptions::new().write(true).open(rt, path)?;
+    let place = fs::canonicalize(rt, path)?;
+    replace_file(rt, place.as_str(), bytes, access)
+}
+
+/// Leaves these bytes in the file at the path, as a store is replaced: at whatever moment a stop comes, the file has its old bytes or
+/// these. One that is there keeps its mode. What is no regular file, as a terminal or a pipe, is written as it stands.
+pub fn leave_file<R: Files + AllocGlobal>(rt: &R, path: &str, bytes: &[u8]) -> io::Result<()> {
+    match fs::metadata(rt, path) {
+        Ok(found) if found.is_file() => {
+            replace_regular(rt, path, bytes, Access::Kept(found.permissions()))
+        }
+        Ok(_) => fs::write(rt, path, bytes),
+        Err(error) if error.kind() == ErrorKind::NotFound => {
+            replace_file(rt, path, bytes, Access::Usual)
+        }
+        Err(error) => Err(error),
+    }
 }
 
 impl Store for HostStore {
@@ -124,7 +178,7 @@ impl Store for HostStore {
     }
 
     fn replace<R: Files + AllocGlobal>(&mut self, rt: &R, bytes: &[u8]) -> io::Result<()> {
-        replace_file(rt, &self.path, bytes)
+        replace_file(rt, &self.path, bytes, Access::Owner)
     }
 }
 

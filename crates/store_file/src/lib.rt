@@ -11,7 +11,7 @@ mod model;
 mod store;
 
 pub use form::{Form, device_bytes, store_bytes};
-pub use host::HostStore;
+pub use host::{HostStore, leave_file};
 pub use model::ModelStore;
 pub use sector_device::SPARE_PLACE;
 pub use store::{Store, StoreHost};

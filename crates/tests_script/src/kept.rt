@@ -5,7 +5,8 @@ use interleave_map::{Interleaving, ReadyMap};
 use nv_profile::{TINY, read_profile};
 use run_command::run_on_store;
 use script_runner::CommandBook;
-use std::fs;
+use std::fs::{self, File, Permissions};
+use std::os::unix::fs::{FileExt, PermissionsExt};
 use std::process::{self, Abort, ExitCode};
 use store_file::{HostStore, ModelStore};
 
@@ -100,6 +101,32 @@ fn a_store_that_is_run_on(rt: HostRuntime) {
     let beside = named(&rt, place, "%kept.new");
     same(&rt, fs::exists(&rt, beside.as_str()).ok(), Some(false));
     for name in ["%first", "%then", "%bad", "%kept", "%bare"] {
+        remove(&rt, place, name);
+    }
+}
+
+#[test]
+fn a_file_of_out_is_replaced(rt: HostRuntime) {
+    let place = place(&rt, process::id(rt.process()));
+    let place = place.as_str();
+    make(&rt, place, "%first", FIRST);
+    make(&rt, place, "%out", b"old bytes");
+    let out = named(&rt, place, "%out");
+    let mode = Permissions::from_mode(0o640);
+    fs::set_permissions(&rt, out.as_str(), mode).expect(&rt, "a mode");
+    let held = File::open(&rt, out.as_str()).expect(&rt, "a file");
+    let words = ["run", "tiny", "%first", "--out", "%out"];
+    ends(&rt, place, &words, ExitCode::SUCCESS, "", FIRST_TOLD);
+    // who had it open has its old bytes
+    let mut old = [0; 9];
+    held.read_exact_at(&mut old, 0).expect(&rt, "its bytes");
+    same(&rt, &old, b"old bytes");
+    let found = fs::metadata(&rt, out.as_str()).expect(&rt, "a file");
+    let mode = found.permissions().mode() & 0o777;
+    same(&rt, (found.len(), mode), (24_576, 0o640));
+    let beside = named(&rt, place, "%out.new");
+    same(&rt, fs::exists(&rt, beside.as_str()).ok(), Some(false));
+    for name in ["%first", "%out"] {
         remove(&rt, place, name);
     }
 }
