@@ -112,7 +112,7 @@ where
         _ => end_workers(rt, &board, &mut first[0]),
     }
     match case {
-        Case::Lost => ends_at(rt, board, hosts, AMPLE - 2),
+        Case::Lost => ends_at(rt, board, hosts, AMPLE - 1),
         Case::Strange => end_armed(rt, board, hosts),
         Case::Waits => end_seen(rt, board, hosts),
         Case::Cuts => end_behind_cuts(rt, board, hosts),
@@ -232,7 +232,7 @@ fn workers_end(rt: HostRuntime) {
 }
 
 #[test]
-fn a_loss_reads_the_gauge_once(rt: HostRuntime) {
+fn a_loss_while_disarmed_reads_no_gauge(rt: HostRuntime) {
     try_case(&rt, rt.alloc(), Case::Lost);
 }
 
