@@ -13,6 +13,7 @@ use save_device::MemoryDevice;
 use slot_store::restore;
 use std::alloc::Global;
 use std::process::Abort;
+use std::thread::Threads;
 
 /// The lines of the small profile.
 const LINES: usize = 128;
@@ -84,7 +85,7 @@ fn find_records<R: Abort>(rt: &R, alloc: Global, device: &mut MemoryDevice) {
 }
 
 // Tries that on the channels of the small profile.
-fn try_life<R: Abort>(rt: &R, alloc: Global) {
+fn try_life<R: Abort + Threads>(rt: &R, alloc: Global) {
     let Ok(profile) = read_profile(alloc, TINY.as_bytes()) else {
         panic!(*rt; "a profile");
     };
@@ -95,7 +96,7 @@ fn try_life<R: Abort>(rt: &R, alloc: Global) {
     let Ok(device) = formatted(alloc, &profile) else {
         panic!(*rt; "a device");
     };
-    let Ok(ready) = open(alloc, &map, &profile, device, Meter::with(AMPLE, 1), 1) else {
+    let Ok(ready) = open(rt, alloc, &map, &profile, device, Meter::with(AMPLE, 1), 1) else {
         panic!(*rt; "a module");
     };
     let mut device = journal_a_life(rt, alloc, ready);
