@@ -66,7 +66,7 @@ where
 {
     let told = match build_words(rt) {
         Some(built) => println!(rt; "nvctl {version} ({})", built.trim_end()),
-        None => println!(rt; "nvctl {version} (commit unknown, not known to be proved)"),
+        None => println!(rt; "nvctl {version} (of which commit it was built isn't known)"),
     };
     match told {
         Ok(()) => Ok(ExitCode::SUCCESS),

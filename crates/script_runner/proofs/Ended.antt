@@ -1,5 +1,5 @@
 -- The lives that lines end, one line more at a time.
-use Rattle.std.proofs.Common.{◌≡◌, ◌∙◌, ℕ, ◌+◌, ◌<◌, true, false, List, [], ◌∷◌, ◌++◌, Bool, Option, Some, None, length, take, get_or, refl, sym, ap, subst}
+use Rattle.std.proofs.Common.{◌≡◌, ◌∙◌, ℕ, ◌+◌, ◌<◌, true, List, [], ◌∷◌, ◌++◌, Option, Some, None, length, take, get_or, refl, sym, ap, subst}
 use Rattle.std.proofs.Math.Seq.{take-length}
 use Rattle.script_runner.proofs.Common.{Answer, Ghosts, ScriptLine, append-nil, append_assoc, take_more}
 use Rattle.std.specs.Prelude.{IfSome}
@@ -12,11 +12,6 @@ use Rattle.script_runner.specs.Runs.{AreAllNoted, DoesLine, NotesLines}
 use Rattle.script_runner.specs.Story.{Exchange}
 use Rattle.script_runner.proofs.Runs.{line_pushed, lines_begin}
 
--- no life ended
-pub notes_none : (kept : Option Lives) → Notes [] kept kept
-notes_none None = tt
-notes_none (Some lives) = sym (append-nil lives)
-
 module _ {K A : Type 0} {L : Ghosts K} {W : wires.Ghosts A K} where
   -- one line more
   end_push : (story : List Exchange) (next : Exchange) (old mid new : Session K A L W) (lives : Lives) → EndLives story old mid lives → DoesEach next.asked next.answers mid new
@@ -27,8 +22,7 @@ module _ {K A : Type 0} {L : Ghosts K} {W : wires.Ghosts A K} where
     subst (λ (s : Session K A L W). DoesEach next.asked next.answers s new) so_far.0 does,
     subst (λ (s : Session K A L W). begins_life next.asked ≡ true → KeepsRules s) so_far.0 rules,
     ap (λ (ls : Lives). ls ++ ended_by next.asked mid) so_far.1 ∙ ap (λ (s : Session K A L W). ended_by next.asked s) so_far.0 ∙ sym (append-nil (ended_by next.asked old)),
-    refl,
-    refl,
+    (refl, refl),
   )
   end_push (first ∷ story) next old mid new lives so_far does rules = (
     so_far.0,
@@ -76,7 +70,7 @@ module _ {K A : Type 0} {L : Ghosts K} {W : wires.Ghosts A K} where
   notes_end lines script i old new kept first last all so_far =
       let taken : take i script ≡ script = ap (λ (n : ℕ). take n script) all ∙ take-length script in
       let noted : NotesLines lines script old new kept first last = subst (λ (ls : List ScriptLine). NotesLines lines ls old new kept first last) taken so_far in
-      record { done = record { all = record { answered = noted.done.through.answered; whole = noted.done.through.whole }; does = noted.done.does }; ended = noted.ended }
+      record { done = record { all = record { answered = noted.done.through.answered; whole = noted.done.through.whole }; does = noted.done.does; bears = noted.done.through.bears }; ended = noted.ended }
 
   -- the life that runs at the end too
   pub all_lives : (story : List Exchange) (first last : Session K A L W) (before after : Option Lives) → IfSome before (EndLives story first last) → Notes (lists_in last) before after

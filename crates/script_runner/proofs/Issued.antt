@@ -1,10 +1,9 @@
 -- What a script's lines make of the lists of its channels.
-use Rattle.std.proofs.Common.{◌≡◌, ◌∙◌, ℕ, ◌<◌, ◌==◌, if◌then◌else◌, Bool, true, false, List, [], ◌∷◌, ◌++◌, Result, Ok, Err, Option, Some, None, All, inl, inr, length, refl, sym, ap, subst, arith}
+use Rattle.std.proofs.Common.{◌≡◌, ◌∙◌, ℕ, ◌<◌, ◌==◌, if◌then◌else◌, true, false, List, [], ◌∷◌, ◌++◌, Result, Ok, Err, Option, Some, None, All, inl, inr, length, refl, sym, ap, subst, arith}
 use Rattle.std.proofs.lemmas.Grind.{flat_map-append}
 use Rattle.std.proofs.lemmas.List.{append_assoc, append-nil}
 use Rattle.std.proofs.lemmas.List.Elements.{All-cons, All-head, All-nil, All-tail}
 use Rattle.std.proofs.lemmas.Option.{none-some, same_Some}
-use Rattle.std.specs.List.{flat_map}
 use Rattle.std.specs.Option.{option_map}
 use Rattle.std.specs.Prelude.{IfErr, IfOk, OnOk, map, slice_get, slice_index_or, suc, zero}
 use Rattle.ddr4_timing.specs.declared.command.Stamped.{Stamped}
@@ -21,8 +20,6 @@ use Rattle.arm_state.specs.declared.refusal.DisarmReply.{DisarmReply}
 use Rattle.arm_state.specs.declared.refusal.DisarmReply.TheVariants as disarm
 use Rattle.arm_state.specs.declared.refusal.WriteRefusal.{WriteRefusal}
 use Rattle.channel_port.specs.declared.answers.Done.{Done}
-use Rattle.channel_set.specs.Issuing.{HaveIssuedNone}
-use Rattle.channel_set.specs.declared.set.ChannelSet.{ChannelSet}
 use Rattle.nv_profile.specs.declared.profile.Profile.{Profile}
 use Rattle.nv_machine.specs.declared.events.Accepted.{Accepted}
 use Rattle.nv_machine.specs.declared.events.Event.{Event}
@@ -34,7 +31,6 @@ use Rattle.nv_machine.specs.declared.events.StepReply.TheVariants as step
 use Rattle.module_core.specs.IssuedRuns.{HaveIssued, begins_drains, issued_on, told_by, told_on}
 use Rattle.module_core.specs.Stands.{ModuleStands, assembly, setup_of, point_of}
 use Rattle.module_core.proofs.IssuedRuns.{runs_issue}
-use Rattle.nv_session.specs.Coming.{Comes}
 use Rattle.nv_session.specs.Living.{RunsUnissued}
 use Rattle.nv_session.specs.Restoring.{Revives}
 use Rattle.nv_session.specs.Turns.{AreOfStep}
@@ -43,10 +39,10 @@ use Rattle.nv_session.specs.declared.wires.Wires as wires
 use Rattle.nv_script.specs.declared.line.ScriptLine.TheVariants as line
 use Rattle.nv_script.specs.declared.answer.Answer.TheVariants as answer
 use Rattle.script_runner.specs.Doing.{AreEventsOf, Does, DoesAll, DoesEach, Formats, KeepsTerms, set_by}
-use Rattle.script_runner.specs.Issued.{HasToldAll, IsToldWhole, TellsItsLists, answers_in, begins_life, issue_told, issues_told, tells_all}
-use Rattle.script_runner.specs.Replies.{arm_told, disarm_told, restore_told, step_told, work_told, write_told}
+use Rattle.script_runner.specs.Issued.{TellsItsLists, answers_in, begins_life, issue_told, issues_told, tells_all}
+use Rattle.script_runner.specs.Replies.{arm_told, disarm_told, step_told, work_told, write_told}
 use Rattle.script_runner.specs.Story.{Exchange}
-use Rattle.script_runner.proofs.Common.{Answer, ComesTo, Ghosts, GoesOnBy, IsOneEvent, LivesOn, Machine, MatchOption, Module, RunsWith, ScriptLine, SessionAt, Setup, Tale, device_state, line_count_in, moment_in, session_at}
+use Rattle.script_runner.proofs.Common.{Answer, ComesTo, Ghosts, GoesOnBy, LivesOn, Machine, MatchOption, Module, RunsWith, ScriptLine, SessionAt, Setup, device_state, moment_in}
 use Rattle.script_runner.proofs.Doing.{none_begins}
 
 -- answers that tell no command

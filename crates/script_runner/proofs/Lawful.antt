@@ -1,5 +1,5 @@
 -- What a script tells keeps the timing rules.
-use Rattle.std.proofs.Common.{◌≡◌, ◌∙◌, ℕ, ◌<◌, zero, suc, List, [], ◌∷◌, Option, Some, None, length, map, refl, slice_get, sym, ap, subst, arith}
+use Rattle.std.proofs.Common.{◌≡◌, ℕ, ◌<◌, zero, suc, List, [], ◌∷◌, Option, Some, None, length, map, refl, slice_get, sym, subst, arith}
 use Rattle.std.specs.Prelude.{slice_index_or}
 use Rattle.ddr4_timing.specs.Lawful.{IsLawful}
 use Rattle.ddr4_timing.specs.declared.command.Stamped.{Stamped}
@@ -19,6 +19,13 @@ pub list-at : {K : Type 0} (f : K → List Stamped) (ports : List K) (channel : 
 list-at f [] channel less = absurd (omega (arith, less))
 list-at f (port ∷ ports) zero less = record { port = port; stands = refl; is = refl }
 list-at f (port ∷ ports) (suc channel) less = let rest = list-at f ports channel (omega (arith, less)) in record { port = rest.port; stands = rest.stands; is = rest.is }
+
+-- what is lawful of each port is so of the lists
+pub each_lawful : {K : Type 0} (f : K → List Stamped) (checked : Checked) (ports : List K)
+    → ((number : ℕ) (port : K) → number < length ports → slice_get ports number ≡ Some port → IsLawful checked (f port))
+    → (channel : ℕ) → channel < length ports → IsLawful checked (slice_index_or (map f ports) channel [])
+each_lawful f checked ports rules channel less =
+    let at = list-at f ports channel less in subst (λ (list : List Stamped). IsLawful checked list) (sym at.is) (rules channel at.port less at.stands)
 
 module _ {K A : Type 0} {L : Ghosts K} {W : wires.Ghosts A K} where
   pub tells_lawfully : TellsLawfully K A L W

@@ -10,7 +10,6 @@ pub mod Stories
 pub mod Doing
 pub mod Runs
 pub mod Ended
-pub mod Books
 pub mod Chains
 pub mod Issued
 pub mod Lawful

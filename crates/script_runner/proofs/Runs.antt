@@ -1,7 +1,6 @@
 -- The lines that a session does, one answer more at a time.
-use Rattle.std.proofs.Common.{◌≡◌, ◌∙◌, ℕ, ◌+◌, ◌<◌, true, false, List, [], ◌∷◌, ◌++◌, length, take, get_or, refl, sym, ap, subst}
-use Rattle.std.proofs.Math.Seq.{take-length}
-use Rattle.script_runner.proofs.Common.{Answer, AnswersTruly, Ghosts, ScriptLine, moment_in, take_more}
+use Rattle.std.proofs.Common.{◌≡◌, ℕ, ◌+◌, ◌<◌, true, false, List, [], ◌∷◌, ◌++◌, refl, subst}
+use Rattle.script_runner.proofs.Common.{Answer, AnswersTruly, Ghosts, ScriptLine, moment_in}
 use Rattle.nv_session.specs.declared.session.Session.{Session}
 use Rattle.nv_session.specs.declared.wires.Wires as wires
 use Rattle.script_runner.specs.Doing.{Does, DoesAll, DoesEach, KeepsTerms}
@@ -18,7 +17,7 @@ module _ {K A : Type 0} {L : Ghosts K} {W : wires.Ghosts A K} where
   each_push asked (first ∷ later) answer old mid new so_far does keeps = (so_far.0, so_far.1, so_far.2, each_push asked later answer so_far.0 mid new so_far.3 does keeps)
 
   -- one line more
-  all_push : (story : List Exchange) (next : Exchange) (old mid new : Session K A L W) → DoesAll story old mid → DoesEach next.asked next.answers mid new → DoesAll (story ++ next ∷ []) old new
+  pub all_push : (story : List Exchange) (next : Exchange) (old mid new : Session K A L W) → DoesAll story old mid → DoesEach next.asked next.answers mid new → DoesAll (story ++ next ∷ []) old new
   all_push [] next old mid new same does = (new, subst (λ (s : Session K A L W). DoesEach next.asked next.answers s new) same does, refl)
   all_push (first ∷ story) next old mid new so_far does = (so_far.0, so_far.1, all_push story next so_far.0 mid new so_far.2 does)
 

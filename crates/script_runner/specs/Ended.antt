@@ -1,5 +1,5 @@
 -- The lives of a run, and what the channels of each have issued.
-use Rattle.std.specs.Prelude.{◌≡◌, true, if◌then◌else◌, List, [], ◌∷◌, ◌++◌, Option, Some, None, IfSome}
+use Rattle.std.specs.Prelude.{◌≡◌, true, if◌then◌else◌, List, [], ◌∷◌, ◌++◌, Option, Some, None}
 use Rattle.ddr4_timing.specs.declared.command.Stamped.{Stamped}
 use Rattle.channel_port.specs.declared.port.ChannelPort.{Ghosts}
 use Rattle.channel_set.specs.Issuing.{issued_in}
@@ -21,14 +21,15 @@ Notes ended old None = Unit {0}
 Notes ended None (Some new) = ⊥
 Notes ended (Some old) (Some new) = new ≡ old ++ ended
 
-module _ {K A : Type 0} {L : Ghosts K} {W : wires.Ghosts A K} where
-  abbrev pub lists_if : Option (Module K L) → Lives
-  lists_if None = []
-  lists_if (Some it) = issued_in L it.channels ∷ []
+-- the lists of a life, if there is one
+abbrev pub lists_if : {K : Type 0} (L : Ghosts K) → Option (Module K L) → Lives
+lists_if L None = []
+lists_if L (Some it) = issued_in L it.channels ∷ []
 
-  -- the lists of the life that runs, if one does
+module _ {K A : Type 0} {L : Ghosts K} {W : wires.Ghosts A K} where
+  -- those of the life that runs, if one does
   abbrev pub lists_in : Session K A L W → Lives
-  lists_in session = lists_if session.life
+  lists_in session = lists_if L session.life
 
   -- those of the life that a line ends
   abbrev pub ended_by : ScriptLine → Session K A L W → Lives

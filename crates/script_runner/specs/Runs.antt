@@ -17,9 +17,9 @@ use Rattle.nv_script.specs.declared.answer.Answer.{Answer}
 use Rattle.script_runner.specs.Chains.{LivesInChain}
 use Rattle.script_runner.specs.Doing.{DoesAll, DoesEach}
 use Rattle.script_runner.specs.Ended.{AreLives, EndLives, Lives}
-use Rattle.script_runner.specs.Keeping.{AnswersTurns, AnswersWhole, GoesThrough}
 use Rattle.script_runner.specs.Issued.{KeepsRules}
-use Rattle.script_runner.specs.Story.{AreAllAnswered}
+use Rattle.script_runner.specs.Keeping.{AnswersTurns, AnswersWhole, BearsOut, GoesThrough}
+use Rattle.script_runner.specs.Story.{AreAllAnswered, known_after}
 
 module _ {K A : Type 0} {L : Ghosts K} {W : wires.Ghosts A K} where
   -- so many turns of a line were answered, and each answer tells what its turn did
@@ -42,10 +42,11 @@ module _ {K A : Type 0} {L : Ghosts K} {W : wires.Ghosts A K} where
     pub done : DoesLines lines asked before after first new
     pub ended : IfSome kept (EndLives done.through.answered.story first new)
 
-  -- these were the lines of a script
+  -- these were the lines of a script, and what their answers made known is borne out at its end
   pub record AreAllDone (lines : ℕ) (asked : List ScriptLine) (before after : List Answer) (first last : Session K A L W) : Type 0 where
     pub all : AreAllAnswered lines asked before after
     pub does : DoesAll all.answered.story first last
+    pub bears : BearsOut L lines (known_after None all.answered.story) (moment_in last)
 
   -- and if the lists of the lives that they ended are kept, they are these
   pub record AreAllNoted (lines : ℕ) (asked : List ScriptLine) (before after : List Answer) (kept : Option Lives) (first last : Session K A L W) : Type 0 where

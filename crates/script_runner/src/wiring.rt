@@ -71,7 +71,7 @@ impl<'m, M: LineMap> Wiring<'m, M> {
 
     /// The same, for modules whose channels keep their commands, or don't.
     pub fn with_commands(self, keeps_commands: bool) -> Wiring<'m, M>
-        ensures { result ≡ self }
+        ensures { result ≡ self.entry }
     {
         Wiring {
             keeps_commands,

@@ -29,6 +29,8 @@ mod marks;
 #[cfg(test)]
 mod notices;
 #[cfg(test)]
+mod orders;
+#[cfg(test)]
 mod quiet;
 #[cfg(test)]
 mod silent;
