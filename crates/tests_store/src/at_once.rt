@@ -60,13 +60,9 @@ fn two_images<R: Abort + AllocGlobal>(
 fn each_slot_has_its_own_digest(rt: HostRuntime) {
     for newest in [Slot::First, Slot::Second] {
         for (at, refused) in [
-            (40, FIRST_DAMAGED),
             (71, FIRST_DAMAGED),
             (4096, FIRST_DAMAGED),
-            (HALF - 1, FIRST_DAMAGED),
             (HALF + 40, SECOND_DAMAGED),
-            (HALF + 71, SECOND_DAMAGED),
-            (HALF + 4096, SECOND_DAMAGED),
             (SIZE - 1, SECOND_DAMAGED),
         ] {
             let mut device = two_images(&rt, Version::Two, Version::Two, newest);
@@ -86,59 +82,37 @@ fn lines_of_both_slots(rt: HostRuntime) {
     }
 }
 
-// Each call of a restore fails, of stores of both versions.
+// Each call of a restore fails: the sync, both headers, the pages of the newest image, and those of the older one where it has
+// a digest.
 #[test]
 fn at_once_on_a_device_that_fails(rt: HostRuntime) {
-    for first in [Version::One, Version::Two] {
-        for second in [Version::One, Version::Two] {
-            for newest in [Slot::First, Slot::Second] {
-                let older = match newest {
-                    Slot::First => second,
-                    Slot::Second => first,
-                };
-                let whole = match older {
-                    Version::One => 5,
-                    Version::Two => 7,
-                };
-                for calls in 0..9 {
-                    let device = two_images(&rt, first, second, newest);
-                    let answer = alike(&rt, device, calls).map(|(head, _)| head.newest.slot);
-                    let expected = if calls < whole {
-                        Err(RestoreError::Device)
-                    } else {
-                        Ok(newest)
-                    };
-                    same(&rt, (calls, answer), (calls, expected));
-                }
-            }
+    for (older, whole) in [(Version::One, 5), (Version::Two, 7)] {
+        for calls in 0..9 {
+            let device = two_images(&rt, Version::Two, older, Slot::First);
+            let answer = alike(&rt, device, calls).map(|(head, _)| head.newest.slot);
+            let expected = if calls < whole {
+                Err(RestoreError::Device)
+            } else {
+                Ok(Slot::First)
+            };
+            same(&rt, (calls, answer), (calls, expected));
         }
     }
 }
 
-// Stores that hold one image, none, or what is none, and one of another size.
+// Stores that hold one image, none, or what is none.
 #[test]
 fn at_once_of_any_store(rt: HostRuntime) {
-    for change in [
-        (0, 0xa5),
-        (0, 0xa4),
-        (1, 1),
-        (15, 0x31),
-        (32, 127),
-        (40, 1),
-        (72, 1),
-        (HALF, 0),
-        (HALF, 0xa5),
-        (HALF + 1, 1),
-        (HALF + 16, 1),
-        (HALF + 4096, 1),
-    ] {
-        for shut in [(SIZE - 1, 0), (0, 0), (HALF, 0)] {
-            for mut device in [formatted(&rt), old_store(&rt), saved(&rt)] {
-                set(&rt, &mut device, &[change, shut]);
-                let _ = alike(&rt, device, 9);
-            }
+    for change in [(0, 0xa4), (1, 1), (15, 0x31), (40, 1), (72, 1), (HALF, 0)] {
+        for mut device in [formatted(&rt), old_store(&rt), saved(&rt)] {
+            set(&rt, &mut device, &[change]);
+            let _ = alike(&rt, device, 9);
         }
     }
+}
+
+#[test]
+fn at_once_of_another_size(rt: HostRuntime) {
     let zeros = Vec::from_elem(rt.alloc(), 0, SIZE - 1).expect(&rt, "memory");
     let device = MemoryDevice::new(rt.alloc(), zeros).expect(&rt, "memory");
     same(&rt, alike(&rt, device, 9), Err(RestoreError::WrongSize));
