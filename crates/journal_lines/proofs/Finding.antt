@@ -1,11 +1,10 @@
 -- The record that an index finds.
-use Rattle.std.proofs.Common.{◌≡◌, ℕ, ◌+◌, ◌-◌, ◌%◌, ◌<◌, ◌≤◌, List, length, get_or, take, drop, refl, sym, ap, ◌∙◌, arith}
+use Rattle.std.proofs.Common.{◌≡◌, ℕ, ◌+◌, ◌-◌, ◌%◌, ◌<◌, ◌≤◌, List, length, get_or, take, drop, sym, ap, ◌∙◌, arith}
 use Rattle.std.specs.Prelude.{slice_get, Some}
 use Rattle.std.proofs.lemmas.Option.{slice_get-get_or}
 use Rattle.journal_log.specs.Lines.{sizes_of}
-use Rattle.journal_log.specs.Log.{Holds, Log, ring_of, rotated, used_by}
+use Rattle.journal_log.specs.Log.{Holds, Log, used_by}
 use Rattle.journal_lines.specs.Indexed.{IsIndexOf, end_of_index}
-use Rattle.journal_lines.specs.Places.{places_of}
 use Rattle.journal_lines.specs.Scanning.{first_of, lines_in_use}
 use Rattle.journal_lines.specs.declared.index.Index.{Index}
 use Rattle.journal_lines.proofs.Calling.{fewer_lines, place-get}

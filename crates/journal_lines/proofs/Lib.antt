@@ -5,3 +5,4 @@ pub mod Reading
 pub mod Opening
 pub mod Calling
 pub mod Finding
+pub mod Lying

@@ -28,6 +28,11 @@ pub record IsWithin (index : Index) (upto : ℕ) : Type 0 where
   pub above : index.gone < upto
   pub most : upto ≤ end_of_index index
 
+-- a record with this number is there
+pub record HasNumber (index : Index) (number : ℕ) : Type 0 where
+  pub above : index.gone ≤ number
+  pub below : number < end_of_index index
+
 -- there is memory for the place of one record more
 abbrev pub HasSlot : Index → Type 0
 HasSlot index = deque_len index.places < deque_capacity index.places

@@ -13,9 +13,9 @@ use std::collections::VecDeque;
 
 // The first line in use behind some records, and how many lines are in use from there on.
 #[derive(Clone, Copy)]
-struct Behind {
-    first: u64,
-    used: u64,
+pub(crate) struct Behind {
+    pub(crate) first: u64,
+    pub(crate) used: u64,
 }
 
 // How many places on in a ring of so many another one is, less than once round.
@@ -102,7 +102,7 @@ impl Index {
     }
 
     // What is in use behind the first records.
-    fn behind(&self, cut: usize) -> Behind
+    pub(crate) fn behind(&self, cut: usize) -> Behind
         requires { cut ≤ length self.now.places.items }
         ensures place { result.first < self.now.lines }
         ensures most { result.used ≤ self.now.used }

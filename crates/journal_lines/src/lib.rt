@@ -11,3 +11,4 @@ pub use index::{Index, OpenRefusal};
 pub use lines::{
     HeadNumbers, MOST_IN_LINE, head_bytes, head_numbers, line_bytes, record_line, record_size,
 };
+pub use scanning::held;

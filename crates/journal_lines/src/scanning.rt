@@ -11,8 +11,8 @@ use line_memory::Line;
 use std::alloc::{AllocError, Global};
 use std::collections::VecDeque;
 
-// The bytes of a record that a line holds.
-fn held(line: &Line) -> &[u8]
+/// The bytes of a record that a line holds.
+pub fn held(line: &Line) -> &[u8]
     ensures { result.now ≡ held_by line.now }
 {
     let end = (line[0] as usize + 2).min(64);

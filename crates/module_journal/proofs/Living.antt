@@ -43,7 +43,7 @@ one_attempt lines log (a ∷ rest) one =
     by_flag true = refl
     by_flag false = refl
 
-run_paired : (setup : Setup) (events : List Event) (replies : List Reply) (old new : World) → Run setup events replies old new → length events ≡ length replies
+pub run_paired : (setup : Setup) (events : List Event) (replies : List Reply) (old new : World) → Run setup events replies old new → length events ≡ length replies
 run_paired setup [] [] old new run = refl
 run_paired setup (event ∷ events) (reply ∷ replies) old new run = ap suc (run_paired setup events replies run.0 new run.2)
 run_paired setup _ _ old new none = absurd none

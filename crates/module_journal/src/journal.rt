@@ -104,6 +104,13 @@ impl Journal {
         }
     }
 
+    /// Where its records lie.
+    pub fn index(&self) -> &Index
+        ensures { result.now ≡ self.now.index }
+    {
+        &self.index
+    }
+
     /// The number of the first record that is there: how many were cut.
     pub fn first(&self) -> u64
         ensures { result ≡ self.now.index.gone }

@@ -1,0 +1,60 @@
+// Rounds of a thousand puts into a table.
+use crate::processor::held_millis;
+use crate::rounds::{Amount, EACH, Spent, fresh, held_since, save_where};
+use channel_port::ChannelPort;
+use interleave_map::ReadyMap;
+use interleave_map::cells::line_count;
+use journal_load::JournalLife;
+use journal_table::JournalTable;
+use line_memory::zero_memory;
+use save_device::SaveDevice;
+use std::alloc::Global;
+
+/// How many rounds there are between two compactions.
+const ROUNDS: u64 = 16;
+
+/// What a key has.
+const VALUE: [u8; 100] = [7; 100];
+
+// A value for each of a thousand keys, and a save where the module isn't armed.
+fn put_round<K: ChannelPort + Drop, D: SaveDevice + Drop>(
+    alloc: Global,
+    life: &mut JournalLife<K, D>,
+    table: &mut JournalTable,
+    armed: bool,
+) -> anyhow::Result<()> {
+    for number in 0..EACH {
+        life.put(alloc, table, &number.to_le_bytes(), &VALUE)?;
+    }
+    save_where(life, armed)
+}
+
+/// Rounds of puts, with a compaction behind each sixteenth.
+pub(crate) fn put_rounds(
+    rt: &HostRuntime,
+    map: &ReadyMap,
+    armed: bool,
+    amount: Amount,
+) -> anyhow::Result<Spent> {
+    let alloc = rt.alloc();
+    let memory = zero_memory(alloc, line_count(&map.checked) as usize)?;
+    let mut table = JournalTable::open(alloc, &memory)?;
+    let mut life = fresh(alloc, map)?;
+    if armed {
+        life.arm()?;
+    }
+    let start = held_millis(rt);
+    for round in 0..amount.rounds {
+        put_round(alloc, &mut life, &mut table, armed)?;
+        if round % ROUNDS == ROUNDS - 1 {
+            life.compact(alloc, &mut table)?;
+        }
+    }
+    let millis = held_since(rt, start);
+    let (writes, _) = life.marks();
+    Ok(Spent {
+        records: amount.rounds.saturating_mul(EACH),
+        writes,
+        millis,
+    })
+}

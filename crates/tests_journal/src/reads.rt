@@ -1,0 +1,99 @@
+// Records that are read while a life runs.
+use crate::module::{LINES, map_of, opened, small};
+use arm_state::ReadRefusal;
+use channel_port::ChannelPort;
+use ddr4_boards::Ready;
+use energy_budget::Meter;
+use journal_reads::{NotRead, get};
+use line_memory::zero_memory;
+use module_core::Module;
+use module_journal::Journal;
+use nv_machine::StepReply;
+use save_device::MemoryDevice;
+use std::alloc::Global;
+use std::process::Abort;
+
+/// The bytes of the record that has this number in these tests.
+fn bytes_of(number: u64) -> [u8; 200] {
+    [number as u8 + 1; 200]
+}
+
+/// How many of them it has.
+fn size_of(number: u64) -> usize {
+    [0, 1, 62, 63, 124, 200][(number % 6) as usize]
+}
+
+// Whether the record with this number is read as it was appended.
+fn is_read<K: ChannelPort>(
+    alloc: Global,
+    journal: &Journal,
+    running: &mut Module<K>,
+    number: u64,
+) -> bool {
+    match get(journal, alloc, running, number) {
+        Ok(Some(bytes)) => bytes.as_slice() == &bytes_of(number)[..size_of(number)],
+        _ => false,
+    }
+}
+
+// Whether each record that is there is read so, and those before and behind them are told as none.
+fn are_read<K: ChannelPort>(alloc: Global, journal: &Journal, running: &mut Module<K>) -> bool {
+    for number in journal.numbers() {
+        if !is_read(alloc, journal, running, number) {
+            return false;
+        }
+    }
+    let behind = get(journal, alloc, running, journal.end());
+    let before = get(journal, alloc, running, journal.first().wrapping_sub(1));
+    behind.is_ok_and(|found| found.is_none()) && before.is_ok_and(|found| found.is_none())
+}
+
+// Records round the ring, read while they wait in the channels, through a save and while armed; and none behind a loss.
+fn read_a_life<K: ChannelPort + Drop, R: Abort>(
+    rt: &R,
+    alloc: Global,
+    ready: Ready<K, MemoryDevice, Meter>,
+) {
+    let mut running = ready.recorded.running;
+    let mut device = ready.recorded.device;
+    let mut energy = ready.recorded.energy;
+    let memory = zero_memory(alloc, LINES).expect(rt, "memory");
+    let mut journal = Journal::open(alloc, &memory).expect(rt, "a journal");
+    assert!(rt; are_read(alloc, &journal, &mut running));
+    for number in 0..120 {
+        if number >= 30 {
+            assert!(rt; journal.truncate(&mut running, number - 29).is_ok());
+        }
+        let bytes = bytes_of(number);
+        assert!(rt;
+            journal
+                .append(&mut running, &bytes[..size_of(number)])
+                .is_ok()
+        );
+        assert!(rt; is_read(alloc, &journal, &mut running, number));
+    }
+    assert!(rt; are_read(alloc, &journal, &mut running));
+    assert!(rt; running.save_begin().is_ok());
+    for _step in 0..8 {
+        assert!(rt;
+            !matches!(
+                running.save_step(&mut device, &mut energy),
+                StepReply::NoSave
+            )
+        );
+        assert!(rt; are_read(alloc, &journal, &mut running));
+    }
+    let _lost = running.power_loss(&mut device, &mut energy);
+    assert!(rt;
+        get(&journal, alloc, &mut running, 100) == Err(NotRead::Refused(ReadRefusal::Closed))
+    );
+    assert!(rt; get(&journal, alloc, &mut running, 120) == Ok(None));
+}
+
+#[test]
+fn records_are_read_while_a_life_runs(rt: HostRuntime) {
+    let profile = small(&rt, rt.alloc());
+    let map = map_of(&profile);
+    let ready = opened(&rt, rt.alloc(), &map, &profile);
+    read_a_life(&rt, rt.alloc(), ready);
+}
