@@ -38,7 +38,10 @@ pub(crate) fn request_of(line: &str) -> Result<Request<'_>, NoRequest> {
         return Ok(Request::Add(text));
     }
     if let Some(number) = line.strip_prefix("cut ") {
-        return number.parse().map(Request::Cut).map_err(|_| NoRequest);
+        return match number.parse() {
+            Ok(number) => Ok(Request::Cut(number)),
+            Err(_) => Err(NoRequest),
+        };
     }
     match line {
         "save" => Ok(Request::Save),

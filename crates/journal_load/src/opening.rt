@@ -1,5 +1,5 @@
 // A life on what a device holds.
-ghost use Rattle.std.specs.Prelude.{◌≡◌, ℕ, IfOk};
+ghost use Rattle.std.specs.Prelude.{◌≡◌, ℕ, true, IfOk};
 ghost use Rattle.ddr4_timing.specs.Limits.{lines_of};
 ghost use Rattle.journal_lines.specs.Indexed.{IsIndexOf};
 ghost use Rattle.journal_log.specs.Log.{Holds, Log};
