@@ -84,7 +84,7 @@ fn write_each<K: ChannelPort + Drop, D: SaveDevice + Drop>(
 /// An armed life of a module: so many writes, then as many as fill all queues, and the loss of mains.
 pub(crate) fn armed_life(rt: &HostRuntime, map: &ReadyMap, each: u64) -> anyhow::Result<Armed> {
     let device = formatted(rt.alloc(), &map.checked)?;
-    let mut load = open(rt, rt.alloc(), map, device)?;
+    let mut load = open(rt.alloc(), map, device)?;
     let mut picks = Picks::new(line_count(&map.checked));
     load.arm()?;
     let start = Instant::now(rt)?;

@@ -5,9 +5,8 @@
 //!
 //! Lines are written and read in a pseudo-random order. A write that finds its channel full works the channel until it isn't, and
 //! a read that has to wait works its channel until it has its bytes. A save writes a whole image to a device in memory, and a
-//! restore begins a memory with it: a module by a restore that digests both slots at once, the array by one in turn. Beside them
-//! stands what the digest of as many lines takes alone. An armed module writes as much again, and loses the mains with full
-//! queues.
+//! restore begins a memory with it; beside them stands what the digest of as many lines takes alone. An armed module writes as
+//! much again, and loses the mains with full queues.
 #![tactic(auto)]
 
 mod armed;

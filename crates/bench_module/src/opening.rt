@@ -12,10 +12,8 @@ use energy_budget::{Costs, TINY_COSTS};
 use interleave_map::ReadyMap;
 use interleave_map::cells::line_count;
 use save_device::SaveDevice;
-use slot_restore::restore_at_once;
-use slot_store::device_size;
+use slot_store::{device_size, restore};
 use std::alloc::Global;
-use std::thread::Threads;
 
 /// How many writes may wait in a channel, and how many of its reads may be open.
 pub const DEPTH: u64 = 64;
@@ -41,9 +39,8 @@ pub(crate) fn capacity_of(checked: &Checked) -> Result<usize, Stall>
     }
 }
 
-/// A module over channels with the memory that a device restores to, both slots of which are digested at once.
-pub(crate) fn open<'m, D: SaveDevice + Drop, R: Threads>(
-    rt: &R,
+/// A module over channels with the memory that a device restores to.
+pub(crate) fn open<'m, D: SaveDevice + Drop>(
     alloc: Global,
     map: &'m ReadyMap,
     mut device: D,
@@ -57,7 +54,7 @@ pub(crate) fn open<'m, D: SaveDevice + Drop, R: Threads>(
     if device.len() != device_size(lines) {
         return Err(Stall::Device.into());
     }
-    let restored = restore_at_once(rt, alloc, &mut device, lines)?;
+    let restored = restore(alloc, &mut device, lines)?;
     match ddr4_module::open(alloc, restored, map, checked, costs, SIZES) {
         Ok(module) => Ok(Load::new(module, device, checked.geometry.channels)),
         Err((_, error)) => Err(error.into()),

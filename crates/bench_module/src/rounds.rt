@@ -122,7 +122,7 @@ fn module_round(
     tally: &mut Tally,
 ) -> anyhow::Result<MemoryDevice> {
     let start = Instant::now(rt)?;
-    let mut load = open(rt, rt.alloc(), map, device)?;
+    let mut load = open(rt.alloc(), map, device)?;
     tally.nanos.add_restore(start.elapsed(rt)?.as_nanos());
     tally.round(rt, &mut load, each)?;
     Ok(load.into_device())
