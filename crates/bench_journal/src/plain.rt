@@ -23,6 +23,6 @@ pub(crate) fn file_rounds(rt: &HostRuntime, path: &str, size: usize) -> anyhow::
     Ok(Spent {
         records: EACH,
         writes: EACH,
-        millis: start.elapsed(rt)?.as_millis() as u64,
+        millis: u64::try_from(start.elapsed(rt)?.as_millis()).unwrap_or(u64::MAX),
     })
 }
