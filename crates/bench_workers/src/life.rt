@@ -71,7 +71,7 @@ where
 {
     let device = formatted(alloc, profile)?;
     let meter = Meter::with(AMPLE, 1);
-    let ready = open(alloc, map, profile, device, meter, plan.hosts).map_err(
+    let ready = open(rt, alloc, map, profile, device, meter, plan.hosts).map_err(
         |refused| refused.why,
     )?;
     let book = NoticeBook::with_room(alloc, 1)?;
@@ -86,7 +86,7 @@ where
     };
     if plan.saves || plan.lost_at.is_some() {
         let meter = Meter::with(AMPLE, 1);
-        let later = open(alloc, map, profile, earlier.device, meter, 1)
+        let later = open(rt, alloc, map, profile, earlier.device, meter, 1)
             .map_err(|refused| refused.why)?
             .recorded;
         let count = later.running.accepted();

@@ -163,7 +163,7 @@ where
         interleaving: profile.map,
         checked: profile.checked,
     };
-    match open(alloc, &map, profile, device, energy, hosts) {
+    match open(rt, alloc, &map, profile, device, energy, hosts) {
         Ok(ready) => use_ready::<D, E, U, Brand, R>(rt, alloc, ready, hosts, uses),
         Err(
             NotOpened {

@@ -31,9 +31,11 @@ use module_core::Module;
 use nv_profile::Profile;
 use nv_workers::{Opening, RecordedModule};
 use save_device::{MemoryDevice, SaveDevice};
-use slot_store::{RestoreError, Restored, device_size, format, restore};
+use slot_restore::restore_at_once;
+use slot_store::{RestoreError, Restored, device_size, format};
 use split_board::BoardTables;
 use std::alloc::{AllocError, Global};
+use std::thread::Threads;
 
 /// Why no module was opened, as a restore says it, `Memory` also where there was none for the module; and the device and the gauge
 /// that it was to have.
@@ -71,8 +73,10 @@ pub fn formatted(alloc: Global, profile: &Profile) -> anyhow::Result<MemoryDevic
     Ok(device)
 }
 
-/// Reads the newest image of a device of a profile, by the calls of one restore. No byte of it changes.
-pub fn restore_device<D: SaveDevice>(
+/// Reads the newest image of a device of a profile, by the calls of one restore. No byte of it changes. The lines of both slots
+/// are digested at once, where a thread is to be had.
+pub fn restore_device<D: SaveDevice, R: Threads>(
+    rt: &R,
     alloc: Global,
     profile: &Profile,
     device: &mut D,
@@ -85,7 +89,7 @@ pub fn restore_device<D: SaveDevice>(
         (D.state device.old) (D.state device.new) }
     ensures same { (D.state device.new).bytes ≡ (D.state device.old).bytes }
 {
-    restore(alloc, device, capacity_of(&profile.checked))
+    restore_at_once(rt, alloc, device, capacity_of(&profile.checked))
 }
 
 // The record of a life that begins with these lines, with room for so many writes.
@@ -156,10 +160,11 @@ fn begin<'m, M: LineMap>(
 }
 
 /// A module of a profile over a lawful map of its geometry, with the memory that a device restores to, its record, and the tables
-/// of its board for so many hosts. The device is restored once, and nothing else is asked of it: no byte of it changes. No channel has
-/// issued a command. Where none is opened the device and the gauge are given back: `Device` where a call of the device failed, and
+/// of its board for so many hosts. The device is restored once, as `restore_device` does, and nothing else is asked of it: no byte
+/// of it changes. No channel has issued a command. Where none is opened the device and the gauge are given back: `Device` where a call of the device failed, and
 /// only there; `Memory` only where there was none.
-pub fn open<'m, M: LineMap, D: SaveDevice + Drop, E: Energy + Drop>(
+pub fn open<'m, M: LineMap, D: SaveDevice + Drop, E: Energy + Drop, R: Threads>(
+    rt: &R,
     alloc: Global,
     map: &'m M,
     profile: &Profile,
@@ -196,7 +201,7 @@ pub fn open<'m, M: LineMap, D: SaveDevice + Drop, E: Energy + Drop>(
     ensures energy { IfErr result (λ none. none.energy ≡ energy) }
 {
     let lines = capacity_of(&profile.checked);
-    let restored = match restore(alloc, &mut device, lines) {
+    let restored = match restore_at_once(rt, alloc, &mut device, lines) {
         Ok(restored) => restored,
         Err(error) => {
             return Err(NotOpened {

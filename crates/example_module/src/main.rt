@@ -50,7 +50,7 @@ fn live(rt: &HostRuntime, alloc: Global, profile: &Profile) -> anyhow::Result<Me
         checked: profile.checked,
     };
     let device = formatted(alloc, profile)?;
-    match open(alloc, &map, profile, device, Meter::with(AMPLE, 1), 1) {
+    match open(rt, alloc, &map, profile, device, Meter::with(AMPLE, 1), 1) {
         Ok(ready) => lose(rt, ready),
         Err(refused) => Err(refused.why.into()),
     }
@@ -59,7 +59,7 @@ fn live(rt: &HostRuntime, alloc: Global, profile: &Profile) -> anyhow::Result<Me
 fn main(rt: HostRuntime) -> anyhow::Result<()> {
     let profile = read_profile(rt.alloc(), TINY.as_bytes())?;
     let mut device = live(&rt, rt.alloc(), &profile)?;
-    let restored = restore_device(rt.alloc(), &profile, &mut device)?;
+    let restored = restore_device(&rt, rt.alloc(), &profile, &mut device)?;
     let head = restored.head;
     println!(rt;
         "restored: generation {}, {} writes, {}",

@@ -77,7 +77,7 @@ fn compare(
         ..
     } = ended;
     let LifeEnd { mut device, .. } = end;
-    let restored = restore_device(alloc, profile, &mut device)?;
+    let restored = restore_device(rt, alloc, profile, &mut device)?;
     let told = told_in(hosts.as_slice(), restored.lines.as_slice());
     println!(*rt; "{life}, restored {}: {told}", restored.head.verdict)?;
     Ok(device)

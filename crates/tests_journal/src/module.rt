@@ -14,6 +14,7 @@ use save_device::MemoryDevice;
 use slot_store::restore;
 use std::alloc::Global;
 use std::process::Abort;
+use std::thread::Threads;
 
 /// The lines of the small profile.
 pub(crate) const LINES: usize = 128;
@@ -141,7 +142,7 @@ pub(crate) fn small<R: Abort>(rt: &R, alloc: Global) -> Profile {
 }
 
 // A life of zero lines on its channels.
-pub(crate) fn opened<'m, R: Abort>(
+pub(crate) fn opened<'m, R: Abort + Threads>(
     rt: &R,
     alloc: Global,
     map: &'m ReadyMap,
@@ -152,7 +153,7 @@ pub(crate) fn opened<'m, R: Abort>(
     let Ok(device) = formatted(alloc, profile) else {
         panic!(*rt; "a device");
     };
-    let Ok(ready) = open(alloc, map, profile, device, Meter::with(AMPLE, 1), 1) else {
+    let Ok(ready) = open(rt, alloc, map, profile, device, Meter::with(AMPLE, 1), 1) else {
         panic!(*rt; "a module");
     };
     ready

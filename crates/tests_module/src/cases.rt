@@ -15,6 +15,7 @@ use save_device::{MemoryDevice, SaveDevice};
 use slot_store::{RestoreError, device_size};
 use std::alloc::{AllocError, Global};
 use std::process::Abort;
+use std::thread::Threads;
 
 /// What is tried of a module.
 #[derive(Clone, Copy)]
@@ -86,7 +87,7 @@ fn unformatted(alloc: Global, profile: &Profile) -> Result<MemoryDevice, AllocEr
 }
 
 // Tries a case on a module over the map `lines` of the small profile.
-fn try_case<R: Abort>(rt: &R, alloc: Global, case: Case) {
+fn try_case<R: Abort + Threads>(rt: &R, alloc: Global, case: Case) {
     let profile = tiny(rt, alloc);
     let map = ReadyMap {
         interleaving: Interleaving::Lines,
@@ -95,7 +96,7 @@ fn try_case<R: Abort>(rt: &R, alloc: Global, case: Case) {
     let Ok(device) = formatted(alloc, &profile) else {
         panic!(*rt; "a device");
     };
-    let Ok(ready) = open(alloc, &map, &profile, device, Meter::with(0, 0), 1) else {
+    let Ok(ready) = open(rt, alloc, &map, &profile, device, Meter::with(0, 0), 1) else {
         panic!(*rt; "a module");
     };
     try_module(rt, alloc, ready, case);
@@ -113,7 +114,7 @@ fn a_device_with_no_image_is_given_back(rt: HostRuntime) {
     let Ok(device) = unformatted(alloc, &profile) else {
         panic!(rt; "a device");
     };
-    let Err(none) = open(alloc, &map, &profile, device, Meter::with(7, 0), 1) else {
+    let Err(none) = open(&rt, alloc, &map, &profile, device, Meter::with(7, 0), 1) else {
         panic!(rt; "no module");
     };
     let NotOpened {

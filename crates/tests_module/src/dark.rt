@@ -19,6 +19,7 @@ use save_device::{MemoryDevice, SaveDevice};
 use slot_store::Verdict;
 use std::alloc::Global;
 use std::process::Abort;
+use std::thread::Threads;
 
 /// What is enough to arm, and to accept a write.
 const ENOUGH: u64 = 9_000;
@@ -83,7 +84,7 @@ pub(crate) fn map_of(profile: &Profile) -> ReadyMap
 
 /// An armed module whose gauge shows so many units. One write waits in channel 0, whose row is open, and behind it those of
 /// further lines.
-pub(crate) fn armed_with<'m, R: Abort>(
+pub(crate) fn armed_with<'m, R: Abort + Threads>(
     rt: &R,
     alloc: Global,
     profile: &Profile,
@@ -96,7 +97,7 @@ pub(crate) fn armed_with<'m, R: Abort>(
     let Ok(device) = formatted(alloc, profile) else {
         panic!(*rt; "a device");
     };
-    let Ok(ready) = open(alloc, map, profile, device, Meter::with(ENOUGH, 0), 1) else {
+    let Ok(ready) = open(rt, alloc, map, profile, device, Meter::with(ENOUGH, 0), 1) else {
         panic!(*rt; "a module");
     };
     let mut load = load_of(rt, ready);
@@ -122,7 +123,7 @@ pub(crate) fn restores_to_the_old<R: Abort>(rt: &R, alloc: Global, device: &mut 
 
 // An armed module loses mains with so many units, and goes dark. One write waits in channel 0, whose row is open, and behind it
 // those of further lines. The two channels are left so. The device, which restores to the image of before.
-fn device_in_the_dark<R: Abort>(
+fn device_in_the_dark<R: Abort + Threads>(
     rt: &R,
     alloc: Global,
     further: &[u64],
@@ -141,7 +142,7 @@ fn device_in_the_dark<R: Abort>(
 }
 
 // The same, where what the device holds isn't asked for.
-fn goes_dark<R: Abort>(
+fn goes_dark<R: Abort + Threads>(
     rt: &R,
     alloc: Global,
     further: &[u64],

@@ -15,6 +15,7 @@ use save_device::{MemoryDevice, OneFault};
 use slot_store::Verdict;
 use std::alloc::Global;
 use std::process::Abort;
+use std::thread::Threads;
 
 /// What is enough to arm, and to accept a write.
 const ENOUGH: u64 = 9_000;
@@ -42,7 +43,7 @@ fn tiny_with_retries<R: Abort>(rt: &R, alloc: Global) -> Profile {
 }
 
 // An armed module on which one write waits, over a device that passes so many calls before the one that fails.
-fn armed<'m, R: Abort>(
+fn armed<'m, R: Abort + Threads>(
     rt: &R,
     alloc: Global,
     map: &'m ReadyMap,
@@ -55,7 +56,7 @@ fn armed<'m, R: Abort>(
         panic!(*rt; "a device");
     };
     let device = OneFault::new(device, before);
-    let Ok(ready) = open(alloc, map, profile, device, Meter::with(ENOUGH, 0), 1) else {
+    let Ok(ready) = open(rt, alloc, map, profile, device, Meter::with(ENOUGH, 0), 1) else {
         panic!(*rt; "a module");
     };
     let mut load = load_of(rt, ready);
@@ -73,14 +74,20 @@ fn lines_map(profile: &Profile) -> ReadyMap
 }
 
 // How many calls of the device are made until it is armed.
-fn calls_until_armed<R: Abort>(rt: &R, alloc: Global, profile: &Profile) -> u64 {
+fn calls_until_armed<R: Abort + Threads>(rt: &R, alloc: Global, profile: &Profile) -> u64 {
     let map = lines_map(profile);
     let load = armed(rt, alloc, &map, profile, u64::MAX);
     u64::MAX.saturating_sub(load.device.before.unwrap_or(0))
 }
 
 // What mains that are lost come to, with so many units on backup.
-fn loses<R: Abort>(rt: &R, alloc: Global, profile: &Profile, before: u64, units: u64) -> Loss {
+fn loses<R: Abort + Threads>(
+    rt: &R,
+    alloc: Global,
+    profile: &Profile,
+    before: u64,
+    units: u64,
+) -> Loss {
     let map = lines_map(profile);
     let mut load = armed(rt, alloc, &map, profile, before);
     load.gauge.lie(units);

@@ -15,7 +15,12 @@ use std::time::Clock;
 use store_file::StoreHost;
 
 // What the program does: its exit status, and its lines on standard error but for the name in front.
-fn outcome<R, W>(rt: &R, place: &str, words: &[&str], writer: &mut W) -> (ExitCode, String)
+pub(crate) fn outcome<R, W>(
+    rt: &R,
+    place: &str,
+    words: &[&str],
+    writer: &mut W,
+) -> (ExitCode, String)
 where
     R: Abort + Files + Host + StoreHost + Input + Print + Eprint + Clock + AllocGlobal,
     W: Write,

@@ -7,11 +7,11 @@ use save_image::{Version, header_bytes, header_bytes_2};
 use slot_store::{Newest, RestoreError, Slot, Verdict, mark_armed, restore, save};
 use std::process::Abort;
 
-const HALF: usize = SIZE / 2;
+pub(crate) const HALF: usize = SIZE / 2;
 
-const FIRST_DAMAGED: RestoreError = RestoreError::Damaged { slot: Slot::First };
+pub(crate) const FIRST_DAMAGED: RestoreError = RestoreError::Damaged { slot: Slot::First };
 
-const SECOND_DAMAGED: RestoreError = RestoreError::Damaged { slot: Slot::Second };
+pub(crate) const SECOND_DAMAGED: RestoreError = RestoreError::Damaged { slot: Slot::Second };
 
 // The SHA-256 of the 8,192 zero bytes of so many zero lines.
 const DIGEST_OF_ZEROS: [u8; 32] = [
@@ -50,7 +50,7 @@ fn put(store: &mut Vec<u8>, at: usize, bytes: &[u8]) {
 }
 
 // That store, of which all other bytes are zero.
-fn old_store<R: Abort + AllocGlobal>(rt: &R) -> MemoryDevice {
+pub(crate) fn old_store<R: Abort + AllocGlobal>(rt: &R) -> MemoryDevice {
     let mut bytes = Vec::from_elem(rt.alloc(), 0, SIZE).expect(rt, "memory");
     put(&mut bytes, 0, &OLD_FORMAT);
     put(&mut bytes, HALF, &OLD_SAVE);
@@ -104,7 +104,7 @@ fn an_old_store_that_goes_on(rt: HostRuntime) {
 }
 
 // A formatted store with a save of one line behind it.
-fn saved<R: Abort + AllocGlobal>(rt: &R) -> MemoryDevice {
+pub(crate) fn saved<R: Abort + AllocGlobal>(rt: &R) -> MemoryDevice {
     let mut device = formatted(rt);
     assert!(*rt; device.len() == SIZE);
     save(&mut device, CLOSED_FIRST, true, 1, false, &memory(0x11)).expect(rt, "a save");
@@ -164,7 +164,7 @@ fn a_bit_of_a_digest_or_of_a_line(rt: HostRuntime) {
 }
 
 // Makes a slot of a store of zero lines an image of this version, after five writes, clear and with an open gate.
-fn put_image<R: Abort>(
+pub(crate) fn put_image<R: Abort>(
     rt: &R,
     device: &mut MemoryDevice,
     slot: Slot,

@@ -12,4 +12,6 @@ mod profiles;
 #[cfg(test)]
 mod rules;
 #[cfg(test)]
+mod statistics;
+#[cfg(test)]
 mod verdicts;

@@ -69,7 +69,15 @@ where
         checked: profile.checked,
     };
     let meter = Meter::with(AMPLE, 1);
-    match open(alloc, &map, profile, fresh(rt, alloc, profile), meter, 1) {
+    match open(
+        rt,
+        alloc,
+        &map,
+        profile,
+        fresh(rt, alloc, profile),
+        meter,
+        1,
+    ) {
         Ok(ready) => arm_beside::<_, Brand, R>(rt, alloc, ready),
         Err(_) => panic!(*rt; "not opened"),
     }

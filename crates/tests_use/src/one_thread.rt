@@ -17,6 +17,7 @@ use persistent_write::{NotPersistent, write_persistent};
 use save_device::{Fuse, SaveDevice};
 use std::alloc::Global;
 use std::process::Abort;
+use std::thread::Threads;
 
 /// The calls of a device that a restore of the small profile takes, and some steps of a save.
 const CALLS: u64 = 9;
@@ -30,13 +31,19 @@ fn write_of(line: u64) -> Write {
 }
 
 // A module on a formatted device that passes so many calls, and what is tried of it.
-fn with_module<R: Abort>(rt: &R, alloc: Global, profile: &Profile, calls: u64, case: Case) {
+fn with_module<R: Abort + Threads>(
+    rt: &R,
+    alloc: Global,
+    profile: &Profile,
+    calls: u64,
+    case: Case,
+) {
     let map = ReadyMap {
         interleaving: profile.map,
         checked: profile.checked,
     };
     let device = Fuse::new(fresh(rt, alloc, profile), calls);
-    match open(alloc, &map, profile, device, Meter::with(AMPLE, 1), 1) {
+    match open(rt, alloc, &map, profile, device, Meter::with(AMPLE, 1), 1) {
         Ok(ready) => try_case(rt, ready, case),
         Err(_) => panic!(*rt; "not opened"),
     }

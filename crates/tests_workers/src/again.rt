@@ -20,6 +20,7 @@ use std::alloc::Global;
 use std::marker::Brand;
 use std::process::Abort;
 use std::sync::Wait;
+use std::thread::Threads;
 
 /// How many lines are written at each board.
 const EACH: u64 = 4;
@@ -131,7 +132,7 @@ where
 }
 
 // Tries that on the channels of the small profile.
-fn try_again<R: Wait + Abort>(rt: &R, alloc: Global) {
+fn try_again<R: Wait + Abort + Threads>(rt: &R, alloc: Global) {
     let Ok(profile) = read_profile(alloc, TINY.as_bytes()) else {
         panic!(*rt; "a profile");
     };
@@ -142,7 +143,7 @@ fn try_again<R: Wait + Abort>(rt: &R, alloc: Global) {
     let Ok(device) = formatted(alloc, &profile) else {
         panic!(*rt; "a device");
     };
-    let Ok(ready) = open(alloc, &map, &profile, device, Meter::with(AMPLE, 1), 1) else {
+    let Ok(ready) = open(rt, alloc, &map, &profile, device, Meter::with(AMPLE, 1), 1) else {
         panic!(*rt; "a module");
     };
     live_twice::<_, _, _, Brand, R>(rt, alloc, ready);

@@ -205,7 +205,7 @@ where
     let Ok(device) = formatted(alloc, &profile) else {
         panic!(*rt; "a device");
     };
-    let Ok(ready) = open(alloc, &map, &profile, device, Meter::with(AMPLE, 1), 12) else {
+    let Ok(ready) = open(rt, alloc, &map, &profile, device, Meter::with(AMPLE, 1), 12) else {
         panic!(*rt; "a module");
     };
     try_board::<_, _, _, Brand, R>(rt, alloc, ready, case);

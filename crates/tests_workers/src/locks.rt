@@ -278,7 +278,15 @@ where
     let Ok(device) = formatted(alloc, &profile) else {
         panic!(*rt; "a device");
     };
-    let Ok(ready) = open(alloc, &map, &profile, device, Meter::with(AMPLE, 1), HOSTS) else {
+    let Ok(ready) = open(
+        rt,
+        alloc,
+        &map,
+        &profile,
+        device,
+        Meter::with(AMPLE, 1),
+        HOSTS,
+    ) else {
         panic!(*rt; "a module");
     };
     try_split::<_, _, _, Brand, R>(rt, alloc, ready, case);

@@ -16,12 +16,24 @@ use save_device::SaveDevice;
 use split_board::{Board, channel_worker};
 use std::process::Abort;
 use std::sync::Wait;
+use std::sync::atomic::{AtomicBool, Ordering};
 use std::thread;
 use std::thread::Threads;
 use std::time::{Clock, Duration};
 
 /// How long a call has to come to the lock that it waits for, in milliseconds.
-const SHORT: u64 = 20;
+const WHILE: u64 = 300;
+
+// A call was begun, and waits for its lock by now.
+fn await_call<R: Clock>(rt: &R, begun: &AtomicBool) {
+    for _ in 0..LIMIT {
+        if begun.load(Ordering::SeqCst) {
+            break;
+        }
+        thread::sleep(rt, Duration::from_millis(1));
+    }
+    thread::sleep(rt, Duration::from_millis(WHILE));
+}
 
 /// What was told of channel 1 while channel 0's lock was held.
 #[derive(Clone, Copy, Debug, PartialEq, Eq)]
@@ -36,6 +48,7 @@ fn write_and_work<K, D, E, B, N, R>(
     board: &Board<K, D, E, B, N>,
     host: &mut Host<B>,
     gate: &InsideUntil<R>,
+    sensed: &AtomicBool,
 ) -> Told
 where
     K: ChannelPort + Drop + Send,
@@ -46,16 +59,18 @@ where
     R: Threads + Wait + Clock + Send + Sync,
     requires { CHANNELS ≡ B.channels }
 {
+    let written = AtomicBool::new(false);
     let (receipt, worked) = thread::join(
         rt,
         || -> Result<Receipt, WriteRefusal> {
-            thread::sleep(rt, Duration::from_millis(SHORT));
+            await_call(rt, sensed);
+            written.store(true, Ordering::SeqCst);
             board.write(rt, host, write_of(1, 11))
         },
         || -> Ended
             requires { CHANNELS ≡ B.channels }
         {
-            thread::sleep(rt, Duration::from_millis(2 * SHORT));
+            await_call(rt, &written);
             let turns = Turns { worker: 1, most: 4 };
             let ended = channel_worker(rt, board, 1, &turns);
             gate.answer();
@@ -82,12 +97,16 @@ where
     requires { CHANNELS ≡ B.channels }
 {
     let _entered = gate.await_entry();
+    let sensed = AtomicBool::new(false);
     thread::join(
         rt,
-        || -> u64 { board.sense(rt) },
+        || -> u64 {
+            sensed.store(true, Ordering::SeqCst);
+            board.sense(rt)
+        },
         || -> Told
             requires { CHANNELS ≡ B.channels }
-        { write_and_work(rt, board, host, gate) },
+        { write_and_work(rt, board, host, gate, &sensed) },
     )
 }
 

@@ -29,6 +29,7 @@ use std::alloc::Global;
 use std::marker::Brand;
 use std::process::Abort;
 use std::sync::Wait;
+use std::thread::Threads;
 use std::time::Clock;
 
 /// How many writes may wait in a channel of the small profile, and how many of its reads may be open.
@@ -292,7 +293,7 @@ where
 }
 
 // Tries a case on a board over the map `lines` of the small profile.
-fn try_quiet<R: Wait + Clock + Abort>(rt: &R, alloc: Global, case: Case) {
+fn try_quiet<R: Wait + Clock + Abort + Threads>(rt: &R, alloc: Global, case: Case) {
     let Ok(profile) = read_profile(alloc, TINY.as_bytes()) else {
         panic!(*rt; "a profile");
     };
@@ -307,7 +308,7 @@ fn try_quiet<R: Wait + Clock + Abort>(rt: &R, alloc: Global, case: Case) {
         Case::Refused => LITTLE,
         _ => AMPLE,
     };
-    let Ok(ready) = open(alloc, &map, &profile, device, Meter::with(level, 1), 1) else {
+    let Ok(ready) = open(rt, alloc, &map, &profile, device, Meter::with(level, 1), 1) else {
         panic!(*rt; "a module");
     };
     try_module::<_, _, _, Brand, R>(rt, alloc, ready, case);

@@ -24,10 +24,10 @@ use Rattle.ddr4_boards.proofs.opening.open.Goals.{In-Ok-begin}
 
 -- the module that has begun stands for a life with the newest image
 begun_stands : (g : _) (c : In-Ok-begin g)
-    → ModuleStands _ c.in-Ok-begin.begun.running (g.D.SaveDevice.state c.restore.new.device)
+    → ModuleStands _ c.in-Ok-begin.begun.running (g.D.SaveDevice.state c.restore_at_once.new.device)
     (opened_with c.in-Ok.restored.head (image_of_restored c.in-Ok.restored c.in-Ok.ensures.found.arm))
 begun_stands g c =
-    let device : DeviceState = g.D.SaveDevice.state c.restore.new.device in
+    let device : DeviceState = g.D.SaveDevice.state c.restore_at_once.new.device in
     let it = c.in-Ok.restored in let read = c.in-Ok.ensures in
     let image : Image = image_of_restored it read.found.arm in
     c.in-Ok-begin.ensures.begins read.found.arm device
@@ -41,11 +41,11 @@ just_begun L M it found image room stands records =
     record { stands = stands; recorded_is = subst (λ (r : ℕ). it.history ≡ recorded image.memory image.count [] r) same records }
 
 has_begun : (g : _) (c : In-Ok-begin g)
-    → HasJustBegun _ g.D.SaveDevice (record { running = c.in-Ok-begin.begun.running; device = c.restore.new.device; energy = c.args.energy; history = c.in-Ok-begin.begun.history })
+    → HasJustBegun _ g.D.SaveDevice (record { running = c.in-Ok-begin.begun.running; device = c.restore_at_once.new.device; energy = c.args.energy; history = c.in-Ok-begin.begun.history })
     c.in-Ok.restored.head (image_of_restored c.in-Ok.restored c.in-Ok.ensures.found.arm)
 has_begun g c =
     let image : Image = image_of_restored c.in-Ok.restored c.in-Ok.ensures.found.arm in
-    just_begun _ g.D.SaveDevice (record { running = c.in-Ok-begin.begun.running; device = c.restore.new.device; energy = c.args.energy; history = c.in-Ok-begin.begun.history })
+    just_begun _ g.D.SaveDevice (record { running = c.in-Ok-begin.begun.running; device = c.restore_at_once.new.device; energy = c.args.energy; history = c.in-Ok-begin.begun.history })
     c.in-Ok.restored.head image c.args.profile.now.sizes.trail (begun_stands g c) c.in-Ok-begin.ensures.history
 
 pub invariant_of-result-clause-fresh : goal.invariant_of-result-clause-fresh
@@ -70,7 +70,7 @@ invariant_of-result-clause-sized g c =
     let read = c.in-Ok.ensures in
     let rest = read.at_rest (image_of_restored c.in-Ok.restored read.found.arm) read.found.newest in
     let lines = ap (λ (s : Setup). s.shape.lines) c.in-Ok-begin.ensures.setup.is in
-    subst (λ (n : ℕ). HasSize n (g.D.SaveDevice.state c.restore.new.device)) (c.capacity_of-lines.ensures.is ∙ sym lines) rest.size
+    subst (λ (n : ℕ). HasSize n (g.D.SaveDevice.state c.restore_at_once.new.device)) (c.capacity_of-lines.ensures.is ∙ sym lines) rest.size
 
 pub invariant_of-result-clause-counted : goal.invariant_of-result-clause-counted
 invariant_of-result-clause-counted g c = sym (ap (λ (s : Setup). s.shape.channels) c.in-Ok-begin.ensures.setup.is)
@@ -87,35 +87,35 @@ returns-clause-restored g c =
     }
 
 -- the calls that found the image
-restored_once : (g : _) (c : In-Ok-begin g) → HadOneRestore c.capacity_of-lines.result (g.D.SaveDevice.state c.args.device) (g.D.SaveDevice.state c.restore.new.device)
+restored_once : (g : _) (c : In-Ok-begin g) → HadOneRestore c.capacity_of-lines.result (g.D.SaveDevice.state c.args.device) (g.D.SaveDevice.state c.restore_at_once.new.device)
 restored_once g c = (c.in-Ok.restored, c.in-Ok.ensures.calls)
 
 pub returns-clause-calls : goal.returns-clause-calls
 returns-clause-calls g c =
     let at = goal.at.returns-clause-calls g c in
-    subst (λ (lines : ℕ). HadOneRestore lines (g.D.SaveDevice.state c.args.device) (g.D.SaveDevice.state c.restore.new.device)) c.capacity_of-lines.ensures.is (restored_once g at.In-Ok-begin)
+    subst (λ (lines : ℕ). HadOneRestore lines (g.D.SaveDevice.state c.args.device) (g.D.SaveDevice.state c.restore_at_once.new.device)) c.capacity_of-lines.ensures.is (restored_once g at.In-Ok-begin)
 
 pub returns-clause-spared : goal.returns-clause-spared
 returns-clause-spared g c =
     let at = goal.at.returns-clause-spared g c in
-    restored_spared c.capacity_of-lines.result (g.D.SaveDevice.state c.args.device) (g.D.SaveDevice.state c.restore.new.device) (restored_once g at.In-Ok-begin)
+    restored_spared c.capacity_of-lines.result (g.D.SaveDevice.state c.args.device) (g.D.SaveDevice.state c.restore_at_once.new.device) (restored_once g at.In-Ok-begin)
 
 pub returns-in-Err-clause-refused_calls : goal.returns-in-Err-clause-refused_calls
 returns-in-Err-clause-refused_calls g c =
     let old = g.D.SaveDevice.state c.args.device in
-    let new = g.D.SaveDevice.state c.restore.new.device in
+    let new = g.D.SaveDevice.state c.restore_at_once.new.device in
     subst (λ (lines : ℕ). HadOneRefused lines c.in-Err.error old new) c.capacity_of-lines.ensures.is (had_one_refused c.capacity_of-lines.result c.in-Err.error old new c.in-Err.ensures.calls)
 
 pub returns-in-Err-clause-faults : goal.returns-in-Err-clause-faults
 returns-in-Err-clause-faults g c =
-    refused_by_faults c.capacity_of-lines.result c.in-Err.error (g.D.SaveDevice.state c.args.device) (g.D.SaveDevice.state c.restore.new.device) c.in-Err.ensures.calls
+    refused_by_faults c.capacity_of-lines.result c.in-Err.error (g.D.SaveDevice.state c.args.device) (g.D.SaveDevice.state c.restore_at_once.new.device) c.in-Err.ensures.calls
 
 pub returns-in_default-clause-refused_calls : goal.returns-in_default-clause-refused_calls
 returns-in_default-clause-refused_calls g c =
     let old = g.D.SaveDevice.state c.args.device in
-    let new = g.D.SaveDevice.state c.restore.new.device in
+    let new = g.D.SaveDevice.state c.restore_at_once.new.device in
     subst (λ (lines : ℕ). HadOneRefused lines RestoreError.Memory old new) c.capacity_of-lines.ensures.is (inr (c.in-Ok.restored, c.in-Ok.ensures.calls))
 
 pub returns-in_default-clause-faults : goal.returns-in_default-clause-faults
 returns-in_default-clause-faults g c =
-    restored_spared c.capacity_of-lines.result (g.D.SaveDevice.state c.args.device) (g.D.SaveDevice.state c.restore.new.device) (c.in-Ok.restored, c.in-Ok.ensures.calls)
+    restored_spared c.capacity_of-lines.result (g.D.SaveDevice.state c.args.device) (g.D.SaveDevice.state c.restore_at_once.new.device) (c.in-Ok.restored, c.in-Ok.ensures.calls)

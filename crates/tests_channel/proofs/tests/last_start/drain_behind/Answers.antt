@@ -1,4 +1,4 @@
-use Rattle.std.proofs.Common.{◌≡◌, rules}
+use Rattle.std.proofs.Common.{◌≡◌, rules, sym}
 use Rattle.std.specs.Prelude.{IsNone}
 use Rattle.tests_channel.proofs.tests.last_start.drain_behind.Goals as goal
 
@@ -6,4 +6,6 @@ pub drain_opened-requires-clause-lawful : goal.drain_opened-requires-clause-lawf
 drain_opened-requires-clause-lawful g c =
     let none : IsNone c.first_fault.result = search rules in
     let same : c.args.channel.now.checked ≡ c.args.checked.now = search rules in
-    rw same (c.first_fault.ensures.lawful.0 none)
+    let timing : c.args.checked.now.timing ≡ c.rules.result.timing = sym c.rules.ensures.timing in
+    let geometry : c.args.checked.now.geometry ≡ c.rules.result.geometry = sym c.rules.ensures.geometry in
+    rw same (rw timing (rw geometry (c.first_fault.ensures.lawful.0 none)))

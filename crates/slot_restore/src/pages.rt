@@ -1,0 +1,120 @@
+// The header pages of both slots.
+ghost use Rattle.std.specs.Prelude.{◌≡◌, ◌+◌, ◌≤◌, List, ℕ, length, is_ok, slice_range, IfOk};
+ghost use Rattle.save_device.specs.Changes.{OnlyReads};
+ghost use Rattle.slot_store.specs.Slots.{HasSize, slot_state, slot_with, body_in};
+ghost use Rattle.slot_store.specs.Told.{header_at, header_in_page};
+ghost use Rattle.slot_restore.specs.Pages.{ArePages, told, digest_said, version_said, header_of, page_of};
+
+use save_device::{DeviceFault, SaveDevice};
+use save_image::{Header, Version, read_header};
+use slot_store::Slot;
+
+/// What the header page of a slot says.
+#[derive(Clone, Copy)]
+pub(crate) enum SlotPage {
+    /// The gate isn't open.
+    Shut,
+    /// It is open, and the page is no header.
+    Broken,
+    Image(Header),
+}
+
+impl SlotPage {
+    /// The digest that the lines have to have, if any.
+    pub(crate) fn digest(self) -> Option<[u8; 32]>
+        ensures { result ≡ digest_said self }
+    {
+        match self {
+            SlotPage::Image(header) => header.digest,
+            SlotPage::Shut | SlotPage::Broken => None,
+        }
+    }
+
+    /// The version of the image.
+    pub(crate) fn version(self) -> Version
+        ensures { result ≡ version_said self }
+    {
+        match self.digest() {
+            None => Version::One,
+            Some(_) => Version::Two,
+        }
+    }
+}
+
+/// What the header pages of both slots say.
+#[derive(Clone, Copy)]
+pub(crate) struct SlotPages {
+    pub(crate) first: SlotPage,
+    pub(crate) second: SlotPage,
+}
+
+impl SlotPages {
+    /// What that of this slot says.
+    pub(crate) fn of(&self, slot: Slot) -> SlotPage
+        ensures { result ≡ page_of self.now slot }
+    {
+        match slot {
+            Slot::First => self.first,
+            Slot::Second => self.second,
+        }
+    }
+}
+
+/// Reads one page.
+pub(crate) fn read_page<D: SaveDevice>(device: &mut D, at: usize) -> Result<[u8; 4096], DeviceFault>
+    requires { at + 4096 ≤ length (D.state device.old).bytes }
+    ensures page { IfOk result
+        (λ page. page ≡ slice_range (D.state device.old).bytes at (at + 4096)) }
+    ensures reads { OnlyReads 1 (is_ok result) (D.state device.old) (D.state device.new) }
+{
+    let mut page = [0; 4096];
+    device.read(at, &mut page)?;
+    Ok(page)
+}
+
+fn said_by(page: &[u8; 4096], lines: usize) -> SlotPage
+    ensures state { (memory : List (List ℕ))
+        → slot_with lines page.now memory ≡ told result memory }
+    ensures header { header_in_page lines page.now ≡ header_of result }
+{
+    if page[0] != 0xA5 {
+        return SlotPage::Shut;
+    }
+    match read_header(page, lines as u64) {
+        Ok(header) => SlotPage::Image(header),
+        Err(_) => SlotPage::Broken,
+    }
+}
+
+fn read_slot<D: SaveDevice>(
+    device: &mut D,
+    slot: Slot,
+    lines: usize,
+) -> Result<SlotPage, DeviceFault>
+    requires lines { lines ≤ 65536 }
+    requires size { HasSize lines (D.state device.old) }
+    ensures state { IfOk result (λ page. slot_state lines slot (D.state device.old).bytes
+        ≡ told page (body_in lines slot (D.state device.old).bytes)) }
+    ensures header { IfOk result (λ page.
+        header_at lines slot (D.state device.old).bytes ≡ header_of page) }
+    ensures reads { OnlyReads 1 (is_ok result) (D.state device.old) (D.state device.new) }
+{
+    let page = read_page(device, slot.start(lines))?;
+    Ok(said_by(&page, lines))
+}
+
+/// Reads both.
+pub(crate) fn read_both<D: SaveDevice>(
+    device: &mut D,
+    lines: usize,
+) -> Result<SlotPages, DeviceFault>
+    requires lines { lines ≤ 65536 }
+    requires size { HasSize lines (D.state device.old) }
+    ensures pages { IfOk result
+        (λ both. ArePages lines (D.state device.old).bytes both) }
+    ensures reads { OnlyReads 2 (is_ok result) (D.state device.old) (D.state device.new) }
+{
+    let first = read_slot(device, Slot::First, lines)?;
+    let second = read_slot(device, Slot::Second, lines)?;
+    Ok(SlotPages { first, second })
+}

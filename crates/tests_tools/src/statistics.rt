@@ -1,0 +1,64 @@
+// What is counted of a trace.
+use crate::verdicts::checked;
+use command_trace::{TraceReader, form_of};
+use std::alloc::Global;
+use std::str;
+use trace_statistics::{measure_trace, write_statistics};
+
+fn counted(alloc: Global, text: &str) -> anyhow::Result<String> {
+    let rules = checked()?.rules();
+    let form = form_of(alloc, text.as_bytes(), false)?;
+    let mut reader = TraceReader::new(alloc, text.as_bytes(), form, 1);
+    let measured = measure_trace(&rules, &mut reader)?;
+    let mut written = Vec::new(alloc);
+    write_statistics(&rules, &measured, &mut written)?;
+    Ok(String::from_str(alloc, str::from_utf8(&written)?)?)
+}
+
+// Two accesses of a row; one behind a PRE for it; one behind a PREA; and one behind a PRE and a REF.
+const TRACE: &str = "0 0 ACT 0 0 0 1
+0 16 RD 0 0 0 0
+0 22 RD 0 0 0 1
+0 30 ACT 0 1 0 0
+0 46 WR 0 1 0 2
+0 60 PRE 0 0 0
+0 76 ACT 0 0 0 0
+0 92 RD 0 0 0 3
+0 131 PREA 0
+0 147 ACT 0 0 0 1
+0 163 WR 0 0 0 1
+0 200 PRE 0 0 0
+0 9360 REF 0
+0 9500 ACT 1 0 0 0
+0 9516 RD 1 0 0 0
+0 9780 ACT 0 0 0 1
+0 9796 WR 0 0 0 0
+0 9999 PRE 0 0 0
+";
+
+const COUNTED: &str =
+    "0 channel ACT 6 RD 4 WR 3 PRE 3 hits 1 misses 5 conflicts 1 bus 0.28% bytes 44 PREA 1 REF 1 SRE 0
+0 bank 0 0 0 ACT 4 RD 3 WR 2 PRE 3 hits 1 misses 3 conflicts 1 bus 0.20% bytes 32
+0 bank 0 1 0 ACT 1 RD 0 WR 1 PRE 0 hits 0 misses 1 conflicts 0 bus 0.04% bytes 6
+0 bank 1 0 0 ACT 1 RD 1 WR 0 PRE 0 hits 0 misses 1 conflicts 0 bus 0.04% bytes 6
+";
+
+#[test]
+fn numbers_of_a_trace(rt: HostRuntime) -> anyhow::Result<()> {
+    assert_eq!(rt; counted(rt.alloc(), TRACE)?.as_str(), COUNTED);
+    Ok(())
+}
+
+// A channel without a command has its line, and one with a fault has none.
+#[test]
+fn numbers_of_no_command_and_of_a_fault(rt: HostRuntime) -> anyhow::Result<()> {
+    assert_eq!(rt;
+        counted(rt.alloc(), "")?.as_str(),
+        "0 channel ACT 0 RD 0 WR 0 PRE 0 hits 0 misses 0 conflicts 0 bus 0.00% bytes 0 PREA 0 REF 0 SRE 0\n"
+    );
+    assert_eq!(rt;
+        counted(rt.alloc(), "0 0 ACT 0 0 0 1\n0 15 RD 0 0 0 0\n")?.as_str(),
+        ""
+    );
+    Ok(())
+}

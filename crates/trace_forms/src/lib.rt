@@ -1,0 +1,12 @@
+//! The forms in which others write traces: which word of a line says what, and how its numbers are written.
+#![tactic(auto)]
+
+mod columns;
+mod form;
+mod part;
+mod words;
+
+pub use columns::{Columns, columns_of};
+pub use form::{ForeignForm, FormFault, Separator};
+pub use part::Part;
+pub use words::{Words, number};
