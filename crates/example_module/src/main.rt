@@ -3,10 +3,9 @@
 #![tactic(auto)]
 
 use panguhero::{
-    ChannelPort, MemoryDevice, Meter, Profile, Ready, ReadyMap, RecordedModule, TINY, Write,
+    ChannelPort, MemoryDevice, Meter, Ready, ReadyMap, RecordedModule, Restored, TINY, Write,
     formatted, open, read_profile, restore_device, write_persistent,
 };
-use std::alloc::Global;
 
 /// More energy than any save takes, in units.
 const AMPLE: u64 = 1 << 62;
@@ -43,30 +42,31 @@ fn lose<K: ChannelPort + Drop>(
     Ok(device)
 }
 
-// A life from a formatted device to a loss of mains.
-fn live(rt: &HostRuntime, alloc: Global, profile: &Profile) -> anyhow::Result<MemoryDevice> {
-    let map = ReadyMap {
-        interleaving: profile.map,
-        checked: profile.checked,
-    };
-    let device = formatted(alloc, profile)?;
-    match open(rt, alloc, &map, profile, device, Meter::with(AMPLE, 1), 1) {
-        Ok(ready) => lose(rt, ready),
-        Err(refused) => Err(refused.why.into()),
-    }
-}
-
-fn main(rt: HostRuntime) -> anyhow::Result<()> {
-    let profile = read_profile(rt.alloc(), TINY.as_bytes())?;
-    let mut device = live(&rt, rt.alloc(), &profile)?;
-    let restored = restore_device(&rt, rt.alloc(), &profile, &mut device)?;
+// What the device restored to.
+fn show(rt: &HostRuntime, restored: &Restored) -> anyhow::Result<()> {
     let head = restored.head;
-    println!(rt;
+    println!(*rt;
         "restored: generation {}, {} writes, {}",
         head.newest.generation, head.count, head.verdict
     )?;
     for (line, bytes) in restored.lines.iter().enumerate().take(3) {
-        println!(rt; "line {line}: {:02x}", bytes[0])?;
+        println!(*rt; "line {line}: {:02x}", bytes[0])?;
     }
     Ok(())
+}
+
+fn main(rt: HostRuntime) -> anyhow::Result<()> {
+    let profile = read_profile(rt.alloc(), TINY.as_bytes())?;
+    let map = ReadyMap {
+        interleaving: profile.map,
+        checked: profile.checked,
+    };
+    let device = formatted(rt.alloc(), &profile)?;
+    let meter = Meter::with(AMPLE, 1);
+    let mut device = match open(&rt, rt.alloc(), &map, &profile, device, meter, 1) {
+        Ok(ready) => lose(&rt, ready)?,
+        Err(refused) => return Err(refused.why.into()),
+    };
+    let restored = restore_device(&rt, rt.alloc(), &profile, &mut device)?;
+    show(&rt, &restored)
 }

@@ -8,8 +8,8 @@ mod records;
 use crate::hosts::{Hosts, Kept, NotKept};
 use crate::records::{Life, told_in};
 use panguhero::{
-    BoardEnd, LifeEnd, Loss, MemoryDevice, Meter, Profile, ProfileFault, TINY, Unchecked,
-    formatted, read_profile, restore_device, with_board,
+    BoardEnd, LifeEnd, Loss, MemoryDevice, Meter, Profile, ProfileFault, Restored, TINY,
+    Unchecked, formatted, read_profile, restore_device, with_board,
 };
 use std::alloc::Global;
 use std::sync::Wait;
@@ -63,21 +63,19 @@ fn tell(rt: &HostRuntime, life: Life, ended: &Ended) -> anyhow::Result<()> {
     Ok(())
 }
 
-// Restores the device that a life left, compares all records that were told stored, and gives the device on.
+// Compares all records that were told stored with what the device of a life restores to, and gives the device on.
 fn compare(
     rt: &HostRuntime,
-    alloc: Global,
-    profile: &Profile,
     life: Life,
     ended: Ended,
+    restored: &Restored,
 ) -> anyhow::Result<MemoryDevice> {
     let BoardEnd {
         hosts,
         life: end,
         ..
     } = ended;
-    let LifeEnd { mut device, .. } = end;
-    let restored = restore_device(rt, alloc, profile, &mut device)?;
+    let LifeEnd { device, .. } = end;
     let told = told_in(hosts.as_slice(), restored.lines.as_slice());
     println!(*rt; "{life}, restored {}: {told}", restored.head.verdict)?;
     Ok(device)
@@ -97,11 +95,13 @@ fn main(rt: HostRuntime) -> anyhow::Result<()> {
     give_no_profile(&rt, rt.alloc())?;
     let profile = read_profile(rt.alloc(), TINY.as_bytes())?;
     let device = formatted(rt.alloc(), &profile)?;
-    let first = live(&rt, rt.alloc(), &profile, device, Life::First)?;
+    let mut first = live(&rt, rt.alloc(), &profile, device, Life::First)?;
     tell(&rt, Life::First, &first)?;
-    let device = compare(&rt, rt.alloc(), &profile, Life::First, first)?;
-    let second = live(&rt, rt.alloc(), &profile, device, Life::Second)?;
+    let restored = restore_device(&rt, rt.alloc(), &profile, &mut first.life.device)?;
+    let device = compare(&rt, Life::First, first, &restored)?;
+    let mut second = live(&rt, rt.alloc(), &profile, device, Life::Second)?;
     tell(&rt, Life::Second, &second)?;
-    compare(&rt, rt.alloc(), &profile, Life::Second, second)?;
+    let restored = restore_device(&rt, rt.alloc(), &profile, &mut second.life.device)?;
+    compare(&rt, Life::Second, second, &restored)?;
     Ok(())
 }
