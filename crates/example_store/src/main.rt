@@ -8,8 +8,8 @@ mod records;
 use crate::hosts::{Hosts, Kept, NotKept};
 use crate::records::{Life, told_in};
 use panguhero::{
-    BoardEnd, LifeEnd, Loss, MemoryDevice, Meter, Profile, ProfileFault, Restored, TINY,
-    Unchecked, formatted, read_profile, restore_device, with_board,
+    BoardEnd, LifeEnd, Loss, MemoryDevice, Meter, Profile, ProfileFault, Restored, TINY, Unchecked,
+    formatted, read_profile, restore_device, with_board,
 };
 use std::alloc::Global;
 use std::sync::Wait;
