@@ -115,7 +115,9 @@ fn is_line(line: &Line, begins: bool) -> bool {
 
 // Whether a memory is a journal, by the table of the layout alone, where the numbers of its head have one byte each.
 fn is_journal(memory: &[Line]) -> bool {
-    let head = memory[0];
+    let Some(head) = memory.first() else {
+        return false;
+    };
     let lines = memory.len();
     let (first, used) = (head[8] as usize, head[16] as usize);
     let numbers = [0, 8, 16];

@@ -91,7 +91,8 @@ fn tell_stored<K: ChannelPort + Drop, R: Abort>(
     alloc: Global,
     ready: Ready<K, MemoryDevice, Meter>,
 ) {
-    let mut running = ready.recorded.running;
+    let Ready { recorded, .. } = ready;
+    let RecordedModule { mut running, .. } = recorded;
     let memory = zero_memory(alloc, LINES).expect(rt, "memory");
     let mut journal = Journal::open(alloc, &memory).expect(rt, "a journal");
     assert!(rt; journal.is_empty() && journal.stored(u64::MAX) == 0);
@@ -116,7 +117,8 @@ fn try_sizes<K: ChannelPort + Drop, R: Abort>(
     alloc: Global,
     ready: Ready<K, MemoryDevice, Meter>,
 ) {
-    let mut running = ready.recorded.running;
+    let Ready { recorded, .. } = ready;
+    let RecordedModule { mut running, .. } = recorded;
     let memory = zero_memory(alloc, LINES).expect(rt, "memory");
     let mut journal = Journal::open(alloc, &memory).expect(rt, "a journal");
     assert!(rt; journal.truncate(&mut running, 1) == Err(TruncateRefusal::NoSuchRecord));

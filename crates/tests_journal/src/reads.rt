@@ -9,13 +9,14 @@ use line_memory::zero_memory;
 use module_core::Module;
 use module_journal::Journal;
 use nv_machine::StepReply;
+use nv_workers::RecordedModule;
 use save_device::MemoryDevice;
 use std::alloc::Global;
 use std::process::Abort;
 
-/// The bytes of the record that has this number in these tests.
-fn bytes_of(number: u64) -> [u8; 200] {
-    [number as u8 + 1; 200]
+/// Each byte of the record that has this number in these tests.
+fn byte_of(number: u64) -> u8 {
+    (number % 256) as u8
 }
 
 /// How many of them it has.
@@ -31,7 +32,10 @@ fn is_read<K: ChannelPort>(
     number: u64,
 ) -> bool {
     match get(journal, alloc, running, number) {
-        Ok(Some(bytes)) => bytes.as_slice() == &bytes_of(number)[..size_of(number)],
+        Ok(Some(bytes)) => {
+            let wanted = byte_of(number);
+            bytes.len() == size_of(number) && bytes.iter().all(|byte| *byte == wanted)
+        }
         _ => false,
     }
 }
@@ -54,9 +58,13 @@ fn read_a_life<K: ChannelPort + Drop, R: Abort>(
     alloc: Global,
     ready: Ready<K, MemoryDevice, Meter>,
 ) {
-    let mut running = ready.recorded.running;
-    let mut device = ready.recorded.device;
-    let mut energy = ready.recorded.energy;
+    let Ready { recorded, .. } = ready;
+    let RecordedModule {
+        mut running,
+        mut device,
+        mut energy,
+        ..
+    } = recorded;
     let memory = zero_memory(alloc, LINES).expect(rt, "memory");
     let mut journal = Journal::open(alloc, &memory).expect(rt, "a journal");
     assert!(rt; are_read(alloc, &journal, &mut running));
@@ -64,12 +72,8 @@ fn read_a_life<K: ChannelPort + Drop, R: Abort>(
         if number >= 30 {
             assert!(rt; journal.truncate(&mut running, number - 29).is_ok());
         }
-        let bytes = bytes_of(number);
-        assert!(rt;
-            journal
-                .append(&mut running, &bytes[..size_of(number)])
-                .is_ok()
-        );
+        let (bytes, size) = ([byte_of(number); 200], size_of(number).min(200));
+        assert!(rt; journal.append(&mut running, &bytes[..size]).is_ok());
         assert!(rt; is_read(alloc, &journal, &mut running, number));
     }
     assert!(rt; are_read(alloc, &journal, &mut running));
