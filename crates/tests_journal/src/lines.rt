@@ -151,7 +151,7 @@ fn drawn_line(random: &mut Random) -> Line {
 fn memories_of_any_bytes_are_journals_or_not(rt: HostRuntime) {
     let alloc = rt.alloc();
     let mut random = Random::with_seed(76);
-    let mut journals = 0;
+    let mut journals: u64 = 0;
     for _draw in 0..20_000 {
         let mut memory = [[0; 64]; 4];
         for line in 1..4 {
@@ -165,7 +165,7 @@ fn memories_of_any_bytes_are_journals_or_not(rt: HostRuntime) {
         }
         let is_found = found(alloc, &memory).is_some();
         assert!(&rt; is_found == is_journal(&memory));
-        journals += is_found as u64;
+        journals = journals.saturating_add(is_found as u64);
     }
     assert!(&rt; journals > 1_000 && journals < 19_000);
 }

@@ -1,14 +1,12 @@
 // Records that are read while a life runs.
 use crate::module::{LINES, map_of, opened, small};
-use arm_state::ReadRefusal;
 use channel_port::ChannelPort;
 use ddr4_boards::Ready;
 use energy_budget::Meter;
-use journal_reads::{NotRead, get};
+use journal_reads::get;
 use line_memory::zero_memory;
 use module_core::Module;
 use module_journal::Journal;
-use nv_machine::StepReply;
 use nv_workers::RecordedModule;
 use save_device::MemoryDevice;
 use std::alloc::Global;
@@ -52,19 +50,14 @@ fn are_read<K: ChannelPort>(alloc: Global, journal: &Journal, running: &mut Modu
     behind.is_ok_and(|found| found.is_none()) && before.is_ok_and(|found| found.is_none())
 }
 
-// Records round the ring, read while they wait in the channels, through a save and while armed; and none behind a loss.
+// Records round the ring, read while they wait in the channels; and none behind the last one.
 fn read_a_life<K: ChannelPort + Drop, R: Abort>(
     rt: &R,
     alloc: Global,
     ready: Ready<K, MemoryDevice, Meter>,
 ) {
     let Ready { recorded, .. } = ready;
-    let RecordedModule {
-        mut running,
-        mut device,
-        mut energy,
-        ..
-    } = recorded;
+    let RecordedModule { mut running, .. } = recorded;
     let memory = zero_memory(alloc, LINES).expect(rt, "memory");
     let mut journal = Journal::open(alloc, &memory).expect(rt, "a journal");
     assert!(rt; are_read(alloc, &journal, &mut running));
@@ -77,20 +70,6 @@ fn read_a_life<K: ChannelPort + Drop, R: Abort>(
         assert!(rt; is_read(alloc, &journal, &mut running, number));
     }
     assert!(rt; are_read(alloc, &journal, &mut running));
-    assert!(rt; running.save_begin().is_ok());
-    for _step in 0..8 {
-        assert!(rt;
-            !matches!(
-                running.save_step(&mut device, &mut energy),
-                StepReply::NoSave
-            )
-        );
-        assert!(rt; are_read(alloc, &journal, &mut running));
-    }
-    let _lost = running.power_loss(&mut device, &mut energy);
-    assert!(rt;
-        get(&journal, alloc, &mut running, 100) == Err(NotRead::Refused(ReadRefusal::Closed))
-    );
     assert!(rt; get(&journal, alloc, &mut running, 120) == Ok(None));
 }
 
