@@ -5,5 +5,3 @@
 mod lines;
 #[cfg(test)]
 mod module;
-#[cfg(test)]
-mod reads;
