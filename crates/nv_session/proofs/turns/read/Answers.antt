@@ -17,7 +17,7 @@ returns-in-Ok-Now-clause-comes g c =
 pub returns-in-Ok-Later-clause-comes : goal.returns-in-Ok-Later-clause-comes
 returns-in-Ok-Later-clause-comes g c =
     let L = g.K.ChannelPort in
-    sees_later L c.args.line c.channel_of.result c.in-Ok-Later.ticket c.await_read.result c.args.running.now c.read.new.self c.await_read.new.running c.read.ensures.setup c.channel_of.ensures.is
+    sees_later L c.args.line c.channel_of-channel.result c.in-Ok-Later.ticket c.await_read.result c.args.running.now c.read.new.self c.await_read.new.running c.read.ensures.setup c.channel_of-channel.ensures.is
     (subst (λ (answer : Result Got ReadRefusal). AnswersAlone L (events.Read c.args.line) (replies.Read answer) c.args.running.now c.read.new.self) (c.in-Ok-Later.is ∙ ap (λ (got : Got). Ok got) c.in-Ok-Later.field-0-is) c.read.ensures.answers)
     c.await_read.ensures.comes
 
@@ -32,4 +32,4 @@ returns-in-Ok-Later-clause-stored g c =
     let read = c.read.ensures.stored in let awaited = c.await_read.ensures.stored in record { cut = awaited.cut ∙ read.cut; saved = awaited.saved ∙ read.saved }
 
 pub await_read-requires : goal.await_read-requires
-await_read-requires g c = subst (λ (s : Setup). c.channel_of.result < s.shape.channels) (sym c.read.ensures.setup) c.channel_of.ensures.known
+await_read-requires g c = subst (λ (s : Setup). c.channel_of-channel.result < s.shape.channels) (sym c.read.ensures.setup) c.channel_of-channel.ensures.known
