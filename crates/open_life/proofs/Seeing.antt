@@ -1,5 +1,5 @@
 -- A read, at once or awaited.
-use Rattle.std.proofs.Common.{◌≡◌, ℕ, ◌<◌, ◌≤◌, List, [], ◌∷◌, ◌++◌, ◌∙◌, refl, sym, ap, subst, None, Ok, Err, All, inl, inr, arith}
+use Rattle.std.proofs.Common.{◌≡◌, ℕ, ◌<◌, List, [], ◌∷◌, ◌++◌, ◌∙◌, refl, sym, ap, subst, None, Ok, Err, All, inl, inr, arith}
 use Rattle.nv_session.proofs.Common.{AnswersAlone, ComesAlone, Event, Ghosts, IsPromised, Machine, Module}
 use Rattle.nv_session.proofs.Common.{ReadStep, Reply, SameButWaits, Setup, all_of}
 use Rattle.nv_session.proofs.Common.{assembly, memory_of, setup_of}
