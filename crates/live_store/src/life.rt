@@ -58,7 +58,7 @@ impl<K: ChannelPort, D: SaveDevice> Life<K, D> {
             (now_of self.old) (now_of self.new) }
         ensures geometry { self.new.geometry ≡ self.old.geometry }
     {
-        read(&mut self.running, self.geometry.channels, line)
+        read(&mut self.running, line)
     }
 
     fn work(&mut self, channel: u64) -> Option<Stamped>

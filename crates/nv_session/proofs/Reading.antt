@@ -1,5 +1,5 @@
 -- A read, at once or awaited.
-use Rattle.std.proofs.Common.{◌≡◌, ℕ, ◌<◌, ◌≤◌, List, [], ◌∷◌, ◌++◌, refl, sym, ap, subst, None, Ok, Err, All, inl, inr, arith}
+use Rattle.std.proofs.Common.{◌≡◌, ℕ, ◌<◌, List, [], ◌∷◌, ◌++◌, refl, sym, ap, subst, ◌∙◌, None, Ok, Err, All, inl, inr, arith}
 use Rattle.nv_session.proofs.Common.{AnswersAlone, AwaitsLine, ComesAlone, Event, Ghosts, IsPromised, Machine, Module}
 use Rattle.nv_session.proofs.Common.{ReadStep, ReadsLine, Reply, SameButWaits, SeesLine, SeesPromised, Setup, all_of}
 use Rattle.nv_session.proofs.Common.{assembly, memory_of, setup_of}
@@ -103,21 +103,14 @@ module _ {K : Type 0} (L : Ghosts K) where
       (starts_at L (assembly old device gauge)) (answers device gauge)
       (λ es rs m n l stands told happens. later_promised (setup_of L old) line ticket es rs m n l told happens.step.1)
 
-  pub sees_later : (line : ℕ) (ticket : Ticket) (seen : LineSeen) (old mid new : Module K L) → setup_of L mid ≡ setup_of L old
-      → AnswersAlone L (events.Read line) (replies.Read (Ok (Later ticket))) old mid → ComesAlone L (AwaitsLine ticket seen) mid new
+  -- its ticket is of its line's channel
+  pub sees_later : (line channel : ℕ) (ticket : Ticket) (seen : LineSeen) (old mid new : Module K L) → setup_of L mid ≡ setup_of L old
+      → (line < (setup_of L old).shape.lines → channel ≡ (setup_of L old).shape.channel_of line)
+      → AnswersAlone L (events.Read line) (replies.Read (Ok (Later ticket))) old mid → (channel ≡ ticket.channel → ComesAlone L (AwaitsLine ticket seen) mid new)
       → ComesAlone L (ReadsLine (setup_of L old) line (Ok seen)) old new
-  sees_later line ticket seen old mid new same answers next device gauge =
+  sees_later line channel ticket seen old mid new same is answers next device gauge m stands =
+      let step = (answers device gauge m stands).2.happens.step.1 in
+      let here : channel ≡ ticket.channel = is (line_below (setup_of L old) m line step.0) ∙ sym step.1.0 in
       comes_on L (PromisesLine (setup_of L old) line ticket) (AwaitsLine ticket seen) (ReadsLine (setup_of L old) line (Ok seen)) (assembly old device gauge) (assembly mid device gauge) (assembly new device gauge) same
-      (promises_later line ticket old mid answers device gauge) (next device gauge)
-      (λ es fs rs ts m n l told later. promise_kept (setup_of L old) line ticket seen es fs rs ts m n l told later)
-
-  -- no ticket is of a channel that isn't there
-  pub sees_nowhere : (line channels : ℕ) (ticket : Ticket) (seen : LineSeen) (old new : Module K L) → channels ≡ (setup_of L old).shape.channels → channels ≤ ticket.channel
-      → AnswersAlone L (events.Read line) (replies.Read (Ok (Later ticket))) old new → ComesAlone L (ReadsLine (setup_of L old) line (Ok seen)) old new
-  sees_nowhere line channels ticket seen old new is beyond answers device gauge =
-      comes_further L Starts (ReadsLine (setup_of L old) line (Ok seen)) (events.Read line) (replies.Read (Ok (Later ticket))) (assembly old device gauge) (assembly old device gauge) (assembly new device gauge) refl
-      (starts_at L (assembly old device gauge)) (answers device gauge)
-      (λ es rs m n l stands told happens.
-      let step = happens.step.1 in
-      let known = old.channels.shaped.known line (line_below (setup_of L old) n line step.0) in
-      absurd (let bad : ⊥ = omega (arith, is, beyond, known, step.1.0) in bad))
+      (promises_later line ticket old mid answers device gauge) (next here device gauge)
+      (λ es fs rs ts m n l told later. promise_kept (setup_of L old) line ticket seen es fs rs ts m n l told later) m stands

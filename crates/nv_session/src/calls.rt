@@ -68,9 +68,8 @@ impl<K: ChannelPort + Drop, A: Wires<K> + Drop> Session<K, A> {
         ensures wires { self.new.wires ≡ self.old.wires }
     {
         let lines = self.lines();
-        let channels = self.profile.checked.geometry.channels;
         match &mut self.life {
-            Some(life) => read(life, channels, line),
+            Some(life) => read(life, line),
             None if line < lines => Err(ReadRefusal::Closed),
             None => Err(ReadRefusal::NoSuchLine),
         }

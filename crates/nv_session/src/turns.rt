@@ -1,6 +1,6 @@
 // What a line of a script asks of a module that takes several of its calls.
-ghost use Rattle.std.specs.Prelude.{◌≡◌};
-ghost use Rattle.module_core.specs.Stands.{HasChannel, HasDevice, assembly, setup_of};
+ghost use Rattle.std.specs.Prelude.{◌≡◌, ◌<◌};
+ghost use Rattle.module_core.specs.Stands.{HasChannel, HasDevice, assembly, lines_of_module, setup_of};
 ghost use Rattle.nv_session.specs.Coming.{Comes, ComesAlone};
 ghost use Rattle.nv_session.specs.Living.{SameStored};
 ghost use Rattle.nv_session.specs.ReadTurns.{AwaitsLine, ReadsLine};
@@ -29,10 +29,23 @@ pub enum LineSeen {
     Waiting,
 }
 
+// The channel of a line; 0 where there is no such line.
+fn channel_of<K: ChannelPort>(running: &Module<K>, line: u64) -> u64
+    ensures known { HasChannel K.ChannelPort running.now result }
+    ensures is { line < lines_of_module K.ChannelPort running.now
+        → result ≡ (setup_of K.ChannelPort running.now).shape.channel_of line }
+{
+    match running.channels().locate(line) {
+        Some(place) => place.channel,
+        None => 0,
+    }
+}
+
 // Works the channel of a read that waits, until it has its bytes or the channel is idle.
-fn await_read<K: ChannelPort>(running: &mut Module<K>, ticket: Ticket) -> LineSeen
-    requires { HasChannel K.ChannelPort running.old ticket.channel }
-    ensures comes { ComesAlone K.ChannelPort (AwaitsLine ticket result) running.old running.new }
+fn await_read<K: ChannelPort>(running: &mut Module<K>, channel: u64, ticket: Ticket) -> LineSeen
+    requires { HasChannel K.ChannelPort running.old channel }
+    ensures comes { channel ≡ ticket.channel
+        → ComesAlone K.ChannelPort (AwaitsLine ticket result) running.old running.new }
     ensures stored { SameStored K.ChannelPort running.old running.new }
     ensures setup { setup_of K.ChannelPort running.new ≡ setup_of K.ChannelPort running.old }
 {
@@ -40,7 +53,7 @@ fn await_read<K: ChannelPort>(running: &mut Module<K>, ticket: Ticket) -> LineSe
         match running.collect(ticket) {
             Collected::Data { bytes, .. } => return LineSeen::Content(bytes),
             _ => {
-                let Some(_) = running.work(ticket.channel) else {
+                let Some(_) = running.work(channel) else {
                     return LineSeen::Waiting;
                 };
             }
@@ -53,21 +66,16 @@ fn await_read<K: ChannelPort>(running: &mut Module<K>, ticket: Ticket) -> LineSe
 }
 
 /// Reads a line of the memory after all accepted writes. Where its bytes are to come with a command, its channel is worked.
-pub fn read<K: ChannelPort>(
-    running: &mut Module<K>,
-    channels: u64,
-    line: u64,
-) -> Result<LineSeen, ReadRefusal>
-    requires channels { channels ≡ (setup_of K.ChannelPort running.old).shape.channels }
+pub fn read<K: ChannelPort>(running: &mut Module<K>, line: u64) -> Result<LineSeen, ReadRefusal>
     ensures comes { ComesAlone K.ChannelPort
         (ReadsLine (setup_of K.ChannelPort running.old) line result) running.old running.new }
     ensures stored { SameStored K.ChannelPort running.old running.new }
     ensures setup { setup_of K.ChannelPort running.new ≡ setup_of K.ChannelPort running.old }
 {
+    let channel = channel_of(running, line);
     match running.read(line) {
         Ok(Got::Now(bytes)) => Ok(LineSeen::Content(bytes)),
-        Ok(Got::Later(ticket)) if ticket.channel < channels => Ok(await_read(running, ticket)),
-        Ok(Got::Later(_)) => Ok(LineSeen::Waiting),
+        Ok(Got::Later(ticket)) => Ok(await_read(running, channel, ticket)),
         Err(refusal) => Err(refusal),
     }
 }

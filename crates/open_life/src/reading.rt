@@ -23,8 +23,7 @@ impl<K: ChannelPort, D: SaveDevice> OpenLife<K, D> {
         ensures gauge { self.new.gauge ≡ self.old.gauge }
         ensures profile { self.new.profile ≡ self.old.profile }
     {
-        let channels = self.profile.checked.geometry.channels;
-        read(&mut self.running, channels, line, turns)
+        read(&mut self.running, line, turns)
     }
 
     /// What there is for a ticket; `Unknown` once it was given, or mains were lost.

@@ -1,6 +1,6 @@
 // A read that waits for commands of its channel.
-ghost use Rattle.std.specs.Prelude.{◌≡◌};
-ghost use Rattle.module_core.specs.Stands.{HasChannel, setup_of};
+ghost use Rattle.std.specs.Prelude.{◌≡◌, ◌<◌};
+ghost use Rattle.module_core.specs.Stands.{HasChannel, lines_of_module, setup_of};
 ghost use Rattle.nv_session.specs.Coming.{ComesAlone};
 ghost use Rattle.nv_session.specs.Living.{SameStored};
 ghost use Rattle.open_life.specs.Reads.{AwaitsLine, ReadsLine};
@@ -18,11 +18,28 @@ pub enum LineRead {
     Waiting(Ticket),
 }
 
+// The channel of a line; 0 where there is no such line.
+fn channel_of<K: ChannelPort>(running: &Module<K>, line: u64) -> u64
+    ensures known { HasChannel K.ChannelPort running.now result }
+    ensures is { line < lines_of_module K.ChannelPort running.now
+        → result ≡ (setup_of K.ChannelPort running.now).shape.channel_of line }
+{
+    match running.channels().locate(line) {
+        Some(place) => place.channel,
+        None => 0,
+    }
+}
+
 // Works the channel of a read that waits, until it has its bytes, the channel is idle, or the turns are over.
-fn await_read<K: ChannelPort>(running: &mut Module<K>, ticket: Ticket, turns: u64) -> LineRead
-    requires { HasChannel K.ChannelPort running.old ticket.channel }
-    ensures comes { ComesAlone K.ChannelPort (AwaitsLine turns ticket result)
-        running.old running.new }
+fn await_read<K: ChannelPort>(
+    running: &mut Module<K>,
+    channel: u64,
+    ticket: Ticket,
+    turns: u64,
+) -> LineRead
+    requires { HasChannel K.ChannelPort running.old channel }
+    ensures comes { channel ≡ ticket.channel
+        → ComesAlone K.ChannelPort (AwaitsLine turns ticket result) running.old running.new }
     ensures stored { SameStored K.ChannelPort running.old running.new }
     ensures setup { setup_of K.ChannelPort running.new ≡ setup_of K.ChannelPort running.old }
 {
@@ -30,7 +47,7 @@ fn await_read<K: ChannelPort>(running: &mut Module<K>, ticket: Ticket, turns: u6
         match running.collect(ticket) {
             Collected::Data { bytes, .. } => return LineRead::Content(bytes),
             _ => {
-                let Some(_) = running.work(ticket.channel) else {
+                let Some(_) = running.work(channel) else {
                     return LineRead::Waiting(ticket);
                 };
             }
@@ -46,23 +63,19 @@ fn await_read<K: ChannelPort>(running: &mut Module<K>, ticket: Ticket, turns: u6
 /// turns at most.
 pub(crate) fn read<K: ChannelPort>(
     running: &mut Module<K>,
-    channels: u64,
     line: u64,
     turns: u64,
 ) -> Result<LineRead, ReadRefusal>
-    requires channels { channels ≡ (setup_of K.ChannelPort running.old).shape.channels }
     ensures comes { ComesAlone K.ChannelPort
         (ReadsLine turns (setup_of K.ChannelPort running.old) line result)
         running.old running.new }
     ensures stored { SameStored K.ChannelPort running.old running.new }
     ensures setup { setup_of K.ChannelPort running.new ≡ setup_of K.ChannelPort running.old }
 {
+    let channel = channel_of(running, line);
     match running.read(line) {
         Ok(Got::Now(bytes)) => Ok(LineRead::Content(bytes)),
-        Ok(Got::Later(ticket)) if ticket.channel < channels => {
-            Ok(await_read(running, ticket, turns))
-        }
-        Ok(Got::Later(ticket)) => Ok(LineRead::Waiting(ticket)),
+        Ok(Got::Later(ticket)) => Ok(await_read(running, channel, ticket, turns)),
         Err(refusal) => Err(refusal),
     }
 }

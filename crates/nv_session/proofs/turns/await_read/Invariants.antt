@@ -9,5 +9,5 @@ invariant-loop-turn g l =
     record {
       setup : setup_of L l.running ≡ setup_of L l.fn.running;
       stored : SameStored L l.fn.running l.running;
-      comes : ComesAlone L (AwaitsTurns l.fn.ticket l._turn) l.fn.running l.running;
+      comes : l.fn.channel ≡ l.fn.ticket.channel → ComesAlone L (AwaitsTurns l.fn.ticket l._turn) l.fn.running l.running;
     }

@@ -1,11 +1,11 @@
-use Rattle.std.proofs.Common.{◌∙◌, ap, subst, Result, Ok}
+use Rattle.std.proofs.Common.{◌∙◌, ◌<◌, ap, subst, sym, Result, Ok}
 use Rattle.channel_port.specs.declared.answers.Got.{Got}
 use Rattle.arm_state.specs.declared.refusal.ReadRefusal.{ReadRefusal}
 use Rattle.nv_machine.specs.declared.events.Event.TheVariants as events
 use Rattle.nv_machine.specs.declared.events.Reply.TheVariants as replies
 use Rattle.module_core.specs.Stands.{AnswersAlone}
-use Rattle.nv_session.specs.declared.turns.LineSeen.TheVariants.{Waiting}
-use Rattle.nv_session.proofs.Reading.{sees_later, sees_nowhere, sees_now, sees_refusal}
+use Rattle.nv_machine.specs.State.{Setup}
+use Rattle.nv_session.proofs.Reading.{sees_later, sees_now, sees_refusal}
 use Rattle.nv_session.proofs.turns.read.Goals as goal
 
 pub returns-in-Ok-Now-clause-comes : goal.returns-in-Ok-Now-clause-comes
@@ -17,16 +17,9 @@ returns-in-Ok-Now-clause-comes g c =
 pub returns-in-Ok-Later-clause-comes : goal.returns-in-Ok-Later-clause-comes
 returns-in-Ok-Later-clause-comes g c =
     let L = g.K.ChannelPort in
-    sees_later L c.args.line c.in-Ok-Later.ticket c.await_read.result c.args.running.now c.read.new.self c.await_read.new.running c.read.ensures.setup
+    sees_later L c.args.line c.channel_of-channel.result c.in-Ok-Later.ticket c.await_read.result c.args.running.now c.read.new.self c.await_read.new.running c.read.ensures.setup c.channel_of-channel.ensures.is
     (subst (λ (answer : Result Got ReadRefusal). AnswersAlone L (events.Read c.args.line) (replies.Read answer) c.args.running.now c.read.new.self) (c.in-Ok-Later.is ∙ ap (λ (got : Got). Ok got) c.in-Ok-Later.field-0-is) c.read.ensures.answers)
     c.await_read.ensures.comes
-
-pub returns-in-Ok-Later-2-clause-comes : goal.returns-in-Ok-Later-2-clause-comes
-returns-in-Ok-Later-2-clause-comes g c =
-    let L = g.K.ChannelPort in let ticket = c.in-Ok-Later.ticket in
-    sees_nowhere L c.args.line c.args.channels ticket Waiting c.args.running.now c.read.new.self c.requires.channels c.if-ticket-channels.false
-    (subst (λ (answer : Result Got ReadRefusal). AnswersAlone L (events.Read c.args.line) (replies.Read answer) c.args.running.now c.read.new.self)
-    (c.in-Ok-Later.is ∙ ap (λ (got : Got). Ok got) c.in-Ok-Later.field-0-is) c.read.ensures.answers)
 
 pub returns-in-Err-clause-comes : goal.returns-in-Err-clause-comes
 returns-in-Err-clause-comes g c =
@@ -37,3 +30,6 @@ returns-in-Err-clause-comes g c =
 pub returns-in-Ok-Later-clause-stored : goal.returns-in-Ok-Later-clause-stored
 returns-in-Ok-Later-clause-stored g c =
     let read = c.read.ensures.stored in let awaited = c.await_read.ensures.stored in record { cut = awaited.cut ∙ read.cut; saved = awaited.saved ∙ read.saved }
+
+pub await_read-requires : goal.await_read-requires
+await_read-requires g c = subst (λ (s : Setup). c.channel_of-channel.result < s.shape.channels) (sym c.read.ensures.setup) c.channel_of-channel.ensures.known

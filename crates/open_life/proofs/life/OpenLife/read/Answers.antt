@@ -1,11 +1,7 @@
-use Rattle.std.proofs.Common.{sym}
 use Rattle.energy_budget.specs.Meter.{meter_gauge}
 use Rattle.open_life.specs.Reads.{ReadsLine}
 use Rattle.open_life.proofs.Goes.{alive_alone, goes_alone}
 use Rattle.open_life.proofs.life.OpenLife.read.Goals as goal
-
-pub read-requires : goal.read-requires
-read-requires g c = record { channels = sym c.args.self.now.alive.fits.channels }
 
 pub returns-clause-goes : goal.returns-clause-goes
 returns-clause-goes g c =
