@@ -7,9 +7,9 @@ use Rattle.slot_store.specs.Outcomes.{NoImage}
 use Rattle.slot_store.specs.Slots.{Broken}
 use Rattle.slot_store.specs.Told.{AreReadings, IsChosen, IsHeadOf, IsOfHeaders, NamesOutcome, Refuses, claimed, damaged_of, first_damaged, header_at, header_in_page, header_of_reading, in_slot, is_device, is_sound, pages_checked, version_said}
 use Rattle.slot_store.specs.declared.head.Head.{Head}
-use Rattle.slot_store.specs.declared.restoring.Reading.{Reading}
-use Rattle.slot_store.specs.declared.restoring.Reading.TheVariants as readings
-use Rattle.slot_store.specs.declared.restoring.Readings.{Readings}
+use Rattle.slot_store.specs.declared.headers.Reading.{Reading}
+use Rattle.slot_store.specs.declared.headers.Reading.TheVariants as readings
+use Rattle.slot_store.specs.declared.headers.Readings.{Readings}
 use Rattle.slot_store.specs.declared.restoring.RestoreError.TheVariants as errors
 use Rattle.slot_store.proofs.Common.{if◌then◌else◌, ℕ, ◌*◌, ◌+◌, ◌/◌, ◌∙◌, ◌≡◌, Bool, Closed, Damaged, Err, First, Found, Full, Image, List, Ok, Outcome, RestoreError, Second, Slot, SlotState, Some, WrongSize, ap, body_in, chosen, device_size, drop, false, header_in, length, lines_in, nat_lt, other, page_in, refl, restored, slice_index, slot_state, start_of, sym, told, true}
 use Rattle.slot_store.proofs.Gates.{by_states, gate_in_page, not_equal, shut_gate}

@@ -8,7 +8,7 @@ use Rattle.save_image.specs.declared.reading.Header.{Header}
 use Rattle.slot_store.specs.Changes.{planned}
 use Rattle.slot_store.specs.Saving.{HasLines}
 use Rattle.slot_store.specs.Slots.{opened}
-use Rattle.slot_store.proofs.Common.{[], ℕ, ◌*◌, ◌+◌, ◌-◌, ◌<◌, ◌∙◌, ◌∷◌, ◌≡◌, ◌≢◌, ◌≤◌, ◌⊎◌, Found, Full, Image, IsInRange, IsMemory, IsWritten, List, Plan, Some, ap, arith, arm_byte, body_in, device_size, drop, eqb_tells, gate_of, get_or, get_or-drop, get_or-take, header_in, holds-within, image_of, image_with, inl, inr, length, length-drop, length-take, other, overwritten, page_in, restored, same_number_lists, slice_index, slice_range, slot_size, slot_state, start_of, suc, sym, take, ⊎_elim}
+use Rattle.slot_store.proofs.Common.{ℕ, ◌*◌, ◌+◌, ◌-◌, ◌<◌, ◌∙◌, ◌∷◌, ◌≡◌, ◌≢◌, ◌≤◌, ◌⊎◌, Found, Full, Image, IsInRange, IsMemory, IsWritten, List, Plan, Some, ap, arith, arm_byte, body_in, device_size, drop, eqb_tells, gate_of, get_or, get_or-drop, get_or-take, header_in, holds-within, image_of, inl, inr, length, length-drop, length-take, other, overwritten, page_in, restored, same_number_lists, slice_index, slice_range, slot_size, slot_state, start_of, suc, sym, take, ⊎_elim}
 use Rattle.slot_store.proofs.Gates.{closed_gate, only_other, open_gate, opened_fits, the_newer, version_fits}
 use Rattle.slot_store.proofs.Same.{Agree, lines_same, part_same, state_same}
 

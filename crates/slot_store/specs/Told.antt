@@ -10,9 +10,9 @@ use Rattle.save_image.specs.declared.reading.Version.TheVariants.{One, Two}
 use Rattle.save_image.specs.Image.{Image, header_in}
 use Rattle.slot_store.specs.declared.slots.Slot.{Slot}
 use Rattle.slot_store.specs.declared.slots.Slot.TheVariants.{First, Second}
-use Rattle.slot_store.specs.declared.restoring.Reading.{Reading}
-use Rattle.slot_store.specs.declared.restoring.Reading.TheVariants as readings
-use Rattle.slot_store.specs.declared.restoring.Readings.{Readings}
+use Rattle.slot_store.specs.declared.headers.Reading.{Reading}
+use Rattle.slot_store.specs.declared.headers.Reading.TheVariants as readings
+use Rattle.slot_store.specs.declared.headers.Readings.{Readings}
 use Rattle.slot_store.specs.declared.head.Head.{Head}
 use Rattle.slot_store.specs.declared.restoring.RestoreError.{RestoreError}
 use Rattle.slot_store.specs.declared.restoring.RestoreError.TheVariants as errors

@@ -7,12 +7,18 @@
 //!
 //! One loop makes the steps of a save, `SaveRun::finish`, and asks its source for each before it is made. `save` and `format`
 //! are uses of it, and so is a save that pays for its steps: its source pays where it is asked.
+//!
+//! One restore, too, compares the lines of both slots with their digests: in turn as `restore`, side by side as
+//! `restore_at_once`.
 #![tactic(auto)]
 
 mod arming;
+mod checking;
+mod choosing;
 mod finishing;
 mod formatting;
 mod head;
+mod headers;
 mod laws;
 mod plan;
 mod restoring;
@@ -30,7 +36,7 @@ pub use laws::{
     stop_between_steps,
 };
 pub use plan::{Newest, Plan, Step};
-pub use restoring::{RestoreError, Restored, Verdict, restore};
+pub use restoring::{RestoreError, Restored, Verdict, restore, restore_at_once};
 pub use saving::SaveRun;
 pub use slots::{Slot, device_size};
 pub use source::{BrokenOff, Refused, SaveSource};

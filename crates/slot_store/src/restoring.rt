@@ -1,26 +1,27 @@
 // What a device restores to.
-ghost use Rattle.std.specs.Prelude.{◌≡◌, ◌+◌, ◌*◌, ◌<◌, ◌≤◌, ◌++◌, List, ℕ, Ok, Err, not, drop, length, is_ok, slice_range, vec_len, vec_capacity, IfOk, IfErr};
+ghost use Rattle.std.specs.Prelude.{◌≡◌, List, ℕ, not, Ok, Err, IfOk, IfErr};
+ghost use Rattle.line_memory.specs.Memory.{IsMemory};
 ghost use Rattle.save_device.specs.Device.{LeavesOnly, MayLeave, present};
 ghost use Rattle.save_device.specs.Changes.{OnlyReads};
-ghost use Rattle.save_image.specs.Body.{lines_in};
-ghost use Rattle.save_image.specs.Reading.{version_in};
-ghost use Rattle.slot_store.specs.declared.slots.Slot.TheVariants.{First};
-ghost use Rattle.slot_store.specs.Slots.{IsCapacity, HasSize, other, slot_state, slot_with, page_in, body_in};
-ghost use Rattle.line_memory.specs.Memory.{IsMemory};
 ghost use Rattle.save_image.specs.Header.{Fits};
-ghost use Rattle.save_image.specs.Image.{Image, digest_of};
-ghost use Rattle.slot_store.specs.Outcomes.{restored, verdict_of, Found};
+ghost use Rattle.save_image.specs.Image.{Image};
+ghost use Rattle.save_image.specs.Reading.{version_in};
+ghost use Rattle.slot_store.specs.Outcomes.{restored, Found};
 ghost use Rattle.slot_store.specs.Rest.{IsAtRestOn};
-ghost use Rattle.slot_store.specs.Told.{told, claimed, is_sound, digest_said, version_said, header_at, header_in_page, header_of_reading, in_slot, pages_checked, damaged_of, AreReadings, IsChosen, IsFailure, IsOfHeaders, IsOfBodies, NamesOutcome, Refuses, IsRestored, is_fault, is_device, pages_read, reads_of_newest, CallsOfRestore};
+ghost use Rattle.slot_store.specs.Slots.{IsCapacity, HasSize, other, page_in};
+ghost use Rattle.slot_store.specs.Told.{claimed, header_of_reading, in_slot, pages_checked, damaged_of, AreReadings, IsChosen, IsOfHeaders, IsOfBodies, Refuses, IsRestored, is_fault, is_device, reads_of_newest, CallsOfRestore};
 
+use crate::checking::{AtOnce, CheckBoth, InTurn, has_sound_body, read_pages};
+use crate::choosing::choose;
+use crate::headers::{Readings, read_both};
 use crate::slots::device_size;
-use crate::{Head, Newest, Slot};
+use crate::{Head, Slot};
 use line_memory::Line;
-use save_device::{DeviceFault, SaveDevice};
-use save_image::{Header, Version, page_lines, read_header};
-use sha2::{Digest, Sha256};
+use save_device::SaveDevice;
+use save_image::Version;
 use std::alloc::Global;
 use std::fmt;
+use std::thread::Threads;
 use thiserror::Error;
 
 /// Whether a write that was acknowledged persistent may be missing.
@@ -70,255 +71,6 @@ pub enum RestoreError {
     Memory,
 }
 
-// What the header page of a slot says.
-#[derive(Clone, Copy)]
-enum Reading {
-    Shut,
-    Broken,
-    Image(Header),
-}
-
-impl Reading {
-    // The digest that the lines have to have, if any.
-    fn digest(self) -> Option<[u8; 32]>
-        ensures { result ≡ digest_said self }
-    {
-        match self {
-            Reading::Image(header) => header.digest,
-            Reading::Shut | Reading::Broken => None,
-        }
-    }
-
-    // The version of the image.
-    fn version(self) -> Version
-        ensures { result ≡ version_said self }
-    {
-        match self.digest() {
-            None => Version::One,
-            Some(_) => Version::Two,
-        }
-    }
-}
-
-// What the header pages of both slots say.
-#[derive(Clone, Copy)]
-struct Readings {
-    first: Reading,
-    second: Reading,
-}
-
-impl Readings {
-    fn of(&self, slot: Slot) -> Reading
-        ensures { result ≡ in_slot self.now slot }
-    {
-        match slot {
-            Slot::First => self.first,
-            Slot::Second => self.second,
-        }
-    }
-}
-
-fn read_page<D: SaveDevice>(device: &mut D, at: usize) -> Result<[u8; 4096], DeviceFault>
-    requires { at + 4096 ≤ length (D.state device.old).bytes }
-    ensures page { IfOk result
-        (λ page. page ≡ slice_range (D.state device.old).bytes at (at + 4096)) }
-    ensures reads { OnlyReads 1 (is_ok result) (D.state device.old) (D.state device.new) }
-{
-    let mut page = [0; 4096];
-    device.read(at, &mut page)?;
-    Ok(page)
-}
-
-fn reading_of(page: &[u8; 4096], lines: usize) -> Reading
-    ensures state { (memory : List (List ℕ))
-        → slot_with lines page.now memory ≡ told result memory }
-    ensures header { header_in_page lines page.now ≡ header_of_reading result }
-{
-    if page[0] != 0xA5 {
-        return Reading::Shut;
-    }
-    match read_header(page, lines as u64) {
-        Ok(header) => Reading::Image(header),
-        Err(_) => Reading::Broken,
-    }
-}
-
-fn read_slot<D: SaveDevice>(
-    device: &mut D,
-    slot: Slot,
-    lines: usize,
-) -> Result<Reading, DeviceFault>
-    requires lines { lines ≤ 65536 }
-    requires size { HasSize lines (D.state device.old) }
-    ensures state { IfOk result (λ reading. slot_state lines slot (D.state device.old).bytes
-        ≡ told reading (body_in lines slot (D.state device.old).bytes)) }
-    ensures header { IfOk result (λ reading.
-        header_at lines slot (D.state device.old).bytes ≡ header_of_reading reading) }
-    ensures reads { OnlyReads 1 (is_ok result) (D.state device.old) (D.state device.new) }
-{
-    let page = read_page(device, slot.start(lines))?;
-    Ok(reading_of(&page, lines))
-}
-
-fn judged(arm: u8, count: u64) -> Verdict
-    ensures { result ≡ verdict_of arm count }
-{
-    if arm == 0 {
-        Verdict::Complete
-    } else {
-        Verdict::PossibleLoss { after: count }
-    }
-}
-
-// The head of the image in a slot, by its header.
-fn head_of(slot: Slot, header: Header, closed: bool) -> Head
-    ensures slot { result.newest.slot ≡ slot }
-    ensures generation { result.newest.generation ≡ header.generation }
-    ensures count { result.count ≡ header.count }
-    ensures closed { result.closed ≡ closed }
-    ensures verdict { result.verdict ≡ verdict_of header.arm header.count }
-{
-    Head {
-        newest: Newest {
-            slot,
-            generation: header.generation,
-        },
-        count: header.count,
-        closed,
-        verdict: judged(header.arm, header.count),
-    }
-}
-
-fn choose(first: Reading, second: Reading) -> Result<Head, RestoreError>
-    ensures chosen { (one two : List (List ℕ))
-        → IsChosen result one two (claimed first one) (claimed second two) }
-    ensures headers { IfErr result IsOfHeaders }
-{
-    match (first, second) {
-        (Reading::Broken, _) => Err(RestoreError::Damaged { slot: Slot::First }),
-        (_, Reading::Broken) => Err(RestoreError::Damaged { slot: Slot::Second }),
-        (Reading::Shut, Reading::Shut) => Err(RestoreError::NoImage),
-        (Reading::Shut, Reading::Image(header)) => Ok(head_of(Slot::Second, header, true)),
-        (Reading::Image(header), Reading::Shut) => Ok(head_of(Slot::First, header, true)),
-        (Reading::Image(one), Reading::Image(two)) => newer(one, two),
-    }
-}
-
-fn newer(first: Header, second: Header) -> Result<Head, RestoreError>
-    ensures chosen { (one two : List (List ℕ))
-        → IsChosen result one two
-        (claimed (Reading.Image first) one) (claimed (Reading.Image second) two) }
-    ensures headers { IfErr result IsOfHeaders }
-{
-    if first.generation == second.generation {
-        return Err(RestoreError::Damaged { slot: Slot::Second });
-    }
-    if first.generation < second.generation {
-        Ok(head_of(Slot::Second, second, false))
-    } else {
-        Ok(head_of(Slot::First, first, false))
-    }
-}
-
-// Both headers.
-fn read_both<D: SaveDevice>(device: &mut D, lines: usize) -> Result<Readings, DeviceFault>
-    requires lines { lines ≤ 65536 }
-    requires size { HasSize lines (D.state device.old) }
-    ensures readings { IfOk result (AreReadings lines (D.state device.old).bytes) }
-    ensures reads { OnlyReads 2 (is_ok result) (D.state device.old) (D.state device.new) }
-{
-    let first = read_slot(device, Slot::First, lines)?;
-    let second = read_slot(device, Slot::Second, lines)?;
-    Ok(Readings { first, second })
-}
-
-// Adds the lines of a page, for which there is room.
-fn push_page(memory: &mut Vec<Line>, page: &[u8; 4096])
-    requires { vec_len memory.old + 64 ≤ vec_capacity memory.old }
-    ensures items { memory.new.items ≡ memory.old.items ++ lines_in 64 page.now }
-    ensures capacity { vec_capacity memory.new ≡ vec_capacity memory.old }
-{
-    for line in page_lines(page) {
-        memory.push_reserved(*line);
-    }
-}
-
-// The lines of a body, page by page.
-fn read_pages<D: SaveDevice>(
-    alloc: Global,
-    device: &mut D,
-    at: usize,
-    pages: usize,
-) -> Result<Vec<Line>, RestoreError>
-    requires { at + 4096 * pages ≤ length (D.state device.old).bytes }
-    ensures failed { IfErr result IsFailure }
-    ensures lines { IfOk result
-        (λ memory. memory.items ≡ lines_in (64 * pages) (drop at (D.state device.old).bytes)) }
-    ensures reads { OnlyReads (pages_read pages result) (not (is_fault result))
-        (D.state device.old) (D.state device.new) }
-{
-    let Ok(mut memory) = Vec::with_capacity(alloc, 64 * pages) else {
-        return Err(RestoreError::Memory);
-    };
-    for page in 0..pages {
-        let Ok(bytes) = read_page(device, at + 4096 * page) else {
-            return Err(RestoreError::Device);
-        };
-        push_page(&mut memory, &bytes);
-    }
-    Ok(memory)
-}
-
-// The digest of the lines of a body, page by page.
-fn body_digest<D: SaveDevice>(
-    device: &mut D,
-    at: usize,
-    pages: usize,
-) -> Result<[u8; 32], DeviceFault>
-    requires { at + 4096 * pages ≤ length (D.state device.old).bytes }
-    ensures digest { IfOk result (λ digest. digest
-        ≡ digest_of (lines_in (64 * pages) (drop at (D.state device.old).bytes))) }
-    ensures reads { OnlyReads pages (is_ok result) (D.state device.old) (D.state device.new) }
-{
-    let mut hasher = Sha256::new();
-    for page in 0..pages {
-        let bytes = read_page(device, at + 4096 * page)?;
-        hasher.update(&bytes);
-    }
-    Ok(hasher.finalize())
-}
-
-// Whether the lines of a slot that was read so have its digest. They are read where it has one.
-fn has_sound_body<D: SaveDevice>(
-    device: &mut D,
-    slot: Slot,
-    lines: usize,
-    reading: Reading,
-) -> Result<bool, DeviceFault>
-    requires capacity { IsCapacity lines }
-    requires size { HasSize lines (D.state device.old) }
-    ensures sound { IfOk result
-        (λ sound. sound ≡ is_sound reading (body_in lines slot (D.state device.old).bytes)) }
-    ensures reads { OnlyReads (pages_checked lines (header_of_reading reading)) (is_ok result)
-        (D.state device.old) (D.state device.new) }
-{
-    let Some(digest) = reading.digest() else {
-        return Ok(true);
-    };
-    let found = body_digest(device, slot.start(lines) + 4096, lines / 64)?;
-    Ok(digest == found)
-}
-
-// Whether these lines have the digest of the slot that was read so.
-fn are_sound(reading: Reading, memory: &[Line]) -> bool
-    ensures { result ≡ is_sound reading memory.now }
-{
-    match reading.digest() {
-        Some(digest) => digest == Sha256::digest(memory.as_flattened()),
-        None => true,
-    }
-}
-
 // The first slot whose lines aren't sound: those of the newest image, or those of the other slot.
 fn damaged(newest: Slot, here: bool, there: bool) -> Option<Slot>
     ensures { result ≡ damaged_of newest here there }
@@ -335,7 +87,8 @@ fn damaged(newest: Slot, here: bool, there: bool) -> Option<Slot>
 }
 
 // The newest image by the headers, with its lines, or the first slot whose lines don't have its digest.
-fn read_newest<D: SaveDevice>(
+fn read_newest<D: SaveDevice, C: CheckBoth>(
+    check: &C,
     alloc: Global,
     device: &mut D,
     lines: usize,
@@ -360,17 +113,15 @@ fn read_newest<D: SaveDevice>(
 {
     let slot = head.newest.slot;
     let memory = read_pages(alloc, device, slot.start(lines) + 4096, lines / 64)?;
-    let behind = readings.of(slot.other());
-    let Ok(there) = has_sound_body(device, slot.other(), lines, behind) else {
+    let Ok(sound) = check.check_both(device, slot, lines, &readings, &memory) else {
         return Err(RestoreError::Device);
     };
-    let newest = readings.of(slot);
-    if let Some(slot) = damaged(slot, are_sound(newest, &memory), there) {
+    if let Some(slot) = damaged(slot, sound.here, sound.there) {
         return Err(RestoreError::Damaged { slot });
     }
     Ok(Restored {
         head,
-        version: newest.version(),
+        version: readings.of(slot).version(),
         lines: memory,
     })
 }
@@ -399,6 +150,44 @@ fn refusal<D: SaveDevice>(
         error
     } else {
         RestoreError::Damaged { slot: Slot::First }
+    }
+}
+
+// The restore itself, with its checks of the digests made so.
+fn restore_by<D: SaveDevice, C: CheckBoth>(
+    check: &C,
+    alloc: Global,
+    device: &mut D,
+    lines: usize,
+) -> Result<Restored, RestoreError>
+    requires { IsCapacity lines }
+    ensures found { IfOk result (λ it. IsRestored it lines (D.state device.old).bytes) }
+    ensures sound { IfOk result
+        (λ it. IsMemory lines it.lines.items × Fits it.head.newest.generation it.head.count) }
+    ensures version { IfOk result (λ it. it.version
+        ≡ version_in (page_in lines it.head.newest.slot (D.state device.old).bytes)) }
+    ensures refused { IfErr result
+        (λ error. Refuses error (restored lines (D.state device.old).bytes)) }
+    ensures calls { CallsOfRestore lines result (D.state device.old) (D.state device.new) }
+    ensures same { (D.state device.new).bytes ≡ (D.state device.old).bytes }
+    ensures any_moment { LeavesOnly (D.state device.old) (D.state device.new)
+        (MayLeave (present (D.state device.old))) }
+    ensures at_rest { IfOk result (λ it. (image : Image)
+        → restored lines (D.state device.old).bytes ≡ Found it.head.newest.slot image
+        → IsAtRestOn it.head.newest.slot image lines it.head.closed (D.state device.new)) }
+{
+    if device.len() != device_size(lines) {
+        return Err(RestoreError::WrongSize);
+    }
+    let Ok(()) = device.sync() else {
+        return Err(RestoreError::Device);
+    };
+    let Ok(readings) = read_both(device, lines) else {
+        return Err(RestoreError::Device);
+    };
+    match choose(readings.first, readings.second) {
+        Ok(head) => read_newest(check, alloc, device, lines, head, readings),
+        Err(error) => Err(refusal(device, lines, readings, error)),
     }
 }
 
@@ -433,17 +222,40 @@ pub fn restore<D: SaveDevice>(
         → restored lines (D.state device.old).bytes ≡ Found it.head.newest.slot image
         → IsAtRestOn it.head.newest.slot image lines it.head.closed (D.state device.new)) }
 {
-    if device.len() != device_size(lines) {
-        return Err(RestoreError::WrongSize);
-    }
-    let Ok(()) = device.sync() else {
-        return Err(RestoreError::Device);
-    };
-    let Ok(readings) = read_both(device, lines) else {
-        return Err(RestoreError::Device);
-    };
-    match choose(readings.first, readings.second) {
-        Ok(head) => read_newest(alloc, device, lines, head, readings),
-        Err(error) => Err(refusal(device, lines, readings, error)),
-    }
+    restore_by(&InTurn, alloc, device, lines)
+}
+
+/// Reads the newest image of a device as `restore` does: it answers the same, makes the same calls in the same order and leaves
+/// the same bytes. While the other slot's lines are read and digested, where they have a digest, those of the newest image are
+/// digested in a thread of their own; in turn where none is to be had. It takes no more memory, and the device is asked by the
+/// caller's thread alone.
+pub fn restore_at_once<D: SaveDevice, R: Threads>(
+    rt: &R,
+    alloc: Global,
+    device: &mut D,
+    lines: usize,
+) -> Result<Restored, RestoreError>
+    requires { IsCapacity lines }
+    ensures found { IfOk result (λ it. IsRestored it lines (D.state device.old).bytes) }
+    ensures sound { IfOk result
+        (λ it. IsMemory lines it.lines.items × Fits it.head.newest.generation it.head.count) }
+    ensures version { IfOk result (λ it. it.version
+        ≡ version_in (page_in lines it.head.newest.slot (D.state device.old).bytes)) }
+    ensures refused { IfErr result
+        (λ error. Refuses error (restored lines (D.state device.old).bytes)) }
+
+    // No call where the length is another; else one sync, and then only reads.
+    ensures calls { CallsOfRestore lines result (D.state device.old) (D.state device.new) }
+    ensures same { (D.state device.new).bytes ≡ (D.state device.old).bytes }
+
+    // A stop within leaves what one before could leave.
+    ensures any_moment { LeavesOnly (D.state device.old) (D.state device.new)
+        (MayLeave (present (D.state device.old))) }
+
+    // From then on a save may begin over it.
+    ensures at_rest { IfOk result (λ it. (image : Image)
+        → restored lines (D.state device.old).bytes ≡ Found it.head.newest.slot image
+        → IsAtRestOn it.head.newest.slot image lines it.head.closed (D.state device.new)) }
+{
+    restore_by(&AtOnce { rt }, alloc, device, lines)
 }

@@ -5,8 +5,7 @@ use crate::slots::{LINES, SIZE, formatted, set};
 use crate::versions::{FIRST_DAMAGED, HALF, SECOND_DAMAGED, old_store, put_image, saved};
 use save_device::{Fuse, MemoryDevice};
 use save_image::Version;
-use slot_restore::restore_at_once;
-use slot_store::{Head, RestoreError, Restored, Slot, restore};
+use slot_store::{Head, RestoreError, Restored, Slot, restore, restore_at_once};
 use std::process::Abort;
 use std::thread::Threads;
 
