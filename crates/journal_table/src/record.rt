@@ -14,7 +14,8 @@ fn record_bytes(alloc: Global, word: u8, key: &[u8], value: &[u8]) -> Result<Vec
     ensures { IfOk result (λ bytes. bytes.items
         ≡ word ∷ (to_le_bytes w64 (length key.now) ++ (key.now ++ value.now))) }
 {
-    let mut bytes = Vec::new(alloc);
+    let size = key.len().saturating_add(value.len());
+    let mut bytes = Vec::with_capacity(alloc, size.saturating_add(BEFORE_KEY))?;
     bytes.push(word)?;
     bytes.extend_from_slice(&(key.len() as u64).to_le_bytes())?;
     bytes.extend_from_slice(key)?;

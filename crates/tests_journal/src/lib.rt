@@ -5,3 +5,5 @@
 mod lines;
 #[cfg(test)]
 mod module;
+#[cfg(test)]
+mod reads;
