@@ -35,8 +35,7 @@ fn read_line<K: ChannelPort>(nvdimm: &mut Module<K>, line: u64) -> Result<Line, 
         (IsLineRead (setup_of K.ChannelPort nvdimm.old) line result) nvdimm.old nvdimm.new }
     ensures setup { setup_of K.ChannelPort nvdimm.new ≡ setup_of K.ChannelPort nvdimm.old }
 {
-    let channels = nvdimm.channels().count();
-    match read(nvdimm, channels, line) {
+    match read(nvdimm, line) {
         Ok(LineSeen::Content(bytes)) => Ok(bytes),
         Ok(LineSeen::Waiting) => Err(NotRead::Waiting),
         Err(refusal) => Err(NotRead::Refused(refusal)),
