@@ -13,6 +13,7 @@ use Rattle.nv_script.specs.declared.answer.Answer.TheVariants as answer
 use Rattle.serde_json.specs.Data.{object}
 use Rattle.serde_json.specs.Written.{compact_text}
 use Rattle.answer_json.specs.Commands.{issued_pieces}
+use Rattle.answer_json.specs.Lines.{line_text}
 use Rattle.answer_json.specs.Refusals.{arm_refused, read_refused, restore_refused, write_refused}
 use Rattle.answer_json.specs.Told.{Piece, says, counts, names, holds, members_by}
 
@@ -121,6 +122,10 @@ answer_pieces (answer.RestoreRefused error) = restore_refused error
 answer_pieces answer.FormatFault = fault_pieces (codes "format")
 answer_pieces answer.ArmFault = fault_pieces (codes "arm")
 answer_pieces answer.SaveFault = fault_pieces (codes "save")
+
+-- the text of its line
+abbrev pub answer_line : Answer → List ℕ
+answer_line answer = line_text (answer_pieces answer)
 
 -- its object as a text without spaces
 abbrev pub answer_text : Answer → List ℕ

@@ -1,8 +1,9 @@
-//! Answers as JSON: what an answer tells, part by part, as the line has it, and the object of these parts.
+//! What an answer tells, part by part, and the line and the object of JSON that are written of these parts.
 #![tactic(auto)]
 
 mod answers;
 mod commands;
+mod line;
 mod refusals;
 mod told;
 mod written;
@@ -10,4 +11,4 @@ mod written;
 pub use answers::told_of;
 pub use commands::{told_of_command, told_of_numbered};
 pub use told::{Part, Told};
-pub use written::{write_answer, write_object};
+pub use written::{write_answer, write_line, write_object};

@@ -9,7 +9,6 @@ ghost use Rattle.answer_json.specs.declared.told.Part.TheVariants as variant;
 use line_memory::Line;
 use serde_json::{Map, Value, put};
 use std::alloc::{AllocError, Global};
-use std::fmt;
 
 const END: Part = Part::Nothing;
 
@@ -37,7 +36,7 @@ pub enum Part {
     },
 }
 
-/// What is told: of which kind it is, and its parts in the order of the line. Shown as the line.
+/// What is told: of which kind it is, and its parts in the order of the line.
 #[derive(Clone, Copy, Debug, PartialEq, Eq)]
 pub struct Told {
     pub kind: &'static str,
@@ -92,42 +91,6 @@ impl Told {
     {
         Ok(Value::Object(self.members(alloc)?))
     }
-}
-
-impl fmt::Display for Told {
-    fn fmt<W: fmt::Write>(&self, f: &mut fmt::Formatter<W>) -> fmt::Result {
-        let mut is_first = true;
-        for part in &self.parts {
-            if *part != Part::Nothing && !is_first {
-                f.write_str(" ")?;
-            }
-            is_first = false;
-            write_part(f, part)?;
-        }
-        Ok(())
-    }
-}
-
-fn write_part<W: fmt::Write>(f: &mut fmt::Formatter<W>, part: &Part) -> fmt::Result {
-    match *part {
-        Part::Nothing => Ok(()),
-        Part::Word(word) => f.write_str(word),
-        Part::Number { value, .. } => write!(f, "{value}"),
-        Part::Name { value, .. } => f.write_str(value),
-        Part::Bytes { bytes, .. } => write_bytes(f, &bytes),
-    }
-}
-
-// A line's bytes: one, where all are equal to it, or all.
-fn write_bytes<W: fmt::Write>(f: &mut fmt::Formatter<W>, line: &Line) -> fmt::Result {
-    let first = line[0];
-    if line.iter().all(|byte| *byte == first) {
-        return write!(f, "{first:02x}");
-    }
-    for byte in line {
-        write!(f, "{byte:02x}")?;
-    }
-    Ok(())
 }
 
 /// What is told in one part.

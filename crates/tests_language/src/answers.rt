@@ -1,5 +1,5 @@
 // The text of each answer, and what is told of it.
-use answer_json::{told_of, write_answer};
+use answer_json::{write_answer, write_line};
 use arm_state::{ArmRefusal, Loss, Mode, ReadRefusal, WriteRefusal};
 use ddr4_timing::command::{Command, Stamped};
 use ddr4_timing::place::BankAddress;
@@ -7,12 +7,14 @@ use nv_script::Answer;
 use slot_store::{RestoreError, Slot, Step, Verdict};
 use std::process::Abort;
 
-// Fails where an answer isn't shown so, or what is told of it.
+// Fails where an answer isn't shown so, or isn't written as that line.
 fn is_shown<R: Abort + AllocGlobal>(rt: &R, answer: Answer, text: &str) {
     let shown = answer.to_string(rt.alloc()).expect(rt, "memory");
     assert_eq!(*rt; shown.as_str(), text);
-    let told = told_of(&answer).to_string(rt.alloc());
-    assert_eq!(*rt; told.expect(rt, "memory").as_str(), text);
+    let mut written = Vec::new(rt.alloc());
+    write_line(rt.alloc(), &answer, &mut written).expect(rt, "memory");
+    let line = format!(in rt.alloc(); "{text}\n").expect(rt, "memory");
+    assert_eq!(*rt; written.as_slice(), line.as_bytes());
 }
 
 // Fails where the object of an answer isn't written so.
