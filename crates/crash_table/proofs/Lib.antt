@@ -6,3 +6,5 @@ pub mod Rows
 pub mod Adding
 pub mod Blocks
 pub mod Telling
+pub mod Behind
+pub mod Lefts

@@ -4,3 +4,4 @@ pub mod Counting
 pub mod Rows
 pub mod Blocks
 pub mod Tables
+pub mod Lefts

@@ -2,13 +2,21 @@
 use Rattle.std.specs.Prelude.{◌≡◌, ℕ, ◌<◌, ◌-◌, max, Bool, true, false, List, length, map, All, Option, Some, None, slice_get, MatchOption}
 use Rattle.std.specs.List.{flat_map}
 use Rattle.std.specs.Option.{option_map}
+use Rattle.save_device.specs.Device.{MayLeave, present}
+use Rattle.save_device.specs.Memory.{state_of}
+use Rattle.save_device.specs.declared.memory.MemoryDevice.{MemoryDevice}
 use Rattle.save_device.specs.declared.memory.Pick.{Pick}
+use Rattle.slot_store.specs.Outcomes.{restored}
+use Rattle.slot_store.specs.Slots.{device_size}
 use Rattle.slot_store.specs.declared.restoring.RestoreError.TheVariants as errors
 use Rattle.arm_state.specs.declared.loss.Loss.TheVariants as lost
+use Rattle.nv_machine.specs.Headline.{RecoversAfterwards}
+use Rattle.nv_machine.specs.State.{Machine}
 use Rattle.nv_script.specs.declared.line.ScriptLine.{ScriptLine}
 use Rattle.nv_script.specs.declared.line.ScriptLine.TheVariants as line
 use Rattle.nv_script.specs.declared.answer.Answer.{Answer}
 use Rattle.nv_script.specs.declared.answer.Answer.TheVariants as answer
+use Rattle.script_runner.specs.Keeping.{IsKeptBy}
 use Rattle.script_runner.specs.Ledger.{Ledger, told_by, IsTrueOf}
 use Rattle.script_runner.specs.Story.{Exchange, IsTrueStory, IsWhole, known_after}
 use Rattle.crash_table.specs.declared.outcome.Found.{Found}
@@ -25,6 +33,18 @@ pub record IsTrueRun (size : ℕ) (lines : List ScriptLine) (story : List Exchan
   pub holds : IsTrueStory size None story
   pub whole : All IsWhole story
 
+-- a stop after a machine that has accepted what is known leaves these bytes
+abbrev pub MayBeLeft : ℕ → Option Ledger → List ℕ → Type 0
+MayBeLeft size known bytes = (ledger : Ledger) → known ≡ Some ledger → (m : Machine) × IsKeptBy size ledger m × RecoversAfterwards m (restored size bytes)
+
+-- These lines were run, with these answers, on a device of this size, and so each stop of it behind them leaves such bytes.
+pub record LeavesBehind (size : ℕ) (lines : List ScriptLine) (answers : List Answer) (device : MemoryDevice) : Type 0 where
+  pub story : List Exchange
+  pub run : IsTrueRun size lines story
+  pub said : answers ≡ flat_map (λ exchange. exchange.answers) story
+  pub whole : length (state_of device).bytes ≡ device_size size
+  pub left : (bytes : List ℕ) → MayLeave (present (state_of device)) bytes → MayBeLeft size (known_after None story) bytes
+
 -- how many writes were told to be persistent, none where nothing is known
 abbrev pub told_of : Option Ledger → ℕ
 told_of (Some ledger) = ledger.told
@@ -35,6 +55,14 @@ abbrev pub found_by : Answer → Found
 found_by (answer.Restored generation count verdict) = Image generation count verdict
 found_by (answer.RestoreRefused error) = Refused error
 found_by other = Refused errors.NoImage
+
+-- an answer to a restore of these bytes, true by whatever is known of who left them
+abbrev pub IsRestoreOf : ℕ → List ℕ → Answer → Type 0
+IsRestoreOf size bytes given = (known : Option Ledger) (pick : Pick) → MayBeLeft size known bytes → IsTrueOf size known (line.Restore (Some pick) None) given
+
+-- what such an answer found, where so many writes were told to be persistent
+abbrev pub IsFoundOf : ℕ → List ℕ → ℕ → Outcome → Type 0
+IsFoundOf size bytes told outcome = (given : Answer) × IsRestoreOf size bytes given × (outcome ≡ record { found = found_by given; told = told })
 
 -- Behind a run of these lines a restore by this pick gave this outcome: it is told what the restore of that very device
 -- answered, true by what was known before it, and how many writes were told to be persistent by then.

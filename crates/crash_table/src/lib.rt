@@ -4,6 +4,8 @@
 
 mod answers;
 mod counts;
+mod leaving;
+mod left;
 mod outcome;
 mod script;
 mod stop;

@@ -1,14 +1,18 @@
 // Scripts that are stopped and restored.
-ghost use Rattle.std.specs.Prelude.{◌≡◌, [], map, All, IfOk, IfErr, IfSome};
+ghost use Rattle.std.specs.Prelude.{◌≡◌, [], length, map, All, IfOk, IfErr, IfSome};
 ghost use Rattle.ddr4_timing.specs.Limits.{lines_of};
+ghost use Rattle.save_device.specs.declared.memory.Pick.{Pick};
+ghost use Rattle.slot_store.specs.Slots.{device_size};
 ghost use Rattle.nv_script.specs.Line.{NamesChannelOf};
 ghost use Rattle.script_runner.specs.Story.{AreAllAnswered, GivesOut};
 ghost use Rattle.crash_table.specs.Stops.{picks, with_picks};
 ghost use Rattle.crash_table.specs.Counting.{complete_ones, most_missing};
-ghost use Rattle.crash_table.specs.Outcomes.{AreTried, IsOutcomeOf, IsTried, MakesDeviceCalls, MayEnd, tried_at};
+ghost use Rattle.crash_table.specs.Lefts.{IsBehind};
+ghost use Rattle.crash_table.specs.Outcomes.{AreTried, IsFoundOf, IsOutcomeOf, IsRestoreOf, IsTried, LeavesBehind, MakesDeviceCalls, MayEnd, tried_at};
 ghost use Rattle.crash_table.specs.Tables.{TellsEach};
 
 use crate::answers::{Answers, ends_with_fault, told_in};
+use crate::left::Left;
 use crate::outcome::{Found, Outcome};
 use crate::script::Script;
 use crate::stop::{PICKS, Stop};
@@ -17,8 +21,9 @@ use crate::tried::Tried;
 use interleave_map::{Interleaving, ReadyMap};
 use nv_profile::Profile;
 use nv_script::{Answer, ScriptFault, ScriptLine};
-use save_device::Pick;
-use script_runner::{CommandBook, do_lines_kept};
+use nv_session::Session;
+use save_device::{MemoryDevice, Pick};
+use script_runner::{CommandBook, Wiring, do_lines_kept, restore_answer};
 use std::alloc::Global;
 
 /// Who is told how far trials are.
@@ -27,7 +32,23 @@ pub trait Progress {
     fn tell(&mut self, done: usize, lines: usize);
 }
 
-/// The trials of a profile. Each is a run of lines from the first on, on a device of its own.
+// Lines that were run: their answers, and the device as they left it.
+#[derive(Drop)]
+struct Ran {
+    answers: Vec<Answer>,
+    device: MemoryDevice,
+}
+
+// Lines that were run: how many writes were told to be persistent, and what a stop may leave of the device, where that is known.
+#[derive(Drop)]
+struct Behind {
+    lines: Vec<ScriptLine>,
+    told: u64,
+    left: Option<Left>,
+}
+
+/// The trials of a profile. A stop is a run of lines from the first on, on a device of its own; what it leaves by each pick is
+/// restored for itself.
 #[derive(Clone, Copy, Drop)]
 pub struct Trials<'p> {
     alloc: Global,
@@ -74,11 +95,24 @@ impl<'p> Trials<'p> {
             (lines_of self.now.profile.now.checked.geometry) lines.now [] answers.items) }
         ensures fault { IfErr result GivesOut }
     {
+        Ok(self.run(lines, book)?.answers)
+    }
+
+    // Runs lines from the first on.
+    fn run(&self, lines: &[ScriptLine], book: &mut CommandBook) -> Result<Ran, ScriptFault>
+        requires lines { All (NamesChannelOf self.now.profile.now.checked.geometry) lines.now }
+        requires book { IfSome book.old (λ lives. lives ≡ []) }
+        ensures answered { IfOk result (λ ran. AreAllAnswered
+            (lines_of self.now.profile.now.checked.geometry) lines.now [] ran.answers.items) }
+        ensures leaves { IfOk result (λ ran. LeavesBehind
+            (lines_of self.now.profile.now.checked.geometry) lines.now
+            ran.answers.items ran.device) }
+        ensures fault { IfErr result GivesOut }
+    {
         let lines_map = self.map(Interleaving::Lines);
         let xor_map = self.map(Interleaving::Xor);
         let mut answers = Answers::new(self.alloc);
-        // what the device holds in the end is told by the answers
-        let _device = do_lines_kept(
+        let device = do_lines_kept(
             self.alloc,
             self.profile,
             lines,
@@ -87,7 +121,114 @@ impl<'p> Trials<'p> {
             &mut answers,
             book,
         )?;
-        Ok(answers.taken)
+        Ok(Ran {
+            answers: answers.taken,
+            device,
+        })
+    }
+
+    // Runs lines, and reads what a stop behind the last of them may leave.
+    fn behind(&self, lines: Vec<ScriptLine>) -> Result<Behind, ScriptFault>
+        requires { All (NamesChannelOf self.now.profile.now.checked.geometry) lines.items }
+        ensures behind { IfOk result
+            (IsBehind (lines_of self.now.profile.now.checked.geometry)) }
+        ensures lines { IfOk result (λ behind. behind.lines.items ≡ lines.items) }
+        ensures fault { IfErr result GivesOut }
+    {
+        let Ran { answers, device } = self.run(&lines, &mut CommandBook::closed(self.alloc))?;
+        let told = told_in(&answers).unwrap_or(0);
+        let left = Left::of(self.alloc, device)?;
+        Ok(Behind { lines, told, left })
+    }
+
+    // What a restore answers on a device that a stop left with these bytes.
+    fn restore(&self, bytes: Vec<u8>) -> Result<Answer, ScriptFault>
+        requires { length bytes.items
+            ≡ device_size (lines_of self.now.profile.now.checked.geometry) }
+        ensures restores { IfOk result (IsRestoreOf
+            (lines_of self.now.profile.now.checked.geometry) bytes.items) }
+        ensures fault { IfErr result GivesOut }
+    {
+        let lines_map = self.map(Interleaving::Lines);
+        let xor_map = self.map(Interleaving::Xor);
+        let wiring = Wiring::new(&lines_map, &xor_map, self.profile);
+        let device = MemoryDevice::new(self.alloc, bytes)?;
+        let mut session = Session::over(device, self.profile, wiring);
+        Ok(restore_answer(session.restore(self.alloc, Pick::Old, None)))
+    }
+
+    // What a restore finds on such a device, where so many writes were told to be persistent.
+    fn found(&self, bytes: Vec<u8>, told: u64) -> Result<Outcome, ScriptFault>
+        requires { length bytes.items
+            ≡ device_size (lines_of self.now.profile.now.checked.geometry) }
+        ensures found { IfOk result (IsFoundOf
+            (lines_of self.now.profile.now.checked.geometry) bytes.items told) }
+        ensures fault { IfErr result GivesOut }
+    {
+        let answer = self.restore(bytes)?;
+        Ok(Outcome {
+            found: Found::by(&answer),
+            told,
+        })
+    }
+
+    // The outcome of all picks, where nothing is unsettled.
+    fn outcome_of_all(&self, behind: &Behind) -> Result<Option<Outcome>, ScriptFault>
+        requires { IsBehind (lines_of self.now.profile.now.checked.geometry) behind.now }
+        ensures found { IfOk result (λ outcome. IfSome outcome (λ outcome. (pick : Pick)
+            → IsOutcomeOf (lines_of self.now.profile.now.checked.geometry)
+            behind.now.lines.items pick outcome)) }
+        ensures fault { IfErr result GivesOut }
+    {
+        let Some(left) = &behind.left else {
+            return Ok(None);
+        };
+        if !left.is_settled() {
+            return Ok(None);
+        }
+        let bytes = left.bytes(self.alloc)?;
+        Ok(Some(self.found(bytes, behind.told)?))
+    }
+
+    // The outcome of a pick. Where its bytes aren't known, the lines are run once more.
+    fn outcome_of(&self, behind: &Behind, pick: Pick) -> Result<Outcome, ScriptFault>
+        requires lines { All (NamesChannelOf self.now.profile.now.checked.geometry)
+            behind.now.lines.items }
+        requires behind { IsBehind (lines_of self.now.profile.now.checked.geometry) behind.now }
+        ensures found { IfOk result (IsOutcomeOf
+            (lines_of self.now.profile.now.checked.geometry) behind.now.lines.items pick) }
+        ensures fault { IfErr result GivesOut }
+    {
+        let Some(left) = &behind.left else {
+            return self.outcome(&behind.lines, pick);
+        };
+        let Some(bytes) = left.by(self.alloc, pick)? else {
+            return self.outcome(&behind.lines, pick);
+        };
+        self.found(bytes, behind.told)
+    }
+
+    // The same, where that of all picks may be known.
+    fn outcome_by(
+        &self,
+        behind: &Behind,
+        all: Option<Outcome>,
+        pick: Pick,
+    ) -> Result<Outcome, ScriptFault>
+        requires lines { All (NamesChannelOf self.now.profile.now.checked.geometry)
+            behind.now.lines.items }
+        requires behind { IsBehind (lines_of self.now.profile.now.checked.geometry) behind.now }
+        requires all { IfSome all (λ outcome. (pick : Pick) → IsOutcomeOf
+            (lines_of self.now.profile.now.checked.geometry)
+            behind.now.lines.items pick outcome) }
+        ensures found { IfOk result (IsOutcomeOf
+            (lines_of self.now.profile.now.checked.geometry) behind.now.lines.items pick) }
+        ensures fault { IfErr result GivesOut }
+    {
+        match all {
+            Some(outcome) => Ok(outcome),
+            None => self.outcome_of(behind, pick),
+        }
     }
 
     /// What a restore by the pick finds behind lines. Refused only where there is no memory.
@@ -156,9 +297,11 @@ impl<'p> Trials<'p> {
         ensures fault { IfErr result GivesOut }
     {
         let lines = stop.lines(self.alloc, before, line)?;
+        let behind = self.behind(lines)?;
+        let all = self.outcome_of_all(&behind)?;
         let mut tried = Vec::new(self.alloc);
         for pick in &PICKS {
-            let outcome = self.outcome(&lines, *pick)?;
+            let outcome = self.outcome_by(&behind, all, *pick)?;
             tried.extend_from_slice(&[Tried {
                 stop,
                 pick: *pick,

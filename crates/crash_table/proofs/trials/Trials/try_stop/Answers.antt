@@ -18,7 +18,7 @@ loop-pick-preserved c =
     let one : Tried = record { stop = c.args.stop; pick = pick; outcome = c.in_ok-outcome.outcome } in
     let items : c.extend_from_slice.new.self.items ≡ c.loop-pick.tried.items ++ one ∷ [] = c.in_ok-extend_from_slice.ensures.items in
     let found : IsOutcomeOf size (stopped_lines before c.args.line c.args.stop) pick c.in_ok-outcome.outcome =
-    subst (λ (lines : List ScriptLine). IsOutcomeOf size lines pick c.in_ok-outcome.outcome) (c.deref.ensures.value ∙ c.in_ok-lines.ensures) c.in_ok-outcome.ensures.found in
+    subst (λ (lines : List ScriptLine). IsOutcomeOf size lines pick c.in_ok-outcome.outcome) (c.in_ok-behind.ensures.lines ∙ c.in_ok-lines.ensures) c.in_ok-outcome.ensures.found in
     let are : All (IsTried size before c.args.line) (c.loop-pick.tried.items ++ one ∷ []) =
     All-push (IsTried size before c.args.line) c.loop-pick.tried.items one c.loop-pick.invariant.are found in
     record {
