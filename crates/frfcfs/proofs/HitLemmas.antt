@@ -7,13 +7,13 @@ use Rattle.frfcfs.proofs.Common.{AreHits, BankAddress, Geometry, HasBank, IsElig
 use Rattle.ddr4_timing.proofs.Addresses.{has_slot, same_slot, slot_small}
 use Rattle.frfcfs.proofs.Lists.{one_at, something_at}
 
-one_bank : (g : Geometry) (a b : BankAddress) → IsSmall g → HasBank g a → HasBank g b → bank_index a ≡ bank_index b → a ≡ b
+pub one_bank : (g : Geometry) (a b : BankAddress) → IsSmall g → HasBank g a → HasBank g b → bank_index a ≡ bank_index b → a ≡ b
 one_bank g a b small ha hb e =
     let sa = has_slot g a small ha in
     let sb = has_slot g b small hb in
     same_slot a b sa sb (omega (arith, slot_small a sa, slot_small b sb, e)) (omega (arith, slot_small a sa, slot_small b sb, e))
 
-index_small : (g : Geometry) (a : BankAddress) → IsSmall g → HasBank g a → bank_index a < 64
+pub index_small : (g : Geometry) (a : BankAddress) → IsSmall g → HasBank g a → bank_index a < 64
 index_small g a small h = let r = small.ranks in let gs = small.groups in let bs = small.banks in omega (arith, r, gs, bs, h.rank, h.group, h.bank)
 
 -- what a flag says of the places before an index, where one more is looked at

@@ -4,6 +4,8 @@ pub mod Leads
 pub mod Wants
 pub mod HitLemmas
 pub mod BestRequests
+pub mod ScanLemmas
+pub mod ScanOthers
 pub mod RankOffers
 pub mod NextChoice
 pub mod ChoiceLaws

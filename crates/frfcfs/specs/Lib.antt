@@ -3,4 +3,5 @@ pub mod Queue
 pub mod Candidates
 pub mod Next
 pub mod Search
+pub mod Scan
 pub mod Margin

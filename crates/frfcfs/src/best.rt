@@ -5,6 +5,7 @@ ghost use Rattle.ddr4_timing.specs.declared.command.Stamped.{Stamped};
 ghost use Rattle.bank_core.specs.Stands.{Stands};
 ghost use Rattle.frfcfs.specs.declared.pending.Pending.{Pending};
 ghost use Rattle.frfcfs.specs.Requests.{IsEligible};
+ghost use Rattle.frfcfs.specs.Scan.{IsOlderBetter};
 ghost use Rattle.frfcfs.specs.Search.{AreBest, AreFound, AreHits, IsBetter, IsEnd, no_bests};
 
 use crate::pending::Pending;
@@ -19,11 +20,20 @@ pub(crate) struct Best {
 }
 
 impl Best {
-    // A younger request may have its command too, from a clock on and before an end.
-    fn offer(&mut self, index: usize, from: u64, end: u64)
+    /// A younger request may have its command too, from a clock on and before an end.
+    pub(crate) fn offer(&mut self, index: usize, from: u64, end: u64)
         ensures { IsBetter self.old index from end self.new }
     {
         if from < end && from < self.clock {
+            *self = Best { clock: from, index };
+        }
+    }
+
+    /// Another request may, be it older or younger.
+    pub(crate) fn offer_older(&mut self, index: usize, from: u64, end: u64)
+        ensures { IsOlderBetter self.old index from end self.new }
+    {
+        if from < end && (from < self.clock || from == self.clock && index < self.index) {
             *self = Best { clock: from, index };
         }
     }

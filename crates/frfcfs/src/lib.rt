@@ -13,4 +13,5 @@ pub mod margin;
 pub mod next;
 pub mod pending;
 pub mod queue;
+mod scan;
 mod search;

@@ -11,7 +11,8 @@ ghost use Rattle.frfcfs.specs.Margin.{IsIdle, KeepsMargin, last_clock};
 use crate::hits::hit_banks;
 use crate::pending::Pending;
 use crate::queue::Queue;
-use crate::search::search;
+use crate::scan::find_soonest;
+use crate::search::{first_of, search};
 use bank_core::banks::Banks;
 use ddr4_timing::command::Command;
 
@@ -69,7 +70,7 @@ fn has_work(banks: &Banks, any: bool, clock: u64) -> bool
 /// each rank that is awake keeps the time for its refresh (JESD79-4, which lets a REF be put off by eight intervals).
 ///
 /// The clauses on lists are on every list that the banks stand for, whose last command went at `now` and in which each rank
-/// has its time. It takes no memory, and looks at each request twice.
+/// has its time. It takes no memory, looks at each request once, and asks for the clock of each bank and kind once.
 pub fn next_command(banks: &Banks, queue: &Queue, now: u64) -> Option<Next>
     requires { All (λ p. LiesIn banks.now.checked.geometry p.place) queue.now.requests }
     ensures early { IfSome result (λ next. next.clock < 2 ^ 63) }
@@ -89,9 +90,9 @@ pub fn next_command(banks: &Banks, queue: &Queue, now: u64) -> Option<Next>
         return None;
     }
     let (pending, firsts) = (queue.requests(), queue.firsts());
-    let hits = hit_banks(banks, pending, firsts);
-    if !has_work(banks, hits.any, now) {
+    let soonest = find_soonest(banks, pending, firsts, now, (1 << 63) - 1);
+    if !has_work(banks, soonest.any, now) {
         return None;
     }
-    search(banks, pending, firsts, &hits, now, (1 << 63) - 1)
+    first_of(banks, pending, soonest.bests, now, (1 << 63) - 1)
 }

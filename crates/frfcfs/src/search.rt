@@ -17,8 +17,8 @@ use crate::pending::Pending;
 use bank_core::banks::Banks;
 use ddr4_timing::command::Command;
 
-// For each rank the clock before which its requests may have their commands, in a span up to a last clock.
-fn ends(banks: &Banks, last: u64) -> [u64; 4]
+/// For each rank the clock before which its requests may have their commands, in a span up to a last clock.
+pub(crate) fn ends(banks: &Banks, last: u64) -> [u64; 4]
     ensures early { (rank : ℕ) → slice_index result rank ≤ limit_of last }
     ensures ends { (list : List Stamped) → Stands banks.now list →
         AreEnds banks.now.checked list last result }
@@ -123,26 +123,24 @@ fn soonest_rank(banks: &Banks, now: u64, last: u64) -> Option<Next>
 
 /// The first clock of a span that has a candidate, and the choice there; None exactly where no clock of it has one.
 ///
-/// It never walks from clock to clock: the first clock of each request's next command is found once, from its bank's and its
-/// rank's, and the least is taken. It takes no memory, and looks at each request once.
-pub(crate) fn search(
+/// It never walks from clock to clock: of the ranks' commands and of the requests that may have theirs first, the soonest goes.
+pub(crate) fn first_of(
     banks: &Banks,
     pending: &[Pending],
-    marks: &[bool],
-    hits: &Hits,
+    bests: Bests,
     now: u64,
     last: u64,
 ) -> Option<Next>
     requires order { AreInOrder pending.now }
-    requires marks { AreMarks banks.now.checked.geometry pending.now marks.now }
-    requires hits { (list : List Stamped) → Stands banks.now list →
-        AreHits banks.now.checked.geometry list pending.now (length pending.now) hits.now.banks }
+    requires found { AreFound banks.now.checked.geometry pending.now now (limit_of last) bests }
+    requires best { (list : List Stamped) → Stands banks.now list →
+        AreBest banks.now.checked list pending.now now last (limit_of last) (length pending.now) bests }
     ensures span { IfSome result (λ next. (now ≤ next.clock) × (next.clock ≤ last)) }
     ensures serves { IfSome result (λ next. IfSome next.serves (IsServable pending.now)) }
     ensures next { (list : List Stamped) → Stands banks.now list →
         IsNextIn banks.now.checked list pending.now now last result }
 {
-    let Bests { column, row } = soonest_requests(banks, pending, marks, &hits.banks, now, last);
+    let Bests { column, row } = bests;
     let first = column.clock.min(row.clock);
     // a rank goes before all requests of its clock
     if let Some(next) = soonest_rank(banks, now, first.min(last)) {
@@ -163,4 +161,27 @@ pub(crate) fn search(
         cmd: row_command(banks, &pending[row.index]),
         serves: None,
     })
+}
+
+/// The same, where nothing is known of the requests. It finds the first clock of each request's next command once, from its
+/// bank's and its rank's; it takes no memory, and looks at each request once.
+pub(crate) fn search(
+    banks: &Banks,
+    pending: &[Pending],
+    marks: &[bool],
+    hits: &Hits,
+    now: u64,
+    last: u64,
+) -> Option<Next>
+    requires order { AreInOrder pending.now }
+    requires marks { AreMarks banks.now.checked.geometry pending.now marks.now }
+    requires hits { (list : List Stamped) → Stands banks.now list →
+        AreHits banks.now.checked.geometry list pending.now (length pending.now) hits.now.banks }
+    ensures span { IfSome result (λ next. (now ≤ next.clock) × (next.clock ≤ last)) }
+    ensures serves { IfSome result (λ next. IfSome next.serves (IsServable pending.now)) }
+    ensures next { (list : List Stamped) → Stands banks.now list →
+        IsNextIn banks.now.checked list pending.now now last result }
+{
+    let bests = soonest_requests(banks, pending, marks, &hits.banks, now, last);
+    first_of(banks, pending, bests, now, last)
 }

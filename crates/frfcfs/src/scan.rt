@@ -1,0 +1,191 @@
+// One look at each eligible request of a queue, which asks the clock of each bank and kind once.
+ghost use Rattle.std.specs.Prelude.{◌≡◌, ℕ, ◌+◌, ◌<◌, ◌≤◌, ◌↔◌, List, IsTrue, length, replicate, slice_get, slice_index, Some, false};
+ghost use Rattle.ddr4_timing.specs.Places.{LiesIn};
+ghost use Rattle.ddr4_timing.specs.declared.command.Stamped.{Stamped};
+ghost use Rattle.bank_core.specs.Stands.{Stands};
+ghost use Rattle.frfcfs.specs.declared.pending.Pending.{Pending};
+ghost use Rattle.frfcfs.specs.Requests.{IsEligible};
+ghost use Rattle.frfcfs.specs.Candidates.{WantsRow};
+ghost use Rattle.frfcfs.specs.Scan.{AreScanned, IsScanFound, flag_of};
+ghost use Rattle.frfcfs.specs.Search.{AreBest, AreEnds, AreFound, AreMarks, HasEligibleIn, IsBest, IsEnd, IsFound, Takes, limit_of, no_bests};
+
+use crate::best::{Best, Bests};
+use crate::hits::is_eligible;
+use crate::pending::{Kind, Pending};
+use crate::search::ends;
+use bank_core::banks::Banks;
+
+/// What the requests that were looked at say of the banks.
+#[derive(Clone, Copy)]
+pub(crate) struct Scan {
+    /// The best RD or WR, and the best ACT.
+    pub(crate) bests: Bests,
+    /// Of each bank and kind, whether a request was met: its RD or WR was offered, or its ACT where the bank is closed.
+    pub(crate) met: [bool; 128],
+    /// Of each bank, where the oldest request stands that wants another row than the one that is open there.
+    pub(crate) others: [usize; 64],
+}
+
+// Where the flag of a bank and a kind stands.
+fn flag(bank: usize, kind: Kind) -> usize
+    requires { bank < 64 }
+    ensures { result ≡ flag_of bank kind }
+{
+    match kind {
+        Kind::Read => 2 * bank,
+        Kind::Write => 2 * bank + 1,
+    }
+}
+
+impl Scan {
+    // Before any request was looked at, of so many.
+    fn none(limit: u64, size: usize) -> Scan
+        ensures bests { result.bests ≡ no_bests limit }
+        ensures met { result.met ≡ replicate 128 false }
+        ensures others { result.others ≡ replicate 64 size }
+    {
+        Scan {
+            bests: Bests::none(limit),
+            met: [false; 128],
+            others: [size; 64],
+        }
+    }
+
+    // Looks at the eligible request at an index, which may have its command from now on and before an end.
+    fn look(&mut self, banks: &Banks, request: &Pending, index: usize, now: u64, end: u64)
+        requires { LiesIn banks.now.checked.geometry request.now.place }
+        ensures found { (pending : List Pending) (limit : ℕ) → end ≤ limit →
+            IsEligible pending index request.now →
+            IsScanFound banks.now.checked.geometry pending now limit self.old →
+            IsScanFound banks.now.checked.geometry pending now limit self.new }
+        ensures scanned { (list : List Stamped) (pending : List Pending) (last limit : ℕ) →
+            Stands banks.now list →
+            IsEnd banks.now.checked list request.now.place.rank last end → end ≤ limit →
+            IsEligible pending index request.now →
+            AreScanned banks.now.checked list pending now last limit index self.old →
+            AreScanned banks.now.checked list pending now last limit (index + 1) self.new }
+    {
+        let at = request.place.bank_address();
+        let bank = at.index(&banks.checked().geometry);
+        let mark = flag(bank, request.kind);
+        if self.met[mark] {
+            return;
+        }
+        match banks.open_row(at) {
+            None => {
+                let clock = banks.least_clock(request.act());
+                self.bests.row.offer(index, clock.max(now), end);
+                self.met[mark] = true;
+            }
+            Some(row) => {
+                if row == request.place.row {
+                    let clock = banks.least_clock(request.column());
+                    self.bests.column.offer(index, clock.max(now), end);
+                    self.met[mark] = true;
+                } else {
+                    self.others[bank] = self.others[bank].min(index);
+                }
+            }
+        }
+    }
+
+    // The best ACT or PRE, once each request was looked at.
+    fn soonest_row(&self, banks: &Banks, pending: &[Pending], ends: &[u64; 4], now: u64) -> Best
+        requires { (index : ℕ) (request : Pending) → slice_get pending.now index ≡ Some request →
+            LiesIn banks.now.checked.geometry request.place }
+        ensures found { (limit : ℕ) → ((rank : ℕ) → slice_index ends.now rank ≤ limit) →
+            IsScanFound banks.now.checked.geometry pending.now now limit self.now →
+            IsFound banks.now.checked.geometry pending.now now limit result }
+        ensures best { (list : List Stamped) (last limit : ℕ) →
+            Stands banks.now list → AreEnds banks.now.checked list last ends.now →
+            ((rank : ℕ) → slice_index ends.now rank ≤ limit) →
+            IsScanFound banks.now.checked.geometry pending.now now limit self.now →
+            AreScanned banks.now.checked list pending.now now last limit (length pending.now) self.now →
+            IsBest (Takes (WantsRow list pending.now) banks.now.checked list pending.now last)
+            now limit (length pending.now) result }
+    {
+        let mut best = self.bests.row;
+        for bank in 0..64usize {
+            let index = self.others[bank];
+            if index < pending.len() && !self.met[2 * bank] && !self.met[2 * bank + 1] {
+                let request = &pending[index];
+                let clock = banks.least_clock(request.pre());
+                let end = ends[request.place.rank as usize];
+                best.offer_older(index, clock.max(now), end);
+            }
+        }
+        best
+    }
+}
+
+// What the requests that were looked at say of the banks, and whether any of them is eligible.
+#[derive(Clone, Copy)]
+struct Looked {
+    scan: Scan,
+    any: bool,
+}
+
+// Looks at each request.
+fn look_at_each(
+    banks: &Banks,
+    pending: &[Pending],
+    marks: &[bool],
+    ends: &[u64; 4],
+    now: u64,
+    last: u64,
+) -> Looked
+    requires marks { AreMarks banks.now.checked.geometry pending.now marks.now }
+    requires size { length marks.now ≡ length pending.now }
+    requires early { (rank : ℕ) → slice_index ends.now rank ≤ limit_of last }
+    ensures any { IsTrue result.any ↔ HasEligibleIn banks.now.checked.geometry pending.now }
+    ensures found { IsScanFound banks.now.checked.geometry pending.now now (limit_of last) result.scan }
+    ensures scanned { (list : List Stamped) → Stands banks.now list →
+        AreEnds banks.now.checked list last ends.now →
+        AreScanned banks.now.checked list pending.now now last (limit_of last) (length pending.now) result.scan }
+{
+    let geometry = &banks.checked().geometry;
+    let mut scan = Scan::none(last.saturating_add(1), pending.len());
+    let mut any = false;
+    for (index, request) in pending.iter().enumerate() {
+        if is_eligible(geometry, pending, marks, index) {
+            any = true;
+            let end = ends[request.place.rank as usize];
+            scan.look(banks, request, index, now, end);
+        }
+    }
+    Looked { scan, any }
+}
+
+/// The requests that may have their commands first, of each class, and whether any request is eligible.
+#[derive(Clone, Copy)]
+pub(crate) struct Soonest {
+    pub(crate) bests: Bests,
+    pub(crate) any: bool,
+}
+
+/// The requests that may have their commands first in a span, of those with a mark each. It looks at each of them once.
+pub(crate) fn find_soonest(
+    banks: &Banks,
+    pending: &[Pending],
+    marks: &[bool],
+    now: u64,
+    last: u64,
+) -> Soonest
+    requires marks { AreMarks banks.now.checked.geometry pending.now marks.now }
+    requires size { length marks.now ≡ length pending.now }
+    ensures any { IsTrue result.any ↔ HasEligibleIn banks.now.checked.geometry pending.now }
+    ensures found { AreFound banks.now.checked.geometry pending.now now (limit_of last) result.bests }
+    ensures best { (list : List Stamped) → Stands banks.now list →
+        AreBest banks.now.checked list pending.now now last (limit_of last) (length pending.now) result.bests }
+{
+    let ends = ends(banks, last);
+    let Looked { scan, any } = look_at_each(banks, pending, marks, &ends, now, last);
+    let row = scan.soonest_row(banks, pending, &ends, now);
+    Soonest {
+        bests: Bests {
+            column: scan.bests.column,
+            row,
+        },
+        any,
+    }
+}
