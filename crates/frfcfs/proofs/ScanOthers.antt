@@ -29,11 +29,16 @@ scan_none c list pending now last limit scan bests met others = record {
   noted = λ n q small less el. let e : get_or scan.others n 0 ≡ length pending = ap (λ (xs : List ℕ). get_or xs n 0) others ∙ get_or-replicate 64 n (length pending) 0 small in absurd (omega (arith, e, less));
 }
 
-pub found_none : (g : Geometry) (pending : List Pending) (now limit : ℕ) (scan : Scan) → scan.bests ≡ no_bests limit → scan.others ≡ replicate 64 (length pending) → IsScanFound g pending now limit scan
-found_none g pending now limit scan bests others = record {
+pub found_none : (g : Geometry) (pending : List Pending) (now limit : ℕ) (scan : Scan) → scan.bests ≡ no_bests limit → scan.others ≡ replicate 64 (length pending) → scan.most ≡ 0 → IsScanFound g pending now limit scan
+found_none g pending now limit scan bests others most = record {
   bests = rw bests (λ h. absurd (omega (arith, h)), λ h. absurd (omega (arith, h)));
-  others = λ n small less. let e : get_or scan.others n 0 ≡ length pending = ap (λ (xs : List ℕ). get_or xs n 0) others ∙ get_or-replicate 64 n (length pending) 0 small in absurd (omega (arith, e, less));
+  others = λ n small less. absurd (never n small less);
+  noted = λ n small less. absurd (never n small less);
+  small = omega (arith, most);
 }
+  where
+    never : (n : ℕ) → n < 64 → ¬ (get_or scan.others n 0 < length pending)
+    never n small less = let e : get_or scan.others n 0 ≡ length pending = ap (λ (xs : List ℕ). get_or xs n 0) others ∙ get_or-replicate 64 n (length pending) 0 small in omega (arith, e, less)
 
 -- One that isn't eligible, or whose bank isn't there, changes nothing.
 pub scan_past : (c : Checked) (list : List Stamped) (pending : List Pending) (now last limit index : ℕ) (scan : Scan) → ¬ WaitsAt c.geometry pending index → AreScanned c list pending now last limit index scan → AreScanned c list pending now last limit (index + 1) scan
@@ -116,13 +121,18 @@ scan_other c list pending now last limit index bank request old new has el other
     }
 
 pub found_other : (g : Geometry) (pending : List Pending) (now limit index bank : ℕ) (request : Pending) (old new : Scan) → IsEligibleIn g pending index request → length old.others ≡ 64 → bank < 64 → new.bests ≡ old.bests →
-    new.others ≡ set old.others bank (min (get_or old.others bank 0) index) → IsScanFound g pending now limit old → IsScanFound g pending now limit new
-found_other g pending now limit index bank request old new el size small bests others before = record {
+    new.others ≡ set old.others bank (min (get_or old.others bank 0) index) → new.most ≡ max old.most (bank + 1) → IsScanFound g pending now limit old → IsScanFound g pending now limit new
+found_other g pending now limit index bank request old new el size small bests others most before = record {
   bests = rw bests before.bests;
   others = rw others (λ n within less. elim (noted_now old.others bank index n (omega (arith, size, small))) [
     | inl stays ↦ rw stays (before.others n within (omega (arith, less, stays)))
     | inr now ↦ rw now.1 (request, el)
   ]);
+  noted = rw (others, most) (λ n within less. elim (noted_now old.others bank index n (omega (arith, size, small))) [
+    | inl stays ↦ let below = before.noted n within (omega (arith, less, stays)) in omega (arith, below)
+    | inr now ↦ omega (arith, now.0)
+  ]);
+  small = omega (arith, most, small, before.small);
 }
 
 pub found_older : (g : Geometry) (pending : List Pending) (now limit index least from end : ℕ) (request : Pending) (old new : Best) → from ≡ max least now → IsEligibleIn g pending index request → IsOlderBetter old index from end new → IsFound g pending now limit old → IsFound g pending now limit new
@@ -141,9 +151,20 @@ rows_none c list pending now last limit end best before =
     best_same _ _ now limit end best (λ i k h. (h.0, h.1, h.2, h.3, h.4, inl h.5))
     (λ i k h. (h.0, h.1, h.2, h.3, h.4, elim h.5 [ inl w ↦ w | inr w ↦ absurd (omega (arith, w.3)) ])) before
 
-pub rows_all : (c : Checked) (list : List Stamped) (pending : List Pending) (now last limit end : ℕ) (best : Best) → IsBest (RowsBelow c list pending last 64) now limit end best → IsBest (Takes (WantsRow list pending) c list pending last) now limit end best
-rows_all c list pending now last limit end best before =
-    best_same _ _ now limit end best (λ i k h. (h.0, h.1, h.2, h.3, h.4, elim h.5 [ inl w ↦ inl w | inr w ↦ inr (w.0, w.1, w.2) ]))
+-- a bank of which one was met has no PRE
+met_none : (c : Checked) (list : List Stamped) (pending : List Pending) (now last limit : ℕ) (scan : Scan) (request : Pending) (kind : Kind) → IsPassed c list pending now last limit scan (bank_at request.place) kind → IsOtherOpen list request.place → ¬ IsUnhit list pending (bank_at request.place)
+met_none c list pending now last limit scan request kind p other unhit =
+    let opened : open_row (bank_at p.request.place) list ≡ Some other.0 = ap (λ (b : BankAddress). open_row b list) p.here ∙ other.1 in
+    elim (cases_eq other.0 p.request.place.row) [
+      | inl same ↦ unhit p.index p.request p.eligible p.here (other.1 ∙ ap Some same)
+      | inr differs ↦ p.meets (other.0, opened, differs)
+    ]
+
+-- those of all banks, where the banks behind them have none that is noted
+pub rows_all : (c : Checked) (list : List Stamped) (pending : List Pending) (now last limit n : ℕ) (best : Best) (scan : Scan) → IsScanFound c.geometry pending now limit scan → scan.most ≤ n → AreScanned c list pending now last limit (length pending) scan →
+    IsBest (RowsBelow c list pending last n) now limit (length pending) best → IsBest (Takes (WantsRow list pending) c list pending last) now limit (length pending) best
+rows_all c list pending now last limit n best scan found most s before =
+    best_same _ _ now limit (length pending) best (λ i k h. (h.0, h.1, h.2, h.3, h.4, elim h.5 [ inl w ↦ inl w | inr w ↦ inr (w.0, w.1, w.2) ]))
     (λ i k h. (
       h.0,
       h.1,
@@ -154,19 +175,17 @@ rows_all c list pending now last limit end best before =
         | inl w ↦ inl w
         | inr w ↦
             let place = (ready_lawful c list (record { clock = k; cmd = h.1 }) h.4.lawful).rows.place in
-            let has = row_bank c.geometry list pending h.0 h.1 h.5 place in
-            inr (w.0, w.1, w.2, index_small c.geometry (bank_at h.0.place) c.is_small has)
+            inr (w.0, w.1, w.2, below i h.0 h.3 (row_bank c.geometry list pending h.0 h.1 h.5 place) w.0 w.1)
       ],
     )) before
-
--- a bank of which one was met has no PRE
-met_none : (c : Checked) (list : List Stamped) (pending : List Pending) (now last limit : ℕ) (scan : Scan) (request : Pending) (kind : Kind) → IsPassed c list pending now last limit scan (bank_at request.place) kind → IsOtherOpen list request.place → ¬ IsUnhit list pending (bank_at request.place)
-met_none c list pending now last limit scan request kind p other unhit =
-    let opened : open_row (bank_at p.request.place) list ≡ Some other.0 = ap (λ (b : BankAddress). open_row b list) p.here ∙ other.1 in
-    elim (cases_eq other.0 p.request.place.row) [
-      | inl same ↦ unhit p.index p.request p.eligible p.here (other.1 ∙ ap Some same)
-      | inr differs ↦ p.meets (other.0, opened, differs)
-    ]
+  where
+    below : (i : ℕ) (q : Pending) → IsEligible pending i q → HasBank c.geometry (bank_at q.place) → IsOtherOpen list q.place → IsUnhit list pending (bank_at q.place) → bank_index (bank_at q.place) < n
+    below i q el has other unhit =
+        let within = slice_get_within pending i q el.here in
+        elim (s.others i q within el has other) [
+          | inl met ↦ absurd (met_none c list pending now last limit scan q q.kind (s.passed (bank_at q.place) q.kind has met) other unhit)
+          | inr le ↦ let below = found.noted (bank_index (bank_at q.place)) (index_small c.geometry (bank_at q.place) c.is_small has) (omega (arith, le, within)) in omega (arith, below, most)
+        ]
 
 -- a bank of which none takes its PRE
 rows_skip : (c : Checked) (list : List Stamped) (pending : List Pending) (now last limit end n : ℕ) (best : Best) →

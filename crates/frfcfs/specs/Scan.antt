@@ -65,11 +65,13 @@ pub record AreScanned (c : Checked) (list : List Stamped) (pending : List Pendin
   pub noted : (bank : ℕ) (request : Pending) → bank < 64 → slice_index scan.others bank < length pending
       → IsEligible pending (slice_index scan.others bank) request → IsOtherOpen list request.place × (bank_index (bank_at request.place) ≡ bank)
 
--- The bests are those of eligible requests, and so are the places that are noted of the banks.
+-- The bests are those of eligible requests, and so are the places that are noted of the banks, which are the first ones, so many.
 pub record IsScanFound (g : Geometry) (pending : List Pending) (now limit : ℕ) (scan : Scan) : Type 0 where
   pub bests : AreFound g pending now limit scan.bests
   pub others : (bank : ℕ) → bank < 64 → slice_index scan.others bank < length pending
       → (request : Pending) × IsEligibleIn g pending (slice_index scan.others bank) request
+  pub noted : (bank : ℕ) → bank < 64 → slice_index scan.others bank < length pending → bank < scan.most
+  pub small : scan.most ≤ 64
 
 -- the better of a best one and another, which may have its command from a clock on and before an end; of two at one clock the older
 abbrev pub IsOlderBetter : Best → ℕ → ℕ → ℕ → Best → Type 0

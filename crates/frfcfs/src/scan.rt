@@ -24,6 +24,8 @@ pub(crate) struct Scan {
     pub(crate) met: [bool; 128],
     /// Of each bank, where the oldest request stands that wants another row than the one that is open there.
     pub(crate) others: [usize; 64],
+    /// One more than the last bank that has such a request, 0 where none has.
+    pub(crate) most: usize,
 }
 
 // Where the flag of a bank and a kind stands.
@@ -38,16 +40,18 @@ fn flag(bank: usize, kind: Kind) -> usize
 }
 
 impl Scan {
-    // Before any request was looked at, of so many.
-    fn none(limit: u64, size: usize) -> Scan
-        ensures bests { result.bests ≡ no_bests limit }
+    // Before any request was looked at, of so many, in a span up to a last clock.
+    fn none(last: u64, size: usize) -> Scan
+        ensures bests { result.bests ≡ no_bests (limit_of last) }
         ensures met { result.met ≡ replicate 128 false }
         ensures others { result.others ≡ replicate 64 size }
+        ensures most { result.most ≡ 0 }
     {
         Scan {
-            bests: Bests::none(limit),
+            bests: Bests::none(last.saturating_add(1)),
             met: [false; 128],
             others: [size; 64],
+            most: 0,
         }
     }
 
@@ -84,14 +88,51 @@ impl Scan {
                     self.met[mark] = true;
                 } else {
                     self.others[bank] = self.others[bank].min(index);
+                    self.most = self.most.max(bank + 1);
                 }
             }
         }
     }
 
+    // Looks at each request, the first time. Is any eligible?
+    fn look_at_each(
+        &mut self,
+        banks: &Banks,
+        pending: &[Pending],
+        marks: &[bool],
+        ends: &[u64; 4],
+        now: u64,
+        last: u64,
+    ) -> bool
+        requires bests { self.old.bests ≡ no_bests (limit_of last) }
+        requires met { self.old.met ≡ replicate 128 false }
+        requires others { self.old.others ≡ replicate 64 (length pending.now) }
+        requires most { self.old.most ≡ 0 }
+        requires marks { AreMarks banks.now.checked.geometry pending.now marks.now }
+        requires size { length marks.now ≡ length pending.now }
+        requires early { (rank : ℕ) → slice_index ends.now rank ≤ limit_of last }
+        ensures any { IsTrue result ↔ HasEligibleIn banks.now.checked.geometry pending.now }
+        ensures found { IsScanFound banks.now.checked.geometry pending.now now (limit_of last) self.new }
+        ensures scanned { (list : List Stamped) → Stands banks.now list →
+            AreEnds banks.now.checked list last ends.now →
+            AreScanned banks.now.checked list pending.now now last (limit_of last) (length pending.now) self.new }
+    {
+        let geometry = &banks.checked().geometry;
+        let mut any = false;
+        for (index, request) in pending.iter().enumerate() {
+            if is_eligible(geometry, pending, marks, index) {
+                any = true;
+                let end = ends[request.place.rank as usize];
+                self.look(banks, request, index, now, end);
+            }
+        }
+        any
+    }
+
     // The best ACT or PRE, once each request was looked at.
     fn soonest_row(&self, banks: &Banks, pending: &[Pending], ends: &[u64; 4], now: u64) -> Best
-        requires { (index : ℕ) (request : Pending) → slice_get pending.now index ≡ Some request →
+        requires small { self.now.most ≤ 64 }
+        requires places { (index : ℕ) (request : Pending) → slice_get pending.now index ≡ Some request →
             LiesIn banks.now.checked.geometry request.place }
         ensures found { (limit : ℕ) → ((rank : ℕ) → slice_index ends.now rank ≤ limit) →
             IsScanFound banks.now.checked.geometry pending.now now limit self.now →
@@ -105,7 +146,7 @@ impl Scan {
             now limit (length pending.now) result }
     {
         let mut best = self.bests.row;
-        for bank in 0..64usize {
+        for bank in 0..self.most {
             let index = self.others[bank];
             if index < pending.len() && !self.met[2 * bank] && !self.met[2 * bank + 1] {
                 let request = &pending[index];
@@ -116,44 +157,6 @@ impl Scan {
         }
         best
     }
-}
-
-// What the requests that were looked at say of the banks, and whether any of them is eligible.
-#[derive(Clone, Copy)]
-struct Looked {
-    scan: Scan,
-    any: bool,
-}
-
-// Looks at each request.
-fn look_at_each(
-    banks: &Banks,
-    pending: &[Pending],
-    marks: &[bool],
-    ends: &[u64; 4],
-    now: u64,
-    last: u64,
-) -> Looked
-    requires marks { AreMarks banks.now.checked.geometry pending.now marks.now }
-    requires size { length marks.now ≡ length pending.now }
-    requires early { (rank : ℕ) → slice_index ends.now rank ≤ limit_of last }
-    ensures any { IsTrue result.any ↔ HasEligibleIn banks.now.checked.geometry pending.now }
-    ensures found { IsScanFound banks.now.checked.geometry pending.now now (limit_of last) result.scan }
-    ensures scanned { (list : List Stamped) → Stands banks.now list →
-        AreEnds banks.now.checked list last ends.now →
-        AreScanned banks.now.checked list pending.now now last (limit_of last) (length pending.now) result.scan }
-{
-    let geometry = &banks.checked().geometry;
-    let mut scan = Scan::none(last.saturating_add(1), pending.len());
-    let mut any = false;
-    for (index, request) in pending.iter().enumerate() {
-        if is_eligible(geometry, pending, marks, index) {
-            any = true;
-            let end = ends[request.place.rank as usize];
-            scan.look(banks, request, index, now, end);
-        }
-    }
-    Looked { scan, any }
 }
 
 /// The requests that may have their commands first, of each class, and whether any request is eligible.
@@ -179,7 +182,8 @@ pub(crate) fn find_soonest(
         AreBest banks.now.checked list pending.now now last (limit_of last) (length pending.now) result.bests }
 {
     let ends = ends(banks, last);
-    let Looked { scan, any } = look_at_each(banks, pending, marks, &ends, now, last);
+    let mut scan = Scan::none(last, pending.len());
+    let any = scan.look_at_each(banks, pending, marks, &ends, now, last);
     let row = scan.soonest_row(banks, pending, &ends, now);
     Soonest {
         bests: Bests {

@@ -39,7 +39,7 @@ returns-else-row-request-clause-found c pending limit early el before =
     let g = c.args.banks.now.checked.geometry in
     let has : HasBank g (bank_at c.args.request.now.place) = record { rank = c.requires.rank; group = c.requires.group; bank = c.requires.bank } in
     let size : length c.args.self.now.others ≡ 64 = omega arith in
-    found_other g pending c.args.now limit c.args.index c.index-bank.result c.args.request.now c.args.self.now _ (el, has) size c.index-bank.ensures.small refl (ap (set c.args.self.now.others c.index-bank.result) c.min.ensures) before
+    found_other g pending c.args.now limit c.args.index c.index-bank.result c.args.request.now c.args.self.now _ (el, has) size c.index-bank.ensures.small refl (ap (set c.args.self.now.others c.index-bank.result) c.min.ensures) c.max-self.ensures before
 
 pub returns-else-row-request-clause-scanned : goal.returns-else-row-request-clause-scanned
 returns-else-row-request-clause-scanned c list pending last limit s ends early el before =

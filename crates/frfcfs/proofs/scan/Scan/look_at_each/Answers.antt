@@ -1,20 +1,18 @@
-use Rattle.std.proofs.Common.{◌≡◌, ap, ◌∙◌, arith, length, subst, true, false}
+use Rattle.std.proofs.Common.{◌≡◌, ap, arith, length, subst, true, false}
 use Rattle.std.proofs.lemmas.Option.{get_or_from_slice_get, slice_get_within}
-use Rattle.frfcfs.specs.Search.{no_bests}
 use Rattle.frfcfs.proofs.Common.{Geometry, limit_of}
 use Rattle.frfcfs.proofs.HitLemmas.{IsLook, WaitsAt, eligible_there, kept_flag, none_waits, set_flag, waits_there}
 use Rattle.frfcfs.proofs.Lists.{something_at}
 use Rattle.frfcfs.proofs.ScanOthers.{found_none, scan_none, scan_past}
-use Rattle.frfcfs.proofs.scan.look_at_each.Goals as goal
-use Rattle.frfcfs.proofs.scan.look_at_each.Goals.{then-is_eligible, else-is_eligible}
+use Rattle.frfcfs.proofs.scan.Scan.look_at_each.Goals as goal
+use Rattle.frfcfs.proofs.scan.Scan.look_at_each.Goals.{then-is_eligible, else-is_eligible}
 
 pub loop-index-init : goal.loop-index-init
-loop-index-init c =
-    let bests = c.none-scan.ensures.bests ∙ ap no_bests c.saturating_add.ensures in record {
-      any = (λ e. absurd (cc), λ h. absurd (omega (arith, h.1)));
-      found = found_none c.args.banks.now.checked.geometry c.args.pending.now c.args.now (limit_of c.args.last) c.none-scan.result bests c.none-scan.ensures.others;
-      scanned = λ list s ends. scan_none c.args.banks.now.checked list c.args.pending.now c.args.now c.args.last (limit_of c.args.last) c.none-scan.result bests c.none-scan.ensures.met c.none-scan.ensures.others;
-    }
+loop-index-init c = record {
+  any = (λ e. absurd (cc), λ h. absurd (omega (arith, h.1)));
+  found = found_none c.args.banks.now.checked.geometry c.args.pending.now c.args.now (limit_of c.args.last) c.args.self.now c.requires.bests c.requires.others c.requires.most;
+  scanned = λ list s ends. scan_none c.args.banks.now.checked list c.args.pending.now c.args.now c.args.last (limit_of c.args.last) c.args.self.now c.requires.bests c.requires.met c.requires.others;
+}
 
 pub offset_bounds-ends-request : goal.offset_bounds-ends-request
 offset_bounds-ends-request c =
@@ -48,14 +46,14 @@ loop-index-preserved c =
           let look = subst (λ (x : Geometry). IsLook x pending index true) same w.if-is_eligible.ensures in
           let (el, bank) = eligible_there b.geometry pending index _ within look in record {
             any = set_flag (WaitsAt b.geometry pending) _ index w.any-is (waits_there b.geometry pending index within look);
-            found = rw w.scan-is (w.look.ensures.found pending (limit_of c.args.last) (c.requires.early _) el before.found);
-            scanned = λ list s ends. rw w.scan-is (w.look.ensures.scanned list pending c.args.last (limit_of c.args.last) s (ends _ bank.rank) (c.requires.early _) el (before.scanned list s ends));
+            found = rw w.self-is (w.look.ensures.found pending (limit_of c.args.last) (c.requires.early _) el before.found);
+            scanned = λ list s ends. rw w.self-is (w.look.ensures.scanned list pending c.args.last (limit_of c.args.last) s (ends _ bank.rank) (c.requires.early _) el (before.scanned list s ends));
           }
       | else-is_eligible w ↦
           let none = none_waits b.geometry pending index (subst (λ (x : Geometry). IsLook x pending index false) same w.if-is_eligible.ensures) in record {
             any = kept_flag (WaitsAt b.geometry pending) c.loop-index.any _ index w.any-is none before.any;
-            found = rw w.scan-is before.found;
-            scanned = λ list s ends. rw w.scan-is (scan_past b list pending c.args.now c.args.last (limit_of c.args.last) index c.loop-index.scan none (before.scanned list s ends));
+            found = rw w.self-is before.found;
+            scanned = λ list s ends. rw w.self-is (scan_past b list pending c.args.now c.args.last (limit_of c.args.last) index c.loop-index.self none (before.scanned list s ends));
           }
     ]
 

@@ -3,11 +3,11 @@ use Rattle.frfcfs.specs.Scan.{AreScanned, IsScanFound}
 use Rattle.frfcfs.specs.Search.{AreEnds}
 use Rattle.frfcfs.proofs.Common.{Stamped, Stands, limit_of}
 use Rattle.frfcfs.proofs.HitLemmas.{WaitsAt}
-use Rattle.frfcfs.proofs.scan.look_at_each.Given as goal
+use Rattle.frfcfs.proofs.scan.Scan.look_at_each.Given as goal
 
 abbrev pub invariant-loop-index : goal.invariant-loop-index
 invariant-loop-index l = record {
   any : IsTrue l.any ↔ ((k : ℕ) × (k < l.index) × WaitsAt l.banks.checked.geometry l.pending k);
-  found : IsScanFound l.banks.checked.geometry l.pending l.now (limit_of l.last) l.scan;
-  scanned : (list : List Stamped) → Stands l.banks list → AreEnds l.banks.checked list l.last l.ends → AreScanned l.banks.checked list l.pending l.now l.last (limit_of l.last) l.index l.scan;
+  found : IsScanFound l.banks.checked.geometry l.pending l.now (limit_of l.last) l.self;
+  scanned : (list : List Stamped) → Stands l.banks list → AreEnds l.banks.checked list l.last l.ends → AreScanned l.banks.checked list l.pending l.now l.last (limit_of l.last) l.index l.self;
 }
