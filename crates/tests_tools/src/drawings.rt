@@ -4,7 +4,7 @@ use command_trace::{TraceReader, form_of};
 use ddr4_timing::command::{Command, Stamped};
 use nv_script::Answer;
 use schedule_drawing::{
-    Event, EventKind, Schedule, flaws_of, read_entries, told_schedule, write_svg, write_vcd,
+    Event, EventKind, Schedule, told_schedule, trace_schedule, write_svg, write_vcd,
 };
 use std::alloc::Global;
 use std::fmt::Write;
@@ -15,12 +15,7 @@ fn schedule(alloc: Global, text: &str) -> anyhow::Result<Schedule> {
     let checked = checked()?;
     let form = form_of(alloc, text.as_bytes(), false)?;
     let mut reader = TraceReader::new(alloc, text.as_bytes(), form, 1);
-    let entries = read_entries(alloc, &mut reader, &checked.geometry)?;
-    let mut schedule = Schedule::new(alloc);
-    let begin = schedule.next_begin();
-    schedule.add(alloc, &checked.timing, begin, &entries)?;
-    schedule.flaws = flaws_of(alloc, &checked.rules(), &entries)?;
-    Ok(schedule)
+    Ok(trace_schedule(alloc, &checked.rules(), &mut reader)?)
 }
 
 // A row is opened, read and closed, and the rank is refreshed.
