@@ -64,7 +64,7 @@ pub fn read_found<R: Read + Drop>(
         if !rising.take(&found.entry) {
             return Err(refused(found.line, NoCommand::Order));
         }
-        commands.push(found)?;
+        commands.extend_from_slice(&[found])?;
     }
     Ok(commands)
 }

@@ -107,6 +107,36 @@ fn has<R: Abort + AllocGlobal>(
     Ok(())
 }
 
+// A read with auto-precharge, and an ACT of its bank as soon as the precharge that it brings allows.
+const CLOSING: &str = "0 0 ACT 0 1 2 1
+0 16 RDA 0 1 2 3
+0 55 ACT 0 1 2 0
+";
+
+#[test]
+fn shapes_with_auto_precharge(rt: HostRuntime) -> Result<(), Fail> {
+    has(
+        &rt,
+        &schedule(rt.alloc(), CLOSING)?,
+        &[
+            ("<line class=\"mark\"", 4),
+            (">ACT</text>", 2),
+            (">RD</text>", 1),
+            (">PRE</text>", 1),
+            ("<rect class=\"flaw\"", 0),
+        ],
+    )?;
+    let early = CLOSING.replace(rt.alloc(), "0 55", "0 54")?;
+    match schedule(rt.alloc(), &early) {
+        Ok(_) => assert!(rt; false),
+        Err(error) => {
+            let told = format!(in rt.alloc(); "{error}")?;
+            assert_eq!(rt; told.as_str(), "trace line 3");
+        }
+    }
+    Ok(())
+}
+
 #[test]
 fn shapes_of_a_trace(rt: HostRuntime) -> Result<(), Fail> {
     let schedule = schedule(rt.alloc(), SHORT)?;

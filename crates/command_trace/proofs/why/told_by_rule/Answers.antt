@@ -10,17 +10,18 @@ returns c u listed lined broken =
     let second : Numbered = record { line = c.args.last.now.line; command = c.args.last.now.command } in
     let first = c.unwrap_or-first.result in
     let at = c.args.broken.1 in
-    let told = λ within. first_told c.args.commands.now c.args.lines.now at c.numbered.result second c.numbered.ensures.some c.numbered.ensures.none
-    (subst (λ (l : List Stamped). at < length l) (sym listed) within) in
+    let told : at < length u.list → (slice_get c.args.commands.now at ≡ Some first.command) × (first.line ≡ slice_index c.args.lines.now at) = λ within.
+        let there = first_told c.args.commands.now c.args.lines.now at c.numbered.result second c.numbered.ensures.some c.numbered.ensures.none
+        (subst (λ (l : List Stamped). at < length l) (sym listed) within) in (
+          there.0 ∙ ap (λ (it : Numbered). Some it.command) (sym c.unwrap_or-first.ensures),
+          ap (λ (it : Numbered). it.line) c.unwrap_or-first.ensures ∙ there.1,
+        ) in
     record {
       broken = inl broken;
-      second = c.len.ensures ∙ ap (λ (l : List Stamped). length l) listed;
+      second = ap (λ (l : List Stamped). length l) listed;
       command = refl;
       line = refl;
-      first = λ within.
-          subst (λ (l : List Stamped). slice_get l at ≡ Some first.command) listed
-          ((told within).0 ∙ ap (λ (it : Numbered). Some it.command) (sym c.unwrap_or-first.ensures));
-      first_line = λ within.
-          ap (λ (it : Numbered). it.line) c.unwrap_or-first.ensures ∙ (told within).1 ∙ ap (λ (l : List ℕ). slice_index l at) lined;
+      first = λ within. subst (λ (l : List Stamped). slice_get l at ≡ Some first.command) listed (told within).0;
+      first_line = λ within. (told within).1 ∙ ap (λ (l : List ℕ). slice_index l at) lined;
       reason = subst (λ (l : List Stamped). IsReasonOf c.args.rules.now c.args.broken.0 l first.command c.args.last.now.command c.of.result) listed c.of.ensures;
     }

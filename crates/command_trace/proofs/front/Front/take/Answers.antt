@@ -24,7 +24,8 @@ returns-then-not-follow-clause-follows c found f =
     let is : IsTrue c.args.self.now.is_lawful = cc in
     let behind = unfolded c.args.rules.now.timing (issued_in found) in
     let tells = c.if-not-follow.ensures.tells behind (f.stands is) in
-    let own = λ may. subst (λ (x : Issued). MayFollow c.args.rules.now behind x.command) (sym c.issued.ensures) may in
+    let own : MayFollow c.args.rules.now behind c.args.next.now.entry.command → MayFollow c.args.rules.now behind c.issued.result.command =
+    λ may. subst (λ (x : Issued). MayFollow c.args.rules.now behind x.command) (sym c.issued.ensures) may in
     record {
       lawful = λ h. absurd cc;
       stands = λ h. absurd cc;
@@ -38,7 +39,8 @@ returns-then-not-follow-clause-lawful c found f =
     let is : IsTrue c.args.self.now.is_lawful = cc in
     let behind = unfolded c.args.rules.now.timing (issued_in found) in
     let tells = c.if-not-follow.ensures.tells behind (f.stands is) in
-    let own = λ may. subst (λ (x : Issued). MayFollow c.args.rules.now behind x.command) (sym c.issued.ensures) may in
+    let own : MayFollow c.args.rules.now behind c.args.next.now.entry.command → MayFollow c.args.rules.now behind c.issued.result.command =
+    λ may. subst (λ (x : Issued). MayFollow c.args.rules.now behind x.command) (sym c.issued.ensures) may in
     (λ h. absurd cc, λ l. tells.1 (own ((follows_with c.args.rules.now found c.args.next.now).0 l).1))
 
 pub returns-clause-follows : goal.returns-clause-follows
