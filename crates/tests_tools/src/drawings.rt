@@ -121,7 +121,7 @@ fn shapes_with_auto_precharge(rt: HostRuntime) -> Result<(), Fail> {
         &[
             ("<line class=\"mark\"", 4),
             (">ACT</text>", 2),
-            (">RD</text>", 1),
+            (">RD</text>", 2),
             (">PRE</text>", 1),
             ("<rect class=\"flaw\"", 0),
         ],

@@ -164,7 +164,7 @@ const HEADER_LINE: &str = "clock,command,channel,rank,bankgroup,bank,row,column"
 const CLOSING: &str = "0 0 ACT 0 0 0 1
 0 16 RDA 0 0 0 3
 0 39 ACT 0 1 0 1
-0 55 ACT 0 0 0 2
+0 55 ACT 0 0 0 0
 ";
 
 #[test]
@@ -174,7 +174,7 @@ fn auto_precharge(rt: HostRuntime) -> Result<(), Fail> {
     tells(
         &rt,
         &early,
-        "fault 5, PRE to ACT, same bank or rank: at least tRP = 16, here 15; line 2: 39 PRE 0 0 0; line 4: 54 ACT 0 0 0 2",
+        "fault 5, PRE to ACT, same bank or rank: at least tRP = 16, here 15; line 2: 39 PRE 0 0 0; line 4: 54 ACT 0 0 0 0",
     )?;
     let read = CLOSING.replace(rt.alloc(), "0 39 ACT 0 1 0 1", "0 22 RD 0 0 0 1")?;
     tells(
