@@ -1,11 +1,11 @@
 -- The lists that channels stand for lie in the geometry.
-use Rattle.std.proofs.Common.{◌≡◌, ◌<◌, ◌∙◌, ℕ, zero, suc, ◌+◌, Bool, true, false, cond, if◌then◌else◌, ◌&&◌, List, [], ◌∷◌, ◌++◌, All, fold, map, nat_le, Option, Some, None, ap, arith, inl, inr, refl, subst, sym}
+use Rattle.std.proofs.Common.{◌≡◌, ◌<◌, ◌∙◌, ℕ, zero, suc, ◌+◌, Bool, true, false, ◌&&◌, List, [], ◌∷◌, ◌++◌, All, fold, nat_le, Option, Some, None, ap, arith, inl, inr, refl, subst, sym}
 use Rattle.std.specs.List.{flat_map, range_with_len}
 use Rattle.std.proofs.lemmas.Bool.{cases_Bool}
 use Rattle.std.proofs.lemmas.Grind.{flat_map-append}
 use Rattle.std.proofs.lemmas.List.{append-nil}
 use Rattle.std.proofs.lemmas.List.Elements.{All-append, All-cons, All-map, All-nil, All-push}
-use Rattle.ddr4_timing.specs.Command.{bank_of, is_column}
+use Rattle.ddr4_timing.specs.Command.{is_column}
 use Rattle.ddr4_timing.specs.Lawful.{IsInGeometry}
 use Rattle.ddr4_timing.specs.declared.command.Stamped.{Stamped}
 use Rattle.ddr4_timing.specs.declared.timing.CommandRules.{CommandRules}
@@ -17,7 +17,7 @@ use Rattle.auto_precharge.proofs.Settling.{column_has_bank, place_of_next, place
 use Rattle.command_trace.specs.Channels.{issued_to}
 use Rattle.command_trace.specs.declared.entry.Entry.{Entry}
 use Rattle.command_trace.specs.declared.entry.Located.{Located}
-use Rattle.schedule_drawing.specs.Entries.{AreAllLawful, LieIn, entries_stood_for, entries_to, stood_for}
+use Rattle.schedule_drawing.specs.Entries.{AreAllLawful, AreFoundIn, LieIn, entries_found, entries_stood_for, entries_to, stood_for}
 use Rattle.schedule_drawing.proofs.FlawLemmas.{range_more}
 
 -- the geometry has the place of each command
@@ -51,10 +51,14 @@ settled_in g clock u here = (
   placed_later clock g u.waiting here.1,
 )
 
+second_true : (a b : Bool) → (a && b) ≡ true → b ≡ true
+second_true true b e = e
+second_true false b e = absurd cc
+
 went_placed : (r : CommandRules) (u : Unfolded) (x : Issued) → IsInGeometry r.geometry x.command.cmd → ArePlaced r.geometry u.waiting → ArePlaced r.geometry (went r.timing u x).waiting
 went_placed r u x place placed = elim (cases_Bool (x.closes && is_column x.command.cmd)) [
   | inl brings ↦
-      let column : is_column x.command.cmd ≡ true = cc in
+      let column : is_column x.command.cmd ≡ true = second_true x.closes (is_column x.command.cmd) brings in
       rw brings (placed_set r.geometry u.waiting _ _ placed (column_has_bank r.geometry x.command.cmd place column))
   | inr not ↦ rw not placed
 ]
@@ -73,7 +77,7 @@ all_in r u (x ∷ found) here may =
 
 pub stood_for_in : (r : CommandRules) (found : List Located) (channel : ℕ) → IsLawfulTrace r (issued_to channel found) → AreIn r.geometry (stood_for r found channel)
 stood_for_in r found channel lawful =
-    (settled_in r.geometry _ _ (all_in r unfolded_none (issued_to channel found) (All-nil (λ (x : Stamped). IsInGeometry r.geometry x.cmd), placed_none r.geometry 128) lawful)).0
+    (settled_in r.geometry _ (fold (λ (v : Unfolded) (y : Issued). unfolded_with r.timing v y) unfolded_none (issued_to channel found)) (all_in r unfolded_none (issued_to channel found) (All-nil (λ (x : Stamped). IsInGeometry r.geometry x.cmd), placed_none r.geometry 128) lawful)).0
 
 entries_in : (g : Geometry) (channel : ℕ) (list : List Stamped) → AreIn g list → LieIn g (entries_to channel list)
 entries_in g channel list here =
@@ -92,9 +96,19 @@ stood_more r found n =
 up_to_in : (r : CommandRules) (found : List Located) (n : ℕ) → ((channel : ℕ) → channel < n → IsLawfulTrace r (issued_to channel found)) → LieIn r.geometry (stood_up_to r found n)
 up_to_in r found zero lawful = All-nil (λ (entry : Entry). IsInGeometry r.geometry entry.command.cmd)
 up_to_in r found (suc n) lawful =
-    subst (λ (l : List Entry). LieIn r.geometry l) (sym (ap (λ (k : ℕ). stood_up_to r found k) (omega arith) ∙ stood_more r found n))
+    let next : n + 1 ≡ suc n = omega arith in
+    subst (λ (k : ℕ). LieIn r.geometry (stood_up_to r found k)) next
+    (subst (λ (l : List Entry). LieIn r.geometry l) (sym (stood_more r found n))
     (All-append (λ (entry : Entry). IsInGeometry r.geometry entry.command.cmd) (stood_up_to r found n) _ (up_to_in r found n (λ k below. lawful k (omega (arith, below))))
-    (entries_in r.geometry n (stood_for r found n) (stood_for_in r found n (lawful n (omega arith)))))
+    (entries_in r.geometry n (stood_for r found n) (stood_for_in r found n (lawful n (omega arith))))))
 
 pub stood_for_all_in : (r : CommandRules) (found : List Located) → AreAllLawful r found → LieIn r.geometry (entries_stood_for r found)
 stood_for_all_in r found lawful = up_to_in r found r.geometry.channels lawful
+
+-- the same of a list that is known to be this one
+pub stood_lie : (r : CommandRules) (found : List Located) (entries : List Entry) → entries ≡ entries_stood_for r found → AreAllLawful r found → LieIn r.geometry entries
+stood_lie r found entries is lawful = subst (λ (l : List Entry). LieIn r.geometry l) (sym is) (stood_for_all_in r found lawful)
+
+pub found_lie : (g : Geometry) (found : List Located) (entries : List Entry) → entries ≡ entries_found found → AreFoundIn g found → LieIn g entries
+found_lie g found entries is here =
+    subst (λ (l : List Entry). LieIn g l) (sym is) (All-map (λ (entry : Entry). IsInGeometry g entry.command.cmd) (λ (l : Located). l.entry) found here)

@@ -1,5 +1,5 @@
 -- The commands of a trace, as they are drawn.
-use Rattle.std.specs.Prelude.{◌≡◌, ℕ, ◌<◌, ◌-◌, ◌^◌, Bool, true, false, if◌then◌else◌, List, [], All, map}
+use Rattle.std.specs.Prelude.{ℕ, ◌<◌, ◌-◌, ◌^◌, Bool, if◌then◌else◌, List, All, map}
 use Rattle.std.specs.List.{flat_map, list_any, range_with_len}
 use Rattle.auto_precharge.specs.Unfolding.{IsLawfulTrace, settled, unfolded}
 use Rattle.ddr4_timing.specs.Lawful.{IsInGeometry}

@@ -109,6 +109,22 @@ fn entries_stood_for(
     Ok(entries)
 }
 
+// The same, which lie in the geometry.
+#[tactic(auto, using(crate::proofs::StoodFor::stood_lie))]
+fn entries_lawful(
+    alloc: Global,
+    rules: &CommandRules,
+    found: &[Located],
+) -> Result<Vec<Entry>, TraceFault>
+    requires { AreInTime found.now }
+    ensures is { IfOk result (λ entries. entries.items ≡ entries_stood_for rules.now found.now) }
+    ensures lawful { IfOk result (λ entries. AreAllLawful rules.now found.now) }
+    ensures lie { IfOk result (λ entries. LieIn rules.now.geometry entries.items) }
+{
+    let entries = entries_stood_for(alloc, rules, found)?;
+    Ok(entries)
+}
+
 // The commands as they stand in the trace.
 fn entries_found(alloc: Global, found: &[Located]) -> Result<Vec<Entry>, AllocError>
     ensures { IfOk result (λ entries. entries.items ≡ entries_found found.now) }
@@ -131,7 +147,7 @@ pub fn entries_drawn(
     ensures lie { IfOk result (λ entries. LieIn rules.now.geometry entries.items) }
 {
     if has_closing(found) {
-        entries_stood_for(alloc, rules, found)
+        entries_lawful(alloc, rules, found)
     } else {
         Ok(entries_found(alloc, found)?)
     }

@@ -11,11 +11,11 @@ returns c u listed lined broken =
     let first = c.unwrap_or-first.result in
     let at = c.args.broken.1 in
     let told : at < length u.list → (slice_get c.args.commands.now at ≡ Some first.command) × (first.line ≡ slice_index c.args.lines.now at) = λ within.
-        let there = first_told c.args.commands.now c.args.lines.now at c.numbered.result second c.numbered.ensures.some c.numbered.ensures.none
-        (subst (λ (l : List Stamped). at < length l) (sym listed) within) in (
-          there.0 ∙ ap (λ (it : Numbered). Some it.command) (sym c.unwrap_or-first.ensures),
-          ap (λ (it : Numbered). it.line) c.unwrap_or-first.ensures ∙ there.1,
-        ) in
+    let there = first_told c.args.commands.now c.args.lines.now at c.numbered.result second c.numbered.ensures.some c.numbered.ensures.none
+    (subst (λ (l : List Stamped). at < length l) (sym listed) within) in (
+      there.0 ∙ ap (λ (it : Numbered). Some it.command) (sym c.unwrap_or-first.ensures),
+      ap (λ (it : Numbered). it.line) c.unwrap_or-first.ensures ∙ there.1,
+    ) in
     record {
       broken = inl broken;
       second = ap (λ (l : List Stamped). length l) listed;
