@@ -8,9 +8,7 @@ use crash_table::Trials;
 use ddr4_timing::timing::CommandRules;
 use nv_profile::Profile;
 use nv_script::{ScriptFault, read_script};
-use schedule_drawing::{
-    DrawFault, Schedule, flaws_of, read_entries, told_schedule, write_svg, write_vcd,
-};
+use schedule_drawing::{DrawFault, Schedule, told_schedule, trace_schedule, write_svg, write_vcd};
 use script_runner::CommandBook;
 use std::alloc::{AllocError, Global};
 use std::fs::File;
@@ -73,7 +71,7 @@ fn schedule_of<'a, R: Files + AllocGlobal>(
 ) -> Result<Schedule, Failure<'a>> {
     if is_trace(bytes) {
         let rules = rules_of(rt, word)?;
-        return match trace_schedule(rt.alloc(), &rules, bytes) {
+        return match schedule_drawn(rt.alloc(), &rules, bytes) {
             Ok(schedule) => Ok(schedule),
             Err(fault) => Err(of_trace(rt.alloc(), name, fault)),
         };
@@ -98,19 +96,14 @@ fn is_trace(bytes: &[u8]) -> bool {
     false
 }
 
-fn trace_schedule(
+fn schedule_drawn(
     alloc: Global,
     rules: &CommandRules,
     bytes: &[u8],
 ) -> Result<Schedule, TraceFault> {
-    let geometry = &rules.geometry;
     let form = form_of(alloc, bytes, false)?;
-    let mut reader = TraceReader::new(alloc, bytes, form, geometry.channels);
-    let entries = read_entries(alloc, &mut reader, geometry)?;
-    let mut schedule = Schedule::new(alloc);
-    schedule.add(alloc, &rules.timing, 0, &entries)?;
-    schedule.flaws = flaws_of(alloc, rules, &entries)?;
-    Ok(schedule)
+    let mut reader = TraceReader::new(alloc, bytes, form, rules.geometry.channels);
+    trace_schedule(alloc, rules, &mut reader)
 }
 
 fn script_schedule(

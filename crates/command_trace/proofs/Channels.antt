@@ -1,17 +1,19 @@
 -- One more command of a trace is one of its channel's alone.
-use Rattle.std.proofs.Common.{◌≡◌, ◌≢◌, ◌==◌, ◌<◌, ◌≤◌, ◌⊎◌, ℕ, Bool, true, false, List, [], ◌∷◌, ◌++◌, length, append-nil, filter, get_or, nat_le, set, slice_index_or, slice_set, refl, sym, ap, subst, ◌∙◌, inl, inr, arith}
+use Rattle.std.proofs.Common.{◌≡◌, ◌≢◌, ◌==◌, ◌<◌, ◌≤◌, ◌⊎◌, ◌^◌, ℕ, Bool, true, false, List, [], ◌∷◌, ◌++◌, length, append-nil, filter, get_or, nat_le, set, slice_index_or, slice_set, refl, sym, ap, subst, ◌∙◌, inl, inr, arith}
 use Rattle.std.proofs.lemmas.Bool.{cases_eq, eq-eqb}
 use Rattle.std.proofs.lemmas.List.{get_or-set_same, get_or-set_other, map-append}
-use Rattle.std.proofs.lemmas.List.Elements.{filter-append}
+use Rattle.std.proofs.lemmas.List.Elements.{All-append, All-cons, All-nil, filter-append}
 use Rattle.std.proofs.lemmas.List.Sums.{take_while-cons}
 use Rattle.std.specs.List.{take_while}
 use Rattle.ddr4_timing.specs.declared.timing.CommandRules.{CommandRules}
 use Rattle.command_trace.specs.declared.diagnosis.Listed.{Listed}
 use Rattle.command_trace.specs.declared.entry.Located.{Located}
 use Rattle.command_trace.specs.declared.front.Front.{Front}
-use Rattle.command_trace.specs.Channels.{Lists, found_of, found_up_to}
-use Rattle.command_trace.specs.Following.{FollowsCommands}
-use Rattle.command_trace.proofs.Following.{commands_in-append}
+use Rattle.auto_precharge.specs.FullLists.{AreEarly}
+use Rattle.auto_precharge.specs.declared.issued.Issued.{Issued}
+use Rattle.command_trace.specs.Channels.{Lists, found_of, found_up_to, issued_to}
+use Rattle.command_trace.specs.Following.{FollowsCommands, issued_in, issued_of}
+use Rattle.command_trace.proofs.Following.{commands_in-append, issued_in-append}
 
 added : (channel : ℕ) (found : List Located) (x : Located) (more : List Located) → filter (λ (l : Located). l.entry.channel == channel) (x ∷ []) ≡ more
     → found_of channel (found ++ x ∷ []) ≡ found_of channel found ++ more
@@ -55,6 +57,24 @@ lists_at channel old new found x same lists commands lines =
 pub lists_other : (channel : ℕ) (listed : Listed) (found : List Located) (x : Located) → x.entry.channel ≢ channel → Lists channel listed found
     → Lists channel listed (found ++ x ∷ [])
 lists_other channel listed found x other lists = rw (found_of-other channel found x other) lists
+
+-- the same with all that a trace tells of a command
+pub issued_at : (channel : ℕ) (old new : List Issued) (found : List Located) (x : Located) → x.entry.channel ≡ channel → old ≡ issued_to channel found
+    → new ≡ old ++ issued_of x ∷ [] → new ≡ issued_to channel (found ++ x ∷ [])
+issued_at channel old new found x same is more =
+    more
+    ∙ ap (λ l. l ++ issued_of x ∷ []) is
+    ∙ sym (issued_in-append (found_of channel found) (x ∷ []))
+    ∙ ap (λ (l : List Located). issued_in l) (sym (found_of-at channel found x same))
+
+pub issued_other : (channel : ℕ) (old : List Issued) (found : List Located) (x : Located) → x.entry.channel ≢ channel → old ≡ issued_to channel found
+    → old ≡ issued_to channel (found ++ x ∷ [])
+issued_other channel old found x other is = is ∙ ap (λ (l : List Located). issued_in l) (sym (found_of-other channel found x other))
+
+pub early_more : (old : List Issued) (x : Issued) → AreEarly old → x.command.clock < 2 ^ 63 → AreEarly (old ++ x ∷ [])
+early_more old x early here =
+    let is_early = λ (y : Issued). y.command.clock < 2 ^ 63 in
+    All-append is_early old (x ∷ []) early (All-cons is_early x [] here (All-nil is_early))
 
 known : (b : Bool) → (b ≡ true) ⊎ (b ≡ false)
 known true = inl refl

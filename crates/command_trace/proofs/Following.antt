@@ -1,14 +1,14 @@
 -- A front tells whether its list is lawful, and goes on with each command.
 use Rattle.std.proofs.Common.{◌≡◌, ◌↔◌, ℕ, ◌+◌, ◌-◌, ◌^◌, Bool, true, false, List, [], ◌∷◌, ◌++◌, length, IsTrue, refl, sym, ap, ◌∙◌, subst, inl, inr, ◌⊎◌, min, arith, length-append}
-use Rattle.std.proofs.Math.Seq.{take-append_seam}
 use Rattle.std.proofs.lemmas.List.{append_assoc, map-append}
-use Rattle.ddr4_timing.proofs.Lawfulness.{IsLawful-take}
-use Rattle.ddr4_timing.specs.Lawful.{IsLawfulBy}
 use Rattle.ddr4_timing.specs.declared.command.Stamped.{Stamped}
 use Rattle.ddr4_timing.specs.declared.timing.CommandRules.{CommandRules}
+use Rattle.auto_precharge.specs.Unfolding.{IsLawfulTrace, MayFollow, unfolded, unfolded_none}
+use Rattle.auto_precharge.specs.declared.issued.Issued.{Issued}
+use Rattle.command_trace.specs.Following.{FollowsCommands, IsFirstFault, commands_in, issued_in, issued_of}
 use Rattle.command_trace.specs.declared.entry.Located.{Located}
 use Rattle.command_trace.specs.declared.front.Front.{Front}
-use Rattle.command_trace.specs.Following.{FollowsCommands, IsFirstFault, commands_in}
+use Rattle.auto_precharge.proofs.Settling.{follow_front, follow_more}
 
 is_or_not : (b : Bool) → IsTrue b ⊎ (¬ IsTrue b)
 is_or_not true = inl refl
@@ -17,19 +17,23 @@ is_or_not false = inr (λ e. absurd cc)
 pub commands_in-append : (xs ys : List Located) → commands_in (xs ++ ys) ≡ commands_in xs ++ commands_in ys
 commands_in-append xs ys = map-append (λ (l : Located). l.entry.command) xs ys
 
--- what goes before the rest of a lawful list is lawful
-pub lawful_front : (r : CommandRules) (xs ys : List Stamped) → IsLawfulBy r (xs ++ ys) → IsLawfulBy r xs
-lawful_front r xs ys h = subst (λ (l : List Stamped). IsLawfulBy r l) (take-append_seam xs ys) (IsLawful-take r.timing r.geometry (xs ++ ys) (length xs) h)
+pub issued_in-append : (xs ys : List Located) → issued_in (xs ++ ys) ≡ issued_in xs ++ issued_in ys
+issued_in-append xs ys = map-append (λ (l : Located). issued_of l) xs ys
 
-parts : (before : List Located) (first : Located) (after found : List Located) → found ≡ before ++ first ∷ after
-    → commands_in found ≡ commands_in (before ++ first ∷ []) ++ commands_in after
-parts before first after found e =
-    ap (λ (l : List Located). commands_in l) (e ∙ sym (append_assoc before (first ∷ []) after)) ∙ commands_in-append (before ++ first ∷ []) after
-
-pub not_lawful : (r : CommandRules) (found : List Located) (line : ℕ) → IsFirstFault r found line → ¬ IsLawfulBy r (commands_in found)
+pub not_lawful : (r : CommandRules) (found : List Located) (line : ℕ) → IsFirstFault r found line → ¬ IsLawfulTrace r (issued_in found)
 not_lawful r found line f l =
-    f.broken (lawful_front r (commands_in (f.before ++ f.first ∷ [])) (commands_in f.after)
-    (subst (λ (xs : List Stamped). IsLawfulBy r xs) (parts f.before f.first f.after found f.found_is) l))
+    let before = issued_in f.before in
+    let first = issued_of f.first in
+    let after = issued_in f.after in
+    let whole : issued_in found ≡ before ++ first ∷ after = ap (λ (xs : List Located). issued_in xs) f.found_is ∙ issued_in-append f.before (f.first ∷ f.after) in
+    let parts : issued_in found ≡ (before ++ first ∷ []) ++ after = whole ∙ sym (append_assoc before (first ∷ []) after) in
+    let front = follow_front r unfolded_none (before ++ first ∷ []) after (subst (λ (xs : List Issued). IsLawfulTrace r xs) parts l) in
+    f.broken ((follow_more r unfolded_none before first).0 front).1
+
+-- with one more command
+pub follows_with : (r : CommandRules) (found : List Located) (x : Located) →
+    IsLawfulTrace r (issued_in (found ++ x ∷ [])) ↔ (IsLawfulTrace r (issued_in found) × MayFollow r (unfolded r.timing (issued_in found)) x.entry.command)
+follows_with r found x = rw (issued_in-append found (x ∷ [])) (follow_more r unfolded_none (issued_in found) (issued_of x))
 
 -- a list with a fault stays one with that fault
 pub faulty_more : (r : CommandRules) (found : List Located) (line : ℕ) (x : Located) → IsFirstFault r found line → IsFirstFault r (found ++ x ∷ []) line
@@ -44,7 +48,7 @@ faulty_more r found line x f = record {
 }
 
 -- the command that makes a lawful list one with a fault
-pub faulty_now : (r : CommandRules) (found : List Located) (x : Located) → IsLawfulBy r (commands_in found) → (¬ IsLawfulBy r (commands_in (found ++ x ∷ [])))
+pub faulty_now : (r : CommandRules) (found : List Located) (x : Located) → IsLawfulTrace r (issued_in found) → (¬ MayFollow r (unfolded r.timing (issued_in found)) x.entry.command)
     → IsFirstFault r (found ++ x ∷ []) x.line
 faulty_now r found x lawful broken = record {
   before = found;
@@ -56,15 +60,15 @@ faulty_now r found x lawful broken = record {
   line_is = refl;
 }
 
-pub tells_lawful : (r : CommandRules) (front : Front) (found : List Located) → FollowsCommands r front found → (IsTrue front.is_lawful ↔ IsLawfulBy r (commands_in found))
+pub tells_lawful : (r : CommandRules) (front : Front) (found : List Located) → FollowsCommands r front found → (IsTrue front.is_lawful ↔ IsLawfulTrace r (issued_in found))
 tells_lawful r front found f = (
-  λ h. (f.lawful h).lawful,
+  λ h. f.lawful h,
   λ l. elim (is_or_not front.is_lawful) [ inl h ↦ h | inr broken ↦ absurd (not_lawful r found front.line (f.broken broken) l) ],
 )
 
-pub tells_fault : (r : CommandRules) (front : Front) (found : List Located) → FollowsCommands r front found → (¬ IsLawfulBy r (commands_in found))
+pub tells_fault : (r : CommandRules) (front : Front) (found : List Located) → FollowsCommands r front found → (¬ IsLawfulTrace r (issued_in found))
     → IsFirstFault r found front.line
-tells_fault r front found f broken = f.broken (λ h. broken ((f.lawful h).lawful))
+tells_fault r front found f broken = f.broken (λ h. broken (f.lawful h))
 
 pub counts_more : (found : List Located) (x : Located) (count : ℕ) → count ≡ min (length found) (2 ^ 64 - 1)
     → min (count + 1) (2 ^ 64 - 1) ≡ min (length (found ++ x ∷ [])) (2 ^ 64 - 1)

@@ -1,4 +1,4 @@
 pub mod Following
 pub mod Channels
-pub mod Faults
 pub mod TallyLemmas
+pub mod Whys

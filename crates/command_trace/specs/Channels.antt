@@ -1,14 +1,15 @@
 -- The channels of a trace.
 use Rattle.std.specs.Prelude.{◌≡◌, ℕ, ◌<◌, ◌==◌, List, filter, map, nat_le, slice_index_or}
 use Rattle.std.specs.List.{take_while}
-use Rattle.ddr4_timing.specs.Lawful.{IsLawfulBy}
+use Rattle.auto_precharge.specs.Unfolding.{IsLawfulTrace}
+use Rattle.auto_precharge.specs.declared.issued.Issued.{Issued}
 use Rattle.ddr4_timing.specs.declared.command.Stamped.{Stamped}
 use Rattle.ddr4_timing.specs.declared.timing.CommandRules.{CommandRules}
 use Rattle.command_trace.specs.declared.diagnosis.Listed.{Listed}
 use Rattle.command_trace.specs.declared.entry.Located.{Located}
 use Rattle.command_trace.specs.declared.front.Front.{Front}
 use Rattle.command_trace.specs.declared.trace_check.TraceCheck.{TraceCheck}
-use Rattle.command_trace.specs.Following.{FollowsCommands, commands_in}
+use Rattle.command_trace.specs.Following.{FollowsCommands, commands_in, issued_in}
 
 -- what goes to a channel, in its order
 abbrev pub found_of : ℕ → List Located → List Located
@@ -17,6 +18,10 @@ found_of channel found = filter (λ l. l.entry.channel == channel) found
 -- the commands of a channel
 abbrev pub commands_of : ℕ → List Located → List Stamped
 commands_of channel found = commands_in (found_of channel found)
+
+-- and with the line of each, and whether it closes its bank
+abbrev pub issued_to : ℕ → List Located → List Issued
+issued_to channel found = issued_in (found_of channel found)
 
 -- what stands before the first line behind this one
 abbrev pub found_up_to : ℕ → List Located → List Located
@@ -35,4 +40,4 @@ FollowsAll r check =
 
 -- the commands of each channel of the geometry are lawful
 abbrev pub AreLawful : CommandRules → TraceCheck → Type 0
-AreLawful r check = (channel : ℕ) → channel < r.geometry.channels → IsLawfulBy r (commands_of channel check.given.items)
+AreLawful r check = (channel : ℕ) → channel < r.geometry.channels → IsLawfulTrace r (issued_to channel check.given.items)

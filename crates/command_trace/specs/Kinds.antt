@@ -1,5 +1,5 @@
 -- What a trace writes of a command.
-use Rattle.std.specs.Prelude.{◌≡◌, ℕ, List, [], ◌∷◌, ◌⊎◌, codes, map}
+use Rattle.std.specs.Prelude.{◌≡◌, ℕ, Bool, true, false, List, [], ◌∷◌, ◌⊎◌, codes, map}
 use Rattle.std.specs.Char.{to_ascii_lowercase}
 use Rattle.ddr4_timing.specs.declared.command.Command.{Command}
 use Rattle.ddr4_timing.specs.declared.command.Command.TheVariants as cmd
@@ -25,14 +25,28 @@ numbers_of (cmd.PreAll rank) = rank ∷ []
 numbers_of (cmd.Ref rank) = rank ∷ []
 numbers_of (cmd.Sre rank) = rank ∷ []
 
+-- the kind of the command that a kind is, auto-precharge aside
+abbrev pub base_of : Kind → Kind
+base_of kind.Rda = kind.Rd
+base_of kind.Wra = kind.Wr
+base_of kind = kind
+
+-- with auto-precharge
+abbrev pub closes_of : Kind → Bool
+closes_of kind.Rda = true
+closes_of kind.Wra = true
+closes_of kind = false
+
 abbrev pub IsCommandOf : Kind → List ℕ → Command → Type 0
-IsCommandOf kind numbers x = (kind_of x ≡ kind) × (numbers_of x ≡ numbers)
+IsCommandOf kind numbers x = (kind_of x ≡ base_of kind) × (numbers_of x ≡ numbers)
 
 -- its name, as this program prints it
 abbrev pub name_of_kind : Kind → List ℕ
 name_of_kind kind.Act = codes "ACT"
 name_of_kind kind.Rd = codes "RD"
 name_of_kind kind.Wr = codes "WR"
+name_of_kind kind.Rda = codes "RDA"
+name_of_kind kind.Wra = codes "WRA"
 name_of_kind kind.Pre = codes "PRE"
 name_of_kind kind.PreAll = codes "PREA"
 name_of_kind kind.Ref = codes "REF"
@@ -47,6 +61,8 @@ abbrev pub IsSpelling : Kind → List ℕ → Type 0
 IsSpelling kind.Act name = IsWord (codes "ACT") name ⊎ IsWord (codes "ACTIVATE") name
 IsSpelling kind.Rd name = IsWord (codes "RD") name ⊎ IsWord (codes "READ") name
 IsSpelling kind.Wr name = IsWord (codes "WR") name ⊎ IsWord (codes "WRITE") name
+IsSpelling kind.Rda name = IsWord (codes "RDA") name ⊎ IsWord (codes "READ_PRECHARGE") name ⊎ IsWord (codes "READ_P") name
+IsSpelling kind.Wra name = IsWord (codes "WRA") name ⊎ IsWord (codes "WRITE_PRECHARGE") name ⊎ IsWord (codes "WRITE_P") name
 IsSpelling kind.Pre name = IsWord (codes "PRE") name ⊎ IsWord (codes "PRECHARGE") name
 IsSpelling kind.PreAll name = IsWord (codes "PREA") name ⊎ IsWord (codes "PREAB") name
 IsSpelling kind.Ref name = IsWord (codes "REF") name ⊎ IsWord (codes "REFRESH") name ⊎ IsWord (codes "REFAB") name

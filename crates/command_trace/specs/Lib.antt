@@ -4,3 +4,4 @@ pub mod Kinds
 pub mod Reading
 pub mod Reasons
 pub mod Tallies
+pub mod Faults

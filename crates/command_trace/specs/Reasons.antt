@@ -51,6 +51,7 @@ IsReasonOf r rule before a b (why.Gap of asked first second) =
     (of ≡ rule) × Asks r.timing rule a.cmd b.cmd asked × (first ≡ a) × (second ≡ b)
 IsReasonOf r rule before a b (why.Rows command wanted) =
     (rule ≡ rules.Rows) × (command ≡ b.cmd) × IsWanted r.geometry before b.cmd wanted.now
+IsReasonOf r rule before a b (why.Closing command) = (rule ≡ rules.Rows) × (command ≡ b.cmd)
 IsReasonOf r rule before a b (why.Late most passed) =
     (rule ≡ rules.Refi) × (most ≡ 9 * r.timing.t_refi) × (passed ≡ since_ref before b) × (most < passed)
 IsReasonOf r rule before a b (why.Early count least clock) =

@@ -1,16 +1,18 @@
-// The check of a trace, and the least fault of a channel.
-ghost use Rattle.std.specs.Prelude.{◌≡◌, ℕ, [], ◌∷◌, ◌++◌, ◌≤◌, ◌<◌, ◌↔◌, List, length, slice_get, slice_index, take, Some, IfOk, OnOk, IfSome, IsNone};
-ghost use Rattle.ddr4_timing.specs.Lawful.{IsLawfulBy, IsLeastFault};
-ghost use Rattle.command_trace.specs.Channels.{FollowsAll, Lists, found_up_to};
+// The check of a trace, and the commands of a channel in a list.
+ghost use Rattle.std.specs.Prelude.{◌≡◌, ℕ, [], ◌∷◌, ◌++◌, ◌≤◌, ◌<◌, ◌^◌, List, length, slice_get, slice_index, take, Some, IfOk, OnOk};
+ghost use Rattle.command_trace.specs.Channels.{FollowsAll, Lists, found_up_to, issued_to};
+ghost use Rattle.auto_precharge.specs.FullLists.{AreEarly};
 ghost use Rattle.command_trace.specs.Reasons.{IsReasonOf};
 ghost use Rattle.command_trace.specs.declared.entry.Located.{Located};
 
 use crate::entry::Located;
+use crate::no_command::NoCommand;
 use crate::reading::{TraceFault, TraceReader};
 use crate::reason::Reason;
 use crate::trace_check::TraceCheck;
+use auto_precharge::Issued;
 use ddr4_timing::command::Stamped;
-use ddr4_timing::fault::{Fault, first_fault};
+use ddr4_timing::fault::Fault;
 use ddr4_timing::timing::CommandRules;
 use std::alloc::{AllocError, Global};
 use std::fmt;
@@ -44,7 +46,8 @@ pub struct Listed {
     pub lines: Vec<u64>,
 }
 
-/// Reads a trace as far as a line, and lists the commands of a channel and the line of each.
+/// Reads a trace as far as a line, and lists the commands of a channel and the line of each. A command with auto-precharge isn't
+/// one of such a list, and its line is refused.
 pub fn list_commands<R: Read + Drop>(
     alloc: Global,
     reader: &mut TraceReader<R>,
@@ -63,9 +66,54 @@ pub fn list_commands<R: Read + Drop>(
         if found.line > last {
             return Ok(listed);
         }
+        if found.closes {
+            return Err(TraceFault::Line {
+                line: found.line,
+                why: NoCommand::Closing,
+            });
+        }
         listed.take(channel, &found)?;
     }
     Ok(listed)
+}
+
+/// Reads a trace as far as a line, and lists the commands of a channel with all that a trace tells of each.
+pub fn list_issued<R: Read + Drop>(
+    alloc: Global,
+    reader: &mut TraceReader<R>,
+    channel: u64,
+    last: u64,
+) -> Result<Vec<Issued>, TraceFault>
+    requires { reader.old.given.items ≡ [] }
+    ensures is { IfOk result (λ listed.
+        listed.items ≡ issued_to channel (found_up_to last reader.new.given.items)) }
+    ensures early { IfOk result (λ listed. AreEarly listed.items) }
+{
+    let mut listed = Vec::new(alloc);
+    for _ in 0..u64::MAX {
+        let Some(found) = reader.next()? else {
+            break;
+        };
+        if last < found.line {
+            return Ok(listed);
+        }
+        take_issued(&mut listed, channel, &found)?;
+    }
+    Ok(listed)
+}
+
+// Takes the next command in where it goes to the channel.
+fn take_issued(listed: &mut Vec<Issued>, channel: u64, next: &Located) -> Result<(), AllocError>
+    requires { next.now.entry.command.clock < 2 ^ 63 }
+    ensures items { (found : List Located) → listed.old.items ≡ issued_to channel found →
+        OnOk result (listed.new.items ≡ issued_to channel (found ++ next.now ∷ [])) }
+    ensures early { AreEarly listed.old.items → OnOk result (AreEarly listed.new.items) }
+{
+    if channel != next.entry.channel {
+        return Ok(());
+    }
+    listed.push(next.issued())?;
+    Ok(())
 }
 
 /// A command and its line.
@@ -164,29 +212,6 @@ pub(crate) fn told_at(
         second,
         reason,
     }
-}
-
-/// The least fault of a list of commands, which stand in the lines, and why it is one; none of a lawful list.
-///
-/// Linear in a lawful list; of another one, those up to the fault are then compared with its command.
-pub fn diagnose(rules: &CommandRules, commands: &[Stamped], lines: &[u64]) -> Option<Diagnosis>
-    ensures lawful { IsNone result ↔ IsLawfulBy rules.now commands.now }
-    ensures least { IfSome result (λ d.
-        IsLeastFault rules.now.timing rules.now.geometry commands.now d.fault) }
-    ensures first { IfSome result (λ d.
-        slice_get commands.now d.fault.first ≡ Some d.first.command) }
-    ensures second { IfSome result (λ d.
-        slice_get commands.now d.fault.second ≡ Some d.second.command) }
-    ensures first_line { IfSome result (λ d. d.first.line ≡ slice_index lines.now d.fault.first) }
-    ensures second_line { IfSome result (λ d.
-        d.second.line ≡ slice_index lines.now d.fault.second) }
-    ensures reason { IfSome result (λ d. IsReasonOf rules.now d.fault.rule
-        (take d.fault.second commands.now) d.first.command d.second.command d.reason) }
-{
-    let Some(fault) = first_fault(rules, commands) else {
-        return None;
-    };
-    Some(told_at(rules, commands, lines, fault))
 }
 
 impl From<AllocError> for TraceFault {

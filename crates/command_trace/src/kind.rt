@@ -1,7 +1,7 @@
 // The kinds of commands, by the names that traces give them.
 ghost use Rattle.std.specs.Prelude.{◌≡◌, ◌≢◌, ◌⊎◌, ◌↔◌, IsTrue, IfSome, IsNone};
 ghost use Rattle.ddr4_timing.specs.declared.command.Command.{Command};
-ghost use Rattle.command_trace.specs.Kinds.{IsCommandOf, IsSpelling, IsWord, kind_of, name_of_kind, numbers_of};
+ghost use Rattle.command_trace.specs.Kinds.{base_of, closes_of, IsCommandOf, IsSpelling, IsWord, kind_of, name_of_kind, numbers_of};
 ghost use Rattle.command_trace.specs.declared.kind.Kind.{Kind};
 
 use ddr4_timing::command::Command;
@@ -13,6 +13,10 @@ pub enum Kind {
     Act,
     Rd,
     Wr,
+    /// A read with auto-precharge.
+    Rda,
+    /// A write with auto-precharge.
+    Wra,
     Pre,
     PreAll,
     Ref,
@@ -29,6 +33,8 @@ impl Kind {
             "ACT" => Some(Kind::Act),
             "RD" => Some(Kind::Rd),
             "WR" => Some(Kind::Wr),
+            "RDA" => Some(Kind::Rda),
+            "WRA" => Some(Kind::Wra),
             "PRE" => Some(Kind::Pre),
             "PREA" => Some(Kind::PreAll),
             "REF" => Some(Kind::Ref),
@@ -48,6 +54,10 @@ impl Kind {
             Some(Kind::Rd)
         } else if is_either("WR", "WRITE", name) {
             Some(Kind::Wr)
+        } else if is_any("RDA", "READ_PRECHARGE", "READ_P", name) {
+            Some(Kind::Rda)
+        } else if is_any("WRA", "WRITE_PRECHARGE", "WRITE_P", name) {
+            Some(Kind::Wra)
         } else if is_either("PRE", "PRECHARGE", name) {
             Some(Kind::Pre)
         } else if is_either("PREA", "PREAB", name) {
@@ -65,7 +75,7 @@ impl Kind {
     pub(crate) fn parts(self) -> &'static [&'static str] {
         match self {
             Kind::Act => &["rank", "group", "bank", "row"],
-            Kind::Rd | Kind::Wr => &["rank", "group", "bank", "column"],
+            Kind::Rd | Kind::Wr | Kind::Rda | Kind::Wra => &["rank", "group", "bank", "column"],
             Kind::Pre => &["rank", "group", "bank"],
             Kind::PreAll | Kind::Ref | Kind::Sre => &["rank"],
         }
@@ -79,6 +89,8 @@ impl Kind {
             Kind::Act => "ACT",
             Kind::Rd => "RD",
             Kind::Wr => "WR",
+            Kind::Rda => "RDA",
+            Kind::Wra => "WRA",
             Kind::Pre => "PRE",
             Kind::PreAll => "PREA",
             Kind::Ref => "REF",
@@ -91,16 +103,29 @@ impl Kind {
     pub(crate) fn has_part(self, place: usize) -> bool {
         match self {
             Kind::Act => 3 <= place && place <= 6,
-            Kind::Rd | Kind::Wr => 3 <= place && place <= 5 || place == 7,
+            Kind::Rd | Kind::Wr | Kind::Rda | Kind::Wra => {
+                3 <= place && place <= 5 || place == 7
+            }
             Kind::Pre => 3 <= place && place <= 5,
             Kind::PreAll | Kind::Ref | Kind::Sre => place == 3,
         }
     }
 
-    /// The command of this kind whose numbers are these, in the order in which a trace names them.
+    /// Is it a read or a write with auto-precharge?
+    pub fn closes(self) -> bool
+        ensures { result ≡ closes_of self }
+    {
+        match self {
+            Kind::Rda | Kind::Wra => true,
+            _ => false,
+        }
+    }
+
+    /// The command of this kind whose numbers are these, in the order in which a trace names them. With auto-precharge it is a
+    /// read or a write too.
     pub fn command(self, numbers: &[u64]) -> Option<Command>
         ensures some { IfSome result (IsCommandOf self numbers.now) }
-        ensures none { IsNone result → (x : Command) → kind_of x ≡ self →
+        ensures none { IsNone result → (x : Command) → kind_of x ≡ base_of self →
             numbers_of x ≢ numbers.now }
     {
         match (self, numbers) {
@@ -108,11 +133,11 @@ impl Kind {
                 at: bank_of(rank, group, bank),
                 row: *row,
             }),
-            (Kind::Rd, [rank, group, bank, column]) => Some(Command::Rd {
+            (Kind::Rd | Kind::Rda, [rank, group, bank, column]) => Some(Command::Rd {
                 at: bank_of(rank, group, bank),
                 column: *column,
             }),
-            (Kind::Wr, [rank, group, bank, column]) => Some(Command::Wr {
+            (Kind::Wr | Kind::Wra, [rank, group, bank, column]) => Some(Command::Wr {
                 at: bank_of(rank, group, bank),
                 column: *column,
             }),

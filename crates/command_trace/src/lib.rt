@@ -1,7 +1,7 @@
 //! Traces of DDR4 commands: the lines of one, read as a stream, and whether the commands of each channel are lawful.
 //!
 //! A `TraceCheck` takes the commands one by one and keeps a constant size for each channel. Where a channel's commands aren't
-//! lawful, `ddr4_timing`'s `first_fault` names the least fault of the list of its commands up to there.
+//! lawful, `diagnose` tells why the first that isn't may not follow those before it.
 #![tactic(auto)]
 
 mod asked;
@@ -15,9 +15,10 @@ mod reason;
 mod source;
 mod tally;
 mod trace_check;
+mod why;
 
 pub use asked::Asked;
-pub use diagnosis::{Diagnosis, Listed, Numbered, check_trace, diagnose, list_commands};
+pub use diagnosis::{Diagnosis, Listed, Numbered, check_trace, list_commands, list_issued};
 pub use entry::{Entry, Located};
 pub use front::Front;
 pub use kind::{Kind, name_of};
@@ -27,3 +28,4 @@ pub use reason::Reason;
 pub use source::Source;
 pub use tally::{Tally, tallies};
 pub use trace_check::{MOST_CHANNELS, TraceCheck};
+pub use why::diagnose;

@@ -25,6 +25,10 @@ pub enum NoCommand {
     Clock,
     /// The place lies outside the geometry.
     Place,
+    /// The command closes its bank by itself, and every fault is asked for.
+    Closing,
+    /// The command may not follow those before it, and some close their bank by themselves.
+    Broken,
     /// The clock isn't behind the one before it in its channel.
     Order,
 }
@@ -40,7 +44,7 @@ impl fmt::Display for NoCommand {
             ),
             NoCommand::Columns { found } => write!(f, "a table has 8 columns, here {found}"),
             NoCommand::Name => f.write_str(
-                "the names of commands are ACT, RD, WR, PRE, PREA, REF and SRE",
+                "the names of commands are ACT, RD, WR, RDA, WRA, PRE, PREA, REF and SRE",
             ),
             NoCommand::Number { part } => write!(
                 f,
@@ -64,6 +68,12 @@ impl fmt::Display for NoCommand {
             ),
             NoCommand::Clock => f.write_str("a clock is below 2^63"),
             NoCommand::Place => f.write_str("a place outside the geometry of this profile"),
+            NoCommand::Closing => f.write_str(
+                "every fault is told of commands without auto-precharge alone",
+            ),
+            NoCommand::Broken => f.write_str(
+                "a trace with auto-precharge is drawn where it is lawful, and this command isn't",
+            ),
             NoCommand::Order => f.write_str(
                 "the clock isn't behind the one before it in its channel",
             ),

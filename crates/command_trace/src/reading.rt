@@ -63,16 +63,16 @@ impl From<csv::Error> for TraceFault {
 // What a row of a trace is.
 #[derive(Clone, Copy)]
 enum Row {
-    Command(Entry),
+    Command(Located),
     Other,
     Bad(NoCommand),
 }
 
 impl Row {
     // By what was read of it.
-    fn of(read: Result<Entry, NoCommand>) -> Row {
+    fn of(read: Result<Located, NoCommand>) -> Row {
         match read {
-            Ok(entry) => Row::Command(entry),
+            Ok(found) => Row::Command(found),
             Err(why) => Row::Bad(why),
         }
     }
@@ -81,9 +81,10 @@ impl Row {
     fn why(self, channels: u64) -> NoCommand {
         match self {
             Row::Bad(why) => why,
-            Row::Command(Entry { channel, .. }) if channel >= channels => {
-                NoCommand::Channel { channel, channels }
-            }
+            Row::Command(found) if found.entry.channel >= channels => NoCommand::Channel {
+                channel: found.entry.channel,
+                channels,
+            },
             Row::Command(_) | Row::Other => NoCommand::Clock,
         }
     }
@@ -174,8 +175,8 @@ fn word_at(row: &ByteRecord, place: usize) -> Option<&str> {
     std::str::from_utf8(field(row, place)?).ok()
 }
 
-// The command of a line.
-fn entry_of_line(row: &ByteRecord) -> Result<Entry, NoCommand> {
+// The command of a line, which has this number.
+fn found_in_line(row: &ByteRecord, line: u64) -> Result<Located, NoCommand> {
     let Some(count) = row.len().checked_sub(3) else {
         return Err(NoCommand::Words);
     };
@@ -193,11 +194,11 @@ fn entry_of_line(row: &ByteRecord) -> Result<Entry, NoCommand> {
             numbers[place] = number_at(row, 3 + place, part)?;
         }
     }
-    entry_of(kind, channel, clock, &numbers)
+    found_at(line, kind, channel, clock, &numbers)
 }
 
-// The command of a row of a table.
-fn entry_of_row(row: &ByteRecord) -> Result<Entry, NoCommand> {
+// The command of a row of a table, on the line of this number.
+fn found_in_row(row: &ByteRecord, line: u64) -> Result<Located, NoCommand> {
     if row.len() != HEADER.len() {
         return Err(NoCommand::Columns { found: row.len() });
     }
@@ -216,7 +217,8 @@ fn entry_of_row(row: &ByteRecord) -> Result<Entry, NoCommand> {
             return Err(NoCommand::Further { part, kind });
         }
     }
-    entry_of(
+    found_at(
+        line,
         kind,
         number_at(row, 2, "channel")?,
         number_at(row, 0, "clock")?,
@@ -225,12 +227,22 @@ fn entry_of_row(row: &ByteRecord) -> Result<Entry, NoCommand> {
 }
 
 // The command of a kind with the first of these numbers.
-fn entry_of(kind: Kind, channel: u64, clock: u64, numbers: &[u64; 4]) -> Result<Entry, NoCommand> {
+fn found_at(
+    line: u64,
+    kind: Kind,
+    channel: u64,
+    clock: u64,
+    numbers: &[u64; 4],
+) -> Result<Located, NoCommand> {
     let parts = numbers.get(..kind.parts().len()).unwrap_or(&[]);
     match kind.command(parts) {
-        Some(cmd) => Ok(Entry {
-            channel,
-            command: Stamped { clock, cmd },
+        Some(cmd) => Ok(Located {
+            line,
+            entry: Entry {
+                channel,
+                command: Stamped { clock, cmd },
+            },
+            closes: kind.closes(),
         }),
         None => Err(NoCommand::Parts { kind }),
     }
@@ -274,8 +286,8 @@ impl<R: Read + Drop> TraceReader<R> {
         }
     }
 
-    // What the row is that was read last.
-    fn parsed(&mut self) -> Row
+    // What the row is that was read last, on the line of this number.
+    fn parsed(&mut self, line: u64) -> Row
         ensures { (self.new.channels ≡ self.old.channels) × (self.new.given ≡ self.old.given) }
     {
         if is_blank(&self.row) {
@@ -287,9 +299,9 @@ impl<R: Read + Drop> TraceReader<R> {
         match self.form {
             Form::Table if begins && is_header(row) => Row::Other,
             Form::Table if begins => Row::Bad(NoCommand::Header),
-            Form::Table => Row::of(entry_of_row(row)),
+            Form::Table => Row::of(found_in_row(row, line)),
             Form::Lines { others: true } if is_other(row) => Row::Other,
-            Form::Lines { .. } => Row::of(entry_of_line(row)),
+            Form::Lines { .. } => Row::of(found_in_line(row, line)),
         }
     }
 
@@ -307,14 +319,14 @@ impl<R: Read + Drop> TraceReader<R> {
                 return Ok(None);
             }
             let line = self.rows.position().line().saturating_sub(1);
-            match self.parsed() {
+            match self.parsed(line) {
                 Row::Other => {}
-                Row::Command(entry)
-                    if entry.channel < self.channels && entry.command.clock < 1 << 63 => {
-                    let found = Located { line, entry };
-                    self.given.note(&found);
-                    return Ok(Some(found));
-                }
+                Row::Command(found)
+                    if found.entry.channel < self.channels && found.entry.command.clock < 1 << 63 =>
+                    {
+                        self.given.note(&found);
+                        return Ok(Some(found));
+                    }
                 row => {
                     let why = row.why(self.channels);
                     return Err(TraceFault::Line { line, why });

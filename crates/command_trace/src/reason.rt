@@ -32,6 +32,10 @@ pub enum Reason {
         command: Command,
         wanted: &'static str,
     },
+    /// A precharge that came with an earlier command is still to close the bank.
+    Closing {
+        command: Command,
+    },
     /// The rank's last refresh is too long ago.
     Late {
         most: u64,
@@ -59,6 +63,11 @@ impl fmt::Display for Reason {
                 second,
             } => write_gap(f, rule, &asked, &first, &second),
             Reason::Rows { command, wanted } => write!(f, "{} wants {wanted}", name_of(&command)),
+            Reason::Closing { command } => write!(
+                f,
+                "{} wants its bank open, and an auto-precharge is about to close it",
+                name_of(&command)
+            ),
             Reason::Late { most, passed } => write!(
                 f,
                 "at most 9 tREFI = {most} after the rank's last REF, here {passed}"

@@ -1,13 +1,16 @@
 // The check of a file's trace, written.
 ghost use Rattle.std.specs.Prelude.{◌<◌, ◌↔◌, IfOk, IsNone};
-ghost use Rattle.ddr4_timing.specs.Lawful.{IsLawfulBy};
-ghost use Rattle.command_trace.specs.Channels.{FollowsAll, commands_of};
+ghost use Rattle.command_trace.specs.Channels.{FollowsAll, issued_to};
+ghost use Rattle.auto_precharge.specs.FullLists.{AreEarly};
 ghost use Rattle.command_trace.specs.Reading.{IsFormWith};
+ghost use Rattle.auto_precharge.specs.Unfolding.{IsLawfulTrace};
 
-use crate::diagnosis::{Diagnosis, Listed, check_trace, diagnose, list_commands};
+use crate::diagnosis::{Diagnosis, Listed, check_trace, list_commands, list_issued};
 use crate::reading::{Form, TraceFault, TraceReader, form_of};
 use crate::tally::{Tally, tallies};
 use crate::trace_check::{MOST_CHANNELS, TraceCheck};
+use crate::why::diagnose;
+use auto_precharge::Issued;
 use ddr4_timing::timing::CommandRules;
 use std::alloc::Global;
 use std::fs::File;
@@ -64,6 +67,22 @@ impl Source<'_> {
         }
     }
 
+    // The commands of a channel as far as a line, with all that the trace tells of each.
+    fn issued<R: Files + AllocGlobal>(
+        &self,
+        rt: &R,
+        form: Form,
+        channel: u64,
+        last: u64,
+    ) -> Result<Vec<Issued>, TraceFault>
+        ensures { IfOk result (λ issued. AreEarly issued.items) }
+    {
+        match self {
+            Source::File(name) => issued_of(rt.alloc(), open(rt, name)?, form, channel, last),
+            Source::Bytes(bytes) => issued_of(rt.alloc(), bytes.as_slice(), form, channel, last),
+        }
+    }
+
     /// The least fault of a channel, by the check of its trace; none where its commands are lawful. A file that isn't what it was
     /// any more is refused.
     pub fn diagnosis<R: Files + AllocGlobal>(
@@ -76,13 +95,13 @@ impl Source<'_> {
     ) -> Result<Option<Diagnosis>, TraceFault>
         requires { channel < MOST_CHANNELS }
         ensures { FollowsAll rules.now check.now → IfOk result (λ found. IsNone found
-            ↔ IsLawfulBy rules.now (commands_of channel check.now.given.items)) }
+            ↔ IsLawfulTrace rules.now (issued_to channel check.now.given.items)) }
     {
         if check.is_lawful(rules, channel) {
             return Ok(None);
         }
-        let listed = self.list(rt, form, channel, check.line(channel))?;
-        match diagnose(rules, &listed.commands, &listed.lines) {
+        let issued = self.issued(rt, form, channel, check.line(channel))?;
+        match diagnose(rt.alloc(), rules, &issued)? {
             Some(found) => Ok(Some(found)),
             // the file isn't what it was
             None => Err(TraceFault::Reader),
@@ -185,6 +204,19 @@ fn check_of<S: Read + Drop>(
 {
     let mut reader = TraceReader::new(alloc, trace, form, rules.geometry.channels);
     check_trace(rules, &mut reader)
+}
+
+fn issued_of<S: Read + Drop>(
+    alloc: Global,
+    trace: S,
+    form: Form,
+    channel: u64,
+    last: u64,
+) -> Result<Vec<Issued>, TraceFault>
+    ensures { IfOk result (λ issued. AreEarly issued.items) }
+{
+    let mut reader = TraceReader::new(alloc, trace, form, MOST_CHANNELS);
+    list_issued(alloc, &mut reader, channel, last)
 }
 
 fn list_of<S: Read + Drop>(

@@ -22,9 +22,9 @@ pub struct TraceCheck {
 }
 
 impl TraceCheck {
-    ghost use Rattle.ddr4_timing.specs.Lawful.{IsLawfulBy};
-    ghost use Rattle.command_trace.specs.Channels.{AreLawful, FollowsAll, commands_of, found_of};
+    ghost use Rattle.command_trace.specs.Channels.{AreLawful, FollowsAll, found_of, issued_to};
     ghost use Rattle.command_trace.specs.Following.{IsFirstFault};
+    ghost use Rattle.auto_precharge.specs.Unfolding.{IsLawfulTrace};
 
     /// Before any command.
     pub fn new(rules: &CommandRules) -> TraceCheck
@@ -45,7 +45,7 @@ impl TraceCheck {
         ensures adds { self.new.given.items ≡ self.old.given.items ++ next.now ∷ [] }
         ensures follows { FollowsAll rules.now self.old → FollowsAll rules.now self.new }
         ensures lawful { FollowsAll rules.now self.old → (IsTrue result
-            ↔ IsLawfulBy rules.now (commands_of next.now.entry.channel self.new.given.items)) }
+            ↔ IsLawfulTrace rules.now (issued_to next.now.entry.channel self.new.given.items)) }
     {
         let channel = next.entry.channel as usize;
         let is_lawful = self.fronts[channel].take(rules, next);
@@ -65,7 +65,7 @@ impl TraceCheck {
     pub fn is_lawful(&self, rules: &CommandRules, channel: u64) -> bool
         requires { channel < MOST_CHANNELS }
         ensures { FollowsAll rules.now self.now → (IsTrue result
-            ↔ IsLawfulBy rules.now (commands_of channel self.now.given.items)) }
+            ↔ IsLawfulTrace rules.now (issued_to channel self.now.given.items)) }
     {
         // the contract is of this profile, and the fronts know it already
         let _of = rules;
@@ -98,9 +98,9 @@ impl TraceCheck {
     pub fn line(&self, channel: u64) -> u64
         requires { channel < MOST_CHANNELS }
         ensures none { (rules : CommandRules) → FollowsAll rules self.now
-            → IsLawfulBy rules (commands_of channel self.now.given.items) → result ≡ 0 }
+            → IsLawfulTrace rules (issued_to channel self.now.given.items) → result ≡ 0 }
         ensures first { (rules : CommandRules) → FollowsAll rules self.now
-            → ¬ IsLawfulBy rules (commands_of channel self.now.given.items)
+            → ¬ IsLawfulTrace rules (issued_to channel self.now.given.items)
             → IsFirstFault rules (found_of channel self.now.given.items) result }
     {
         self.fronts[channel as usize].line()

@@ -13,7 +13,7 @@ adds_last : (c : CommandRules) (entries : List Entry) (channels : List ℕ) (cha
 adds_last c entries [] channel old between new none adds = (new, subst (λ (from : List Flaw). AddsFlaws c channel entries from new) none adds, refl)
 adds_last c entries (first ∷ channels) channel old between new all adds = (all.0, all.1, adds_last c entries channels channel all.0 between new all.2 adds)
 
-range_more : (n : ℕ) → range_with_len 0 (n + 1) ≡ range_with_len 0 n ++ n ∷ []
+pub range_more : (n : ℕ) → range_with_len 0 (n + 1) ≡ range_with_len 0 n ++ n ∷ []
 range_more n =
     sym (map-id (range_with_len 0 (n + 1))) ∙ map-range_with_len_more (λ (k : ℕ). k) 0 n n (omega arith) ∙ ap (λ (front : List ℕ). front ++ n ∷ []) (map-id (range_with_len 0 n))
 

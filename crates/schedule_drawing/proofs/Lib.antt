@@ -4,3 +4,4 @@ pub mod Ends
 pub mod OpenRows
 pub mod ToldLives
 pub mod FlawLemmas
+pub mod StoodFor

@@ -7,3 +7,4 @@ pub mod Schedules
 pub mod Telling
 pub mod Range
 pub mod Flaws
+pub mod Traces

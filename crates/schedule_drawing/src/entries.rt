@@ -1,9 +1,9 @@
 // The commands of a trace that can be drawn.
-ghost use Rattle.std.specs.Prelude.{◌≡◌, ◌↔◌, [], All, IfOk, IsTrue, map};
+ghost use Rattle.std.specs.Prelude.{◌≡◌, ◌↔◌, [], false, IfOk, IsTrue};
 ghost use Rattle.ddr4_timing.specs.Lawful.{IsInGeometry};
-ghost use Rattle.schedule_drawing.specs.Entries.{LieIn, entries_found};
+ghost use Rattle.schedule_drawing.specs.Entries.{AreInTime, AreFoundIn, has_closing};
 
-use command_trace::{Entry, NoCommand, TraceFault, TraceReader};
+use command_trace::{Entry, Located, NoCommand, TraceFault, TraceReader};
 use ddr4_timing::command::Command;
 use ddr4_timing::timing::Geometry;
 use std::alloc::Global;
@@ -42,31 +42,38 @@ impl Rising {
 
 /// Reads a trace to its end. A line is refused by its number where its command lies outside the geometry, or where its clock
 /// isn't behind the one before it in its channel.
-pub fn read_entries<R: Read + Drop>(
+pub fn read_found<R: Read + Drop>(
     alloc: Global,
     reader: &mut TraceReader<R>,
     g: &Geometry,
-) -> Result<Vec<Entry>, TraceFault>
+) -> Result<Vec<Located>, TraceFault>
     requires { reader.old.given.items ≡ [] }
-    ensures whole { IfOk result (λ entries. entries.items ≡ entries_found reader.new.given.items) }
-    ensures lie { IfOk result (λ entries. LieIn g.now entries.items) }
+    ensures whole { IfOk result (λ found. found.items ≡ reader.new.given.items) }
+    ensures lie { IfOk result (λ found. AreFoundIn g.now found.items) }
+    ensures early { IfOk result (λ found. AreInTime found.items) }
 {
-    let mut entries = Vec::new(alloc);
+    let mut commands = Vec::new(alloc);
     let mut rising = Rising { least: [0; 8] };
     for _ in 0..u64::MAX {
         let Some(found) = reader.next()? else {
             break;
         };
-        let entry = found.entry;
-        if !lies_in(g, &entry.command.cmd) {
+        if !lies_in(g, &found.entry.command.cmd) {
             return Err(refused(found.line, NoCommand::Place));
         }
-        if !rising.take(&entry) {
+        if !rising.take(&found.entry) {
             return Err(refused(found.line, NoCommand::Order));
         }
-        entries.extend_from_slice(&[entry])?;
+        commands.extend_from_slice(&[found])?;
     }
-    Ok(entries)
+    Ok(commands)
+}
+
+/// Is a command of these with auto-precharge?
+pub fn has_closing(found: &[Located]) -> bool
+    ensures { result ≡ has_closing found.now }
+{
+    found.iter().any(|it| it.closes)
 }
 
 fn refused(line: u64, why: NoCommand) -> TraceFault {

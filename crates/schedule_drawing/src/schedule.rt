@@ -77,6 +77,7 @@ impl Schedule {
     pub fn new(alloc: Global) -> Schedule
         ensures shapes { result.shapes.items ≡ [] }
         ensures begins { result.begins.items ≡ [] }
+        ensures flaws { result.flaws.items ≡ [] }
     {
         Schedule {
             shapes: Vec::new(alloc),
@@ -110,7 +111,8 @@ impl Schedule {
         begin: u64,
         entries: &[Entry],
     ) -> Result<(), AllocError>
-        ensures { OnOk result (AddsLife t.now begin entries.now self.old self.new) }
+        ensures life { OnOk result (AddsLife t.now begin entries.now self.old self.new) }
+        ensures flaws { self.new.flaws ≡ self.old.flaws }
     {
         let open_until = last_of(begin, entries).saturating_add(TAIL);
         let shapes = shapes_of(alloc, t, entries, open_until)?;

@@ -4,7 +4,7 @@ use command_trace::{TraceReader, form_of};
 use ddr4_timing::command::{Command, Stamped};
 use nv_script::Answer;
 use schedule_drawing::{
-    Event, EventKind, Schedule, flaws_of, read_entries, told_schedule, write_svg, write_vcd,
+    Event, EventKind, Schedule, told_schedule, trace_schedule, write_svg, write_vcd,
 };
 use std::alloc::Global;
 use std::fmt::Write;
@@ -15,12 +15,7 @@ fn schedule(alloc: Global, text: &str) -> anyhow::Result<Schedule> {
     let checked = checked()?;
     let form = form_of(alloc, text.as_bytes(), false)?;
     let mut reader = TraceReader::new(alloc, text.as_bytes(), form, 1);
-    let entries = read_entries(alloc, &mut reader, &checked.geometry)?;
-    let mut schedule = Schedule::new(alloc);
-    let begin = schedule.next_begin();
-    schedule.add(alloc, &checked.timing, begin, &entries)?;
-    schedule.flaws = flaws_of(alloc, &checked.rules(), &entries)?;
-    Ok(schedule)
+    Ok(trace_schedule(alloc, &checked.rules(), &mut reader)?)
 }
 
 // A row is opened, read and closed, and the rank is refreshed.
@@ -108,6 +103,36 @@ fn has<R: Abort + AllocGlobal>(
     for (part, count) in parts {
         let found = text.split(*part).count().saturating_sub(1);
         assert_eq!(*rt; found, *count, "{part}");
+    }
+    Ok(())
+}
+
+// A read with auto-precharge, and an ACT of its bank as soon as the precharge that it brings allows.
+const CLOSING: &str = "0 0 ACT 0 1 2 1
+0 16 RDA 0 1 2 3
+0 55 ACT 0 1 2 0
+";
+
+#[test]
+fn shapes_with_auto_precharge(rt: HostRuntime) -> Result<(), Fail> {
+    has(
+        &rt,
+        &schedule(rt.alloc(), CLOSING)?,
+        &[
+            ("<line class=\"mark\"", 4),
+            (">ACT</text>", 2),
+            (">RD</text>", 2),
+            (">PRE</text>", 1),
+            ("<rect class=\"flaw\"", 0),
+        ],
+    )?;
+    let early = CLOSING.replace(rt.alloc(), "0 55", "0 54")?;
+    match schedule(rt.alloc(), &early) {
+        Ok(_) => assert!(rt; false),
+        Err(error) => {
+            let told = format!(in rt.alloc(); "{error}")?;
+            assert_eq!(rt; told.as_str(), "trace line 3");
+        }
     }
     Ok(())
 }

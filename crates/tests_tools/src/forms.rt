@@ -113,7 +113,7 @@ fn reasons_of_lines(rt: HostRuntime) -> Result<(), Fail> {
         ),
         (
             "0 5 NOP 0",
-            "1: the names of commands are ACT, RD, WR, PRE, PREA, REF and SRE",
+            "1: the names of commands are ACT, RD, WR, RDA, WRA, PRE, PREA, REF and SRE",
         ),
         (
             "0 5 RD 0 0 0",
@@ -137,7 +137,7 @@ fn reasons_of_rows(rt: HostRuntime) -> Result<(), Fail> {
         ("0,5", "2: a table has 8 columns, here 2"),
         (
             "0,NOP,0,,,,,",
-            "2: the names of commands are ACT, RD, WR, PRE, PREA, REF and SRE",
+            "2: the names of commands are ACT, RD, WR, RDA, WRA, PRE, PREA, REF and SRE",
         ),
         (
             "0,PRE,0,0,0,,,",
@@ -159,3 +159,27 @@ fn reasons_of_rows(rt: HostRuntime) -> Result<(), Fail> {
 }
 
 const HEADER_LINE: &str = "clock,command,channel,rank,bankgroup,bank,row,column";
+
+// A read with auto-precharge: tRAS lets its bank close at 39, and the ACT of another bank goes at that very clock.
+const CLOSING: &str = "0 0 ACT 0 0 0 1
+0 16 RDA 0 0 0 3
+0 39 ACT 0 1 0 1
+0 55 ACT 0 0 0 0
+";
+
+#[test]
+fn auto_precharge(rt: HostRuntime) -> Result<(), Fail> {
+    tells(&rt, CLOSING, "lawful 4")?;
+    let early = CLOSING.replace(rt.alloc(), "0 55", "0 54")?;
+    tells(
+        &rt,
+        &early,
+        "fault 5, PRE to ACT, same bank or rank: at least tRP = 16, here 15; line 2: 39 PRE 0 0 0; line 4: 54 ACT 0 0 0 0",
+    )?;
+    let read = CLOSING.replace(rt.alloc(), "0 39 ACT 0 1 0 1", "0 22 RD 0 0 0 1")?;
+    tells(
+        &rt,
+        &read,
+        "fault 2, RD wants its bank open, and an auto-precharge is about to close it; line 3: 22 RD 0 0 0 1",
+    )
+}

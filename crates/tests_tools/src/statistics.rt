@@ -49,6 +49,18 @@ fn numbers_of_a_trace(rt: HostRuntime) -> anyhow::Result<()> {
     Ok(())
 }
 
+// An access with auto-precharge closes its bank itself: the next one is no hit, and no PRE was made for it.
+#[test]
+fn numbers_of_accesses_that_close_their_bank(rt: HostRuntime) -> anyhow::Result<()> {
+    let trace = "0 0 ACT 0 0 0 1\n0 16 RDA 0 0 0 0\n0 70 ACT 0 0 0 1\n0 86 WRA 0 0 0 1\n";
+    let wanted =
+        "0 channel ACT 2 RD 1 WR 1 PRE 0 hits 0 misses 2 conflicts 0 bus 9.19% bytes 1471 PREA 0 REF 0 SRE 0
+0 bank 0 0 0 ACT 2 RD 1 WR 1 PRE 0 hits 0 misses 2 conflicts 0 bus 9.19% bytes 1471
+";
+    assert_eq!(rt; counted(rt.alloc(), trace)?.as_str(), wanted);
+    Ok(())
+}
+
 // A channel without a command has its line, and one with a fault has none.
 #[test]
 fn numbers_of_no_command_and_of_a_fault(rt: HostRuntime) -> anyhow::Result<()> {

@@ -1,5 +1,7 @@
 // What a check tells of a trace.
-use command_trace::{TraceReader, check_trace, diagnose, form_of, list_commands, tallies};
+use command_trace::{
+    Form, TraceReader, check_trace, diagnose, form_of, list_commands, list_issued, tallies,
+};
 use ddr4_timing::profiles::TINY;
 use ddr4_timing::timing::{Checked, Geometry, ProfileError};
 use std::alloc::Global;
@@ -21,8 +23,12 @@ pub(crate) fn checked() -> Result<Checked, ProfileError> {
 
 /// The verdict on each channel of a trace, a line each.
 pub(crate) fn verdicts(alloc: Global, text: &str, others: bool) -> anyhow::Result<String> {
+    verdicts_of(alloc, text, form_of(alloc, text.as_bytes(), others)?)
+}
+
+/// The same of a trace of this form.
+pub(crate) fn verdicts_of(alloc: Global, text: &str, form: Form) -> anyhow::Result<String> {
     let rules = checked()?.rules();
-    let form = form_of(alloc, text.as_bytes(), others)?;
     let mut reader = TraceReader::new(alloc, text.as_bytes(), form, 1);
     let check = check_trace(&rules, &mut reader)?;
     let mut said = format!(in alloc; "")?;
@@ -31,8 +37,8 @@ pub(crate) fn verdicts(alloc: Global, text: &str, others: bool) -> anyhow::Resul
         return Ok(said);
     }
     let mut again = TraceReader::new(alloc, text.as_bytes(), form, 1);
-    let listed = list_commands(alloc, &mut again, 0, check.line(0))?;
-    match diagnose(&rules, &listed.commands, &listed.lines) {
+    let issued = list_issued(alloc, &mut again, 0, check.line(0))?;
+    match diagnose(alloc, &rules, &issued)? {
         Some(found) => write!(said, "fault {found}")?,
         None => write!(said, "no fault")?,
     }

@@ -1,9 +1,10 @@
 -- A bank behind one more command of its channel.
-use Rattle.std.proofs.Common.{◌≡◌, ◌≢◌, ◌∙◌, ◌<◌, ◌==◌, ℕ, Bool, true, false, eqb, List, [], ◌∷◌, filter, get_or, length, set, ap, refl, sym, subst, inl, inr, arith}
+use Rattle.std.proofs.Common.{◌≡◌, ◌≢◌, ◌∙◌, ◌<◌, ◌==◌, ◌⊎◌, ℕ, Bool, true, false, eqb, List, [], ◌∷◌, filter, get_or, length, set, ap, refl, sym, subst, inl, inr, arith}
 use Rattle.std.proofs.lemmas.Bool.{cases_eq, eq-eqb}
 use Rattle.std.proofs.lemmas.Bool.Decides.{nat_tests}
 use Rattle.std.proofs.lemmas.Grind.{get_or-set_at}
 use Rattle.std.proofs.lemmas.List.{get_or-set_other}
+use Rattle.auto_precharge.specs.declared.issued.Issued.{Issued}
 use Rattle.ddr4_timing.proofs.Addresses.{same_slot, slot_small}
 use Rattle.ddr4_timing.specs.Command.{bank_of, rank_of}
 use Rattle.ddr4_timing.specs.Places.{HasSlot, is_bank, slot_of}
@@ -14,9 +15,9 @@ use Rattle.trace_statistics.specs.declared.numbers.BankNumbers.{BankNumbers}
 use Rattle.trace_statistics.specs.declared.phase.Phase.{Phase}
 use Rattle.trace_statistics.specs.declared.phase.Phase.TheVariants.{Closed}
 use Rattle.trace_statistics.specs.declared.rank.Rank.{Rank}
-use Rattle.trace_statistics.specs.Numbers.{AreNumbersOf, touches}
-use Rattle.trace_statistics.specs.Standing.{AreWith, BankStands, IsOfBank, RankStands, phase_of}
-use Rattle.trace_statistics.proofs.Counting.{numbers_more, numbers_other, numbers_pre_all, numbers_ref, numbers_sre}
+use Rattle.trace_statistics.specs.Numbers.{AreNumbersOf, touches, touching}
+use Rattle.trace_statistics.specs.Standing.{AreWith, BankStands, IsOfBank, RankStands, phase_behind, phase_of}
+use Rattle.trace_statistics.proofs.Counting.{IsWide, numbers_more, numbers_other, numbers_wide}
 
 eqb_self : (n : ℕ) → eqb n n ≡ true
 eqb_self n = eq-eqb n n refl
@@ -51,77 +52,97 @@ touches_by at bank (PreAll rank) of = absurd of
 touches_by at bank (Ref rank) of = absurd of
 touches_by at bank (Sre rank) of = absurd of
 
+wide_touches : (at : BankAddress) (x : Command) → IsWide x → touches at x ≡ (rank_of x == at.rank)
+wide_touches at (Act bank row) wide = absurd wide
+wide_touches at (Rd bank column) wide = absurd wide
+wide_touches at (Wr bank column) wide = absurd wide
+wide_touches at (Pre bank) wide = absurd wide
+wide_touches at (PreAll rank) wide = refl
+wide_touches at (Ref rank) wide = refl
+wide_touches at (Sre rank) wide = refl
+
+wide_closes : (x : Command) (closes : Bool) (before : List Issued) → IsWide x → Closed ≡ phase_behind x closes before
+wide_closes (Act at row) closes before wide = absurd wide
+wide_closes (Rd at column) closes before wide = absurd wide
+wide_closes (Wr at column) closes before wide = absurd wide
+wide_closes (Pre at) closes before wide = absurd wide
+wide_closes (PreAll rank) closes before wide = refl
+wide_closes (Ref rank) closes before wide = refl
+wide_closes (Sre rank) closes before wide = refl
+
+-- what touches a bank, with one more command
+touching_more : (at : BankAddress) (x : Issued) (list : List Issued) → touches at x.command.cmd ≡ true → touching at (x ∷ list) ≡ x ∷ touching at list
+touching_more at x list is = rw is refl
+
+touching_past : (at : BankAddress) (x : Issued) (list : List Issued) → touches at x.command.cmd ≡ false → touching at (x ∷ list) ≡ touching at list
+touching_past at x list is = rw is refl
+
 -- a command to the bank itself
-pub bank_same : (at : BankAddress) (x : Command) (list : List Command) (phase after : Phase) (old new : BankNumbers) → IsOfBank at x
-    → ((before : List Command) → phase ≡ phase_of before → after ≡ phase_of (x ∷ before)) → AreWith x phase old new
+pub bank_same : (at : BankAddress) (x : Issued) (list : List Issued) (phase after : Phase) (old new : BankNumbers) → IsOfBank at x.command.cmd
+    → ((before : List Issued) → phase ≡ phase_of before → after ≡ phase_of (x ∷ before)) → AreWith x.command.cmd phase old new
     → BankStands phase old at list → BankStands after new at (x ∷ list)
 bank_same at x list phase after old new of goes more b =
-    let own : touches at x ≡ true = touches_by at at x of ∙ is_bank_self at in
-    let bank = names at x of in
+    let own : touches at x.command.cmd ≡ true = touches_by at at x.command.cmd of ∙ is_bank_self at in
+    let bank = names at x.command.cmd of in
     record {
-      stands = rw own (goes (filter (touches at) list) b.stands);
+      stands = goes (touching at list) b.stands ∙ ap phase_of (sym (touching_more at x list own));
       numbers = numbers_more (λ bank. is_bank bank at) list x phase old new (ap (λ (c : BankAddress). is_bank c at) bank ∙ is_bank_self at)
-          (λ _. b.stands ∙ ap (λ (c : BankAddress). phase_of (filter (touches c) list)) (sym bank)) more b.numbers;
+          (λ _. b.stands ∙ ap (λ (c : BankAddress). phase_of (touching c list)) (sym bank)) more b.numbers;
     }
 
 -- a command to another bank
-pub bank_other : (at bank : BankAddress) (x : Command) (list : List Command) (phase : Phase) (n : BankNumbers) → IsOfBank bank x → is_bank bank at ≡ false
+pub bank_other : (at bank : BankAddress) (x : Issued) (list : List Issued) (phase : Phase) (n : BankNumbers) → IsOfBank bank x.command.cmd → is_bank bank at ≡ false
     → BankStands phase n at list → BankStands phase n at (x ∷ list)
 bank_other at bank x list phase n of other b =
-    let past : touches at x ≡ false = touches_by at bank x of ∙ other in
+    let past : touches at x.command.cmd ≡ false = touches_by at bank x.command.cmd of ∙ other in
     record {
-      stands = rw past b.stands;
-      numbers = numbers_other (λ bank. is_bank bank at) list x n (ap (λ (c : BankAddress). is_bank c at) (names bank x of) ∙ other) b.numbers;
+      stands = b.stands ∙ ap phase_of (sym (touching_past at x list past));
+      numbers = numbers_other (λ bank. is_bank bank at) list x n (ap (λ (c : BankAddress). is_bank c at) (names bank x.command.cmd of) ∙ other) b.numbers;
     }
 
 -- a command to the whole rank
-pub bank_pre_all : (at : BankAddress) (rank : ℕ) (list : List Command) (phase : Phase) (n : BankNumbers) → at.rank ≡ rank → BankStands phase n at list
-    → BankStands Closed n at (PreAll rank ∷ list)
-bank_pre_all at rank list phase n of b =
-    let own : touches at (PreAll rank) ≡ true = eq-eqb rank at.rank (sym of) in
-    record { stands = rw own refl; numbers = numbers_pre_all (λ bank. is_bank bank at) list rank n b.numbers }
+pub bank_wide : (at : BankAddress) (x : Issued) (list : List Issued) (phase : Phase) (n : BankNumbers) → IsWide x.command.cmd → at.rank ≡ rank_of x.command.cmd → BankStands phase n at list
+    → BankStands Closed n at (x ∷ list)
+bank_wide at x list phase n wide of b =
+    let own : touches at x.command.cmd ≡ true = wide_touches at x.command.cmd wide ∙ eq-eqb (rank_of x.command.cmd) at.rank (sym of) in
+    record {
+      stands = wide_closes x.command.cmd x.closes (touching at list) wide ∙ ap phase_of (sym (touching_more at x list own));
+      numbers = numbers_wide (λ bank. is_bank bank at) list x n wide b.numbers;
+    }
 
-pub bank_ref : (at : BankAddress) (rank : ℕ) (list : List Command) (phase : Phase) (n : BankNumbers) → at.rank ≡ rank → BankStands phase n at list
-    → BankStands Closed n at (Ref rank ∷ list)
-bank_ref at rank list phase n of b =
-    let own : touches at (Ref rank) ≡ true = eq-eqb rank at.rank (sym of) in
-    record { stands = rw own refl; numbers = numbers_ref (λ bank. is_bank bank at) list rank n b.numbers }
-
-pub bank_sre : (at : BankAddress) (rank : ℕ) (list : List Command) (phase : Phase) (n : BankNumbers) → at.rank ≡ rank → BankStands phase n at list
-    → BankStands Closed n at (Sre rank ∷ list)
-bank_sre at rank list phase n of b =
-    let own : touches at (Sre rank) ≡ true = eq-eqb rank at.rank (sym of) in
-    record { stands = rw own refl; numbers = numbers_sre (λ bank. is_bank bank at) list rank n b.numbers }
+-- a command to a bank, or to a whole rank
+which_kind : (x : Command) → ((at : BankAddress) × IsOfBank at x) ⊎ IsWide x
+which_kind (Act at row) = inl (at, refl)
+which_kind (Rd at column) = inl (at, refl)
+which_kind (Wr at column) = inl (at, refl)
+which_kind (Pre at) = inl (at, refl)
+which_kind (PreAll rank) = inr tt
+which_kind (Ref rank) = inr tt
+which_kind (Sre rank) = inr tt
 
 -- a command to another rank
-pub bank_apart : (at : BankAddress) (x : Command) (list : List Command) (phase : Phase) (n : BankNumbers) → rank_of x ≢ at.rank → BankStands phase n at list
+pub bank_apart : (at : BankAddress) (x : Issued) (list : List Issued) (phase : Phase) (n : BankNumbers) → rank_of x.command.cmd ≢ at.rank → BankStands phase n at list
     → BankStands phase n at (x ∷ list)
-bank_apart at (Act bank row) list phase n other b = bank_other at bank (Act bank row) list phase n refl (is_bank_apart bank at other) b
-bank_apart at (Rd bank column) list phase n other b = bank_other at bank (Rd bank column) list phase n refl (is_bank_apart bank at other) b
-bank_apart at (Wr bank column) list phase n other b = bank_other at bank (Wr bank column) list phase n refl (is_bank_apart bank at other) b
-bank_apart at (Pre bank) list phase n other b = bank_other at bank (Pre bank) list phase n refl (is_bank_apart bank at other) b
-bank_apart at (PreAll rank) list phase n other b = record {
-  stands = rw (rank_apart rank at.rank other) b.stands;
-  numbers = numbers_pre_all (λ bank. is_bank bank at) list rank n b.numbers;
-}
-bank_apart at (Ref rank) list phase n other b = record {
-  stands = rw (rank_apart rank at.rank other) b.stands;
-  numbers = numbers_ref (λ bank. is_bank bank at) list rank n b.numbers;
-}
-bank_apart at (Sre rank) list phase n other b = record {
-  stands = rw (rank_apart rank at.rank other) b.stands;
-  numbers = numbers_sre (λ bank. is_bank bank at) list rank n b.numbers;
-}
+bank_apart at x list phase n other b = elim (which_kind x.command.cmd) [
+  | inl of ↦
+      bank_other at of.0 x list phase n of.1 (is_bank_apart of.0 at (λ same. other (ap (λ (c : BankAddress). c.rank) (names of.0 x.command.cmd of.1) ∙ same))) b
+  | inr wide ↦
+      let past : touches at x.command.cmd ≡ false = wide_touches at x.command.cmd wide ∙ rank_apart (rank_of x.command.cmd) at.rank other in
+      record {
+        stands = b.stands ∙ ap phase_of (sym (touching_past at x list past));
+        numbers = numbers_wide (λ bank. is_bank bank at) list x n wide b.numbers;
+      }
+]
 
-pub rank_apart_stands : (rank : ℕ) (r : Rank) (x : Command) (list : List Command) → rank_of x ≢ rank → RankStands rank r list → RankStands rank r (x ∷ list)
+pub rank_apart_stands : (rank : ℕ) (r : Rank) (x : Issued) (list : List Issued) → rank_of x.command.cmd ≢ rank → RankStands rank r list → RankStands rank r (x ∷ list)
 rank_apart_stands rank r x list other stands = record {
   banks = λ at phase none slot of. bank_apart at x list _ _ (λ same. other (same ∙ of)) (stands.banks at phase none slot of);
 }
 
 -- the banks of a rank behind a command to one of them
-pub rank_more : (bank : BankAddress) (x : Command) (list : List Command) (r : Rank) (n : ℕ) (p : Phase) (b : BankNumbers) (after : Phase) (is : BankNumbers) → IsOfBank bank x
+pub rank_more : (bank : BankAddress) (x : Issued) (list : List Issued) (r : Rank) (n : ℕ) (p : Phase) (b : BankNumbers) (after : Phase) (is : BankNumbers) → IsOfBank bank x.command.cmd
     → HasSlot bank → length r.phases ≡ 16 → length r.banks ≡ 16 → n ≡ slot_of bank
-    → ((before : List Command) → get_or r.phases n p ≡ phase_of before → after ≡ phase_of (x ∷ before)) → AreWith x (get_or r.phases n p) (get_or r.banks n b) is
+    → ((before : List Issued) → get_or r.phases n p ≡ phase_of before → after ≡ phase_of (x ∷ before)) → AreWith x.command.cmd (get_or r.phases n p) (get_or r.banks n b) is
     → RankStands bank.rank r list → RankStands bank.rank (record { phases = set r.phases n after; banks = set r.banks n is }) (x ∷ list)
 rank_more bank x list r n p b after is of slot phases banks index goes more stands =
     let own_small = slot_small bank slot in
@@ -154,7 +175,7 @@ rank_none rank phases banks n closed none numbers = record {
 }
 
 -- every bank of a rank is closed behind a command to it
-pub rank_closed : (rank : ℕ) (r : Rank) (phases : List Phase) (list more : List Command) → ((i : ℕ) (d : Phase) → i < 16 → get_or phases i d ≡ Closed)
+pub rank_closed : (rank : ℕ) (r : Rank) (phases : List Phase) (list more : List Issued) → ((i : ℕ) (d : Phase) → i < 16 → get_or phases i d ≡ Closed)
     → ((at : BankAddress) (phase : Phase) (n : BankNumbers) → at.rank ≡ rank → BankStands phase n at list → BankStands Closed n at more)
     → RankStands rank r list → RankStands rank (record { phases = phases; banks = r.banks }) more
 rank_closed rank r phases list more closed goes stands = record {

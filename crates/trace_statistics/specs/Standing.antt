@@ -4,29 +4,33 @@ use Rattle.ddr4_timing.specs.Command.{is_act, is_column, is_pre, is_rd, is_wr}
 use Rattle.ddr4_timing.specs.Places.{HasSlot, is_bank, slot_of}
 use Rattle.ddr4_timing.specs.declared.command.Command.{Command}
 use Rattle.ddr4_timing.specs.declared.command.Command.TheVariants.{Act, Rd, Wr, Pre, PreAll, Ref, Sre}
-use Rattle.ddr4_timing.specs.declared.command.Stamped.{Stamped}
 use Rattle.ddr4_timing.specs.declared.place.BankAddress.{BankAddress}
-use Rattle.ddr4_timing.specs.Lawful.{IsLawfulBy}
+use Rattle.auto_precharge.specs.Unfolding.{IsLawfulTrace}
+use Rattle.auto_precharge.specs.declared.issued.Issued.{Issued}
 use Rattle.ddr4_timing.specs.declared.timing.CommandRules.{CommandRules}
-use Rattle.command_trace.specs.Channels.{commands_of}
+use Rattle.command_trace.specs.Channels.{issued_to}
 use Rattle.command_trace.specs.declared.entry.Located.{Located}
 use Rattle.trace_statistics.specs.declared.channel.Channel.{Channel}
 use Rattle.trace_statistics.specs.declared.numbers.BankNumbers.{BankNumbers}
 use Rattle.trace_statistics.specs.declared.phase.Phase.{Phase}
 use Rattle.trace_statistics.specs.declared.phase.Phase.TheVariants.{Closed, Precharged, Opened, Reopened, Used}
 use Rattle.trace_statistics.specs.declared.rank.Rank.{Rank}
-use Rattle.trace_statistics.specs.Numbers.{AreNumbersOf, AreNumbersOfRanks, is_behind_pre, last_clock, latest, touches}
+use Rattle.trace_statistics.specs.Numbers.{AreNumbersOf, AreNumbersOfRanks, is_behind_pre, last_clock, latest, touching}
+
+-- how a command leaves a bank that it touches
+abbrev pub phase_behind : Command → Bool → List Issued → Phase
+phase_behind (Act at row) closes before = if is_behind_pre before then Reopened else Opened
+phase_behind (Rd at column) closes before = if closes then Closed else Used
+phase_behind (Wr at column) closes before = if closes then Closed else Used
+phase_behind (Pre at) closes before = Precharged
+phase_behind (PreAll rank) closes before = Closed
+phase_behind (Ref rank) closes before = Closed
+phase_behind (Sre rank) closes before = Closed
 
 -- what the commands that touched a bank left it, the latest first
-abbrev pub phase_of : List Command → Phase
+abbrev pub phase_of : List Issued → Phase
 phase_of [] = Closed
-phase_of (Act at row ∷ before) = if is_behind_pre before then Reopened else Opened
-phase_of (Rd at column ∷ before) = Used
-phase_of (Wr at column ∷ before) = Used
-phase_of (Pre at ∷ before) = Precharged
-phase_of (PreAll rank ∷ before) = Closed
-phase_of (Ref rank ∷ before) = Closed
-phase_of (Sre rank ∷ before) = Closed
+phase_of (x ∷ before) = phase_behind x.command.cmd x.closes before
 
 abbrev pub is_used : Phase → Bool
 is_used Used = true
@@ -62,17 +66,17 @@ pub record AreFound (phase : Phase) (old new : BankNumbers) : Type 0 where
   pub others : new ≡ record old { hits = new.hits; misses = new.misses; conflicts = new.conflicts }
 
 -- a bank behind the commands of its channel
-pub record BankStands (phase : Phase) (n : BankNumbers) (at : BankAddress) (list : List Command) : Type 0 where
-  pub stands : phase ≡ phase_of (filter (touches at) list)
+pub record BankStands (phase : Phase) (n : BankNumbers) (at : BankAddress) (list : List Issued) : Type 0 where
+  pub stands : phase ≡ phase_of (touching at list)
   pub numbers : AreNumbersOf (λ bank. is_bank bank at) list n
 
 -- a rank
-pub record RankStands (rank : ℕ) (r : Rank) (list : List Command) : Type 0 where
+pub record RankStands (rank : ℕ) (r : Rank) (list : List Issued) : Type 0 where
   pub banks : (at : BankAddress) (phase : Phase) (none : BankNumbers) → HasSlot at → at.rank ≡ rank →
       BankStands (slice_index_or r.phases (slot_of at) phase) (slice_index_or r.banks (slot_of at) none) at list
 
 -- and a channel
-pub record ChannelStands (c : Channel) (list : List Stamped) : Type 0 where
+pub record ChannelStands (c : Channel) (list : List Issued) : Type 0 where
   pub ranks : (rank : ℕ) (none : Rank) → rank < 8 → RankStands rank (slice_index_or c.ranks rank none) (latest list)
   pub total : AreNumbersOf (λ bank. true) (latest list) c.total
   pub shared : AreNumbersOfRanks (latest list) c.shared
@@ -81,12 +85,12 @@ pub record ChannelStands (c : Channel) (list : List Stamped) : Type 0 where
 -- each channel stands for its commands
 abbrev pub StandForAll : List Channel → List Located → Type 0
 StandForAll channels found =
-    (channel : ℕ) (none : Channel) → channel < 8 → ChannelStands (slice_index_or channels channel none) (commands_of channel found)
+    (channel : ℕ) (none : Channel) → channel < 8 → ChannelStands (slice_index_or channels channel none) (issued_to channel found)
 
 -- what was counted of each channel whose commands are lawful are these
 abbrev pub AreOfLawful : CommandRules → List Located → List Located → Type 0
 AreOfLawful r found counted =
-    (channel : ℕ) → channel < 8 → IsLawfulBy r (commands_of channel found) → commands_of channel counted ≡ commands_of channel found
+    (channel : ℕ) → channel < 8 → IsLawfulTrace r (issued_to channel found) → issued_to channel counted ≡ issued_to channel found
 
 -- a command to one bank, which it names
 abbrev pub IsOfBank : BankAddress → Command → Type 0

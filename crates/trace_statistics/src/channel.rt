@@ -2,13 +2,13 @@
 ghost use Rattle.std.specs.Prelude.{◌≡◌, ◌<◌, [], ◌∷◌, ◌++◌, List};
 ghost use Rattle.ddr4_timing.specs.Lawful.{IsInGeometry};
 ghost use Rattle.ddr4_timing.specs.Places.{HasBank};
-ghost use Rattle.ddr4_timing.specs.declared.command.Stamped.{Stamped};
+ghost use Rattle.auto_precharge.specs.declared.issued.Issued.{Issued};
 ghost use Rattle.trace_statistics.specs.Numbers.{AreNumbersOfBank, AreNumbersOfChannel, AreNumbersOfRanks, bytes_of, last_clock, latest, share_of};
 ghost use Rattle.trace_statistics.specs.Standing.{ChannelStands};
 
 use crate::numbers::{BankNumbers, RankNumbers};
 use crate::rank::{Rank, slot_of};
-use ddr4_timing::command::Stamped;
+use auto_precharge::Issued;
 use ddr4_timing::place::BankAddress;
 use ddr4_timing::timing::CommandRules;
 
@@ -37,24 +37,24 @@ impl Channel {
     }
 
     /// Takes the next command in.
-    pub(crate) fn take(&mut self, rules: &CommandRules, next: &Stamped)
-        requires { IsInGeometry rules.now.geometry next.now.cmd }
-        ensures { (list : List Stamped) → ChannelStands self.old list
+    pub(crate) fn take(&mut self, rules: &CommandRules, next: &Issued)
+        requires { IsInGeometry rules.now.geometry next.now.command.cmd }
+        ensures { (list : List Issued) → ChannelStands self.old list
             → ChannelStands self.new (list ++ next.now ∷ []) }
     {
         // the `requires` is of this geometry, and no step of the code is
         let _geometry = rules.geometry;
-        let rank = next.cmd.rank() as usize;
-        let phase = self.ranks[rank].take(&next.cmd);
-        self.total.take(&next.cmd, phase);
-        self.shared.take(&next.cmd);
-        self.last = self.last.max(next.clock);
+        let rank = next.command.cmd.rank() as usize;
+        let phase = self.ranks[rank].take(next);
+        self.total.take(&next.command.cmd, phase);
+        self.shared.take(next);
+        self.last = self.last.max(next.command.clock);
     }
 
     /// The numbers of a bank.
     pub fn bank(&self, rules: &CommandRules, at: BankAddress) -> BankNumbers
         requires { HasBank rules.now.geometry at }
-        ensures { (list : List Stamped) → ChannelStands self.now list
+        ensures { (list : List Issued) → ChannelStands self.now list
             → AreNumbersOfBank at list result }
     {
         // the `requires` is of this geometry, and no step of the code is
@@ -64,7 +64,7 @@ impl Channel {
 
     /// The numbers of all banks together.
     pub fn total(&self) -> BankNumbers
-        ensures { (list : List Stamped) → ChannelStands self.now list
+        ensures { (list : List Issued) → ChannelStands self.now list
             → AreNumbersOfChannel list result }
     {
         self.total
@@ -72,7 +72,7 @@ impl Channel {
 
     /// How many commands went to whole ranks.
     pub fn shared(&self) -> RankNumbers
-        ensures { (list : List Stamped) → ChannelStands self.now list
+        ensures { (list : List Issued) → ChannelStands self.now list
             → AreNumbersOfRanks (latest list) result }
     {
         self.shared
@@ -80,7 +80,7 @@ impl Channel {
 
     /// The clock of the last command, 0 where there is none.
     pub fn last(&self) -> u64
-        ensures { (list : List Stamped) → ChannelStands self.now list
+        ensures { (list : List Issued) → ChannelStands self.now list
             → result ≡ last_clock list }
     {
         self.last

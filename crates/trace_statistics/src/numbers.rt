@@ -1,11 +1,12 @@
 // The numbers of banks and of ranks.
 ghost use Rattle.std.specs.Prelude.{◌≡◌, ◌+◌, ◌-◌, ◌<◌, ◌^◌, min, [], ◌∷◌, Bool, List};
-ghost use Rattle.ddr4_timing.specs.declared.command.Command.{Command};
+ghost use Rattle.auto_precharge.specs.declared.issued.Issued.{Issued};
 ghost use Rattle.ddr4_timing.specs.declared.place.BankAddress.{BankAddress};
 ghost use Rattle.trace_statistics.specs.Numbers.{AreNumbersOf, AreNumbersOfRanks, bytes_of, share_of};
 ghost use Rattle.trace_statistics.specs.Standing.{AreFound, AreWith};
 
 use crate::phase::Phase;
+use auto_precharge::Issued;
 use ddr4_timing::command::Command;
 use std::fmt;
 
@@ -146,11 +147,11 @@ impl RankNumbers {
     }
 
     /// Takes a command in.
-    pub(crate) fn take(&mut self, cmd: &Command)
-        ensures { (before : List Command) → AreNumbersOfRanks before self.old
-            → AreNumbersOfRanks (cmd.now ∷ before) self.new }
+    pub(crate) fn take(&mut self, next: &Issued)
+        ensures { (before : List Issued) → AreNumbersOfRanks before self.old
+            → AreNumbersOfRanks (next.now ∷ before) self.new }
     {
-        match cmd {
+        match next.command.cmd {
             Command::PreAll { .. } => add(&mut self.precharges),
             Command::Ref { .. } => add(&mut self.refreshes),
             Command::Sre { .. } => add(&mut self.sleeps),

@@ -1,13 +1,14 @@
 // The banks of a rank.
-ghost use Rattle.std.specs.Prelude.{◌≡◌, ℕ, ◌<◌, [], ◌∷◌, filter, IsTrue, List};
+ghost use Rattle.std.specs.Prelude.{◌≡◌, ℕ, ◌<◌, [], ◌∷◌, IsTrue, List};
 ghost use Rattle.ddr4_timing.specs.Command.{bank_of, is_column, rank_of};
 ghost use Rattle.ddr4_timing.specs.Places.{HasSlot, slot_of};
-ghost use Rattle.ddr4_timing.specs.declared.command.Command.{Command};
-ghost use Rattle.trace_statistics.specs.Numbers.{touches};
+ghost use Rattle.auto_precharge.specs.declared.issued.Issued.{Issued};
+ghost use Rattle.trace_statistics.specs.Numbers.{touching};
 ghost use Rattle.trace_statistics.specs.Standing.{IsOfBank, RankStands, phase_of};
 
 use crate::numbers::BankNumbers;
 use crate::phase::Phase;
+use auto_precharge::Issued;
 use ddr4_timing::command::Command;
 use ddr4_timing::place::BankAddress;
 
@@ -39,19 +40,19 @@ impl Rank {
     }
 
     /// Takes a command to the rank in. Answers how the bank of a RD or WR stood.
-    pub(crate) fn take(&mut self, cmd: &Command) -> Phase
-        requires { HasSlot (bank_of cmd.now) }
-        ensures stands { (before : List Command) → RankStands (rank_of cmd.now) self.old before
-            → RankStands (rank_of cmd.now) self.new (cmd.now ∷ before) }
-        ensures found { (before : List Command) → RankStands (rank_of cmd.now) self.old before
-            → IsTrue (is_column cmd.now)
-            → result ≡ phase_of (filter (touches (bank_of cmd.now)) before) }
+    pub(crate) fn take(&mut self, next: &Issued) -> Phase
+        requires { HasSlot (bank_of next.now.command.cmd) }
+        ensures stands { (before : List Issued) → RankStands (rank_of next.now.command.cmd) self.old before
+            → RankStands (rank_of next.now.command.cmd) self.new (next.now ∷ before) }
+        ensures found { (before : List Issued) → RankStands (rank_of next.now.command.cmd) self.old before
+            → IsTrue (is_column next.now.command.cmd)
+            → result ≡ phase_of (touching (bank_of next.now.command.cmd) before) }
     {
-        match *cmd {
+        match next.command.cmd {
             Command::Act { at, .. } | Command::Rd { at, .. } | Command::Wr { at, .. } => {
-                self.take_at(at, cmd)
+                self.take_at(at, next)
             }
-            Command::Pre { at } => self.take_at(at, cmd),
+            Command::Pre { at } => self.take_at(at, next),
             Command::PreAll { .. } | Command::Ref { .. } | Command::Sre { .. } => {
                 self.phases = [Phase::Closed; 16];
                 Phase::Closed
@@ -60,18 +61,18 @@ impl Rank {
     }
 
     // Takes a command to one bank in. Answers how the bank stood.
-    fn take_at(&mut self, at: BankAddress, cmd: &Command) -> Phase
+    fn take_at(&mut self, at: BankAddress, next: &Issued) -> Phase
         requires slot { HasSlot at }
-        requires bank { IsOfBank at cmd.now }
-        ensures stands { (before : List Command) → RankStands at.rank self.old before
-            → RankStands at.rank self.new (cmd.now ∷ before) }
-        ensures found { (before : List Command) → RankStands at.rank self.old before
-            → result ≡ phase_of (filter (touches at) before) }
+        requires bank { IsOfBank at next.now.command.cmd }
+        ensures stands { (before : List Issued) → RankStands at.rank self.old before
+            → RankStands at.rank self.new (next.now ∷ before) }
+        ensures found { (before : List Issued) → RankStands at.rank self.old before
+            → result ≡ phase_of (touching at before) }
     {
         let slot = slot_of(at);
         let phase = self.phases[slot];
-        self.banks[slot].take(cmd, phase);
-        self.phases[slot] = phase.after(cmd);
+        self.banks[slot].take(&next.command.cmd, phase);
+        self.phases[slot] = phase.after(next);
         phase
     }
 }

@@ -19,7 +19,7 @@ pub struct TraceStatistics {
 
 impl TraceStatistics {
     ghost use Rattle.ddr4_timing.specs.Lawful.{IsInGeometry};
-    ghost use Rattle.command_trace.specs.Channels.{commands_of};
+    ghost use Rattle.command_trace.specs.Channels.{issued_to};
     ghost use Rattle.trace_statistics.specs.Standing.{ChannelStands};
 
     /// Before any command.
@@ -39,14 +39,14 @@ impl TraceStatistics {
         ensures { self.new.given.items ≡ self.old.given.items ++ next.now ∷ [] }
     {
         let channel = next.entry.channel as usize;
-        self.channels[channel].take(rules, &next.entry.command);
+        self.channels[channel].take(rules, &next.issued());
         self.given.note(next);
     }
 
     /// The statistics of a channel.
     pub fn channel(&self, channel: u64) -> &Channel
         requires { channel < MOST_CHANNELS }
-        ensures { ChannelStands result.now (commands_of channel self.now.given.items) }
+        ensures { ChannelStands result.now (issued_to channel self.now.given.items) }
     {
         &self.channels[channel as usize]
     }

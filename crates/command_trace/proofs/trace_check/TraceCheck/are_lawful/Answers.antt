@@ -1,7 +1,7 @@
 use Rattle.std.proofs.Common.{◌≡◌, ℕ, refl, subst, inl, inr, arith}
 use Rattle.std.proofs.lemmas.Bool.{cases_lt}
-use Rattle.ddr4_timing.specs.Lawful.{IsLawfulBy}
-use Rattle.command_trace.specs.Channels.{commands_of}
+use Rattle.auto_precharge.specs.Unfolding.{IsLawfulTrace}
+use Rattle.command_trace.specs.Channels.{issued_to}
 use Rattle.command_trace.proofs.trace_check.TraceCheck.are_lawful.Goals as goal
 
 pub returns-then-not-is_lawful : goal.returns-then-not-is_lawful
@@ -13,7 +13,7 @@ loop-channel-preserved c all channel below = elim (cases_lt channel c.loop-chann
   | inl before ↦ c.loop-channel.invariant all channel before
   | inr last ↦
       let same : c.loop-channel.channel ≡ channel = omega arith in
-      subst (λ (n : ℕ). IsLawfulBy c.args.rules.now (commands_of n c.args.self.now.given.items)) same ((c.if-not-is_lawful.ensures all).0 refl)
+      subst (λ (n : ℕ). IsLawfulTrace c.args.rules.now (issued_to n c.args.self.now.given.items)) same ((c.if-not-is_lawful.ensures all).0 refl)
 ]
 
 pub returns : goal.returns

@@ -1,4 +1,7 @@
-use Rattle.std.proofs.Common.{rules}
+use Rattle.std.proofs.Common.{[], ◌∷◌, ◌++◌, rules, subst}
+use Rattle.auto_precharge.specs.declared.issued.Issued.{Issued}
+use Rattle.command_trace.specs.Channels.{issued_to}
+use Rattle.trace_statistics.specs.Standing.{ChannelStands}
 use Rattle.trace_statistics.proofs.Channels.{stand_for_all}
 use Rattle.trace_statistics.proofs.statistics.TraceStatistics.take.Goals as goal
 
@@ -6,5 +9,6 @@ pub invariant_of-self : goal.invariant_of-self
 invariant_of-self c = record {
   stands = rw (c.note.ensures)
       (stand_for_all c.args.self.now.channels c.args.self.now.given.items c.args.next.now _ (search rules) c.args.self.now.stands
-      (c.take.ensures _ (c.args.self.now.stands c.args.next.now.entry.channel _ c.requires.channel)));
+      (subst (λ (x : Issued). ChannelStands c.take.new.self (issued_to c.args.next.now.entry.channel c.args.self.now.given.items ++ x ∷ [])) c.issued.ensures
+      (c.take.ensures _ (c.args.self.now.stands c.args.next.now.entry.channel _ c.requires.channel))));
 }

@@ -1,0 +1,32 @@
+-- What is told of a command that may not follow a list.
+use Rattle.std.proofs.Common.{◌≡◌, ◌↔◌, ℕ, ◌<◌, ◌≤◌, List, [], ◌∷◌, ◌++◌, length, Option, Some, None, IfSome, IsNone, slice_get, slice_index, get_or, take, unwrap_or, refl, sym, ap, ◌∙◌, subst, inl, inr, ◌⊎◌, arith}
+use Rattle.std.proofs.Math.Seq.{take-append_seam}
+use Rattle.std.proofs.lemmas.Option.{get_or_from_slice_get}
+use Rattle.ddr4_timing.specs.Lawful.{ObeysRule, ObeysRulesBefore}
+use Rattle.ddr4_timing.specs.declared.command.Stamped.{Stamped}
+use Rattle.ddr4_timing.specs.declared.timing.CommandRules.{CommandRules}
+use Rattle.auto_precharge.specs.Unfolding.{Unfolded}
+use Rattle.auto_precharge.specs.declared.issued.Issued.{Issued}
+use Rattle.command_trace.specs.Faults.{IsWhy}
+use Rattle.command_trace.specs.Reasons.{IsReasonOf}
+use Rattle.command_trace.specs.declared.diagnosis.Diagnosis.{Diagnosis}
+use Rattle.command_trace.specs.declared.diagnosis.Numbered.{Numbered}
+
+-- the command at an index of a list, where it is there
+pub first_told : (list : List Stamped) (lines : List ℕ) (at : ℕ) (o : Option Numbered) (second : Numbered)
+    → IfSome o (λ it. (slice_get list at ≡ Some it.command) × (it.line ≡ slice_index lines at)) → (IsNone o ↔ (length list ≤ at)) → at < length list
+    → (slice_get list at ≡ Some (unwrap_or o second).command) × ((unwrap_or o second).line ≡ slice_index lines at)
+first_told list lines at None second some none within = absurd (let past = none.0 refl in omega (arith, past, within))
+first_told list lines at (Some it) second some none within = some
+
+-- the last of a list
+last_at : (before : List Issued) (x d : Issued) → get_or (before ++ x ∷ []) (length before) d ≡ x
+last_at [] x d = refl
+last_at (y ∷ before) x d = last_at before x d
+
+pub last_of : (found before : List Issued) (x d : Issued) → found ≡ before ++ x ∷ [] → get_or found (length before) d ≡ x
+last_of found before x d e =
+    ap (λ (l : List Issued). get_or l (length before) d) e ∙ last_at before x d
+
+pub front_of : (found before : List Issued) (x : Issued) → found ≡ before ++ x ∷ [] → take (length before) found ≡ before
+front_of found before x e = ap (λ (l : List Issued). take (length before) l) e ∙ take-append_seam before (x ∷ [])
