@@ -5,8 +5,8 @@
 //!
 //! Lines are written and read in a pseudo-random order. A write that finds its channel full works the channel until it isn't, and
 //! a read that has to wait works its channel until it has its bytes. A save writes a whole image to a device in memory, and a
-//! restore begins a memory with it; beside them stands what the digest of as many lines takes alone. An armed module writes as
-//! much again, and loses the mains with full queues.
+//! restore begins a memory with it. An armed module writes as much again, and loses the mains with full queues. A device of two
+//! images is restored in turn and at once, beside what the digest of as many lines takes alone.
 #![tactic(auto)]
 
 mod armed;
@@ -16,16 +16,20 @@ mod measured;
 mod opening;
 mod picks;
 mod plain;
+mod restores;
 mod rounds;
 
 use crate::armed::{Armed, armed_life};
-use crate::digests::Digests;
+use crate::restores::{Restores, restore_rounds};
 use crate::rounds::{Amount, Nanos, Tally, module_rounds, plain_rounds};
 use ddr4_timing::profiles::{SMALL, TINY, WIDEST};
 use ddr4_timing::timing::{Checked, Geometry};
 use interleave_map::cells::line_count;
 use interleave_map::{Interleaving, ReadyMap};
+use std::alloc::Global;
 use std::env;
+use std::thread::Threads;
+use std::time::Clock;
 
 // The rounds of a module over the map `lines`, and an armed life of one.
 fn by_lines(rt: &HostRuntime, checked: Checked, amount: Amount) -> anyhow::Result<(Tally, Armed)> {
@@ -111,33 +115,55 @@ fn show_armed(rt: &HostRuntime, trial: &Trial<'_>, armed: &Armed) -> anyhow::Res
     Ok(())
 }
 
-// How fast lines are digested alone, where that is wanted.
-fn show_digests(
+// What a device restored to, in turn and at once, and where it is wanted how fast.
+fn show_restores(
     rt: &HostRuntime,
     trial: &Trial<'_>,
-    digests: Digests,
+    restores: &Restores,
     lines: u64,
 ) -> anyhow::Result<()> {
+    let Restores {
+        in_turn,
+        at_once,
+        digests,
+        generation,
+        first,
+    } = *restores;
+    println!(rt;
+        "{} restored in turn and at once: generation {generation}, digest {first:02x}..",
+        trial.name
+    )?;
     if trial.timed {
-        let digested = rate(trial.amount.rounds.saturating_mul(lines), digests.nanos);
-        println!(rt;
-            "    {digested} lines digested a second, first byte {:02x}",
-            digests.first
-        )?;
+        let restored = trial.amount.rounds.saturating_mul(lines);
+        let turn = rate(restored, in_turn);
+        let once = rate(restored, at_once);
+        let digested = rate(restored, digests);
+        println!(rt; "    {turn} lines restored a second in turn, {once} at once")?;
+        println!(rt; "    {digested} lines digested a second")?;
     }
     Ok(())
 }
 
-// A module and a plain array of one geometry.
-fn compare(rt: &HostRuntime, trial: &Trial<'_>) -> anyhow::Result<()> {
+// A module and a plain array of one geometry, and these restores.
+fn compare(rt: &HostRuntime, trial: &Trial<'_>, restores: &Restores) -> anyhow::Result<()> {
     let checked = TINY.check(&trial.geometry)?;
     let lines = line_count(&checked);
     let (module, armed) = by_lines(rt, checked, trial.amount)?;
     show(rt, trial, "module", &module, lines)?;
     show_armed(rt, trial, &armed)?;
-    let (plain, digests) = plain_rounds(rt, &checked, trial.amount)?;
+    let plain = plain_rounds(rt, &checked, trial.amount)?;
     show(rt, trial, "plain", &plain, lines)?;
-    show_digests(rt, trial, digests, lines)
+    show_restores(rt, trial, restores, lines)
+}
+
+// The restores of a trial.
+fn restores_of<R: Threads + Clock>(
+    rt: &R,
+    alloc: Global,
+    trial: &Trial<'_>,
+) -> anyhow::Result<Restores> {
+    let checked = TINY.check(&trial.geometry)?;
+    restore_rounds(rt, alloc, &checked, trial.amount.rounds)
 }
 
 fn trial_of(name: &str, geometry: Geometry, rounds: u64, each: u64, timed: bool) -> Trial<'_> {
@@ -153,11 +179,19 @@ fn main(rt: HostRuntime) -> anyhow::Result<()> {
     let words: Vec<String> = env::args(&rt)?.collect(rt.alloc())?;
     match words.as_slice() {
         [_] => {
-            compare(&rt, &trial_of("tiny", SMALL, 3, 1_000, false))?;
-            compare(&rt, &trial_of("largest", WIDEST, 1, 2_000, false))
+            for trial in [
+                trial_of("tiny", SMALL, 3, 1_000, false),
+                trial_of("largest", WIDEST, 1, 2_000, false),
+            ] {
+                let restores = restores_of(&rt, rt.alloc(), &trial)?;
+                compare(&rt, &trial, &restores)?;
+            }
+            Ok(())
         }
         [_, word] if word.as_str() == "time" => {
-            compare(&rt, &trial_of("largest", WIDEST, 16, 65_536, true))
+            let trial = trial_of("largest", WIDEST, 16, 65_536, true);
+            let restores = restores_of(&rt, rt.alloc(), &trial)?;
+            compare(&rt, &trial, &restores)
         }
         _ => anyhow::bail!("no word, or time"),
     }

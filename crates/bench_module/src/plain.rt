@@ -42,13 +42,6 @@ impl<D: SaveDevice + Drop> Plain<D> {
         })
     }
 
-    /// The lines in their order.
-    pub(crate) fn lines(&self) -> &[Line]
-        ensures { IsCapacity (length result.now) }
-    {
-        &self.lines
-    }
-
     /// The device, without the lines.
     pub(crate) fn into_device(self) -> D {
         self.device
