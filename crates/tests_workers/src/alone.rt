@@ -128,7 +128,7 @@ where
     same(rt, told(rt, alloc, board, first), None);
 }
 
-/// Arms, and is armed already: a write is persistent at once, and a loss of mains saves it; from then on nothing is taken.
+/// Arms: a write is persistent at once, and a loss of mains saves it; from then on nothing is taken.
 pub(crate) fn lose_armed<K, D, E, B, N, R>(rt: &R, board: &Board<K, D, E, B, N>, host: &mut Host<B>)
 where
     K: ChannelPort + Drop + Send,
@@ -139,7 +139,6 @@ where
     R: Threads + Wait + Abort + Sync,
 {
     same(rt, board.arm(rt), Ok(ArmReply::Armed));
-    same(rt, board.arm(rt), Ok(ArmReply::AlreadyArmed));
     let receipt = first_receipt(0);
     same(rt, board.write(rt, host, write_of(0, 11)), Ok(receipt));
     same(rt, host.mark(), 1);
@@ -161,19 +160,6 @@ where
         (host.mark(), board.power_loss(rt, &Always)),
         (1, Loss::Closed),
     );
-}
-
-/// A loss of mains while disarmed.
-pub(crate) fn lose_disarmed<K, D, E, B, N, R>(rt: &R, board: &Board<K, D, E, B, N>)
-where
-    K: ChannelPort + Drop + Send,
-    D: SaveDevice + Drop,
-    E: Energy + Drop,
-    B: BoardName + PartsName + Send,
-    N: Notices,
-    R: Threads + Wait + Abort + Sync,
-{
-    same(rt, board.power_loss(rt, &Always), Loss::Unsaved);
 }
 
 /// A save by hand, and a disarming whose save the saver makes.

@@ -3,14 +3,13 @@ ghost use Rattle.std.specs.Prelude.{◌≡◌, ℕ};
 ghost use Rattle.ddr4_boards.specs.Naming.{IsNamed};
 
 use crate::alone::{
-    end_armed, end_with_strangers, end_workers, lose_armed, lose_disarmed, save_by_hand,
-    work_by_turns, write_armed, write_disarmed,
+    end_armed, end_with_strangers, end_workers, lose_armed, save_by_hand, work_by_turns,
+    write_armed, write_disarmed,
 };
 use crate::claims::{end_seen, wait_side_by_side};
 use crate::cuts::{
     cut_behind_saves, cut_beside_strangers, cut_in_each_mode, end_behind_cuts, end_cut_off,
 };
-use crate::ends::ends_at;
 use crate::silent::Silent;
 use crate::together::{lose_threads, read_beside_held, work_apart};
 use crate::waits::wait_for_marks;
@@ -48,7 +47,6 @@ enum Case {
     Armed,
     Modes,
     Ends,
-    Lost,
     Strange,
     Waits,
     Apart,
@@ -101,7 +99,6 @@ where
             write_disarmed(rt, alloc, &board, &mut first[0], &mut rest[0], notice);
         }
         Case::Armed => lose_armed(rt, &board, &mut first[0]),
-        Case::Lost => lose_disarmed(rt, &board),
         Case::Modes => save_by_hand(rt, &board, &mut first[0]),
         Case::Goes => work_by_turns(rt, &board, &mut first[0]),
         Case::Strange => write_armed(rt, &board, &mut first[0]),
@@ -112,7 +109,6 @@ where
         _ => end_workers(rt, &board, &mut first[0]),
     }
     match case {
-        Case::Lost => ends_at(rt, board, hosts, AMPLE - 1),
         Case::Strange => end_armed(rt, board, hosts),
         Case::Waits => end_seen(rt, board, hosts),
         Case::Cuts => end_behind_cuts(rt, board, hosts),
@@ -229,11 +225,6 @@ fn saves_by_hand_and_by_the_saver(rt: HostRuntime) {
 #[test]
 fn workers_end(rt: HostRuntime) {
     try_case(&rt, rt.alloc(), Case::Ends);
-}
-
-#[test]
-fn a_loss_while_disarmed_reads_no_gauge(rt: HostRuntime) {
-    try_case(&rt, rt.alloc(), Case::Lost);
 }
 
 #[test]

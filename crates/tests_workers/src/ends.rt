@@ -6,7 +6,7 @@ use channel_locks::PartsName;
 use channel_port::ChannelPort;
 use energy_budget::Energy;
 use notice_book::Notices;
-use nv_workers::{BoardName, Closed, Cut, Host, Receipt, RecordedModule, Seen, Stranger};
+use nv_workers::{BoardName, Cut, Host, Receipt, Seen, Stranger};
 use save_device::SaveDevice;
 use split_board::{Board, NotClosed, close};
 use std::process::Abort;
@@ -46,29 +46,6 @@ where
         Err(left) => (cut_of(0, 0, 0), left.stranger.index),
     };
     same(rt, got, wanted);
-}
-
-/// Fails where a board isn't closed, or where its gauge shows another level then.
-pub(crate) fn ends_at<K, D, E, B, N, R>(
-    rt: &R,
-    board: Board<K, D, E, B, N>,
-    hosts: Vec<Host<B>>,
-    level: u64,
-)
-where
-    K: ChannelPort + Drop,
-    D: SaveDevice + Drop,
-    E: Energy + Drop,
-    B: BoardName + PartsName,
-    N: Notices + Drop,
-    R: Abort,
-    requires { length hosts.items ≡ B.parts }
-{
-    let Ok(Closed { recorded, .. }) = close(board, hosts, &[], &[]) else {
-        panic!(*rt; "a stranger");
-    };
-    let RecordedModule { mut energy, .. } = recorded;
-    same(rt, energy.sense(), level);
 }
 
 /// Fails where a board is closed, or where another than this is the stranger. The board and its hosts are left.

@@ -29,13 +29,7 @@ mod marks;
 #[cfg(test)]
 mod notices;
 #[cfg(test)]
-mod orders;
-#[cfg(test)]
-mod quiet;
-#[cfg(test)]
 mod silent;
-#[cfg(test)]
-mod sleeping;
 #[cfg(test)]
 mod together;
 #[cfg(test)]

@@ -7,7 +7,6 @@ use crate::amid::lose_beside_held;
 use crate::cases::{AMPLE, CHANNELS, write_of};
 use crate::check::same;
 use crate::inside::{InsideUntil, LIMIT, NeverInside};
-use crate::orders::wait_in_order;
 use crate::silent::Silent;
 use arm_state::{ReadRefusal, WriteRefusal};
 use channel_locks::PartsName;
@@ -48,7 +47,6 @@ enum Case {
     Never,
     Crowded,
     Lost,
-    Order,
 }
 
 /// What a host was told while another channel's lock was held.
@@ -240,7 +238,6 @@ where
         Case::Behind => call_behind_held(rt, &board, hosts.pop().expect(rt, "a host")),
         Case::Never => hold_inside(rt, &board),
         Case::Crowded => crowd_one_channel(rt, alloc, &board, hosts),
-        Case::Order => wait_in_order(rt, &board, hosts.pop().expect(rt, "a host")),
         Case::Lost => lose_beside_held(rt, &board, &mut hosts.pop().expect(rt, "a host")),
     }
 }
@@ -315,9 +312,4 @@ fn hosts_crowd_one_channel(rt: HostRuntime) {
 #[test]
 fn a_loss_waits_for_workers_that_hold_their_channels(rt: HostRuntime) {
     try_locks(&rt, rt.alloc(), Case::Lost);
-}
-
-#[test]
-fn who_waits_for_a_lock_holds_none_behind_it(rt: HostRuntime) {
-    try_locks(&rt, rt.alloc(), Case::Order);
 }
