@@ -10,7 +10,6 @@ ghost use Rattle.frfcfs.specs.Scan.{AreScanned, IsScanFound, flag_of};
 ghost use Rattle.frfcfs.specs.Search.{AreBest, AreEnds, AreFound, AreMarks, HasEligibleIn, IsBest, IsEnd, IsFound, Takes, limit_of, no_bests};
 
 use crate::best::{Best, Bests};
-use crate::hits::is_eligible;
 use crate::pending::{Kind, Pending};
 use crate::search::ends;
 use bank_core::banks::Banks;
@@ -37,6 +36,13 @@ fn flag(bank: usize, kind: Kind) -> usize
         Kind::Read => 2 * bank,
         Kind::Write => 2 * bank + 1,
     }
+}
+
+// Is the request eligible, where its mark says whether it is the first of its line?
+fn is_free(first: bool, request: &Pending) -> bool
+    ensures { IsTrue result ↔ (IsTrue first × (request.now.held ≡ false)) }
+{
+    first && !request.held
 }
 
 impl Scan {
@@ -117,10 +123,9 @@ impl Scan {
             AreEnds banks.now.checked list last ends.now →
             AreScanned banks.now.checked list pending.now now last (limit_of last) (length pending.now) self.new }
     {
-        let geometry = &banks.checked().geometry;
         let mut any = false;
         for (index, request) in pending.iter().enumerate() {
-            if is_eligible(geometry, pending, marks, index) {
+            if is_free(marks[index], request) {
                 any = true;
                 let end = ends[request.place.rank as usize];
                 self.look(banks, request, index, now, end);

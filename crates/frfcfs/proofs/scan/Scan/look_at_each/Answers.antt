@@ -1,11 +1,11 @@
-use Rattle.std.proofs.Common.{◌≡◌, ap, arith, length, subst, true, false}
+use Rattle.std.proofs.Common.{◌≡◌, ◌<◌, arith, length, true, false}
 use Rattle.std.proofs.lemmas.Option.{get_or_from_slice_get, slice_get_within}
-use Rattle.frfcfs.proofs.Common.{Geometry, limit_of}
-use Rattle.frfcfs.proofs.HitLemmas.{IsLook, WaitsAt, eligible_there, kept_flag, none_waits, set_flag, waits_there}
+use Rattle.frfcfs.proofs.Common.{limit_of}
+use Rattle.frfcfs.proofs.HitLemmas.{WaitsAt, eligible_there, kept_flag, none_waits, set_flag, waits_there}
 use Rattle.frfcfs.proofs.Lists.{something_at}
-use Rattle.frfcfs.proofs.ScanOthers.{found_none, scan_none, scan_past}
+use Rattle.frfcfs.proofs.ScanOthers.{found_none, free_look, scan_none, scan_past}
 use Rattle.frfcfs.proofs.scan.Scan.look_at_each.Goals as goal
-use Rattle.frfcfs.proofs.scan.Scan.look_at_each.Goals.{then-is_eligible, else-is_eligible}
+use Rattle.frfcfs.proofs.scan.Scan.look_at_each.Goals.{then-is_free, else-is_free}
 
 pub loop-index-init : goal.loop-index-init
 loop-index-init c = record {
@@ -38,19 +38,19 @@ loop-index-preserved c =
     let b = c.args.banks.now.checked in
     let pending = c.args.pending.now in
     let index = c.loop-index.index in
-    let same = ap (λ x. x.geometry) c.checked.ensures in
+    let marked : index < length c.args.marks.now = omega (arith, c.requires.size, c.loop-index-test.true) in
     let within = c.loop-index-test.true in
     let before = c.loop-index.invariant in
-    elim c.if-is_eligible.branch [
-      | then-is_eligible w ↦
-          let look = subst (λ (x : Geometry). IsLook x pending index true) same w.if-is_eligible.ensures in
+    elim c.if-is_free.branch [
+      | then-is_free w ↦
+          let look = free_look b.geometry pending c.args.marks.now index true _ c.requires.marks marked within w.if-is_free.ensures in
           let (el, bank) = eligible_there b.geometry pending index _ within look in record {
             any = set_flag (WaitsAt b.geometry pending) _ index w.any-is (waits_there b.geometry pending index within look);
             found = rw w.self-is (w.look.ensures.found pending (limit_of c.args.last) (c.requires.early _) el before.found);
             scanned = λ list s ends. rw w.self-is (w.look.ensures.scanned list pending c.args.last (limit_of c.args.last) s (ends _ bank.rank) (c.requires.early _) el (before.scanned list s ends));
           }
-      | else-is_eligible w ↦
-          let none = none_waits b.geometry pending index (subst (λ (x : Geometry). IsLook x pending index false) same w.if-is_eligible.ensures) in record {
+      | else-is_free w ↦
+          let none = none_waits b.geometry pending index (free_look b.geometry pending c.args.marks.now index false _ c.requires.marks marked within w.if-is_free.ensures) in record {
             any = kept_flag (WaitsAt b.geometry pending) c.loop-index.any _ index w.any-is none before.any;
             found = rw w.self-is before.found;
             scanned = λ list s ends. rw w.self-is (scan_past b list pending c.args.now c.args.last (limit_of c.args.last) index c.loop-index.self none (before.scanned list s ends));
