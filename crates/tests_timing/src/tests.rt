@@ -8,3 +8,4 @@ mod lists;
 mod maps;
 mod profiles;
 mod refreshes;
+mod searches;
