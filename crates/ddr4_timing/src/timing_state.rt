@@ -133,7 +133,7 @@ impl TimingState {
     }
 
     /// The least clock by every rule but the one on rows and the refresh deadline.
-    #[inline]
+    #[inline(always)]
     #[tactic(auto, unfolding(crate::specs::Floors::least_clock))]
     pub fn least_clock(&self, t: &Timing, g: &Geometry, cmd: &Command) -> u64
         requires few { HasFewBanks g.now }
