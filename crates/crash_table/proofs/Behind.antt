@@ -37,7 +37,7 @@ use Rattle.script_runner.specs.Story.{Exchange, known_after}
 use Rattle.script_runner.proofs.Bearing.{back_at_rest, the_ledger}
 use Rattle.script_runner.proofs.Telling.{restored_truly}
 use Rattle.crash_table.specs.Lefts.{IsBehind}
-use Rattle.crash_table.specs.Outcomes.{IsFoundOf, IsOutcomeOf, IsRestoreOf, LeavesBehind}
+use Rattle.crash_table.specs.Outcomes.{EndsWithFault, IsFoundOf, IsOutcomeOf, IsRestoreOf, LeavesBehind, MayEnd}
 use Rattle.crash_table.specs.declared.outcome.Outcome.{Outcome}
 use Rattle.crash_table.specs.declared.trials.Behind.{Behind}
 
@@ -134,4 +134,12 @@ outcome_found size behind is image pick outcome may found = record {
   given = found.0;
   holds = found.1 (known_after None is.leaves.story) pick (is.leaves.left image may);
   found = ap (λ (o : Outcome). o.found) found.2;
+}
+
+-- whether the run ended with a fault
+pub behind_ends : (size : ℕ) (behind : Behind) → IsBehind size behind → MayEnd size behind.lines.items behind.fails
+behind_ends size behind is = record {
+  story = is.leaves.story;
+  run = is.leaves.run;
+  ends = subst (λ (some : List Answer). EndsWithFault some behind.fails) is.leaves.said is.fails;
 }

@@ -1,5 +1,5 @@
--- Runs of lines: of which the last is a restore, and which end with a fault.
-use Rattle.std.proofs.Common.{◌≡◌, ◌∙◌, inl, inr, ℕ, ◌-◌, ◌^◌, Bool, true, List, [], ◌∷◌, ◌++◌, length, map, All, Option, Some, None, refl, sym, ap, subst, arith}
+-- Runs of lines of which the last is a restore.
+use Rattle.std.proofs.Common.{◌≡◌, ◌∙◌, inl, inr, ℕ, ◌-◌, true, List, [], ◌∷◌, ◌++◌, length, map, All, Option, Some, None, refl, sym, ap, subst, arith}
 use Rattle.std.specs.Option.{unwrap_or}
 use Rattle.std.proofs.lemmas.List.{append-nil, get_or_append_left, get_or_at, length-append, same_from_push}
 use Rattle.std.proofs.lemmas.List.Elements.{All-append, All-cons, All-nil, All-from_get_or}
@@ -15,11 +15,8 @@ use Rattle.nv_script.specs.declared.answer.Answer.TheVariants as answer
 use Rattle.script_runner.specs.Ledger.{Ledger, IsTrueBy, IsTrueOf}
 use Rattle.script_runner.specs.Story.{Exchange, AreAllAnswered, AreTrueOf, FillTurns, IsTrueStory, IsWhole, known_after, known_behind_all, turns_of}
 use Rattle.crash_table.specs.declared.outcome.Outcome.{Outcome}
-use Rattle.crash_table.specs.declared.stop.Stop.{Stop}
-use Rattle.crash_table.specs.declared.stop.Stop.TheVariants.{Dark, Loss}
 use Rattle.crash_table.specs.Counting.{writes_found, is_complete, missing}
-use Rattle.crash_table.specs.Stops.{stopped_lines}
-use Rattle.crash_table.specs.Outcomes.{EndsWithFault, IsOutcomeOf, MayEnd, found_by, told_of}
+use Rattle.crash_table.specs.Outcomes.{IsOutcomeOf, found_by, told_of}
 use Rattle.crash_table.proofs.Told.{answers_in, told_all, told_is}
 
 abbrev lines_in : List Exchange → List ScriptLine
@@ -128,25 +125,7 @@ complete_lacks_none size lines pick outcome restored complete =
     ap (λ (n : ℕ). n - writes_found outcome.found) restored.told ∙ ap (λ found. told_of known - writes_found found) restored.found in
     same ∙ lacks_none size known restored.given restored.holds.holds (sym (ap is_complete restored.found) ∙ complete)
 
--- answers of a run tell how it ends
-pub may_end : (size : ℕ) (lines : List ScriptLine) (answers : List Answer) (fails : Bool) → AreAllAnswered size lines [] answers → EndsWithFault answers fails → MayEnd size lines fails
-may_end size lines answers fails all ends = record {
-  story = all.answered.story;
-  run = record { asked = all.answered.asked_are; holds = all.answered.holds; whole = all.whole };
-  ends = subst (λ (some : List Answer). EndsWithFault some fails) all.answered.answers_are ends;
-}
-
 -- the lines that are run name channels that are there
-pub names_stopped : (geometry : Geometry) (before : List ScriptLine) (last : ScriptLine) (stop : Stop) → All (NamesChannelOf geometry) before → NamesChannelOf geometry last
-    → All (NamesChannelOf geometry) (stopped_lines before last stop)
-names_stopped geometry before last (Dark calls) names name =
-    let P : ScriptLine → Type 0 = NamesChannelOf geometry in
-    All-append P before (line.OneFault (2 ^ 64 - 1) ∷ line.Fuse (Some calls) ∷ last ∷ []) names
-    (All-cons P (line.OneFault (2 ^ 64 - 1)) (line.Fuse (Some calls) ∷ last ∷ []) tt (All-cons P (line.Fuse (Some calls)) (last ∷ []) tt (All-cons P last [] name (All-nil P))))
-names_stopped geometry before last Loss names name =
-    let P : ScriptLine → Type 0 = NamesChannelOf geometry in
-    All-append P before (last ∷ line.Lose ∷ []) names (All-cons P last (line.Lose ∷ []) name (All-cons P line.Lose [] tt (All-nil P)))
-
 pub names_restored : (geometry : Geometry) (lines : List ScriptLine) (pick : Pick) → All (NamesChannelOf geometry) lines → All (NamesChannelOf geometry) (lines ++ restore_by pick ∷ [])
 names_restored geometry lines pick names =
     let P : ScriptLine → Type 0 = NamesChannelOf geometry in All-append P lines (restore_by pick ∷ []) names (All-cons P (restore_by pick) [] tt (All-nil P))

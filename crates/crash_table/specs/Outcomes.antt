@@ -1,5 +1,5 @@
 -- What a restore finds behind lines of a script, and what is tried of a line.
-use Rattle.std.specs.Prelude.{◌≡◌, ℕ, ◌<◌, ◌-◌, max, Bool, true, false, List, length, map, All, Option, Some, None, slice_get, MatchOption}
+use Rattle.std.specs.Prelude.{◌≡◌, ℕ, ◌<◌, ◌-◌, max, Bool, true, false, List, [], ◌∷◌, ◌++◌, length, map, All, Option, Some, None, slice_get, MatchOption}
 use Rattle.std.specs.List.{flat_map}
 use Rattle.std.specs.Option.{option_map}
 use Rattle.save_device.specs.Device.{MayLeave, present}
@@ -25,7 +25,7 @@ use Rattle.crash_table.specs.declared.outcome.Outcome.{Outcome}
 use Rattle.crash_table.specs.declared.stop.Stop.{Stop}
 use Rattle.crash_table.specs.declared.stop.Stop.TheVariants.{Dark}
 use Rattle.crash_table.specs.declared.tried.Tried.{Tried}
-use Rattle.crash_table.specs.Stops.{stopped_lines, stops_of, with_each_pick}
+use Rattle.crash_table.specs.Stops.{dark_below, stopped_lines, stops_of, with_each_pick}
 
 -- these lines were run from the first to the last on a device of zero bytes of so many lines, and each answer is true
 pub record IsTrueRun (size : ℕ) (lines : List ScriptLine) (story : List Exchange) : Type 0 where
@@ -112,6 +112,13 @@ tried_at tried = (tried.stop, tried.pick)
 -- what was tried is the restore of the device that its stop left, by its pick
 abbrev pub IsTried : ℕ → List ScriptLine → ScriptLine → Tried → Type 0
 IsTried size before last tried = IsOutcomeOf size (stopped_lines before last tried.stop) tried.pick tried.outcome
+
+-- darkness behind each call of a line, and behind the line, was tried with each pick
+pub record AreTriedDark (size : ℕ) (before : List ScriptLine) (last : ScriptLine) (tried : List Tried) : Type 0 where
+  pub calls : ℕ
+  pub makes : MakesDeviceCalls size before last calls
+  pub each : map tried_at tried ≡ with_each_pick (dark_below calls ++ Dark calls ∷ [])
+  pub are : All (IsTried size before last) tried
 
 -- Each stop of a line was tried with each pick.
 pub record AreTried (size : ℕ) (before : List ScriptLine) (last : ScriptLine) (tried : List Tried) : Type 0 where

@@ -5,10 +5,10 @@ ghost use Rattle.save_device.specs.declared.memory.Pick.{Pick};
 ghost use Rattle.slot_store.specs.Slots.{device_size};
 ghost use Rattle.nv_script.specs.Line.{NamesChannelOf};
 ghost use Rattle.script_runner.specs.Story.{AreAllAnswered, GivesOut};
-ghost use Rattle.crash_table.specs.Stops.{picks, with_picks};
+ghost use Rattle.crash_table.specs.Stops.{picks, stopped_lines, with_picks};
 ghost use Rattle.crash_table.specs.Counting.{complete_ones, most_missing};
 ghost use Rattle.crash_table.specs.Lefts.{IsBehind};
-ghost use Rattle.crash_table.specs.Outcomes.{AreTried, IsFoundOf, IsOutcomeOf, IsRestoreOf, IsTried, LeavesBehind, MakesDeviceCalls, MayEnd, tried_at};
+ghost use Rattle.crash_table.specs.Outcomes.{AreTried, AreTriedDark, IsFoundOf, IsOutcomeOf, IsRestoreOf, IsTried, LeavesBehind, MayEnd, tried_at};
 ghost use Rattle.crash_table.specs.Tables.{TellsEach};
 
 use crate::answers::{Answers, ends_with_fault, told_in};
@@ -39,12 +39,21 @@ struct Ran {
     device: MemoryDevice,
 }
 
-// Lines that were run: how many writes were told to be persistent, and what a stop may leave of the device, where that is known.
+// Lines that were run: how many writes were told to be persistent, whether the last answer told a fault of the device, and what a
+// stop may leave of that, where it is known.
 #[derive(Drop)]
 struct Behind {
     lines: Vec<ScriptLine>,
     told: u64,
+    fails: bool,
     left: Option<Left>,
+}
+
+// A stop that was tried with each pick, and whether a fault of the device was told behind it.
+#[derive(Drop)]
+struct TriedStop {
+    tried: Vec<Tried>,
+    fails: bool,
 }
 
 /// The trials of a profile. A stop is a run of lines from the first on, on a device of its own; what it leaves by each pick is
@@ -137,8 +146,14 @@ impl<'p> Trials<'p> {
     {
         let Ran { answers, device } = self.run(&lines, &mut CommandBook::closed(self.alloc))?;
         let told = told_in(&answers).unwrap_or(0);
+        let fails = ends_with_fault(&answers);
         let left = Left::of(self.alloc, device)?;
-        Ok(Behind { lines, told, left })
+        Ok(Behind {
+            lines,
+            told,
+            fails,
+            left,
+        })
     }
 
     // What a restore answers on a device that a stop left with these bytes.
@@ -253,47 +268,23 @@ impl<'p> Trials<'p> {
         })
     }
 
-    // Does a run of these lines end with a fault of the device?
-    fn fails(&self, lines: &[ScriptLine]) -> Result<bool, ScriptFault>
-        requires { All (NamesChannelOf self.now.profile.now.checked.geometry) lines.now }
-        ensures ends { IfOk result (MayEnd
-            (lines_of self.now.profile.now.checked.geometry) lines.now) }
-        ensures fault { IfErr result GivesOut }
-    {
-        let answers = self.answers(lines)?;
-        Ok(ends_with_fault(&answers))
-    }
-
-    /// How many calls of the device a line makes behind others. Refused only where there is no memory.
-    pub fn calls(&self, before: &[ScriptLine], line: ScriptLine) -> Result<u64, ScriptFault>
-        requires before { All (NamesChannelOf self.now.profile.now.checked.geometry) before.now }
-        requires line { NamesChannelOf self.now.profile.now.checked.geometry line }
-        ensures makes { IfOk result (MakesDeviceCalls
-            (lines_of self.now.profile.now.checked.geometry) before.now line) }
-        ensures fault { IfErr result GivesOut }
-    {
-        for calls in 0..u64::MAX {
-            let lines = Stop::Dark { calls }.lines(self.alloc, before, line)?;
-            if !self.fails(&lines)? {
-                return Ok(calls);
-            }
-        }
-        // no line makes so many
-        Err(ScriptFault::Memory)
-    }
-
     // A stop with each pick.
     fn try_stop(
         &self,
         before: &[ScriptLine],
         line: ScriptLine,
         stop: Stop,
-    ) -> Result<Vec<Tried>, ScriptFault>
+    ) -> Result<TriedStop, ScriptFault>
         requires before { All (NamesChannelOf self.now.profile.now.checked.geometry) before.now }
         requires line { NamesChannelOf self.now.profile.now.checked.geometry line }
-        ensures each { IfOk result (λ tried. map tried_at tried.items ≡ with_picks picks stop) }
-        ensures are { IfOk result (λ tried. All (IsTried
-            (lines_of self.now.profile.now.checked.geometry) before.now line) tried.items) }
+        ensures each { IfOk result (λ stopped.
+            map tried_at stopped.tried.items ≡ with_picks picks stop) }
+        ensures are { IfOk result (λ stopped. All (IsTried
+            (lines_of self.now.profile.now.checked.geometry) before.now line)
+            stopped.tried.items) }
+        ensures ends { IfOk result (λ stopped. MayEnd
+            (lines_of self.now.profile.now.checked.geometry)
+            (stopped_lines before.now line stop) stopped.fails) }
         ensures fault { IfErr result GivesOut }
     {
         let lines = stop.lines(self.alloc, before, line)?;
@@ -308,7 +299,30 @@ impl<'p> Trials<'p> {
                 outcome,
             }])?;
         }
-        Ok(tried)
+        Ok(TriedStop {
+            tried,
+            fails: behind.fails,
+        })
+    }
+
+    // Darkness behind each number of device calls that a line makes, and behind the line, each with each pick.
+    fn tried_dark(&self, before: &[ScriptLine], line: ScriptLine) -> Result<Vec<Tried>, ScriptFault>
+        requires before { All (NamesChannelOf self.now.profile.now.checked.geometry) before.now }
+        requires line { NamesChannelOf self.now.profile.now.checked.geometry line }
+        ensures dark { IfOk result (λ tried. AreTriedDark
+            (lines_of self.now.profile.now.checked.geometry) before.now line tried.items) }
+        ensures fault { IfErr result GivesOut }
+    {
+        let mut tried = Vec::new(self.alloc);
+        for calls in 0..u64::MAX {
+            let dark = self.try_stop(before, line, Stop::Dark { calls })?;
+            tried.extend_from_slice(&dark.tried)?;
+            if !dark.fails {
+                return Ok(tried);
+            }
+        }
+        // no line makes so many calls
+        Err(ScriptFault::Memory)
     }
 
     /// Each stop of a line, with each pick: darkness behind each number of device calls that the line makes, darkness behind the
@@ -322,16 +336,9 @@ impl<'p> Trials<'p> {
         ensures complete { IfOk result (λ tried. most_missing (complete_ones tried.items) ≡ 0) }
         ensures fault { IfErr result GivesOut }
     {
-        let made = self.calls(before, line)?;
-        let mut tried = Vec::new(self.alloc);
-        for calls in 0..made {
-            let dark = self.try_stop(before, line, Stop::Dark { calls })?;
-            tried.extend_from_slice(&dark)?;
-        }
-        let behind = self.try_stop(before, line, Stop::Dark { calls: made })?;
-        tried.extend_from_slice(&behind)?;
+        let mut tried = self.tried_dark(before, line)?;
         let lost = self.try_stop(before, line, Stop::Loss)?;
-        tried.extend_from_slice(&lost)?;
+        tried.extend_from_slice(&lost.tried)?;
         Ok(tried)
     }
 

@@ -6,7 +6,8 @@ use Rattle.save_device.specs.declared.memory.Pick.{Pick}
 use Rattle.save_device.specs.declared.memory.Pick.TheVariants.{Old}
 use Rattle.crash_table.specs.declared.tried.Tried.{Tried}
 use Rattle.crash_table.specs.Stops.{picks, stopped_lines}
-use Rattle.crash_table.specs.Outcomes.{IsOutcomeOf, IsTried, tried_at}
+use Rattle.crash_table.specs.Outcomes.{IsOutcomeOf, IsTried, MayEnd, tried_at}
+use Rattle.crash_table.proofs.Behind.{behind_ends}
 use Rattle.crash_table.proofs.Trying.{pick_more}
 use Rattle.crash_table.proofs.trials.Trials.try_stop.Goals as goal
 
@@ -25,3 +26,9 @@ loop-pick-preserved c =
       each = ap (map tried_at) items ∙ pick_more picks c.args.stop c.loop-pick.pick-index Old c.loop-pick.tried.items c.in_ok-outcome.outcome c.loop-pick-test.true c.loop-pick.invariant.each;
       are = subst (All (IsTried size before c.args.line)) (sym items) are;
     }
+
+pub returns-clause-ends : goal.returns-clause-ends
+returns-clause-ends c =
+    let size : ℕ = lines_of c.args.self.now.profile.now.checked.geometry in
+    subst (λ (lines : List ScriptLine). MayEnd size lines c.in_ok-behind.behind.fails) (c.in_ok-behind.ensures.lines ∙ c.in_ok-lines.ensures)
+    (behind_ends size c.in_ok-behind.behind c.in_ok-behind.ensures.behind)

@@ -1,9 +1,0 @@
-use Rattle.std.proofs.Common.{ℕ, ◌<◌, true}
-use Rattle.ddr4_timing.specs.Limits.{lines_of}
-use Rattle.crash_table.specs.declared.stop.Stop.TheVariants.{Dark}
-use Rattle.crash_table.specs.Stops.{stopped_lines}
-use Rattle.crash_table.specs.Outcomes.{MayEnd}
-use Rattle.crash_table.proofs.trials.Trials.calls.Given as goal
-
-abbrev pub invariant-loop-calls : goal.invariant-loop-calls
-invariant-loop-calls l = (fewer : ℕ) → fewer < l.calls → MayEnd (lines_of l.self.profile.now.checked.geometry) (stopped_lines l.before l.line (Dark fewer)) true
