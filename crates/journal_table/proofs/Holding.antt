@@ -1,6 +1,6 @@
 -- What a change of a map comes to, by the bytes of keys.
 use Rattle.std.proofs.Common.{◌≡◌, ◌∙◌, ◌<◌, ◌≤◌, ◌^◌, inl, inr, ℕ, List, ap, arith, length, refl, subst, sym}
-use Rattle.std.specs.Prelude.{Bool, true, false, cond, Option, Vec, bytes_eq, if◌then◌else◌, option_map}
+use Rattle.std.specs.Prelude.{Bool, true, false, cond, Option, Some, Vec, bytes_eq, if◌then◌else◌, option_map}
 use Rattle.std.specs.Cmp.Lexicographic.{nat_list_eq_equiv}
 use Rattle.std.specs.HashMap.{HashMap, IsReordered, UpdatesBy, get_by}
 use Rattle.std.specs.Map.{AreApart, IsKeyTest, KeepsOthers, lookup}
@@ -21,7 +21,7 @@ chosen : {X Y : Type 0} (f : X → Y) (b : Bool) (one other : X) → f (cond b o
 chosen f true one other = refl
 chosen f false one other = refl
 
-abbrev item : {A : Type 0} → Option (Vec ℕ A) → Option (List ℕ)
+abbrev pub item : {A : Type 0} → Option (Vec ℕ A) → Option (List ℕ)
 item found = option_map (λ v. v.items) found
 
 module _ {A S : Type 0} (bs : List ℕ) (m n : HashMap (Vec ℕ A) (Vec ℕ A) S) (w : Option (Vec ℕ A)) (h : UpdatesBy (λ x y. bytes_eq x.items y.items) (λ k. bytes_eq bs k.items) m n w) where
@@ -40,6 +40,19 @@ module _ {A S : Type 0} (bs : List ℕ) (m n : HashMap (Vec ℕ A) (Vec ℕ A) S
       ap item (found cs)
       ∙ chosen item (bytes_eq bs cs) w (get_by (λ k. bytes_eq cs k.items) m)
       ∙ ap (λ (b : Bool). if b then item w else held m cs) (nat_list_eq_equiv.symm bs cs)
+
+  -- where the value that is written is the one that was there
+  pub held_kept : (w' : Vec ℕ A) → w ≡ Some w' → held m bs ≡ Some w'.items → (cs : List ℕ) → held n cs ≡ held m cs
+  held_kept w' is had cs =
+      elim (cases_Bool (bytes_eq cs bs)) [
+        | inl y ↦
+            held_changed cs
+            ∙ ap (λ (b : Bool). if b then item w else held m cs) y
+            ∙ ap item is
+            ∙ sym had
+            ∙ ap (held m) (sym ((bytes_eq-Decides cs bs).0 y))
+        | inr n' ↦ held_changed cs ∙ ap (λ (b : Bool). if b then item w else held m cs) n'
+      ]
 
 -- a vector with other items
 module _ {A : Type 0} (v : Vec ℕ A) (items : List ℕ) (short : length items < 2 ^ 63) where

@@ -1,6 +1,6 @@
 -- A program's table goes on with a change.
 use Rattle.std.proofs.Common.{◌≡◌, ◌∙◌, ◌<◌, ◌≤◌, ◌^◌, inl, inr, ℕ, List, [], ◌∷◌, ap, arith, length, refl, subst, sym}
-use Rattle.std.specs.Prelude.{false, Err, IfSome, None, Ok, OnOk, Option, Result, Some, Vec, bytes_eq, is_err, option_map}
+use Rattle.std.specs.Prelude.{false, Err, IfOk, IfSome, None, Ok, OnOk, Option, Result, Some, Vec, bytes_eq, is_err, option_map}
 use Rattle.std.specs.HashMap.{HashMap, IsReordered}
 use Rattle.std.specs.Map.{lookup}
 use Rattle.std.proofs.lemmas.Bool.{cases_Bool, cases_lt, cond-false}
@@ -20,6 +20,11 @@ use Rattle.journal_table.proofs.Holding.{held_reordered}
 pub from_ok : {X Y P : Type 0} (result : Result X Y) → is_err result ≡ false → OnOk result P → P
 from_ok (Ok x) good is = is
 from_ok (Err y) good is = absurd (let bad : ⊥ = cc in bad)
+
+-- what a good result promises, from what it promised
+pub ok_with : {X Y : Type 0} {P Q : X → Type 0} (result : Result X Y) → ((x : X) → P x → Q x) → IfOk result P → IfOk result Q
+ok_with (Ok x) more is = more x is
+ok_with (Err y) more is = is
 
 pub from_some : {X : Type 0} (P : X → Type 0) (found : Option X) (x : X) → found ≡ Some x → IfSome found P → P x
 from_some {X} P found x is said = subst (λ (f : Option X). IfSome f P) is said

@@ -1,5 +1,5 @@
 // The records of a table's changes, as bytes.
-ghost use Rattle.std.specs.Prelude.{◌≡◌, ◌≢◌, ◌∷◌, ◌++◌, ◌<◌, ◌≤◌, ◌^◌, List, ℕ, drop, length, take, IfNone, IfOk, IfSome};
+ghost use Rattle.std.specs.Prelude.{◌≡◌, ◌≢◌, ◌∷◌, ◌++◌, ◌<◌, ◌≤◌, ◌^◌, List, ℕ, drop, length, take, IfNone, IfOk, IfSome, OnOk};
 ghost use Rattle.std.specs.Int.{w64, from_le_bytes, to_le_bytes};
 ghost use Rattle.table_log.specs.Changes.{Change, Put, Remove, key_of, record_of};
 ghost use Rattle.journal_table.specs.Parts.{change_of};
@@ -9,18 +9,36 @@ use std::alloc::{AllocError, Global};
 /// How many bytes stand before the key.
 const BEFORE_KEY: usize = 9;
 
-// What a record says, how long its key is, the key, and a value.
-fn record_bytes(alloc: Global, word: u8, key: &[u8], value: &[u8]) -> Result<Vec<u8>, AllocError>
-    ensures { IfOk result (λ bytes. bytes.items
+// What a record says, how long its key is, the key, and a value, in place of what the bytes were.
+fn spell(bytes: &mut Vec<u8>, word: u8, key: &[u8], value: &[u8]) -> Result<(), AllocError>
+    ensures { OnOk result (bytes.new.items
         ≡ word ∷ (to_le_bytes w64 (length key.now) ++ (key.now ++ value.now))) }
 {
     let size = key.len().saturating_add(value.len());
-    let mut bytes = Vec::with_capacity(alloc, size.saturating_add(BEFORE_KEY))?;
+    bytes.clear();
+    bytes.reserve(size.saturating_add(BEFORE_KEY))?;
     bytes.push(word)?;
     bytes.extend_from_slice(&(key.len() as u64).to_le_bytes())?;
     bytes.extend_from_slice(key)?;
     bytes.extend_from_slice(value)?;
+    Ok(())
+}
+
+// The same in new memory.
+fn record_bytes(alloc: Global, word: u8, key: &[u8], value: &[u8]) -> Result<Vec<u8>, AllocError>
+    ensures { IfOk result (λ bytes. bytes.items
+        ≡ word ∷ (to_le_bytes w64 (length key.now) ++ (key.now ++ value.now))) }
+{
+    let mut bytes = Vec::new(alloc);
+    spell(&mut bytes, word, key, value)?;
     Ok(bytes)
+}
+
+/// The record of a key that gets a value, in place of what the bytes were. Refused only where there is no memory for it.
+pub(crate) fn spell_put(bytes: &mut Vec<u8>, key: &[u8], value: &[u8]) -> Result<(), AllocError>
+    ensures { OnOk result (bytes.new.items ≡ record_of (Put key.now value.now)) }
+{
+    spell(bytes, 1, key, value)
 }
 
 /// The record of a key that gets a value. Refused only where there is no memory for it.

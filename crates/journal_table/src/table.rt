@@ -8,8 +8,8 @@ ghost use Rattle.table_log.specs.Tables.{Changes, IsTable, Table, table_after, v
 ghost use Rattle.journal_table.specs.Values.{held};
 
 use crate::compaction::{cut, rewrite};
-use crate::record::{put_record, remove_record};
-use crate::values::{forget, values_of};
+use crate::record::{remove_record, spell_put};
+use crate::values::{forget, make_room, replace, values_of};
 use channel_port::ChannelPort;
 use journal_lines::OpenRefusal;
 use line_memory::Line;
@@ -50,6 +50,8 @@ pub enum CompactRefusal {
 pub struct JournalTable {
     pub(crate) journal: Journal,
     pub(crate) values: HashMap<Vec<u8>, Vec<u8>>,
+    // the record of the last put, whose memory the next one's takes
+    pub(crate) spelled: Vec<u8>,
 }
 
 impl JournalTable {
@@ -76,7 +78,11 @@ impl JournalTable {
             Err(OpenRefusal::Memory) => return Err(TableRefusal::Memory),
         };
         match values_of(alloc, &journal, memory) {
-            Ok(values) => Ok(JournalTable { journal, values }),
+            Ok(values) => Ok(JournalTable {
+                journal,
+                values,
+                spelled: Vec::new(alloc),
+            }),
             Err(refusal) => Err(refusal),
         }
     }
@@ -123,20 +129,60 @@ impl JournalTable {
         ensures lines { self.new.journal.index.lines ≡ self.old.journal.index.lines }
         ensures setup { setup_of K.ChannelPort nvdimm.new ≡ setup_of K.ChannelPort nvdimm.old }
     {
-        let Ok(record) = put_record(alloc, key, value) else {
+        if spell_put(&mut self.spelled, key, value).is_err() {
             return Err(AppendRefusal::Memory);
+        }
+        // all memory is taken before the append
+        let Some(held) = self.values.get_mut(key) else {
+            return self.put_new(alloc, nvdimm, key, value);
         };
+        if make_room(held, value).is_err() {
+            return Err(AppendRefusal::Memory);
+        }
+        match self.journal.append(nvdimm, &self.spelled) {
+            Ok(appended) => {
+                replace(held, value);
+                Ok(appended)
+            }
+            Err(refusal) => Err(refusal),
+        }
+    }
+
+    // A key that has no value gets one, where its record is spelled.
+    fn put_new<K: ChannelPort>(
+        &mut self,
+        alloc: Global,
+        nvdimm: &mut Module<K>,
+        key: &[u8],
+        value: &[u8],
+    ) -> Result<Appended, AppendRefusal>
+        requires { self.old.spelled.items ≡ record_of (Put key.now value.now) }
+        ensures done { IfOk result (λ appended.
+            IsMade K.ChannelPort (Reply.Write (Ok appended.head)) self.old.journal.index
+            (Append (record_of (Put key.now value.now))) nvdimm.old nvdimm.new) }
+        ensures room { IfOk result (λ appended.
+            HasRoom self.old.journal.index (record_of (Put key.now value.now))) }
+        ensures is { IfOk result (λ appended. (log : Log) (table : Table)
+            → IsTableOf self.old log table → IsTableOf self.new
+            (log_after self.old.journal.index.lines log (Append (record_of (Put key.now value.now))))
+            (table_after table (Changes (Put key.now value.now)))) }
+        ensures kept { IfErr result (λ refusal. (log : Log) (table : Table)
+            → IsTableOf self.old log table → IsTableOf self.new log table) }
+        ensures refused { IfErr result (λ refusal. IsAppendRefused K.ChannelPort refusal
+            self.old.journal.index (record_of (Put key.now value.now)) nvdimm.old nvdimm.new) }
+        ensures lines { self.new.journal.index.lines ≡ self.old.journal.index.lines }
+        ensures setup { setup_of K.ChannelPort nvdimm.new ≡ setup_of K.ChannelPort nvdimm.old }
+    {
         let Ok(key) = key.to_vec(alloc) else {
             return Err(AppendRefusal::Memory);
         };
         let Ok(value) = value.to_vec(alloc) else {
             return Err(AppendRefusal::Memory);
         };
-        // so that no memory is wanted behind the append
         if self.values.reserve(1).is_err() {
             return Err(AppendRefusal::Memory);
         }
-        match self.journal.append(nvdimm, &record) {
+        match self.journal.append(nvdimm, &self.spelled) {
             Ok(appended) => {
                 if self.values.insert(key, value).is_err() {
                     unreachable!()

@@ -1,5 +1,5 @@
 // The values of a table's keys.
-ghost use Rattle.std.specs.Prelude.{All, ◌≡◌, ◌-◌, ◌<◌, ◌^◌, List, ℕ, length, map, take, IfErr, IfOk, None, OnOk};
+ghost use Rattle.std.specs.Prelude.{All, ◌≡◌, ◌-◌, ◌<◌, ◌≤◌, ◌^◌, List, ℕ, length, map, take, IfErr, IfOk, None, OnOk, vec_capacity};
 ghost use Rattle.journal_log.specs.Log.{Holds, Log};
 ghost use Rattle.journal_lines.specs.Indexed.{IsIndexOf};
 ghost use Rattle.table_log.specs.Changes.{Change, Put, Remove, key_of, record_of, value_after, value_behind};
@@ -20,6 +20,25 @@ pub(crate) fn forget(values: &mut HashMap<Vec<u8>, Vec<u8>>, key: &[u8])
         ≡ value_behind other (held values.old other) (Remove key.now) }
 {
     let _value = values.remove(key);
+}
+
+/// Makes room for a value in place of another one.
+pub(crate) fn make_room(held: &mut Vec<u8>, value: &[u8]) -> Result<(), AllocError>
+    ensures same { held.new.items ≡ held.old.items }
+    ensures room { OnOk result (length value.now ≤ vec_capacity held.new) }
+{
+    held.reserve(value.len().saturating_sub(held.len()))
+}
+
+/// A value comes in place of another one.
+pub(crate) fn replace(held: &mut Vec<u8>, value: &[u8])
+    requires { length value.now ≤ vec_capacity held.old }
+    ensures { held.new.items ≡ value.now }
+{
+    held.clear();
+    if held.extend_from_slice(value).is_err() {
+        unreachable!()
+    }
 }
 
 // What a record says is done.

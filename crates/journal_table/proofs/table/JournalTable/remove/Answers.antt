@@ -17,7 +17,7 @@ returns-in-Ok-append-clause-done g c = λ log is.
 pub returns-in-Ok-append-clause-is : goal.returns-in-Ok-append-clause-is
 returns-in-Ok-append-clause-is g c = λ log table is.
     let lines : ℕ = c.args.self.now.journal.index.lines in
-    stands_behind c.args.self.now (record { journal = c.append.new.self; values = c.forget.new.values }) lines log table (Remove c.args.key.now) is
+    stands_behind c.args.self.now (record { journal = c.append.new.self; values = c.forget.new.values; spelled = c.args.self.now.spelled }) lines log table (Remove c.args.key.now) is
     (subst (λ (bytes : List ℕ). IsIndexOf c.append.new.self.index (log_after lines log (Append bytes))) (c.deref.ensures.value ∙ c.in-Ok.ensures) (c.in-Ok-append.ensures.is log is.index))
     (omega (arith, c.in-Ok.record.small, c.in-Ok.record.ok.0, ap (λ (k : List ℕ). length k) c.in-Ok.ensures, length-append (to_le_bytes w64 (length c.args.key.now)) c.args.key.now))
     c.forget.ensures
