@@ -7,13 +7,14 @@ ghost use Rattle.command_faults.specs.declared.fault.Fault.TheVariants.{EmptyTra
 use crate::command::status_by;
 use clap::ArgMatches;
 use command_faults::{Failure, Fault, Reason, bytes_of, flush, is_file, rules_of};
-use command_trace::{Source, TraceCheck, TraceFault};
+use command_trace::{Form, Source, TraceCheck, TraceFault};
 use ddr4_timing::timing::CommandRules;
 use report_json::{write_tallies, write_verdicts};
 use std::alloc::Global;
 use std::io::{Input, Write};
 use std::process::ExitCode;
 use std::rt::Files;
+use trace_statistics::{measure, write_statistics};
 
 /// Checks the trace that the words name. The exit status is 1 where the commands of a channel aren't lawful, and where there is
 /// none and the words don't allow that.
@@ -38,6 +39,7 @@ where
         allows_empty: matches.get_flag("allow-empty"),
         is_json: matches.get_flag("json"),
         all: matches.get_flag("all"),
+        stats: matches.get_flag("stats"),
     };
     match write_check(rt, &source, asked, &rules, writer) {
         Ok(checked) => {
@@ -58,6 +60,8 @@ struct Asked {
     is_json: bool,
     // whether every fault counts
     all: bool,
+    // whether the commands are counted
+    stats: bool,
 }
 
 // Checks a trace and writes what that tells, where the trace isn't one without a command that is to have some.
@@ -69,14 +73,39 @@ fn write_check<R: Files + AllocGlobal, W: Write>(
     writer: &mut W,
 ) -> Result<Result<ExitCode, Failure<'static>>, TraceFault> {
     let form = source.form(rt, asked.others)?;
-    let check = source.check(rt, form, rules)?;
-    match verdict(&check, rules, asked.allows_empty) {
+    if !asked.stats {
+        let check = source.check(rt, form, rules)?;
+        return write_checked(rt, source, form, asked, rules, &check, writer);
+    }
+    let measured = measure(rt, source, form, rules)?;
+    let checked = write_checked(rt, source, form, asked, rules, &measured.check, writer)?;
+    if checked.is_ok() {
+        if asked.is_json {
+            report_json::write_statistics(rt.alloc(), rules, &measured, writer)?;
+        } else {
+            write_statistics(rules, &measured, writer)?;
+        }
+    }
+    Ok(checked)
+}
+
+// Writes what the check of a trace tells.
+fn write_checked<R: Files + AllocGlobal, W: Write>(
+    rt: &R,
+    source: &Source<'_>,
+    form: Form,
+    asked: Asked,
+    rules: &CommandRules,
+    check: &TraceCheck,
+    writer: &mut W,
+) -> Result<Result<ExitCode, Failure<'static>>, TraceFault> {
+    match verdict(check, rules, asked.allows_empty) {
         Ok(code) => {
             match (asked.is_json, asked.all) {
-                (true, true) => write_tallies(rt, source, form, rules, &check, writer)?,
-                (true, false) => write_verdicts(rt, source, form, rules, &check, writer)?,
-                (false, true) => source.write_tallies(rt, form, rules, &check, writer)?,
-                (false, false) => source.write_verdicts(rt, form, rules, &check, writer)?,
+                (true, true) => write_tallies(rt, source, form, rules, check, writer)?,
+                (true, false) => write_verdicts(rt, source, form, rules, check, writer)?,
+                (false, true) => source.write_tallies(rt, form, rules, check, writer)?,
+                (false, false) => source.write_verdicts(rt, form, rules, check, writer)?,
             }
             Ok(Ok(code))
         }

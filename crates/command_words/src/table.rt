@@ -145,6 +145,11 @@ const CHECK: Verb = Verb {
             value: None,
             help: "Tells each rule that is broken, how often and where first; each command counts as issued",
         },
+        Switch {
+            name: "stats",
+            value: None,
+            help: "Counts the commands of each lawful channel and bank, and their hits, misses and conflicts of rows",
+        },
         JSON,
     ],
     any_of: &[],

@@ -99,7 +99,11 @@ pub fn write_verdicts<R: Files + AllocGlobal, W: Write>(
 }
 
 // Writes an object as a line.
-fn write_line<W: Write>(alloc: Global, object: &Value, writer: &mut W) -> Result<(), TraceFault> {
+pub(crate) fn write_line<W: Write>(
+    alloc: Global,
+    object: &Value,
+    writer: &mut W,
+) -> Result<(), TraceFault> {
     match write_object(alloc, object, writer) {
         Ok(()) => Ok(()),
         Err(ScriptFault::Memory) => Err(TraceFault::Memory),
