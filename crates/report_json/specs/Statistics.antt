@@ -1,7 +1,9 @@
 -- What the commands of a trace come to, as data.
-use Rattle.std.specs.Prelude.{ℕ, List, codes}
+use Rattle.std.specs.Prelude.{ℕ, List, Option, None, Some, codes}
 use Rattle.ddr4_timing.specs.declared.place.BankAddress.{BankAddress}
-use Rattle.serde_json.specs.Data.{Data, number, unsigned, string, object, Members, member, no_members}
+use Rattle.serde_json.specs.Data.{Data, null, number, unsigned, string, object, Members, member, no_members}
+use Rattle.trace_statistics.specs.Margins.{mean_of}
+use Rattle.trace_statistics.specs.declared.margins.Margins.{Margins}
 use Rattle.trace_statistics.specs.declared.numbers.BankNumbers.{BankNumbers}
 use Rattle.trace_statistics.specs.declared.numbers.RankNumbers.{RankNumbers}
 
@@ -32,3 +34,15 @@ abbrev pub shared_data : ℕ → RankNumbers → Data
 shared_data channel n =
     object (member (codes "answer") (string (codes "ranks")) (told (codes "channel") channel (told (codes "precharges") n.precharges
     (told (codes "refreshes") n.refreshes (told (codes "sleeps") n.sleeps no_members)))))
+
+-- null where there is none
+abbrev pub maybe_data : Option ℕ → Data
+maybe_data None = null
+maybe_data (Some n) = number (unsigned n)
+
+-- the refreshes of a rank, and what the rules left to spare
+abbrev pub rank_data : ℕ → ℕ → Margins → Data
+rank_data channel rank m =
+    object (member (codes "answer") (string (codes "rank")) (told (codes "channel") channel (member (codes "least") (maybe_data m.refresh)
+    (told (codes "longest") m.longest (told (codes "mean") (mean_of m) (told (codes "rank") rank (told (codes "refreshes") m.refreshes
+    (member (codes "window") (maybe_data m.window) no_members))))))))

@@ -8,5 +8,5 @@ mod verdicts;
 
 pub use crashes::{block_object, counts_object, stop_object, write_table};
 pub use meanings::{command_meaning_object, meaning_object};
-pub use statistics::{bank_object, channel_object, shared_object, write_statistics};
+pub use statistics::{bank_object, channel_object, rank_object, shared_object, write_statistics};
 pub use verdicts::{fault_object, lawful_object, tally_object, write_tallies, write_verdicts};

@@ -1,16 +1,16 @@
 // What the commands of a trace come to.
-ghost use Rattle.std.specs.Prelude.{◌≡◌, IfOk};
+ghost use Rattle.std.specs.Prelude.{◌≡◌, ◌<◌, IfOk};
 ghost use Rattle.serde_json.specs.View.{view};
-ghost use Rattle.report_json.specs.Statistics.{bank_data, channel_data, numbers_data, shared_data};
+ghost use Rattle.report_json.specs.Statistics.{bank_data, channel_data, maybe_data, numbers_data, rank_data, shared_data};
 
 use crate::verdicts::write_line;
-use command_trace::TraceFault;
+use command_trace::{MOST_CHANNELS, TraceFault};
 use ddr4_timing::place::BankAddress;
 use ddr4_timing::timing::CommandRules;
 use serde_json::{Value, json};
 use std::alloc::{AllocError, Global};
 use std::io::Write;
-use trace_statistics::{BankNumbers, Channel, Measured, RankNumbers};
+use trace_statistics::{BankNumbers, Channel, Margins, Measured, RankNumbers, TraceStatistics};
 
 // The object of how many commands of each kind went to banks, and of their hits, misses and conflicts.
 fn numbers_object(alloc: Global, numbers: &BankNumbers) -> Result<Value, AllocError>
@@ -67,8 +67,36 @@ pub fn shared_object(
     })
 }
 
-/// Writes the objects of each channel whose commands are lawful, each as a line: that of the channel, that of its ranks, and one of
-/// each bank that had a command.
+// A number, or null where there is none.
+fn maybe(number: Option<u64>) -> Value
+    ensures { view result ≡ maybe_data number }
+{
+    match number {
+        Some(number) => Value::from(number),
+        None => Value::Null,
+    }
+}
+
+/// The object of the refreshes of a rank, and of what the rules on refreshes and on four activates left to spare.
+pub fn rank_object(
+    alloc: Global,
+    channel: u64,
+    rank: u64,
+    margins: &Margins,
+) -> Result<Value, AllocError>
+    ensures { IfOk result (λ value. view value ≡ rank_data channel rank margins.now) }
+{
+    let least = maybe(margins.refresh);
+    let window = maybe(margins.window);
+    let mean = margins.mean();
+    json!(in alloc; {
+        "answer": "rank", "channel": channel, "least": least, "longest": margins.longest,
+        "mean": mean, "rank": rank, "refreshes": margins.refreshes, "window": window
+    })
+}
+
+/// Writes the objects of each channel whose commands are lawful, each as a line: that of the channel, that of its ranks together, one
+/// of each rank, and one of each bank that had a command.
 pub fn write_statistics<W: Write>(
     alloc: Global,
     rules: &CommandRules,
@@ -77,8 +105,7 @@ pub fn write_statistics<W: Write>(
 ) -> Result<(), TraceFault> {
     for channel in 0..rules.geometry.channels {
         if measured.check.is_lawful(rules, channel) {
-            let of = measured.statistics.channel(channel);
-            write_channel(alloc, rules, channel, of, writer)?;
+            write_channel(alloc, rules, channel, &measured.statistics, writer)?;
         }
     }
     Ok(())
@@ -89,14 +116,38 @@ fn write_channel<W: Write>(
     alloc: Global,
     rules: &CommandRules,
     channel: u64,
-    of: &Channel,
+    statistics: &TraceStatistics,
     writer: &mut W,
-) -> Result<(), TraceFault> {
+) -> Result<(), TraceFault>
+    requires { channel < MOST_CHANNELS }
+{
+    let of = statistics.channel(channel);
     let object = channel_object(alloc, channel, of.last(), &of.total())?;
     write_line(alloc, &object, writer)?;
     let object = shared_object(alloc, channel, &of.shared())?;
     write_line(alloc, &object, writer)?;
+    write_ranks(alloc, rules, channel, statistics, writer)?;
     write_banks(alloc, rules, channel, of, writer)
+}
+
+// Writes the object of each rank.
+fn write_ranks<W: Write>(
+    alloc: Global,
+    rules: &CommandRules,
+    channel: u64,
+    statistics: &TraceStatistics,
+    writer: &mut W,
+) -> Result<(), TraceFault>
+    requires { channel < MOST_CHANNELS }
+{
+    for rank in 0..8 {
+        if rank < rules.geometry.ranks {
+            let margins = statistics.margins(channel, rank);
+            let object = rank_object(alloc, channel, rank, &margins)?;
+            write_line(alloc, &object, writer)?;
+        }
+    }
+    Ok(())
 }
 
 // Did a bank have a command?

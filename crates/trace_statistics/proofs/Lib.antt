@@ -1,3 +1,5 @@
 pub mod Counting
 pub mod Banks
 pub mod Channels
+pub mod Turns
+pub mod RankTables

@@ -1,2 +1,4 @@
 pub mod Numbers
 pub mod Standing
+pub mod Margins
+pub mod MarginsStanding

@@ -5,6 +5,7 @@
 #![tactic(auto)]
 
 mod channel;
+mod margins;
 mod numbers;
 mod phase;
 mod rank;
@@ -13,6 +14,7 @@ mod stream;
 mod telling;
 
 pub use channel::Channel;
+pub use margins::{ChannelMargins, Margins, RankMargins};
 pub use numbers::{BankNumbers, RankNumbers};
 pub use phase::Phase;
 pub use statistics::TraceStatistics;

@@ -29,15 +29,16 @@ pub fn measure_trace<R: Read + Drop>(
     ensures whole { IfOk result (λ m. m.check.given.items ≡ reader.new.given.items) }
     ensures lawful { IfOk result (λ m. AreOfLawful rules.now
         m.check.given.items m.statistics.given.items) }
+    ensures rules { IfOk result (λ m. m.statistics.rules ≡ rules.now) }
 {
     let mut check = TraceCheck::new(rules);
-    let mut statistics = TraceStatistics::new();
+    let mut statistics = TraceStatistics::new(rules);
     for _ in 0..u64::MAX {
         let Some(found) = reader.next()? else {
             break;
         };
         if check.take(rules, &found) {
-            statistics.take(rules, &found);
+            statistics.take(&found);
         }
     }
     Ok(Measured { check, statistics })
@@ -53,6 +54,7 @@ pub fn measure<R: Files + AllocGlobal>(
     ensures follows { IfOk result (λ m. FollowsAll rules.now m.check) }
     ensures lawful { IfOk result (λ m. AreOfLawful rules.now
         m.check.given.items m.statistics.given.items) }
+    ensures rules { IfOk result (λ m. m.statistics.rules ≡ rules.now) }
 {
     match source {
         Source::File(name) => measure_of(rt.alloc(), open(rt, name)?, form, rules),
@@ -69,6 +71,7 @@ fn measure_of<S: Read + Drop>(
     ensures follows { IfOk result (λ m. FollowsAll rules.now m.check) }
     ensures lawful { IfOk result (λ m. AreOfLawful rules.now
         m.check.given.items m.statistics.given.items) }
+    ensures rules { IfOk result (λ m. m.statistics.rules ≡ rules.now) }
 {
     let mut reader = TraceReader::new(alloc, trace, form, rules.geometry.channels);
     measure_trace(rules, &mut reader)

@@ -3,8 +3,9 @@ ghost use Rattle.std.specs.Prelude.{◌<◌};
 
 use crate::channel::Channel;
 use crate::numbers::BankNumbers;
+use crate::statistics::TraceStatistics;
 use crate::stream::Measured;
-use command_trace::TraceFault;
+use command_trace::{MOST_CHANNELS, TraceFault};
 use ddr4_timing::place::BankAddress;
 use ddr4_timing::timing::CommandRules;
 use std::fmt;
@@ -37,6 +38,7 @@ pub fn write_statistics<W: Write>(
         if measured.check.is_lawful(rules, channel) {
             let of = measured.statistics.channel(channel);
             write_channel(rules, channel, of, writer)?;
+            write_ranks(rules, channel, &measured.statistics, writer)?;
         }
     }
     Ok(())
@@ -61,6 +63,24 @@ fn write_channel<W: Write>(
         if at.lies_in(&rules.geometry) {
             let numbers = of.bank(rules, at);
             write_bank(channel, at, Told { numbers, last }, writer)?;
+        }
+    }
+    Ok(())
+}
+
+// Writes the line of each rank of a channel.
+fn write_ranks<W: Write>(
+    rules: &CommandRules,
+    channel: u64,
+    statistics: &TraceStatistics,
+    writer: &mut W,
+) -> Result<(), TraceFault>
+    requires { channel < MOST_CHANNELS }
+{
+    for rank in 0..8 {
+        if rank < rules.geometry.ranks {
+            let margins = statistics.margins(channel, rank);
+            writeln!(writer, "{channel} rank {rank} {margins}").map_err(|_| TraceFault::Writer)?;
         }
     }
     Ok(())

@@ -1,7 +1,9 @@
-use Rattle.std.proofs.Common.{◌≡◌, ◌∙◌, ◌∷◌, [], ◌++◌, List, ap, refl, sym}
+use Rattle.std.proofs.Common.{◌≡◌, ◌∙◌, ◌∷◌, [], ◌++◌, List, ap, refl, subst, sym}
 use Rattle.std.specs.Option.{option_to_list}
 use Rattle.std.specs.Prelude.{Option}
 use Rattle.command_trace.specs.declared.entry.Located.{Located}
+use Rattle.ddr4_timing.specs.Lawful.{IsInGeometry}
+use Rattle.ddr4_timing.specs.declared.timing.CommandRules.{CommandRules}
 use Rattle.trace_statistics.specs.declared.statistics.TraceStatistics.{TraceStatistics}
 use Rattle.trace_statistics.proofs.Channels.{counted_next, in_geometry_next, left_next}
 use Rattle.trace_statistics.proofs.stream.measure_trace.Goals as goal
@@ -9,8 +11,9 @@ use Rattle.trace_statistics.proofs.stream.measure_trace.Goals.{then-take, else-t
 
 pub take-requires-then-take-clause-place : goal.take-requires-then-take-clause-place
 take-requires-then-take-clause-place g c =
-    in_geometry_next c.args.rules.now c.loop.check.given.items c.take.new.self.given.items c.in-Some.found c.if-take.ensures.adds
-    ((c.if-take.ensures.lawful c.loop.invariant.1).0 refl)
+    subst (λ (r : CommandRules). IsInGeometry r.geometry c.in-Some.found.entry.command.cmd) (sym c.loop.invariant.4)
+    (in_geometry_next c.args.rules.now c.loop.check.given.items c.take.new.self.given.items c.in-Some.found c.if-take.ensures.adds
+    ((c.if-take.ensures.lawful c.loop.invariant.1).0 refl))
 
 pub loop-preserved : goal.loop-preserved
 loop-preserved g c =
@@ -22,10 +25,14 @@ loop-preserved g c =
       elim c.if-take.branch [
         | then-take w ↦
             counted_next c.args.rules.now c.loop.check.given.items c.take.new.self.given.items c.loop.statistics.given.items c.if-take.statistics.given.items c.in-Some.found
-            c.take.ensures.adds (ap (λ (s : TraceStatistics). s.given.items) w.statistics-is ∙ w.take-then-take.ensures) c.loop.invariant.3
+            c.take.ensures.adds (ap (λ (s : TraceStatistics). s.given.items) w.statistics-is ∙ w.take-then-take.ensures.adds) c.loop.invariant.3
         | else-take w ↦
             left_next c.args.rules.now c.loop.check.given.items c.take.new.self.given.items c.loop.statistics.given.items c.if-take.statistics.given.items c.in-Some.found
             c.take.ensures.adds (ap (λ (s : TraceStatistics). s.given.items) w.statistics-is)
             (λ l. absurd (let t = (w.if-take.ensures.lawful c.loop.invariant.1).1 l in cc)) c.loop.invariant.3
+      ],
+      elim c.if-take.branch [
+        | then-take w ↦ ap (λ (s : TraceStatistics). s.rules) w.statistics-is ∙ w.take-then-take.ensures.rules ∙ c.loop.invariant.4
+        | else-take w ↦ ap (λ (s : TraceStatistics). s.rules) w.statistics-is ∙ c.loop.invariant.4
       ],
     )

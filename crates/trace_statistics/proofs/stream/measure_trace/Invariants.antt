@@ -6,4 +6,4 @@ use Rattle.trace_statistics.proofs.stream.measure_trace.Given as goal
 abbrev pub invariant-loop : goal.invariant-loop
 invariant-loop g l =
     (l.reader.channels ≡ l.fn.reader.channels) × FollowsAll l.rules l.check × (l.check.given.items ≡ l.reader.given.items)
-    × AreOfLawful l.rules l.check.given.items l.statistics.given.items
+    × AreOfLawful l.rules l.check.given.items l.statistics.given.items × (l.statistics.rules ≡ l.rules)

@@ -1,10 +1,10 @@
-use Rattle.std.proofs.Common.{◌≡◌, ◌∙◌, ℕ, ◌∷◌, ap, filter, inl, inr, subst, sym}
+use Rattle.std.proofs.Common.{◌≡◌, ◌∙◌, ℕ, ◌∷◌, ap, inl, inr, subst, sym}
 use Rattle.std.proofs.lemmas.List.{get_or-replicate}
 use Rattle.ddr4_timing.specs.Command.{bank_of, rank_of}
 use Rattle.ddr4_timing.specs.declared.command.Command.{Command}
 use Rattle.ddr4_timing.specs.declared.place.BankAddress.{BankAddress}
 use Rattle.trace_statistics.specs.Numbers.{touching}
-use Rattle.trace_statistics.specs.Standing.{BankStands, RankStands, phase_of}
+use Rattle.trace_statistics.specs.Standing.{RankStands, phase_of}
 use Rattle.trace_statistics.specs.declared.phase.Phase.TheVariants.{Closed}
 use Rattle.trace_statistics.proofs.Banks.{bank_wide, rank_closed}
 use Rattle.trace_statistics.proofs.Counting.{IsWide}
