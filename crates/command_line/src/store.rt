@@ -9,9 +9,9 @@ use clap::ArgMatches;
 use command_faults::{Failure, file_bytes, flush};
 use line_memory::Line;
 use nv_script::{Answer, ScriptFault};
-use run_command::JsonPrinter;
+use run_command::AnswerPrinter;
 use save_device::MemoryDevice;
-use script_runner::{Printer, Report};
+use script_runner::Report;
 use slot_store::{RestoreError, device_size, restore};
 use std::alloc::Global;
 use std::io;
@@ -105,7 +105,7 @@ pub fn show_store<W: io::Write>(
     ensures tells { IfOk result (λ shown. (answers : List Answer)
         × TellsStore store.items shown answers) }
 {
-    answer_store(alloc, store, &mut Printer::new(writer))
+    answer_store(alloc, store, &mut AnswerPrinter::new(alloc, false, writer))
 }
 
 // The bytes of a store's device. A store of no length that one has stays as it is.
@@ -137,7 +137,8 @@ where
     let store = file_bytes(rt, matches.get_str("STORE").unwrap_or("-"), most)?;
     let store = device_of(rt.alloc(), store);
     let found = if matches.get_flag("json") {
-        answer_store(rt.alloc(), store, &mut JsonPrinter::new(rt.alloc(), writer))?
+        let mut printer = AnswerPrinter::new(rt.alloc(), true, writer);
+        answer_store(rt.alloc(), store, &mut printer)?
     } else {
         show_store(rt.alloc(), store, writer)?
     };

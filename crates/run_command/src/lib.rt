@@ -1,13 +1,13 @@
 //! The command `run`: a script over closures of both ready-made maps, and the store that it leaves.
 #![tactic(auto)]
 
-mod json;
 mod lives;
 mod maps;
+mod printer;
 mod script;
 mod stored;
 
-pub use json::JsonPrinter;
 pub use maps::{report_on_maps, run_on_maps};
+pub use printer::AnswerPrinter;
 pub use script::{RunWords, StoreWord, run_named, why_no_store};
 pub use stored::{StoredFault, report_on_bytes, run_on_store};

@@ -7,6 +7,7 @@ ghost use Rattle.nv_script.specs.Texts.{IsScript};
 ghost use Rattle.nv_script.specs.declared.line.ScriptLine.{ScriptLine};
 ghost use Rattle.script_runner.specs.Story.{AreAllAnswered};
 
+use crate::printer::AnswerPrinter;
 use ddr4_timing::place::Place;
 use interleave_map::line_map::LineMap;
 use interleave_map::map::Map;
@@ -14,7 +15,7 @@ use interleave_map::{Interleaving, ReadyMap};
 use nv_profile::Profile;
 use nv_script::{ScriptFault, read_script};
 use save_device::MemoryDevice;
-use script_runner::{CommandBook, Printer, Report, do_lines_kept};
+use script_runner::{CommandBook, Report, do_lines_kept};
 use std::alloc::Global;
 use std::io::Write;
 
@@ -26,7 +27,7 @@ pub fn run_on_maps<W: Write>(
     script: &[u8],
     writer: &mut W,
 ) -> Result<MemoryDevice, ScriptFault> {
-    let mut printer = Printer::new(writer);
+    let mut printer = AnswerPrinter::new(alloc, false, writer);
     report_on_maps(
         alloc,
         profile,

@@ -3,9 +3,9 @@ ghost use Rattle.std.specs.Prelude.{◌≡◌, ◌⊎◌, ◌↔◌, [], codes, 
 ghost use Rattle.command_faults.specs.Exit.{status_of};
 ghost use Rattle.run_command.specs.Refused.{IsNoStore, NamesNoCommands, NamesNoStore};
 
-use crate::json::JsonPrinter;
 use crate::lives::write_lives;
 use crate::maps::report_on_maps;
+use crate::printer::AnswerPrinter;
 use crate::stored::{StoredFault, bytes_of_device, run_on_store};
 use command_faults::{Failure, Fault, bytes_of, flush, profile_of};
 use file_device::OpenFault;
@@ -13,7 +13,7 @@ use interleave_map::{Interleaving, ReadyMap};
 use nv_profile::Profile;
 use nv_script::SCRIPT_BYTES;
 use save_device::MemoryDevice;
-use script_runner::{CommandBook, Printer};
+use script_runner::CommandBook;
 use std::alloc::Global;
 use std::io::{ErrorKind, Input, Write};
 use std::rt::Files;
@@ -122,14 +122,8 @@ fn run_told<'a, W: Write>(
 ) -> Result<MemoryDevice, Failure<'a>>
     requires { IfSome book.old (λ lives. lives ≡ []) }
 {
-    let ran = if is_json {
-        let mut printer = JsonPrinter::new(alloc, writer);
-        report_on_maps(alloc, profile, script, &mut printer, book)
-    } else {
-        let mut printer = Printer::new(writer);
-        report_on_maps(alloc, profile, script, &mut printer, book)
-    };
-    match ran {
+    let mut printer = AnswerPrinter::new(alloc, is_json, writer);
+    match report_on_maps(alloc, profile, script, &mut printer, book) {
         Ok(device) => {
             flush(writer)?;
             Ok(device)

@@ -6,7 +6,7 @@ ghost use Rattle.script_runner.specs.Wiring.{IsMapOf, IsWiredFor};
 ghost use Rattle.store_file.specs.Stores.{IfHas, device_in};
 ghost use Rattle.run_command.specs.Stored.{RunsOnStore, RunsScriptOn, size_for};
 
-use crate::json::JsonPrinter;
+use crate::printer::AnswerPrinter;
 use channel_port::ChannelPort;
 use ddr4_port::Ddr4Port;
 use file_device::OpenFault;
@@ -16,7 +16,7 @@ use nv_profile::Profile;
 use nv_script::{ScriptFault, read_script};
 use nv_session::Wires;
 use save_device::{MemoryDevice, SaveDevice};
-use script_runner::{CommandBook, Printer, Report, Wiring, do_lines_on};
+use script_runner::{CommandBook, Report, Wiring, do_lines_on};
 use slot_store::device_size;
 use std::alloc::{AllocError, Global};
 use std::io::{self, ErrorKind, Write};
@@ -117,31 +117,17 @@ fn write_on_bytes<'m, M: LineMap, W: Write>(
         (IsWiredFor lines_map.now xor_map.now profile.now) profile.now
         bytes.items script.now [] answers book.new device) }
 {
-    if is_json {
-        let mut printer = JsonPrinter::new(alloc, writer);
-        report_on_bytes(
-            alloc,
-            profile,
-            script,
-            lines_map,
-            xor_map,
-            bytes,
-            &mut printer,
-            book,
-        )
-    } else {
-        let mut printer = Printer::new(writer);
-        report_on_bytes(
-            alloc,
-            profile,
-            script,
-            lines_map,
-            xor_map,
-            bytes,
-            &mut printer,
-            book,
-        )
-    }
+    let mut printer = AnswerPrinter::new(alloc, is_json, writer);
+    report_on_bytes(
+        alloc,
+        profile,
+        script,
+        lines_map,
+        xor_map,
+        bytes,
+        &mut printer,
+        book,
+    )
 }
 
 // The device that a store has, and the store's form.
