@@ -1,5 +1,7 @@
 // Answers, each written as a line.
-ghost use Rattle.std.specs.Prelude.{◌≡◌, [], IfErr};
+ghost use Rattle.std.specs.Prelude.{◌≡◌, ◌∷◌, ◌++◌, [], IfErr, OnOk};
+ghost use Rattle.std.specs.Io.KnownBytes.{Appends};
+ghost use Rattle.run_command.specs.Forms.{line_in};
 ghost use Rattle.script_runner.specs.Story.{GivesOut};
 
 use answer_json::{write_answer, write_line};
@@ -36,6 +38,10 @@ impl<'w, W: io::Write> AnswerPrinter<'w, W> {
 
     // Writes an answer in the form of its lines.
     fn write(&mut self, answer: &Answer) -> Result<(), ScriptFault>
+        ensures written { OnOk result (Appends (W.contents self.old.writer.now)
+            (W.contents self.new.writer.now)
+            (line_in self.old.is_json answer.now ++ 10 ∷ [])) }
+        ensures same_reference { self.new.writer.ghost_name ≡ self.old.writer.ghost_name }
         ensures taken { self.new.taken ≡ self.old.taken }
         ensures refused { self.new.refused ≡ self.old.refused }
         ensures fault { IfErr result GivesOut }
