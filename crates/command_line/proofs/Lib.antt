@@ -1,3 +1,4 @@
 pub mod Stores
 pub mod Statuses
 pub mod BadLines
+pub mod Lives
