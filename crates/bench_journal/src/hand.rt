@@ -18,12 +18,8 @@ fn append(index: &mut Index, writes: &mut Vec<Write>, bytes: &[u8]) -> anyhow::R
     Ok(())
 }
 
-/// The writes of a thousand appends and of a truncation behind them.
-pub(crate) fn writes_of_round(
-    alloc: Global,
-    index: &mut Index,
-    bytes: &[u8],
-) -> anyhow::Result<Vec<Write>> {
+// The writes of a thousand appends and of a truncation behind them.
+fn writes_of_round(alloc: Global, index: &mut Index, bytes: &[u8]) -> anyhow::Result<Vec<Write>> {
     let mut writes = Vec::new(alloc);
     for _record in 0..EACH {
         append(index, &mut writes, bytes)?;
@@ -34,4 +30,18 @@ pub(crate) fn writes_of_round(
         index.truncate(end);
     }
     Ok(writes)
+}
+
+/// The writes of some rounds, a list for each.
+pub(crate) fn writes_of_group(
+    alloc: Global,
+    index: &mut Index,
+    bytes: &[u8],
+    rounds: u64,
+) -> anyhow::Result<Vec<Vec<Write>>> {
+    let mut lists = Vec::new(alloc);
+    for _round in 0..rounds {
+        lists.push(writes_of_round(alloc, index, bytes)?)?;
+    }
+    Ok(lists)
 }

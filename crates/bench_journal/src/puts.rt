@@ -10,9 +10,6 @@ use line_memory::zero_memory;
 use save_device::SaveDevice;
 use std::alloc::Global;
 
-/// How many rounds there are between two compactions.
-const ROUNDS: u64 = 16;
-
 /// What a key has.
 const VALUE: [u8; 100] = [7; 100];
 
@@ -29,10 +26,24 @@ fn put_round<K: ChannelPort + Drop, D: SaveDevice + Drop>(
     save_where(life, armed)
 }
 
+// Some rounds.
+fn put_group<K: ChannelPort + Drop, D: SaveDevice + Drop>(
+    alloc: Global,
+    life: &mut JournalLife<K, D>,
+    table: &mut JournalTable,
+    armed: bool,
+    rounds: u64,
+) -> anyhow::Result<()> {
+    for _round in 0..rounds {
+        put_round(alloc, life, table, armed)?;
+    }
+    Ok(())
+}
+
 /// The bytes of the record of a put: the word, the length of the key, the key and the value.
 pub(crate) const PUT_SIZE: usize = 1 + 8 + 8 + VALUE.len();
 
-/// Rounds of puts, with a compaction behind each sixteenth, for which no time is taken.
+/// Rounds of puts, with a compaction between two groups, for which no time is taken.
 pub(crate) fn put_rounds(
     rt: &HostRuntime,
     map: &ReadyMap,
@@ -47,17 +58,17 @@ pub(crate) fn put_rounds(
         life.arm()?;
     }
     let mut millis = 0u64;
-    for round in 0..amount.rounds {
-        let start = held_millis(rt);
-        put_round(alloc, &mut life, &mut table, armed)?;
-        millis = millis.saturating_add(held_since(rt, start));
-        if round % ROUNDS == ROUNDS - 1 {
+    for group in 0..amount.groups {
+        if group > 0 {
             life.compact(alloc, &mut table)?;
         }
+        let start = held_millis(rt);
+        put_group(alloc, &mut life, &mut table, armed, amount.rounds)?;
+        millis = millis.saturating_add(held_since(rt, start));
     }
     let (writes, _) = life.marks();
     Ok(Spent {
-        records: amount.rounds.saturating_mul(EACH),
+        records: amount.in_all().saturating_mul(EACH),
         writes,
         millis,
     })

@@ -1,5 +1,5 @@
 // Rounds of a thousand appends, a save and a truncation.
-use crate::hand::writes_of_round;
+use crate::hand::writes_of_group;
 use crate::processor::held_millis;
 use channel_port::ChannelPort;
 use ddr4_port::Ddr4Port;
@@ -15,11 +15,20 @@ use std::alloc::Global;
 /// The records of a round.
 pub const EACH: u64 = 1_000;
 
-/// How much is measured.
+/// How much is measured: the time is taken of a group of rounds at once.
 #[derive(Clone, Copy)]
 pub struct Amount {
+    pub groups: u64,
+    /// In a group.
     pub rounds: u64,
     pub timed: bool,
+}
+
+impl Amount {
+    /// How many rounds there are in all.
+    pub(crate) fn in_all(self) -> u64 {
+        self.groups.saturating_mul(self.rounds)
+    }
 }
 
 /// What was done, and how long it held a processor.
@@ -80,6 +89,18 @@ fn hand_round<K: ChannelPort + Drop, D: SaveDevice + Drop>(
     Ok(())
 }
 
+// The writes of some rounds.
+fn hand_group<K: ChannelPort + Drop, D: SaveDevice + Drop>(
+    life: &mut JournalLife<K, D>,
+    armed: bool,
+    rounds: &[Vec<Write>],
+) -> anyhow::Result<()> {
+    for writes in rounds {
+        hand_round(life, armed, writes)?;
+    }
+    Ok(())
+}
+
 /// A life of zero lines on a device in memory.
 pub(crate) fn fresh<'m>(
     alloc: Global,
@@ -106,7 +127,7 @@ pub(crate) fn journal_rounds(
         life.arm()?;
     }
     let start = held_millis(rt);
-    for _round in 0..amount.rounds {
+    for _round in 0..amount.in_all() {
         journal_round(&mut life, armed, &bytes)?;
     }
     let millis = held_since(rt, start);
@@ -118,7 +139,7 @@ pub(crate) fn journal_rounds(
     })
 }
 
-/// Rounds of the same writes by hand; the lists are made before the time is taken.
+/// Rounds of the same writes by hand; the lists of a group are made before its time is taken.
 pub(crate) fn hand_rounds(
     rt: &HostRuntime,
     map: &ReadyMap,
@@ -135,10 +156,10 @@ pub(crate) fn hand_rounds(
         life.arm()?;
     }
     let mut millis = 0u64;
-    for _round in 0..amount.rounds {
-        let writes = writes_of_round(alloc, &mut index, &bytes)?;
+    for _group in 0..amount.groups {
+        let rounds = writes_of_group(alloc, &mut index, &bytes, amount.rounds)?;
         let start = held_millis(rt);
-        hand_round(&mut life, armed, &writes)?;
+        hand_group(&mut life, armed, &rounds)?;
         millis = millis.saturating_add(held_since(rt, start));
     }
     let (writes, _) = life.marks();
