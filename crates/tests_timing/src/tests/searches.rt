@@ -51,8 +51,11 @@ fn picked(geometry: &Geometry, crowd: Crowd, mix: u64) -> Place {
 
 // A line for each of these places.
 fn line_of(place: &Place) -> u64 {
-    let bank = place.rank * 16 + place.group * 4 + place.bank;
-    (bank * 2 + place.row) * 2 + place.column
+    let mut line: u64 = 0;
+    for part in [place.rank, place.group, place.bank, place.row, place.column] {
+        line = line.wrapping_mul(4).wrapping_add(part);
+    }
+    line
 }
 
 // Does an older request name the line of this one?
@@ -113,10 +116,8 @@ impl Channel {
                 Kind::Write
             };
             let place = picked(&self.banks.checked().geometry, crowd, mix);
-            assert!(*rt;
-                place.rank < 4 && place.group < 4 && place.bank < 4 && self.queue.next() < u64::MAX
-            );
             let held = is_held(self.hold, kind, self.writes);
+            assert!(*rt; !self.queue.is_full() && self.queue.next() < u64::MAX);
             self.queue
                 .push(place, line_of(&place), kind, self.writes, held);
             if kind == Kind::Write {
