@@ -29,13 +29,15 @@ const OBJECTS: &str = r#"{"answer":"lawful","channel":0,"commands":4}
 "#;
 
 // A channel with a fault has no numbers.
-const EARLY: &str = "0 fault 3, ACT to RD, same bank: at least tRCD = 16, here 15; line 1: 0 ACT 0 0 0 1; line 2: 15 RD 0 0 0 3
+const EARLY: &str =
+    "0 fault 3, ACT to RD, same bank: at least tRCD = 16, here 15; line 1: 0 ACT 0 0 0 1; line 2: 15 RD 0 0 0 3
 1 lawful 0
 1 channel ACT 0 RD 0 WR 0 PRE 0 hits 0 misses 0 conflicts 0 bus 0.00% bytes 0 PREA 0 REF 0 SRE 0
 1 rank 0 REF 0 longest 0 mean 0
 ";
 
-const ALL_EARLY: &str = "0 fault 3, ACT to RD, same bank: at least tRCD = 16, here 15; line 1: 0 ACT 0 0 0 1; line 2: 15 RD 0 0 0 3; the first of 1
+const ALL_EARLY: &str =
+    "0 fault 3, ACT to RD, same bank: at least tRCD = 16, here 15; line 1: 0 ACT 0 0 0 1; line 2: 15 RD 0 0 0 3; the first of 1
 1 lawful 0
 1 channel ACT 0 RD 0 WR 0 PRE 0 hits 0 misses 0 conflicts 0 bus 0.00% bytes 0 PREA 0 REF 0 SRE 0
 1 rank 0 REF 0 longest 0 mean 0
