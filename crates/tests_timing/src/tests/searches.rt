@@ -176,7 +176,7 @@ fn crowds<R: Abort + AllocGlobal>(rt: &R, geometry: &Geometry, most: usize, step
     channel.run(rt, Crowd::Line, steps);
     channel.run(rt, Crowd::Row, steps);
     channel.run(rt, Crowd::Bank, steps);
-    channel.run(rt, Crowd::Apart, 4 * steps);
+    channel.run(rt, Crowd::Apart, steps.saturating_mul(4));
 }
 
 #[test]
