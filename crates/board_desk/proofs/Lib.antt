@@ -1,6 +1,5 @@
 pub mod Credits
 pub mod Settled
-mod Taken
 pub mod Happening
 pub mod Followed
 pub mod Lending
