@@ -18,11 +18,13 @@ pub use Rattle.bank_core.specs.declared.banks.Banks.{Banks}
 pub use Rattle.bank_core.specs.Stands.{Allows, Stands, with_command}
 pub use Rattle.frfcfs.specs.declared.best.Best.{Best}
 pub use Rattle.frfcfs.specs.declared.best.Bests.{Bests}
+pub use Rattle.frfcfs.specs.declared.key.Key.{Key}
 pub use Rattle.frfcfs.specs.declared.next.Next.{Next}
 pub use Rattle.frfcfs.specs.declared.pending.Kind.{Kind}
 pub use Rattle.frfcfs.specs.declared.pending.Kind.TheVariants.{Read, Write}
 pub use Rattle.frfcfs.specs.declared.pending.Pending.{Pending}
 pub use Rattle.frfcfs.specs.Candidates.{HasNoCandidate, IsCandidate, IsChoice, IsInLead, IsLeast, IsNotAfter, IsUnhit, MayHave, OfColumn, OfRank, OfRow, OffersRank, Turn, WantsColumn, WantsRow, class_of, tie_break_of}
+pub use Rattle.frfcfs.specs.Keys.{AreHeldBy, AreKeys, AreKeysIn, IsKeyOf, bank_number, firsts_of, place_of}
 pub use Rattle.frfcfs.specs.Margin.{AreAsleep, HasTime, IsIdle, KeepsMargin, MayClose, MayRefresh, close_clock, commands_before, lead_clock, refresh_clock, row_time}
 unfoldable pub use Rattle.frfcfs.specs.Margin.{above, last_clock}
 pub use Rattle.frfcfs.specs.Next.{HasWork, IsNext, IsNextIn, ServesInTurn}

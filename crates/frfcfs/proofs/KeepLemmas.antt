@@ -1,5 +1,5 @@
 -- Requests that are numbered anew.
-use Rattle.std.proofs.Common.{◌≡◌, ℕ, zero, suc, ◌+◌, ◌<◌, List, [], ◌∷◌, ◌++◌, refl, ap, add-one, arith, take, drop, length, get_or, set}
+use Rattle.std.proofs.Common.{◌≡◌, ℕ, zero, suc, ◌+◌, ◌<◌, List, [], ◌∷◌, ◌++◌, refl, ap, ◌∙◌, add-one, arith, take, drop, length, get_or, set}
 use Rattle.frfcfs.proofs.Common.{IsWaiting, Pending, Waiting, numbered_from}
 use Rattle.frfcfs.proofs.QueueLemmas.{lines}
 
@@ -10,6 +10,12 @@ length-numbered n (x ∷ xs) = ap suc (length-numbered (n + 1) xs)
 pub lines_numbered : (n : ℕ) (xs : List Pending) → lines (numbered_from n xs) ≡ lines xs
 lines_numbered n [] = refl
 lines_numbered n (x ∷ xs) = ap (λ rest. x.line ∷ rest) (lines_numbered (n + 1) xs)
+
+-- each is as it was but for its seq
+pub numbered_at : (n : ℕ) (xs : List Pending) (i : ℕ) (d : Pending) → i < length xs → get_or (numbered_from n xs) i d ≡ record (get_or xs i d) { seq = n + i }
+numbered_at n [] i d within = absurd (omega (arith, within))
+numbered_at n (x ∷ xs) zero d within = ap (λ (k : ℕ). record x { seq = k }) (omega arith)
+numbered_at n (x ∷ xs) (suc i) d within = numbered_at (n + 1) xs i d (omega (arith, within)) ∙ ap (λ (k : ℕ). record (get_or xs i d) { seq = k }) (omega arith)
 
 -- each seq is its place, counted from n
 seq_at : (n : ℕ) (xs : List Pending) (i : ℕ) (d : Pending) → i < length xs → (get_or (numbered_from n xs) i d).seq ≡ n + i

@@ -10,6 +10,7 @@ pub mod RankOffers
 pub mod NextChoice
 pub mod ChoiceLaws
 pub mod QueueLemmas
+pub mod KeyLemmas
 pub mod KeepLemmas
 pub mod refreshes
 pub mod WorkLemmas

@@ -1,11 +1,11 @@
 -- Queues that grow, shrink and are held, and what their marks say.
-use Rattle.std.proofs.Common.{if◌then◌else◌, ltb, ◌≡◌, ◌≢◌, ℕ, ◌+◌, ◌-◌, ◌<◌, ◌≤◌, ◌↔◌, ◌⊎◌, List, [], ◌∷◌, ◌++◌, Bool, IsTrue, true, false, Option, Some, None, inl, inr, refl, sym, ap, ◌∙◌, arith, map, take, drop, length, length-append, get_or, set, get_or-set_same, get_or-set_other, All, remove, slice_get}
+use Rattle.std.proofs.Common.{if◌then◌else◌, ltb, ◌≡◌, ◌≢◌, ℕ, ◌+◌, ◌-◌, ◌<◌, ◌≤◌, ◌↔◌, ◌⊎◌, List, [], ◌∷◌, ◌++◌, Bool, IsTrue, true, false, Option, Some, None, inl, inr, refl, sym, subst, ap, ◌∙◌, arith, map, take, drop, length, length-append, get_or, set, get_or-set_same, get_or-set_other, All, remove, slice_get}
 use Rattle.std.proofs.Math.ListN.{get_or-append}
 use Rattle.std.proofs.Math.Seq.{take-append_seam}
 use Rattle.std.proofs.lemmas.Bool.{cases_eq, cases_lt, cases_order}
 use Rattle.std.specs.List.{drop-map, take-map}
 use Rattle.std.proofs.lemmas.Simd.{map-map}
-use Rattle.std.proofs.lemmas.List.{get_or-map, get_or_push, length-map, length-set, map-append}
+use Rattle.std.proofs.lemmas.List.{get_or-map, get_or_default, get_or_push, length-map, length-set, map-append}
 use Rattle.std.proofs.lemmas.List.Edits.{get_or-remove_above, get_or-remove_below, length-remove, map_over_more}
 use Rattle.std.proofs.lemmas.List.Elements.{All-map, All-push}
 use Rattle.std.proofs.lemmas.List.Quantifiers.{all_pairs_push, all_pairs_remove}
@@ -38,7 +38,7 @@ firsts_marks g pending firsts order places marks i p within at =
 
 -- one more at the end
 
-pub request_push : (pending : List Pending) (p : Pending) (firsts : List Bool) (b : Bool) → AreFirsts (lines pending) firsts → (IsTrue b ↔ All (λ q. q.line ≢ p.line) pending) → AreFirsts (lines (pending ++ p ∷ [])) (firsts ++ b ∷ [])
+pub request_push : (pending : List Pending) (p : Pending) (firsts : List Bool) (b : Bool) → AreFirsts (lines pending) firsts → (IsTrue b ↔ All (λ line. line ≢ p.line) (lines pending)) → AreFirsts (lines (pending ++ p ∷ [])) (firsts ++ b ∷ [])
 request_push pending p firsts b marks none =
     rw (map-append (λ (q : Pending). q.line) pending (p ∷ [])) (record {
       size = omega (arith, marks.size, length-append (lines pending) (p.line ∷ []), length-append firsts (b ∷ []));
@@ -46,7 +46,7 @@ request_push pending p firsts b marks none =
     })
   where
     here : IsTrue b ↔ ((j : ℕ) → j < length (lines pending) → get_or (lines pending) j 0 ≢ p.line)
-    here = (λ t j. All-map (λ x. x ≢ p.line) (λ q. q.line) pending (none.0 t) j 0, λ h. none.1 (λ j d l. rw (← get_or-map (λ (q : Pending). q.line) pending j d 0 l) (h j (omega (arith, l, length-map pending (λ (q : Pending). q.line))))))
+    here = (λ t j. none.0 t j 0, λ h. none.1 (λ j d l. subst (λ (n : ℕ). n ≢ p.line) (get_or_default (lines pending) j 0 d l) (h j l)))
 
     each : (i : ℕ) → i < length (lines pending ++ p.line ∷ []) → (IsTrue (get_or (firsts ++ b ∷ []) i false) ↔ IsFirstAt (lines pending ++ p.line ∷ []) i)
     each i within = grind (arith, marks.size, marks.each i, here, length-append, get_or-append, get_or_push)
@@ -54,10 +54,10 @@ request_push pending p firsts b marks none =
 -- one taken out, and the next one of its line marked
 
 -- the place at which an element stood before the i-th was taken out
-abbrev stood : ℕ → ℕ → ℕ
+abbrev pub stood : ℕ → ℕ → ℕ
 stood i k = if ltb k i then k else k + 1
 
-get_or-stood : {X : Type 0} (xs : List X) (i k : ℕ) (d : X) → i < length xs → get_or (remove xs i) k d ≡ get_or xs (stood i k) d
+pub get_or-stood : {X : Type 0} (xs : List X) (i k : ℕ) (d : X) → i < length xs → get_or (remove xs i) k d ≡ get_or xs (stood i k) d
 get_or-stood xs i k d within = grind (arith, get_or-remove_below, get_or-remove_above)
 
 still_first : (xs : List ℕ) (i k : ℕ) → i < length xs → IsFirstAt xs (stood i k) → IsFirstAt (remove xs i) k
@@ -78,15 +78,15 @@ record IsOldestAt (line : ℕ) (xs : List ℕ) (place : Option ℕ) : Type 0 whe
   here : (m : ℕ) → place ≡ Some m → get_or xs m 0 ≡ line
   upto : (k : ℕ) → k < length xs → get_or xs k 0 ≡ line → (m : ℕ) × (place ≡ Some m) × (m ≤ k)
 
-oldest_at : (line : ℕ) (pending : List Pending) (place : Option ℕ) → IsOldestOf line pending place → IsOldestAt line (lines pending) place
-oldest_at line pending None none = record {
+oldest_at : (line : ℕ) (xs : List ℕ) (place : Option ℕ) → IsOldestOf line xs place → IsOldestAt line xs place
+oldest_at line xs None none = record {
   here = λ m is. absurd cc;
-  upto = λ k within same. absurd (All-map (λ x. x ≢ line) (λ p. p.line) pending none k 0 within same);
+  upto = λ k within same. absurd (none k 0 within same);
 }
-oldest_at line pending (Some n) (p, at, is, before) = record {
-  here = λ m same. let e : m ≡ n = cc in ap (λ k. get_or (lines pending) k 0) e ∙ line_at pending n p at ∙ is;
+oldest_at line xs (Some n) (at, before) = record {
+  here = λ m same. let e : m ≡ n = cc in ap (λ k. get_or xs k 0) e ∙ get_or_from_slice_get xs n line 0 at;
   upto = λ k within same. elim (cases_lt k n) [
-    | inl l ↦ let there = slice_get-get_or pending k p (omega (arith, within, length-map pending (λ (q : Pending). q.line))) in absurd (before k (get_or pending k p) l there (sym (line_at pending k (get_or pending k p) there) ∙ same))
+    | inl l ↦ absurd (before k l (slice_get-get_or xs k 0 within ∙ ap Some same))
     | inr g ↦ (n, refl, g)
   ];
 }
@@ -126,11 +126,14 @@ firsts_take xs firsts i place marks within oldest =
           grind (arith, marked, first, each, get_or-stood firsts i k false (omega (arith, size, within)));
     }
 
+pub lines_remove : (pending : List Pending) (i : ℕ) → lines (remove pending i) ≡ remove (lines pending) i
+lines_remove pending i = simp (map-append, take-map, drop-map)
+
 pub request_take : (pending : List Pending) (firsts new : List Bool) (i line : ℕ) → AreFirsts (lines pending) firsts → i < length pending → get_or (lines pending) i 0 ≡ line →
-    MarksOldest line (remove pending i) (remove firsts i) new → AreFirsts (lines (remove pending i)) new
+    MarksOldest line (lines (remove pending i)) (remove firsts i) new → AreFirsts (lines (remove pending i)) new
 request_take pending firsts new i line marks within at (place, oldest, is) =
-    let left : lines (remove pending i) ≡ remove (lines pending) i = simp (map-append, take-map, drop-map) in
-    rw (left, is) (firsts_take (lines pending) firsts i place marks (omega (arith, within, length-map pending (λ (q : Pending). q.line))) (rw (at, ← left) (oldest_at line (remove pending i) place oldest)))
+    let left = lines_remove pending i in
+    rw (left, is) (firsts_take (lines pending) firsts i place marks (omega (arith, within, length-map pending (λ (q : Pending). q.line))) (rw (at, ← left) (oldest_at line (lines (remove pending i)) place oldest)))
 
 -- what is true of a queue
 

@@ -82,14 +82,14 @@ found_offer g pending now limit index least from end request old new is early el
 
 -- no rule looks at a row or a column
 
-act_clock : (t : Timing) (list : List Stamped) (p q : Place) → bank_at p ≡ bank_at q → least_clock t list (act_of p) ≡ least_clock t list (act_of q)
+pub act_clock : (t : Timing) (list : List Stamped) (p q : Place) → bank_at p ≡ bank_at q → least_clock t list (act_of p) ≡ least_clock t list (act_of q)
 unfolding least_clock
 act_clock t list p q e =
     ap (λ (n : ℕ). max n (max (window t p.rank 3 list) 0)) (floor-Act t list (bank_at p) p.row)
     ∙ (ap (λ (b : BankAddress). least_clock t list (Act b 0)) e
     ∙ sym (ap (λ (n : ℕ). max n (max (window t q.rank 3 list) 0)) (floor-Act t list (bank_at q) q.row)))
 
-column_clock : (t : Timing) (list : List Stamped) (kind : Kind) (p q : Place) → bank_at p ≡ bank_at q → least_clock t list (column_of kind p) ≡ least_clock t list (column_of kind q)
+pub column_clock : (t : Timing) (list : List Stamped) (kind : Kind) (p q : Place) → bank_at p ≡ bank_at q → least_clock t list (column_of kind p) ≡ least_clock t list (column_of kind q)
 unfolding least_clock
 column_clock t list Read p q e =
     ap (λ (n : ℕ). max n (max 0 0)) (floor-Rd t list (bank_at p) p.column)

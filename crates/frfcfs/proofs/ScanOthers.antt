@@ -2,15 +2,15 @@
 use Rattle.std.proofs.Common.{◌≡◌, ℕ, ◌+◌, ◌*◌, ◌<◌, ◌≤◌, ◌⊎◌, ◌↔◌, max, min, List, Some, Bool, IsTrue, false, inl, inr, arith, sym, subst, ap, ◌∙◌, get_or, set, length, get_or-set_same, get_or-set_other, replicate}
 use Rattle.std.proofs.lemmas.Bool.{cases_eq, cases_lt}
 use Rattle.std.proofs.lemmas.List.{get_or-replicate}
-use Rattle.std.proofs.lemmas.Option.{get_or_from_slice_get, slice_get_within}
+use Rattle.std.proofs.lemmas.Option.{slice_get_within}
 use Rattle.ddr4_timing.proofs.Ready.{ready_lawful}
 use Rattle.frfcfs.specs.Candidates.{IsOtherOpen}
 use Rattle.frfcfs.specs.Scan.{AreScanned, IsMet, IsOlderBetter, IsPassed, IsScanFound, WantsAct, WantsRowBelow, flag_of}
 use Rattle.frfcfs.specs.Search.{IsEligibleIn, IsFound, no_bests}
 use Rattle.frfcfs.specs.declared.scan.Scan.{Scan}
 use Rattle.frfcfs.proofs.BestRequests.{best_skip, class_skip}
-use Rattle.frfcfs.proofs.Common.{AreMarks, BankAddress, Best, Checked, Command, Geometry, HasBank, IsBest, IsEligible, IsEnd, IsInGeometry, IsLawful, IsUnhit, Kind, Pending, Pre, Stamped, Takes, WantsColumn, WantsRow, bank_at, bank_index, least_clock, open_row, pre_of, rank_of}
-use Rattle.frfcfs.proofs.HitLemmas.{IsLook, WaitsAt, index_small, one_bank}
+use Rattle.frfcfs.proofs.Common.{BankAddress, Best, Checked, Command, Geometry, HasBank, IsBest, IsEligible, IsEnd, IsInGeometry, IsLawful, IsUnhit, Kind, Pending, Pre, Stamped, Takes, WantsColumn, WantsRow, bank_at, bank_index, least_clock, open_row, pre_of, rank_of}
+use Rattle.frfcfs.proofs.HitLemmas.{WaitsAt, index_small, one_bank}
 use Rattle.frfcfs.proofs.Lists.{one_at}
 use Rattle.frfcfs.proofs.ScanLemmas.{best_joins, best_same, clear_flags, flag_small}
 use Rattle.frfcfs.proofs.Wants.{IsWish, column_place, row_bank, takes_from}
@@ -39,15 +39,6 @@ found_none g pending now limit scan bests others most = record {
   where
     never : (n : ℕ) → n < 64 → ¬ (get_or scan.others n 0 < length pending)
     never n small less = let e : get_or scan.others n 0 ≡ length pending = ap (λ (xs : List ℕ). get_or xs n 0) others ∙ get_or-replicate 64 n (length pending) 0 small in omega (arith, e, less)
-
--- A mark says of a request that isn't held whether it is eligible.
-pub free_look : (g : Geometry) (pending : List Pending) (marks : List Bool) (i : ℕ) (free : Bool) (d : Pending) → AreMarks g pending marks → i < length marks → i < length pending → (IsTrue free ↔ (IsTrue (get_or marks i false) × ((get_or pending i d).held ≡ false))) → IsLook g pending i free
-free_look g pending marks i free d are within there says p at =
-    let mark = are i p within at in
-    let own : (get_or pending i d).held ≡ p.held = ap (λ (q : Pending). q.held) (get_or_from_slice_get pending i p d at) in (
-      λ t. let h = says.0 t in (record { here = at; free = sym own ∙ h.1; oldest = mark.1.0 h.0 }, record { rank = mark.0.rank; group = mark.0.group; bank = mark.0.bank }),
-      λ h. says.1 (mark.1.1 h.0.oldest, own ∙ h.0.free),
-    )
 
 -- One that isn't eligible, or whose bank isn't there, changes nothing.
 pub scan_past : (c : Checked) (list : List Stamped) (pending : List Pending) (now last limit index : ℕ) (scan : Scan) → ¬ WaitsAt c.geometry pending index → AreScanned c list pending now last limit index scan → AreScanned c list pending now last limit (index + 1) scan

@@ -1,6 +1,6 @@
 -- Whether a channel has work.
 use Rattle.std.proofs.Common.{◌≡◌, ℕ, ◌<◌, ◌≤◌, ◌⊎◌, ◌↔◌, ◌^◌, ◌-◌, List, Option, Some, None, Bool, IsTrue, IfSome, All, true, false, inl, inr, arith, refl, sym, subst}
-use Rattle.frfcfs.proofs.Common.{Allows, AreFirsts, AreInOrder, AreMarks, Banks, Checked, Geometry, HasBank, HasWork, IsEligible, IsIdle, IsInLead, IsLawful, IsNext, KeepsMargin, LiesIn, Next, Pending, Stamped, Stands, bank_at, last_clock, with_command}
+use Rattle.frfcfs.proofs.Common.{Allows, AreFirsts, AreInOrder, AreKeys, AreKeysIn, AreMarks, Banks, Checked, Geometry, HasBank, HasWork, IsEligible, IsIdle, IsInLead, IsLawful, IsNext, KeepsMargin, Key, LiesIn, Next, Pending, Stamped, Stands, bank_at, firsts_of, last_clock, with_command}
 use Rattle.frfcfs.proofs.Lists.{All-at}
 use Rattle.frfcfs.proofs.NextChoice.{next_lawful}
 use Rattle.frfcfs.proofs.QueueLemmas.{firsts_marks, lines}
@@ -23,9 +23,15 @@ work_of c list pending requests clock any work same places a w =
       ],
     )
 
-pub marks_of : (g : Geometry) (pending requests : List Pending) (firsts : List Bool) → pending ≡ requests → AreInOrder pending → All (λ q. LiesIn g q.place) requests → AreFirsts (lines requests) firsts → AreMarks g pending firsts
+marks_of : (g : Geometry) (pending requests : List Pending) (firsts : List Bool) → pending ≡ requests → AreInOrder pending → All (λ q. LiesIn g q.place) requests → AreFirsts (lines requests) firsts → AreMarks g pending firsts
 marks_of g pending requests firsts same order places marks =
     firsts_marks g pending firsts order (subst (λ (ps : List Pending). All (λ q. LiesIn g q.place) ps) (sym same) places) (subst (λ (ps : List Pending). AreFirsts (lines ps) firsts) (sym same) marks)
+
+pub keys_of : (g : Geometry) (pending requests : List Pending) (keys : List Key) → pending ≡ requests → AreInOrder pending → All (λ q. LiesIn g q.place) requests → AreKeys requests keys → AreFirsts (lines requests) (firsts_of keys) → AreKeysIn g pending keys
+keys_of g pending requests keys same order places are marks = record {
+  keyed = subst (λ (ps : List Pending). AreKeys ps keys) (sym same) are;
+  marks = marks_of g pending requests (firsts_of keys) same order places marks;
+}
 
 -- what is said of a search, of its answer
 

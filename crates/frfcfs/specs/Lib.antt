@@ -1,4 +1,5 @@
 pub mod Requests
+pub mod Keys
 pub mod Queue
 pub mod Candidates
 pub mod Next

@@ -1,8 +1,10 @@
 -- What contracts see of a queue of requests.
 use Rattle.std.specs.Prelude.{◌≡◌, ◌≢◌, ℕ, ◌+◌, ◌<◌, ◌≤◌, ◌↔◌, Bool, false, true, not, nat_lt, IsTrue, List, [], ◌∷◌, drop, filter, length, map, slice_index, slice_get, slice_index_or, slice_set, Option, Some, None, All}
+use Rattle.frfcfs.specs.declared.key.Key.{Key}
 use Rattle.frfcfs.specs.declared.pending.Kind.{Kind}
 use Rattle.frfcfs.specs.declared.pending.Kind.TheVariants.{Read, Write}
 use Rattle.frfcfs.specs.declared.pending.Pending.{Pending}
+use Rattle.frfcfs.specs.Keys.{AreKeys, firsts_of}
 use Rattle.frfcfs.specs.Requests.{AreInOrder}
 
 -- how many requests it may hold, the seq of the next one, and those that it holds, in order of arrival
@@ -26,13 +28,16 @@ pub record AreFirsts (lines : List ℕ) (firsts : List Bool) : Type 0 where
   pub size : length firsts ≡ length lines
   pub each : (i : ℕ) → i < length lines → (IsTrue (slice_index_or firsts i false) ↔ IsFirstAt lines i)
 
--- What is true of what a queue keeps: its requests are those from a start on, with a mark for each, and there is room for as
--- many as it may hold.
-pub record KeepsRequests (most next start room : ℕ) (pending : List Pending) (firsts : List Bool) : Type 0 where
+-- What is true of what a queue keeps: its requests are those from a start on, with the line and a key of each, and there is
+-- room for as many as it may hold.
+pub record KeepsRequests (most next start room : ℕ) (pending : List Pending) (lines : List ℕ) (keys : List Key) : Type 0 where
   pub waiting : IsWaiting (record { most = most; next = next; requests = drop start pending })
-  pub marks : AreFirsts (map (λ p. p.line) (drop start pending)) (drop start firsts)
+  pub names : drop start lines ≡ map (λ p. p.line) (drop start pending)
+  pub marks : AreFirsts (map (λ p. p.line) (drop start pending)) (firsts_of (drop start keys))
+  pub keyed : AreKeys (drop start pending) (drop start keys)
   pub within : start ≤ length pending
-  pub size : length firsts ≡ length pending
+  pub named : length lines ≡ length pending
+  pub size : length keys ≡ length pending
   pub fits : length pending ≤ room
   pub enough : most ≤ room
 
@@ -46,12 +51,10 @@ is_held (Some from) Write number = not (nat_lt number from)
 abbrev pub held_by : Option ℕ → Pending → Pending
 held_by hold p = record p { held = is_held hold p.kind p.number }
 
--- where the oldest request of a line stands, if there is one
-abbrev pub IsOldestOf : ℕ → List Pending → Option ℕ → Type 0
-IsOldestOf line pending None = All (λ p. p.line ≢ line) pending
-IsOldestOf line pending (Some i) =
-    (p : Pending) × (slice_get pending i ≡ Some p) × (p.line ≡ line)
-    × ((j : ℕ) (q : Pending) → j < i → slice_get pending j ≡ Some q → q.line ≢ line)
+-- where a line stands first among these, if it is one of them
+abbrev pub IsOldestOf : ℕ → List ℕ → Option ℕ → Type 0
+IsOldestOf line lines None = All (λ other. other ≢ line) lines
+IsOldestOf line lines (Some i) = (slice_get lines i ≡ Some line) × ((j : ℕ) → j < i → slice_get lines j ≢ Some line)
 
 -- the marks with the one at a place set, if there is a place
 abbrev pub marked_at : Option ℕ → List Bool → List Bool
@@ -59,8 +62,8 @@ marked_at None firsts = firsts
 marked_at (Some i) firsts = slice_set firsts i true
 
 -- the oldest request of a line is marked, and the other marks stay
-abbrev pub MarksOldest : ℕ → List Pending → List Bool → List Bool → Type 0
-MarksOldest line pending old new = (place : Option ℕ) × IsOldestOf line pending place × (new ≡ marked_at place old)
+abbrev pub MarksOldest : ℕ → List ℕ → List Bool → List Bool → Type 0
+MarksOldest line lines old new = (place : Option ℕ) × IsOldestOf line lines place × (new ≡ marked_at place old)
 
 -- a write among the requests
 abbrev pub is_write : Kind → Bool

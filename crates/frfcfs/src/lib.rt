@@ -8,6 +8,7 @@
 
 mod best;
 mod hits;
+mod key;
 pub mod laws;
 pub mod margin;
 pub mod next;

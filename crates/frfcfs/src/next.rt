@@ -89,8 +89,8 @@ pub fn next_command(banks: &Banks, queue: &Queue, now: u64) -> Option<Next>
     if now >= 1 << 62 {
         return None;
     }
-    let (pending, firsts) = (queue.requests(), queue.firsts());
-    let soonest = find_soonest(banks, pending, firsts, now, (1 << 63) - 1);
+    let (pending, keys) = (queue.requests(), queue.keys());
+    let soonest = find_soonest(banks, pending, keys, now, (1 << 63) - 1);
     if !has_work(banks, soonest.any, now) {
         return None;
     }

@@ -1,23 +1,28 @@
 // The pending requests of a channel, in order of arrival.
-ghost use Rattle.std.specs.Prelude.{◌≡◌, ◌≢◌, ◌↔◌, ◌+◌, ◌-◌, ◌<◌, ◌≤◌, ◌^◌, ◌++◌, ◌∷◌, [], Some, All, IfOk, IsTrue, drop, length, map, remove, slice_get, vec_capacity};
+ghost use Rattle.std.specs.Prelude.{◌≡◌, ◌≢◌, ◌↔◌, ◌+◌, ◌-◌, ◌<◌, ◌≤◌, ◌^◌, ◌++◌, ◌∷◌, [], List, Some, All, IfOk, IsTrue, drop, length, map, remove, slice_get, vec_capacity};
 ghost use Rattle.ddr4_timing.specs.Places.{LiesIn};
+ghost use Rattle.frfcfs.specs.declared.pending.Pending.{Pending};
 ghost use Rattle.frfcfs.specs.Requests.{AreInOrder};
+ghost use Rattle.frfcfs.specs.Keys.{AreHeldBy, AreKeys, firsts_of};
 ghost use Rattle.frfcfs.specs.Queue.{AreFirsts, KeepsRequests, IsOldestOf, MarksOldest, Waiting, held_by, is_held, numbered_from, writes_among};
 
+use crate::key::{Key, bank_number};
 use crate::pending::{Kind, Pending};
 use ddr4_timing::place::Place;
 use ddr4_timing::timing::Geometry;
 use std::alloc::{AllocError, Global};
 use std::marker::Model;
 
-/// The pending requests of a channel, in order of arrival. It keeps of each whether it is the first of its line, so that no
-/// search has to look for older ones.
+/// The pending requests of a channel, in order of arrival. It keeps a key of each, which says beside its bank, row and kind
+/// whether it is held and whether it is the first of its line, so that no search has to look for older ones. Their lines stand
+/// in a row of their own, so that a push and a take look at nothing else.
 #[derive(Drop)]
 pub struct Queue {
     // The requests are those from `start` on. One that is taken out makes room at the front, where fewer are older than younger:
     // the older ones move up. Else the younger ones move down.
     pending: Vec<Pending>,
-    firsts: Vec<bool>,
+    lines: Vec<u64>,
+    keys: Vec<Key>,
     start: usize,
     room: usize,
     most: usize,
@@ -29,34 +34,36 @@ impl Model for Queue {
 
     ghost view = { λ q. record { most = q.most; next = q.next; requests = drop q.start q.pending.items } };
 
-    ghost invariant = { λ q. KeepsRequests q.most q.next q.start q.room q.pending.items q.firsts.items
-        × (q.room ≤ vec_capacity q.pending) × (q.room ≤ vec_capacity q.firsts) };
+    ghost invariant = { λ q. KeepsRequests q.most q.next q.start q.room q.pending.items q.lines.items q.keys.items
+        × (q.room ≤ vec_capacity q.pending) × (q.room ≤ vec_capacity q.lines) × (q.room ≤ vec_capacity q.keys) };
 }
 
-// Does no request name the line?
-fn none_names(pending: &[Pending], line: u64) -> bool
-    ensures { IsTrue result ↔ All (λ p. p.line ≢ line) pending.now }
+// Is the line none of these?
+fn is_new(lines: &[u64], line: u64) -> bool
+    ensures { IsTrue result ↔ All (λ other. other ≢ line) lines.now }
 {
-    pending.iter().all(|p| p.line != line)
+    lines.iter().all(|other| *other != line)
 }
 
 // Where the oldest request of a line stands.
-fn oldest_of(pending: &[Pending], line: u64) -> Option<usize>
-    ensures { IsOldestOf line pending.now result }
+fn oldest_of(lines: &[u64], line: u64) -> Option<usize>
+    ensures { IsOldestOf line lines.now result }
 {
-    pending.iter().position(|p| p.line == line)
+    lines.iter().position(|other| *other == line)
 }
 
 // Marks the oldest request of a line among those from a start on.
-fn mark_oldest(pending: &[Pending], firsts: &mut [bool], start: usize, line: u64)
-    requires start { start ≤ length pending.now }
-    requires size { length firsts.old ≡ length pending.now }
-    ensures marks { MarksOldest line (drop start pending.now)
-        (drop start firsts.old) (drop start firsts.new) }
-    ensures size { length firsts.new ≡ length firsts.old }
+fn mark_oldest(lines: &[u64], keys: &mut [Key], start: usize, line: u64)
+    requires start { start ≤ length lines.now }
+    requires size { length keys.old ≡ length lines.now }
+    ensures marks { MarksOldest line (drop start lines.now)
+        (firsts_of (drop start keys.old)) (firsts_of (drop start keys.new)) }
+    ensures keys { (pending : List Pending) →
+        AreKeys pending (drop start keys.old) → AreKeys pending (drop start keys.new) }
+    ensures size { length keys.new ≡ length keys.old }
 {
-    if let Some(place) = oldest_of(&pending[start..], line) {
-        firsts[start + place] = true;
+    if let Some(place) = oldest_of(&lines[start..], line) {
+        keys[start + place].first = true;
     }
 }
 
@@ -129,6 +136,16 @@ fn hold_each(pending: &mut [Pending], from: Option<u64>)
     }
 }
 
+// Gives each key the mark of its request.
+fn hold_keys(keys: &mut [Key], pending: &[Pending])
+    requires { length keys.old ≡ length pending.now }
+    ensures { AreHeldBy pending.now keys.old keys.new }
+{
+    for (place, key) in keys.iter_mut().enumerate() {
+        key.held = pending[place].held;
+    }
+}
+
 // Makes each request's seq its place.
 fn number_each(pending: &mut [Pending])
     ensures { pending.new ≡ numbered_from 0 pending.old }
@@ -147,7 +164,8 @@ impl Queue {
         let room = most.saturating_mul(2);
         Ok(Queue {
             pending: Vec::with_capacity(alloc, room)?,
-            firsts: Vec::with_capacity(alloc, room)?,
+            lines: Vec::with_capacity(alloc, room)?,
+            keys: Vec::with_capacity(alloc, room)?,
             start: 0,
             room,
             most,
@@ -184,11 +202,19 @@ impl Queue {
         self.requests().iter().all(|p| p.place.lies_in(geometry))
     }
 
-    /// Whether each request is the first of its line.
-    pub(crate) fn firsts(&self) -> &[bool]
-        ensures { AreFirsts (map (λ p. p.line) self.now.requests) result.now }
+    // The line of each request.
+    fn lines(&self) -> &[u64]
+        ensures { result.now ≡ map (λ p. p.line) self.now.requests }
     {
-        &self.firsts[self.start..]
+        &self.lines[self.start..]
+    }
+
+    /// A key of each request.
+    pub(crate) fn keys(&self) -> &[Key]
+        ensures keys { AreKeys self.now.requests result.now }
+        ensures firsts { AreFirsts (map (λ p. p.line) self.now.requests) (firsts_of result.now) }
+    {
+        &self.keys[self.start..]
     }
 
     /// Adds a request behind the others. It looks at each of them.
@@ -202,10 +228,11 @@ impl Queue {
     {
         if self.pending.len() == self.room {
             move_to_front(&mut self.pending, self.start);
-            move_to_front(&mut self.firsts, self.start);
+            move_to_front(&mut self.lines, self.start);
+            move_to_front(&mut self.keys, self.start);
             self.start = 0;
         }
-        let first = none_names(self.requests(), line);
+        let first = is_new(self.lines(), line);
         self.pending.push_reserved(Pending {
             seq: self.next,
             place,
@@ -214,7 +241,14 @@ impl Queue {
             number,
             held,
         });
-        self.firsts.push_reserved(first);
+        self.lines.push_reserved(line);
+        self.keys.push_reserved(Key {
+            row: place.row,
+            bank: bank_number(&place),
+            kind,
+            first,
+            held,
+        });
         self.next += 1;
     }
 
@@ -227,9 +261,10 @@ impl Queue {
     {
         let next = start_without(self.start, place, self.requests().len());
         let taken = take_out_towards(&mut self.pending, self.start, place, next);
-        take_out_towards(&mut self.firsts, self.start, place, next);
+        take_out_towards(&mut self.lines, self.start, place, next);
+        take_out_towards(&mut self.keys, self.start, place, next);
         self.start = next;
-        mark_oldest(&self.pending, &mut self.firsts, self.start, taken.line);
+        mark_oldest(&self.lines, &mut self.keys, self.start, taken.line);
         taken
     }
 
@@ -238,6 +273,7 @@ impl Queue {
         ensures { self.new ≡ record self.old { requests = map (held_by from) self.old.requests } }
     {
         hold_each(&mut self.pending, from);
+        hold_keys(&mut self.keys, &self.pending);
     }
 
     /// Drops the reads, and numbers the writes anew from 0. It takes each read out.
@@ -248,7 +284,8 @@ impl Queue {
     {
         self.drop_reads();
         move_to_front(&mut self.pending, self.start);
-        move_to_front(&mut self.firsts, self.start);
+        move_to_front(&mut self.lines, self.start);
+        move_to_front(&mut self.keys, self.start);
         self.start = 0;
         number_each(&mut self.pending);
         self.next = self.pending.len() as u64;

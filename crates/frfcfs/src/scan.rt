@@ -1,15 +1,17 @@
 // One look at each eligible request of a queue, which asks the clock of each bank and kind once.
-ghost use Rattle.std.specs.Prelude.{◌≡◌, ℕ, ◌+◌, ◌<◌, ◌≤◌, ◌↔◌, List, IsTrue, length, replicate, slice_get, slice_index, Some, false};
+ghost use Rattle.std.specs.Prelude.{◌≡◌, ℕ, ◌+◌, ◌<◌, ◌≤◌, ◌↔◌, List, All, IsTrue, length, replicate, slice_get, slice_index, Some, false};
 ghost use Rattle.ddr4_timing.specs.Places.{LiesIn};
 ghost use Rattle.ddr4_timing.specs.declared.command.Stamped.{Stamped};
 ghost use Rattle.bank_core.specs.Stands.{Stands};
 ghost use Rattle.frfcfs.specs.declared.pending.Pending.{Pending};
+ghost use Rattle.frfcfs.specs.Keys.{AreKeysIn, IsKeyOf, place_of};
 ghost use Rattle.frfcfs.specs.Requests.{IsEligible};
 ghost use Rattle.frfcfs.specs.Candidates.{WantsRow};
 ghost use Rattle.frfcfs.specs.Scan.{AreScanned, IsScanFound, flag_of};
-ghost use Rattle.frfcfs.specs.Search.{AreBest, AreEnds, AreFound, AreMarks, HasEligibleIn, IsBest, IsEnd, IsFound, Takes, limit_of, no_bests};
+ghost use Rattle.frfcfs.specs.Search.{AreBest, AreEnds, AreFound, HasEligibleIn, IsBest, IsFound, Takes, limit_of, no_bests};
 
 use crate::best::{Best, Bests};
+use crate::key::Key;
 use crate::pending::{Kind, Pending};
 use crate::search::ends;
 use bank_core::banks::Banks;
@@ -38,13 +40,6 @@ fn flag(bank: usize, kind: Kind) -> usize
     }
 }
 
-// Is the request eligible, where its mark says whether it is the first of its line?
-fn is_free(first: bool, request: &Pending) -> bool
-    ensures { IsTrue result ↔ (IsTrue first × (request.now.held ≡ false)) }
-{
-    first && !request.held
-}
-
 impl Scan {
     // Before any request was looked at, of so many, in a span up to a last clock.
     fn none(last: u64, size: usize) -> Scan
@@ -61,36 +56,43 @@ impl Scan {
         }
     }
 
-    // Looks at the eligible request at an index, which may have its command from now on and before an end.
-    fn look(&mut self, banks: &Banks, request: &Pending, index: usize, now: u64, end: u64)
-        requires { LiesIn banks.now.checked.geometry request.now.place }
-        ensures found { (pending : List Pending) (limit : ℕ) → end ≤ limit →
-            IsEligible pending index request.now →
+    // Looks at the eligible request at an index, by its key. It may have its command from now on and before its rank's end.
+    fn look(&mut self, banks: &Banks, key: &Key, index: usize, now: u64, ends: &[u64; 4])
+        requires { LiesIn banks.now.checked.geometry (place_of key.now) }
+        ensures found { (pending : List Pending) (request : Pending) (limit : ℕ) →
+            ((rank : ℕ) → slice_index ends.now rank ≤ limit) →
+            IsEligible pending index request → IsKeyOf request key.now →
+            LiesIn banks.now.checked.geometry request.place →
             IsScanFound banks.now.checked.geometry pending now limit self.old →
             IsScanFound banks.now.checked.geometry pending now limit self.new }
-        ensures scanned { (list : List Stamped) (pending : List Pending) (last limit : ℕ) →
-            Stands banks.now list →
-            IsEnd banks.now.checked list request.now.place.rank last end → end ≤ limit →
-            IsEligible pending index request.now →
+        ensures scanned { (list : List Stamped) (pending : List Pending) (request : Pending) →
+            (last limit : ℕ) → Stands banks.now list → AreEnds banks.now.checked list last ends.now →
+            ((rank : ℕ) → slice_index ends.now rank ≤ limit) →
+            IsEligible pending index request → IsKeyOf request key.now →
+            LiesIn banks.now.checked.geometry request.place →
             AreScanned banks.now.checked list pending now last limit index self.old →
             AreScanned banks.now.checked list pending now last limit (index + 1) self.new }
     {
-        let at = request.place.bank_address();
-        let bank = at.index(&banks.checked().geometry);
-        let mark = flag(bank, request.kind);
+        let bank = key.bank as usize;
+        let mark = flag(bank, key.kind);
         if self.met[mark] {
             return;
         }
+        let at = key.bank_address();
         match banks.open_row(at) {
             None => {
-                let clock = banks.least_clock(request.act());
-                self.bests.row.offer(index, clock.max(now), end);
+                let clock = banks.least_clock(key.act());
+                self.bests
+                    .row
+                    .offer(index, clock.max(now), ends[at.rank as usize]);
                 self.met[mark] = true;
             }
             Some(row) => {
-                if row == request.place.row {
-                    let clock = banks.least_clock(request.column());
-                    self.bests.column.offer(index, clock.max(now), end);
+                if row == key.row {
+                    let clock = banks.least_clock(key.column());
+                    self.bests
+                        .column
+                        .offer(index, clock.max(now), ends[at.rank as usize]);
                     self.met[mark] = true;
                 } else {
                     self.others[bank] = self.others[bank].min(index);
@@ -104,31 +106,31 @@ impl Scan {
     fn look_at_each(
         &mut self,
         banks: &Banks,
-        pending: &[Pending],
-        marks: &[bool],
+        keys: &[Key],
         ends: &[u64; 4],
         now: u64,
         last: u64,
     ) -> bool
         requires bests { self.old.bests ≡ no_bests (limit_of last) }
         requires met { self.old.met ≡ replicate 128 false }
-        requires others { self.old.others ≡ replicate 64 (length pending.now) }
+        requires others { self.old.others ≡ replicate 64 (length keys.now) }
         requires most { self.old.most ≡ 0 }
-        requires marks { AreMarks banks.now.checked.geometry pending.now marks.now }
-        requires size { length marks.now ≡ length pending.now }
+        requires lie { All (λ key. LiesIn banks.now.checked.geometry (place_of key)) keys.now }
         requires early { (rank : ℕ) → slice_index ends.now rank ≤ limit_of last }
-        ensures any { IsTrue result ↔ HasEligibleIn banks.now.checked.geometry pending.now }
-        ensures found { IsScanFound banks.now.checked.geometry pending.now now (limit_of last) self.new }
-        ensures scanned { (list : List Stamped) → Stands banks.now list →
+        ensures any { (pending : List Pending) → AreKeysIn banks.now.checked.geometry pending keys.now →
+            (IsTrue result ↔ HasEligibleIn banks.now.checked.geometry pending) }
+        ensures found { (pending : List Pending) → AreKeysIn banks.now.checked.geometry pending keys.now →
+            IsScanFound banks.now.checked.geometry pending now (limit_of last) self.new }
+        ensures scanned { (list : List Stamped) (pending : List Pending) → Stands banks.now list →
             AreEnds banks.now.checked list last ends.now →
-            AreScanned banks.now.checked list pending.now now last (limit_of last) (length pending.now) self.new }
+            AreKeysIn banks.now.checked.geometry pending keys.now →
+            AreScanned banks.now.checked list pending now last (limit_of last) (length pending) self.new }
     {
         let mut any = false;
-        for (index, request) in pending.iter().enumerate() {
-            if is_free(marks[index], request) {
+        for (index, key) in keys.iter().enumerate() {
+            if key.is_free() {
                 any = true;
-                let end = ends[request.place.rank as usize];
-                self.look(banks, request, index, now, end);
+                self.look(banks, key, index, now, ends);
             }
         }
         any
@@ -171,24 +173,23 @@ pub(crate) struct Soonest {
     pub(crate) any: bool,
 }
 
-/// The requests that may have their commands first in a span, of those with a mark each. It looks at each of them once.
+/// The requests that may have their commands first in a span, of those with a key each. It looks at each key once.
 pub(crate) fn find_soonest(
     banks: &Banks,
     pending: &[Pending],
-    marks: &[bool],
+    keys: &[Key],
     now: u64,
     last: u64,
 ) -> Soonest
-    requires marks { AreMarks banks.now.checked.geometry pending.now marks.now }
-    requires size { length marks.now ≡ length pending.now }
+    requires { AreKeysIn banks.now.checked.geometry pending.now keys.now }
     ensures any { IsTrue result.any ↔ HasEligibleIn banks.now.checked.geometry pending.now }
     ensures found { AreFound banks.now.checked.geometry pending.now now (limit_of last) result.bests }
     ensures best { (list : List Stamped) → Stands banks.now list →
         AreBest banks.now.checked list pending.now now last (limit_of last) (length pending.now) result.bests }
 {
     let ends = ends(banks, last);
-    let mut scan = Scan::none(last, pending.len());
-    let any = scan.look_at_each(banks, pending, marks, &ends, now, last);
+    let mut scan = Scan::none(last, keys.len());
+    let any = scan.look_at_each(banks, keys, &ends, now, last);
     let row = scan.soonest_row(banks, pending, &ends, now);
     Soonest {
         bests: Bests {

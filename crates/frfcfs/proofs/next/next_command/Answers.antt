@@ -1,15 +1,10 @@
-use Rattle.std.proofs.Common.{ap, arith, inl, length, refl}
-use Rattle.std.proofs.lemmas.List.{length-map}
-use Rattle.frfcfs.proofs.Common.{Pending}
-use Rattle.frfcfs.proofs.WorkLemmas.{allows_of, idle_of, idle_without, keeps_of, marks_of, next_of, work_of}
+use Rattle.std.proofs.Common.{inl, refl}
+use Rattle.frfcfs.proofs.WorkLemmas.{allows_of, idle_of, idle_without, keeps_of, keys_of, next_of, work_of}
 use Rattle.frfcfs.proofs.next.next_command.Goals as goal
 
-pub find_soonest-soonest-requires-clause-marks : goal.find_soonest-soonest-requires-clause-marks
-find_soonest-soonest-requires-clause-marks c =
-    marks_of c.args.banks.now.checked.geometry c.requests-pending.result.now c.args.queue.now.requests c.firsts-firsts.result.now c.requests-pending.ensures.value c.requests-pending.ensures.order c.requires c.firsts-firsts.ensures
-
-pub find_soonest-soonest-requires-clause-size : goal.find_soonest-soonest-requires-clause-size
-find_soonest-soonest-requires-clause-size c = omega (arith, c.firsts-firsts.ensures.size, length-map c.args.queue.now.requests (λ (p : Pending). p.line), ap length c.requests-pending.ensures.value)
+pub find_soonest-soonest-requires : goal.find_soonest-soonest-requires
+find_soonest-soonest-requires c =
+    keys_of c.args.banks.now.checked.geometry c.requests-pending.result.now c.args.queue.now.requests c.keys-keys.result.now c.requests-pending.ensures.value c.requests-pending.ensures.order c.requires c.keys-keys.ensures.keys c.keys-keys.ensures.firsts
 
 pub returns-then-not-has_work-clause-idle : goal.returns-then-not-has_work-clause-idle
 returns-then-not-has_work-clause-idle c list s m at = (

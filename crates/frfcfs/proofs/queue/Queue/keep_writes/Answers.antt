@@ -14,8 +14,9 @@ invariant_of-self c =
     let is : new ≡ numbered_from 0 old = c.number_each.ensures ∙ ap (numbered_from 0) (c.deref_mut.ensures.value ∙ c.move_to_front.ensures.items) in
     let size : moved.len ≡ length new = omega (arith, ap length is, length-numbered 0 old, ap length c.move_to_front.ensures.items, moved.ok) in
     let next : c.len.result ≡ length old = omega (arith, ap length c.move_to_front.ensures.items, moved.ok, c.len.ensures) in
-    rw (written (drop (length new) moved.items) new moved.len size, is, next, c.move_to_front-2.ensures.items) (
-      kept_numbered _ _ _ _ _ (kept_in_front _ _ _ _ _ _ c.self.invariant.0),
+    rw (written (drop (length new) moved.items) new moved.len size, is, next, c.move_to_front-2.ensures.items, c.move_to_front-3.ensures.items) (
+      kept_numbered _ _ _ _ _ _ (kept_in_front _ _ _ _ _ _ _ c.self.invariant.0),
       omega (arith, c.move_to_front.ensures.capacity, c.self.invariant.1),
       omega (arith, c.move_to_front-2.ensures.capacity, c.self.invariant.2),
+      omega (arith, c.move_to_front-3.ensures.capacity, c.self.invariant.3),
     )

@@ -1,0 +1,150 @@
+-- Keys of requests, in a queue that grows, shrinks and is held, and what they say of a request.
+use Rattle.std.proofs.Common.{◌≡◌, ◌≢◌, ℕ, ◌+◌, ◌<◌, ◌≤◌, ◌↔◌, List, [], ◌∷◌, ◌++◌, Bool, IsTrue, true, false, Option, Some, inl, inr, refl, sym, subst, ap, ◌∙◌, arith, All, map, drop, length, length-append, remove, get_or, set, length-set, get_or-set_same, get_or-set_other, slice_get}
+use Rattle.std.proofs.Math.Seq.{map-set_same}
+use Rattle.std.proofs.lemmas.Bool.{cases_eq, cases_lt}
+use Rattle.std.proofs.lemmas.List.{get_or-drop, get_or-map, get_or_append_left, get_or_default, get_or_push, length-drop, length-map, map-append}
+use Rattle.std.proofs.lemmas.List.Edits.{length-remove}
+use Rattle.std.specs.List.{drop-map, take-map}
+use Rattle.std.proofs.lemmas.Option.{get_or_from_slice_get, slice_get_within}
+use Rattle.ddr4_timing.proofs.Addresses.{same_address}
+use Rattle.frfcfs.specs.Scan.{flag_of}
+use Rattle.frfcfs.proofs.Common.{AreHeldBy, AreKeys, AreKeysIn, BankAddress, Geometry, HasBank, IsKeyOf, IsSmall, Key, Kind, LiesIn, Pending, bank_at, bank_index, bank_number, firsts_of, held_by, numbered_from, place_of}
+use Rattle.frfcfs.proofs.HitLemmas.{IsLook}
+use Rattle.frfcfs.proofs.KeepLemmas.{length-numbered, numbered_at}
+use Rattle.frfcfs.proofs.Lists.{something_at}
+use Rattle.frfcfs.proofs.QueueLemmas.{get_or-stood, stood}
+
+-- what a key says of its request, which lies in the geometry
+
+pub key_index : (g : Geometry) (p : Pending) (k : Key) → IsSmall g → LiesIn g p.place → IsKeyOf p k → k.bank ≡ bank_index (bank_at p.place)
+key_index g p k small lies is = omega (arith, is.bank, lies.rank, lies.group, lies.bank, small.ranks, small.groups, small.banks)
+
+pub key_bank : (g : Geometry) (p : Pending) (k : Key) → IsSmall g → LiesIn g p.place → IsKeyOf p k → bank_at (place_of k) ≡ bank_at p.place
+key_bank g p k small lies is =
+    let at = key_index g p k small lies is in
+    same_address (bank_at (place_of k)) (bank_at p.place) (omega (arith, at, lies.group, lies.bank, small.groups, small.banks)) (omega (arith, at, lies.group, lies.bank, small.groups, small.banks))
+    (omega (arith, at, lies.group, lies.bank, small.groups, small.banks))
+
+key_lies : (g : Geometry) (p : Pending) (k : Key) → IsSmall g → LiesIn g p.place → IsKeyOf p k → LiesIn g (place_of k)
+key_lies g p k small lies is =
+    let bank = key_bank g p k small lies is in record {
+      channel = omega (arith, lies.channel);
+      rank = omega (arith, lies.rank, ap (λ (b : BankAddress). b.rank) bank);
+      group = omega (arith, lies.group, ap (λ (b : BankAddress). b.group) bank);
+      bank = omega (arith, lies.bank, ap (λ (b : BankAddress). b.bank) bank);
+      row = omega (arith, lies.row, is.row);
+      column = omega (arith, lies.column);
+    }
+
+pub key_flag : (g : Geometry) (p : Pending) (k : Key) → IsSmall g → LiesIn g p.place → IsKeyOf p k → flag_of k.bank k.kind ≡ flag_of (bank_index (bank_at p.place)) p.kind
+key_flag g p k small lies is = ap (λ (n : ℕ). flag_of n k.kind) (key_index g p k small lies is) ∙ ap (λ (kind : Kind). flag_of (bank_index (bank_at p.place)) kind) is.kind
+
+pub key_small : (g : Geometry) (k : Key) → IsSmall g → LiesIn g (place_of k) → k.bank < 64
+key_small g k small lies = omega (arith, lies.rank, small.ranks)
+
+pub key_there : (pending : List Pending) (keys : List Key) (i : ℕ) (p : Pending) (k : Key) → AreKeys pending keys → slice_get pending i ≡ Some p → IsKeyOf p (get_or keys i k)
+key_there pending keys i p k are at = subst (λ (q : Pending). IsKeyOf q (get_or keys i k)) (get_or_from_slice_get pending i p p at) (are.each i p k (slice_get_within pending i p at))
+
+pub place_there : (g : Geometry) (pending : List Pending) (keys : List Key) (i : ℕ) (p : Pending) → AreKeysIn g pending keys → slice_get pending i ≡ Some p → LiesIn g p.place
+place_there g pending keys i p are at = (are.marks i p (omega (arith, slice_get_within pending i p at, are.keyed.size, length-map keys (λ (k : Key). k.first))) at).0
+
+pub keys_lie : (g : Geometry) (pending : List Pending) (keys : List Key) → IsSmall g → AreKeysIn g pending keys → All (λ k. LiesIn g (place_of k)) keys
+keys_lie g pending keys small are i k within =
+    let (p, at) = something_at pending i (omega (arith, within, are.keyed.size)) in
+    key_lies g p (get_or keys i k) small (place_there g pending keys i p are at) (key_there pending keys i p k are.keyed at)
+
+-- A key says whether its request is eligible.
+pub key_look : (g : Geometry) (pending : List Pending) (keys : List Key) (i : ℕ) (free : Bool) (k : Key) → AreKeysIn g pending keys → i < length keys → (IsTrue free ↔ (IsTrue (get_or keys i k).first × ((get_or keys i k).held ≡ false))) → IsLook g pending i free
+key_look g pending keys i free k are within says p at =
+    let mark = are.marks i p (omega (arith, within, length-map keys (λ (x : Key). x.first))) at in
+    let first = get_or-map (λ (x : Key). x.first) keys i k false within in
+    let held = (key_there pending keys i p k are.keyed at).held in (
+      λ t. let h = says.0 t in (record { here = at; free = sym held ∙ h.1; oldest = mark.1.0 (first ∙ h.0) }, record { rank = mark.0.rank; group = mark.0.group; bank = mark.0.bank }),
+      λ h. says.1 (sym first ∙ mark.1.1 h.0.oldest, held ∙ h.0.free),
+    )
+
+-- one more at the end
+pub keys_push : (pending : List Pending) (keys : List Key) (p : Pending) (k : Key) → AreKeys pending keys → IsKeyOf p k → AreKeys (pending ++ p ∷ []) (keys ++ k ∷ [])
+keys_push pending keys p k are is = record {
+  size = omega (arith, are.size, length-append pending (p ∷ []), length-append keys (k ∷ []));
+  each = λ i d e within. elim (cases_lt i (length pending)) [
+    | inl l ↦ rw (get_or_append_left pending (p ∷ []) d i l, get_or_append_left keys (k ∷ []) e i (omega (arith, l, are.size))) (are.each i d e l)
+    | inr g ↦
+        let end : length pending ≡ i = omega (arith, g, within, length-append pending (p ∷ [])) in
+        rw (get_or_push pending p d i end, get_or_push keys k e i (are.size ∙ end)) is
+  ];
+}
+
+-- one taken out
+pub keys_remove : (pending : List Pending) (keys : List Key) (i : ℕ) → AreKeys pending keys → i < length pending → AreKeys (remove pending i) (remove keys i)
+keys_remove pending keys i are within =
+    let there : i < length keys = omega (arith, within, are.size) in
+    let shorter = length-remove pending i within in record {
+      size = omega (arith, are.size, shorter, length-remove keys i there);
+      each = λ k d e less. rw (get_or-stood pending i k d within, get_or-stood keys i k e there) (are.each (stood i k) d e (grind (arith, less, shorter)));
+    }
+
+pub firsts_remove : (keys : List Key) (i : ℕ) → firsts_of (remove keys i) ≡ remove (firsts_of keys) i
+firsts_remove keys i = simp (map-append, take-map, drop-map)
+
+-- one marked as the first of its line
+pub keys_mark : (pending : List Pending) (keys : List Key) (i : ℕ) (k : Key) → i < length keys → AreKeys pending keys → AreKeys pending (set keys i (record (get_or keys i k) { first = true }))
+keys_mark pending keys i k there are = record {
+  size = length-set keys i (record (get_or keys i k) { first = true }) ∙ are.size;
+  each = λ j d e within. elim (cases_eq j i) [
+    | inl same ↦ rw (same, get_or-set_same keys i (record (get_or keys i k) { first = true }) e there) (let was = are.each i d k (omega (arith, there, are.size)) in record { row = was.row; bank = was.bank; kind = was.kind; held = was.held })
+    | inr other ↦ rw (get_or-set_other keys i j (record (get_or keys i k) { first = true }) e other) (are.each j d e within)
+  ];
+}
+
+-- each numbered anew
+pub keys_numbered : (pending : List Pending) (keys : List Key) → AreKeys pending keys → AreKeys (numbered_from 0 pending) keys
+keys_numbered pending keys are =
+    let size = length-numbered 0 pending in record {
+      size = are.size ∙ sym size;
+      each = λ i d e within.
+          let l : i < length pending = omega (arith, within, size) in
+          rw (numbered_at 0 pending i d l) (let was = are.each i d e l in record { row = was.row; bank = was.bank; kind = was.kind; held = was.held });
+    }
+
+-- each held or not
+
+-- the keys before an end have the marks of their requests
+pub record AreHeldUpto (pending : List Pending) (old new : List Key) (end : ℕ) : Type 0 where
+  pub firsts : firsts_of new ≡ firsts_of old
+  pub below : (i : ℕ) (p : Pending) (k : Key) → i < end → i < length old → get_or new i k ≡ record (get_or old i k) { held = (get_or pending i p).held }
+  pub above : (i : ℕ) (k : Key) → end ≤ i → get_or new i k ≡ get_or old i k
+
+pub keys_held : (hold : Option ℕ) (start : ℕ) (pending : List Pending) (old new : List Key) → length old ≡ length pending → AreHeldBy (map (held_by hold) pending) old new → AreKeys (drop start pending) (drop start old) →
+    AreKeys (drop start (map (held_by hold) pending)) (drop start new)
+keys_held hold start pending old new size held are =
+    let n = length-map pending (held_by hold) in
+    let all = map (held_by hold) pending in record {
+      size = omega (arith, length-drop start new, length-drop start all, held.size, size, n);
+      each = λ i d e within.
+          let there : start + i < length pending = omega (arith, within, length-drop start all, n) in
+          let less : i < length (drop start pending) = omega (arith, there, length-drop start pending) in
+          let request = get_or-map (held_by hold) pending (start + i) d d there in
+          let was : IsKeyOf (get_or pending (start + i) d) (get_or old (start + i) e) = rw (← get_or-drop start pending i d, ← get_or-drop start old i e) (are.each i d e less) in
+          rw (get_or-drop start all i d, get_or-drop start new i e, held.each (start + i) d e (omega (arith, there, size))) (record {
+            row = was.row ∙ ap (λ (q : Pending). q.place.row) (sym request);
+            bank = was.bank ∙ ap (λ (q : Pending). bank_number q.place) (sym request);
+            kind = was.kind ∙ ap (λ (q : Pending). q.kind) (sym request);
+            held = refl;
+          });
+    }
+
+-- a loop that holds each
+pub held_more : (pending : List Pending) (old keys : List Key) (i : ℕ) (k : Key) (p : Pending) → i < length old → length keys ≡ length old → length old ≡ length pending → AreHeldUpto pending old keys i →
+    AreHeldUpto pending old (set keys i (record (get_or keys i k) { held = (get_or pending i p).held })) (i + 1)
+held_more pending old keys i k p within size both before = record {
+  firsts = map-set_same (λ (x : Key). x.first) keys i (record (get_or keys i k) { held = (get_or pending i p).held }) k refl ∙ before.firsts;
+  below = λ j q e less there. elim (cases_eq j i) [
+    | inl same ↦
+        let mark : (get_or pending i p).held ≡ (get_or pending i q).held = ap (λ (x : Pending). x.held) (get_or_default pending i p q (omega (arith, within, both))) in
+        let key : get_or keys i k ≡ get_or old i e = before.above i k (omega arith) ∙ get_or_default old i k e within in
+        rw (same, get_or-set_same keys i (record (get_or keys i k) { held = (get_or pending i p).held }) e (omega (arith, within, size)), key, mark) refl
+    | inr other ↦ rw (get_or-set_other keys i j (record (get_or keys i k) { held = (get_or pending i p).held }) e other) (before.below j q e (grind (arith, less, other)) there)
+  ];
+  above = λ j e from. get_or-set_other keys i j (record (get_or keys i k) { held = (get_or pending i p).held }) e (λ same. omega (arith, same, from)) ∙ before.above j e (omega (arith, from));
+}

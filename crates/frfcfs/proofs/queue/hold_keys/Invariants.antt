@@ -1,0 +1,5 @@
+use Rattle.frfcfs.proofs.KeyLemmas.{AreHeldUpto}
+use Rattle.frfcfs.proofs.queue.hold_keys.Given as goal
+
+abbrev pub invariant-loop-place : goal.invariant-loop-place
+invariant-loop-place l = AreHeldUpto l.pending l.fn.keys l.keys l.place

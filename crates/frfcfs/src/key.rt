@@ -1,0 +1,71 @@
+// What the choice asks of a queued request, beside the request itself.
+ghost use Rattle.std.specs.Prelude.{◌≡◌, ◌↔◌, IsTrue, false};
+ghost use Rattle.ddr4_timing.specs.Places.{bank_at};
+ghost use Rattle.frfcfs.specs.Keys.{bank_number, place_of};
+ghost use Rattle.frfcfs.specs.Requests.{act_of, column_of};
+
+use crate::pending::Kind;
+use ddr4_timing::command::Command;
+use ddr4_timing::place::{BankAddress, Place};
+
+/// What the choice asks of a request before its turn comes, in a fifth of the room that the request takes.
+#[derive(Clone, Copy)]
+pub(crate) struct Key {
+    pub(crate) row: u64,
+    /// Where its bank stands in a table of the 64 banks that a channel has at most.
+    pub(crate) bank: u8,
+    pub(crate) kind: Kind,
+    /// Whether it is the first of its line.
+    pub(crate) first: bool,
+    /// Whether it is to wait for now.
+    pub(crate) held: bool,
+}
+
+/// Where the bank of a place stands in a table of 64, also where no geometry has the place.
+pub(crate) fn bank_number(place: &Place) -> u8
+    ensures { result ≡ bank_number place.now }
+{
+    (place.rank % 4 * 16 + place.group % 4 * 4 + place.bank % 4) as u8
+}
+
+impl Key {
+    /// Is the request eligible?
+    pub(crate) fn is_free(&self) -> bool
+        ensures { IsTrue result ↔ (IsTrue self.now.first × (self.now.held ≡ false)) }
+    {
+        self.first && !self.held
+    }
+
+    /// The request's bank.
+    pub(crate) fn bank_address(&self) -> BankAddress
+        ensures { result ≡ bank_at (place_of self.now) }
+    {
+        let bank = self.bank as u64;
+        BankAddress {
+            rank: bank / 16,
+            group: bank / 4 % 4,
+            bank: bank % 4,
+        }
+    }
+
+    /// The ACT that opens the request's row.
+    pub(crate) fn act(&self) -> Command
+        ensures { result ≡ act_of (place_of self.now) }
+    {
+        Command::Act {
+            at: self.bank_address(),
+            row: self.row,
+        }
+    }
+
+    /// The RD or WR of the first column of the request's row, which goes as soon as that of any other column.
+    pub(crate) fn column(&self) -> Command
+        ensures { result ≡ column_of self.now.kind (place_of self.now) }
+    {
+        let (at, column) = (self.bank_address(), 0);
+        match self.kind {
+            Kind::Read => Command::Rd { at, column },
+            Kind::Write => Command::Wr { at, column },
+        }
+    }
+}
