@@ -1,5 +1,6 @@
 pub mod Credits
 pub mod Settled
+mod Taken
 pub mod Happening
 pub mod Followed
 pub mod Lending

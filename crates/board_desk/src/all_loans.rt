@@ -6,10 +6,7 @@ ghost use Rattle.board_desk.specs.Loans.{AllComeBack, AreRestated, AreTables, Ca
 
 use crate::board_port::BoardPort;
 use crate::loans::{lend, restore};
-use channel_locks::{
-    ChannelFive, ChannelFour, ChannelOne, ChannelSeven, ChannelSix, ChannelThree, ChannelTwo,
-    ChannelZero, PartsName,
-};
+use channel_locks::PartsName;
 use channel_log::{ChannelLogs, ChannelSeat, FrontSeat};
 use channel_part::Part;
 use channel_port::ChannelPort;
@@ -62,14 +59,14 @@ pub(crate) fn lend_all<K: ChannelPort, B: PartsName>(
     ensures six { HasLent K.ChannelPort B.PartsName known.old.logs six.new six_seat.new 6 }
     ensures seven { HasLent K.ChannelPort B.PartsName known.old.logs seven.new seven_seat.new 7 }
 {
-    lend::<K, B, ChannelZero>(logs, known, ports, zero, zero_seat);
-    lend::<K, B, ChannelOne>(logs, known, ports, one, one_seat);
-    lend::<K, B, ChannelTwo>(logs, known, ports, two, two_seat);
-    lend::<K, B, ChannelThree>(logs, known, ports, three, three_seat);
-    lend::<K, B, ChannelFour>(logs, known, ports, four, four_seat);
-    lend::<K, B, ChannelFive>(logs, known, ports, five, five_seat);
-    lend::<K, B, ChannelSix>(logs, known, ports, six, six_seat);
-    lend::<K, B, ChannelSeven>(logs, known, ports, seven, seven_seat);
+    lend(logs, known, ports, 0, zero, zero_seat);
+    lend(logs, known, ports, 1, one, one_seat);
+    lend(logs, known, ports, 2, two, two_seat);
+    lend(logs, known, ports, 3, three, three_seat);
+    lend(logs, known, ports, 4, four, four_seat);
+    lend(logs, known, ports, 5, five, five_seat);
+    lend(logs, known, ports, 6, six, six_seat);
+    lend(logs, known, ports, 7, seven, seven_seat);
 }
 
 // The ports come back to their channels, from the last one to the first.
@@ -127,12 +124,12 @@ pub(crate) fn restore_all<K: ChannelPort + Drop, B: PartsName>(
     ensures six { IsSlotKept K.ChannelPort B.PartsName six.new six_seat.new 6 }
     ensures seven { IsSlotKept K.ChannelPort B.PartsName seven.new seven_seat.new 7 }
 {
-    restore::<K, B, ChannelSeven>(logs, known, ports, hold, ended, seven, seven_seat);
-    restore::<K, B, ChannelSix>(logs, known, ports, hold, ended, six, six_seat);
-    restore::<K, B, ChannelFive>(logs, known, ports, hold, ended, five, five_seat);
-    restore::<K, B, ChannelFour>(logs, known, ports, hold, ended, four, four_seat);
-    restore::<K, B, ChannelThree>(logs, known, ports, hold, ended, three, three_seat);
-    restore::<K, B, ChannelTwo>(logs, known, ports, hold, ended, two, two_seat);
-    restore::<K, B, ChannelOne>(logs, known, ports, hold, ended, one, one_seat);
-    restore::<K, B, ChannelZero>(logs, known, ports, hold, ended, zero, zero_seat);
+    restore(logs, known, ports, hold, ended, 7, seven, seven_seat);
+    restore(logs, known, ports, hold, ended, 6, six, six_seat);
+    restore(logs, known, ports, hold, ended, 5, five, five_seat);
+    restore(logs, known, ports, hold, ended, 4, four, four_seat);
+    restore(logs, known, ports, hold, ended, 3, three, three_seat);
+    restore(logs, known, ports, hold, ended, 2, two, two_seat);
+    restore(logs, known, ports, hold, ended, 1, one, one_seat);
+    restore(logs, known, ports, hold, ended, 0, zero, zero_seat);
 }

@@ -13,10 +13,7 @@ use crate::calling::WholeCall;
 use crate::desk::Desk;
 use crate::lent_desk::{LentDesk, bring_back, lend_out};
 use arm_state::Loss;
-use channel_locks::{
-    ChannelFive, ChannelFour, ChannelOne, ChannelSeven, ChannelSix, ChannelThree, ChannelTwo,
-    ChannelZero, PartsName, Slot,
-};
+use channel_locks::{LockedChannel, PartsName};
 use channel_port::ChannelPort;
 use energy_budget::Energy;
 use nv_workers::BoardName;
@@ -34,14 +31,14 @@ pub struct WholeDone<K: ChannelPort, D: SaveDevice, E: Energy, B: BoardName + Pa
 // All channels are settled.
 fn settle_all<K: ChannelPort, D: SaveDevice, E: Energy, B: BoardName + PartsName>(
     mut desk: Desk<K, D, E, B>,
-    zero: &mut Slot<K, B, ChannelZero>,
-    one: &mut Slot<K, B, ChannelOne>,
-    two: &mut Slot<K, B, ChannelTwo>,
-    three: &mut Slot<K, B, ChannelThree>,
-    four: &mut Slot<K, B, ChannelFour>,
-    five: &mut Slot<K, B, ChannelFive>,
-    six: &mut Slot<K, B, ChannelSix>,
-    seven: &mut Slot<K, B, ChannelSeven>,
+    zero: &mut LockedChannel<K, B>,
+    one: &mut LockedChannel<K, B>,
+    two: &mut LockedChannel<K, B>,
+    three: &mut LockedChannel<K, B>,
+    four: &mut LockedChannel<K, B>,
+    five: &mut LockedChannel<K, B>,
+    six: &mut LockedChannel<K, B>,
+    seven: &mut LockedChannel<K, B>,
 ) -> Desk<K, D, E, B>
     ensures settles { SettlesAll B.PartsName.own
         (desk_of K.ChannelPort D.SaveDevice E.Energy B.BoardName.own B.PartsName.own desk)
@@ -60,6 +57,14 @@ fn settle_all<K: ChannelPort, D: SaveDevice, E: Energy, B: BoardName + PartsName
     ensures five { IsReadyToLend K.ChannelPort five.new.part five.new.seat.log }
     ensures six { IsReadyToLend K.ChannelPort six.new.part six.new.seat.log }
     ensures seven { IsReadyToLend K.ChannelPort seven.new.part seven.new.seat.log }
+    ensures zero_number { zero.new.number ≡ zero.old.number }
+    ensures one_number { one.new.number ≡ one.old.number }
+    ensures two_number { two.new.number ≡ two.old.number }
+    ensures three_number { three.new.number ≡ three.old.number }
+    ensures four_number { four.new.number ≡ four.old.number }
+    ensures five_number { five.new.number ≡ five.old.number }
+    ensures six_number { six.new.number ≡ six.old.number }
+    ensures seven_number { seven.new.number ≡ seven.old.number }
 {
     desk.settle(zero);
     desk.settle(one);
@@ -82,16 +87,24 @@ pub fn whole<
     W: WholeCall<BoardPort<K, B>, D, E>,
 >(
     desk: Desk<K, D, E, B>,
-    zero: &mut Slot<K, B, ChannelZero>,
-    one: &mut Slot<K, B, ChannelOne>,
-    two: &mut Slot<K, B, ChannelTwo>,
-    three: &mut Slot<K, B, ChannelThree>,
-    four: &mut Slot<K, B, ChannelFour>,
-    five: &mut Slot<K, B, ChannelFive>,
-    six: &mut Slot<K, B, ChannelSix>,
-    seven: &mut Slot<K, B, ChannelSeven>,
+    zero: &mut LockedChannel<K, B>,
+    one: &mut LockedChannel<K, B>,
+    two: &mut LockedChannel<K, B>,
+    three: &mut LockedChannel<K, B>,
+    four: &mut LockedChannel<K, B>,
+    five: &mut LockedChannel<K, B>,
+    six: &mut LockedChannel<K, B>,
+    seven: &mut LockedChannel<K, B>,
     call: W,
 ) -> WholeDone<K, D, E, B, W::Answer>
+    requires zero { zero.old.number ≡ 0 }
+    requires one { one.old.number ≡ 1 }
+    requires two { two.old.number ≡ 2 }
+    requires three { three.old.number ≡ 3 }
+    requires four { four.old.number ≡ 4 }
+    requires five { five.old.number ≡ 5 }
+    requires six { six.old.number ≡ 6 }
+    requires seven { seven.old.number ≡ 7 }
     ensures answers { WholeAnswers B.PartsName.own (W.course result.answer)
         (desk_of K.ChannelPort D.SaveDevice E.Energy B.BoardName.own B.PartsName.own desk)
         (desk_of K.ChannelPort D.SaveDevice E.Energy B.BoardName.own B.PartsName.own result.desk) }
@@ -100,6 +113,14 @@ pub fn whole<
         ∷ three.new.part ∷ four.new.part ∷ five.new.part ∷ six.new.part ∷ seven.new.part ∷ [])
         ≡ issued_by K.ChannelPort (zero.old.part ∷ one.old.part ∷ two.old.part ∷ three.old.part
         ∷ four.old.part ∷ five.old.part ∷ six.old.part ∷ seven.old.part ∷ []) }
+    ensures zero { zero.new.number ≡ 0 }
+    ensures one { one.new.number ≡ 1 }
+    ensures two { two.new.number ≡ 2 }
+    ensures three { three.new.number ≡ 3 }
+    ensures four { four.new.number ≡ 4 }
+    ensures five { five.new.number ≡ 5 }
+    ensures six { six.new.number ≡ 6 }
+    ensures seven { seven.new.number ≡ 7 }
 {
     let LentDesk { rest, books } = lend_out(
         settle_all(desk, zero, one, two, three, four, five, six, seven),
@@ -147,14 +168,14 @@ pub fn whole<
 /// the drain of each channel, and each is as its own drain leaves it. A loss that begins no drain issues no command.
 pub fn lose<K, D, E, B, G, R>(
     desk: Desk<K, D, E, B>,
-    zero: &mut Slot<K, B, ChannelZero>,
-    one: &mut Slot<K, B, ChannelOne>,
-    two: &mut Slot<K, B, ChannelTwo>,
-    three: &mut Slot<K, B, ChannelThree>,
-    four: &mut Slot<K, B, ChannelFour>,
-    five: &mut Slot<K, B, ChannelFive>,
-    six: &mut Slot<K, B, ChannelSix>,
-    seven: &mut Slot<K, B, ChannelSeven>,
+    zero: &mut LockedChannel<K, B>,
+    one: &mut LockedChannel<K, B>,
+    two: &mut LockedChannel<K, B>,
+    three: &mut LockedChannel<K, B>,
+    four: &mut LockedChannel<K, B>,
+    five: &mut LockedChannel<K, B>,
+    six: &mut LockedChannel<K, B>,
+    seven: &mut LockedChannel<K, B>,
     rt: &R,
     gate: &G,
 ) -> WholeDone<K, D, E, B, Loss>
@@ -165,6 +186,14 @@ where
     B: BoardName + PartsName + Send,
     G: Gate + Sync,
     R: Threads + Sync,
+    requires zero { zero.old.number ≡ 0 }
+    requires one { one.old.number ≡ 1 }
+    requires two { two.old.number ≡ 2 }
+    requires three { three.old.number ≡ 3 }
+    requires four { four.old.number ≡ 4 }
+    requires five { five.old.number ≡ 5 }
+    requires six { six.old.number ≡ 6 }
+    requires seven { seven.old.number ≡ 7 }
     ensures answers { WholeAnswers B.PartsName.own (loss_course result.answer)
         (desk_of K.ChannelPort D.SaveDevice E.Energy B.BoardName.own B.PartsName.own desk)
         (desk_of K.ChannelPort D.SaveDevice E.Energy B.BoardName.own B.PartsName.own result.desk) }
@@ -181,6 +210,14 @@ where
         ∷ four.old.part ∷ five.old.part ∷ six.old.part ∷ seven.old.part ∷ []))
         (ports_in K.ChannelPort (zero.new.part ∷ one.new.part ∷ two.new.part ∷ three.new.part
         ∷ four.new.part ∷ five.new.part ∷ six.new.part ∷ seven.new.part ∷ []))) }
+    ensures zero { zero.new.number ≡ 0 }
+    ensures one { one.new.number ≡ 1 }
+    ensures two { two.new.number ≡ 2 }
+    ensures three { three.new.number ≡ 3 }
+    ensures four { four.new.number ≡ 4 }
+    ensures five { five.new.number ≡ 5 }
+    ensures six { six.new.number ≡ 6 }
+    ensures seven { seven.new.number ≡ 7 }
 {
     let LentDesk { rest, books } = lend_out(
         settle_all(desk, zero, one, two, three, four, five, six, seven),

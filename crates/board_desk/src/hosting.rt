@@ -4,7 +4,7 @@ ghost use Rattle.nv_workers.specs.Client.{SeesNoLess};
 
 use crate::desk::Desk;
 use arm_state::{ReadRefusal, WriteRefusal};
-use channel_locks::{ChannelName, PartsName, Slot};
+use channel_locks::{LockedChannel, PartsName};
 use channel_port::ChannelPort;
 use energy_budget::Energy;
 use line_memory::Write;
@@ -19,26 +19,28 @@ impl<K: ChannelPort, D: SaveDevice, E: Energy, B: BoardName + PartsName> Desk<K,
     ghost use Rattle.board_desk.specs.Views.{KeepsAround, SameButCounts, desk_of};
 
     /// Writes a line for a host, with what lies behind the lock of the line's channel.
-    pub fn write_in<C: ChannelName>(
+    pub fn write_in(
         &mut self,
-        slot: &mut Slot<K, B, C>,
+        channel: &mut LockedChannel<K, B>,
         host: &mut Host<B>,
         write: Write,
     ) -> Result<Receipt, WriteRefusal>
-        requires asked { IsAskedFor B.make write.line C.NUMBER }
+        requires asked { IsAskedFor B.make write.line channel.old.number }
         ensures writes { HostWritesAtDesk K.ChannelPort D.SaveDevice E.Energy B.BoardName.own
-            B.PartsName.own C.NUMBER write result host.old host.new self.old self.new }
+            B.PartsName.own channel.old.number write result host.old host.new self.old self.new }
         ensures puts { IfOk result (λ receipt. DoneWithLent K.ChannelPort
-            (PutsWrite K.ChannelPort receipt.number) slot.old.part slot.new.part) }
+            (PutsWrite K.ChannelPort receipt.number) channel.old.part channel.new.part) }
         ensures keeps { IfErr result (λ _. DoneWithLent K.ChannelPort
-            (KeepsPort K.ChannelPort) slot.old.part slot.new.part) }
+            (KeepsPort K.ChannelPort) channel.old.part channel.new.part) }
         ensures rises { SeesNoLess host.old host.new }
         ensures rest { KeepsAround K.ChannelPort D.SaveDevice E.Energy B.BoardName.own
             B.PartsName.own self.old self.new }
-        ensures elsewhere { SameElsewhere C.NUMBER self.old.known.logs self.new.known.logs }
+        ensures elsewhere { SameElsewhere channel.old.number
+            self.old.known.logs self.new.known.logs }
+        ensures number { channel.new.number ≡ channel.old.number }
     {
         let data = write.data;
-        match self.write(slot, &mut host.seat, &mut host.share, write) {
+        match self.write(channel, &mut host.seat, &mut host.share, write) {
             Ok(accepted) => Ok(Receipt {
                 number: accepted.number,
                 line: write.line,
@@ -50,36 +52,38 @@ impl<K: ChannelPort, D: SaveDevice, E: Energy, B: BoardName + PartsName> Desk<K,
 
     /// Reads a line for a host, with what lies behind the lock of the line's channel: the bytes or a ticket of that channel, and
     /// how many writes were accepted before.
-    pub fn read_in<C: ChannelName>(
+    pub fn read_in(
         &mut self,
-        slot: &mut Slot<K, B, C>,
+        channel: &mut LockedChannel<K, B>,
         host: &mut Host<B>,
         line: u64,
     ) -> Result<GotAt, ReadRefusal>
-        requires asked { IsAskedFor B.make line C.NUMBER }
-        ensures ok { IfOk result (λ r. DeskAnswers B.PartsName.own C.NUMBER
+        requires asked { IsAskedFor B.make line channel.old.number }
+        ensures ok { IfOk result (λ r. DeskAnswers B.PartsName.own channel.old.number
             (Event.Read line) (Reply.Read (Ok r.got))
             (desk_of K.ChannelPort D.SaveDevice E.Energy B.BoardName.own B.PartsName.own self.old)
             (desk_of K.ChannelPort D.SaveDevice E.Energy B.BoardName.own B.PartsName.own
             self.new)) }
-        ensures err { IfErr result (λ refusal. DeskAnswers B.PartsName.own C.NUMBER
+        ensures err { IfErr result (λ refusal. DeskAnswers B.PartsName.own channel.old.number
             (Event.Read line) (Reply.Read (Err refusal))
             (desk_of K.ChannelPort D.SaveDevice E.Energy B.BoardName.own B.PartsName.own self.old)
             (desk_of K.ChannelPort D.SaveDevice E.Energy B.BoardName.own B.PartsName.own
             self.new)) }
-        ensures ticket { IfOk result (λ r. IsTicketOf C.NUMBER r.got) }
+        ensures ticket { IfOk result (λ r. IsTicketOf channel.old.number r.got) }
         ensures at { IfOk result (λ r. r.at ≡ self.old.split.front.accepted) }
         ensures seen { IfOk result (λ r. r.at ≡ host.new.accepted) }
         ensures reads { IfOk result (λ r. DoneWithLent K.ChannelPort
-            (ReadsLine K.ChannelPort line C.NUMBER r) slot.old.part slot.new.part) }
+            (ReadsLine K.ChannelPort line channel.old.number r) channel.old.part channel.new.part) }
         ensures keeps { IfErr result (λ _. DoneWithLent K.ChannelPort
-            (KeepsPort K.ChannelPort) slot.old.part slot.new.part) }
+            (KeepsPort K.ChannelPort) channel.old.part channel.new.part) }
         ensures rises { SeesNoLess host.old host.new }
         ensures writes { host.new.writes ≡ host.old.writes }
         ensures same { SameButCounts K.ChannelPort D.SaveDevice E.Energy B.BoardName.own
             B.PartsName.own self.old self.new }
-        ensures elsewhere { SameElsewhere C.NUMBER self.old.known.logs self.new.known.logs }
+        ensures elsewhere { SameElsewhere channel.old.number
+            self.old.known.logs self.new.known.logs }
+        ensures number { channel.new.number ≡ channel.old.number }
     {
-        self.read(slot, &mut host.seat, line)
+        self.read(channel, &mut host.seat, line)
     }
 }

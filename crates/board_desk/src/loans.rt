@@ -8,34 +8,35 @@ ghost use Rattle.channel_locks.specs.Unlocked.{port_in};
 ghost use Rattle.board_desk.specs.Loans.{ComesBack, HaveLent, IsReadyToLend, restated, waits_of_port};
 
 use crate::board_port::BoardPort;
-use channel_locks::{ChannelName, PartsName};
+use channel_locks::PartsName;
 use channel_log::{ChannelLogs, ChannelSeat, FrontSeat, Standing};
 use channel_part::Part;
 use channel_port::ChannelPort;
 use std::marker::Brand;
 
 // The port of a channel's part goes behind the others, where the board has the channel. What both seats know of it is the same.
-pub(crate) fn lend<K: ChannelPort, B: PartsName, C: ChannelName>(
+pub(crate) fn lend<K: ChannelPort, B: PartsName>(
     logs: &ChannelLogs,
     known: &mut FrontSeat,
     ports: &mut Vec<BoardPort<K, B>>,
+    number: u64,
     part: &mut Option<Part<K>>,
     seat: &mut ChannelSeat,
 )
-    requires kept { IsSlotKept K.ChannelPort B.PartsName part.old seat.old C.NUMBER }
+    requires kept { IsSlotKept K.ChannelPort B.PartsName part.old seat.old number }
     requires tables { AreOf logs.now known.old seat.old }
     requires ready { IsReadyToLend K.ChannelPort part.old seat.old.log }
-    requires count { vec_len ports.old ≡ min C.NUMBER B.ports }
+    requires count { vec_len ports.old ≡ min number B.ports }
     requires room { B.ports ≤ vec_capacity ports.old }
     ensures known { known.new ≡ known.old }
     ensures seat { seat.new ≡ seat.old }
-    ensures agreed { IsLogOf known.old.logs C.NUMBER seat.old.log }
+    ensures agreed { IsLogOf known.old.logs number seat.old.log }
     ensures lent { part.new ≡ None }
     ensures port { ports.new.items ≡ ports.old.items ++ port_in K.ChannelPort part.old }
-    ensures count { vec_len ports.new ≡ min (C.NUMBER + 1) B.ports }
+    ensures count { vec_len ports.new ≡ min (number + 1) B.ports }
     ensures capacity { vec_capacity ports.new ≡ vec_capacity ports.old }
-    ensures have { ∥ HaveLent K.ChannelPort B.PartsName known.old.logs C.NUMBER ports.old.items ∥₁
-        → ∥ HaveLent K.ChannelPort B.PartsName known.old.logs (C.NUMBER + 1) ports.new.items ∥₁ }
+    ensures have { ∥ HaveLent K.ChannelPort B.PartsName known.old.logs number ports.old.items ∥₁
+        → ∥ HaveLent K.ChannelPort B.PartsName known.old.logs (number + 1) ports.new.items ∥₁ }
 {
     known.compare(logs, seat);
     if let Some(lent) = part.take() {
@@ -155,40 +156,41 @@ fn unpack<K: ChannelPort, B: PartsName>(port: Option<BoardPort<K, B>>) -> Option
 }
 
 // A channel's port comes back from the end of those that were lent, where the board has the channel.
-pub(crate) fn restore<K: ChannelPort + Drop, B: PartsName, C: ChannelName>(
+pub(crate) fn restore<K: ChannelPort + Drop, B: PartsName>(
     logs: &ChannelLogs,
     known: &mut FrontSeat,
     ports: &mut Vec<BoardPort<K, B>>,
     hold: Option<u64>,
     ended: bool,
+    number: u64,
     part: &mut Option<Part<K>>,
     seat: &mut ChannelSeat,
 )
     requires lent { part.old ≡ None }
     requires tables { AreOf logs.now known.old seat.old }
     requires table { seat.old.table ≡ B.logs }
-    requires channel { seat.old.channel ≡ C.NUMBER }
-    requires count { vec_len ports.old ≡ min (C.NUMBER + 1) B.ports }
+    requires channel { seat.old.channel ≡ number }
+    requires count { vec_len ports.old ≡ min (number + 1) B.ports }
     requires stays { (log_tells seat.old.log).ended ≡ true → ended ≡ true }
-    requires due { ∥ ComesBack K.ChannelPort B.PartsName hold ended C.NUMBER
+    requires due { ∥ ComesBack K.ChannelPort B.PartsName hold ended number
         (log_tells seat.old.log) ports.old.items ∥₁ }
-    ensures count { vec_len ports.new ≡ min C.NUMBER B.ports }
+    ensures count { vec_len ports.new ≡ min number B.ports }
     ensures capacity { vec_capacity ports.new ≡ vec_capacity ports.old }
-    ensures ports { ports.new.items ≡ take C.NUMBER ports.old.items }
+    ensures ports { ports.new.items ≡ take number ports.old.items }
     ensures port { ports.old.items ≡ ports.new.items ++ port_in K.ChannelPort part.new }
-    ensures kept { IsSlotKept K.ChannelPort B.PartsName part.new seat.new C.NUMBER }
+    ensures kept { IsSlotKept K.ChannelPort B.PartsName part.new seat.new number }
     ensures known { known.new ≡ record known.old {
-      logs = slice_set known.old.logs C.NUMBER seat.new.log;
+      logs = slice_set known.old.logs number seat.new.log;
     } }
-    ensures agreed { IsLogOf known.old.logs C.NUMBER seat.old.log }
+    ensures agreed { IsLogOf known.old.logs number seat.old.log }
     ensures told { log_tells seat.new.log ≡ restated hold ended
-        (waits_of_port K.ChannelPort (slice_get ports.old.items C.NUMBER))
+        (waits_of_port K.ChannelPort (slice_get ports.old.items number))
         (log_tells seat.old.log) }
     ensures few { credits_of seat.new.log ≤ 64 }
 {
-    let port = unpack(pop_at(ports, C::NUMBER));
+    let port = unpack(pop_at(ports, number));
     note_back::<Brand, K>(logs, known, seat, &port, hold, ended);
     if let Some(port) = port {
-        *part = Some(Part::of(C::NUMBER, port, ended));
+        *part = Some(Part::of(number, port, ended));
     }
 }

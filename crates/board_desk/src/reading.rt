@@ -5,7 +5,7 @@ ghost use Rattle.mark_board.specs.SeenMarks.{IsNotAbove, seen_marks};
 use crate::desk::Desk;
 use crate::noting::look_at;
 use arm_state::ReadRefusal;
-use channel_locks::{ChannelName, PartsName, Slot};
+use channel_locks::{LockedChannel, PartsName};
 use channel_port::ChannelPort;
 use energy_budget::Energy;
 use mark_board::HostSeat;
@@ -27,51 +27,53 @@ impl<K: ChannelPort, D: SaveDevice, E: Energy, B: BoardName + PartsName> Desk<K,
     ghost use Rattle.board_desk.specs.Answering.{DoneWithLent, KeepsPort, ReadsLine};
     ghost use Rattle.board_desk.specs.Views.{SameButCounts, desk_of};
 
-    /// Reads a line of the slot's channel for a host, whose seat then sees the marks: the bytes or a ticket, and how many writes
+    /// Reads a line of the channel for a host, whose seat then sees the marks: the bytes or a ticket, and how many writes
     /// were accepted before. What the channel did since both locks were held is seen before, and its returned credits are taken
     /// back. The channel issues no command. A read that is refused or answered at once leaves no read open, and one with a ticket
     /// that one.
-    pub fn read<C: ChannelName>(
+    pub fn read(
         &mut self,
-        slot: &mut Slot<K, B, C>,
+        channel: &mut LockedChannel<K, B>,
         host: &mut HostSeat,
         line: u64,
     ) -> Result<GotAt, ReadRefusal>
-        requires asked { IsAskedFor B.make line C.NUMBER }
+        requires asked { IsAskedFor B.make line channel.old.number }
         requires host { host.old.board ≡ B.board }
-        ensures ok { IfOk result (λ r. DeskAnswers B.PartsName.own C.NUMBER
+        ensures ok { IfOk result (λ r. DeskAnswers B.PartsName.own channel.old.number
             (Event.Read line) (Reply.Read (Ok r.got))
             (desk_of K.ChannelPort D.SaveDevice E.Energy B.BoardName.own B.PartsName.own self.old)
             (desk_of K.ChannelPort D.SaveDevice E.Energy B.BoardName.own B.PartsName.own
             self.new)) }
-        ensures err { IfErr result (λ refusal. DeskAnswers B.PartsName.own C.NUMBER
+        ensures err { IfErr result (λ refusal. DeskAnswers B.PartsName.own channel.old.number
             (Event.Read line) (Reply.Read (Err refusal))
             (desk_of K.ChannelPort D.SaveDevice E.Energy B.BoardName.own B.PartsName.own self.old)
             (desk_of K.ChannelPort D.SaveDevice E.Energy B.BoardName.own B.PartsName.own
             self.new)) }
-        ensures ticket { IfOk result (λ r. IsTicketOf C.NUMBER r.got) }
+        ensures ticket { IfOk result (λ r. IsTicketOf channel.old.number r.got) }
         ensures at { IfOk result (λ r. r.at ≡ self.old.split.front.accepted) }
         ensures reads { IfOk result (λ r. DoneWithLent K.ChannelPort
-            (ReadsLine K.ChannelPort line C.NUMBER r) slot.old.part slot.new.part) }
+            (ReadsLine K.ChannelPort line channel.old.number r) channel.old.part channel.new.part) }
         ensures keeps { IfErr result (λ _. DoneWithLent K.ChannelPort
-            (KeepsPort K.ChannelPort) slot.old.part slot.new.part) }
+            (KeepsPort K.ChannelPort) channel.old.part channel.new.part) }
         ensures same { SameButCounts K.ChannelPort D.SaveDevice E.Energy B.BoardName.own
             B.PartsName.own self.old self.new }
-        ensures elsewhere { SameElsewhere C.NUMBER self.old.known.logs self.new.known.logs }
+        ensures elsewhere { SameElsewhere channel.old.number
+            self.old.known.logs self.new.known.logs }
+        ensures number { channel.new.number ≡ channel.old.number }
         ensures seen { host.new ≡ seen_marks B.board
             self.old.split.front.accepted self.old.split.front.persisted }
         ensures rises { IsNotAbove host.old host.new }
     {
-        self.settle(slot);
-        let Some(part) = &mut slot.part else {
+        self.settle(channel);
+        let Some(part) = &mut channel.part else {
             unreachable!();
         };
-        slot.seat.always();
+        channel.seat.always();
         let at = accepted_by(&self.split);
         self.seat.inform(&self.marks, host);
         match read_on(&self.split, part, line) {
             Ok(got) => {
-                look_at::<Brand, K>(&self.logs, &mut self.known, &mut slot.seat, part);
+                look_at::<Brand, K>(&self.logs, &mut self.known, &mut channel.seat, part);
                 Ok(GotAt { got, at })
             }
             Err(refusal) => Err(refusal),

@@ -3,7 +3,7 @@ ghost use Rattle.std.specs.Prelude.{◌≡◌};
 
 use crate::desk::Desk;
 use crate::noting::look_at;
-use channel_locks::{ChannelName, PartsName, Slot};
+use channel_locks::{LockedChannel, PartsName};
 use channel_port::ChannelPort;
 use energy_budget::Energy;
 use nv_workers::BoardName;
@@ -16,23 +16,25 @@ impl<K: ChannelPort, D: SaveDevice, E: Energy, B: BoardName + PartsName> Desk<K,
     ghost use Rattle.board_desk.specs.Views.{SameButCounts, desk_of};
 
     /// Takes all returned credits of a channel back, and notes what waits on it. A channel that the board lacks has none.
-    pub fn settle<C: ChannelName>(&mut self, slot: &mut Slot<K, B, C>)
-        ensures settles { Settles B.PartsName.own C.NUMBER
+    pub fn settle(&mut self, channel: &mut LockedChannel<K, B>)
+        ensures settles { Settles B.PartsName.own channel.old.number
             (desk_of K.ChannelPort D.SaveDevice E.Energy B.BoardName.own B.PartsName.own self.old)
             (desk_of K.ChannelPort D.SaveDevice E.Energy B.BoardName.own B.PartsName.own self.new) }
         ensures same { SameButCounts K.ChannelPort D.SaveDevice E.Energy B.BoardName.own
             B.PartsName.own self.old self.new }
-        ensures elsewhere { SameElsewhere C.NUMBER self.old.known.logs self.new.known.logs }
+        ensures elsewhere { SameElsewhere channel.old.number
+            self.old.known.logs self.new.known.logs }
         ensures settled { HasSettled K.ChannelPort
-            self.new.known.logs slot.new.part slot.new.seat.log }
-        ensures part { SettlesPart K.ChannelPort slot.old.part slot.new.part }
+            self.new.known.logs channel.new.part channel.new.seat.log }
+        ensures part { SettlesPart K.ChannelPort channel.old.part channel.new.part }
+        ensures number { channel.new.number ≡ channel.old.number }
     {
-        let Some(part) = &mut slot.part else {
+        let Some(part) = &mut channel.part else {
             return;
         };
-        slot.seat.always();
-        self.known.compare(&self.logs, &mut slot.seat);
+        channel.seat.always();
+        self.known.compare(&self.logs, &mut channel.seat);
         take_back(&mut self.split, part);
-        look_at::<Brand, K>(&self.logs, &mut self.known, &mut slot.seat, part);
+        look_at::<Brand, K>(&self.logs, &mut self.known, &mut channel.seat, part);
     }
 }

@@ -8,7 +8,7 @@ ghost use Rattle.nv_workers.specs.Marks.{ShowsNoMore};
 use crate::desk::Desk;
 use crate::noting::note_write;
 use arm_state::WriteRefusal;
-use channel_locks::{ChannelName, PartsName, Slot};
+use channel_locks::{LockedChannel, PartsName};
 use channel_port::ChannelPort;
 use energy_budget::Energy;
 use line_memory::Write;
@@ -35,20 +35,20 @@ impl<K: ChannelPort, D: SaveDevice, E: Energy, B: BoardName + PartsName> Desk<K,
     ghost use Rattle.board_desk.specs.Answering.{DoneWithLent, KeepsPort, PutsWrite};
     ghost use Rattle.board_desk.specs.Views.{KeepsAround, desk_of};
 
-    /// Writes a line of the slot's channel for a host, whose share counts the write if it was accepted, and whose seat then sees
+    /// Writes a line of the channel for a host, whose share counts the write if it was accepted, and whose seat then sees
     /// the marks. What the channel did since both locks were held is seen before, and its returned credits are taken back. The
     /// channel issues no command, and none of its reads is answered or collected.
-    pub fn write<C: ChannelName>(
+    pub fn write(
         &mut self,
-        slot: &mut Slot<K, B, C>,
+        channel: &mut LockedChannel<K, B>,
         host: &mut HostSeat,
         share: &mut Share<B>,
         write: Write,
     ) -> Result<Accepted, WriteRefusal>
-        requires asked { IsAskedFor B.make write.line C.NUMBER }
+        requires asked { IsAskedFor B.make write.line channel.old.number }
         requires host { host.old.board ≡ B.board }
         requires part { 0 < share.old.parts }
-        ensures answers { DeskAnswers B.PartsName.own C.NUMBER
+        ensures answers { DeskAnswers B.PartsName.own channel.old.number
             (Event.Write write) (Reply.Write result)
             (desk_of K.ChannelPort D.SaveDevice E.Energy B.BoardName.own B.PartsName.own self.old)
             (desk_of K.ChannelPort D.SaveDevice E.Energy B.BoardName.own B.PartsName.own self.new) }
@@ -56,11 +56,13 @@ impl<K: ChannelPort, D: SaveDevice, E: Energy, B: BoardName + PartsName> Desk<K,
             AcceptsOne self.old.split.front accepted self.new.split.front) }
         ensures rest { KeepsAround K.ChannelPort D.SaveDevice E.Energy B.BoardName.own
             B.PartsName.own self.old self.new }
-        ensures elsewhere { SameElsewhere C.NUMBER self.old.known.logs self.new.known.logs }
+        ensures elsewhere { SameElsewhere channel.old.number
+            self.old.known.logs self.new.known.logs }
         ensures puts { IfOk result (λ accepted. DoneWithLent K.ChannelPort
-            (PutsWrite K.ChannelPort accepted.number) slot.old.part slot.new.part) }
+            (PutsWrite K.ChannelPort accepted.number) channel.old.part channel.new.part) }
         ensures keeps { IfErr result (λ _. DoneWithLent K.ChannelPort
-            (KeepsPort K.ChannelPort) slot.old.part slot.new.part) }
+            (KeepsPort K.ChannelPort) channel.old.part channel.new.part) }
+        ensures number { channel.new.number ≡ channel.old.number }
         ensures history { self.new.history.writes
             ≡ self.old.history.writes ++ added (Event.Write write) (Reply.Write result) }
         ensures seen { host.new ≡ seen_marks B.board
@@ -70,16 +72,16 @@ impl<K: ChannelPort, D: SaveDevice, E: Energy, B: BoardName + PartsName> Desk<K,
             ≡ share.old.amount + length (added (Event.Write write) (Reply.Write result)) }
         ensures parts { share.new.parts ≡ share.old.parts }
     {
-        self.settle(slot);
-        let Some(part) = &mut slot.part else {
+        self.settle(channel);
+        let Some(part) = &mut channel.part else {
             unreachable!();
         };
-        slot.seat.always();
+        channel.seat.always();
         let reply = write_on(&mut self.split, part, write);
         note_write::<Brand, K>(
             &self.logs,
             &mut self.known,
-            &mut slot.seat,
+            &mut channel.seat,
             part,
             write,
             reply,

@@ -23,4 +23,4 @@ module _ {K : Type 0} (L : Ghosts K) where
 
   -- the parts of all channels, in order
   abbrev pub parts_of : {B : Type 0} (O : NameGhosts B) → UnlockedChannels K B L O → List (Option (Part K L))
-  parts_of O it = it.zero.part ∷ it.one.part ∷ it.two.part ∷ it.three.part ∷ it.four.part ∷ it.five.part ∷ it.six.part ∷ it.seven.part ∷ []
+  parts_of O it = map (λ channel. channel.part) it.channels.items

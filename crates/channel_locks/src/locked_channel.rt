@@ -3,7 +3,7 @@ ghost use Rattle.std.specs.Prelude.{◌≡◌};
 ghost use Rattle.channel_locks.specs.Slots.{IsPartWhereDue, IsSlotKept};
 
 use crate::parts_name::PartsName;
-use channel_log::ChannelSeat;
+use channel_log::{ChannelLogs, ChannelSeat, FrontSeat};
 use channel_part::Part;
 use channel_port::ChannelPort;
 use std::marker::PhantomData;
@@ -19,6 +19,7 @@ pub struct LockedChannel<K: ChannelPort, B: PartsName> {
 }
 
 impl<K: ChannelPort, B: PartsName> LockedChannel<K, B> {
+    ghost use Rattle.channel_log.specs.Log.{IsLogOf};
     ghost use Rattle.channel_locks.specs.Lent.{IsOfChannel};
 
     /// The part of a channel, where the board has it, with the seat of the channel's log.
@@ -44,5 +45,18 @@ impl<K: ChannelPort, B: PartsName> LockedChannel<K, B> {
     {
         // the part keeps it by the fact of what lies behind the lock, so there is nothing to do
         let _ = &self.seat;
+    }
+
+    /// What the channel's seat knows the seat of all channels knows too.
+    pub fn compare(&mut self, logs: &ChannelLogs, known: &mut FrontSeat)
+        requires logs { logs.now ≡ B.logs }
+        requires known { known.old.table ≡ B.logs }
+        ensures number { self.new.number ≡ self.old.number }
+        ensures part { self.new.part ≡ self.old.part }
+        ensures seat { self.new.seat ≡ self.old.seat }
+        ensures known { known.new ≡ known.old }
+        ensures agreed { IsLogOf known.old.logs self.old.number self.old.seat.log }
+    {
+        known.compare(logs, &mut self.seat);
     }
 }

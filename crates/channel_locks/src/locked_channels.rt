@@ -1,8 +1,8 @@
 // The locks of all channels of a board, by number.
-ghost use Rattle.std.specs.Prelude.{◌≡◌, ◌<◌, ◌≤◌, vec_len};
+ghost use Rattle.std.specs.Prelude.{◌≡◌, ◌<◌, ◌≤◌, [], vec_capacity, vec_len};
 ghost use Rattle.std.specs.Sync.Mutex.{mutex_guard_value};
 ghost use Rattle.channel_port.specs.declared.answers.Collected.TheVariants.{Unknown};
-ghost use Rattle.channel_locks.specs.Lent.{LentRoom, LentServe, LentTurn};
+ghost use Rattle.channel_locks.specs.Lent.{LentEnd, LentRoom, LentServe, LentTurn};
 
 use crate::locked_channel::LockedChannel;
 use crate::locks::take_lock;
@@ -13,11 +13,21 @@ use std::sync::{Mutex, MutexGuard, Wait};
 use std::thread;
 use worker_gate::Gate;
 
-/// A lock for each of eight channels. Behind the lock of a number lies the channel of that number.
+/// Room for a board's channels, without any.
+#[derive(Drop)]
+pub(crate) struct ChannelRoom<K: ChannelPort, B: PartsName> {
+    pub(crate) channels: Vec<LockedChannel<K, B>>,
+    ghost empty: { channels.items ≡ [] },
+    ghost spacious: { 8 ≤ vec_capacity channels },
+}
+
+/// A lock for each of eight channels, and room for what lies behind them. Behind the lock of a number lies the channel of that number.
+/// The room has a lock too, which nobody takes: threads share no channel but behind one.
 #[derive(Drop)]
 pub struct LockedChannels<K: ChannelPort, B: PartsName> {
-    pub locks: Vec<Mutex<LockedChannel<K, B>>>,
-    pub ghost eight: { vec_len locks ≡ 8 },
+    pub(crate) locks: Vec<Mutex<LockedChannel<K, B>>>,
+    pub(crate) room: Mutex<ChannelRoom<K, B>>,
+    ghost eight: { vec_len locks ≡ 8 },
 }
 
 impl<K: ChannelPort, B: PartsName> LockedChannels<K, B> {
@@ -63,5 +73,12 @@ impl<K: ChannelPort, B: PartsName> LockedChannels<K, B> {
         ensures { LentRoom K.ChannelPort B.PartsName channel }
     {
         self.take(rt, channel).make_room();
+    }
+
+    /// Were mains lost? The lock of channel 0, which each board has, is taken alone.
+    pub fn has_ended<R: Wait>(&self, rt: &R) -> bool
+        ensures { LentEnd K.ChannelPort B.PartsName 0 result }
+    {
+        self.take(rt, 0).has_ended()
     }
 }

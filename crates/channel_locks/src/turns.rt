@@ -2,9 +2,8 @@
 ghost use Rattle.std.specs.Prelude.{◌≡◌};
 ghost use Rattle.worker_gate.specs.Inside.{AwaitsInside};
 
-use crate::channel_name::ChannelName;
+use crate::locked_channel::LockedChannel;
 use crate::parts_name::PartsName;
-use crate::slot::Slot;
 use channel_port::{ChannelPort, Done};
 use worker_gate::{Gate, await_inside};
 
@@ -15,17 +14,18 @@ pub struct ChannelTurn {
     pub ended: bool,
 }
 
-impl<K: ChannelPort, B: PartsName, C: ChannelName> Slot<K, B, C> {
+impl<K: ChannelPort, B: PartsName> LockedChannel<K, B> {
     ghost use Rattle.channel_locks.specs.Alone.{WorksAlone, lost_mains_in};
 
     /// Takes a turn of the channel's worker: the gate is asked once more, and then the channel issues one command, if it has one.
     pub fn take_turn<G: Gate>(&mut self, gate: &G) -> ChannelTurn
-        ensures asked { AwaitsInside G.Gate C.NUMBER gate.now }
+        ensures asked { AwaitsInside G.Gate self.old.number gate.now }
         ensures works { WorksAlone K.ChannelPort result.done self.old.part self.new.part }
         ensures ended { result.ended ≡ lost_mains_in K.ChannelPort self.new.part }
         ensures seat { self.new.seat ≡ self.old.seat }
+        ensures number { self.new.number ≡ self.old.number }
     {
-        await_inside(gate, C::NUMBER);
+        await_inside(gate, self.number);
         let done = self.work();
         let ended = self.has_ended();
         ChannelTurn { done, ended }

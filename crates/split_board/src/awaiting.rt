@@ -2,7 +2,7 @@
 use crate::board::Board;
 use crate::claim::Claim;
 use arm_state::ReadRefusal;
-use channel_locks::{ChannelLocks, PartsName};
+use channel_locks::{LockedChannels, PartsName};
 use channel_port::{ChannelPort, Collected, Ticket};
 use energy_budget::Energy;
 use notice_book::Notices;
@@ -16,7 +16,7 @@ use worker_loops::{Lookout, await_read};
 #[derive(Drop)]
 struct TicketLookout<'a, K: ChannelPort, B: PartsName, R> {
     rt: &'a R,
-    channels: &'a ChannelLocks<K, B>,
+    channels: &'a LockedChannels<K, B>,
 }
 
 impl<K: ChannelPort, B: PartsName, R: Wait> Lookout for TicketLookout<'_, K, B, R> {

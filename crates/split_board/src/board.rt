@@ -5,7 +5,7 @@ ghost use Rattle.split_board.specs.Lines.{AreLinesOfBoard};
 
 use crate::locked_desk::LockedDesk;
 use board_desk::Desk;
-use channel_locks::{ChannelLocks, LineChannels, PartsName};
+use channel_locks::{LineChannels, LockedChannels, PartsName};
 use channel_port::ChannelPort;
 use energy_budget::Energy;
 use notice_book::Notices;
@@ -18,7 +18,7 @@ use std::sync::Mutex;
 #[derive(Drop)]
 pub struct Board<K: ChannelPort, D: SaveDevice, E: Energy, B: BoardName + PartsName, N: Notices> {
     pub(crate) desk: Mutex<LockedDesk<K, D, E, B>>,
-    pub(crate) channels: ChannelLocks<K, B>,
+    pub(crate) channels: LockedChannels<K, B>,
     pub(crate) lines: LineChannels,
     pub(crate) notices: Mutex<N>,
     ghost laid: { AreLinesOfBoard B.BoardName B.PartsName lines },
@@ -34,7 +34,7 @@ impl<K: ChannelPort, D: SaveDevice, E: Energy, B: BoardName + PartsName, N: Noti
     // Puts a desk, its channels and a book of notices behind their locks.
     pub(crate) fn new(
         desk: Desk<K, D, E, B>,
-        channels: ChannelLocks<K, B>,
+        channels: LockedChannels<K, B>,
         lines: LineChannels,
         notices: N,
     ) -> Board<K, D, E, B, N>

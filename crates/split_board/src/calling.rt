@@ -10,7 +10,7 @@ use board_desk::{
     ArmCall, BoardPort, DisarmCall, SaveBeginCall, SaveStepCall, SenseCall, WholeCall, WholeDone,
     lose, whole,
 };
-use channel_locks::{AllSlots, ChannelLocks, PartsName, take_lock};
+use channel_locks::{LockedChannels, PartsName, take_lock};
 use channel_port::ChannelPort;
 use energy_budget::Energy;
 use notice_book::Notices;
@@ -25,7 +25,7 @@ use worker_gate::Gate;
 pub(crate) fn call_locked<K, D, E, B, W, R>(
     rt: &R,
     locked: &mut LockedDesk<K, D, E, B>,
-    channels: &ChannelLocks<K, B>,
+    channels: &LockedChannels<K, B>,
     call: W,
 ) -> W::Answer
 where
@@ -38,16 +38,14 @@ where
     ensures { CallsLocked K.ChannelPort D.SaveDevice E.Energy B.BoardName.own B.PartsName.own
         (W.course result) (W.told result) locked.old.desk locked.new.desk }
 {
-    let AllSlots {
-        mut zero,
-        mut one,
-        mut two,
-        mut three,
-        mut four,
-        mut five,
-        mut six,
-        mut seven,
-    } = channels.take_all(rt);
+    let mut zero = channels.take(rt, 0);
+    let mut one = channels.take(rt, 1);
+    let mut two = channels.take(rt, 2);
+    let mut three = channels.take(rt, 3);
+    let mut four = channels.take(rt, 4);
+    let mut five = channels.take(rt, 5);
+    let mut six = channels.take(rt, 6);
+    let mut seven = channels.take(rt, 7);
     let Some(desk) = locked.desk.take() else {
         unreachable!();
     };
@@ -71,7 +69,7 @@ where
 fn lose_locked<K, D, E, B, G, R>(
     rt: &R,
     locked: &mut LockedDesk<K, D, E, B>,
-    channels: &ChannelLocks<K, B>,
+    channels: &LockedChannels<K, B>,
     gate: &G,
 ) -> Loss
 where
@@ -84,16 +82,14 @@ where
     ensures { LosesLocked K.ChannelPort D.SaveDevice E.Energy B.BoardName.own B.PartsName.own
         G.Gate gate.now result locked.old.desk locked.new.desk }
 {
-    let AllSlots {
-        mut zero,
-        mut one,
-        mut two,
-        mut three,
-        mut four,
-        mut five,
-        mut six,
-        mut seven,
-    } = channels.take_all(rt);
+    let mut zero = channels.take(rt, 0);
+    let mut one = channels.take(rt, 1);
+    let mut two = channels.take(rt, 2);
+    let mut three = channels.take(rt, 3);
+    let mut four = channels.take(rt, 4);
+    let mut five = channels.take(rt, 5);
+    let mut six = channels.take(rt, 6);
+    let mut seven = channels.take(rt, 7);
     let Some(desk) = locked.desk.take() else {
         unreachable!();
     };

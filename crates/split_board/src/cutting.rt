@@ -5,7 +5,7 @@ use crate::board::Board;
 use crate::calling::call_locked;
 use crate::locked_desk::LockedDesk;
 use board_desk::CutCall;
-use channel_locks::{ChannelLocks, PartsName, take_lock};
+use channel_locks::{LockedChannels, PartsName, take_lock};
 use channel_port::ChannelPort;
 use energy_budget::Energy;
 use notice_book::Notices;
@@ -17,7 +17,7 @@ use std::sync::Wait;
 fn cut_locked<K, D, E, B, R>(
     rt: &R,
     locked: &mut LockedDesk<K, D, E, B>,
-    channels: &ChannelLocks<K, B>,
+    channels: &LockedChannels<K, B>,
     receipts: &[Receipt],
     answers: &[Seen],
 ) -> Result<Cut, Stranger>

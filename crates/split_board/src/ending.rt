@@ -74,7 +74,7 @@ where
     } = board;
     let notices = notices.into_inner();
     let LockedDesk { desk } = desk.into_inner();
-    let Some(desk) = desk else {
+    let Some(mut desk) = desk else {
         unreachable!();
     };
     let told = match desk.check(receipts, answers) {
@@ -87,7 +87,7 @@ where
             });
         }
     };
-    let channels = channels.into_inner();
+    let channels = desk.unlock(channels);
     Ok(Closed {
         recorded: gather_all(desk, channels).end(hosts),
         notices,

@@ -7,7 +7,7 @@ use crate::board::Board;
 use crate::calling::call_locked;
 use crate::locked_desk::LockedDesk;
 use board_desk::{SaveBeginCall, SaveStepCall};
-use channel_locks::{ChannelLocks, PartsName, take_lock};
+use channel_locks::{LockedChannels, PartsName, take_lock};
 use channel_port::ChannelPort;
 use energy_budget::Energy;
 use notice_book::Notices;
@@ -44,7 +44,7 @@ fn sleep_behind(saving: Saving) -> u64
 fn save_locked<K, D, E, B, R>(
     rt: &R,
     locked: &mut LockedDesk<K, D, E, B>,
-    channels: &ChannelLocks<K, B>,
+    channels: &LockedChannels<K, B>,
 ) -> Saving
 where
     K: ChannelPort + Drop,

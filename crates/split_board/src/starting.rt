@@ -15,7 +15,7 @@ use crate::board::Board;
 use crate::dealing::begin_channels;
 use crate::tables::BoardTables;
 use board_desk::{BoardPort, Desk};
-use channel_locks::{LineChannels, PartsName, UnlockedChannels};
+use channel_locks::{LineChannels, LockedChannel, PartsName, UnlockedChannels};
 use channel_log::{ChannelLogs, ChannelSeat, FrontSeat};
 use channel_port::ChannelPort;
 use channel_set::ChannelSet;
@@ -26,8 +26,8 @@ use nv_workers::{BoardName, Host, NotStarted, Opening, RecordedModule, Tally, pu
 use save_device::SaveDevice;
 use split_module::SplitModule;
 use std::alloc::{AllocError, Global};
-use std::sync::Arc;
 use std::sync::ledger::Share;
+use std::sync::{Arc, Mutex};
 
 /// A board that has begun, and its hosts.
 #[derive(Drop)]
@@ -36,7 +36,7 @@ pub struct Started<K: ChannelPort, D: SaveDevice, E: Energy, B: BoardName + Part
     pub hosts: Vec<Host<B>>,
 }
 
-// What takes memory of a board: the words and the hosts, the table of the lines' channels, and room for ports and seats.
+// What takes memory of a board: the words and the hosts, the table of the lines' channels, and room for ports, seats, channels and locks.
 #[derive(Drop)]
 struct Prepared<K: ChannelPort, B: BoardName + PartsName> {
     marks: Arc<MarkBoard, Global>,
@@ -44,11 +44,17 @@ struct Prepared<K: ChannelPort, B: BoardName + PartsName> {
     lines: LineChannels,
     room: Vec<BoardPort<K, B>>,
     seats: Vec<ChannelSeat>,
+    channels: Vec<LockedChannel<K, B>>,
+    locks: Vec<Mutex<LockedChannel<K, B>>>,
     ghost board: { arc_value marks ≡ B.board },
     ghost no_port: { room.items ≡ [] },
     ghost no_seat: { seats.items ≡ [] },
     ghost ports: { 8 ≤ vec_capacity room },
     ghost eight: { 8 ≤ vec_capacity seats },
+    ghost no_channel: { channels.items ≡ [] },
+    ghost dealt: { 8 ≤ vec_capacity channels },
+    ghost no_lock: { vec_len locks ≡ 0 },
+    ghost spacious: { 8 ≤ vec_capacity locks },
 }
 
 // What moves the words, counts the hosts' writes and knows the channels' logs.
@@ -60,16 +66,19 @@ struct Words<B: BoardName + PartsName> {
     known: FrontSeat,
 }
 
-// What goes behind the locks of a board, with its hosts and the table of the lines' channels.
+// What goes behind the locks of a board, with its hosts, the table of the lines' channels, and room for the locks.
 #[derive(Drop)]
 struct LaidOut<K: ChannelPort, D: SaveDevice, E: Energy, B: BoardName + PartsName> {
     desk: Desk<K, D, E, B>,
     channels: UnlockedChannels<K, B>,
     lines: LineChannels,
     hosts: Vec<Host<B>>,
+    locks: Vec<Mutex<LockedChannel<K, B>>>,
+    ghost no_lock: { vec_len locks ≡ 0 },
+    ghost spacious: { 8 ≤ vec_capacity locks },
 }
 
-// Makes the hosts, the table of the lines' channels, and room for the ports and the channels' seats.
+// Makes the hosts, the table of the lines' channels, and room for ports, seats, channels and locks.
 fn prepare<K: ChannelPort + Drop, B: BoardName + PartsName>(
     alloc: Global,
     marks: MarkBoard,
@@ -95,12 +104,16 @@ fn prepare<K: ChannelPort + Drop, B: BoardName + PartsName>(
     let lines = LineChannels::of(alloc, set)?;
     let room = Vec::with_capacity(alloc, 8)?;
     let seats = Vec::with_capacity(alloc, 8)?;
+    let channels = Vec::with_capacity(alloc, 8)?;
+    let locks = Vec::with_capacity(alloc, 8)?;
     Ok(Prepared {
         marks,
         hosts,
         lines,
         room,
         seats,
+        channels,
+        locks,
     })
 }
 
@@ -142,7 +155,15 @@ where
     } = SplitModule::of(recorded.running);
     let (lines, history) = (made.lines, recorded.history);
     let channels = begin_channels(
-        &logs, &mut known, made.seats, &lines, &history, &split, &terms, ports,
+        &logs,
+        &mut known,
+        made.seats,
+        &lines,
+        &history,
+        &split,
+        &terms,
+        ports,
+        made.channels,
     );
     let desk = Desk {
         split,
@@ -162,6 +183,7 @@ where
         channels,
         lines,
         hosts: made.hosts,
+        locks: made.locks,
     }
 }
 
@@ -236,7 +258,8 @@ where
         channels,
         lines,
         hosts,
+        locks,
     } = lay_out(made, words, recorded);
-    let board = Board::new(desk, channels.lock(), lines, notices);
+    let board = Board::new(desk, channels.lock(locks), lines, notices);
     Ok(Started { board, hosts })
 }

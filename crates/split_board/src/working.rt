@@ -3,7 +3,7 @@ ghost use Rattle.std.specs.Prelude.{◌≡◌, ◌<◌};
 ghost use Rattle.split_board.specs.Turns.{TakesChannelTurn, WorksByGate, going_on};
 
 use crate::board::Board;
-use channel_locks::{ChannelLocks, ChannelTurn, PartsName};
+use channel_locks::{ChannelTurn, LockedChannels, PartsName};
 use channel_port::ChannelPort;
 use energy_budget::Energy;
 use notice_book::Notices;
@@ -31,7 +31,7 @@ fn going_on(turn: ChannelTurn) -> Working
 #[derive(Drop)]
 struct ChannelShift<'a, K: ChannelPort, B: PartsName, G, R> {
     rt: &'a R,
-    channels: &'a ChannelLocks<K, B>,
+    channels: &'a LockedChannels<K, B>,
     gate: &'a G,
 }
 

@@ -5,44 +5,15 @@ ghost use Rattle.nv_workers.specs.Client.{SeesNoLess};
 ghost use Rattle.split_board.specs.Hosts.{LentForWrite, WritesAtBoard};
 
 use crate::board::Board;
-use crate::locked_desk::LockedDesk;
 use arm_state::WriteRefusal;
-use channel_locks::{ChannelName, PartsName, Slot, take_lock};
+use channel_locks::{PartsName, take_lock};
 use channel_port::ChannelPort;
 use energy_budget::Energy;
 use line_memory::Write;
 use notice_book::Notices;
 use nv_workers::{BoardName, Host, Receipt};
 use save_device::SaveDevice;
-use std::sync::{Mutex, Wait};
-
-// Takes the board's lock and then the line's channel's, and writes. The channel's lock is let go first.
-fn write_at<K, D, E, B, R, C>(
-    rt: &R,
-    board: &Mutex<LockedDesk<K, D, E, B>>,
-    channel: &Mutex<Slot<K, B, C>>,
-    host: &mut Host<B>,
-    write: Write,
-) -> Result<Receipt, WriteRefusal>
-where
-    K: ChannelPort,
-    D: SaveDevice,
-    E: Energy,
-    B: BoardName + PartsName,
-    R: Wait,
-    C: ChannelName,
-    requires asked { IsAskedFor B.make write.line C.NUMBER }
-    ensures writes { LentForWrite K.ChannelPort D.SaveDevice E.Energy B.BoardName.own
-        B.PartsName.own C.NUMBER write result host.old host.new }
-    ensures rises { SeesNoLess host.old host.new }
-{
-    let mut locked = take_lock(rt, board);
-    let Some(desk) = &mut locked.desk else {
-        unreachable!();
-    };
-    let mut slot = take_lock(rt, channel);
-    desk.write_in(&mut *slot, host, write)
-}
+use std::sync::Wait;
 
 impl<K: ChannelPort, D: SaveDevice, E: Energy, B: BoardName + PartsName, N: Notices> Board<
     K,
@@ -51,8 +22,8 @@ impl<K: ChannelPort, D: SaveDevice, E: Energy, B: BoardName + PartsName, N: Noti
     B,
     N,
 > {
-    // Writes a line of a channel.
-    fn write_on<R: Wait>(
+    // Takes the board's lock and then the line's channel's, and writes. The channel's lock is let go first.
+    fn write_at<R: Wait>(
         &self,
         rt: &R,
         channel: u64,
@@ -65,18 +36,12 @@ impl<K: ChannelPort, D: SaveDevice, E: Energy, B: BoardName + PartsName, N: Noti
             B.PartsName.own channel write result host.old host.new }
         ensures rises { SeesNoLess host.old host.new }
     {
-        let (desk, channels) = (&self.desk, &self.channels);
-        match channel {
-            0 => write_at(rt, desk, &channels.zero, host, write),
-            1 => write_at(rt, desk, &channels.one, host, write),
-            2 => write_at(rt, desk, &channels.two, host, write),
-            3 => write_at(rt, desk, &channels.three, host, write),
-            4 => write_at(rt, desk, &channels.four, host, write),
-            5 => write_at(rt, desk, &channels.five, host, write),
-            6 => write_at(rt, desk, &channels.six, host, write),
-            7 => write_at(rt, desk, &channels.seven, host, write),
-            _ => unreachable!(),
-        }
+        let mut locked = take_lock(rt, &self.desk);
+        let Some(desk) = &mut locked.desk else {
+            unreachable!();
+        };
+        let mut lent = self.channels.take(rt, channel);
+        desk.write_in(&mut *lent, host, write)
     }
 
     /// Writes a line for a host. While its channel has no room the channel issues commands under its own lock alone, 64 at most;
@@ -93,6 +58,6 @@ impl<K: ChannelPort, D: SaveDevice, E: Energy, B: BoardName + PartsName, N: Noti
     {
         let channel = self.channel_of(write.line);
         self.channels.make_room(rt, channel);
-        self.write_on(rt, channel, host, write)
+        self.write_at(rt, channel, host, write)
     }
 }

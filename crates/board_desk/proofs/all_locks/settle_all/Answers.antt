@@ -11,28 +11,28 @@ module _ (g : Over) (c : After-settle-8 g) where
   so-0 = none_settled g.K.ChannelPort g.D.SaveDevice g.E.Energy g.B.BoardName g.B.PartsName c.args.desk
 
   so-1 : SettledSoFar g.K.ChannelPort g.D.SaveDevice g.E.Energy g.B.BoardName g.B.PartsName c.args.desk c.settle.new.self
-  so-1 = one_settled g.K.ChannelPort g.D.SaveDevice g.E.Energy g.B.BoardName g.B.PartsName 0 c.args.desk c.args.desk c.settle.new.self so-0 c.settle.ensures.settles c.settle.ensures.same
+  so-1 = one_settled g.K.ChannelPort g.D.SaveDevice g.E.Energy g.B.BoardName g.B.PartsName c.args.zero.now.number c.args.desk c.args.desk c.settle.new.self so-0 c.settle.ensures.settles c.settle.ensures.same
 
   so-2 : SettledSoFar g.K.ChannelPort g.D.SaveDevice g.E.Energy g.B.BoardName g.B.PartsName c.args.desk c.settle-2.new.self
-  so-2 = one_settled g.K.ChannelPort g.D.SaveDevice g.E.Energy g.B.BoardName g.B.PartsName 1 c.args.desk c.settle.new.self c.settle-2.new.self so-1 c.settle-2.ensures.settles c.settle-2.ensures.same
+  so-2 = one_settled g.K.ChannelPort g.D.SaveDevice g.E.Energy g.B.BoardName g.B.PartsName c.args.one.now.number c.args.desk c.settle.new.self c.settle-2.new.self so-1 c.settle-2.ensures.settles c.settle-2.ensures.same
 
   so-3 : SettledSoFar g.K.ChannelPort g.D.SaveDevice g.E.Energy g.B.BoardName g.B.PartsName c.args.desk c.settle-3.new.self
-  so-3 = one_settled g.K.ChannelPort g.D.SaveDevice g.E.Energy g.B.BoardName g.B.PartsName 2 c.args.desk c.settle-2.new.self c.settle-3.new.self so-2 c.settle-3.ensures.settles c.settle-3.ensures.same
+  so-3 = one_settled g.K.ChannelPort g.D.SaveDevice g.E.Energy g.B.BoardName g.B.PartsName c.args.two.now.number c.args.desk c.settle-2.new.self c.settle-3.new.self so-2 c.settle-3.ensures.settles c.settle-3.ensures.same
 
   so-4 : SettledSoFar g.K.ChannelPort g.D.SaveDevice g.E.Energy g.B.BoardName g.B.PartsName c.args.desk c.settle-4.new.self
-  so-4 = one_settled g.K.ChannelPort g.D.SaveDevice g.E.Energy g.B.BoardName g.B.PartsName 3 c.args.desk c.settle-3.new.self c.settle-4.new.self so-3 c.settle-4.ensures.settles c.settle-4.ensures.same
+  so-4 = one_settled g.K.ChannelPort g.D.SaveDevice g.E.Energy g.B.BoardName g.B.PartsName c.args.three.now.number c.args.desk c.settle-3.new.self c.settle-4.new.self so-3 c.settle-4.ensures.settles c.settle-4.ensures.same
 
   so-5 : SettledSoFar g.K.ChannelPort g.D.SaveDevice g.E.Energy g.B.BoardName g.B.PartsName c.args.desk c.settle-5.new.self
-  so-5 = one_settled g.K.ChannelPort g.D.SaveDevice g.E.Energy g.B.BoardName g.B.PartsName 4 c.args.desk c.settle-4.new.self c.settle-5.new.self so-4 c.settle-5.ensures.settles c.settle-5.ensures.same
+  so-5 = one_settled g.K.ChannelPort g.D.SaveDevice g.E.Energy g.B.BoardName g.B.PartsName c.args.four.now.number c.args.desk c.settle-4.new.self c.settle-5.new.self so-4 c.settle-5.ensures.settles c.settle-5.ensures.same
 
   so-6 : SettledSoFar g.K.ChannelPort g.D.SaveDevice g.E.Energy g.B.BoardName g.B.PartsName c.args.desk c.settle-6.new.self
-  so-6 = one_settled g.K.ChannelPort g.D.SaveDevice g.E.Energy g.B.BoardName g.B.PartsName 5 c.args.desk c.settle-5.new.self c.settle-6.new.self so-5 c.settle-6.ensures.settles c.settle-6.ensures.same
+  so-6 = one_settled g.K.ChannelPort g.D.SaveDevice g.E.Energy g.B.BoardName g.B.PartsName c.args.five.now.number c.args.desk c.settle-5.new.self c.settle-6.new.self so-5 c.settle-6.ensures.settles c.settle-6.ensures.same
 
   so-7 : SettledSoFar g.K.ChannelPort g.D.SaveDevice g.E.Energy g.B.BoardName g.B.PartsName c.args.desk c.settle-7.new.self
-  so-7 = one_settled g.K.ChannelPort g.D.SaveDevice g.E.Energy g.B.BoardName g.B.PartsName 6 c.args.desk c.settle-6.new.self c.settle-7.new.self so-6 c.settle-7.ensures.settles c.settle-7.ensures.same
+  so-7 = one_settled g.K.ChannelPort g.D.SaveDevice g.E.Energy g.B.BoardName g.B.PartsName c.args.six.now.number c.args.desk c.settle-6.new.self c.settle-7.new.self so-6 c.settle-7.ensures.settles c.settle-7.ensures.same
 
   so-8 : SettledSoFar g.K.ChannelPort g.D.SaveDevice g.E.Energy g.B.BoardName g.B.PartsName c.args.desk c.settle-8.new.self
-  so-8 = one_settled g.K.ChannelPort g.D.SaveDevice g.E.Energy g.B.BoardName g.B.PartsName 7 c.args.desk c.settle-7.new.self c.settle-8.new.self so-7 c.settle-8.ensures.settles c.settle-8.ensures.same
+  so-8 = one_settled g.K.ChannelPort g.D.SaveDevice g.E.Energy g.B.BoardName g.B.PartsName c.args.seven.now.number c.args.desk c.settle-7.new.self c.settle-8.new.self so-7 c.settle-8.ensures.settles c.settle-8.ensures.same
 
 pub returns-clause-settles : goal.returns-clause-settles
 returns-clause-settles g c = (so-8 g c).settles

@@ -1,6 +1,7 @@
 -- A call of the whole module, with all locks held.
 use Rattle.std.proofs.Common.{ap, map, subst, sym, ℕ, ◌∙◌, ◌≡◌}
 use Rattle.std.specs.Arc.{arc_value}
+use Rattle.channel_locks.specs.Slots.{IsSlotKept}
 use Rattle.line_memory.specs.History.{Recorded}
 use Rattle.module_core.specs.declared.front.Front.{Front}
 use Rattle.board_desk.specs.Asking.{CameBy}
@@ -67,3 +68,75 @@ pub returns-clause-issued : goal.returns-clause-issued
 returns-clause-issued g c =
     let Lists = map g.K.ChannelPort.issued in
     sym (ap Lists c.bring_back.ensures.ports) ∙ c.call.ensures.issued ∙ ap Lists (c.lend_out-rest.ensures.ports ∙ c.settle_all.ensures.ports)
+
+pub lend_out-rest-requires-clause-zero : goal.lend_out-rest-requires-clause-zero
+lend_out-rest-requires-clause-zero g c =
+    let channel = c.settle_all.new.zero in
+    record { kept = subst (λ k. IsSlotKept g.K.ChannelPort g.B.PartsName channel.part channel.seat k) (c.settle_all.ensures.zero_number ∙ c.requires.zero) channel.kept; ready = c.settle_all.ensures.zero }
+
+pub lend_out-rest-requires-clause-one : goal.lend_out-rest-requires-clause-one
+lend_out-rest-requires-clause-one g c =
+    let channel = c.settle_all.new.one in
+    record { kept = subst (λ k. IsSlotKept g.K.ChannelPort g.B.PartsName channel.part channel.seat k) (c.settle_all.ensures.one_number ∙ c.requires.one) channel.kept; ready = c.settle_all.ensures.one }
+
+pub lend_out-rest-requires-clause-two : goal.lend_out-rest-requires-clause-two
+lend_out-rest-requires-clause-two g c =
+    let channel = c.settle_all.new.two in
+    record { kept = subst (λ k. IsSlotKept g.K.ChannelPort g.B.PartsName channel.part channel.seat k) (c.settle_all.ensures.two_number ∙ c.requires.two) channel.kept; ready = c.settle_all.ensures.two }
+
+pub lend_out-rest-requires-clause-three : goal.lend_out-rest-requires-clause-three
+lend_out-rest-requires-clause-three g c =
+    let channel = c.settle_all.new.three in
+    record { kept = subst (λ k. IsSlotKept g.K.ChannelPort g.B.PartsName channel.part channel.seat k) (c.settle_all.ensures.three_number ∙ c.requires.three) channel.kept; ready = c.settle_all.ensures.three }
+
+pub lend_out-rest-requires-clause-four : goal.lend_out-rest-requires-clause-four
+lend_out-rest-requires-clause-four g c =
+    let channel = c.settle_all.new.four in
+    record { kept = subst (λ k. IsSlotKept g.K.ChannelPort g.B.PartsName channel.part channel.seat k) (c.settle_all.ensures.four_number ∙ c.requires.four) channel.kept; ready = c.settle_all.ensures.four }
+
+pub lend_out-rest-requires-clause-five : goal.lend_out-rest-requires-clause-five
+lend_out-rest-requires-clause-five g c =
+    let channel = c.settle_all.new.five in
+    record { kept = subst (λ k. IsSlotKept g.K.ChannelPort g.B.PartsName channel.part channel.seat k) (c.settle_all.ensures.five_number ∙ c.requires.five) channel.kept; ready = c.settle_all.ensures.five }
+
+pub lend_out-rest-requires-clause-six : goal.lend_out-rest-requires-clause-six
+lend_out-rest-requires-clause-six g c =
+    let channel = c.settle_all.new.six in
+    record { kept = subst (λ k. IsSlotKept g.K.ChannelPort g.B.PartsName channel.part channel.seat k) (c.settle_all.ensures.six_number ∙ c.requires.six) channel.kept; ready = c.settle_all.ensures.six }
+
+pub lend_out-rest-requires-clause-seven : goal.lend_out-rest-requires-clause-seven
+lend_out-rest-requires-clause-seven g c =
+    let channel = c.settle_all.new.seven in
+    record { kept = subst (λ k. IsSlotKept g.K.ChannelPort g.B.PartsName channel.part channel.seat k) (c.settle_all.ensures.seven_number ∙ c.requires.seven) channel.kept; ready = c.settle_all.ensures.seven }
+
+pub invariant_of-zero : goal.invariant_of-zero
+invariant_of-zero g c =
+    record { kept = subst (λ k. IsSlotKept g.K.ChannelPort g.B.PartsName c.bring_back.new.zero c.bring_back.new.zero_seat k) (sym (c.settle_all.ensures.zero_number ∙ c.requires.zero)) c.bring_back.ensures.zero }
+
+pub invariant_of-one : goal.invariant_of-one
+invariant_of-one g c =
+    record { kept = subst (λ k. IsSlotKept g.K.ChannelPort g.B.PartsName c.bring_back.new.one c.bring_back.new.one_seat k) (sym (c.settle_all.ensures.one_number ∙ c.requires.one)) c.bring_back.ensures.one }
+
+pub invariant_of-two : goal.invariant_of-two
+invariant_of-two g c =
+    record { kept = subst (λ k. IsSlotKept g.K.ChannelPort g.B.PartsName c.bring_back.new.two c.bring_back.new.two_seat k) (sym (c.settle_all.ensures.two_number ∙ c.requires.two)) c.bring_back.ensures.two }
+
+pub invariant_of-three : goal.invariant_of-three
+invariant_of-three g c =
+    record { kept = subst (λ k. IsSlotKept g.K.ChannelPort g.B.PartsName c.bring_back.new.three c.bring_back.new.three_seat k) (sym (c.settle_all.ensures.three_number ∙ c.requires.three)) c.bring_back.ensures.three }
+
+pub invariant_of-four : goal.invariant_of-four
+invariant_of-four g c =
+    record { kept = subst (λ k. IsSlotKept g.K.ChannelPort g.B.PartsName c.bring_back.new.four c.bring_back.new.four_seat k) (sym (c.settle_all.ensures.four_number ∙ c.requires.four)) c.bring_back.ensures.four }
+
+pub invariant_of-five : goal.invariant_of-five
+invariant_of-five g c =
+    record { kept = subst (λ k. IsSlotKept g.K.ChannelPort g.B.PartsName c.bring_back.new.five c.bring_back.new.five_seat k) (sym (c.settle_all.ensures.five_number ∙ c.requires.five)) c.bring_back.ensures.five }
+
+pub invariant_of-six : goal.invariant_of-six
+invariant_of-six g c =
+    record { kept = subst (λ k. IsSlotKept g.K.ChannelPort g.B.PartsName c.bring_back.new.six c.bring_back.new.six_seat k) (sym (c.settle_all.ensures.six_number ∙ c.requires.six)) c.bring_back.ensures.six }
+
+pub invariant_of-seven : goal.invariant_of-seven
+invariant_of-seven g c =
+    record { kept = subst (λ k. IsSlotKept g.K.ChannelPort g.B.PartsName c.bring_back.new.seven c.bring_back.new.seven_seat k) (sym (c.settle_all.ensures.seven_number ∙ c.requires.seven)) c.bring_back.ensures.seven }

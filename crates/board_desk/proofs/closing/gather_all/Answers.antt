@@ -1,5 +1,5 @@
 -- A board is put together for good.
-use Rattle.std.proofs.Common.{[], ap, refl, sym, ◌∙◌, ◌++◌}
+use Rattle.std.proofs.Common.{ap, arith, length, refl, sym, ◌∙◌, ◌≡◌}
 use Rattle.std.proofs.Math.Logic.{∥∥₁_elim, ∥∥₁_map, ∥∥₁_prop}
 use Rattle.board_desk.specs.Asking.{pieces_with}
 use Rattle.board_desk.specs.Desk.{DeskView}
@@ -8,6 +8,7 @@ use Rattle.board_desk.proofs.Joined.{fits_named}
 use Rattle.board_desk.proofs.KeptWhole.{pieces_kept}
 use Rattle.board_desk.proofs.Parted.{record_joined}
 use Rattle.board_desk.proofs.Restored.{fits_lent}
+use Rattle.board_desk.proofs.Taken.{eight_taken, no_ports}
 use Rattle.board_desk.proofs.closing.gather_all.Given.{Over}
 use Rattle.board_desk.proofs.closing.gather_all.Goals.{After-lend_out-rest}
 use Rattle.board_desk.proofs.closing.gather_all.Goals as goal
@@ -18,6 +19,46 @@ module _ (g : Over) (c : After-lend_out-rest g) where
 
   are_kept : ArePiecesKept g.K.ChannelPort g.B.PartsName lent c.lend_out-rest.result.rest.pieces.ports.items
   are_kept = pieces_kept g.K.ChannelPort g.B.BoardName g.B.PartsName lent _ _ _ _ _ c.lend_out-rest.ensures.kept c.lend_out-rest.result.rest.pieces.ports.items c.lend_out-rest.ensures.have
+
+  -- all eight were taken
+  left : length c.take_channel-seven.new.channels.items ≡ 0
+  left =
+      omega (
+        arith,
+        c.take_channel-zero.ensures.count,
+        c.take_channel-one.ensures.count,
+        c.take_channel-two.ensures.count,
+        c.take_channel-three.ensures.count,
+        c.take_channel-four.ensures.count,
+        c.take_channel-five.ensures.count,
+        c.take_channel-six.ensures.count,
+        c.take_channel-seven.ensures.count,
+        c.args.channels.eight,
+      )
+
+pub take_channel-zero-requires-clause-some : goal.take_channel-zero-requires-clause-some
+take_channel-zero-requires-clause-some g c = omega (arith, c.args.channels.eight)
+
+pub take_channel-one-requires-clause-some : goal.take_channel-one-requires-clause-some
+take_channel-one-requires-clause-some g c = omega (arith, c.args.channels.eight, c.take_channel-zero.ensures.count)
+
+pub take_channel-two-requires-clause-some : goal.take_channel-two-requires-clause-some
+take_channel-two-requires-clause-some g c = omega (arith, c.args.channels.eight, c.take_channel-zero.ensures.count, c.take_channel-one.ensures.count)
+
+pub take_channel-three-requires-clause-some : goal.take_channel-three-requires-clause-some
+take_channel-three-requires-clause-some g c = omega (arith, c.args.channels.eight, c.take_channel-zero.ensures.count, c.take_channel-one.ensures.count, c.take_channel-two.ensures.count)
+
+pub take_channel-four-requires-clause-some : goal.take_channel-four-requires-clause-some
+take_channel-four-requires-clause-some g c = omega (arith, c.args.channels.eight, c.take_channel-zero.ensures.count, c.take_channel-one.ensures.count, c.take_channel-two.ensures.count, c.take_channel-three.ensures.count)
+
+pub take_channel-five-requires-clause-some : goal.take_channel-five-requires-clause-some
+take_channel-five-requires-clause-some g c = omega (arith, c.args.channels.eight, c.take_channel-zero.ensures.count, c.take_channel-one.ensures.count, c.take_channel-two.ensures.count, c.take_channel-three.ensures.count, c.take_channel-four.ensures.count)
+
+pub take_channel-six-requires-clause-some : goal.take_channel-six-requires-clause-some
+take_channel-six-requires-clause-some g c = omega (arith, c.args.channels.eight, c.take_channel-zero.ensures.count, c.take_channel-one.ensures.count, c.take_channel-two.ensures.count, c.take_channel-three.ensures.count, c.take_channel-four.ensures.count, c.take_channel-five.ensures.count)
+
+pub take_channel-seven-requires-clause-some : goal.take_channel-seven-requires-clause-some
+take_channel-seven-requires-clause-some g c = omega (arith, c.args.channels.eight, c.take_channel-zero.ensures.count, c.take_channel-one.ensures.count, c.take_channel-two.ensures.count, c.take_channel-three.ensures.count, c.take_channel-four.ensures.count, c.take_channel-five.ensures.count, c.take_channel-six.ensures.count)
 
 pub gather-requires : goal.gather-requires
 gather-requires g c =
@@ -36,22 +77,24 @@ new-requires-clause-kept g c =
 
 pub returns : goal.returns
 returns g c =
+    let at = goal.at.returns g c in
     let made = c.gather.ensures.pieces in
     let lent = c.lend_out-rest.ensures in
     let recorded = c.new.ensures in
     record {
       front = ap (λ r. r.running.front) recorded ∙ sym made.front ∙ ap (λ v. v.split.front) lent.view
-          ∙ c.take_slot-seven.ensures.same.front ∙ c.take_slot-six.ensures.same.front ∙ c.take_slot-five.ensures.same.front ∙ c.take_slot-four.ensures.same.front ∙ c.take_slot-three.ensures.same.front ∙ c.take_slot-two.ensures.same.front ∙ c.take_slot-one.ensures.same.front ∙ c.take_slot-zero.ensures.same.front;
+          ∙ c.take_channel-seven.ensures.same.front ∙ c.take_channel-six.ensures.same.front ∙ c.take_channel-five.ensures.same.front ∙ c.take_channel-four.ensures.same.front ∙ c.take_channel-three.ensures.same.front ∙ c.take_channel-two.ensures.same.front ∙ c.take_channel-one.ensures.same.front ∙ c.take_channel-zero.ensures.same.front;
       terms = ap (λ r. r.running.channels.terms) recorded ∙ sym made.terms ∙ lent.terms
-          ∙ c.take_slot-seven.ensures.same.terms ∙ c.take_slot-six.ensures.same.terms ∙ c.take_slot-five.ensures.same.terms ∙ c.take_slot-four.ensures.same.terms ∙ c.take_slot-three.ensures.same.terms ∙ c.take_slot-two.ensures.same.terms ∙ c.take_slot-one.ensures.same.terms ∙ c.take_slot-zero.ensures.same.terms;
+          ∙ c.take_channel-seven.ensures.same.terms ∙ c.take_channel-six.ensures.same.terms ∙ c.take_channel-five.ensures.same.terms ∙ c.take_channel-four.ensures.same.terms ∙ c.take_channel-three.ensures.same.terms ∙ c.take_channel-two.ensures.same.terms ∙ c.take_channel-one.ensures.same.terms ∙ c.take_channel-zero.ensures.same.terms;
       costs = ap (λ r. r.running.channels.costs) recorded ∙ sym made.costs ∙ lent.costs
-          ∙ c.take_slot-seven.ensures.same.costs ∙ c.take_slot-six.ensures.same.costs ∙ c.take_slot-five.ensures.same.costs ∙ c.take_slot-four.ensures.same.costs ∙ c.take_slot-three.ensures.same.costs ∙ c.take_slot-two.ensures.same.costs ∙ c.take_slot-one.ensures.same.costs ∙ c.take_slot-zero.ensures.same.costs;
+          ∙ c.take_channel-seven.ensures.same.costs ∙ c.take_channel-six.ensures.same.costs ∙ c.take_channel-five.ensures.same.costs ∙ c.take_channel-four.ensures.same.costs ∙ c.take_channel-three.ensures.same.costs ∙ c.take_channel-two.ensures.same.costs ∙ c.take_channel-one.ensures.same.costs ∙ c.take_channel-zero.ensures.same.costs;
       ports = ap (λ r. r.running.channels.ports.items) recorded ∙ sym (ap (λ ports. ports.items) made.ports) ∙ lent.ports
-          ∙ (λ i. c.take_slot-zero.ensures.port i ++ (c.take_slot-one.ensures.port i ++ (c.take_slot-two.ensures.port i ++ (c.take_slot-three.ensures.port i ++ (c.take_slot-four.ensures.port i ++ (c.take_slot-five.ensures.port i ++ (c.take_slot-six.ensures.port i ++ (c.take_slot-seven.ensures.port i ++ []))))))));
+          ∙ eight_taken _ _ _ _ _ _ _ _ _ _ _ _ _ _ _ _ _ c.take_channel-zero.ensures.ports c.take_channel-one.ensures.ports c.take_channel-two.ensures.ports c.take_channel-three.ensures.ports c.take_channel-four.ensures.ports c.take_channel-five.ensures.ports c.take_channel-six.ensures.ports c.take_channel-seven.ensures.ports
+          (no_ports g.K.ChannelPort g.B.PartsName c.take_channel-seven.new.channels.items (left g at.After-lend_out-rest));
       device = ap (λ r. r.device) recorded ∙ c.gather.ensures.device ∙ lent.device
-          ∙ c.take_slot-seven.ensures.same.device ∙ c.take_slot-six.ensures.same.device ∙ c.take_slot-five.ensures.same.device ∙ c.take_slot-four.ensures.same.device ∙ c.take_slot-three.ensures.same.device ∙ c.take_slot-two.ensures.same.device ∙ c.take_slot-one.ensures.same.device ∙ c.take_slot-zero.ensures.same.device;
+          ∙ c.take_channel-seven.ensures.same.device ∙ c.take_channel-six.ensures.same.device ∙ c.take_channel-five.ensures.same.device ∙ c.take_channel-four.ensures.same.device ∙ c.take_channel-three.ensures.same.device ∙ c.take_channel-two.ensures.same.device ∙ c.take_channel-one.ensures.same.device ∙ c.take_channel-zero.ensures.same.device;
       energy = ap (λ r. r.energy) recorded ∙ c.gather.ensures.energy ∙ lent.energy
-          ∙ c.take_slot-seven.ensures.same.energy ∙ c.take_slot-six.ensures.same.energy ∙ c.take_slot-five.ensures.same.energy ∙ c.take_slot-four.ensures.same.energy ∙ c.take_slot-three.ensures.same.energy ∙ c.take_slot-two.ensures.same.energy ∙ c.take_slot-one.ensures.same.energy ∙ c.take_slot-zero.ensures.same.energy;
+          ∙ c.take_channel-seven.ensures.same.energy ∙ c.take_channel-six.ensures.same.energy ∙ c.take_channel-five.ensures.same.energy ∙ c.take_channel-four.ensures.same.energy ∙ c.take_channel-three.ensures.same.energy ∙ c.take_channel-two.ensures.same.energy ∙ c.take_channel-one.ensures.same.energy ∙ c.take_channel-zero.ensures.same.energy;
       history = ap (λ r. r.history) recorded ∙ c.gather.ensures.history ∙ ap (λ v. v.history) lent.view
-          ∙ c.take_slot-seven.ensures.same.history ∙ c.take_slot-six.ensures.same.history ∙ c.take_slot-five.ensures.same.history ∙ c.take_slot-four.ensures.same.history ∙ c.take_slot-three.ensures.same.history ∙ c.take_slot-two.ensures.same.history ∙ c.take_slot-one.ensures.same.history ∙ c.take_slot-zero.ensures.same.history;
+          ∙ c.take_channel-seven.ensures.same.history ∙ c.take_channel-six.ensures.same.history ∙ c.take_channel-five.ensures.same.history ∙ c.take_channel-four.ensures.same.history ∙ c.take_channel-three.ensures.same.history ∙ c.take_channel-two.ensures.same.history ∙ c.take_channel-one.ensures.same.history ∙ c.take_channel-zero.ensures.same.history;
     }

@@ -14,7 +14,7 @@ pub returns-in-Some-clause-have : goal.returns-in-Some-clause-have
 returns-in-Some-clause-have g c = λ have.
     let L = g.K.ChannelPort in
     let P = g.B.PartsName in
-    let number = g.C.ChannelName.NUMBER in
+    let number = c.args.number in
     let logs = c.args.known.now.logs in
     let log = c.args.seat.now.log in
     let part = c.in-Some.lent in
@@ -27,22 +27,22 @@ returns-in-Some-clause-have g c = λ have.
 
 pub returns-in_default-clause-count : goal.returns-in_default-clause-count
 returns-in_default-clause-count g c =
-    let none = beyond g.K.ChannelPort g.B.PartsName c.args.part.now g.C.ChannelName.NUMBER c.args.seat.now.log (search rules) c.requires.kept.part_is in
+    let none = beyond g.K.ChannelPort g.B.PartsName c.args.part.now c.args.number c.args.seat.now.log (search rules) c.requires.kept.part_is in
     let count = c.requires.count in
     omega (arith, none, count)
 
 pub returns-in_default-clause-have : goal.returns-in_default-clause-have
 returns-in_default-clause-have g c = λ have.
-    let none = beyond g.K.ChannelPort g.B.PartsName c.args.part.now g.C.ChannelName.NUMBER c.args.seat.now.log (search rules) c.requires.kept.part_is in
-    ∥∥₁_map have (have_none g.K.ChannelPort g.B.PartsName c.args.known.now.logs g.C.ChannelName.NUMBER c.args.ports.now.items none)
+    let none = beyond g.K.ChannelPort g.B.PartsName c.args.part.now c.args.number c.args.seat.now.log (search rules) c.requires.kept.part_is in
+    ∥∥₁_map have (have_none g.K.ChannelPort g.B.PartsName c.args.known.now.logs c.args.number c.args.ports.now.items none)
 
 pub of-requires : goal.of-requires
 of-requires g c =
-    made_part g.K.ChannelPort g.B.PartsName c.args.part.now c.in-Some.lent c.into_port.result g.C.ChannelName.NUMBER c.args.seat.now.log (sym c.take.ensures.value ∙ c.in-Some.is) c.into_port.ensures.port c.requires.kept.part_is
+    made_part g.K.ChannelPort g.B.PartsName c.args.part.now c.in-Some.lent c.into_port.result c.args.number c.args.seat.now.log (sym c.take.ensures.value ∙ c.in-Some.is) c.into_port.ensures.port c.requires.kept.part_is
 
 pub returns-in-Some-clause-count : goal.returns-in-Some-clause-count
 returns-in-Some-clause-count g c =
-    let here = within g.K.ChannelPort g.B.PartsName c.args.part.now c.in-Some.lent g.C.ChannelName.NUMBER c.args.seat.now.log (sym c.take.ensures.value ∙ c.in-Some.is) c.requires.kept.part_is in
+    let here = within g.K.ChannelPort g.B.PartsName c.args.part.now c.in-Some.lent c.args.number c.args.seat.now.log (sym c.take.ensures.value ∙ c.in-Some.is) c.requires.kept.part_is in
     let count = c.requires.count in
     let more = c.push_reserved.ensures.len in
     omega (arith, here, count, more)

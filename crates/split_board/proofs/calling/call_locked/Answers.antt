@@ -1,5 +1,11 @@
-use Rattle.std.proofs.Common.{[], refl, sym, ◌∙◌, ◌∷◌}
+use Rattle.std.proofs.Common.{[], ap, refl, sym, ◌∙◌, ◌∷◌}
+use Rattle.channel_locks.specs.declared.locked_channel.LockedChannel.{LockedChannel}
+use Rattle.split_board.proofs.Leaving.{lent_by}
+use Rattle.split_board.proofs.calling.call_locked.Given.{Over}
 use Rattle.split_board.proofs.calling.call_locked.Goals as goal
+
+abbrev Channel : Over → Type 0
+Channel g = LockedChannel g.row.K.Denot g.row.B.Denot g.K.ChannelPort g.B.PartsName
 
 pub returns : goal.returns
 returns g c = record {
@@ -11,7 +17,7 @@ returns g c = record {
     answers = c.whole-desk.ensures.answers;
     parts = c.deref_mut.result.now.part ∷ c.deref_mut-2.result.now.part ∷ c.deref_mut-3.result.now.part ∷ c.deref_mut-4.result.now.part ∷ c.deref_mut-5.result.now.part ∷ c.deref_mut-6.result.now.part ∷ c.deref_mut-7.result.now.part ∷ c.deref_mut-8.result.now.part ∷ [];
     eight = refl;
-    lent = ((c.deref_mut.result.now.seat.log, c.deref_mut.result.now.kept.part_is), ((c.deref_mut-2.result.now.seat.log, c.deref_mut-2.result.now.kept.part_is), ((c.deref_mut-3.result.now.seat.log, c.deref_mut-3.result.now.kept.part_is), ((c.deref_mut-4.result.now.seat.log, c.deref_mut-4.result.now.kept.part_is), ((c.deref_mut-5.result.now.seat.log, c.deref_mut-5.result.now.kept.part_is), ((c.deref_mut-6.result.now.seat.log, c.deref_mut-6.result.now.kept.part_is), ((c.deref_mut-7.result.now.seat.log, c.deref_mut-7.result.now.kept.part_is), ((c.deref_mut-8.result.now.seat.log, c.deref_mut-8.result.now.kept.part_is), tt))))))));
+    lent = (lent_by g.K.ChannelPort g.B.PartsName c.deref_mut.result.now 0 (ap (λ (it : Channel g). it.number) c.deref_mut.ensures.value ∙ c.take-zero.ensures), (lent_by g.K.ChannelPort g.B.PartsName c.deref_mut-2.result.now 1 (ap (λ (it : Channel g). it.number) c.deref_mut-2.ensures.value ∙ c.take-one.ensures), (lent_by g.K.ChannelPort g.B.PartsName c.deref_mut-3.result.now 2 (ap (λ (it : Channel g). it.number) c.deref_mut-3.ensures.value ∙ c.take-two.ensures), (lent_by g.K.ChannelPort g.B.PartsName c.deref_mut-4.result.now 3 (ap (λ (it : Channel g). it.number) c.deref_mut-4.ensures.value ∙ c.take-three.ensures), (lent_by g.K.ChannelPort g.B.PartsName c.deref_mut-5.result.now 4 (ap (λ (it : Channel g). it.number) c.deref_mut-5.ensures.value ∙ c.take-four.ensures), (lent_by g.K.ChannelPort g.B.PartsName c.deref_mut-6.result.now 5 (ap (λ (it : Channel g). it.number) c.deref_mut-6.ensures.value ∙ c.take-five.ensures), (lent_by g.K.ChannelPort g.B.PartsName c.deref_mut-7.result.now 6 (ap (λ (it : Channel g). it.number) c.deref_mut-7.ensures.value ∙ c.take-six.ensures), (lent_by g.K.ChannelPort g.B.PartsName c.deref_mut-8.result.now 7 (ap (λ (it : Channel g). it.number) c.deref_mut-8.ensures.value ∙ c.take-seven.ensures), tt))))))));
     left = c.whole-desk.new.zero.part ∷ c.whole-desk.new.one.part ∷ c.whole-desk.new.two.part ∷ c.whole-desk.new.three.part ∷ c.whole-desk.new.four.part ∷ c.whole-desk.new.five.part ∷ c.whole-desk.new.six.part ∷ c.whole-desk.new.seven.part ∷ [];
     issued = c.whole-desk.ensures.issued;
   };

@@ -18,82 +18,82 @@ use Rattle.board_desk.proofs.desk.Desk.settle.Goals.{After-look_at}
 use Rattle.board_desk.proofs.desk.Desk.settle.Goals as goal
 
 pub returns-in_default-clause-settles : goal.returns-in_default-clause-settles
-returns-in_default-clause-settles g c = λ m s. ∣ record { seen = m; comes = comes_of_none _ g.C.ChannelName.NUMBER _; stands = s } ∣₁
+returns-in_default-clause-settles g c = λ m s. ∣ record { seen = m; comes = comes_of_none _ c.args.channel.now.number _; stands = s } ∣₁
 
 pub take_back-requires : goal.take_back-requires
 take_back-requires g c =
-    let slot = c.args.slot.now in
+    let slot = c.args.channel.now in
     let desk = c.args.self.now in
     record {
-      out = returned_out g.B.PartsName g.K.ChannelPort (desk_of g.K.ChannelPort g.D.SaveDevice g.E.Energy g.B.BoardName g.B.PartsName desk) c.in-Some.part g.C.ChannelName.NUMBER slot.seat.log desk.kept.stands
-          (due_part g.B.PartsName g.K.ChannelPort slot.part c.in-Some.part g.C.ChannelName.NUMBER slot.seat.log c.in-Some.is slot.kept.part_is) c.compare.ensures.few;
+      out = returned_out g.B.PartsName g.K.ChannelPort (desk_of g.K.ChannelPort g.D.SaveDevice g.E.Energy g.B.BoardName g.B.PartsName desk) c.in-Some.part c.args.channel.now.number slot.seat.log desk.kept.stands
+          (due_part g.B.PartsName g.K.ChannelPort slot.part c.in-Some.part c.args.channel.now.number slot.seat.log c.in-Some.is slot.kept.part_is) c.compare.ensures.few;
     }
 
 module _ (g : Over) (c : After-look_at g) where
   abbrev note : LogNote
   note = note_of Looked (g.K.ChannelPort.view c.take_back.new.part.port).waits
 
-  of : IsLogOf c.args.self.now.known.logs g.C.ChannelName.NUMBER c.args.slot.now.seat.log
-  of = subst (λ k. IsLogOf c.args.self.now.known.logs k c.args.slot.now.seat.log) c.args.slot.now.kept.channel_is c.compare.ensures.agreed
+  of : IsLogOf c.args.self.now.known.logs c.args.channel.now.number c.args.channel.now.seat.log
+  of = subst (λ k. IsLogOf c.args.self.now.known.logs k c.args.channel.now.seat.log) c.args.channel.now.kept.channel_is c.compare.ensures.agreed
 
-  settles : Settles g.B.PartsName g.C.ChannelName.NUMBER (desk_of g.K.ChannelPort g.D.SaveDevice g.E.Energy g.B.BoardName g.B.PartsName c.args.self.now)
+  settles : Settles g.B.PartsName c.args.channel.now.number (desk_of g.K.ChannelPort g.D.SaveDevice g.E.Energy g.B.BoardName g.B.PartsName c.args.self.now)
       (record (desk_of g.K.ChannelPort g.D.SaveDevice g.E.Energy g.B.BoardName g.B.PartsName c.args.self.now) { split = c.take_back.new.front; logs = c.look_at.new.known.logs })
   settles =
-      let slot = c.args.slot.now in
-      goes_on g.B.PartsName g.K.ChannelPort (desk_of g.K.ChannelPort g.D.SaveDevice g.E.Energy g.B.BoardName g.B.PartsName c.args.self.now) c.take_back.new.front c.in-Some.part c.take_back.new.part g.C.ChannelName.NUMBER slot.seat.log
+      let slot = c.args.channel.now in
+      goes_on g.B.PartsName g.K.ChannelPort (desk_of g.K.ChannelPort g.D.SaveDevice g.E.Energy g.B.BoardName g.B.PartsName c.args.self.now) c.take_back.new.front c.in-Some.part c.take_back.new.part c.args.channel.now.number slot.seat.log
       c.take_back.ensures.looks c.take_back.ensures.front c.take_back.ensures.costs c.take_back.ensures.port c.look_at.ensures.most of
-      (due_part g.B.PartsName g.K.ChannelPort slot.part c.in-Some.part g.C.ChannelName.NUMBER slot.seat.log c.in-Some.is slot.kept.part_is) c.look_at.new.known.logs
-      (logs_noted note c.compare.new.self c.args.self.now.known c.look_at.new.known c.compare.new.seat slot.seat c.look_at.new.seat c.look_at.ensures.noted c.compare.ensures.front c.compare.ensures.seat g.C.ChannelName.NUMBER slot.kept.channel_is)
+      (due_part g.B.PartsName g.K.ChannelPort slot.part c.in-Some.part c.args.channel.now.number slot.seat.log c.in-Some.is slot.kept.part_is) c.look_at.new.known.logs
+      (logs_noted note c.compare.new.self c.args.self.now.known c.look_at.new.known c.compare.new.seat slot.seat c.look_at.new.seat c.look_at.ensures.noted c.compare.ensures.front c.compare.ensures.seat c.args.channel.now.number slot.kept.channel_is)
 
   -- both seats know the log with the note
-  still : IsLogOf c.look_at.new.known.logs g.C.ChannelName.NUMBER c.look_at.new.seat.log
-  still = still_of note c.compare.new.self c.args.self.now.known c.look_at.new.known c.compare.new.seat c.args.slot.now.seat c.look_at.new.seat c.look_at.ensures.noted c.compare.ensures.front c.compare.ensures.seat g.C.ChannelName.NUMBER c.args.slot.now.kept.channel_is of
+  still : IsLogOf c.look_at.new.known.logs c.args.channel.now.number c.look_at.new.seat.log
+  still = still_of note c.compare.new.self c.args.self.now.known c.look_at.new.known c.compare.new.seat c.args.channel.now.seat c.look_at.new.seat c.look_at.ensures.noted c.compare.ensures.front c.compare.ensures.seat c.args.channel.now.number c.args.channel.now.kept.channel_is of
 
-  reads : ∥ ReadsHaveLines g.B.PartsName.base (log_tells (c.args.slot.now.seat.log ++ note ∷ [])) ∥₁
+  reads : ∥ ReadsHaveLines g.B.PartsName.base (log_tells (c.args.channel.now.seat.log ++ note ∷ [])) ∥₁
   reads =
       let desk = c.args.self.now in
       subst (λ (l : List LogNote). ∥ ReadsHaveLines g.B.PartsName.base (log_tells l) ∥₁)
-      (ap (λ (s : OneLog). s.log) (seat_noted note c.compare.new.self desk.known c.look_at.new.known c.compare.new.seat c.args.slot.now.seat c.look_at.new.seat c.look_at.ensures.noted c.compare.ensures.front c.compare.ensures.seat))
-      (told_reads g.B.PartsName (record (desk_of g.K.ChannelPort g.D.SaveDevice g.E.Energy g.B.BoardName g.B.PartsName desk) { split = c.take_back.new.front; logs = c.look_at.new.known.logs }) g.C.ChannelName.NUMBER c.look_at.new.seat.log
+      (ap (λ (s : OneLog). s.log) (seat_noted note c.compare.new.self desk.known c.look_at.new.known c.compare.new.seat c.args.channel.now.seat c.look_at.new.seat c.look_at.ensures.noted c.compare.ensures.front c.compare.ensures.seat))
+      (told_reads g.B.PartsName (record (desk_of g.K.ChannelPort g.D.SaveDevice g.E.Energy g.B.BoardName g.B.PartsName desk) { split = c.take_back.new.front; logs = c.look_at.new.known.logs }) c.args.channel.now.number c.look_at.new.seat.log
       (∥∥₁_elim desk.kept.stands ∥∥₁_prop (λ s. ∥∥₁_map (settles s.0 s.1) (λ on. (on.seen, on.stands)))) still)
 
-pub invariant_of-slot-2 : goal.invariant_of-slot-2
-invariant_of-slot-2 g c =
+pub invariant_of-channel-2 : goal.invariant_of-channel-2
+invariant_of-channel-2 g c =
     let L = g.K.ChannelPort in
-    let slot = c.args.slot.now in
+    let slot = c.args.channel.now in
     let later = c.take_back.new.part in
-    let at = goal.at.invariant_of-slot-2 g c in
+    let at = goal.at.invariant_of-channel-2 g c in
     record {
-      kept = subst (λ (s : OneLog). IsSlotKept L g.B.PartsName (Some later) s g.C.ChannelName.NUMBER)
+      kept = subst (λ (s : OneLog). IsSlotKept L g.B.PartsName (Some later) s c.args.channel.now.number)
           (sym (seat_noted (note g at.After-look_at) c.compare.new.self c.args.self.now.known c.look_at.new.known c.compare.new.seat slot.seat c.look_at.new.seat c.look_at.ensures.noted c.compare.ensures.front c.compare.ensures.seat))
           (record {
             table = slot.kept.table;
             channel_is = slot.kept.channel_is;
-            part_is = due_noted g.B.PartsName L Looked c.in-Some.part later g.C.ChannelName.NUMBER slot.seat.log c.take_back.ensures.stands (record { rise = c.always.ensures }) tt (ap (λ p. make_of (L.view p)) c.take_back.ensures.port)
-                (reads g at.After-look_at) (due_part g.B.PartsName L slot.part c.in-Some.part g.C.ChannelName.NUMBER slot.seat.log c.in-Some.is slot.kept.part_is);
+            part_is = due_noted g.B.PartsName L Looked c.in-Some.part later c.args.channel.now.number slot.seat.log c.take_back.ensures.stands (record { rise = c.always.ensures }) tt (ap (λ p. make_of (L.view p)) c.take_back.ensures.port)
+                (reads g at.After-look_at) (due_part g.B.PartsName L slot.part c.in-Some.part c.args.channel.now.number slot.seat.log c.in-Some.is slot.kept.part_is);
           });
     }
 
 pub invariant_of-self-clause-kept : goal.invariant_of-self-clause-kept
 invariant_of-self-clause-kept g c =
     let desk = c.args.self.now in
-    let slot = c.args.slot.now in
+    let slot = c.args.channel.now in
     let at = goal.at.invariant_of-self-clause-kept g c in
     kept_settled g.B.BoardName g.B.PartsName (desk_of g.K.ChannelPort g.D.SaveDevice g.E.Energy g.B.BoardName g.B.PartsName desk) _ desk.seat _ desk.logs desk.known.table desk.kept c.take_back.new.front c.look_at.new.known.logs
     c.look_at.new.known.table c.take_back.ensures.front c.take_back.ensures.costs
     (ap (λ (f : AllLogs). f.table) (front_noted (note g at.After-look_at) c.compare.new.self desk.known c.look_at.new.known c.compare.new.seat slot.seat c.look_at.new.seat c.look_at.ensures.noted c.compare.ensures.front c.compare.ensures.seat))
-    g.C.ChannelName.NUMBER (settles g at.After-look_at)
+    c.args.channel.now.number (settles g at.After-look_at)
 
 pub returns-clause-settles : goal.returns-clause-settles
 returns-clause-settles g c = let at = goal.at.returns-clause-settles g c in settles g at.After-look_at
 
 pub returns-clause-settled : goal.returns-clause-settled
 returns-clause-settled g c =
-    let slot = c.args.slot.now in
+    let slot = c.args.channel.now in
     let part = c.in-Some.part in
     let later = c.take_back.new.part in
     let at = goal.at.returns-clause-settled g c in
-    let here : later.channel ≡ g.C.ChannelName.NUMBER = c.take_back.ensures.channel ∙ channel_due g.B.PartsName g.K.ChannelPort part g.C.ChannelName.NUMBER slot.seat.log (due_part g.B.PartsName g.K.ChannelPort slot.part part g.C.ChannelName.NUMBER slot.seat.log c.in-Some.is slot.kept.part_is) in
+    let here : later.channel ≡ c.args.channel.now.number = c.take_back.ensures.channel ∙ channel_due g.B.PartsName g.K.ChannelPort part c.args.channel.now.number slot.seat.log (due_part g.B.PartsName g.K.ChannelPort slot.part part c.args.channel.now.number slot.seat.log c.in-Some.is slot.kept.part_is) in
     record {
       taken = c.take_back.ensures.none;
       waits = waits_told (note g at.After-look_at) c.compare.new.self c.args.self.now.known c.look_at.new.known c.compare.new.seat slot.seat c.look_at.new.seat c.look_at.ensures.noted c.compare.ensures.front c.compare.ensures.seat;

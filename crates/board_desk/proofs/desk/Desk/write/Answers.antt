@@ -1,9 +1,10 @@
 -- A host writes.
-use Rattle.std.proofs.Common.{Err, IfOk, Ok, Result, ap, arith, length, refl, subst, sym, ℕ, ◌<◌, ◌∙◌, ◌≡◌}
+use Rattle.std.proofs.Common.{Err, IfOk, Ok, Result, Some, ap, arith, length, refl, subst, sym, ℕ, ◌<◌, ◌∙◌, ◌≡◌}
 use Rattle.std.proofs.Math.Logic.{∥∥₁_map}
 use Rattle.std.specs.Arc.{arc_value}
 use Rattle.atomic_table.specs.Seated.{TableId}
 use Rattle.channel_locks.specs.declared.parts_name.PartsName.{Ghosts as PartsGhosts}
+use Rattle.channel_locks.specs.Slots.{IsPartWhereDue, IsSlotKept}
 use Rattle.mark_board.specs.SeenMarks.{seen_marks}
 use Rattle.nv_machine.specs.Rising.{added}
 use Rattle.nv_machine.specs.State.{Machine}
@@ -32,26 +33,26 @@ use Rattle.board_desk.proofs.desk.Desk.write.Goals as goal
 
 pub unreachable-requires : goal.unreachable-requires
 unreachable-requires g c =
-    let slot = c.settle.new.slot in
-    let beyond = none_due g.B.PartsName g.K.ChannelPort slot.part g.C.ChannelName.NUMBER slot.seat.log c.in_default.is slot.kept.part_is in
-    let has = asked_has g.B.PartsName c.settle.new.self.split.costs c.args.write.line g.C.ChannelName.NUMBER c.settle.new.self.kept.shape c.requires.asked in
+    let slot = c.settle.new.channel in
+    let beyond = none_due g.B.PartsName g.K.ChannelPort slot.part c.args.channel.now.number slot.seat.log c.in_default.is (subst (λ n. ∥ IsPartWhereDue g.K.ChannelPort g.B.PartsName slot.part n slot.seat.log ∥₁) c.settle.ensures.number slot.kept.part_is) in
+    let has = asked_has g.B.PartsName c.settle.new.self.split.costs c.args.write.line c.args.channel.now.number c.settle.new.self.kept.shape c.requires.asked in
     absurd (omega (arith, beyond, has))
 
 module _ (g : Over) (c : After-always g) where
   abbrev mid : DeskView
   mid = desk_of g.K.ChannelPort g.D.SaveDevice g.E.Energy g.B.BoardName g.B.PartsName c.settle.new.self
 
-  due : IsDue g.B.PartsName g.K.ChannelPort c.in-Some.part g.C.ChannelName.NUMBER c.settle.new.slot.seat.log
-  due = let slot = c.settle.new.slot in due_part g.B.PartsName g.K.ChannelPort slot.part c.in-Some.part g.C.ChannelName.NUMBER slot.seat.log c.in-Some.is slot.kept.part_is
+  due : IsDue g.B.PartsName g.K.ChannelPort c.in-Some.part c.args.channel.now.number c.settle.new.channel.seat.log
+  due = let slot = c.settle.new.channel in due_part g.B.PartsName g.K.ChannelPort slot.part c.in-Some.part c.args.channel.now.number slot.seat.log c.in-Some.is (subst (λ n. ∥ IsPartWhereDue g.K.ChannelPort g.B.PartsName slot.part n slot.seat.log ∥₁) c.settle.ensures.number slot.kept.part_is)
 
-  settled : IsSettledPart g.K.ChannelPort c.settle.new.self.known.logs c.in-Some.part c.settle.new.slot.seat.log
-  settled = subst (λ p. HasSettled g.K.ChannelPort c.settle.new.self.known.logs p c.settle.new.slot.seat.log) c.in-Some.is c.settle.ensures.settled
+  settled : IsSettledPart g.K.ChannelPort c.settle.new.self.known.logs c.in-Some.part c.settle.new.channel.seat.log
+  settled = subst (λ p. HasSettled g.K.ChannelPort c.settle.new.self.known.logs p c.settle.new.channel.seat.log) c.in-Some.is c.settle.ensures.settled
 
-  own : c.in-Some.part.channel ≡ g.C.ChannelName.NUMBER
-  own = channel_due g.B.PartsName g.K.ChannelPort c.in-Some.part g.C.ChannelName.NUMBER c.settle.new.slot.seat.log due
+  own : c.in-Some.part.channel ≡ c.args.channel.now.number
+  own = channel_due g.B.PartsName g.K.ChannelPort c.in-Some.part c.args.channel.now.number c.settle.new.channel.seat.log due
 
-  of : IsLogOf c.settle.new.self.known.logs g.C.ChannelName.NUMBER c.settle.new.slot.seat.log
-  of = subst (λ k. IsLogOf c.settle.new.self.known.logs k c.settle.new.slot.seat.log) own settled.agreed
+  of : IsLogOf c.settle.new.self.known.logs c.args.channel.now.number c.settle.new.channel.seat.log
+  of = subst (λ k. IsLogOf c.settle.new.self.known.logs k c.settle.new.channel.seat.log) own settled.agreed
 
 pub write_on-reply-requires-clause-few : goal.write_on-reply-requires-clause-few
 write_on-reply-requires-clause-few g c = let at = goal.at.write_on-reply-requires-clause-few g c in few_out g.B.PartsName (mid g at.After-always) c.settle.new.self.kept.stands
@@ -59,24 +60,24 @@ write_on-reply-requires-clause-few g c = let at = goal.at.write_on-reply-require
 pub write_on-reply-requires-clause-lines : goal.write_on-reply-requires-clause-lines
 write_on-reply-requires-clause-lines g c =
     let at = goal.at.write_on-reply-requires-clause-lines g c in
-    part_lines g.B.PartsName (mid g at.After-always) c.settle.new.self.kept.stands g.K.ChannelPort c.in-Some.part g.C.ChannelName.NUMBER c.settle.new.slot.seat.log (due g at.After-always) (of g at.After-always)
+    part_lines g.B.PartsName (mid g at.After-always) c.settle.new.self.kept.stands g.K.ChannelPort c.in-Some.part c.args.channel.now.number c.settle.new.channel.seat.log (due g at.After-always) (of g at.After-always)
 
 pub write_on-reply-requires-clause-here : goal.write_on-reply-requires-clause-here
 write_on-reply-requires-clause-here g c = λ less.
     let at = goal.at.write_on-reply-requires-clause-here g c in
     let stands = c.settle.new.self.kept.stands in
-    part_place g.B.PartsName (mid g at.After-always) stands g.K.ChannelPort c.in-Some.part g.C.ChannelName.NUMBER c.settle.new.slot.seat.log (due g at.After-always) (of g at.After-always) c.args.write.line
+    part_place g.B.PartsName (mid g at.After-always) stands g.K.ChannelPort c.in-Some.part c.args.channel.now.number c.settle.new.channel.seat.log (due g at.After-always) (of g at.After-always) c.args.write.line
     (c.requires.asked.here (subst (λ n. c.args.write.line < n) (lines_are g.B.PartsName (mid g at.After-always) stands) less))
 
 pub write_on-reply-requires-clause-ended : goal.write_on-reply-requires-clause-ended
 write_on-reply-requires-clause-ended g c =
     let at = goal.at.write_on-reply-requires-clause-ended g c in
-    part_ended g.B.PartsName (mid g at.After-always) c.settle.new.self.kept.stands g.K.ChannelPort c.in-Some.part g.C.ChannelName.NUMBER c.settle.new.slot.seat.log (due g at.After-always) (of g at.After-always)
+    part_ended g.B.PartsName (mid g at.After-always) c.settle.new.self.kept.stands g.K.ChannelPort c.in-Some.part c.args.channel.now.number c.settle.new.channel.seat.log (due g at.After-always) (of g at.After-always)
 
 pub write_on-reply-requires-clause-below : goal.write_on-reply-requires-clause-below
 write_on-reply-requires-clause-below g c =
     let at = goal.at.write_on-reply-requires-clause-below g c in
-    waiting_below g.B.PartsName (mid g at.After-always) c.settle.new.self.kept.stands g.K.ChannelPort c.in-Some.part g.C.ChannelName.NUMBER c.settle.new.slot.seat.log (due g at.After-always) (of g at.After-always)
+    waiting_below g.B.PartsName (mid g at.After-always) c.settle.new.self.kept.stands g.K.ChannelPort c.in-Some.part c.args.channel.now.number c.settle.new.channel.seat.log (due g at.After-always) (of g at.After-always)
 
 -- an accepted write has the number of all before it
 numbers : (result : Result Accepted WriteRefusal) (accepted : ℕ) (before : ℕ → Type 0) → IfOk result (λ a. a.number ≡ accepted) → before accepted → IfOk result (λ a. before a.number)
@@ -91,9 +92,9 @@ pub note_write-requires-clause-number : goal.note_write-requires-clause-number
 note_write-requires-clause-number g c =
     let at = goal.at.note_write-requires-clause-number g c in
     let front = c.settle.new.self.split.front in
-    let log = c.settle.new.slot.seat.log in
+    let log = c.settle.new.channel.seat.log in
     numbers c.write_on-reply.result front.accepted (λ n. AreBefore n (log_tells log).written) (number_of c.write_on-reply.result front c.write_on-reply.new.front.front c.write_on-reply.ensures.accepts)
-    (accepted_before g.B.PartsName (mid g at.After-always) c.settle.new.self.kept.stands g.K.ChannelPort c.in-Some.part g.C.ChannelName.NUMBER log (due g at.After-always) (of g at.After-always))
+    (accepted_before g.B.PartsName (mid g at.After-always) c.settle.new.self.kept.stands g.K.ChannelPort c.in-Some.part c.args.channel.now.number log (due g at.After-always) (of g at.After-always))
 
 -- The write was made and noted.
 module _ (g : Over) (c : After-note g) where
@@ -106,22 +107,22 @@ module _ (g : Over) (c : After-note g) where
   abbrev now : DeskView
   now = record before { split = c.write_on-reply.new.front; history = c.note.new.history; logs = c.note_write.new.known.logs }
 
-  part_due : IsDue P g.K.ChannelPort c.in-Some.part g.C.ChannelName.NUMBER c.settle.new.slot.seat.log
-  part_due = let slot = c.settle.new.slot in due_part P g.K.ChannelPort slot.part c.in-Some.part g.C.ChannelName.NUMBER slot.seat.log c.in-Some.is slot.kept.part_is
+  part_due : IsDue P g.K.ChannelPort c.in-Some.part c.args.channel.now.number c.settle.new.channel.seat.log
+  part_due = let slot = c.settle.new.channel in due_part P g.K.ChannelPort slot.part c.in-Some.part c.args.channel.now.number slot.seat.log c.in-Some.is (subst (λ n. ∥ IsPartWhereDue g.K.ChannelPort g.B.PartsName slot.part n slot.seat.log ∥₁) c.settle.ensures.number slot.kept.part_is)
 
-  part_settled : IsSettledPart g.K.ChannelPort c.settle.new.self.known.logs c.in-Some.part c.settle.new.slot.seat.log
-  part_settled = subst (λ p. HasSettled g.K.ChannelPort c.settle.new.self.known.logs p c.settle.new.slot.seat.log) c.in-Some.is c.settle.ensures.settled
+  part_settled : IsSettledPart g.K.ChannelPort c.settle.new.self.known.logs c.in-Some.part c.settle.new.channel.seat.log
+  part_settled = subst (λ p. HasSettled g.K.ChannelPort c.settle.new.self.known.logs p c.settle.new.channel.seat.log) c.in-Some.is c.settle.ensures.settled
 
-  part_own : c.in-Some.part.channel ≡ g.C.ChannelName.NUMBER
-  part_own = channel_due P g.K.ChannelPort c.in-Some.part g.C.ChannelName.NUMBER c.settle.new.slot.seat.log part_due
+  part_own : c.in-Some.part.channel ≡ c.args.channel.now.number
+  part_own = channel_due P g.K.ChannelPort c.in-Some.part c.args.channel.now.number c.settle.new.channel.seat.log part_due
 
-  part_of : IsLogOf c.settle.new.self.known.logs g.C.ChannelName.NUMBER c.settle.new.slot.seat.log
-  part_of = subst (λ k. IsLogOf c.settle.new.self.known.logs k c.settle.new.slot.seat.log) part_own part_settled.agreed
+  part_of : IsLogOf c.settle.new.self.known.logs c.args.channel.now.number c.settle.new.channel.seat.log
+  part_of = subst (λ k. IsLogOf c.settle.new.self.known.logs k c.settle.new.channel.seat.log) part_own part_settled.agreed
 
   written : Written c.write_on-reply.result c.settle.new.self.split c.write_on-reply.new.front
   written = (c.write_on-reply.ensures.accepts, c.write_on-reply.ensures.same_front)
 
-  is_noted : IsNotedWrite g.K.ChannelPort P g.C.ChannelName.NUMBER c.in-Some.part c.write_on-reply.new.part c.args.write c.settle.new.self.known c.note_write.new.known c.settle.new.slot.seat c.note_write.new.seat c.settle.new.slot.kept.channel_is
+  is_noted : IsNotedWrite g.K.ChannelPort P c.args.channel.now.number c.in-Some.part c.write_on-reply.new.part c.args.write c.settle.new.self.known c.note_write.new.known c.settle.new.channel.seat c.note_write.new.seat (c.settle.new.channel.kept.channel_is ∙ c.settle.ensures.number)
       c.write_on-reply.result
   is_noted = record { noted = c.note_write.ensures.noted; front_is = c.note_write.ensures.known; seat_is = c.note_write.ensures.seat }
 
@@ -129,31 +130,31 @@ module _ (g : Over) (c : After-note g) where
   followed : (m : Machine) → DeskStands P before m → Follows P (Event.Write c.args.write) (Reply.Write c.write_on-reply.result) before now m
   followed m s =
       let desk = c.settle.new.self in
-      let log = c.settle.new.slot.seat.log in
+      let log = c.settle.new.channel.seat.log in
       let part = c.in-Some.part in
-      let seen = part_seen P before desk.kept.stands g.K.ChannelPort part g.C.ChannelName.NUMBER log part_due part_of part_settled.waits in
+      let seen = part_seen P before desk.kept.stands g.K.ChannelPort part c.args.channel.now.number log part_due part_of part_settled.waits in
       let wrote = c.write_on-reply.ensures.writes (shape_at P before) m before.logs log s.stands part_settled.agreed seen (λ less. c.requires.asked.here less ∙ sym part_own) in
-      follows g.K.ChannelPort P g.C.ChannelName.NUMBER part c.write_on-reply.new.part c.args.write desk.known c.note_write.new.known c.settle.new.slot.seat c.note_write.new.seat c.settle.new.slot.kept.channel_is
-      before m s desk.kept.shape now c.write_on-reply.ensures.costs refl refl refl (has_channel P before desk.kept.stands g.K.ChannelPort part g.C.ChannelName.NUMBER log part_due part_of) (sym part_own) refl refl
+      follows g.K.ChannelPort P c.args.channel.now.number part c.write_on-reply.new.part c.args.write desk.known c.note_write.new.known c.settle.new.channel.seat c.note_write.new.seat (c.settle.new.channel.kept.channel_is ∙ c.settle.ensures.number)
+      before m s desk.kept.shape now c.write_on-reply.ensures.costs refl refl refl (has_channel P before desk.kept.stands g.K.ChannelPort part c.args.channel.now.number log part_due part_of) (sym part_own) refl refl
       c.write_on-reply.result written is_noted wrote c.note_write.ensures.most c.note.ensures.history
 
-pub invariant_of-slot : goal.invariant_of-slot
-invariant_of-slot g c =
-    let at = goal.at.invariant_of-slot g c in
-    let slot = c.settle.new.slot in
+pub invariant_of-channel : goal.invariant_of-channel
+invariant_of-channel g c =
+    let at = goal.at.invariant_of-channel g c in
+    let slot = c.settle.new.channel in
     let front = c.settle.new.self.split.front in
     let before = numbers c.write_on-reply.result front.accepted (λ n. AreBefore n (log_tells slot.seat.log).written) (number_of c.write_on-reply.result front c.write_on-reply.new.front.front c.write_on-reply.ensures.accepts)
-    (accepted_before g.B.PartsName (mid g at.After-always) c.settle.new.self.kept.stands g.K.ChannelPort c.in-Some.part g.C.ChannelName.NUMBER slot.seat.log (due g at.After-always) (of g at.After-always)) in
+    (accepted_before g.B.PartsName (mid g at.After-always) c.settle.new.self.kept.stands g.K.ChannelPort c.in-Some.part c.args.channel.now.number slot.seat.log (due g at.After-always) (of g at.After-always)) in
     let stands = c.settle.new.self.kept.stands in
     let desk = mid g at.After-always in
-    let seen = part_seen g.B.PartsName desk stands g.K.ChannelPort c.in-Some.part g.C.ChannelName.NUMBER slot.seat.log (due g at.After-always) (of g at.After-always) (settled g at.After-always).waits in
+    let seen = part_seen g.B.PartsName desk stands g.K.ChannelPort c.in-Some.part c.args.channel.now.number slot.seat.log (due g at.After-always) (of g at.After-always) (settled g at.After-always).waits in
     let wrote : ∥ ((m : Machine) × DeskStands g.B.PartsName desk m × WroteOn g.K.ChannelPort (shape_at g.B.PartsName desk) desk.split c.in-Some.part c.args.write c.write_on-reply.result c.write_on-reply.new.front c.write_on-reply.new.part m desk.logs slot.seat.log) ∥₁ =
     ∥∥₁_map stands (λ s. (s.0, s.1, c.write_on-reply.ensures.writes (shape_at g.B.PartsName desk) s.0 desk.logs slot.seat.log s.1.stands (settled g at.After-always).agreed seen (λ less. c.requires.asked.here less ∙ sym (own g at.After-always)))) in
     record {
-      kept = slot_noted g.K.ChannelPort g.B.PartsName g.C.ChannelName.NUMBER c.in-Some.part c.write_on-reply.new.part c.args.write c.settle.new.self.known c.note_write.new.known slot.seat c.note_write.new.seat slot.kept.channel_is c.write_on-reply.result
+      kept = subst (λ n. IsSlotKept g.K.ChannelPort g.B.PartsName (Some c.write_on-reply.new.part) c.note_write.new.seat n) (sym c.settle.ensures.number) (slot_noted g.K.ChannelPort g.B.PartsName c.args.channel.now.number c.in-Some.part c.write_on-reply.new.part c.args.write c.settle.new.self.known c.note_write.new.known slot.seat c.note_write.new.seat (slot.kept.channel_is ∙ c.settle.ensures.number) c.write_on-reply.result
           (record { noted = c.note_write.ensures.noted; front_is = c.note_write.ensures.known; seat_is = c.note_write.ensures.seat })
           c.write_on-reply.ensures.stands c.write_on-reply.ensures.same_part c.write_on-reply.ensures.puts before (record { rise = c.always.ensures }) (due g at.After-always) slot.kept.table
-          (mid g at.After-always) c.write_on-reply.new.front wrote (own g at.After-always) (of g at.After-always);
+          (mid g at.After-always) c.write_on-reply.new.front wrote (own g at.After-always) (of g at.After-always));
     }
 
 pub note-requires-clause-room : goal.note-requires-clause-room
@@ -181,7 +182,7 @@ invariant_of-self-clause-kept g c =
     (same_terms c.args.write desk.split c.write_on-reply.new.front c.write_on-reply.result (written g it)) c.write_on-reply.ensures.costs refl (ap (λ (h : Recorded). h.room) c.note.ensures.history)
     (more_accepted c.args.write desk.split c.write_on-reply.new.front c.write_on-reply.result (written g it))
     (c.inform.ensures.same ∙ c.show.ensures ∙ ap (λ (b : TableId). seen_marks b front.accepted front.persisted) c.deref.ensures)
-    (table_noted g.K.ChannelPort g.B.PartsName g.C.ChannelName.NUMBER c.in-Some.part c.write_on-reply.new.part c.args.write desk.known c.note_write.new.known c.settle.new.slot.seat c.note_write.new.seat c.settle.new.slot.kept.channel_is c.write_on-reply.result (is_noted g it))
+    (table_noted g.K.ChannelPort g.B.PartsName c.args.channel.now.number c.in-Some.part c.write_on-reply.new.part c.args.write desk.known c.note_write.new.known c.settle.new.channel.seat c.note_write.new.seat (c.settle.new.channel.kept.channel_is ∙ c.settle.ensures.number) c.write_on-reply.result (is_noted g it))
     (∥∥₁_map desk.kept.stands (λ s. let f = followed g it s.0 s.1 in (f.later, f.stands))) _ c.note.ensures.total
 
 pub returns-clause-answers : goal.returns-clause-answers
@@ -192,7 +193,7 @@ returns-clause-answers g c = λ m s.
     let old = desk_of g.K.ChannelPort g.D.SaveDevice g.E.Energy g.B.BoardName g.B.PartsName c.args.self.now in
     ∥∥₁_map (c.settle.ensures.settles m s)
     (λ on.
-    behind g.B.PartsName g.C.ChannelName.NUMBER (Event.Write c.args.write) (Reply.Write c.write_on-reply.result) old (before g it) (now g it) m same.front same.costs (ap g.D.SaveDevice.state same.device) (ap g.E.Energy.gauge same.energy) on
+    behind g.B.PartsName c.args.channel.now.number (Event.Write c.args.write) (Reply.Write c.write_on-reply.result) old (before g it) (now g it) m same.front same.costs (ap g.D.SaveDevice.state same.device) (ap g.E.Energy.gauge same.energy) on
     (followed g it on.seen on.stands))
 
 pub returns-clause-rest : goal.returns-clause-rest
@@ -212,16 +213,16 @@ returns-clause-rest g c =
 pub returns-clause-elsewhere : goal.returns-clause-elsewhere
 returns-clause-elsewhere g c = λ other apart.
     let at = goal.at.returns-clause-elsewhere g c in
-    elsewhere_noted g.K.ChannelPort g.B.PartsName g.C.ChannelName.NUMBER c.in-Some.part c.write_on-reply.new.part c.args.write c.settle.new.self.known c.note_write.new.known c.settle.new.slot.seat c.note_write.new.seat c.settle.new.slot.kept.channel_is c.write_on-reply.result
+    elsewhere_noted g.K.ChannelPort g.B.PartsName c.args.channel.now.number c.in-Some.part c.write_on-reply.new.part c.args.write c.settle.new.self.known c.note_write.new.known c.settle.new.channel.seat c.note_write.new.seat (c.settle.new.channel.kept.channel_is ∙ c.settle.ensures.number) c.write_on-reply.result
     (is_noted g at.After-note) other apart
     ∙ c.settle.ensures.elsewhere other apart
 
 pub returns-clause-puts : goal.returns-clause-puts
 returns-clause-puts g c =
     let reply = c.write_on-reply in
-    puts_write g.K.ChannelPort c.args.slot.now.part c.settle.new.slot.part c.in-Some.part reply.new.part c.settle.ensures.part c.in-Some.is reply.ensures.issued reply.result reply.ensures.puts
+    puts_write g.K.ChannelPort c.args.channel.now.part c.settle.new.channel.part c.in-Some.part reply.new.part c.settle.ensures.part c.in-Some.is reply.ensures.issued reply.result reply.ensures.puts
 
 pub returns-clause-keeps : goal.returns-clause-keeps
 returns-clause-keeps g c =
     let reply = c.write_on-reply in
-    refused_write g.K.ChannelPort c.args.slot.now.part c.settle.new.slot.part c.in-Some.part reply.new.part c.settle.ensures.part c.in-Some.is reply.result reply.ensures.same_part
+    refused_write g.K.ChannelPort c.args.channel.now.part c.settle.new.channel.part c.in-Some.part reply.new.part c.settle.ensures.part c.in-Some.is reply.result reply.ensures.same_part

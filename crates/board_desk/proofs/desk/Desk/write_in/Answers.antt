@@ -12,7 +12,7 @@ use Rattle.board_desk.proofs.desk.Desk.write_in.Goals as goal
 pub returns-clause-writes : goal.returns-clause-writes
 returns-clause-writes g c =
     let view = desk_of g.K.ChannelPort g.D.SaveDevice g.E.Energy g.B.BoardName g.B.PartsName in
-    let Told : Result Accepted WriteRefusal → Type 0 = λ r. DeskAnswers g.B.PartsName g.C.ChannelName.NUMBER (events.Write c.args.write) (replies.Write r) (view c.args.self.now) (view c.write.new.self) in
+    let Told : Result Accepted WriteRefusal → Type 0 = λ r. DeskAnswers g.B.PartsName c.args.channel.now.number (events.Write c.args.write) (replies.Write r) (view c.args.self.now) (view c.write.new.self) in
     let writes = ap (λ (host : Client). host.writes) c.host.view_is in
     elim c.match-write.branch [
       | in-Ok w ↦ rw w.result-is (
