@@ -156,6 +156,30 @@ where
     Ok(Told { host, receipts })
 }
 
+// The same of each of these hosts, at once.
+fn write_at_once<K, D, E, B, N, R>(
+    rt: &R,
+    alloc: Global,
+    board: &Board<K, D, E, B, N>,
+    hosts: Vec<Host<B>>,
+) -> Result<Vec<Result<Told<B>, AllocError>>, AllocError>
+where
+    K: ChannelPort + Drop + Send,
+    D: SaveDevice + Drop + Send,
+    E: Energy + Drop + Send,
+    B: BoardName + PartsName + Send + Sync,
+    N: Notices + Send + Sync,
+    R: Threads + Wait + Sync,
+{
+    thread::map_vec(
+        rt,
+        hosts,
+        &|host: Host<B>| -> Result<Told<B>, AllocError> {
+            write_until_lost(rt, alloc, board, host)
+        },
+    )
+}
+
 // All hosts, and what they were told.
 fn gather<B: BoardName>(
     alloc: Global,
@@ -190,14 +214,7 @@ where
         panic!(*rt; "memory");
     };
     same(rt, board.arm(rt), Ok(ArmReply::Armed));
-    let told = thread::map_vec(
-        rt,
-        hosts,
-        &|host: Host<B>| -> Result<Told<B>, AllocError> {
-            write_until_lost(rt, alloc, &board, host)
-        },
-    )
-    .expect(rt, "memory");
+    let told = write_at_once(rt, alloc, &board, hosts).expect(rt, "memory");
     let Gathered { hosts, receipts } = gather(alloc, told).expect(rt, "memory");
     if hosts.len() != HOSTS {
         panic!(*rt; "four hosts");

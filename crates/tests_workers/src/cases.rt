@@ -37,6 +37,9 @@ pub(crate) const CHANNELS: u64 = 2;
 /// The lines of the small profile.
 pub(crate) const LINES: u64 = 128;
 
+// How many hosts a case has.
+const HOSTS: usize = 12;
+
 /// More energy than any save takes, in units.
 pub(crate) const AMPLE: u64 = 1 << 62;
 
@@ -88,7 +91,7 @@ where
     requires named { IsNamed K.ChannelPort B.Ledger B.BoardName.own B.PartsName.own
         ready.tables ready.recorded }
     requires channels { CHANNELS ≡ B.channels }
-    requires hosts { B.parts ≡ 12 }
+    requires hosts { B.parts ≡ HOSTS }
 {
     let Ok(Started { board, mut hosts }) = ready.board::<B, N>(alloc, notices) else {
         panic!(*rt; "memory");
@@ -107,6 +110,9 @@ where
         Case::CutModes => cut_in_each_mode(rt, &board, &mut first[0]),
         Case::CutStrange => cut_beside_strangers(rt, &board, &mut first[0]),
         _ => end_workers(rt, &board, &mut first[0]),
+    }
+    if hosts.len() != HOSTS {
+        panic!(*rt; "twelve hosts");
     }
     match case {
         Case::Strange => end_armed(rt, board, hosts),
@@ -128,7 +134,7 @@ where
     requires named { IsNamed K.ChannelPort B.Ledger B.BoardName.own B.PartsName.own
         ready.tables ready.recorded }
     requires channels { CHANNELS ≡ B.channels }
-    requires hosts { B.parts ≡ 12 }
+    requires hosts { B.parts ≡ HOSTS }
 {
     let Ok(Started { board, mut hosts }) = ready.board::<B, Silent>(alloc, Silent) else {
         panic!(*rt; "memory");
@@ -152,7 +158,7 @@ where
     R: Threads + Wait + Clock + Abort + Copy + Send + Sync,
     requires named { IsNamed K.ChannelPort B.Ledger B.BoardName.own B.PartsName.own
         ready.tables ready.recorded }
-    requires hosts { B.parts ≡ 12 }
+    requires hosts { B.parts ≡ HOSTS }
 {
     if ready.channels != CHANNELS {
         panic!(*rt; "two channels");
@@ -201,7 +207,15 @@ where
     let Ok(device) = formatted(alloc, &profile) else {
         panic!(*rt; "a device");
     };
-    let Ok(ready) = open(rt, alloc, &map, &profile, device, Meter::with(AMPLE, 1), 12) else {
+    let Ok(ready) = open(
+        rt,
+        alloc,
+        &map,
+        &profile,
+        device,
+        Meter::with(AMPLE, 1),
+        HOSTS,
+    ) else {
         panic!(*rt; "a module");
     };
     try_board::<_, _, _, Brand, R>(rt, alloc, ready, case);
