@@ -1,7 +1,19 @@
 -- Terms of words.
-use Rattle.std.specs.Prelude.{◌≡◌, ℕ, List}
+use Rattle.std.specs.Prelude.{◌≡◌, ℕ, List, [], ◌∷◌, ◌++◌, flat_map, get_or, map}
 use Rattle.command_help.specs.declared.terms.Term.{Term}
 
 -- the term is of this word
 abbrev pub IsOf : List ℕ → Term → Type 0
 IsOf word term = term.word.now ≡ word
+
+-- one of the three lines of a term
+abbrev pub line_at : ℕ → Term → List ℕ
+line_at place term = get_or (map (λ line. line.now) term.lines) place []
+
+-- its lines, with a newline between two
+abbrev pub term_text : Term → List ℕ
+term_text term = line_at 0 term ++ 10 ∷ line_at 1 term ++ 10 ∷ line_at 2 term
+
+-- the words of terms, each with a newline behind it
+abbrev pub words_text : List Term → List ℕ
+words_text terms = flat_map (λ term. term.word.now ++ 10 ∷ []) terms

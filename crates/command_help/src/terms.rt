@@ -1,6 +1,7 @@
 // The words of answers, and what they mean.
-ghost use Rattle.std.specs.Prelude.{◌≡◌, All, Contains, IfSome, IsNone};
-ghost use Rattle.command_help.specs.Terms.{IsOf};
+ghost use Rattle.std.specs.Prelude.{◌≡◌, map, All, Contains, IfOk, IfSome, IsNone, OnOk};
+ghost use Rattle.std.specs.Io.KnownBytes.{Appends};
+ghost use Rattle.command_help.specs.Terms.{IsOf, words_text};
 
 use std::alloc::{AllocError, Global};
 use std::{fmt, io};
@@ -13,6 +14,11 @@ pub struct Term {
 }
 
 impl fmt::Display for Term {
+    ghost use Rattle.std.specs.Prelude.{Some};
+    ghost use Rattle.command_help.specs.Terms.{term_text};
+
+    ghost output = { λ term. Some (term_text term) };
+
     fn fmt<W: fmt::Write>(&self, f: &mut fmt::Formatter<W>) -> fmt::Result {
         let [first, second, third] = self.lines;
         write!(f, "{first}\n{second}\n{third}")
@@ -28,13 +34,18 @@ pub fn explained<'t>(terms: &'t [Term], word: &str) -> Option<&'t Term>
 }
 
 /// The words of these terms, in their order.
-pub fn term_words(alloc: Global) -> Result<Vec<&'static str>, AllocError> {
-    known_terms().iter().map(|term| term.word).collect(alloc)
+pub fn term_words(alloc: Global, terms: &[Term]) -> Result<Vec<&'static str>, AllocError>
+    ensures { IfOk result (λ words. words.items ≡ map (λ term. term.word) terms.now) }
+{
+    terms.iter().map(|term| term.word).collect(alloc)
 }
 
-/// Writes the words that are explained, each as a line.
-pub fn write_terms<W: io::Write>(writer: &mut W) -> io::Result<()> {
-    for term in known_terms() {
+/// Writes the words of these terms, each as a line.
+pub fn write_terms<W: io::Write>(terms: &[Term], writer: &mut W) -> io::Result<()>
+    ensures { OnOk result (Appends (W.contents writer.old) (W.contents writer.new)
+        (words_text terms.now)) }
+{
+    for term in terms {
         writeln!(writer, "{}", term.word)?;
     }
     Ok(())

@@ -24,7 +24,7 @@ where
             Some(term) => writeln!(writer, "{term}"),
             None => return Err(no_term(rt, word)?),
         },
-        None => write_terms(writer),
+        None => write_terms(known_terms(), writer),
     };
     if written.is_err() {
         return Err(Failure::from(Fault::File("-")));
@@ -35,7 +35,7 @@ where
 
 // A word that isn't explained, but maybe is nearly one that is.
 fn no_term<'a, R: AllocGlobal>(rt: &R, word: &'a str) -> Result<Failure<'a>, Failure<'a>> {
-    let words = term_words(rt.alloc())?;
+    let words = term_words(rt.alloc(), known_terms())?;
     let reason = match near_word(rt.alloc(), word, &words)? {
         Some(near) => format!(in rt.alloc(); "{near}?").ok().map(Reason::Told),
         None => Some(Reason::Known("nvctl explain names those that there are")),

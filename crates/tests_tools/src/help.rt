@@ -71,7 +71,7 @@ So no image may be further behind than that.
 Finish a save, then ask again."
     );
     assert_eq!(rt; explained(known_terms(), "trailfull").is_none(), true);
-    let words = term_words(rt.alloc()).expect(&rt, "memory");
+    let words = term_words(rt.alloc(), known_terms()).expect(&rt, "memory");
     assert_eq!(rt;
         (words.len(), words.first().copied(), words.last().copied()),
         (26, Some("mark"), Some("Memory"))
