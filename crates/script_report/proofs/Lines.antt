@@ -1,10 +1,11 @@
 -- The lines of a text, and which of them are bad.
-use Rattle.std.proofs.Common.{◌≡◌, ◌≢◌, ◌∙◌, ◌==◌, ◌⊎◌, inl, inr, Bool, true, false, ℕ, ◌+◌, ◌-◌, ◌<◌, ◌≤◌, List, [], ◌∷◌, ◌++◌, length, take, get_or, slice_index, All, Contains, if◌then◌else◌, Option, refl, sym, ap, subst, arith}
+use Rattle.std.proofs.Common.{◌≡◌, ◌≢◌, ◌∙◌, ◌==◌, ◌⊎◌, inl, inr, Bool, true, false, ℕ, ◌+◌, ◌-◌, ◌<◌, ◌≤◌, List, [], ◌∷◌, ◌++◌, length, take, get_or, slice_index, All, AllPairs, Contains, if◌then◌else◌, Option, refl, sym, ap, subst, arith}
 use Rattle.std.specs.Borrow.{Bor}
 use Rattle.std.specs.List.{AllZip, onto_first, slice_split}
 use Rattle.std.proofs.Math.Nat.{eq-or-lt_of_le}
 use Rattle.std.proofs.lemmas.List.{length-map, map-append}
 use Rattle.std.proofs.lemmas.List.Elements.{All-append, All-cons, All-get_or, All-nil, All-tail, Contains-append_left, Contains-push}
+use Rattle.std.proofs.lemmas.List.Quantifiers.{all_pairs_push}
 use Rattle.std.proofs.lemmas.List.Splits.{slice_split_none, slice_split-cons_no, slice_split-cons_yes}
 use Rattle.ddr4_timing.specs.declared.timing.Geometry.{Geometry}
 use Rattle.nv_profile.specs.Nothing.{HoldsOfNone}
@@ -82,17 +83,21 @@ pub one_told : (old new : List BadLine) (line : BadLine) (number : ℕ) → new 
 one_told old new line number is same =
     ap numbers_of is ∙ map-append (λ (bad : BadLine). bad.number) old (line ∷ []) ∙ ap (λ (k : ℕ). numbers_of old ++ k ∷ []) same
 
--- The bad lines among the first of a text are told, and no other number.
+-- The bad lines among the first of a text are told, and no other number, in their order.
 pub record TellsFirst (geometry : Geometry) (texts : List (List ℕ)) (n : ℕ) (numbers : List ℕ) : Type 0 where
   pub are : All (IsBadLine geometry texts) numbers
   pub each : (number : ℕ) → IsBadLine geometry texts number → number ≤ n → Contains numbers number
   pub few : n ≤ 4096
+  pub below : All (λ number. number ≤ n) numbers
+  pub rising : AllPairs (λ x y. x < y) numbers
 
 pub tells_none : (geometry : Geometry) (texts : List (List ℕ)) → TellsFirst geometry texts 0 []
 tells_none geometry texts = record {
   are = All-nil (IsBadLine geometry texts);
   each = λ number bad below. absurd (omega (arith, bad.numbered, below));
   few = omega arith;
+  below = All-nil (λ number. number ≤ 0);
+  rising = λ i j d before inside. absurd (omega (arith, inside));
 }
 
 good_more : (geometry : Geometry) (texts : List (List ℕ)) (n number : ℕ) (numbers : List ℕ) (value : Option ScriptLine) → TellsFirst geometry texts n numbers → n < 4096
@@ -103,6 +108,13 @@ good_more geometry texts n number numbers value told few read bad (inl here) = e
   | inr none ↦ absurd (none value (subst (λ (place : ℕ). ReadsAs geometry (get_or texts place []) value) (sym here) read))
 ]
 
+below_more : (geometry : Geometry) (texts : List (List ℕ)) (n : ℕ) (numbers : List ℕ) → TellsFirst geometry texts n numbers → All (λ number. number ≤ n + 1) numbers
+below_more geometry texts n numbers told = λ k d inside. omega (arith, told.below k d inside)
+
+-- one more number is above all of them
+rising_more : (geometry : Geometry) (texts : List (List ℕ)) (n : ℕ) (numbers : List ℕ) → TellsFirst geometry texts n numbers → AllPairs (λ x y. x < y) (numbers ++ (n + 1) ∷ [])
+rising_more geometry texts n numbers told = all_pairs_push (λ x y. x < y) numbers (n + 1) told.rising (λ k d inside. omega (arith, told.below k d inside))
+
 -- the next line is none of them
 pub tells_good : (geometry : Geometry) (texts : List (List ℕ)) (n : ℕ) (numbers : List ℕ) (value : Option ScriptLine) → TellsFirst geometry texts n numbers → n < 4096
     → ReadsAs geometry (get_or texts n []) value → TellsFirst geometry texts (n + 1) numbers
@@ -110,6 +122,8 @@ tells_good geometry texts n numbers value told few read = record {
   are = told.are;
   each = λ number bad below. good_more geometry texts n number numbers value told few read bad (eq-or-lt_of_le (omega (arith, bad.numbered, below)));
   few = omega (arith, few);
+  below = below_more geometry texts n numbers told;
+  rising = told.rising;
 }
 
 -- or is one
@@ -131,11 +145,14 @@ tells_bad geometry texts n numbers told few below none = record {
   are = bad_are geometry texts n numbers told below (inr none);
   each = λ number bad up. bad_each geometry texts n number numbers told bad (eq-or-lt_of_le (omega (arith, bad.numbered, up)));
   few = omega (arith, few);
+  below = All-append (λ number. number ≤ n + 1) numbers ((n + 1) ∷ []) (below_more geometry texts n numbers told)
+      (All-cons (λ number. number ≤ n + 1) (n + 1) [] (omega arith) (All-nil (λ number. number ≤ n + 1)));
+  rising = rising_more geometry texts n numbers told;
 }
 
 -- all lines of a text that were looked at, and all that are there
 pub are_all : (geometry : Geometry) (text : List ℕ) (bad : List BadLine) → TellsFirst geometry (text_lines text) (length (text_lines text)) (numbers_of bad) → AreBadLines geometry text bad
-are_all geometry text bad told = record { are = told.are; each = λ number is. told.each number is (omega (arith, is.numbered, is.within)) }
+are_all geometry text bad told = record { are = told.are; each = λ number is. told.each number is (omega (arith, is.numbered, is.within)); rising = told.rising }
 
 -- the line behind the last that may be is the last one that is told
 pub are_with_last : (geometry : Geometry) (text : List ℕ) (numbers : List ℕ) (bad : List BadLine) → TellsFirst geometry (text_lines text) 4096 numbers → 4096 < length (text_lines text)
@@ -143,4 +160,5 @@ pub are_with_last : (geometry : Geometry) (text : List ℕ) (numbers : List ℕ)
 are_with_last geometry text numbers bad told below is = record {
   are = subst (All (IsBadLine geometry (text_lines text))) (sym is) (bad_are geometry (text_lines text) 4096 numbers told below (inl refl));
   each = λ number one. subst (λ (some : List ℕ). Contains some number) (sym is) (bad_each geometry (text_lines text) 4096 number numbers told one (eq-or-lt_of_le one.reached));
+  rising = subst (AllPairs (λ x y. x < y)) (sym is) (rising_more geometry (text_lines text) 4096 numbers told);
 }

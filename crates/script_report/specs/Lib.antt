@@ -1,1 +1,2 @@
 pub mod BadLines
+pub mod Reasons

@@ -5,5 +5,5 @@ mod lint;
 mod reason;
 mod verbs;
 
-pub use lint::{BadLine, bad_lines};
+pub use lint::{BadLine, bad_lines, tell_bad_lines};
 pub use reason::{MOST_LINES, Reason, why_bad};

@@ -1,16 +1,18 @@
 // The bad lines of a script.
-ghost use Rattle.std.specs.Prelude.{◌≡◌, ◌==◌, ◌<◌, [], length, get_or, All, IfOk, Ok, Option, true, false};
+ghost use Rattle.std.specs.Prelude.{◌≡◌, ◌==◌, ◌<◌, [], length, get_or, All, IfOk, Ok, OnOk, Option, true, false};
+ghost use Rattle.std.specs.Io.KnownBytes.{Appends};
 ghost use Rattle.nv_profile.specs.Nothing.{HoldsOfNone};
 ghost use Rattle.nv_script.specs.Texts.{ReadsAs, text_lines};
 ghost use Rattle.nv_script.specs.Words.{texts_of};
 ghost use Rattle.nv_script.specs.declared.line.ScriptLine.{ScriptLine};
 ghost use Rattle.script_report.specs.BadLines.{AreBadLines};
+ghost use Rattle.script_report.specs.Reasons.{bad_lines_text};
 
 use crate::reason::{MOST_LINES, Reason, why_bad};
 use ddr4_timing::timing::Geometry;
 use nv_script::{ScriptFault, read_script};
 use std::alloc::{AllocError, Global};
-use std::fmt;
+use std::{fmt, io};
 
 /// A line of a script that is none, by its number from 1 on. Shown as the number and the reason.
 #[derive(Clone, Copy, Debug, PartialEq, Eq)]
@@ -20,6 +22,12 @@ pub struct BadLine<'t> {
 }
 
 impl fmt::Display for BadLine<'_> {
+    ghost use Rattle.std.specs.Prelude.{Some};
+    ghost use Rattle.script_report.specs.Reasons.{bad_line_text};
+
+    ghost output = { λ line. Some (bad_line_text line) };
+
+    #[tactic(auto, unfolding(crate::specs::Reasons::bad_line_text))]
     fn fmt<W: fmt::Write>(&self, f: &mut fmt::Formatter<W>) -> fmt::Result {
         write!(f, "script line {}: {}", self.number, self.reason)
     }
@@ -98,4 +106,15 @@ pub fn bad_lines<'t>(
         })?;
     }
     Ok(bad)
+}
+
+/// Writes bad lines in their order, each as a line: its number and its reason.
+pub fn tell_bad_lines<W: io::Write>(bad: &[BadLine<'_>], writer: &mut W) -> io::Result<()>
+    ensures { OnOk result (Appends (W.contents writer.old) (W.contents writer.new)
+        (bad_lines_text bad.now)) }
+{
+    for line in bad {
+        writeln!(writer, "{line}")?;
+    }
+    Ok(())
 }

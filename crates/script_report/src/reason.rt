@@ -65,6 +65,11 @@ pub enum Reason<'t> {
 }
 
 impl fmt::Display for Reason<'_> {
+    ghost use Rattle.std.specs.Prelude.{Some};
+    ghost use Rattle.script_report.specs.Reasons.{reason_text};
+
+    ghost output = { λ reason. Some (reason_text reason) };
+
     fn fmt<W: fmt::Write>(&self, f: &mut fmt::Formatter<W>) -> fmt::Result {
         match *self {
             Reason::TooMany => write!(f, "a script has at most {MOST_LINES} lines"),
