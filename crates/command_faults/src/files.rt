@@ -1,5 +1,6 @@
 // The files that the words name.
-ghost use Rattle.std.specs.Prelude.{◌⊎◌, IfErr};
+ghost use Rattle.std.specs.Prelude.{◌⊎◌, IfErr, OnOk};
+ghost use Rattle.std.specs.Io.KnownBytes.{Keeps};
 ghost use Rattle.nv_profile.specs.Ready.{IsReadyWord};
 ghost use Rattle.command_faults.specs.Exit.{IsNoProfile, IsOfFile, IsOfNoFile, IsOfOutput};
 
@@ -150,9 +151,10 @@ fn all_of<'a, S: Read + Drop>(
     }
 }
 
-/// Writes what a writer to standard output has taken.
+/// Writes what a writer to standard output has taken. What it holds stays as it is.
 pub fn flush<W: Write>(writer: &mut W) -> Result<(), Fault<'static>>
-    ensures { IfErr result IsOfOutput }
+    ensures kept { OnOk result (Keeps (W.contents writer.old) (W.contents writer.new)) }
+    ensures fault { IfErr result IsOfOutput }
 {
     match writer.flush() {
         Ok(()) => Ok(()),
