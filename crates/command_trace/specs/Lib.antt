@@ -5,3 +5,4 @@ pub mod Reading
 pub mod Reasons
 pub mod Tallies
 pub mod Faults
+pub mod Foreign

@@ -7,6 +7,7 @@
 mod asked;
 mod diagnosis;
 mod entry;
+mod foreign;
 mod front;
 mod kind;
 mod no_command;
@@ -20,6 +21,7 @@ mod why;
 pub use asked::Asked;
 pub use diagnosis::{Diagnosis, Listed, Numbered, check_trace, list_commands, list_issued};
 pub use entry::{Entry, Located};
+pub use foreign::found_in_form;
 pub use front::Front;
 pub use kind::{Kind, name_of};
 pub use no_command::NoCommand;

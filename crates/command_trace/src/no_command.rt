@@ -9,12 +9,18 @@ pub enum NoCommand {
     Words,
     /// Its first row isn't the one of a table.
     Header,
+    /// It isn't one of the form that was asked for, which is this.
+    Form { wanted: &'static str },
     /// A row of a table has another number of columns.
     Columns { found: usize },
     /// The name is none of a command.
     Name,
     /// The part is no number of 64 bits.
     Number { part: &'static str },
+    /// No column was named for the part.
+    Unnamed { part: &'static str },
+    /// The part is no number of 64 bits in base 16.
+    Hex { part: &'static str },
     /// There are more or fewer numbers behind the name than its command has.
     Parts { kind: Kind },
     /// The command doesn't have the part that stands in this column of a table.
@@ -42,6 +48,7 @@ impl fmt::Display for NoCommand {
             NoCommand::Header => f.write_str(
                 "the header of a table is clock,command,channel,rank,bankgroup,bank,row,column",
             ),
+            NoCommand::Form { wanted } => f.write_str(wanted),
             NoCommand::Columns { found } => write!(f, "a table has 8 columns, here {found}"),
             NoCommand::Name => f.write_str(
                 "the names of commands are ACT, RD, WR, RDA, WRA, PRE, PREA, REF and SRE",
@@ -49,6 +56,11 @@ impl fmt::Display for NoCommand {
             NoCommand::Number { part } => write!(
                 f,
                 "the {part} is a number: decimal digits that fit 64 bits"
+            ),
+            NoCommand::Unnamed { part } => write!(f, "no column is named {part}"),
+            NoCommand::Hex { part } => write!(
+                f,
+                "the {part} is a number behind 0x: digits of base 16 that fit 64 bits"
             ),
             NoCommand::Parts { kind } => {
                 write!(f, "{} has these numbers behind it:", kind.name())?;

@@ -4,16 +4,18 @@ ghost use Rattle.std.specs.Option.{option_to_list};
 ghost use Rattle.command_trace.specs.Reading.{FitsChannels, IsFormWith};
 
 use crate::entry::{Entry, Located};
+use crate::foreign::found_in_form;
 use crate::kind::Kind;
 use crate::no_command::NoCommand;
 use csv::{ByteRecord, ErrorKind, ReaderBuilder, Terminator};
 use ddr4_timing::command::Stamped;
 use ghost_trace::Trace;
-use std::alloc::Global;
+use std::alloc::{AllocError, Global};
 use std::io::{Chain, Read};
 use thiserror::Error;
+use trace_forms::ForeignForm;
 
-/// The two forms of a trace.
+/// The forms of a trace.
 #[derive(Clone, Copy, Debug, PartialEq, Eq)]
 pub enum Form {
     /// `CHANNEL CLOCK NAME` and the command's numbers, as this program prints commands. Where `others` is true, lines that
@@ -21,6 +23,8 @@ pub enum Form {
     Lines { others: bool },
     /// Comma separated values under the header `HEADER`.
     Table,
+    /// Lines as others write them.
+    Foreign(ForeignForm),
 }
 
 /// The first row of a table.
@@ -93,6 +97,7 @@ impl Row {
 /// Reads the commands of a trace one by one. Empty lines, and those that begin with `#`, are passed over.
 #[derive(Drop)]
 pub struct TraceReader<R> {
+    alloc: Global,
     rows: csv::Reader<Chain<R, &'static [u8]>>,
     row: ByteRecord,
     form: Form,
@@ -226,6 +231,21 @@ fn found_in_row(row: &ByteRecord, line: u64) -> Result<Located, NoCommand> {
     )
 }
 
+// What the line is that was read last, in a form of others: its row is one field.
+fn foreign_row(
+    alloc: Global,
+    form: &ForeignForm,
+    row: &ByteRecord,
+    line: u64,
+) -> Result<Row, AllocError> {
+    match word_at(row, 0) {
+        Some(text) if row.len() == 1 => Ok(Row::of(found_in_form(alloc, form, text, line)?)),
+        _ => Ok(Row::Bad(NoCommand::Form {
+            wanted: form.wanted(),
+        })),
+    }
+}
+
 // The command of a kind with the first of these numbers.
 fn found_at(
     line: u64,
@@ -275,8 +295,11 @@ impl<R: Read + Drop> TraceReader<R> {
         let delimiter = match form {
             Form::Lines { .. } => b' ',
             Form::Table => b',',
+            // a line is one field then
+            Form::Foreign(_) => 0,
         };
         TraceReader {
+            alloc,
             rows: rows_of(alloc, source, delimiter),
             row: ByteRecord::new(alloc),
             form,
@@ -287,22 +310,25 @@ impl<R: Read + Drop> TraceReader<R> {
     }
 
     // What the row is that was read last, on the line of this number.
-    fn parsed(&mut self, line: u64) -> Row
+    fn parsed(&mut self, line: u64) -> Result<Row, AllocError>
         ensures { (self.new.channels ≡ self.old.channels) × (self.new.given ≡ self.old.given) }
     {
         if is_blank(&self.row) {
-            return Row::Other;
+            return Ok(Row::Other);
         }
         let begins = !self.is_begun;
         self.is_begun = true;
+        let form = self.form;
         let row = &self.row;
-        match self.form {
+        let read = match form {
             Form::Table if begins && is_header(row) => Row::Other,
             Form::Table if begins => Row::Bad(NoCommand::Header),
             Form::Table => Row::of(found_in_row(row, line)),
+            Form::Foreign(foreign) => foreign_row(self.alloc, &foreign, row, line)?,
             Form::Lines { others: true } if is_other(row) => Row::Other,
             Form::Lines { .. } => Row::of(found_in_line(row, line)),
-        }
+        };
+        Ok(read)
     }
 
     /// The next command, or none at the end of the trace. A line that is no command, whose channel isn't there or whose clock
@@ -319,7 +345,7 @@ impl<R: Read + Drop> TraceReader<R> {
                 return Ok(None);
             }
             let line = self.rows.position().line().saturating_sub(1);
-            match self.parsed(line) {
+            match self.parsed(line)? {
                 Row::Other => {}
                 Row::Command(found)
                     if found.entry.channel < self.channels && found.entry.command.clock < 1 << 63 =>
