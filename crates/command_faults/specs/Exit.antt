@@ -3,7 +3,7 @@ use Rattle.std.specs.Prelude.{◌≡◌, ◌⊎◌, ℕ, List, String, codes}
 use Rattle.std.specs.Borrow.{Bor}
 use Rattle.std.specs.declared.alloc.Global.{Global}
 use Rattle.command_faults.specs.declared.fault.Fault.{Fault}
-use Rattle.command_faults.specs.declared.fault.Fault.TheVariants.{Words, Out, Kept, Commands, NoTerm, Profile, NoProfile, File, Memory}
+use Rattle.command_faults.specs.declared.fault.Fault.TheVariants.{Words, Out, Kept, Commands, Columns, NoTerm, Profile, NoProfile, File, Memory}
 
 -- 2 for a mistake in the program's words, and else 1
 abbrev pub status_of : Fault → ℕ
@@ -11,6 +11,7 @@ status_of Words = 2
 status_of (Out why) = 2
 status_of (Kept why) = 2
 status_of (Commands why) = 2
+status_of Columns = 2
 status_of (NoTerm word) = 2
 status_of _ = 1
 

@@ -38,6 +38,9 @@ pub enum Fault<'a> {
     /// The word behind `--commands` names no file for commands, for this reason.
     #[error("--commands {0}")]
     Commands(&'static str),
+    /// The words behind `--form` and `--columns` name no form of a trace.
+    #[error("--columns")]
+    Columns,
     /// No command stands in a trace that is to be checked.
     #[error("empty trace")]
     EmptyTrace,
@@ -63,6 +66,7 @@ impl Fault<'_> {
             Fault::Out(_) => ExitCode::from(2),
             Fault::Kept(_) => ExitCode::from(2),
             Fault::Commands(_) => ExitCode::from(2),
+            Fault::Columns => ExitCode::from(2),
             Fault::NoTerm(_) => ExitCode::from(2),
             _ => ExitCode::FAILURE,
         }

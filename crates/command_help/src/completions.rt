@@ -87,8 +87,9 @@ impl Display for Words {
         match self.kind {
             Kind::Profile => f.write_str(" tiny tiny2"),
             Kind::Shell => f.write_str(" bash zsh fish"),
+            Kind::Form => f.write_str(" ramulator2 dramsim3 plain"),
             Kind::Term => write_terms(f),
-            Kind::File | Kind::Number => Ok(()),
+            Kind::File | Kind::Number | Kind::Columns => Ok(()),
         }
     }
 }
@@ -187,8 +188,8 @@ fn write_zsh_action<W: Write>(kind: Kind, writer: &mut W) -> io::Result<()> {
     match kind {
         Kind::Profile => writer.write_all(b"{ compadd tiny tiny2; _files }"),
         Kind::File => writer.write_all(b"_files"),
-        Kind::Number => writer.write_all(b" "),
-        Kind::Term | Kind::Shell => write!(writer, "({})", Words { kind }),
+        Kind::Number | Kind::Columns => writer.write_all(b" "),
+        Kind::Term | Kind::Shell | Kind::Form => write!(writer, "({})", Words { kind }),
     }
 }
 

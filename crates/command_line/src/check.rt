@@ -5,6 +5,7 @@ ghost use Rattle.command_trace.specs.Channels.{AreLawful, FollowsAll};
 ghost use Rattle.command_faults.specs.declared.fault.Fault.TheVariants.{EmptyTrace};
 
 use crate::command::status_by;
+use crate::forms::form_asked;
 use clap::ArgMatches;
 use command_faults::{Failure, Fault, Reason, bytes_of, flush, is_file, rules_of};
 use command_trace::{Form, Source, TraceCheck, TraceFault};
@@ -28,6 +29,7 @@ where
     W: Write,
 {
     let rules = rules_of(rt, matches.get_str("PROFILE").unwrap_or("tiny"))?;
+    let form = form_asked(rt.alloc(), matches)?;
     let name = matches.get_str("TRACE").unwrap_or("-");
     let source = if name != "-" && is_file(rt, name)? {
         Source::File(name)
@@ -35,6 +37,7 @@ where
         Source::Bytes(bytes_of(rt, name, u64::MAX)?)
     };
     let asked = Asked {
+        form,
         others: matches.get_flag("answers"),
         allows_empty: matches.get_flag("allow-empty"),
         is_json: matches.get_flag("json"),
@@ -54,6 +57,8 @@ where
 // What is asked of a check.
 #[derive(Clone, Copy)]
 struct Asked {
+    // the form of the trace, where it isn't to be found in it
+    form: Option<Form>,
     // whether other answers of a run are passed over
     others: bool,
     allows_empty: bool,
@@ -72,7 +77,10 @@ fn write_check<R: Files + AllocGlobal, W: Write>(
     rules: &CommandRules,
     writer: &mut W,
 ) -> Result<Result<ExitCode, Failure<'static>>, TraceFault> {
-    let form = source.form(rt, asked.others)?;
+    let form = match asked.form {
+        Some(form) => form,
+        None => source.form(rt, asked.others)?,
+    };
     if !asked.stats {
         let check = source.check(rt, form, rules)?;
         return write_checked(rt, source, form, asked, rules, &check, writer);

@@ -1,9 +1,10 @@
 // A schedule drawn: of a trace, or of all commands of a script.
 use crate::check::of_trace;
+use crate::forms::form_asked;
 use crate::whole::told_whole;
 use clap::ArgMatches;
 use command_faults::{Failure, Fault, bytes_of, profile_of, rules_of};
-use command_trace::{TraceFault, TraceReader, form_of};
+use command_trace::{Form, TraceFault, TraceReader, form_of};
 use crash_table::Trials;
 use ddr4_timing::timing::CommandRules;
 use nv_profile::Profile;
@@ -35,8 +36,9 @@ where
 {
     let word = matches.get_str("PROFILE").unwrap_or("tiny");
     let name = matches.get_str("SCHEDULE").unwrap_or("-");
+    let form = form_asked(rt.alloc(), matches)?;
     let bytes = bytes_of(rt, name, u64::MAX)?;
-    let mut schedule = schedule_of(rt, word, name, &bytes)?;
+    let mut schedule = schedule_of(rt, word, name, form, &bytes)?;
     show_range(rt.alloc(), matches, &mut schedule)?;
     if let Some(name) = matches.get_str("svg") {
         put_picture(rt, &schedule, Picture::Svg, name, writer)?;
@@ -61,17 +63,18 @@ fn show_range(
     schedule.show(alloc, first.unwrap_or(0), last.unwrap_or(u64::MAX))
 }
 
-// The schedule of a trace or of a script. The first line of a trace that is neither empty nor a comment begins with a digit or
-// has a comma. A trace is drawn by the numbers for commands alone, a script by those of a profile.
+// The schedule of a trace or of a script. Where the words name no form, the first line of a trace that is neither empty nor a
+// comment begins with a digit or has a comma. A trace is drawn by the numbers for commands alone, a script by those of a profile.
 fn schedule_of<'a, R: Files + AllocGlobal>(
     rt: &R,
     word: &'a str,
     name: &'a str,
+    form: Option<Form>,
     bytes: &[u8],
 ) -> Result<Schedule, Failure<'a>> {
-    if is_trace(bytes) {
+    if form.is_some() || is_trace(bytes) {
         let rules = rules_of(rt, word)?;
-        return match schedule_drawn(rt.alloc(), &rules, bytes) {
+        return match schedule_drawn(rt.alloc(), &rules, form, bytes) {
             Ok(schedule) => Ok(schedule),
             Err(fault) => Err(of_trace(rt.alloc(), name, fault)),
         };
@@ -99,9 +102,13 @@ fn is_trace(bytes: &[u8]) -> bool {
 fn schedule_drawn(
     alloc: Global,
     rules: &CommandRules,
+    form: Option<Form>,
     bytes: &[u8],
 ) -> Result<Schedule, TraceFault> {
-    let form = form_of(alloc, bytes, false)?;
+    let form = match form {
+        Some(form) => form,
+        None => form_of(alloc, bytes, false)?,
+    };
     let mut reader = TraceReader::new(alloc, bytes, form, rules.geometry.channels);
     trace_schedule(alloc, rules, &mut reader)
 }

@@ -7,6 +7,7 @@ mod check;
 mod command;
 mod crash;
 mod draw;
+mod forms;
 mod help;
 mod lint;
 mod live;

@@ -7,6 +7,9 @@ use std::alloc::{AllocError, Global};
 /// The shells that completions are written for.
 const SHELLS: &[&str] = &["bash", "zsh", "fish"];
 
+/// The forms in which others write traces.
+const FORMS: &[&str] = &["ramulator2", "dramsim3", "plain"];
+
 /// The parser of the program's words.
 pub fn parser<'a>(alloc: Global, version: &'a str) -> Result<Command<'a>, AllocError> {
     let why = switch_word(alloc, &WHY).global(true);
@@ -80,6 +83,7 @@ fn of_kind<'a>(word: Arg<'a>, kind: Kind) -> Arg<'a> {
     match kind {
         Kind::Number => word.value_parser(value_parser!(u64)),
         Kind::Shell => word.value_parser(SHELLS),
-        Kind::Profile | Kind::File | Kind::Term => word,
+        Kind::Form => word.value_parser(FORMS),
+        Kind::Profile | Kind::File | Kind::Term | Kind::Columns => word,
     }
 }

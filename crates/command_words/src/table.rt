@@ -21,6 +21,24 @@ const JSON: Switch = Switch {
     help: "Writes objects of JSON, one on a line",
 };
 
+const FORM: Switch = Switch {
+    name: "form",
+    value: Some(Value {
+        name: "FORM",
+        kind: Kind::Form,
+    }),
+    help: "The trace is as ramulator2 or dramsim3 writes it, or plain",
+};
+
+const COLUMNS: Switch = Switch {
+    name: "columns",
+    value: Some(Value {
+        name: "COLUMNS",
+        kind: Kind::Columns,
+    }),
+    help: "The trace is a table of these columns: clock,command,channel,rank,group,bank,row,column, in any order, and - for others",
+};
+
 /// The option of the program and of each verb.
 pub const WHY: Switch = Switch {
     name: "why",
@@ -150,6 +168,8 @@ const CHECK: Verb = Verb {
             value: None,
             help: "Counts the commands of each lawful channel and bank, and their hits, misses and conflicts of rows",
         },
+        FORM,
+        COLUMNS,
         JSON,
     ],
     any_of: &[],
@@ -200,6 +220,8 @@ const DRAW: Verb = Verb {
             }),
             help: "The last clock that is drawn",
         },
+        FORM,
+        COLUMNS,
     ],
     any_of: &["svg", "vcd"],
 };

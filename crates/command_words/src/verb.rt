@@ -13,6 +13,10 @@ pub enum Kind {
     Term,
     /// A shell that completions are written for.
     Shell,
+    /// A form in which others write traces.
+    Form,
+    /// The columns of a trace, by their names with a comma between two.
+    Columns,
 }
 
 /// A word that is told by its place.

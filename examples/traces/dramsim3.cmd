@@ -1,0 +1,10 @@
+0                  activate               0   0   0   0      0x1      0x3
+6                  activate               0   0   0   1      0x0      0x0
+16                 read                   0   0   0   0      0x1      0x3
+22                 read_p                 0   0   0   1      0x0      0x0
+32                 write                  0   0   0   0      0x1      0x2
+66                 precharge              0   0   0   0      0x1      0x2
+82                 activate               0   0   0   0      0x0      0x1
+98                 write_p                0   0   0   0      0x0      0x1
+9360               refresh               -1   0  -1  -1     -0x1     -0x1
+9370               refresh               -1   1  -1  -1     -0x1     -0x1
