@@ -15,6 +15,8 @@ mod devices;
 #[cfg(test)]
 mod drawings;
 #[cfg(test)]
+mod foreign;
+#[cfg(test)]
 mod kept;
 #[cfg(test)]
 mod program;

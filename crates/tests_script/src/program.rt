@@ -576,6 +576,7 @@ fn texts_of_faults(rt: HostRuntime) {
             "--store names the script",
             ExitCode::from(2),
         ),
+        (Fault::Columns, "--columns", ExitCode::from(2)),
         (Fault::EmptyTrace, "empty trace", ExitCode::FAILURE),
         (Fault::NoLine(7), "no line 7", ExitCode::FAILURE),
         (Fault::NoTerm("wirte"), "no word wirte", ExitCode::from(2)),

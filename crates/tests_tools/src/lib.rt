@@ -4,6 +4,8 @@
 #[cfg(test)]
 mod drawings;
 #[cfg(test)]
+mod foreign;
+#[cfg(test)]
 mod forms;
 #[cfg(test)]
 mod help;
