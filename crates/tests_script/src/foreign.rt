@@ -5,40 +5,35 @@ use std::process::{self, ExitCode};
 const NAMED: &str = "clock,command,rank,group,bank,row,column";
 
 // Words one after another, with the status, the line and the text.
-const CHECKS: [(&[&str], ExitCode, &str, &str); 10] = [
+const CHECKS: [(&[&str], u8, &str, &str); 10] = [
     (
         &["check", "tiny", "%ramulator2", "--form", "ramulator2"],
-        ExitCode::SUCCESS,
+        0,
         "",
         "0 lawful 2\n1 lawful 0\n",
     ),
-    (
-        &["check", "tiny", "%ramulator2"],
-        ExitCode::FAILURE,
-        "trace line 1",
-        "",
-    ),
+    (&["check", "tiny", "%ramulator2"], 1, "trace line 1", ""),
     (
         &["check", "tiny", "%ramulator2", "--form", "plain", "--why"],
-        ExitCode::FAILURE,
+        1,
         "trace line 1\na plain line is CLOCK COMMAND CHANNEL RANK GROUP BANK ROW COLUMN, with spaces between two",
         "",
     ),
     (
         &["check", "tiny", "%dramsim3", "--form", "dramsim3"],
-        ExitCode::FAILURE,
+        1,
         "",
         "0 fault 3, ACT to RD, same bank: at least tRCD = 16, here 15; line 1: 0 ACT 0 0 0 1; line 2: 15 RD 0 0 0 3\n1 lawful 0\n",
     ),
     (
         &["check", "tiny", "%named", "--columns", NAMED],
-        ExitCode::SUCCESS,
+        0,
         "",
         "0 lawful 2\n1 lawful 0\n",
     ),
     (
         &["check", "tiny", "%named", "--columns", "clock,command"],
-        ExitCode::from(2),
+        2,
         "--columns",
         "",
     ),
@@ -52,7 +47,7 @@ const CHECKS: [(&[&str], ExitCode, &str, &str); 10] = [
             "--form",
             "plain",
         ],
-        ExitCode::from(2),
+        2,
         "--columns",
         "",
     ),
@@ -66,7 +61,7 @@ const CHECKS: [(&[&str], ExitCode, &str, &str); 10] = [
             "--svg",
             "%picture",
         ],
-        ExitCode::SUCCESS,
+        0,
         "",
         "",
     ),
@@ -80,7 +75,7 @@ const CHECKS: [(&[&str], ExitCode, &str, &str); 10] = [
             "--svg",
             "%picture",
         ],
-        ExitCode::FAILURE,
+        1,
         "trace line 1",
         "",
     ),
@@ -94,7 +89,7 @@ const CHECKS: [(&[&str], ExitCode, &str, &str); 10] = [
             "--svg",
             "%picture",
         ],
-        ExitCode::from(2),
+        2,
         "--columns",
         "",
     ),
@@ -118,8 +113,8 @@ fn traces_in_forms_of_others(rt: HostRuntime) {
 15                 read                   0   0   0   0      0x1      0x3\n",
     );
     make(&rt, place, "%named", b"0 act 0 0 0 1 -\n16 rd 0 0 0 1 3\n");
-    for (words, code, line, text) in CHECKS {
-        ends(&rt, place, words, code, line, text);
+    for (words, status, line, text) in CHECKS {
+        ends(&rt, place, words, ExitCode::from(status), line, text);
     }
     for name in ["%ramulator2", "%dramsim3", "%named", "%picture"] {
         remove(&rt, place, name);
