@@ -109,11 +109,10 @@ fn write_checked<R: Files + AllocGlobal, W: Write>(
 ) -> Result<Result<ExitCode, Failure<'static>>, TraceFault> {
     match verdict(check, rules, asked.allows_empty) {
         Ok(code) => {
-            match (asked.is_json, asked.all) {
-                (true, true) => write_tallies(rt, source, form, rules, check, writer)?,
-                (true, false) => write_verdicts(rt, source, form, rules, check, writer)?,
-                (false, true) => source.write_tallies(rt, form, rules, check, writer)?,
-                (false, false) => source.write_verdicts(rt, form, rules, check, writer)?,
+            if asked.all {
+                write_tallies(rt, source, form, rules, check, asked.is_json, writer)?;
+            } else {
+                write_verdicts(rt, source, form, rules, check, asked.is_json, writer)?;
             }
             Ok(Ok(code))
         }

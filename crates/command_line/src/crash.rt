@@ -1,11 +1,10 @@
 // What a crash may leave of a script, told.
-use answer_json::write_object;
 use clap::ArgMatches;
 use command_faults::{Failure, Fault, bytes_of, flush, profile_of};
 use crash_table::{AtStop, Counts, PICKS, Progress, Script, Trials};
 use nv_profile::Profile;
 use nv_script::{SCRIPT_BYTES, ScriptFault};
-use report_json::{counts_object, stop_object, write_table};
+use report_json::{write_counts, write_stop, write_table};
 use std::alloc::Global;
 use std::io::{Eprint, Input, Write};
 use std::process::ExitCode;
@@ -137,11 +136,7 @@ where
     let mut watch = Watch::begin(rt, form.is_watched);
     let table = Trials::new(rt.alloc(), profile).table(&script, &mut watch);
     watch.end();
-    let table = table?;
-    if form.is_json {
-        return write_table(rt.alloc(), &table, writer);
-    }
-    writeln!(writer, "{table}").map_err(|_| ScriptFault::Writer)
+    write_table(rt.alloc(), &table?, form.is_json, writer)
 }
 
 // Writes what restores find at each stop of one line, by its number, and the counts. False where no such line is run.
@@ -160,18 +155,9 @@ fn write_line<W: Write>(
     let tried = Trials::new(alloc, profile).tried(&script.lines[..place], script.lines[place])?;
     for at_stop in tried.chunks(PICKS.len()) {
         if let Some(told) = AtStop::of(alloc, number, at_stop)? {
-            if form.is_json {
-                write_object(alloc, &stop_object(alloc, &told)?, writer)?;
-            } else {
-                writeln!(writer, "{told}").map_err(|_| ScriptFault::Writer)?;
-            }
+            write_stop(alloc, &told, form.is_json, writer)?;
         }
     }
-    let counts = Counts::of(&tried);
-    if form.is_json {
-        write_object(alloc, &counts_object(alloc, &counts)?, writer)?;
-    } else {
-        writeln!(writer, "{counts}").map_err(|_| ScriptFault::Writer)?;
-    }
+    write_counts(alloc, &Counts::of(&tried), form.is_json, writer)?;
     Ok(true)
 }

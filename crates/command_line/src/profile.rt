@@ -1,11 +1,9 @@
 // The numbers of a text, explained.
-use answer_json::write_object;
 use clap::ArgMatches;
-use command_faults::{Failure, Fault, asked_numbers, flush};
+use command_faults::{Failure, asked_numbers, flush};
 use nv_profile::Numbers;
 use profile_report::{CommandMeaning, Meaning};
-use report_json::{command_meaning_object, meaning_object};
-use std::alloc::Global;
+use report_json::{write_command_meaning, write_meaning};
 use std::io::Write;
 use std::process::ExitCode;
 use std::rt::Files;
@@ -32,34 +30,4 @@ where
     }
     flush(writer)?;
     Ok(ExitCode::SUCCESS)
-}
-
-// What a profile means, as lines or as an object.
-fn write_meaning<'a, W: Write>(
-    alloc: Global,
-    meaning: &Meaning,
-    is_json: bool,
-    writer: &mut W,
-) -> Result<(), Failure<'a>> {
-    if is_json {
-        write_object(alloc, &meaning_object(alloc, meaning)?, writer)?;
-    } else if writeln!(writer, "{meaning}").is_err() {
-        return Err(Failure::from(Fault::File("-")));
-    }
-    Ok(())
-}
-
-// What numbers for commands alone mean.
-fn write_command_meaning<'a, W: Write>(
-    alloc: Global,
-    meaning: &CommandMeaning,
-    is_json: bool,
-    writer: &mut W,
-) -> Result<(), Failure<'a>> {
-    if is_json {
-        write_object(alloc, &command_meaning_object(alloc, meaning)?, writer)?;
-    } else if writeln!(writer, "{meaning}").is_err() {
-        return Err(Failure::from(Fault::File("-")));
-    }
-    Ok(())
 }

@@ -1,5 +1,5 @@
--- What a crash may leave, as data.
-use Rattle.std.specs.Prelude.{ℕ, List, codes, map, min}
+-- What a crash may leave, field by field.
+use Rattle.std.specs.Prelude.{ℕ, List, [], ◌∷◌, ◌++◌, ◌==◌, Bool, codes, flat_map, if◌then◌else◌, map, min}
 use Rattle.crash_table.specs.declared.counts.Counts.{Counts}
 use Rattle.crash_table.specs.declared.outcome.Found.{Found}
 use Rattle.crash_table.specs.declared.outcome.Found.TheVariants.{Image, Refused}
@@ -8,45 +8,82 @@ use Rattle.crash_table.specs.declared.stop.Stop.TheVariants.{Dark, Loss}
 use Rattle.crash_table.specs.declared.table.AtStop.{AtStop}
 use Rattle.crash_table.specs.declared.table.Block.{Block}
 use Rattle.crash_table.specs.declared.table.Row.{Row}
+use Rattle.crash_table.specs.declared.table.Table.{Table}
 use Rattle.crash_table.specs.Counting.{writes_found}
-use Rattle.nv_script.specs.declared.answer.Answer.{Answer}
-use Rattle.nv_script.specs.declared.answer.Answer.TheVariants as answer
-use Rattle.serde_json.specs.Data.{Data, number, unsigned, string, array, object, Items, Members, member, no_members}
-use Rattle.serde_json.specs.View.{items_of}
-use Rattle.answer_json.specs.Answers.{answer_pieces, kind_of}
-use Rattle.answer_json.specs.Told.{members_by}
+use Rattle.slot_store.specs.declared.restoring.RestoreError.{RestoreError}
+use Rattle.slot_store.specs.declared.restoring.RestoreError.TheVariants as error
+use Rattle.answer_json.specs.Answers.{verdict_name}
+use Rattle.answer_json.specs.Refusals.{slot_number}
+use Rattle.report_fields.specs.Fields.{Field, says, counts, counts_aligned, names, hides_name, hides_number, within, each, fields_in}
 
--- the answer to a restore
-abbrev pub answer_of : Found → Answer
-answer_of (Image generation count verdict) = answer.Restored generation count verdict
-answer_of (Refused error) = answer.RestoreRefused error
+-- a refusal by its number and its name
+abbrev pub refusal_fields : ℕ → List ℕ → List Field
+refusal_fields code reason = counts (codes "code") code ∷ says (codes " ") ∷ names (codes "reason") reason ∷ []
 
-abbrev pub found_data : Found → Data
-found_data found = object (members_by (kind_of (answer_of found)) (answer_pieces (answer_of found)))
+-- why nothing was restored, with the slot that is damaged
+abbrev pub error_fields : RestoreError → List Field
+error_fields error.NoImage = refusal_fields 1 (codes "NoImage")
+error_fields (error.Damaged slot) = refusal_fields 2 (codes "Damaged") ++ says (codes " ") ∷ counts (codes "slot") (slot_number slot) ∷ []
+error_fields error.WrongSize = refusal_fields 3 (codes "WrongSize")
+error_fields error.Device = refusal_fields 4 (codes "Device")
+error_fields error.Memory = refusal_fields 5 (codes "Memory")
 
-abbrev pub row_data : Row → Data
-row_data row = object (member (codes "acknowledged") (number (unsigned row.outcome.told)) (member (codes "answer") (string (codes "outcome"))
-    (member (codes "held") (number (unsigned (min row.outcome.told (writes_found row.outcome.found)))) (member (codes "restore") (found_data row.outcome.found)
-    (member (codes "times") (number (unsigned row.times)) no_members)))))
+-- the call, which the object alone names
+abbrev pub refused_by : List Field → List Field
+refused_by fields = says (codes "refused ") ∷ hides_name (codes "call") (codes "restore") ∷ fields
 
-abbrev pub rows_data : List Row → Items
-rows_data rows = items_of (map row_data rows)
+-- what a restore answered
+abbrev pub found_kind : Found → List ℕ
+found_kind (Image generation count verdict) = codes "restored"
+found_kind (Refused error) = codes "refused"
 
-abbrev pub block_data : Block → Data
-block_data block = object (member (codes "answer") (string (codes "lines")) (member (codes "first") (number (unsigned block.first))
-    (member (codes "last") (number (unsigned block.last)) (member (codes "outcomes") (array (rows_data block.rows.items)) no_members))))
+abbrev pub found_fields : Found → List Field
+found_fields (Image generation count verdict) = says (codes "generation ") ∷ counts (codes "generation") generation
+    ∷ says (codes ", writes ") ∷ counts (codes "count") count ∷ says (codes ", ") ∷ names (codes "verdict") (verdict_name verdict) ∷ []
+found_fields (Refused error) = refused_by (error_fields error)
 
--- the line, its outcomes, and by what it is stopped
-abbrev pub rest_data : AtStop → List ℕ → Members
-rest_data at stop = member (codes "line") (number (unsigned at.line)) (member (codes "outcomes") (array (rows_data at.rows.items)) (member (codes "stop") (string stop) no_members))
+-- an outcome: how often it was found, what a restore answered, and how many of the acknowledged writes that holds
+abbrev pub row_fields : Row → List Field
+row_fields row = says (10 ∷ []) ∷ counts_aligned (codes "times") row.times 8 ∷ says (codes " ")
+    ∷ within (codes "restore") (found_kind row.outcome.found) (found_fields row.outcome.found)
+    ∷ says (codes ", acknowledged ") ∷ counts (codes "held") (min row.outcome.told (writes_found row.outcome.found))
+    ∷ says (codes " of ") ∷ counts (codes "acknowledged") row.outcome.told ∷ []
 
-abbrev pub stop_members : AtStop → Stop → Members
-stop_members at (Dark calls) = member (codes "calls") (number (unsigned calls)) (rest_data at (codes "dark"))
-stop_members at Loss = rest_data at (codes "loss")
+-- behind the rest of its line, each outcome on a line of its own
+abbrev pub outcomes : List Row → Field
+outcomes rows = each (codes "outcomes") (codes "outcome") (map row_fields rows)
 
-abbrev pub stop_data : AtStop → Data
-stop_data at = object (member (codes "answer") (string (codes "stop")) (stop_members at at.stop))
+-- the first and the last line
+abbrev pub lines_fields : Block → List Field
+lines_fields block = if block.first == block.last
+    then says (codes "line ") ∷ counts (codes "first") block.first ∷ hides_number (codes "last") block.last ∷ []
+    else says (codes "lines ") ∷ counts (codes "first") block.first ∷ says (codes " to ") ∷ counts (codes "last") block.last ∷ []
 
-abbrev pub counts_data : Counts → Data
-counts_data counts = object (member (codes "answer") (string (codes "stops")) (member (codes "missing_with_complete") (number (unsigned counts.complete))
-    (member (codes "missing_with_possible_loss") (number (unsigned counts.possible)) (member (codes "stops") (number (unsigned counts.stops)) no_members))))
+abbrev pub block_fields : Block → List Field
+block_fields block = lines_fields block ++ outcomes block.rows.items ∷ []
+
+abbrev pub stop_words : Stop → List Field
+stop_words (Dark calls) = says (codes ", ") ∷ names (codes "stop") (codes "dark") ∷ says (codes " behind ") ∷ counts (codes "calls") calls
+    ∷ says (codes " device calls") ∷ []
+stop_words Loss = says (codes ", mains lost behind it") ∷ hides_name (codes "stop") (codes "loss") ∷ []
+
+abbrev pub stop_fields : AtStop → List Field
+stop_fields at = says (codes "line ") ∷ counts (codes "line") at.line ∷ stop_words at.stop ++ outcomes at.rows.items ∷ []
+
+abbrev pub counts_fields : Counts → List Field
+counts_fields tried = says (codes "stops ") ∷ counts (codes "stops") tried.stops
+    ∷ says (codes ", acknowledged writes missing: with Complete ") ∷ counts (codes "missing_with_complete") tried.complete
+    ∷ says (codes ", with PossibleLoss ") ∷ counts (codes "missing_with_possible_loss") tried.possible ∷ []
+
+abbrev pub block_in : Bool → Block → List ℕ
+block_in is_json block = fields_in is_json (codes "lines") (block_fields block)
+
+abbrev pub blocks_in : Bool → List Block → List ℕ
+blocks_in is_json blocks = flat_map (block_in is_json) blocks
+
+abbrev pub counts_in : Bool → Counts → List ℕ
+counts_in is_json tried = fields_in is_json (codes "stops") (counts_fields tried)
+
+-- a table: each block of it, and its counts
+abbrev pub table_in : Bool → Table → List ℕ
+table_in is_json table = blocks_in is_json table.blocks.items ++ counts_in is_json table.counts

@@ -2,3 +2,4 @@ pub mod Verdicts
 pub mod Meanings
 pub mod Crashes
 pub mod Statistics
+pub mod Checked

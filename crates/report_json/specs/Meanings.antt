@@ -1,5 +1,5 @@
--- What a profile means, as data.
-use Rattle.std.specs.Prelude.{ℕ, List, codes, flat_map, map, Option}
+-- What a profile means, field by field.
+use Rattle.std.specs.Prelude.{ℕ, List, [], ◌∷◌, codes, flat_map, map}
 use Rattle.std.specs.Option.{option_to_list}
 use Rattle.energy_budget.specs.Sums.{floor_level, needed_level, reserve, steps}
 use Rattle.energy_budget.specs.declared.costs.Costs.{Costs}
@@ -7,27 +7,36 @@ use Rattle.interleave_map.specs.Ready.{text_of}
 use Rattle.profile_report.specs.Meaning.{pending_told}
 use Rattle.profile_report.specs.declared.command_meaning.CommandMeaning.{CommandMeaning}
 use Rattle.profile_report.specs.declared.meaning.Meaning.{Meaning}
-use Rattle.serde_json.specs.Data.{Data, number, unsigned, string, array, object, Items, member, no_members}
-use Rattle.serde_json.specs.View.{items_of}
+use Rattle.report_fields.specs.Fields.{Field, says, counts, names, each}
 
-abbrev pub save_data : Costs → ℕ → Data
-save_data costs pending = object (member (codes "answer") (string (codes "save")) (member (codes "floor") (number (unsigned (floor_level costs pending)))
-    (member (codes "least_reading") (number (unsigned (needed_level costs pending))) (member (codes "pending") (number (unsigned pending))
-    (member (codes "reserve") (number (unsigned (reserve costs pending))) (member (codes "steps") (number (unsigned (steps costs pending))) no_members))))))
+-- what begins a further line of a text
+abbrev pub newline : Field
+newline = says (10 ∷ [])
+
+abbrev pub save_fields : Costs → ℕ → List Field
+save_fields costs pending = newline ∷ says (codes "pending ") ∷ counts (codes "pending") pending
+    ∷ says (codes ": steps ") ∷ counts (codes "steps") (steps costs pending)
+    ∷ says (codes ", reserve ") ∷ counts (codes "reserve") (reserve costs pending)
+    ∷ says (codes ", floor ") ∷ counts (codes "floor") (floor_level costs pending)
+    ∷ says (codes ", least reading ") ∷ counts (codes "least_reading") (needed_level costs pending) ∷ []
 
 -- one for each number of pending writes that is told
-abbrev pub saves_data : Meaning → Items
-saves_data m = items_of (map (save_data m.costs) (flat_map option_to_list (pending_told m)))
+abbrev pub saves_fields : Meaning → List (List Field)
+saves_fields m = map (save_fields m.costs) (flat_map option_to_list (pending_told m))
 
-abbrev pub command_meaning_data : CommandMeaning → Data
-command_meaning_data m = object (member (codes "answer") (string (codes "rules"))
-    (member (codes "banks") (number (unsigned m.banks)) (member (codes "channels") (number (unsigned m.rules.geometry.channels))
-    (member (codes "columns") (number (unsigned m.rules.geometry.columns)) (member (codes "ranks") (number (unsigned m.rules.geometry.ranks))
-    (member (codes "rows") (number (unsigned m.rules.geometry.rows)) no_members))))))
+abbrev pub meaning_fields : Meaning → List Field
+meaning_fields m = says (codes "lines ") ∷ counts (codes "lines") m.lines
+    ∷ says (codes " on ") ∷ counts (codes "channels") m.profile.checked.geometry.channels
+    ∷ says (codes " channels, map ") ∷ names (codes "map") (text_of m.profile.map)
+    ∷ newline ∷ says (codes "device ") ∷ counts (codes "device_bytes") m.device_bytes ∷ says (codes " bytes")
+    ∷ newline ∷ says (codes "entry ") ∷ counts (codes "entry") m.entry ∷ says (codes " clocks")
+    ∷ newline ∷ says (codes "close step ") ∷ counts (codes "close") m.close ∷ says (codes " clocks")
+    ∷ each (codes "saves") (codes "save") (saves_fields m) ∷ []
 
-abbrev pub meaning_data : Meaning → Data
-meaning_data m = object (member (codes "answer") (string (codes "profile"))
-    (member (codes "channels") (number (unsigned m.profile.checked.geometry.channels)) (member (codes "close") (number (unsigned m.close))
-    (member (codes "device_bytes") (number (unsigned m.device_bytes)) (member (codes "entry") (number (unsigned m.entry))
-    (member (codes "lines") (number (unsigned m.lines)) (member (codes "map") (string (text_of m.profile.map))
-    (member (codes "saves") (array (saves_data m)) no_members))))))))
+abbrev pub command_meaning_fields : CommandMeaning → List Field
+command_meaning_fields m = says (codes "commands on ") ∷ counts (codes "channels") m.rules.geometry.channels
+    ∷ says (codes " channels, of each ranks ") ∷ counts (codes "ranks") m.rules.geometry.ranks
+    ∷ says (codes ", banks ") ∷ counts (codes "banks") m.banks
+    ∷ newline ∷ says (codes "of each bank rows ") ∷ counts (codes "rows") m.rules.geometry.rows
+    ∷ says (codes ", columns ") ∷ counts (codes "columns") m.rules.geometry.columns
+    ∷ newline ∷ says (codes "no module: no tables costs and module") ∷ []

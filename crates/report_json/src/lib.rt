@@ -1,12 +1,14 @@
-//! What `check`, `profile` and `crash` tell, as objects of JSON.
+//! What `check`, `profile` and `crash` tell, as lines and as objects of JSON.
 #![tactic(auto)]
 
+mod commands;
 mod crashes;
 mod meanings;
 mod statistics;
 mod verdicts;
+mod written;
 
-pub use crashes::{block_object, counts_object, stop_object, write_table};
-pub use meanings::{command_meaning_object, meaning_object};
+pub use crashes::{write_counts, write_stop, write_table};
+pub use meanings::{write_command_meaning, write_meaning};
 pub use statistics::{bank_object, channel_object, rank_object, shared_object, write_statistics};
-pub use verdicts::{fault_object, lawful_object, tally_object, write_tallies, write_verdicts};
+pub use verdicts::{write_fault, write_lawful, write_tallies, write_tally, write_verdicts};

@@ -3,10 +3,11 @@ ghost use Rattle.std.specs.Prelude.{◌≡◌, ◌<◌, IfOk};
 ghost use Rattle.serde_json.specs.View.{view};
 ghost use Rattle.report_json.specs.Statistics.{bank_data, channel_data, maybe_data, numbers_data, rank_data, shared_data};
 
-use crate::verdicts::write_line;
+use answer_json::write_object;
 use command_trace::{MOST_CHANNELS, TraceFault};
 use ddr4_timing::place::BankAddress;
 use ddr4_timing::timing::CommandRules;
+use nv_script::ScriptFault;
 use serde_json::{Value, json};
 use std::alloc::{AllocError, Global};
 use std::io::Write;
@@ -148,6 +149,19 @@ fn write_ranks<W: Write>(
         }
     }
     Ok(())
+}
+
+// Writes an object as a line.
+fn write_line<W: Write>(
+    alloc: Global,
+    object: &Value,
+    writer: &mut W,
+) -> Result<(), TraceFault> {
+    match write_object(alloc, object, writer) {
+        Ok(()) => Ok(()),
+        Err(ScriptFault::Memory) => Err(TraceFault::Memory),
+        Err(_) => Err(TraceFault::Writer),
+    }
 }
 
 // Did a bank have a command?

@@ -1,149 +1,222 @@
 // What a check tells of a channel.
-ghost use Rattle.std.specs.Prelude.{◌≡◌, IfOk};
-ghost use Rattle.serde_json.specs.View.{view};
-ghost use Rattle.report_json.specs.Verdicts.{fault_data, lawful_data, numbered_data, tally_data};
+ghost use Rattle.std.specs.Prelude.{◌≡◌, ℕ, IfOk, IfSome, List, None, OnOk, codes};
+ghost use Rattle.std.specs.Io.KnownBytes.{Appends};
+ghost use Rattle.command_trace.specs.Channels.{FollowsAll};
+ghost use Rattle.report_fields.specs.Fields.{fields_in, tells};
+ghost use Rattle.report_fields.specs.Parts.{IsTold, data_of_told, text_of_told};
+ghost use Rattle.report_json.specs.Checked.{TellsBelow};
+ghost use Rattle.report_json.specs.Verdicts.{fault_fields, fault_in, first_of, lawful_fields, lawful_in, tally_fields};
 
-use answer_json::{told_of_numbered, write_object};
-use command_trace::{Diagnosis, Form, Numbered, Source, Tally, TraceCheck, TraceFault};
+use crate::commands::tell_numbered;
+use crate::written::write_of_trace;
+use command_trace::{Diagnosis, Form, Source, Tally, TraceCheck, TraceFault};
 use ddr4_timing::timing::CommandRules;
-use nv_script::ScriptFault;
-use serde_json::{Value, json};
+use report_fields::{Part, Told, tell};
 use std::alloc::{AllocError, Global};
 use std::io::Write;
 use std::rt::Files;
 
-/// The object of a channel whose commands are lawful: the channel, and how many they are.
-pub fn lawful_object(alloc: Global, channel: u64, count: u64) -> Result<Value, AllocError>
-    ensures { IfOk result (λ value. view value ≡ lawful_data channel count) }
+// What is told of a channel whose commands are lawful: the channel, and how many they are.
+fn tell_lawful(alloc: Global, channel: u64, count: u64) -> Result<Told, AllocError>
+    ensures { IfOk result (IsTold (codes "lawful") (lawful_fields channel count)) }
 {
-    json!(in alloc; {"answer": "lawful", "channel": channel, "commands": count})
+    let parts = [
+        Part::Number("channel", channel),
+        Part::Word(" lawful "),
+        Part::Number("commands", count),
+    ];
+    tell(alloc, "lawful", &parts)
 }
 
-// The object of a command and its line.
-fn numbered_object(alloc: Global, command: &Numbered) -> Result<Value, AllocError>
-    ensures { IfOk result (λ value. view value ≡ numbered_data command.now) }
-{
-    told_of_numbered(command.line, &command.command).object(alloc)
-}
-
-/// The object of a channel's least fault: the channel, the rule by its number, why in these words, the command at which it is, and
-/// the one before it that the rule is on, where that is another one.
-pub fn fault_object(
+// What is told of a channel's fault: the channel, the rule by its number, why in these words, the command at which it is, and the one
+// before it that the rule is on, where that is another one.
+fn tell_fault(
     alloc: Global,
     channel: u64,
     found: &Diagnosis,
     why: &str,
-) -> Result<Value, AllocError>
-    ensures { IfOk result (λ value. view value ≡ fault_data channel found.now why.now) }
+) -> Result<Told, AllocError>
+    ensures { IfOk result (IsTold (codes "fault") (fault_fields channel found.now why.now)) }
 {
     let rule = found.fault.rule as u64;
-    let second = numbered_object(alloc, &found.second)?;
+    let second = tell_numbered(alloc, &found.second)?;
     if found.fault.first == found.fault.second {
-        return json!(in alloc; {
-            "answer": "fault", "channel": channel, "rule": rule, "second": second, "why": why
-        });
+        let parts = [
+            Part::Number("channel", channel),
+            Part::Word(" fault "),
+            Part::Number("rule", rule),
+            Part::Word(", "),
+            Part::Name("why", why),
+            Part::Word("; "),
+            Part::Within("second", &second),
+        ];
+        return tell(alloc, "fault", &parts);
     }
-    let first = numbered_object(alloc, &found.first)?;
-    json!(in alloc; {
-        "answer": "fault", "channel": channel, "first": first, "rule": rule, "second": second,
-        "why": why
-    })
+    let first = tell_numbered(alloc, &found.first)?;
+    let parts = [
+        Part::Number("channel", channel),
+        Part::Word(" fault "),
+        Part::Number("rule", rule),
+        Part::Word(", "),
+        Part::Name("why", why),
+        Part::Word("; "),
+        Part::Within("first", &first),
+        Part::Word("; "),
+        Part::Within("second", &second),
+    ];
+    tell(alloc, "fault", &parts)
 }
 
-/// The object of a rule that the commands of a channel break: that of the first fault, and how many commands break it.
-pub fn tally_object(
+// What is told of a rule that the commands of a channel break: its first fault, and how many commands break it.
+fn tell_tally(
     alloc: Global,
     channel: u64,
     tally: &Tally,
     why: &str,
-) -> Result<Value, AllocError>
-    ensures { IfOk result (λ value. view value ≡ tally_data channel tally.now why.now) }
+) -> Result<Told, AllocError>
+    ensures { IfOk result (IsTold (codes "faults") (tally_fields channel tally.now why.now)) }
 {
-    let first = fault_object(alloc, channel, &tally.first, why)?;
-    let commands = tally.count as u64;
-    json!(in alloc; {"answer": "faults", "commands": commands, "first": first})
+    let first = tell_fault(alloc, channel, &tally.first, why)?;
+    tell_count(alloc, &first, tally.count as u64)
 }
 
-// The object of what a check tells of a channel.
-fn verdict_object(
+// What is told of a first fault, and of how many commands break its rule.
+fn tell_count(alloc: Global, first: &Told, count: u64) -> Result<Told, AllocError>
+    ensures { IfOk result (IsTold (codes "faults") (first_of (tells (codes "first")
+        (text_of_told first.now) (data_of_told first.now)) count)) }
+{
+    let parts = [
+        Part::Within("first", first),
+        Part::Word("; the first of "),
+        Part::Number("commands", count),
+    ];
+    tell(alloc, "faults", &parts)
+}
+
+/// Writes that the commands of a channel are lawful, and how many they are: a line, or its object.
+pub fn write_lawful<W: Write>(
+    alloc: Global,
+    channel: u64,
+    count: u64,
+    is_json: bool,
+    writer: &mut W,
+) -> Result<(), TraceFault>
+    ensures { OnOk result (Appends (W.contents writer.old) (W.contents writer.new)
+        (lawful_in is_json channel count)) }
+{
+    write_of_trace(alloc, &tell_lawful(alloc, channel, count)?, is_json, writer)
+}
+
+/// Writes a channel's fault, with why in these words: a line, or its object.
+pub fn write_fault<W: Write>(
+    alloc: Global,
+    channel: u64,
+    found: &Diagnosis,
+    why: &str,
+    is_json: bool,
+    writer: &mut W,
+) -> Result<(), TraceFault>
+    ensures { OnOk result (Appends (W.contents writer.old) (W.contents writer.new)
+        (fault_in is_json channel found.now why.now)) }
+{
+    let told = tell_fault(alloc, channel, found, why)?;
+    write_of_trace(alloc, &told, is_json, writer)
+}
+
+/// Writes a rule that the commands of a channel break, with why in these words: a line, or its object.
+pub fn write_tally<W: Write>(
+    alloc: Global,
+    channel: u64,
+    tally: &Tally,
+    why: &str,
+    is_json: bool,
+    writer: &mut W,
+) -> Result<(), TraceFault>
+    ensures { OnOk result (Appends (W.contents writer.old) (W.contents writer.new)
+        (fields_in is_json (codes "faults") (tally_fields channel tally.now why.now))) }
+{
+    let told = tell_tally(alloc, channel, tally, why)?;
+    write_of_trace(alloc, &told, is_json, writer)
+}
+
+// Writes what is told of a channel: its fault, or how many commands it has.
+fn write_verdict<W: Write>(
     alloc: Global,
     channel: u64,
     count: u64,
     found: Option<Diagnosis>,
-) -> Result<Value, AllocError> {
+    is_json: bool,
+    writer: &mut W,
+) -> Result<(), TraceFault>
+    ensures lawful { found ≡ None → OnOk result (Appends (W.contents writer.old)
+        (W.contents writer.new) (lawful_in is_json channel count)) }
+    ensures fault { IfSome found (λ found. OnOk result ((why : List ℕ) × Appends
+        (W.contents writer.old) (W.contents writer.new) (fault_in is_json channel found why))) }
+{
     match found {
-        None => lawful_object(alloc, channel, count),
+        None => write_lawful(alloc, channel, count, is_json, writer),
         Some(found) => {
             let why = found.reason.to_string(alloc)?;
-            fault_object(alloc, channel, &found, &why)
+            write_fault(alloc, channel, &found, &why, is_json, writer)
         }
     }
 }
 
-/// Writes the object of what the check of a trace tells of each channel as a line.
+/// Writes what the check of a trace tells of each channel: that its commands are lawful, or its least fault.
 pub fn write_verdicts<R: Files + AllocGlobal, W: Write>(
     rt: &R,
     source: &Source<'_>,
     form: Form,
     rules: &CommandRules,
     check: &TraceCheck,
+    is_json: bool,
     writer: &mut W,
-) -> Result<(), TraceFault> {
-    let alloc = rt.alloc();
+) -> Result<(), TraceFault>
+    ensures { FollowsAll rules.now check.now → OnOk result ((text : List ℕ)
+        × TellsBelow rules.now check.now is_json rules.now.geometry.channels text
+        × Appends (W.contents writer.old) (W.contents writer.new) text) }
+{
     for channel in 0..rules.geometry.channels {
         let found = source.diagnosis(rt, form, rules, check, channel)?;
-        let object = verdict_object(alloc, channel, check.count(channel), found)?;
-        write_line(alloc, &object, writer)?;
+        let count = check.count(channel);
+        write_verdict(rt.alloc(), channel, count, found, is_json, writer)?;
     }
     Ok(())
 }
 
-// Writes an object as a line.
-pub(crate) fn write_line<W: Write>(
-    alloc: Global,
-    object: &Value,
-    writer: &mut W,
-) -> Result<(), TraceFault> {
-    match write_object(alloc, object, writer) {
-        Ok(()) => Ok(()),
-        Err(ScriptFault::Memory) => Err(TraceFault::Memory),
-        Err(_) => Err(TraceFault::Writer),
-    }
-}
-
-/// The same with every fault: in place of a channel's least one an object for each rule that its commands break.
+/// The same with every fault: in place of a channel's least one each rule that its commands break.
 pub fn write_tallies<R: Files + AllocGlobal, W: Write>(
     rt: &R,
     source: &Source<'_>,
     form: Form,
     rules: &CommandRules,
     check: &TraceCheck,
+    is_json: bool,
     writer: &mut W,
 ) -> Result<(), TraceFault> {
     let alloc = rt.alloc();
     for channel in 0..rules.geometry.channels {
         if check.is_lawful(rules, channel) {
-            let object = lawful_object(alloc, channel, check.count(channel))?;
-            write_line(alloc, &object, writer)?;
+            write_lawful(alloc, channel, check.count(channel), is_json, writer)?;
             continue;
         }
         let tallies = source.tallies(rt, form, rules, channel)?;
-        write_channel(alloc, channel, &tallies, writer)?;
+        write_channel(alloc, channel, &tallies, is_json, writer)?;
     }
     Ok(())
 }
 
-// Writes the object of each rule that the commands of a channel break.
+// Writes each rule that the commands of a channel break.
 fn write_channel<W: Write>(
     alloc: Global,
     channel: u64,
     tallies: &[Tally],
+    is_json: bool,
     writer: &mut W,
 ) -> Result<(), TraceFault> {
     for tally in tallies {
         let why = tally.first.reason.to_string(alloc)?;
-        let object = tally_object(alloc, channel, tally, &why)?;
-        write_line(alloc, &object, writer)?;
+        write_tally(alloc, channel, tally, &why, is_json, writer)?;
     }
     Ok(())
 }
