@@ -1,6 +1,9 @@
 // What a crash may leave of a script, told.
+ghost use Rattle.std.specs.Prelude.{◌≡◌};
+ghost use Rattle.command_faults.specs.declared.fault.Fault.TheVariants.{NoLine};
+
 use clap::ArgMatches;
-use command_faults::{Failure, Fault, bytes_of, flush, profile_of};
+use command_faults::{Failure, Fault, Reason, bytes_of, flush, profile_of};
 use crash_table::{AtStop, Counts, PICKS, Progress, Script, Trials};
 use nv_profile::Profile;
 use nv_script::{SCRIPT_BYTES, ScriptFault};
@@ -111,13 +114,25 @@ where
     };
     match told {
         Ok(true) => flush(writer)?,
-        Ok(false) => return Err(Failure::from(Fault::NoLine(number.unwrap_or(0)))),
+        Ok(false) => return Err(no_line(number.unwrap_or(0))),
         Err(fault) => {
             let geometry = &profile.checked.geometry;
             return Err(Failure::of_script(rt.alloc(), fault, &script, geometry));
         }
     }
     Ok(ExitCode::SUCCESS)
+}
+
+// No line of this number is run.
+fn no_line<'a>(number: u64) -> Failure<'a>
+    ensures { result.fault ≡ NoLine number }
+{
+    Failure {
+        fault: Fault::NoLine(number),
+        reason: Some(Reason::Known(
+            "lines are counted from 1, with those that are empty or comments, which aren't run",
+        )),
+    }
 }
 
 // Writes what restores find at each stop of a script, line by line, and the counts.

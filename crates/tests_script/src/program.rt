@@ -161,7 +161,7 @@ const FAULTS: [(&[&str], &str); 6] = [
 ];
 
 // The same faults with their reasons.
-const REASONS: [(&[&str], &str); 9] = [
+const REASONS: [(&[&str], &str); 10] = [
     (
         &["--why", "run", "/no/profile", "/no/such/file"],
         "file /no/profile\nthere is no such file",
@@ -175,6 +175,10 @@ const REASONS: [(&[&str], &str); 9] = [
         "profile\nno TOML, line 1: key with no value, expected `=`",
     ),
     (&["crash", "tiny", "/", "--why"], "file /\nit is a folder"),
+    (
+        &["crash", "tiny", "%empty", "--line", "9", "--why"],
+        "no line 9\nlines are counted from 1, with those that are empty or comments, which aren't run",
+    ),
     (
         &["run", "tiny", "%bad", "--why"],
         "script line 2\nunknown verb wirte; write?",
