@@ -26,6 +26,7 @@ impl<'w, W: io::Write> AnswerPrinter<'w, W> {
     pub fn new(alloc: Global, is_json: bool, writer: &'w mut W) -> AnswerPrinter<'w, W>
         ensures answers { ⟦<AnswerPrinter<'w, W> as Report>⟧.answers result ≡ [] }
         ensures refusals { ⟦<AnswerPrinter<'w, W> as Report>⟧.refusals result ≡ [] }
+        ensures form { result.is_json ≡ is_json }
     {
         AnswerPrinter {
             alloc,
