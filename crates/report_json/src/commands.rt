@@ -56,11 +56,7 @@ fn tell_placed(
     tell(alloc, "command", &parts)
 }
 
-fn tell_precharge(
-    alloc: Global,
-    command: &Numbered,
-    at: BankAddress,
-) -> Result<Told, AllocError>
+fn tell_precharge(alloc: Global, command: &Numbered, at: BankAddress) -> Result<Told, AllocError>
     ensures { IfOk result (IsTold (codes "command") (numbered_by command.now
         (names (codes "command") (codes "PRE") ∷ bank_fields at))) }
 {

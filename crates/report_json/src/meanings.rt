@@ -129,5 +129,10 @@ pub fn write_command_meaning<W: Write>(
     ensures { OnOk result (Appends (W.contents writer.old) (W.contents writer.new)
         (fields_in is_json (codes "rules") (command_meaning_fields meaning.now))) }
 {
-    write_told(alloc, &tell_command_meaning(alloc, meaning)?, is_json, writer)
+    write_told(
+        alloc,
+        &tell_command_meaning(alloc, meaning)?,
+        is_json,
+        writer,
+    )
 }

@@ -152,11 +152,7 @@ fn write_ranks<W: Write>(
 }
 
 // Writes an object as a line.
-fn write_line<W: Write>(
-    alloc: Global,
-    object: &Value,
-    writer: &mut W,
-) -> Result<(), TraceFault> {
+fn write_line<W: Write>(alloc: Global, object: &Value, writer: &mut W) -> Result<(), TraceFault> {
     match write_object(alloc, object, writer) {
         Ok(()) => Ok(()),
         Err(ScriptFault::Memory) => Err(TraceFault::Memory),

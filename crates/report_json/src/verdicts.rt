@@ -30,12 +30,7 @@ fn tell_lawful(alloc: Global, channel: u64, count: u64) -> Result<Told, AllocErr
 
 // What is told of a channel's fault: the channel, the rule by its number, why in these words, the command at which it is, and the one
 // before it that the rule is on, where that is another one.
-fn tell_fault(
-    alloc: Global,
-    channel: u64,
-    found: &Diagnosis,
-    why: &str,
-) -> Result<Told, AllocError>
+fn tell_fault(alloc: Global, channel: u64, found: &Diagnosis, why: &str) -> Result<Told, AllocError>
     ensures { IfOk result (IsTold (codes "fault") (fault_fields channel found.now why.now)) }
 {
     let rule = found.fault.rule as u64;
@@ -68,12 +63,7 @@ fn tell_fault(
 }
 
 // What is told of a rule that the commands of a channel break: its first fault, and how many commands break it.
-fn tell_tally(
-    alloc: Global,
-    channel: u64,
-    tally: &Tally,
-    why: &str,
-) -> Result<Told, AllocError>
+fn tell_tally(alloc: Global, channel: u64, tally: &Tally, why: &str) -> Result<Told, AllocError>
     ensures { IfOk result (IsTold (codes "faults") (tally_fields channel tally.now why.now)) }
 {
     let first = tell_fault(alloc, channel, &tally.first, why)?;

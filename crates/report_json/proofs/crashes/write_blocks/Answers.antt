@@ -14,7 +14,7 @@ loop-block-preserved g c =
     let within : index < length blocks = search rules in
     let is : get_or blocks index here ≡ here = search rules in
     let taken : take (index + 1) blocks ≡ take index blocks ++ here ∷ [] =
-        take_more blocks index here within ∙ ap (λ (b : Block). take index blocks ++ b ∷ []) is in
+    take_more blocks index here within ∙ ap (λ (b : Block). take index blocks ++ b ∷ []) is in
     let contents = g.W.Write.contents in
     let old = contents c.args.writer.now in let new = contents c.write_block.new.writer in
     subst (λ (bs : List ℕ). Appends old new bs) (sym (more_of (block_in j) (take (index + 1) blocks) (take index blocks) here taken))
