@@ -32,7 +32,7 @@ const CHECKS: [(&[&str], u8, &str, &str); 10] = [
         "0 lawful 2\n1 lawful 0\n",
     ),
     (
-        &["check", "tiny", "%named", "--columns", "clock,command"],
+        &["check", "tiny", "%named", "--columns", "clock,kind"],
         2,
         "--columns",
         "",
@@ -85,7 +85,7 @@ const CHECKS: [(&[&str], u8, &str, &str); 10] = [
             "tiny",
             "%ramulator2",
             "--columns",
-            "clock",
+            "clocks",
             "--svg",
             "%picture",
         ],
