@@ -1,2 +1,5 @@
+pub mod Help
+pub mod Lint
 pub mod Store
+pub mod Verbs
 pub mod Whole

@@ -1,7 +1,11 @@
 // The command line: its words, and which verb they ask for.
-ghost use Rattle.std.specs.Prelude.{◌≡◌, IfErr, if◌then◌else◌};
+ghost use Rattle.std.specs.Prelude.{◌≡◌, ◌≢◌, ◌⊎◌, IfErr, IfOk, if◌then◌else◌};
 ghost use Rattle.std.specs.Process.{exit_status};
-ghost use Rattle.command_faults.specs.Exit.{IsOfWords};
+ghost use Rattle.clap.specs.Words.{kind_of};
+ghost use Rattle.clap.specs.declared.error.kind.ErrorKind.TheVariants.{DisplayHelp, DisplayVersion};
+ghost use Rattle.command_faults.specs.Exit.{IsOfOutput, IsOfWords};
+ghost use Rattle.command_faults.specs.declared.fault.Fault.TheVariants.{Memory};
+ghost use Rattle.command_line.specs.Verbs.{word_of};
 
 use crate::check::check;
 use crate::crash::crash;
@@ -15,6 +19,7 @@ use crate::store::show;
 use clap::error::ErrorKind;
 use clap::{ArgMatches, Error as UsageError};
 use command_faults::{Failure, Fault};
+use command_help::known_terms;
 use command_words::parser;
 use live_store::Host;
 use std::env::{self, Env};
@@ -57,7 +62,7 @@ where
     let parser = parser(rt.alloc(), VERSION)?;
     let matches = match parser.try_get_matches_from(words) {
         Ok(matches) => matches,
-        Err(error) => return usage(rt, &error),
+        Err(error) => return usage(rt, &error, writer),
     };
     let Some((verb, found)) = matches.subcommand() else {
         return Ok(ExitCode::SUCCESS);
@@ -89,10 +94,17 @@ where
         "crash" => crash(rt, matches, is_watched, writer),
         "check" => check(rt, matches, writer),
         "draw" => draw(rt, matches, writer),
-        "explain" => explain_word(rt, matches, writer),
+        "explain" => explain_word(rt, known_terms(), matches, writer),
         "completions" => complete(matches, writer),
         _ => explain(rt, matches, writer),
     }
+}
+
+/// The word of this name, or where the words have none, another one.
+pub(crate) fn word_or<'a>(matches: &ArgMatches<'a>, name: &str, other: &'a str) -> &'a str
+    ensures { result.now ≡ word_of matches.now name.now other.now }
+{
+    matches.get_str(name).unwrap_or(other)
 }
 
 /// The exit status of a yes or a no.
@@ -107,15 +119,21 @@ pub(crate) fn status_by(test: bool) -> ExitCode
 }
 
 // Tells why the words were refused, or gives the help that they ask for.
-fn usage<'a, R>(rt: &R, error: &UsageError) -> Result<ExitCode, Failure<'a>>
+fn usage<'a, R, W>(rt: &R, error: &UsageError, writer: &mut W) -> Result<ExitCode, Failure<'a>>
 where
     R: Files + Print + Eprint + AllocGlobal,
+    W: Write,
+    ensures help { kind_of error.now ≡ DisplayHelp → IfOk result (λ code. exit_status code ≡ 0) }
+    ensures mistake { kind_of error.now ≢ DisplayHelp → kind_of error.now ≢ DisplayVersion
+        → IfOk result (λ code. exit_status code ≡ 2) }
+    ensures fault { IfErr result (λ failure. IsOfOutput failure.fault
+        ⊎ (failure.fault ≡ Memory)) }
 {
     if error.kind() == ErrorKind::OutOfMemory {
         return Err(Failure::from(Fault::Memory));
     }
     if error.kind() == ErrorKind::DisplayVersion {
-        return tell_version(rt, VERSION);
+        return tell_version(rt, VERSION, writer);
     }
     match error.print(rt) {
         Ok(()) => Ok(ExitCode::from(error.exit_code() as u8)),

@@ -19,6 +19,7 @@ mod whole;
 
 pub use check::verdict;
 pub use command::{run, words_of};
+pub use help::{write_explained, write_version};
 pub use lint::write_bad_lines;
 pub use outlet::Outlet;
 pub use store::{STORE_BYTES, answer_store, show_store};

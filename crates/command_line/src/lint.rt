@@ -1,14 +1,16 @@
 // The bad lines of a script, told.
-ghost use Rattle.std.specs.Prelude.{◌≡◌, ◌↔◌, [], IfErr, IfOk};
-ghost use Rattle.std.specs.Process.{exit_status};
-ghost use Rattle.script_report.specs.BadLines.{AreBadLines};
+ghost use Rattle.std.specs.Prelude.{◌≡◌, ◌⊎◌, ℕ, List, IfErr, IfOk};
+ghost use Rattle.command_faults.specs.Exit.{IsOfOutput};
+ghost use Rattle.command_faults.specs.declared.fault.Fault.TheVariants.{Memory};
+ghost use Rattle.command_line.specs.Lint.{IsUnlinted, TellsBadLines};
+ghost use Rattle.ddr4_timing.specs.declared.timing.Geometry.{Geometry};
 
-use crate::command::status_by;
+use crate::command::{status_by, word_or};
 use clap::ArgMatches;
 use command_faults::{Failure, Fault, bytes_of, flush, profile_of};
 use ddr4_timing::timing::Geometry;
 use nv_script::SCRIPT_BYTES;
-use script_report::{BadLine, bad_lines};
+use script_report::{bad_lines, tell_bad_lines};
 use std::alloc::Global;
 use std::io::{Input, Write};
 use std::process::ExitCode;
@@ -23,9 +25,12 @@ pub(crate) fn lint<'a, R, W>(
 where
     R: Files + Input + AllocGlobal,
     W: Write,
+    ensures told { IfOk result (λ code. (geometry : Geometry) × (script : List ℕ)
+        × TellsBadLines geometry script code (W.contents writer.old) (W.contents writer.new)) }
+    ensures untold { IfErr result (λ failure. IsUnlinted matches.now failure.fault) }
 {
-    let profile = profile_of(rt, matches.get_str("PROFILE").unwrap_or("tiny"))?;
-    let script = bytes_of(rt, matches.get_str("SCRIPT").unwrap_or("-"), SCRIPT_BYTES)?;
+    let profile = profile_of(rt, word_or(matches, "PROFILE", "tiny"))?;
+    let script = bytes_of(rt, word_or(matches, "SCRIPT", "-"), SCRIPT_BYTES)?;
     let code = write_bad_lines(rt.alloc(), &profile.checked.geometry, &script, writer)?;
     flush(writer)?;
     Ok(code)
@@ -38,18 +43,13 @@ pub fn write_bad_lines<W: Write>(
     script: &[u8],
     writer: &mut W,
 ) -> Result<ExitCode, Fault<'static>>
-    ensures { IfOk result (λ code. (exit_status code ≡ 0)
-        ↔ AreBadLines geometry.now script.now []) }
+    ensures told { IfOk result (λ code. TellsBadLines geometry.now script.now code
+        (W.contents writer.old) (W.contents writer.new)) }
+    ensures fault { IfErr result (λ fault. IsOfOutput fault ⊎ (fault ≡ Memory)) }
 {
     let bad = bad_lines(alloc, script, geometry)?;
-    write_each(&bad, writer)?;
-    Ok(status_by(bad.is_empty()))
-}
-
-// Writes bad lines, each as a line.
-fn write_each<W: Write>(bad: &[BadLine<'_>], writer: &mut W) -> Result<(), Fault<'static>> {
-    for line in bad {
-        writeln!(writer, "{line}").map_err(|_| Fault::File("-"))?;
+    match tell_bad_lines(&bad, writer) {
+        Ok(()) => Ok(status_by(bad.is_empty())),
+        Err(_) => Err(Fault::File("-")),
     }
-    Ok(())
 }

@@ -1,4 +1,9 @@
 // A life on a file.
+ghost use Rattle.std.specs.Prelude.{◌≡◌, IfErr, IfOk};
+ghost use Rattle.std.specs.Process.{exit_status};
+ghost use Rattle.command_faults.specs.Exit.{status_of};
+
+use crate::command::word_or;
 use clap::ArgMatches;
 use command_faults::Failure;
 use live_command::{LiveWords, live_named};
@@ -7,7 +12,7 @@ use std::io::{Input, Write};
 use std::process::ExitCode;
 use std::rt::Files;
 
-/// Lives on the file that the words name.
+/// Lives on the file that the words name, until standard input ends.
 pub(crate) fn live<'a, R, W>(
     rt: &R,
     matches: &ArgMatches<'a>,
@@ -16,10 +21,12 @@ pub(crate) fn live<'a, R, W>(
 where
     R: Files + Host + Input + AllocGlobal,
     W: Write,
+    ensures ended { IfOk result (λ code. exit_status code ≡ 0) }
+    ensures fault { IfErr result (λ failure. status_of failure.fault ≡ 1) }
 {
     let words = LiveWords {
-        profile: matches.get_str("PROFILE").unwrap_or("tiny"),
-        store: matches.get_str("STORE").unwrap_or("-"),
+        profile: word_or(matches, "PROFILE", "tiny"),
+        store: word_or(matches, "STORE", "-"),
     };
     live_named(rt, words, writer)?;
     Ok(ExitCode::SUCCESS)
