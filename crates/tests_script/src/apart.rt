@@ -8,8 +8,8 @@ use std::process::{self, Abort, ExitCode};
 /// How many channels the profile of these cases has.
 const CHANNELS: u64 = 8;
 
-// The small profile with eight channels.
-fn eight_channels<R: Abort + AllocGlobal>(rt: &R) -> String {
+/// The small profile with eight channels.
+pub(crate) fn eight_channels<R: Abort + AllocGlobal>(rt: &R) -> String {
     let text = TINY.replace(rt.alloc(), "channels = 2", "channels = 8");
     text.expect(rt, "memory")
 }

@@ -1,43 +1,116 @@
 // Schedules that the program draws, and those that it refuses.
+use crate::check::same;
 use crate::program::{ends, make, named, place, remove};
 use std::fs;
-use std::process::{self, ExitCode};
+use std::process::{self, Abort, ExitCode};
+use std::rt::Files;
 
-const GOOD: [(&str, &[u8]); 5] = [
-    (
-        "%lines",
-        b"# a read\r\n\r\n0 0 ACT 0 0 0 1\r\n0 16 RD 0 0 0 3\r\n1 5 ACT 0 1 2 0\r\n",
-    ),
-    (
-        "%table",
-        b"clock,command,channel,rank,bankgroup,bank,row,column\n0,ACTIVATE,0,0,0,0,1,\n",
-    ),
-    (
-        "%unlawful",
-        b"0 0 ACT 0 0 0 1\n0 1 ACT 0 0 0 1\n0 2 PREA 0\n0 3 RD 0 0 0 3",
-    ),
-    (
-        "%script",
-        b"format\nwrite 0 11\nwork 0 3\nlose\nrestore\nwork 1 1\n",
-    ),
-    ("%nothing", b""),
+/// A schedule, and the parts that stand in its pictures with how often each does.
+#[derive(Clone, Copy)]
+struct Good {
+    name: &'static str,
+    bytes: &'static [u8],
+    svg: &'static [(&'static str, usize)],
+    vcd: &'static [(&'static str, usize)],
+}
+
+// A row that no command closes is left open. A command breaks each rule that a frame tells, and in a VCD a RD and a WR stand twice,
+// with their data. A loss of mains that saves nothing has no command, and behind it a life begins.
+const GOOD: [Good; 5] = [
+    Good {
+        name: "%lines",
+        bytes: b"# a read\r\n\r\n0 0 ACT 0 0 0 1\r\n0 16 RD 0 0 0 3\r\n1 5 ACT 0 1 2 0\r\n",
+        svg: &[
+            ("<line class=\"mark\"", 3),
+            ("<rect class=\"row\"", 0),
+            ("<rect class=\"open\"", 2),
+            (">row 1</text>", 1),
+            (">row 0</text>", 1),
+            ("<rect class=\"read\"", 1),
+            ("<rect class=\"write\"", 0),
+            ("<rect class=\"flaw\"", 0),
+        ],
+        vcd: &[("sACT ", 2), ("sRD ", 2), ("sWR ", 0)],
+    },
+    Good {
+        name: "%table",
+        bytes: b"clock,command,channel,rank,bankgroup,bank,row,column\n0,ACTIVATE,0,0,0,0,1,\n",
+        svg: &[
+            ("<line class=\"mark\"", 1),
+            ("<rect class=\"open\"", 1),
+            (">row 1</text>", 1),
+            ("<rect class=\"read\"", 0),
+        ],
+        vcd: &[("sACT ", 1), ("sRD ", 0)],
+    },
+    Good {
+        name: "%unlawful",
+        bytes: b"0 0 ACT 0 0 0 1\n0 1 ACT 0 0 0 1\n0 2 PREA 0\n0 3 RD 0 0 0 3",
+        svg: &[
+            ("<line class=\"mark\"", 4),
+            ("<rect class=\"row\"", 2),
+            ("<rect class=\"open\"", 0),
+            ("<rect class=\"read\"", 1),
+            ("<rect class=\"flaw\"", 6),
+            (">breaks rule 2<", 2),
+            (">breaks rule 3<", 1),
+            (">breaks rule 4<", 1),
+            (">breaks rule 6<", 1),
+            (">breaks rule 9<", 1),
+        ],
+        vcd: &[("sACT ", 2), ("sPREA ", 1), ("sRD ", 2)],
+    },
+    Good {
+        name: "%script",
+        bytes: b"format\nwrite 0 11\nwork 0 3\nlose\nrestore\nwork 1 1\n",
+        svg: &[
+            ("<line class=\"mark\"", 2),
+            (">ACT</text>", 1),
+            ("<rect class=\"open\"", 1),
+            ("<rect class=\"write\"", 1),
+            ("<rect class=\"read\"", 0),
+            ("<line class=\"life\"", 1),
+            (">formatted</text>", 1),
+            (">disarmed</text>", 2),
+        ],
+        vcd: &[("sACT ", 1), ("sWR ", 2), ("sSRE ", 0)],
+    },
+    Good {
+        name: "%nothing",
+        bytes: b"",
+        svg: &[("<line class=\"mark\"", 0), ("<line class=\"lane\"", 0)],
+        vcd: &[("sACT ", 0)],
+    },
 ];
+
+// Draws a schedule in a form. It fails where the picture doesn't begin so, or where a part stands in it less or more often.
+fn is_drawn<R>(rt: &R, place: &str, words: &[&str; 5], first: &str, parts: &[(&str, usize)])
+where
+    R: Abort + Files + live_store::Host + store_file::StoreHost + std::io::Input,
+    R: std::io::Print + std::io::Eprint + std::time::Clock + AllocGlobal,
+{
+    ends(rt, place, words, ExitCode::SUCCESS, "", "");
+    let file = named(rt, place, "%picture");
+    let picture = fs::read_to_string(rt, file.as_str()).expect(rt, "a picture");
+    assert!(*rt; picture.starts_with(first), "{}", words[2]);
+    for (part, count) in parts {
+        let found = picture.split(*part).count().saturating_sub(1);
+        same(rt, (words[2], *part, found), (words[2], *part, *count));
+    }
+    remove(rt, place, "%picture");
+}
 
 #[test]
 fn schedules_that_are_drawn(rt: HostRuntime) {
     let place = place(&rt, process::id(rt.process()));
     let place = place.as_str();
-    for (name, bytes) in GOOD {
-        make(&rt, place, name, bytes);
-        for (form, first) in [("--svg", "<svg"), ("--vcd", "$comment")] {
-            let words = ["draw", "tiny", name, form, "%picture"];
-            ends(&rt, place, &words, ExitCode::SUCCESS, "", "");
-            let file = named(&rt, place, "%picture");
-            let picture = fs::read_to_string(&rt, file.as_str()).expect(&rt, "a picture");
-            assert!(rt; picture.starts_with(first), "{name}");
-            remove(&rt, place, "%picture");
-        }
-        remove(&rt, place, name);
+    for good in GOOD {
+        make(&rt, place, good.name, good.bytes);
+        let words = ["draw", "tiny", good.name, "--svg", "%picture"];
+        is_drawn(&rt, place, &words, "<svg", good.svg);
+        let words = ["draw", "tiny", good.name, "--vcd", "%picture"];
+        is_drawn(&rt, place, &words, "$comment", good.vcd);
+        remove(&rt, place, good.name);
     }
 }
 

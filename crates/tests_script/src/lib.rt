@@ -28,3 +28,5 @@ mod scripts;
 mod statistics;
 #[cfg(test)]
 mod stores;
+#[cfg(test)]
+mod wider;

@@ -110,7 +110,8 @@ fn words_that_are_no_usage(rt: HostRuntime) {
         ends(&rt, "", words, ExitCode::from(2), "", "");
     }
     ends(&rt, "", &["--help"], ExitCode::SUCCESS, "", "");
-    ends(&rt, "", &["--version"], ExitCode::SUCCESS, "", "");
+    let version = "nvctl 0.1.0 (of which commit it was built isn't known)\n";
+    ends(&rt, "", &["--version"], ExitCode::SUCCESS, "", version);
 }
 
 #[test]
