@@ -147,18 +147,19 @@ const PLAIN_FAULTS: [&str; 15] = [
     "9359 REF 0 0 - - - -\n",
 ];
 
-#[test]
-fn faults_in_traces_of_others(rt: HostRuntime) -> anyhow::Result<()> {
-    for (name, texts) in [
-        ("ramulator2", RAMULATOR2_FAULTS),
-        ("dramsim3", DRAMSIM3_FAULTS),
-        ("plain", PLAIN_FAULTS),
-    ] {
-        for (text, fault) in texts.iter().zip(FAULTS) {
-            tells(&rt, form_named(name)?, text, fault)?;
-        }
+// Each text of a form's has its fault.
+fn tells_each<R: Abort + AllocGlobal>(rt: &R, name: &str, texts: &[&str]) -> anyhow::Result<()> {
+    for (text, fault) in texts.iter().zip(FAULTS.iter()) {
+        tells(rt, form_named(name)?, text, fault)?;
     }
     Ok(())
+}
+
+#[test]
+fn faults_in_traces_of_others(rt: HostRuntime) -> anyhow::Result<()> {
+    tells_each(&rt, "ramulator2", &RAMULATOR2_FAULTS)?;
+    tells_each(&rt, "dramsim3", &DRAMSIM3_FAULTS)?;
+    tells_each(&rt, "plain", &PLAIN_FAULTS)
 }
 
 // What a reader tells of the first line of a trace of one channel.
