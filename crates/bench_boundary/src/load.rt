@@ -14,7 +14,7 @@ const TURNS: u64 = 65_536;
 
 /// What the rounds took, in nanoseconds of processor time, and a sum of what was read.
 #[derive(Clone, Copy, Default)]
-pub(crate) struct Tally {
+pub(crate) struct RoundTimes {
     pub(crate) writes: u128,
     pub(crate) reads: u128,
     pub(crate) saves: u128,
@@ -123,7 +123,7 @@ impl<K: ChannelPort, D: SaveDevice> Load<K, D> {
         &mut self,
         clock: &impl CpuClock,
         each: u64,
-        tally: &mut Tally,
+        tally: &mut RoundTimes,
     ) -> anyhow::Result<()> {
         let start = clock.process_cpu_time()?;
         self.writes(each)?;

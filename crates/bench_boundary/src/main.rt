@@ -6,7 +6,7 @@
 
 mod load;
 
-use crate::load::{Load, Tally};
+use crate::load::{Load, RoundTimes};
 use ddr4_port::Ddr4Port;
 use interleave_map::cells::line_count;
 use interleave_map::{Interleaving, ReadyMap};
@@ -49,7 +49,12 @@ fn live_once(alloc: Global, text: &[u8], size: usize, kind: u64) -> anyhow::Resu
 }
 
 // What the rounds on a profile took.
-fn measure(rt: &HostRuntime, profile: &Profile, rounds: u64, each: u64) -> anyhow::Result<Tally> {
+fn measure(
+    rt: &HostRuntime,
+    profile: &Profile,
+    rounds: u64,
+    each: u64,
+) -> anyhow::Result<RoundTimes> {
     let lines = ReadyMap {
         interleaving: Interleaving::Lines,
         checked: profile.checked,
@@ -74,7 +79,7 @@ fn measure(rt: &HostRuntime, profile: &Profile, rounds: u64, each: u64) -> anyho
         anyhow::bail!("no life was opened");
     };
     let mut load = Load::new(life);
-    let mut tally = Tally::default();
+    let mut tally = RoundTimes::default();
     for _ in 0..rounds {
         load.round(rt, each, &mut tally)?;
     }

@@ -21,7 +21,7 @@ mod rounds;
 
 use crate::armed::{Armed, armed_life};
 use crate::restores::{Restores, restore_rounds};
-use crate::rounds::{Amount, Nanos, Tally, module_rounds, plain_rounds};
+use crate::rounds::{Amount, Nanos, RoundResults, module_rounds, plain_rounds};
 use ddr4_timing::profiles::{SMALL, TINY, WIDEST};
 use ddr4_timing::timing::{Checked, Geometry};
 use interleave_map::cells::line_count;
@@ -32,7 +32,11 @@ use std::thread::Threads;
 use std::time::Clock;
 
 // The rounds of a module over the map `lines`, and an armed life of one.
-fn by_lines(rt: &HostRuntime, checked: Checked, amount: Amount) -> anyhow::Result<(Tally, Armed)> {
+fn by_lines(
+    rt: &HostRuntime,
+    checked: Checked,
+    amount: Amount,
+) -> anyhow::Result<(RoundResults, Armed)> {
     let map = ReadyMap {
         interleaving: Interleaving::Lines,
         checked,
@@ -75,10 +79,10 @@ fn show(
     rt: &HostRuntime,
     trial: &Trial<'_>,
     memory: &str,
-    tally: &Tally,
+    tally: &RoundResults,
     lines: u64,
 ) -> anyhow::Result<()> {
-    let Tally {
+    let RoundResults {
         sum,
         generation,
         ..

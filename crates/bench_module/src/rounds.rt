@@ -30,7 +30,7 @@ pub struct Nanos {
 
 /// What the rounds of a memory answered, and how long they took.
 #[derive(Clone, Copy)]
-pub struct Tally {
+pub struct RoundResults {
     picks: Picks,
     /// What was read, as one number.
     pub sum: u64,
@@ -39,9 +39,9 @@ pub struct Tally {
     pub nanos: Nanos,
 }
 
-impl Tally {
-    fn new(checked: &Checked) -> Tally {
-        Tally {
+impl RoundResults {
+    fn new(checked: &Checked) -> RoundResults {
+        RoundResults {
             picks: Picks::new(line_count(checked)),
             sum: 0,
             generation: 0,
@@ -118,7 +118,7 @@ fn module_round(
     map: &ReadyMap,
     device: MemoryDevice,
     each: u64,
-    tally: &mut Tally,
+    tally: &mut RoundResults,
 ) -> anyhow::Result<MemoryDevice> {
     let start = Instant::now(rt)?;
     let mut load = open(rt.alloc(), map, device)?;
@@ -132,8 +132,8 @@ pub(crate) fn module_rounds(
     rt: &HostRuntime,
     map: &ReadyMap,
     amount: Amount,
-) -> anyhow::Result<Tally> {
-    let mut tally = Tally::new(&map.checked);
+) -> anyhow::Result<RoundResults> {
+    let mut tally = RoundResults::new(&map.checked);
     let mut device = formatted(rt.alloc(), &map.checked)?;
     for _ in 0..amount.rounds {
         device = module_round(rt, map, device, amount.each, &mut tally)?;
@@ -147,7 +147,7 @@ fn plain_round(
     checked: &Checked,
     device: MemoryDevice,
     each: u64,
-    tally: &mut Tally,
+    tally: &mut RoundResults,
 ) -> anyhow::Result<MemoryDevice> {
     let lines = capacity_of(checked)?;
     let start = Instant::now(rt)?;
@@ -162,8 +162,8 @@ pub(crate) fn plain_rounds(
     rt: &HostRuntime,
     checked: &Checked,
     amount: Amount,
-) -> anyhow::Result<Tally> {
-    let mut tally = Tally::new(checked);
+) -> anyhow::Result<RoundResults> {
+    let mut tally = RoundResults::new(checked);
     let mut device = formatted(rt.alloc(), checked)?;
     for _ in 0..amount.rounds {
         device = plain_round(rt, checked, device, amount.each, &mut tally)?;

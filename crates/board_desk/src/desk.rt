@@ -12,7 +12,7 @@ use channel_set::PortTerms;
 use energy_budget::Energy;
 use line_memory::History;
 use mark_board::{BoardSeat, MarkBoard};
-use nv_workers::{BoardName, Tally};
+use nv_workers::{AcceptedCount, BoardName};
 use save_device::SaveDevice;
 use split_module::SplitFront;
 use std::alloc::Global;
@@ -32,7 +32,7 @@ pub struct Desk<K: ChannelPort, D: SaveDevice, E: Energy, B: BoardName + PartsNa
     pub history: History,
     pub marks: Arc<MarkBoard, Global>,
     pub seat: BoardSeat,
-    pub tally: Tally<B>,
+    pub tally: AcceptedCount<B>,
     pub logs: ChannelLogs,
     pub known: FrontSeat,
     pub ghost empty: { room.items ≡ [] },

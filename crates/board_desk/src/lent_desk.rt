@@ -19,7 +19,7 @@ use channel_part::Part;
 use channel_port::ChannelPort;
 use energy_budget::Energy;
 use mark_board::{BoardSeat, MarkBoard};
-use nv_workers::{BoardName, Tally, publish};
+use nv_workers::{AcceptedCount, BoardName, publish};
 use save_device::SaveDevice;
 use split_module::SplitModule;
 use std::alloc::Global;
@@ -31,7 +31,7 @@ use std::sync::Arc;
 pub(crate) struct DeskBooks<B: BoardName> {
     pub(crate) marks: Arc<MarkBoard, Global>,
     pub(crate) seat: BoardSeat,
-    pub(crate) tally: Tally<B>,
+    pub(crate) tally: AcceptedCount<B>,
     pub(crate) logs: ChannelLogs,
     pub(crate) known: FrontSeat,
 }

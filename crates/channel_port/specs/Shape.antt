@@ -1,6 +1,8 @@
 -- What doesn't change of the channels of a memory.
 use Rattle.std.specs.Prelude.{◌≡◌, ◌==◌, ℕ, ◌*◌, ◌%◌, ◌<◌, ◌≤◌, Bool}
+use Rattle.ddr4_timing.specs.declared.timing.TheConstants.{FEWEST_LINES, MOST_LINES}
 use Rattle.energy_budget.specs.declared.costs.Costs.{Costs}
+use Rattle.energy_budget.specs.declared.costs.TheConstants.{PAGE_LINES}
 use Rattle.channel_port.specs.Waits.{Waits, writes_on, reads_on}
 
 -- How many lines there are and the channel of each, how many channels, how many writes may wait in one and how many reads may
@@ -16,10 +18,10 @@ pub record Shape : Type 0 where
 -- the numbers of a profile: whole pages, 1,024 of them at most, costs that are reckoned for them, and each line lies on one of
 -- the channels
 pub record IsShape (s : Shape) : Type 0 where
-  pub some : 64 ≤ s.lines
-  pub most : s.lines ≤ 65536
-  pub whole : s.lines % 64 ≡ 0
-  pub pages : s.lines ≡ 64 * s.costs.pages
+  pub some : FEWEST_LINES ≤ s.lines
+  pub most : s.lines ≤ MOST_LINES
+  pub whole : s.lines % PAGE_LINES ≡ 0
+  pub pages : s.lines ≡ PAGE_LINES * s.costs.pages
   pub channels : s.channels ≡ s.costs.channels
   pub known : (line : ℕ) → line < s.lines → s.channel_of line < s.channels
 

@@ -3,12 +3,13 @@ ghost use Rattle.std.specs.Prelude.{◌≡◌, ◌==◌, ◌+◌, ◌*◌, ◌<�
 ghost use Rattle.std.specs.List.{list_any};
 ghost use Rattle.std.specs.Option.{option_map};
 ghost use Rattle.save_image.specs.Body.{page_of};
+ghost use Rattle.save_image.specs.declared.page.TheConstants.{PAGE_LINES};
 ghost use Rattle.channel_port.specs.Waits.{reads_on, writes_on};
 
 use crate::ChannelSet;
 use channel_port::ChannelPort;
 use line_memory::Line;
-use save_image::page_bytes;
+use save_image::{PAGE_BYTES, PAGE_LINES, page_bytes};
 
 impl<K: ChannelPort> ChannelSet<K> {
     ghost use Rattle.channel_set.specs.Ports.{stored_in};
@@ -60,13 +61,13 @@ impl<K: ChannelPort> ChannelSet<K> {
     }
 
     /// A page of the arrays: 64 lines, in line order, without the writes that wait.
-    pub fn page(&self, page: usize) -> [u8; 4096]
-        requires { 64 * (page + 1) ≤ (shape_of K.ChannelPort self.now).lines }
+    pub fn page(&self, page: usize) -> [u8; PAGE_BYTES]
+        requires { PAGE_LINES * (page + 1) ≤ (shape_of K.ChannelPort self.now).lines }
         ensures { result ≡ page_of page (view_of K.ChannelPort self.now).array }
     {
-        let mut lines = [[0; 64]; 64];
+        let mut lines = [[0; 64]; PAGE_LINES];
         for (index, bytes) in lines.iter_mut().enumerate() {
-            *bytes = self.stored((64 * page + index) as u64);
+            *bytes = self.stored((PAGE_LINES * page + index) as u64);
         }
         *page_bytes(&lines, 0)
     }

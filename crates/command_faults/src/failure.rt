@@ -1,12 +1,12 @@
 // A fault with the reason behind it.
 ghost use Rattle.std.specs.Prelude.{◌≡◌, None};
-ghost use Rattle.command_faults.specs.declared.fault.Fault.TheVariants as variant;
+ghost use Rattle.command_faults.specs.declared.fault.ProgramFault.TheVariants as variant;
 
-use crate::fault::Fault;
+use crate::fault::ProgramFault;
 use ddr4_timing::timing::Geometry;
 use near_word::near_word;
-use nv_script::ScriptFault;
-use script_report::{MOST_LINES, Reason as LineReason, why_bad};
+use nv_script::{MOST_SCRIPT_LINES, ScriptFault};
+use script_report::{Reason as LineReason, why_bad};
 use std::alloc::{AllocError, Global};
 use std::process::ExitCode;
 use std::{fmt, io};
@@ -21,7 +21,7 @@ pub enum Reason {
 /// Why the program fails, and the reason for that where it is known.
 #[derive(Debug, Drop)]
 pub struct Failure<'a> {
-    pub fault: Fault<'a>,
+    pub fault: ProgramFault<'a>,
     pub reason: Option<Reason>,
 }
 
@@ -43,10 +43,10 @@ impl<'a> Failure<'a> {
         ensures { IsOfFile name.entry result.fault }
     {
         if error.kind() == io::ErrorKind::OutOfMemory {
-            return Failure::from(Fault::Memory);
+            return Failure::from(ProgramFault::Memory);
         }
         Failure {
-            fault: Fault::File(name),
+            fault: ProgramFault::File(name),
             reason: why_no_file(error.kind()).map(Reason::Known),
         }
     }
@@ -80,7 +80,7 @@ impl<'a> Failure<'a> {
             ScriptFault::Writer | ScriptFault::Memory => None,
         };
         Failure {
-            fault: Fault::Script(fault),
+            fault: ProgramFault::Script(fault),
             reason,
         }
     }
@@ -93,10 +93,10 @@ impl<'a> Failure<'a> {
     }
 }
 
-impl<'a> From<Fault<'a>> for Failure<'a> {
+impl<'a> From<ProgramFault<'a>> for Failure<'a> {
     ghost from_gives = { λ fault failure. (failure.fault ≡ fault) × (failure.reason ≡ None) };
 
-    fn from(fault: Fault<'a>) -> Failure<'a> {
+    fn from(fault: ProgramFault<'a>) -> Failure<'a> {
         Failure {
             fault,
             reason: None,
@@ -108,19 +108,19 @@ impl<'a> From<AllocError> for Failure<'a> {
     ghost from_gives = { λ _ failure. failure.fault ≡ variant.Memory };
 
     fn from(_: AllocError) -> Failure<'a> {
-        Failure::from(Fault::Memory)
+        Failure::from(ProgramFault::Memory)
     }
 }
 
 impl<'a> From<ScriptFault> for Failure<'a> {
     fn from(fault: ScriptFault) -> Failure<'a> {
-        Failure::from(Fault::Script(fault))
+        Failure::from(ProgramFault::Script(fault))
     }
 }
 
 // Why the line of a script with this number is none.
 fn why_no_line(alloc: Global, number: usize, script: &[u8], geometry: &Geometry) -> Option<Reason> {
-    if number > MOST_LINES {
+    if number > MOST_SCRIPT_LINES {
         return LineReason::TooMany.to_string(alloc).ok().map(Reason::Told);
     }
     let line = script

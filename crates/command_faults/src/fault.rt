@@ -1,7 +1,7 @@
 // Why the program fails, and its exit status.
 ghost use Rattle.std.specs.Prelude.{◌≡◌};
 ghost use Rattle.std.specs.Process.{exit_status};
-ghost use Rattle.command_faults.specs.declared.fault.Fault.TheVariants.{Memory};
+ghost use Rattle.command_faults.specs.declared.fault.ProgramFault.TheVariants.{Memory};
 
 use nv_script::ScriptFault;
 use std::alloc::AllocError;
@@ -10,7 +10,7 @@ use thiserror::Error;
 
 /// Why the program fails. Shown as the rest of its one line on standard error.
 #[derive(Debug, Drop, Error)]
-pub enum Fault<'a> {
+pub enum ProgramFault<'a> {
     #[error("a word is not UTF-8")]
     Words,
     #[error("profile")]
@@ -54,7 +54,7 @@ pub enum Fault<'a> {
     Memory,
 }
 
-impl Fault<'_> {
+impl ProgramFault<'_> {
     ghost use Rattle.command_faults.specs.Exit.{status_of};
 
     /// The exit status: 2 for a mistake in the program's words, and else 1.
@@ -62,27 +62,27 @@ impl Fault<'_> {
         ensures { exit_status result ≡ status_of self.now }
     {
         match self {
-            Fault::Words => ExitCode::from(2),
-            Fault::Out(_) => ExitCode::from(2),
-            Fault::Kept(_) => ExitCode::from(2),
-            Fault::Commands(_) => ExitCode::from(2),
-            Fault::Columns => ExitCode::from(2),
-            Fault::NoTerm(_) => ExitCode::from(2),
+            ProgramFault::Words => ExitCode::from(2),
+            ProgramFault::Out(_) => ExitCode::from(2),
+            ProgramFault::Kept(_) => ExitCode::from(2),
+            ProgramFault::Commands(_) => ExitCode::from(2),
+            ProgramFault::Columns => ExitCode::from(2),
+            ProgramFault::NoTerm(_) => ExitCode::from(2),
             _ => ExitCode::FAILURE,
         }
     }
 }
 
-impl<'a> From<AllocError> for Fault<'a> {
+impl<'a> From<AllocError> for ProgramFault<'a> {
     ghost from_gives = { λ _ fault. fault ≡ Memory };
 
-    fn from(_: AllocError) -> Fault<'a> {
-        Fault::Memory
+    fn from(_: AllocError) -> ProgramFault<'a> {
+        ProgramFault::Memory
     }
 }
 
-impl<'a> From<ScriptFault> for Fault<'a> {
-    fn from(fault: ScriptFault) -> Fault<'a> {
-        Fault::Script(fault)
+impl<'a> From<ScriptFault> for ProgramFault<'a> {
+    fn from(fault: ScriptFault) -> ProgramFault<'a> {
+        ProgramFault::Script(fault)
     }
 }

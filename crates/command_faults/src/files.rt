@@ -5,7 +5,7 @@ ghost use Rattle.nv_profile.specs.Ready.{IsReadyWord};
 ghost use Rattle.command_faults.specs.Exit.{IsNoProfile, IsOfFile, IsOfNoFile, IsOfOutput};
 
 use crate::failure::{Failure, Reason};
-use crate::fault::Fault;
+use crate::fault::ProgramFault;
 use ddr4_timing::timing::CommandRules;
 use nv_profile::{
     MOST_BYTES, Numbers, Profile, ProfileFault, read_numbers, read_profile, ready_profile,
@@ -42,10 +42,10 @@ pub fn profile_of<'a, R: Files + AllocGlobal>(rt: &R, word: &'a str) -> Result<P
     match read_profile(rt.alloc(), &text) {
         Ok(profile) => Ok(profile),
         Err(ProfileFault::Refused) => Err(Failure {
-            fault: Fault::Profile,
+            fault: ProgramFault::Profile,
             reason: why_no_profile(rt.alloc(), &text).ok().map(Reason::Told),
         }),
-        Err(ProfileFault::Memory) => Err(Failure::from(Fault::Memory)),
+        Err(ProfileFault::Memory) => Err(Failure::from(ProgramFault::Memory)),
     }
 }
 
@@ -64,10 +64,10 @@ pub fn rules_of<'a, R: Files + AllocGlobal>(
     match read_numbers(rt.alloc(), &text) {
         Ok(numbers) => Ok(numbers.rules()),
         Err(ProfileFault::Refused) => Err(Failure {
-            fault: Fault::Profile,
+            fault: ProgramFault::Profile,
             reason: why_no_profile(rt.alloc(), &text).ok().map(Reason::Told),
         }),
-        Err(ProfileFault::Memory) => Err(Failure::from(Fault::Memory)),
+        Err(ProfileFault::Memory) => Err(Failure::from(ProgramFault::Memory)),
     }
 }
 
@@ -84,9 +84,9 @@ pub fn asked_numbers<'a, R: Files + AllocGlobal>(
         Ok(numbers) => Ok(numbers),
         Err(ProfileFault::Refused) => {
             let why = why_no_profile(rt.alloc(), &text)?;
-            Err(Failure::from(Fault::NoProfile(why)))
+            Err(Failure::from(ProgramFault::NoProfile(why)))
         }
-        Err(ProfileFault::Memory) => Err(Failure::from(Fault::Memory)),
+        Err(ProfileFault::Memory) => Err(Failure::from(ProgramFault::Memory)),
     }
 }
 
@@ -152,12 +152,12 @@ fn all_of<'a, S: Read + Drop>(
 }
 
 /// Writes what a writer to standard output has taken. What it holds stays as it is.
-pub fn flush<W: Write>(writer: &mut W) -> Result<(), Fault<'static>>
+pub fn flush<W: Write>(writer: &mut W) -> Result<(), ProgramFault<'static>>
     ensures kept { OnOk result (Keeps (W.contents writer.old) (W.contents writer.new)) }
     ensures fault { IfErr result IsOfOutput }
 {
     match writer.flush() {
         Ok(()) => Ok(()),
-        Err(_) => Err(Fault::File("-")),
+        Err(_) => Err(ProgramFault::File("-")),
     }
 }

@@ -6,5 +6,5 @@ mod fault;
 mod files;
 
 pub use failure::{Failure, Reason};
-pub use fault::Fault;
+pub use fault::ProgramFault;
 pub use files::{asked_numbers, bytes_of, file_bytes, flush, is_file, profile_of, rules_of};

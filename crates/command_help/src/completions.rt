@@ -3,7 +3,7 @@ ghost use Rattle.std.specs.Prelude.{◌≡◌, ◌↔◌, codes, Some, None};
 ghost use Rattle.command_help.specs.declared.completions.Shell.TheVariants.{Bash, Zsh, Fish};
 
 use crate::terms::known_terms;
-use command_words::{Kind, Operand, Switch, Verb, WHY, verbs};
+use command_words::{Operand, Switch, Verb, WHY, WordKind, verbs};
 use std::fmt::{self, Display};
 use std::io::{self, Write};
 
@@ -79,17 +79,17 @@ fn fish(text: &str) -> Quoted<'_> {
 // The words that an operand may be, each with a space in front.
 #[derive(Clone, Copy, Drop)]
 struct Words {
-    kind: Kind,
+    kind: WordKind,
 }
 
 impl Display for Words {
     fn fmt<W: fmt::Write>(&self, f: &mut fmt::Formatter<W>) -> fmt::Result {
         match self.kind {
-            Kind::Profile => f.write_str(" tiny tiny2"),
-            Kind::Shell => f.write_str(" bash zsh fish"),
-            Kind::Form => f.write_str(" ramulator2 dramsim3 plain"),
-            Kind::Term => write_terms(f),
-            Kind::File | Kind::Number | Kind::Columns => Ok(()),
+            WordKind::Profile => f.write_str(" tiny tiny2"),
+            WordKind::Shell => f.write_str(" bash zsh fish"),
+            WordKind::Form => f.write_str(" ramulator2 dramsim3 plain"),
+            WordKind::Term => write_terms(f),
+            WordKind::File | WordKind::Number | WordKind::Columns => Ok(()),
         }
     }
 }
@@ -102,8 +102,8 @@ fn write_terms<W: fmt::Write>(f: &mut fmt::Formatter<W>) -> fmt::Result {
 }
 
 // May an operand be a file?
-fn may_be_file(kind: Kind) -> bool {
-    matches!(kind, Kind::Profile | Kind::File)
+fn may_be_file(kind: WordKind) -> bool {
+    matches!(kind, WordKind::Profile | WordKind::File)
 }
 
 fn write_bash<W: Write>(writer: &mut W) -> io::Result<()> {
@@ -184,12 +184,12 @@ fn write_zsh_operand<W: Write>(operand: &Operand, writer: &mut W) -> io::Result<
 }
 
 // What zsh completes where a word of this kind stands.
-fn write_zsh_action<W: Write>(kind: Kind, writer: &mut W) -> io::Result<()> {
+fn write_zsh_action<W: Write>(kind: WordKind, writer: &mut W) -> io::Result<()> {
     match kind {
-        Kind::Profile => writer.write_all(b"{ compadd tiny tiny2; _files }"),
-        Kind::File => writer.write_all(b"_files"),
-        Kind::Number | Kind::Columns => writer.write_all(b" "),
-        Kind::Term | Kind::Shell | Kind::Form => write!(writer, "({})", Words { kind }),
+        WordKind::Profile => writer.write_all(b"{ compadd tiny tiny2; _files }"),
+        WordKind::File => writer.write_all(b"_files"),
+        WordKind::Number | WordKind::Columns => writer.write_all(b" "),
+        WordKind::Term | WordKind::Shell | WordKind::Form => write!(writer, "({})", Words { kind }),
     }
 }
 

@@ -1,7 +1,7 @@
 // The words of answers, and what they mean.
 ghost use Rattle.std.specs.Prelude.{◌≡◌, map, All, Contains, IfOk, IfSome, IsNone, OnOk};
 ghost use Rattle.std.specs.Io.KnownBytes.{Appends};
-ghost use Rattle.command_help.specs.Terms.{IsOf, words_text};
+ghost use Rattle.command_help.specs.Terms.{IsOf, known_words, words_text};
 
 use std::alloc::{AllocError, Global};
 use std::{fmt, io};
@@ -52,7 +52,9 @@ pub fn write_terms<W: io::Write>(terms: &[Term], writer: &mut W) -> io::Result<(
 }
 
 /// The terms: the verdicts of a restore, the modes, the refusals, and what is told of writes.
-pub fn known_terms() -> &'static [Term] {
+pub fn known_terms() -> &'static [Term]
+    ensures { map (λ term. term.word.now) result.now ≡ known_words }
+{
     TERMS
 }
 

@@ -6,8 +6,8 @@ use Rattle.std.specs.String.{string_bytes}
 use Rattle.command_faults.specs.Exit.{IsOfOutput}
 use Rattle.command_faults.specs.declared.failure.Reason.{Reason}
 use Rattle.command_faults.specs.declared.failure.Reason.TheVariants.{Known, Told}
-use Rattle.command_faults.specs.declared.fault.Fault.{Fault}
-use Rattle.command_faults.specs.declared.fault.Fault.TheVariants.{Memory, NoTerm}
+use Rattle.command_faults.specs.declared.fault.ProgramFault.{ProgramFault}
+use Rattle.command_faults.specs.declared.fault.ProgramFault.TheVariants.{Memory, NoTerm}
 use Rattle.command_help.specs.Terms.{IsOf, term_text, words_text}
 use Rattle.command_help.specs.declared.terms.Term.{Term}
 
@@ -28,12 +28,12 @@ TellsWord terms (Some word) old new = Explains terms word old new
 TellsWord terms None old new = Appends old new (words_text terms)
 
 -- the fault names the word, and none of the terms is of it
-abbrev pub IsNoTerm : List Term → Option (List ℕ) → Fault → Type 0
+abbrev pub IsNoTerm : List Term → Option (List ℕ) → ProgramFault → Type 0
 IsNoTerm terms (Some word) fault = (name : Bor (List ℕ)) × (fault ≡ NoTerm name) × (name.now ≡ word) × All (λ term. ¬ IsOf word term) terms
 IsNoTerm terms None fault = ⊥
 
 -- why no word is explained: the output takes no more, memory is refused, or the word has no term
-abbrev pub IsUntold : List Term → Option (List ℕ) → Fault → Type 0
+abbrev pub IsUntold : List Term → Option (List ℕ) → ProgramFault → Type 0
 IsUntold terms word fault = IsOfOutput fault ⊎ (fault ≡ Memory) ⊎ IsNoTerm terms word fault
 
 -- the reason asks whether this word was meant

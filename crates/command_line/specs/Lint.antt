@@ -5,7 +5,7 @@ use Rattle.std.specs.Process.{exit_status}
 use Rattle.std.specs.declared.process.ExitCode.{ExitCode}
 use Rattle.clap.specs.declared.parser.matches.ArgMatches.{ArgMatches}
 use Rattle.command_faults.specs.Exit.{IsOfOutput}
-use Rattle.command_faults.specs.declared.fault.Fault.{Fault}
+use Rattle.command_faults.specs.declared.fault.ProgramFault.{ProgramFault}
 use Rattle.command_line.specs.Verbs.{IsOfFileNamed, IsOfProfile, word_of}
 use Rattle.ddr4_timing.specs.declared.timing.Geometry.{Geometry}
 use Rattle.script_report.specs.BadLines.{AreBadLines}
@@ -20,6 +20,6 @@ pub record TellsBadLines (geometry : Geometry) (script : List ℕ) (code : ExitC
   pub told : Appends old new (bad_lines_text bad)
 
 -- why no line is told: the profile or the script that the words name can't be had, or the output takes no more
-abbrev pub IsUnlinted : ArgMatches → Fault → Type 0
+abbrev pub IsUnlinted : ArgMatches → ProgramFault → Type 0
 IsUnlinted matches fault =
     IsOfProfile (word_of matches (codes "PROFILE") (codes "tiny")) fault ⊎ IsOfFileNamed (word_of matches (codes "SCRIPT") (codes "-")) fault ⊎ IsOfOutput fault

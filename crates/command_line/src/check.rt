@@ -2,12 +2,12 @@
 ghost use Rattle.std.specs.Prelude.{◌≡◌, ◌↔◌, [], Err, false, IfErr, IfOk};
 ghost use Rattle.std.specs.Process.{exit_status};
 ghost use Rattle.command_trace.specs.Channels.{AreLawful, FollowsAll};
-ghost use Rattle.command_faults.specs.declared.fault.Fault.TheVariants.{EmptyTrace};
+ghost use Rattle.command_faults.specs.declared.fault.ProgramFault.TheVariants.{EmptyTrace};
 
 use crate::command::status_by;
 use crate::forms::form_asked;
 use clap::ArgMatches;
-use command_faults::{Failure, Fault, Reason, bytes_of, flush, is_file, rules_of};
+use command_faults::{Failure, ProgramFault, Reason, bytes_of, flush, is_file, rules_of};
 use command_trace::{Form, Source, TraceCheck, TraceFault};
 use ddr4_timing::timing::CommandRules;
 use report_json::{write_tallies, write_verdicts};
@@ -89,7 +89,7 @@ fn write_check<R: Files + AllocGlobal, W: Write>(
     let checked = write_checked(rt, source, form, asked, rules, &measured.check, writer)?;
     if checked.is_ok() {
         if asked.is_json {
-            report_json::write_statistics(rt.alloc(), rules, &measured, writer)?;
+            statistics_report::write_statistics(rt.alloc(), rules, &measured, writer)?;
         } else {
             write_statistics(rules, &measured, writer)?;
         }
@@ -131,7 +131,7 @@ pub fn verdict(
     check: &TraceCheck,
     rules: &CommandRules,
     allows_empty: bool,
-) -> Result<ExitCode, Fault<'static>>
+) -> Result<ExitCode, ProgramFault<'static>>
     ensures status { FollowsAll rules.now check.now → IfOk result (λ code.
         (exit_status code ≡ 0) ↔ AreLawful rules.now check.now) }
     ensures some { check.now.given.items ≡ [] → allows_empty ≡ false
@@ -140,7 +140,7 @@ pub fn verdict(
         × (check.now.given.items ≡ []) × (allows_empty ≡ false)) }
 {
     if check.is_empty() && !allows_empty {
-        return Err(Fault::EmptyTrace);
+        return Err(ProgramFault::EmptyTrace);
     }
     Ok(status_by(check.are_lawful(rules)))
 }
@@ -149,11 +149,11 @@ pub fn verdict(
 pub(crate) fn of_trace(alloc: Global, name: &str, fault: TraceFault) -> Failure<'_> {
     match fault {
         TraceFault::Line { line, why } => Failure {
-            fault: Fault::Trace(line),
+            fault: ProgramFault::Trace(line),
             reason: why.to_string(alloc).ok().map(Reason::Told),
         },
-        TraceFault::Reader => Failure::from(Fault::File(name)),
-        TraceFault::Writer => Failure::from(Fault::File("-")),
-        TraceFault::Memory => Failure::from(Fault::Memory),
+        TraceFault::Reader => Failure::from(ProgramFault::File(name)),
+        TraceFault::Writer => Failure::from(ProgramFault::File("-")),
+        TraceFault::Memory => Failure::from(ProgramFault::Memory),
     }
 }

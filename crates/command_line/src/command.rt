@@ -4,7 +4,7 @@ ghost use Rattle.std.specs.Process.{exit_status};
 ghost use Rattle.clap.specs.Words.{kind_of};
 ghost use Rattle.clap.specs.declared.error.kind.ErrorKind.TheVariants.{DisplayHelp, DisplayVersion};
 ghost use Rattle.command_faults.specs.Exit.{IsOfOutput, IsOfWords};
-ghost use Rattle.command_faults.specs.declared.fault.Fault.TheVariants.{Memory};
+ghost use Rattle.command_faults.specs.declared.fault.ProgramFault.TheVariants.{Memory};
 ghost use Rattle.command_line.specs.Verbs.{word_of};
 
 use crate::check::check;
@@ -18,7 +18,7 @@ use crate::script::answer;
 use crate::store::show;
 use clap::error::ErrorKind;
 use clap::{ArgMatches, Error as UsageError};
-use command_faults::{Failure, Fault};
+use command_faults::{Failure, ProgramFault};
 use command_help::known_terms;
 use command_words::parser;
 use live_store::Host;
@@ -33,13 +33,13 @@ use store_file::StoreHost;
 const VERSION: &str = "0.1.0";
 
 /// The words that the program was called with, its name first. `Words` where one of them isn't UTF-8.
-pub fn words_of<R: Env + AllocGlobal>(rt: &R) -> Result<Vec<String>, Fault<'static>>
+pub fn words_of<R: Env + AllocGlobal>(rt: &R) -> Result<Vec<String>, ProgramFault<'static>>
     ensures { IfErr result IsOfWords }
 {
     match env::args(rt) {
         Ok(words) => Ok(words.collect(rt.alloc())?),
-        Err(error) if error.kind() == io::ErrorKind::OutOfMemory => Err(Fault::Memory),
-        Err(_) => Err(Fault::Words),
+        Err(error) if error.kind() == io::ErrorKind::OutOfMemory => Err(ProgramFault::Memory),
+        Err(_) => Err(ProgramFault::Words),
     }
 }
 
@@ -130,13 +130,13 @@ where
         ⊎ (failure.fault ≡ Memory)) }
 {
     if error.kind() == ErrorKind::OutOfMemory {
-        return Err(Failure::from(Fault::Memory));
+        return Err(Failure::from(ProgramFault::Memory));
     }
     if error.kind() == ErrorKind::DisplayVersion {
         return tell_version(rt, VERSION, writer);
     }
     match error.print(rt) {
         Ok(()) => Ok(ExitCode::from(error.exit_code() as u8)),
-        Err(_) => Err(Failure::from(Fault::File("-"))),
+        Err(_) => Err(Failure::from(ProgramFault::File("-"))),
     }
 }

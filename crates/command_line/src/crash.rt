@@ -1,9 +1,9 @@
 // What a crash may leave of a script, told.
 ghost use Rattle.std.specs.Prelude.{◌≡◌};
-ghost use Rattle.command_faults.specs.declared.fault.Fault.TheVariants.{NoLine};
+ghost use Rattle.command_faults.specs.declared.fault.ProgramFault.TheVariants.{NoLine};
 
 use clap::ArgMatches;
-use command_faults::{Failure, Fault, Reason, bytes_of, flush, profile_of};
+use command_faults::{Failure, ProgramFault, Reason, bytes_of, flush, profile_of};
 use crash_table::{AtStop, Counts, PICKS, Progress, Script, Trials};
 use nv_profile::Profile;
 use nv_script::{SCRIPT_BYTES, ScriptFault};
@@ -128,7 +128,7 @@ fn no_line<'a>(number: u64) -> Failure<'a>
     ensures { result.fault ≡ NoLine number }
 {
     Failure {
-        fault: Fault::NoLine(number),
+        fault: ProgramFault::NoLine(number),
         reason: Some(Reason::Known(
             "lines are counted from 1, with those that are empty or comments, which aren't run",
         )),

@@ -3,7 +3,7 @@ use crate::check::of_trace;
 use crate::forms::form_asked;
 use crate::whole::told_whole;
 use clap::ArgMatches;
-use command_faults::{Failure, Fault, bytes_of, profile_of, rules_of};
+use command_faults::{Failure, ProgramFault, bytes_of, profile_of, rules_of};
 use command_trace::{Form, TraceFault, TraceReader, form_of};
 use crash_table::Trials;
 use ddr4_timing::timing::CommandRules;
@@ -19,7 +19,7 @@ use std::rt::Files;
 
 // The form of a picture.
 #[derive(Clone, Copy, Debug, PartialEq, Eq)]
-enum Picture {
+enum PictureForm {
     Svg,
     Vcd,
 }
@@ -41,10 +41,10 @@ where
     let mut schedule = schedule_of(rt, word, name, form, &bytes)?;
     show_range(rt.alloc(), matches, &mut schedule)?;
     if let Some(name) = matches.get_str("svg") {
-        put_picture(rt, &schedule, Picture::Svg, name, writer)?;
+        put_picture(rt, &schedule, PictureForm::Svg, name, writer)?;
     }
     if let Some(name) = matches.get_str("vcd") {
-        put_picture(rt, &schedule, Picture::Vcd, name, writer)?;
+        put_picture(rt, &schedule, PictureForm::Vcd, name, writer)?;
     }
     Ok(ExitCode::SUCCESS)
 }
@@ -132,7 +132,7 @@ fn script_schedule(
 fn put_picture<'a, R: Files + AllocGlobal, W: Write>(
     rt: &R,
     schedule: &Schedule,
-    picture: Picture,
+    picture: PictureForm,
     name: &'a str,
     writer: &mut W,
 ) -> Result<(), Failure<'a>> {
@@ -144,7 +144,7 @@ fn put_picture<'a, R: Files + AllocGlobal, W: Write>(
         Err(error) => return Err(Failure::of_file(name, &error)),
     };
     let Ok(mut writer) = BufWriter::new(rt.alloc(), file) else {
-        return Err(Failure::from(Fault::Memory));
+        return Err(Failure::from(ProgramFault::Memory));
     };
     write_picture(rt.alloc(), schedule, picture, name, &mut writer)
 }
@@ -153,18 +153,18 @@ fn put_picture<'a, R: Files + AllocGlobal, W: Write>(
 fn write_picture<'a, W: Write>(
     alloc: Global,
     schedule: &Schedule,
-    picture: Picture,
+    picture: PictureForm,
     name: &'a str,
     writer: &mut W,
 ) -> Result<(), Failure<'a>> {
     let written = match picture {
-        Picture::Svg => write_svg(alloc, schedule, writer),
-        Picture::Vcd => write_vcd(alloc, schedule, writer),
+        PictureForm::Svg => write_svg(alloc, schedule, writer),
+        PictureForm::Vcd => write_vcd(alloc, schedule, writer),
     };
     match written {
         Ok(()) => {}
-        Err(DrawFault::Writer) => return Err(Failure::from(Fault::File(name))),
-        Err(DrawFault::Memory) => return Err(Failure::from(Fault::Memory)),
+        Err(DrawFault::Writer) => return Err(Failure::from(ProgramFault::File(name))),
+        Err(DrawFault::Memory) => return Err(Failure::from(ProgramFault::Memory)),
     }
     match writer.flush() {
         Ok(()) => Ok(()),

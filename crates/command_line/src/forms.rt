@@ -1,6 +1,6 @@
 // The form of a trace that the words name.
 use clap::ArgMatches;
-use command_faults::{Failure, Fault, Reason};
+use command_faults::{Failure, ProgramFault, Reason};
 use command_trace::Form;
 use std::alloc::Global;
 use trace_forms::{ForeignForm, FormFault};
@@ -20,9 +20,9 @@ pub(crate) fn form_asked(
         },
         (None, Some(names)) => match ForeignForm::of_columns(alloc, names) {
             Ok(form) => Ok(Some(Form::Foreign(form))),
-            Err(FormFault::Memory) => Err(Failure::from(Fault::Memory)),
+            Err(FormFault::Memory) => Err(Failure::from(ProgramFault::Memory)),
             Err(why) => Err(Failure {
-                fault: Fault::Columns,
+                fault: ProgramFault::Columns,
                 reason: why.to_string(alloc).ok().map(Reason::Told),
             }),
         },
@@ -31,7 +31,7 @@ pub(crate) fn form_asked(
 
 fn refused(reason: &'static str) -> Failure<'static> {
     Failure {
-        fault: Fault::Columns,
+        fault: ProgramFault::Columns,
         reason: Some(Reason::Known(reason)),
     }
 }

@@ -4,12 +4,12 @@ ghost use Rattle.std.specs.Io.KnownBytes.{Appends};
 ghost use Rattle.std.specs.Process.{exit_status};
 ghost use Rattle.clap.specs.Words.{first_value, found_of};
 ghost use Rattle.command_faults.specs.Exit.{IsOfOutput};
-ghost use Rattle.command_faults.specs.declared.fault.Fault.TheVariants.{NoTerm};
+ghost use Rattle.command_faults.specs.declared.fault.ProgramFault.TheVariants.{NoTerm};
 ghost use Rattle.command_help.specs.declared.completions.Shell.TheVariants.{Fish, Zsh};
 ghost use Rattle.command_line.specs.Help.{IsUntold, NamesOne, TellsNear, TellsWord, term_line, version_text};
 
 use clap::ArgMatches;
-use command_faults::{Failure, Fault, Reason, flush};
+use command_faults::{Failure, ProgramFault, Reason, flush};
 use command_help::{
     Shell, Term, build_words, explained, term_words, write_completions, write_terms,
 };
@@ -56,7 +56,7 @@ pub fn write_explained<'a, W: Write>(
     let Some(word) = word else {
         return match write_terms(terms, writer) {
             Ok(()) => Ok(()),
-            Err(_) => Err(Failure::from(Fault::File("-"))),
+            Err(_) => Err(Failure::from(ProgramFault::File("-"))),
         };
     };
     match explained(terms, word) {
@@ -72,7 +72,7 @@ fn write_term<'a, W: Write>(term: &Term, writer: &mut W) -> Result<(), Failure<'
     ensures output { IfErr result (λ failure. IsOfOutput failure.fault) }
 {
     if writeln!(writer, "{term}").is_err() {
-        return Err(Failure::from(Fault::File("-")));
+        return Err(Failure::from(ProgramFault::File("-")));
     }
     Ok(())
 }
@@ -105,7 +105,7 @@ fn no_term<'a>(alloc: Global, terms: &[Term], word: &'a str) -> Result<Failure<'
 {
     let reason = why_no_term(alloc, terms, word)?;
     Ok(Failure {
-        fault: Fault::NoTerm(word),
+        fault: ProgramFault::NoTerm(word),
         reason,
     })
 }
@@ -132,7 +132,7 @@ pub(crate) fn complete<'a, W: Write>(
     ensures fault { IfErr result (λ failure. IsOfOutput failure.fault) }
 {
     if write_completions(shell_of(matches), writer).is_err() {
-        return Err(Failure::from(Fault::File("-")));
+        return Err(Failure::from(ProgramFault::File("-")));
     }
     flush(writer)?;
     Ok(ExitCode::SUCCESS)
@@ -155,7 +155,7 @@ where
     let note = build_words(rt);
     let built = note.as_ref().map(|words| words.trim_end());
     if write_version(version, built, writer).is_err() {
-        return Err(Failure::from(Fault::File("-")));
+        return Err(Failure::from(ProgramFault::File("-")));
     }
     flush(writer)?;
     Ok(ExitCode::SUCCESS)

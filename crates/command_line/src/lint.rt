@@ -1,13 +1,13 @@
 // The bad lines of a script, told.
 ghost use Rattle.std.specs.Prelude.{◌≡◌, ◌⊎◌, ℕ, List, IfErr, IfOk};
 ghost use Rattle.command_faults.specs.Exit.{IsOfOutput};
-ghost use Rattle.command_faults.specs.declared.fault.Fault.TheVariants.{Memory};
+ghost use Rattle.command_faults.specs.declared.fault.ProgramFault.TheVariants.{Memory};
 ghost use Rattle.command_line.specs.Lint.{IsUnlinted, TellsBadLines};
 ghost use Rattle.ddr4_timing.specs.declared.timing.Geometry.{Geometry};
 
 use crate::command::{status_by, word_or};
 use clap::ArgMatches;
-use command_faults::{Failure, Fault, bytes_of, flush, profile_of};
+use command_faults::{Failure, ProgramFault, bytes_of, flush, profile_of};
 use ddr4_timing::timing::Geometry;
 use nv_script::SCRIPT_BYTES;
 use script_report::{bad_lines, tell_bad_lines};
@@ -42,7 +42,7 @@ pub fn write_bad_lines<W: Write>(
     geometry: &Geometry,
     script: &[u8],
     writer: &mut W,
-) -> Result<ExitCode, Fault<'static>>
+) -> Result<ExitCode, ProgramFault<'static>>
     ensures told { IfOk result (λ code. TellsBadLines geometry.now script.now code
         (W.contents writer.old) (W.contents writer.new)) }
     ensures fault { IfErr result (λ fault. IsOfOutput fault ⊎ (fault ≡ Memory)) }
@@ -50,6 +50,6 @@ pub fn write_bad_lines<W: Write>(
     let bad = bad_lines(alloc, script, geometry)?;
     match tell_bad_lines(&bad, writer) {
         Ok(()) => Ok(status_by(bad.is_empty())),
-        Err(_) => Err(Fault::File("-")),
+        Err(_) => Err(ProgramFault::File("-")),
     }
 }

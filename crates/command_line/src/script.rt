@@ -1,6 +1,6 @@
 // A script, run.
 use clap::ArgMatches;
-use command_faults::{Failure, Fault};
+use command_faults::{Failure, ProgramFault};
 use run_command::{RunWords, StoreWord, run_named};
 use std::io::{Input, Write};
 use std::process::ExitCode;
@@ -22,6 +22,7 @@ where
         script: matches.get_str("SCRIPT").unwrap_or("-"),
         store: store_word(matches)?,
         is_json: matches.get_flag("json"),
+        stats: matches.get_flag("stats"),
         commands: matches.get_str("commands"),
     };
     run_named(rt, words, writer)?;
@@ -29,9 +30,11 @@ where
 }
 
 // The file of the run's store, which one of two words may name.
-fn store_word<'a>(matches: &ArgMatches<'a>) -> Result<Option<StoreWord<'a>>, Fault<'static>> {
+fn store_word<'a>(
+    matches: &ArgMatches<'a>,
+) -> Result<Option<StoreWord<'a>>, ProgramFault<'static>> {
     match (matches.get_str("out"), matches.get_str("store")) {
-        (Some(_), Some(_)) => Err(Fault::Kept("stands beside --out")),
+        (Some(_), Some(_)) => Err(ProgramFault::Kept("stands beside --out")),
         (Some(name), None) => Ok(Some(StoreWord::Out(name))),
         (None, Some(name)) => Ok(Some(StoreWord::Kept(name))),
         (None, None) => Ok(None),

@@ -11,8 +11,9 @@ use line_memory::Line;
 use nv_script::{Answer, ScriptFault};
 use run_command::AnswerPrinter;
 use save_device::MemoryDevice;
+use save_image::PAGE_LINES;
 use script_runner::Report;
-use slot_store::{RestoreError, device_size, restore};
+use slot_store::{MOST_LINES, RestoreError, device_size, restore};
 use std::alloc::Global;
 use std::io;
 use std::process::ExitCode;
@@ -28,7 +29,11 @@ fn lines_of(size: usize) -> Option<usize>
     ensures none { IsNone result → HasNoLines size }
 {
     let lines = size.checked_sub(8192)? / 128;
-    if lines < 64 || lines > 65_536 || lines % 64 != 0 || device_size(lines) != size {
+    if lines < PAGE_LINES
+        || lines > MOST_LINES
+        || lines % PAGE_LINES != 0
+        || device_size(lines) != size
+    {
         return None;
     }
     Some(lines)

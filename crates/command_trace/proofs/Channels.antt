@@ -8,7 +8,7 @@ use Rattle.std.specs.List.{take_while}
 use Rattle.ddr4_timing.specs.declared.timing.CommandRules.{CommandRules}
 use Rattle.command_trace.specs.declared.diagnosis.Listed.{Listed}
 use Rattle.command_trace.specs.declared.entry.Located.{Located}
-use Rattle.command_trace.specs.declared.front.Front.{Front}
+use Rattle.command_trace.specs.declared.front.CommandChecker.{CommandChecker}
 use Rattle.auto_precharge.specs.FullLists.{AreEarly}
 use Rattle.auto_precharge.specs.declared.issued.Issued.{Issued}
 use Rattle.command_trace.specs.Channels.{Lists, found_of, found_up_to, issued_to}
@@ -33,10 +33,10 @@ pub found_of-other : (channel : ℕ) (found : List Located) (x : Located) → x.
 found_of-other channel found x other = added channel found x [] (rw (apart x.entry.channel channel other) refl) ∙ append-nil _
 
 -- a front behind a command of its channel, among those of all channels
-pub follows_all : (r : CommandRules) (fronts : List Front) (found : List Located) (x : Located) (new : Front) → x.entry.channel < length fronts
-    → ((channel : ℕ) (none : Front) → channel < 8 → FollowsCommands r (slice_index_or fronts channel none) (found_of channel found))
+pub follows_all : (r : CommandRules) (fronts : List CommandChecker) (found : List Located) (x : Located) (new : CommandChecker) → x.entry.channel < length fronts
+    → ((channel : ℕ) (none : CommandChecker) → channel < 8 → FollowsCommands r (slice_index_or fronts channel none) (found_of channel found))
     → FollowsCommands r new (found_of x.entry.channel found ++ x ∷ [])
-    → (channel : ℕ) (none : Front) → channel < 8 → FollowsCommands r (slice_index_or (slice_set fronts x.entry.channel new) channel none) (found_of channel (found ++ x ∷ []))
+    → (channel : ℕ) (none : CommandChecker) → channel < 8 → FollowsCommands r (slice_index_or (slice_set fronts x.entry.channel new) channel none) (found_of channel (found ++ x ∷ []))
 follows_all r fronts found x new within all one channel none below =
     elim (cases_eq x.entry.channel channel) [
       | inl same ↦ subst (λ (n : ℕ). FollowsCommands r (get_or (set fronts x.entry.channel new) n none) (found_of n (found ++ x ∷ []))) same

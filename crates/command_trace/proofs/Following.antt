@@ -7,7 +7,7 @@ use Rattle.auto_precharge.specs.Unfolding.{IsLawfulTrace, MayFollow, unfolded, u
 use Rattle.auto_precharge.specs.declared.issued.Issued.{Issued}
 use Rattle.command_trace.specs.Following.{FollowsCommands, IsFirstFault, commands_in, issued_in, issued_of}
 use Rattle.command_trace.specs.declared.entry.Located.{Located}
-use Rattle.command_trace.specs.declared.front.Front.{Front}
+use Rattle.command_trace.specs.declared.front.CommandChecker.{CommandChecker}
 use Rattle.auto_precharge.proofs.Settling.{follow_front, follow_more}
 
 is_or_not : (b : Bool) → IsTrue b ⊎ (¬ IsTrue b)
@@ -60,13 +60,13 @@ faulty_now r found x lawful broken = record {
   line_is = refl;
 }
 
-pub tells_lawful : (r : CommandRules) (front : Front) (found : List Located) → FollowsCommands r front found → (IsTrue front.is_lawful ↔ IsLawfulTrace r (issued_in found))
+pub tells_lawful : (r : CommandRules) (front : CommandChecker) (found : List Located) → FollowsCommands r front found → (IsTrue front.is_lawful ↔ IsLawfulTrace r (issued_in found))
 tells_lawful r front found f = (
   λ h. f.lawful h,
   λ l. elim (is_or_not front.is_lawful) [ inl h ↦ h | inr broken ↦ absurd (not_lawful r found front.line (f.broken broken) l) ],
 )
 
-pub tells_fault : (r : CommandRules) (front : Front) (found : List Located) → FollowsCommands r front found → (¬ IsLawfulTrace r (issued_in found))
+pub tells_fault : (r : CommandRules) (front : CommandChecker) (found : List Located) → FollowsCommands r front found → (¬ IsLawfulTrace r (issued_in found))
     → IsFirstFault r found front.line
 tells_fault r front found f broken = f.broken (λ h. broken (f.lawful h))
 

@@ -7,7 +7,7 @@ use Rattle.std.proofs.lemmas.List.Elements.{All-head, All-tail, filter_map-appen
 use Rattle.ddr4_timing.specs.declared.fault.Fault.{Fault}
 use Rattle.ddr4_timing.specs.declared.rules.Rule.{Rule}
 use Rattle.ddr4_timing.specs.Rules.{every_rule}
-use Rattle.command_trace.specs.declared.tally.Tally.{Tally}
+use Rattle.command_trace.specs.declared.tally.BrokenRule.{BrokenRule}
 use Rattle.command_trace.specs.Tallies.{AddsTally, rule_told, tally_told}
 
 -- what holds of each holds of the one that is found
@@ -27,7 +27,7 @@ last_told : (faults : List Fault) (rule : Rule) → filter_map (rule_told faults
 last_told faults rule = one_told (rule_told faults rule)
 
 -- the next rule
-pub tally_more : (faults : List Fault) (i : ℕ) (none : Rule) (old new : List Tally) → i < 16 → map tally_told old ≡ filter_map (rule_told faults) (take i every_rule)
+pub tally_more : (faults : List Fault) (i : ℕ) (none : Rule) (old new : List BrokenRule) → i < 16 → map tally_told old ≡ filter_map (rule_told faults) (take i every_rule)
     → AddsTally faults (get_or every_rule i none) old new → map tally_told new ≡ filter_map (rule_told faults) (take (i + 1) every_rule)
 tally_more faults i none old new here so_far adds =
     let h = rule_told faults in

@@ -10,10 +10,10 @@ use Rattle.auto_precharge.specs.declared.issued.Issued.{Issued}
 use Rattle.command_trace.specs.Faults.{IsWhy}
 use Rattle.command_trace.specs.Reasons.{IsReasonOf}
 use Rattle.command_trace.specs.declared.diagnosis.Diagnosis.{Diagnosis}
-use Rattle.command_trace.specs.declared.diagnosis.Numbered.{Numbered}
+use Rattle.command_trace.specs.declared.diagnosis.NumberedCommand.{NumberedCommand}
 
 -- the command at an index of a list, where it is there
-pub first_told : (list : List Stamped) (lines : List ℕ) (at : ℕ) (o : Option Numbered) (second : Numbered)
+pub first_told : (list : List Stamped) (lines : List ℕ) (at : ℕ) (o : Option NumberedCommand) (second : NumberedCommand)
     → IfSome o (λ it. (slice_get list at ≡ Some it.command) × (it.line ≡ slice_index lines at)) → (IsNone o ↔ (length list ≤ at)) → at < length list
     → (slice_get list at ≡ Some (unwrap_or o second).command) × ((unwrap_or o second).line ≡ slice_index lines at)
 first_told list lines at None second some none within = absurd (let past = none.0 refl in omega (arith, past, within))

@@ -7,7 +7,7 @@ use Rattle.ddr4_timing.specs.declared.command.Stamped.{Stamped}
 use Rattle.ddr4_timing.specs.declared.timing.CommandRules.{CommandRules}
 use Rattle.command_trace.specs.declared.diagnosis.Listed.{Listed}
 use Rattle.command_trace.specs.declared.entry.Located.{Located}
-use Rattle.command_trace.specs.declared.front.Front.{Front}
+use Rattle.command_trace.specs.declared.front.CommandChecker.{CommandChecker}
 use Rattle.command_trace.specs.declared.trace_check.TraceCheck.{TraceCheck}
 use Rattle.command_trace.specs.Following.{FollowsCommands, commands_in, issued_in}
 
@@ -35,7 +35,7 @@ Lists channel listed found =
 -- each channel's front follows the commands of that channel
 abbrev pub FollowsAll : CommandRules → TraceCheck → Type 0
 FollowsAll r check =
-    (channel : ℕ) (none : Front) → channel < 8 →
+    (channel : ℕ) (none : CommandChecker) → channel < 8 →
     FollowsCommands r (slice_index_or check.fronts channel none) (found_of channel check.given.items)
 
 -- the commands of each channel of the geometry are lawful

@@ -1,11 +1,11 @@
--- Which commands a `Front` has taken.
+-- Which commands a `CommandChecker` has taken.
 use Rattle.std.specs.Prelude.{◌≡◌, ℕ, ◌-◌, ◌^◌, List, [], ◌∷◌, ◌++◌, IsTrue, length, map, min}
 use Rattle.ddr4_timing.specs.declared.command.Stamped.{Stamped}
 use Rattle.ddr4_timing.specs.declared.timing.CommandRules.{CommandRules}
 use Rattle.auto_precharge.specs.Unfolding.{IsLawfulTrace, MayFollow, Stands, unfolded}
 use Rattle.auto_precharge.specs.declared.issued.Issued.{Issued}
 use Rattle.command_trace.specs.declared.entry.Located.{Located}
-use Rattle.command_trace.specs.declared.front.Front.{Front}
+use Rattle.command_trace.specs.declared.front.CommandChecker.{CommandChecker}
 
 abbrev pub commands_in : List Located → List Stamped
 commands_in found = map (λ l. l.entry.command) found
@@ -29,7 +29,7 @@ pub record IsFirstFault (r : CommandRules) (found : List Located) (line : ℕ) :
 
 -- It tells whether the commands are lawful, stands behind what they stand for while they are, and then it keeps the line of the
 -- first one that isn't.
-pub record FollowsCommands (r : CommandRules) (front : Front) (found : List Located) : Type 0 where
+pub record FollowsCommands (r : CommandRules) (front : CommandChecker) (found : List Located) : Type 0 where
   pub lawful : IsTrue front.is_lawful → IsLawfulTrace r (issued_in found)
   pub stands : IsTrue front.is_lawful → Stands r front.unfolding (unfolded r.timing (issued_in found))
   pub none : IsTrue front.is_lawful → front.line ≡ 0

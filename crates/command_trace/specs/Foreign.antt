@@ -10,7 +10,7 @@ use Rattle.trace_forms.specs.declared.part.Part.{Part}
 use Rattle.trace_forms.specs.declared.part.Part.TheVariants as part
 use Rattle.command_trace.specs.Kinds.{IsSpelling, base_of, closes_of, kind_of, numbers_of}
 use Rattle.command_trace.specs.declared.entry.Located.{Located}
-use Rattle.command_trace.specs.declared.kind.Kind.{Kind}
+use Rattle.command_trace.specs.declared.kind.CommandKind.{CommandKind}
 
 abbrev pub SaysBank : ForeignForm → List (List ℕ) → BankAddress → Type 0
 SaysBank f words at = IsNumberOf f words part.Rank at.rank × IsNumberOf f words part.Group at.group × IsNumberOf f words part.Bank at.bank
@@ -26,11 +26,11 @@ SaysNumbers f words (Ref rank) = IsNumberOf f words part.Rank rank
 SaysNumbers f words (Sre rank) = IsNumberOf f words part.Rank rank
 
 -- a command of a kind
-abbrev pub SaysCommand : ForeignForm → List (List ℕ) → Kind → Command → Type 0
+abbrev pub SaysCommand : ForeignForm → List (List ℕ) → CommandKind → Command → Type 0
 SaysCommand f words kind x = (kind_of x ≡ base_of kind) × SaysNumbers f words x
 
 -- the name is in one of the spellings of the kind
-abbrev pub SaysKind : ForeignForm → List (List ℕ) → Kind → Type 0
+abbrev pub SaysKind : ForeignForm → List (List ℕ) → CommandKind → Type 0
 SaysKind f words kind = (name : List ℕ) × (word_of f words part.Command ≡ Some name) × IsSpelling kind name
 
 -- the channel, 0 where no column says it
@@ -40,7 +40,7 @@ pub record SaysChannel (f : ForeignForm) (words : List (List ℕ)) (channel : �
 
 -- the words of a line of this number say a command of a trace
 pub record SaysLocated (f : ForeignForm) (words : List (List ℕ)) (number : ℕ) (found : Located) : Type 0 where
-  pub kind : Kind
+  pub kind : CommandKind
   pub named : SaysKind f words kind
   pub closes : found.closes ≡ closes_of kind
   pub command : SaysCommand f words kind found.entry.command.cmd
@@ -70,12 +70,12 @@ pub record SaysNoBank (f : ForeignForm) (words : List (List ℕ)) : Type 0 where
   pub none : (at : BankAddress) → SaysBank f words at → at.rank < 2 ^ 64 → at.group < 2 ^ 64 → at.bank < 2 ^ 64 → ⊥
 
 -- no command of a kind
-pub record SaysNoCommand (f : ForeignForm) (words : List (List ℕ)) (kind : Kind) : Type 0 where
+pub record SaysNoCommand (f : ForeignForm) (words : List (List ℕ)) (kind : CommandKind) : Type 0 where
   pub none : (x : Command) → SaysCommand f words kind x → AreSmall (numbers_of x) → ⊥
 
 -- no kind
 pub record SaysNoKind (f : ForeignForm) (words : List (List ℕ)) : Type 0 where
-  pub none : (kind : Kind) → SaysKind f words kind → ⊥
+  pub none : (kind : CommandKind) → SaysKind f words kind → ⊥
 
 -- and no command of a trace
 pub record SaysNone (f : ForeignForm) (words : List (List ℕ)) : Type 0 where

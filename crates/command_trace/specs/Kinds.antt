@@ -3,10 +3,10 @@ use Rattle.std.specs.Prelude.{◌≡◌, ℕ, Bool, true, false, List, [], ◌�
 use Rattle.std.specs.Char.{to_ascii_lowercase}
 use Rattle.ddr4_timing.specs.declared.command.Command.{Command}
 use Rattle.ddr4_timing.specs.declared.command.Command.TheVariants as cmd
-use Rattle.command_trace.specs.declared.kind.Kind.{Kind}
-use Rattle.command_trace.specs.declared.kind.Kind.TheVariants as kind
+use Rattle.command_trace.specs.declared.kind.CommandKind.{CommandKind}
+use Rattle.command_trace.specs.declared.kind.CommandKind.TheVariants as kind
 
-abbrev pub kind_of : Command → Kind
+abbrev pub kind_of : Command → CommandKind
 kind_of (cmd.Act at row) = kind.Act
 kind_of (cmd.Rd at column) = kind.Rd
 kind_of (cmd.Wr at column) = kind.Wr
@@ -26,22 +26,22 @@ numbers_of (cmd.Ref rank) = rank ∷ []
 numbers_of (cmd.Sre rank) = rank ∷ []
 
 -- the kind of the command that a kind is, auto-precharge aside
-abbrev pub base_of : Kind → Kind
+abbrev pub base_of : CommandKind → CommandKind
 base_of kind.Rda = kind.Rd
 base_of kind.Wra = kind.Wr
 base_of kind = kind
 
 -- with auto-precharge
-abbrev pub closes_of : Kind → Bool
+abbrev pub closes_of : CommandKind → Bool
 closes_of kind.Rda = true
 closes_of kind.Wra = true
 closes_of kind = false
 
-abbrev pub IsCommandOf : Kind → List ℕ → Command → Type 0
+abbrev pub IsCommandOf : CommandKind → List ℕ → Command → Type 0
 IsCommandOf kind numbers x = (kind_of x ≡ base_of kind) × (numbers_of x ≡ numbers)
 
 -- its name, as this program prints it
-abbrev pub name_of_kind : Kind → List ℕ
+abbrev pub name_of_kind : CommandKind → List ℕ
 name_of_kind kind.Act = codes "ACT"
 name_of_kind kind.Rd = codes "RD"
 name_of_kind kind.Wr = codes "WR"
@@ -57,7 +57,7 @@ abbrev pub IsWord : List ℕ → List ℕ → Type 0
 IsWord word name = map to_ascii_lowercase word ≡ map to_ascii_lowercase name
 
 -- a name of the kind in one of the spellings that simulators print, in any case
-abbrev pub IsSpelling : Kind → List ℕ → Type 0
+abbrev pub IsSpelling : CommandKind → List ℕ → Type 0
 IsSpelling kind.Act name = IsWord (codes "ACT") name ⊎ IsWord (codes "ACTIVATE") name
 IsSpelling kind.Rd name = IsWord (codes "RD") name ⊎ IsWord (codes "READ") name
 IsSpelling kind.Wr name = IsWord (codes "WR") name ⊎ IsWord (codes "WRITE") name

@@ -118,7 +118,7 @@ fn take_issued(listed: &mut Vec<Issued>, channel: u64, next: &Located) -> Result
 
 /// A command and its line.
 #[derive(Clone, Copy, Debug, PartialEq, Eq)]
-pub struct Numbered {
+pub struct NumberedCommand {
     pub line: u64,
     pub command: Stamped,
 }
@@ -127,12 +127,12 @@ pub struct Numbered {
 #[derive(Clone, Copy, Debug)]
 pub struct Diagnosis {
     pub fault: Fault,
-    pub first: Numbered,
-    pub second: Numbered,
+    pub first: NumberedCommand,
+    pub second: NumberedCommand,
     pub reason: Reason,
 }
 
-impl fmt::Display for Numbered {
+impl fmt::Display for NumberedCommand {
     fn fmt<W: fmt::Write>(&self, f: &mut fmt::Formatter<W>) -> fmt::Result {
         write!(f, "line {}: {}", self.line, self.command)
     }
@@ -174,12 +174,12 @@ impl Listed {
 }
 
 // The command at an index, and its line.
-fn command_at(commands: &[Stamped], lines: &[u64], index: usize) -> Numbered
+fn command_at(commands: &[Stamped], lines: &[u64], index: usize) -> NumberedCommand
     requires { index < length commands.now }
     ensures command { Some result.command ≡ slice_get commands.now index }
     ensures line { result.line ≡ slice_index lines.now index }
 {
-    Numbered {
+    NumberedCommand {
         line: lines.get(index).copied().unwrap_or(0),
         command: commands[index],
     }

@@ -7,7 +7,7 @@ use ddr4_timing::command::Stamped;
 
 /// A command of a trace, and the number of the channel that it goes to.
 #[derive(Clone, Copy, Debug, PartialEq, Eq)]
-pub struct Entry {
+pub struct ChannelCommand {
     pub channel: u64,
     pub command: Stamped,
 }
@@ -17,7 +17,7 @@ pub struct Entry {
 #[derive(Clone, Copy, Debug, PartialEq, Eq)]
 pub struct Located {
     pub line: u64,
-    pub entry: Entry,
+    pub entry: ChannelCommand,
     pub closes: bool,
 }
 

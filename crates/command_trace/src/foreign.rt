@@ -6,8 +6,8 @@ ghost use Rattle.trace_forms.specs.Forms.{IsNumberOf};
 ghost use Rattle.trace_forms.specs.Words.{texts_of};
 ghost use Rattle.trace_forms.specs.declared.part.Part.TheVariants.{Channel};
 
-use crate::entry::{Entry, Located};
-use crate::kind::Kind;
+use crate::entry::{ChannelCommand, Located};
+use crate::kind::CommandKind;
 use crate::no_command::NoCommand;
 use ddr4_timing::command::{Command, Stamped};
 use ddr4_timing::place::BankAddress;
@@ -41,33 +41,33 @@ fn bank_in(form: &ForeignForm, words: &[&str]) -> Result<BankAddress, NoCommand>
 
 // The command of a kind, by the parts that it has a use for.
 #[tactic(auto, using(crate::proofs::ForeignLines::no_bank, crate::proofs::ForeignLines::no_row, crate::proofs::ForeignLines::no_column, crate::proofs::ForeignLines::no_rank))]
-fn command_in(form: &ForeignForm, words: &[&str], kind: Kind) -> Result<Command, NoCommand>
+fn command_in(form: &ForeignForm, words: &[&str], kind: CommandKind) -> Result<Command, NoCommand>
     ensures said { IfOk result (SaysCommand form.now (texts_of words.now) kind) }
     ensures none { IfErr result (λ why. SaysNoCommand form.now (texts_of words.now) kind) }
 {
     match kind {
-        Kind::Act => Ok(Command::Act {
+        CommandKind::Act => Ok(Command::Act {
             at: bank_in(form, words)?,
             row: number_in(form, words, Part::Row)?,
         }),
-        Kind::Rd | Kind::Rda => Ok(Command::Rd {
+        CommandKind::Rd | CommandKind::Rda => Ok(Command::Rd {
             at: bank_in(form, words)?,
             column: number_in(form, words, Part::Column)?,
         }),
-        Kind::Wr | Kind::Wra => Ok(Command::Wr {
+        CommandKind::Wr | CommandKind::Wra => Ok(Command::Wr {
             at: bank_in(form, words)?,
             column: number_in(form, words, Part::Column)?,
         }),
-        Kind::Pre => Ok(Command::Pre {
+        CommandKind::Pre => Ok(Command::Pre {
             at: bank_in(form, words)?,
         }),
-        Kind::PreAll => Ok(Command::PreAll {
+        CommandKind::PreAll => Ok(Command::PreAll {
             rank: number_in(form, words, Part::Rank)?,
         }),
-        Kind::Ref => Ok(Command::Ref {
+        CommandKind::Ref => Ok(Command::Ref {
             rank: number_in(form, words, Part::Rank)?,
         }),
-        Kind::Sre => Ok(Command::Sre {
+        CommandKind::Sre => Ok(Command::Sre {
             rank: number_in(form, words, Part::Rank)?,
         }),
     }
@@ -75,14 +75,14 @@ fn command_in(form: &ForeignForm, words: &[&str], kind: Kind) -> Result<Command,
 
 // The kind of the command that the words name.
 #[tactic(auto, using(crate::proofs::ForeignLines::no_name, crate::proofs::ForeignLines::no_spelling))]
-fn kind_in(form: &ForeignForm, words: &[&str]) -> Result<Kind, NoCommand>
+fn kind_in(form: &ForeignForm, words: &[&str]) -> Result<CommandKind, NoCommand>
     ensures said { IfOk result (SaysKind form.now (texts_of words.now)) }
     ensures none { IfErr result (λ why. SaysNoKind form.now (texts_of words.now)) }
 {
     let Some(name) = form.word(words, Part::Command) else {
         return Err(NoCommand::Name);
     };
-    match Kind::spelled(name) {
+    match CommandKind::spelled(name) {
         Some(kind) => Ok(kind),
         None => Err(NoCommand::Name),
     }
@@ -112,7 +112,7 @@ fn located_in(form: &ForeignForm, words: &[&str], line: u64) -> Result<Located, 
     let cmd = command_in(form, words, kind)?;
     Ok(Located {
         line,
-        entry: Entry {
+        entry: ChannelCommand {
             channel,
             command: Stamped { clock, cmd },
         },

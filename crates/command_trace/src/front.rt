@@ -13,19 +13,19 @@ use ddr4_timing::timing::CommandRules;
 ///
 /// Each call is given the profile for which it was made.
 #[derive(Clone, Copy)]
-pub struct Front {
+pub struct CommandChecker {
     unfolding: Unfolding,
     is_lawful: bool,
     count: u64,
     line: u64,
 }
 
-impl Front {
+impl CommandChecker {
     /// Before any command.
-    pub fn new(rules: &CommandRules) -> Front
+    pub fn new(rules: &CommandRules) -> CommandChecker
         ensures { FollowsCommands rules.now result [] }
     {
-        Front {
+        CommandChecker {
             unfolding: Unfolding::new(rules),
             is_lawful: true,
             count: 0,

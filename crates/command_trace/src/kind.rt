@@ -2,14 +2,14 @@
 ghost use Rattle.std.specs.Prelude.{◌≡◌, ◌≢◌, ◌⊎◌, ◌↔◌, IsTrue, IfSome, IsNone};
 ghost use Rattle.ddr4_timing.specs.declared.command.Command.{Command};
 ghost use Rattle.command_trace.specs.Kinds.{base_of, closes_of, IsCommandOf, IsSpelling, IsWord, kind_of, name_of_kind, numbers_of};
-ghost use Rattle.command_trace.specs.declared.kind.Kind.{Kind};
+ghost use Rattle.command_trace.specs.declared.kind.CommandKind.{CommandKind};
 
 use ddr4_timing::command::Command;
 use ddr4_timing::place::BankAddress;
 
 /// A kind of commands.
 #[derive(Clone, Copy, Debug, PartialEq, Eq)]
-pub enum Kind {
+pub enum CommandKind {
     Act,
     Rd,
     Wr,
@@ -23,49 +23,49 @@ pub enum Kind {
     Sre,
 }
 
-impl Kind {
+impl CommandKind {
     /// The kind of a name as this program prints it.
-    pub fn named(name: &str) -> Option<Kind>
+    pub fn named(name: &str) -> Option<CommandKind>
         ensures some { IfSome result (λ kind. name.now ≡ name_of_kind kind) }
-        ensures none { IsNone result → (kind : Kind) → name.now ≢ name_of_kind kind }
+        ensures none { IsNone result → (kind : CommandKind) → name.now ≢ name_of_kind kind }
     {
         match name {
-            "ACT" => Some(Kind::Act),
-            "RD" => Some(Kind::Rd),
-            "WR" => Some(Kind::Wr),
-            "RDA" => Some(Kind::Rda),
-            "WRA" => Some(Kind::Wra),
-            "PRE" => Some(Kind::Pre),
-            "PREA" => Some(Kind::PreAll),
-            "REF" => Some(Kind::Ref),
-            "SRE" => Some(Kind::Sre),
+            "ACT" => Some(CommandKind::Act),
+            "RD" => Some(CommandKind::Rd),
+            "WR" => Some(CommandKind::Wr),
+            "RDA" => Some(CommandKind::Rda),
+            "WRA" => Some(CommandKind::Wra),
+            "PRE" => Some(CommandKind::Pre),
+            "PREA" => Some(CommandKind::PreAll),
+            "REF" => Some(CommandKind::Ref),
+            "SRE" => Some(CommandKind::Sre),
             _ => None,
         }
     }
 
     /// The kind of a name in one of the spellings that simulators print, in any case.
-    pub fn spelled(name: &str) -> Option<Kind>
+    pub fn spelled(name: &str) -> Option<CommandKind>
         ensures some { IfSome result (λ kind. IsSpelling kind name.now) }
-        ensures none { IsNone result → (kind : Kind) → ¬ IsSpelling kind name.now }
+        ensures none { IsNone result → (kind : CommandKind) → ¬ IsSpelling kind name.now }
     {
         if is_either("ACT", "ACTIVATE", name) {
-            Some(Kind::Act)
+            Some(CommandKind::Act)
         } else if is_either("RD", "READ", name) {
-            Some(Kind::Rd)
+            Some(CommandKind::Rd)
         } else if is_either("WR", "WRITE", name) {
-            Some(Kind::Wr)
+            Some(CommandKind::Wr)
         } else if is_any("RDA", "READ_PRECHARGE", "READ_P", name) {
-            Some(Kind::Rda)
+            Some(CommandKind::Rda)
         } else if is_any("WRA", "WRITE_PRECHARGE", "WRITE_P", name) {
-            Some(Kind::Wra)
+            Some(CommandKind::Wra)
         } else if is_either("PRE", "PRECHARGE", name) {
-            Some(Kind::Pre)
+            Some(CommandKind::Pre)
         } else if is_either("PREA", "PREAB", name) {
-            Some(Kind::PreAll)
+            Some(CommandKind::PreAll)
         } else if is_any("REF", "REFRESH", "REFAB", name) {
-            Some(Kind::Ref)
+            Some(CommandKind::Ref)
         } else if is_any("SRE", "SREF_ENTER", "SELF_REFRESH_ENTER", name) {
-            Some(Kind::Sre)
+            Some(CommandKind::Sre)
         } else {
             None
         }
@@ -74,10 +74,12 @@ impl Kind {
     /// The parts behind its name, as `CHANNEL CLOCK NAME` and these.
     pub(crate) fn parts(self) -> &'static [&'static str] {
         match self {
-            Kind::Act => &["rank", "group", "bank", "row"],
-            Kind::Rd | Kind::Wr | Kind::Rda | Kind::Wra => &["rank", "group", "bank", "column"],
-            Kind::Pre => &["rank", "group", "bank"],
-            Kind::PreAll | Kind::Ref | Kind::Sre => &["rank"],
+            CommandKind::Act => &["rank", "group", "bank", "row"],
+            CommandKind::Rd | CommandKind::Wr | CommandKind::Rda | CommandKind::Wra => &[
+                "rank", "group", "bank", "column",
+            ],
+            CommandKind::Pre => &["rank", "group", "bank"],
+            CommandKind::PreAll | CommandKind::Ref | CommandKind::Sre => &["rank"],
         }
     }
 
@@ -86,15 +88,15 @@ impl Kind {
         ensures { result.now ≡ name_of_kind self }
     {
         match self {
-            Kind::Act => "ACT",
-            Kind::Rd => "RD",
-            Kind::Wr => "WR",
-            Kind::Rda => "RDA",
-            Kind::Wra => "WRA",
-            Kind::Pre => "PRE",
-            Kind::PreAll => "PREA",
-            Kind::Ref => "REF",
-            Kind::Sre => "SRE",
+            CommandKind::Act => "ACT",
+            CommandKind::Rd => "RD",
+            CommandKind::Wr => "WR",
+            CommandKind::Rda => "RDA",
+            CommandKind::Wra => "WRA",
+            CommandKind::Pre => "PRE",
+            CommandKind::PreAll => "PREA",
+            CommandKind::Ref => "REF",
+            CommandKind::Sre => "SRE",
         }
     }
 
@@ -102,12 +104,12 @@ impl Kind {
     /// group, the bank, the row and the column in 7.
     pub(crate) fn has_part(self, place: usize) -> bool {
         match self {
-            Kind::Act => 3 <= place && place <= 6,
-            Kind::Rd | Kind::Wr | Kind::Rda | Kind::Wra => {
+            CommandKind::Act => 3 <= place && place <= 6,
+            CommandKind::Rd | CommandKind::Wr | CommandKind::Rda | CommandKind::Wra => {
                 3 <= place && place <= 5 || place == 7
             }
-            Kind::Pre => 3 <= place && place <= 5,
-            Kind::PreAll | Kind::Ref | Kind::Sre => place == 3,
+            CommandKind::Pre => 3 <= place && place <= 5,
+            CommandKind::PreAll | CommandKind::Ref | CommandKind::Sre => place == 3,
         }
     }
 
@@ -116,7 +118,7 @@ impl Kind {
         ensures { result ≡ closes_of self }
     {
         match self {
-            Kind::Rda | Kind::Wra => true,
+            CommandKind::Rda | CommandKind::Wra => true,
             _ => false,
         }
     }
@@ -129,24 +131,28 @@ impl Kind {
             numbers_of x ≢ numbers.now }
     {
         match (self, numbers) {
-            (Kind::Act, [rank, group, bank, row]) => Some(Command::Act {
+            (CommandKind::Act, [rank, group, bank, row]) => Some(Command::Act {
                 at: bank_of(rank, group, bank),
                 row: *row,
             }),
-            (Kind::Rd | Kind::Rda, [rank, group, bank, column]) => Some(Command::Rd {
+            (CommandKind::Rd | CommandKind::Rda, [rank, group, bank, column]) => Some(
+                Command::Rd {
+                    at: bank_of(rank, group, bank),
+                    column: *column,
+                },
+            ),
+            (CommandKind::Wr | CommandKind::Wra, [rank, group, bank, column]) => Some(
+                Command::Wr {
+                    at: bank_of(rank, group, bank),
+                    column: *column,
+                },
+            ),
+            (CommandKind::Pre, [rank, group, bank]) => Some(Command::Pre {
                 at: bank_of(rank, group, bank),
-                column: *column,
             }),
-            (Kind::Wr | Kind::Wra, [rank, group, bank, column]) => Some(Command::Wr {
-                at: bank_of(rank, group, bank),
-                column: *column,
-            }),
-            (Kind::Pre, [rank, group, bank]) => Some(Command::Pre {
-                at: bank_of(rank, group, bank),
-            }),
-            (Kind::PreAll, [rank]) => Some(Command::PreAll { rank: *rank }),
-            (Kind::Ref, [rank]) => Some(Command::Ref { rank: *rank }),
-            (Kind::Sre, [rank]) => Some(Command::Sre { rank: *rank }),
+            (CommandKind::PreAll, [rank]) => Some(Command::PreAll { rank: *rank }),
+            (CommandKind::Ref, [rank]) => Some(Command::Ref { rank: *rank }),
+            (CommandKind::Sre, [rank]) => Some(Command::Sre { rank: *rank }),
             _ => None,
         }
     }
@@ -182,12 +188,12 @@ pub fn name_of(x: &Command) -> &'static str
     ensures { result.now ≡ name_of_kind (kind_of x.now) }
 {
     match x {
-        Command::Act { .. } => Kind::Act.name(),
-        Command::Rd { .. } => Kind::Rd.name(),
-        Command::Wr { .. } => Kind::Wr.name(),
-        Command::Pre { .. } => Kind::Pre.name(),
-        Command::PreAll { .. } => Kind::PreAll.name(),
-        Command::Ref { .. } => Kind::Ref.name(),
-        Command::Sre { .. } => Kind::Sre.name(),
+        Command::Act { .. } => CommandKind::Act.name(),
+        Command::Rd { .. } => CommandKind::Rd.name(),
+        Command::Wr { .. } => CommandKind::Wr.name(),
+        Command::Pre { .. } => CommandKind::Pre.name(),
+        Command::PreAll { .. } => CommandKind::PreAll.name(),
+        Command::Ref { .. } => CommandKind::Ref.name(),
+        Command::Sre { .. } => CommandKind::Sre.name(),
     }
 }

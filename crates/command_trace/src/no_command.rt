@@ -1,5 +1,5 @@
 // Why a line of a trace is no command.
-use crate::kind::Kind;
+use crate::kind::CommandKind;
 use std::fmt;
 
 /// Why a line of a trace is no command, or one that isn't taken. Shown in words.
@@ -10,23 +10,41 @@ pub enum NoCommand {
     /// Its first row isn't the one of a table.
     Header,
     /// It isn't one of the form that was asked for, which is this.
-    Form { wanted: &'static str },
+    Form {
+        wanted: &'static str,
+    },
     /// A row of a table has another number of columns.
-    Columns { found: usize },
+    Columns {
+        found: usize,
+    },
     /// The name is none of a command.
     Name,
     /// The part is no number of 64 bits.
-    Number { part: &'static str },
+    Number {
+        part: &'static str,
+    },
     /// No column was named for the part.
-    Unnamed { part: &'static str },
+    Unnamed {
+        part: &'static str,
+    },
     /// The part is no number of 64 bits in base 16.
-    Hex { part: &'static str },
+    Hex {
+        part: &'static str,
+    },
     /// There are more or fewer numbers behind the name than its command has.
-    Parts { kind: Kind },
+    Parts {
+        kind: CommandKind,
+    },
     /// The command doesn't have the part that stands in this column of a table.
-    Further { part: &'static str, kind: Kind },
+    Further {
+        part: &'static str,
+        kind: CommandKind,
+    },
     /// No channel has this number.
-    Channel { channel: u64, channels: u64 },
+    Channel {
+        channel: u64,
+        channels: u64,
+    },
     /// The clock is 2^63 or more.
     Clock,
     /// The place lies outside the geometry.

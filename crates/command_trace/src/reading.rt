@@ -3,9 +3,9 @@ ghost use Rattle.std.specs.Prelude.{◌≡◌, [], ◌++◌, IfOk, IfSome};
 ghost use Rattle.std.specs.Option.{option_to_list};
 ghost use Rattle.command_trace.specs.Reading.{FitsChannels, IsFormWith};
 
-use crate::entry::{Entry, Located};
+use crate::entry::{ChannelCommand, Located};
 use crate::foreign::found_in_form;
-use crate::kind::Kind;
+use crate::kind::CommandKind;
 use crate::no_command::NoCommand;
 use csv::{ByteRecord, ErrorKind, ReaderBuilder, Terminator};
 use ddr4_timing::command::Stamped;
@@ -66,30 +66,30 @@ impl From<csv::Error> for TraceFault {
 
 // What a row of a trace is.
 #[derive(Clone, Copy)]
-enum Row {
+enum TraceRow {
     Command(Located),
     Other,
     Bad(NoCommand),
 }
 
-impl Row {
+impl TraceRow {
     // By what was read of it.
-    fn of(read: Result<Located, NoCommand>) -> Row {
+    fn of(read: Result<Located, NoCommand>) -> TraceRow {
         match read {
-            Ok(found) => Row::Command(found),
-            Err(why) => Row::Bad(why),
+            Ok(found) => TraceRow::Command(found),
+            Err(why) => TraceRow::Bad(why),
         }
     }
 
     // Why it isn't taken where channels are numbered below this.
     fn why(self, channels: u64) -> NoCommand {
         match self {
-            Row::Bad(why) => why,
-            Row::Command(found) if found.entry.channel >= channels => NoCommand::Channel {
+            TraceRow::Bad(why) => why,
+            TraceRow::Command(found) if found.entry.channel >= channels => NoCommand::Channel {
                 channel: found.entry.channel,
                 channels,
             },
-            Row::Command(_) | Row::Other => NoCommand::Clock,
+            TraceRow::Command(_) | TraceRow::Other => NoCommand::Clock,
         }
     }
 }
@@ -188,7 +188,7 @@ fn found_in_line(row: &ByteRecord, line: u64) -> Result<Located, NoCommand> {
     let channel = number_at(row, 0, "channel")?;
     let clock = number_at(row, 1, "clock")?;
     let kind = word_at(row, 2)
-        .and_then(Kind::named)
+        .and_then(CommandKind::named)
         .ok_or(NoCommand::Name)?;
     if count != kind.parts().len() {
         return Err(NoCommand::Parts { kind });
@@ -208,7 +208,7 @@ fn found_in_row(row: &ByteRecord, line: u64) -> Result<Located, NoCommand> {
         return Err(NoCommand::Columns { found: row.len() });
     }
     let kind = word_at(row, 1)
-        .and_then(Kind::spelled)
+        .and_then(CommandKind::spelled)
         .ok_or(NoCommand::Name)?;
     let mut numbers = [0; 4];
     let mut count = 0;
@@ -237,10 +237,10 @@ fn foreign_row(
     form: &ForeignForm,
     row: &ByteRecord,
     line: u64,
-) -> Result<Row, AllocError> {
+) -> Result<TraceRow, AllocError> {
     match word_at(row, 0) {
-        Some(text) if row.len() == 1 => Ok(Row::of(found_in_form(alloc, form, text, line)?)),
-        _ => Ok(Row::Bad(NoCommand::Form {
+        Some(text) if row.len() == 1 => Ok(TraceRow::of(found_in_form(alloc, form, text, line)?)),
+        _ => Ok(TraceRow::Bad(NoCommand::Form {
             wanted: form.wanted(),
         })),
     }
@@ -249,7 +249,7 @@ fn foreign_row(
 // The command of a kind with the first of these numbers.
 fn found_at(
     line: u64,
-    kind: Kind,
+    kind: CommandKind,
     channel: u64,
     clock: u64,
     numbers: &[u64; 4],
@@ -258,7 +258,7 @@ fn found_at(
     match kind.command(parts) {
         Some(cmd) => Ok(Located {
             line,
-            entry: Entry {
+            entry: ChannelCommand {
                 channel,
                 command: Stamped { clock, cmd },
             },
@@ -310,23 +310,23 @@ impl<R: Read + Drop> TraceReader<R> {
     }
 
     // What the row is that was read last, on the line of this number.
-    fn parsed(&mut self, line: u64) -> Result<Row, AllocError>
+    fn parsed(&mut self, line: u64) -> Result<TraceRow, AllocError>
         ensures { (self.new.channels ≡ self.old.channels) × (self.new.given ≡ self.old.given) }
     {
         if is_blank(&self.row) {
-            return Ok(Row::Other);
+            return Ok(TraceRow::Other);
         }
         let begins = !self.is_begun;
         self.is_begun = true;
         let form = self.form;
         let row = &self.row;
         let read = match form {
-            Form::Table if begins && is_header(row) => Row::Other,
-            Form::Table if begins => Row::Bad(NoCommand::Header),
-            Form::Table => Row::of(found_in_row(row, line)),
+            Form::Table if begins && is_header(row) => TraceRow::Other,
+            Form::Table if begins => TraceRow::Bad(NoCommand::Header),
+            Form::Table => TraceRow::of(found_in_row(row, line)),
             Form::Foreign(foreign) => foreign_row(self.alloc, &foreign, row, line)?,
-            Form::Lines { others: true } if is_other(row) => Row::Other,
-            Form::Lines { .. } => Row::of(found_in_line(row, line)),
+            Form::Lines { others: true } if is_other(row) => TraceRow::Other,
+            Form::Lines { .. } => TraceRow::of(found_in_line(row, line)),
         };
         Ok(read)
     }
@@ -346,8 +346,8 @@ impl<R: Read + Drop> TraceReader<R> {
             }
             let line = self.rows.position().line().saturating_sub(1);
             match self.parsed(line)? {
-                Row::Other => {}
-                Row::Command(found)
+                TraceRow::Other => {}
+                TraceRow::Command(found)
                     if found.entry.channel < self.channels && found.entry.command.clock < 1 << 63 =>
                     {
                         self.given.note(&found);

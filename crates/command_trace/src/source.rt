@@ -7,7 +7,7 @@ ghost use Rattle.auto_precharge.specs.Unfolding.{IsLawfulTrace};
 
 use crate::diagnosis::{Diagnosis, Listed, check_trace, list_commands, list_issued};
 use crate::reading::{Form, TraceFault, TraceReader, form_of};
-use crate::tally::{Tally, tallies};
+use crate::tally::{BrokenRule, tallies};
 use crate::trace_check::{MOST_CHANNELS, TraceCheck};
 use crate::why::diagnose;
 use auto_precharge::Issued;
@@ -154,7 +154,7 @@ impl Source<'_> {
         form: Form,
         rules: &CommandRules,
         channel: u64,
-    ) -> Result<Vec<Tally>, TraceFault> {
+    ) -> Result<Vec<BrokenRule>, TraceFault> {
         let listed = self.list(rt, form, channel, u64::MAX)?;
         Ok(tallies(rt.alloc(), rules, &listed)?)
     }
@@ -177,7 +177,7 @@ fn write_verdict<W: Write>(
 // Writes a line for each rule that the commands of a channel break.
 fn write_channel<W: Write>(
     channel: u64,
-    tallies: &[Tally],
+    tallies: &[BrokenRule],
     writer: &mut W,
 ) -> Result<(), TraceFault> {
     for tally in tallies {

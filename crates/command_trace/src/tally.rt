@@ -13,12 +13,12 @@ use std::fmt;
 
 /// A rule that commands break: how many do, where all before each count as issued, and the first of them.
 #[derive(Clone, Copy, Debug)]
-pub struct Tally {
+pub struct BrokenRule {
     pub count: usize,
     pub first: Diagnosis,
 }
 
-impl fmt::Display for Tally {
+impl fmt::Display for BrokenRule {
     fn fmt<W: fmt::Write>(&self, f: &mut fmt::Formatter<W>) -> fmt::Result {
         write!(f, "{}; the first of {}", self.first, self.count)
     }
@@ -26,7 +26,7 @@ impl fmt::Display for Tally {
 
 // Takes in a rule, where one of the faults is of it.
 fn add_tally(
-    tallies: &mut Vec<Tally>,
+    tallies: &mut Vec<BrokenRule>,
     rules: &CommandRules,
     listed: &Listed,
     faults: &[Fault],
@@ -40,7 +40,7 @@ fn add_tally(
     };
     let first = told_at(rules, &listed.commands, &listed.lines, first);
     let count = count_of_rule(faults, rule);
-    tallies.push(Tally { count, first })?;
+    tallies.push(BrokenRule { count, first })?;
     Ok(())
 }
 
@@ -49,7 +49,7 @@ pub fn tallies(
     alloc: Global,
     rules: &CommandRules,
     listed: &Listed,
-) -> Result<Vec<Tally>, AllocError>
+) -> Result<Vec<BrokenRule>, AllocError>
     ensures { IfOk result (λ tallies.
         AreTallies rules.now listed.now.commands.items tallies.items) }
 {

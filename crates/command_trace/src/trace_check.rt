@@ -2,7 +2,7 @@
 ghost use Rattle.std.specs.Prelude.{◌≡◌, ◌<◌, ◌^◌, ◌-◌, ◌↔◌, [], ◌∷◌, ◌++◌, IsTrue, length, min};
 
 use crate::entry::Located;
-use crate::front::Front;
+use crate::front::CommandChecker;
 use ddr4_timing::timing::CommandRules;
 use ghost_trace::Trace;
 
@@ -15,7 +15,7 @@ pub const MOST_CHANNELS: u64 = 8;
 /// Takes the same memory whatever comes. Each call is given the profile for which it was made.
 #[derive(Drop)]
 pub struct TraceCheck {
-    fronts: [Front; 8],
+    fronts: [CommandChecker; 8],
     is_empty: bool,
     given: Trace<Located>,
     ghost told: { IsTrue is_empty ↔ (given.items ≡ []) },
@@ -32,7 +32,7 @@ impl TraceCheck {
         ensures follows { FollowsAll rules.now result }
     {
         TraceCheck {
-            fronts: [Front::new(rules); 8],
+            fronts: [CommandChecker::new(rules); 8],
             is_empty: true,
             given: Trace::new(),
         }

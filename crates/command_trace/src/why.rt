@@ -6,7 +6,7 @@ ghost use Rattle.auto_precharge.specs.Unfolding.{IsLawfulTrace, IsOpenFor, MayFo
 ghost use Rattle.auto_precharge.specs.declared.issued.Issued.{Issued};
 ghost use Rattle.command_trace.specs.Faults.{BreaksAt, IsWhy};
 
-use crate::diagnosis::{Diagnosis, Numbered};
+use crate::diagnosis::{Diagnosis, NumberedCommand};
 use crate::reason::Reason;
 use auto_precharge::{Issued, unfold};
 use ddr4_timing::command::Stamped;
@@ -16,14 +16,14 @@ use ddr4_timing::timing::CommandRules;
 use std::alloc::{AllocError, Global};
 
 // The command at an index of a list, and its line.
-fn numbered(commands: &[Stamped], lines: &[u64], index: usize) -> Option<Numbered>
+fn numbered(commands: &[Stamped], lines: &[u64], index: usize) -> Option<NumberedCommand>
     ensures some { IfSome result (λ it. (slice_get commands.now index ≡ Some it.command)
         × (it.line ≡ slice_index lines.now index)) }
     ensures none { IsNone result ↔ (length commands.now ≤ index) }
 {
     let command = *commands.get(index)?;
     let line = lines.get(index).copied().unwrap_or(0);
-    Some(Numbered { line, command })
+    Some(NumberedCommand { line, command })
 }
 
 // Of a command that breaks a rule behind a list, whose commands stand in the lines, at an index.
@@ -37,7 +37,7 @@ fn told_by_rule(
     ensures { (u : Unfolded) → commands.now ≡ u.list → lines.now ≡ u.lines →
         BreaksAt rules.now u last.now broken.0 broken.1 → IsWhy rules.now u last.now result }
 {
-    let second = Numbered {
+    let second = NumberedCommand {
         line: last.line,
         command: last.command,
     };
@@ -63,7 +63,7 @@ fn told_by_bank(rules: &CommandRules, commands: &[Stamped], last: &Issued) -> Di
 {
     // the rules hold, and the contract says by which numbers
     let _of = rules;
-    let second = Numbered {
+    let second = NumberedCommand {
         line: last.line,
         command: last.command,
     };

@@ -7,4 +7,4 @@ mod verb;
 
 pub use parsing::parser;
 pub use table::{WHY, verbs};
-pub use verb::{Kind, Operand, Switch, Value, Verb};
+pub use verb::{Operand, Switch, Value, Verb, WordKind};

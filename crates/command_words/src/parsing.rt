@@ -1,6 +1,10 @@
 // The parser of the words.
+ghost use Rattle.std.specs.Prelude.{◌≡◌, IfOk};
+ghost use Rattle.clap.specs.Words.{SameNames, shape_of, subcommand_names};
+ghost use Rattle.command_words.specs.Verbs.{verb_names};
+
 use crate::table::{WHY, verbs};
-use crate::verb::{Kind, Operand, Switch, Verb};
+use crate::verb::{Operand, Switch, Verb, WordKind};
 use clap::{Arg, ArgAction, ArgGroup, Command, value_parser};
 use std::alloc::{AllocError, Global};
 
@@ -10,8 +14,10 @@ const SHELLS: &[&str] = &["bash", "zsh", "fish"];
 /// The forms in which others write traces.
 const FORMS: &[&str] = &["ramulator2", "dramsim3", "plain"];
 
-/// The parser of the program's words.
-pub fn parser<'a>(alloc: Global, version: &'a str) -> Result<Command<'a>, AllocError> {
+/// The parser of the program's words, which has a subcommand for each verb.
+pub fn parser<'a>(alloc: Global, version: &'a str) -> Result<Command<'a>, AllocError>
+    ensures { IfOk result (λ program. subcommand_names program ≡ verb_names) }
+{
     let why = switch_word(alloc, &WHY).global(true);
     let mut program = Command::new(alloc, "nvctl")
         .about("Runs scripts on an NVDIMM-N controller")
@@ -24,7 +30,10 @@ pub fn parser<'a>(alloc: Global, version: &'a str) -> Result<Command<'a>, AllocE
     Ok(program)
 }
 
-fn verb_command<'a>(alloc: Global, verb: &Verb) -> Result<Command<'a>, AllocError> {
+// A verb's own words.
+fn verb_command<'a>(alloc: Global, verb: &Verb) -> Result<Command<'a>, AllocError>
+    ensures { IfOk result (λ command. (shape_of command).name ≡ verb.now.name.now) }
+{
     let command = Command::new(alloc, verb.name).about(verb.about);
     let command = with_operands(alloc, command, verb.operands)?;
     let command = with_switches(alloc, command, verb.switches)?;
@@ -42,7 +51,9 @@ fn with_operands<'a>(
     alloc: Global,
     command: Command<'a>,
     operands: &[Operand],
-) -> Result<Command<'a>, AllocError> {
+) -> Result<Command<'a>, AllocError>
+    ensures { IfOk result (λ grown. SameNames command.entry grown) }
+{
     let mut command = command;
     for operand in operands {
         command = command.arg(operand_word(alloc, operand))?;
@@ -54,7 +65,9 @@ fn with_switches<'a>(
     alloc: Global,
     command: Command<'a>,
     switches: &[Switch],
-) -> Result<Command<'a>, AllocError> {
+) -> Result<Command<'a>, AllocError>
+    ensures { IfOk result (λ grown. SameNames command.entry grown) }
+{
     let mut command = command;
     for switch in switches {
         command = command.arg(switch_word(alloc, switch))?;
@@ -79,11 +92,11 @@ fn switch_word<'a>(alloc: Global, switch: &Switch) -> Arg<'a> {
     }
 }
 
-fn of_kind<'a>(word: Arg<'a>, kind: Kind) -> Arg<'a> {
+fn of_kind<'a>(word: Arg<'a>, kind: WordKind) -> Arg<'a> {
     match kind {
-        Kind::Number => word.value_parser(value_parser!(u64)),
-        Kind::Shell => word.value_parser(SHELLS),
-        Kind::Form => word.value_parser(FORMS),
-        Kind::Profile | Kind::File | Kind::Term | Kind::Columns => word,
+        WordKind::Number => word.value_parser(value_parser!(u64)),
+        WordKind::Shell => word.value_parser(SHELLS),
+        WordKind::Form => word.value_parser(FORMS),
+        WordKind::Profile | WordKind::File | WordKind::Term | WordKind::Columns => word,
     }
 }

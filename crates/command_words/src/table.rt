@@ -1,16 +1,19 @@
 // The program's verbs.
-use crate::verb::{Kind, Operand, Switch, Value, Verb};
+ghost use Rattle.std.specs.Prelude.{◌≡◌};
+ghost use Rattle.command_words.specs.Verbs.{names_of, verb_names};
+
+use crate::verb::{Operand, Switch, Value, Verb, WordKind};
 
 const PROFILE: Operand = Operand {
     name: "PROFILE",
-    kind: Kind::Profile,
+    kind: WordKind::Profile,
     is_required: true,
     help: "The word tiny or tiny2, a module of 128 lines, or the profile's TOML file",
 };
 
 const SCRIPT: Operand = Operand {
     name: "SCRIPT",
-    kind: Kind::File,
+    kind: WordKind::File,
     is_required: true,
     help: "The script's file, or - for standard input",
 };
@@ -25,7 +28,7 @@ const FORM: Switch = Switch {
     name: "form",
     value: Some(Value {
         name: "FORM",
-        kind: Kind::Form,
+        kind: WordKind::Form,
     }),
     help: "The trace is as ramulator2 or dramsim3 writes it, or plain",
 };
@@ -34,7 +37,7 @@ const COLUMNS: Switch = Switch {
     name: "columns",
     value: Some(Value {
         name: "COLUMNS",
-        kind: Kind::Columns,
+        kind: WordKind::Columns,
     }),
     help: "The trace is a table of these columns: clock,command,channel,rank,group,bank,row,column, in any order, and - for others",
 };
@@ -55,7 +58,7 @@ const RUN: Verb = Verb {
             name: "out",
             value: Some(Value {
                 name: "STORE",
-                kind: Kind::File,
+                kind: WordKind::File,
             }),
             help: "A file for the device's bytes after the last line",
         },
@@ -63,7 +66,7 @@ const RUN: Verb = Verb {
             name: "store",
             value: Some(Value {
                 name: "STORE",
-                kind: Kind::File,
+                kind: WordKind::File,
             }),
             help: "A file whose device the run begins with, and leaves there; it is made where there is none",
         },
@@ -71,9 +74,14 @@ const RUN: Verb = Verb {
             name: "commands",
             value: Some(Value {
                 name: "TRACE",
-                kind: Kind::File,
+                kind: WordKind::File,
             }),
             help: "A file for all commands of the first life, those of reads, saves and drains too; the n-th life has TRACE.n",
+        },
+        Switch {
+            name: "stats",
+            value: None,
+            help: "Counts the commands of each life behind the answers, as check does, and how long its reads and writes waited",
         },
         JSON,
     ],
@@ -87,7 +95,7 @@ const LIVE: Verb = Verb {
         PROFILE,
         Operand {
             name: "STORE",
-            kind: Kind::File,
+            kind: WordKind::File,
             is_required: true,
             help: "The store's file, which is made where there is none",
         },
@@ -101,7 +109,7 @@ const SHOW: Verb = Verb {
     about: "Shows what a store restores to",
     operands: &[Operand {
         name: "STORE",
-        kind: Kind::File,
+        kind: WordKind::File,
         is_required: true,
         help: "The store's file",
     }],
@@ -126,7 +134,7 @@ const CRASH: Verb = Verb {
             name: "line",
             value: Some(Value {
                 name: "N",
-                kind: Kind::Number,
+                kind: WordKind::Number,
             }),
             help: "Shows each stop within this line of the script alone",
         },
@@ -142,7 +150,7 @@ const CHECK: Verb = Verb {
         PROFILE,
         Operand {
             name: "TRACE",
-            kind: Kind::File,
+            kind: WordKind::File,
             is_required: true,
             help: "The trace's file, or - for standard input: lines as run prints commands, or comma separated values",
         },
@@ -182,7 +190,7 @@ const DRAW: Verb = Verb {
         PROFILE,
         Operand {
             name: "SCHEDULE",
-            kind: Kind::File,
+            kind: WordKind::File,
             is_required: true,
             help: "The file of a script or a trace, or - for standard input",
         },
@@ -192,7 +200,7 @@ const DRAW: Verb = Verb {
             name: "svg",
             value: Some(Value {
                 name: "FILE",
-                kind: Kind::File,
+                kind: WordKind::File,
             }),
             help: "A file for the picture as SVG, or - for standard output",
         },
@@ -200,7 +208,7 @@ const DRAW: Verb = Verb {
             name: "vcd",
             value: Some(Value {
                 name: "FILE",
-                kind: Kind::File,
+                kind: WordKind::File,
             }),
             help: "A file for the picture as VCD, or - for standard output",
         },
@@ -208,7 +216,7 @@ const DRAW: Verb = Verb {
             name: "from",
             value: Some(Value {
                 name: "CLOCK",
-                kind: Kind::Number,
+                kind: WordKind::Number,
             }),
             help: "The first clock that is drawn",
         },
@@ -216,7 +224,7 @@ const DRAW: Verb = Verb {
             name: "to",
             value: Some(Value {
                 name: "CLOCK",
-                kind: Kind::Number,
+                kind: WordKind::Number,
             }),
             help: "The last clock that is drawn",
         },
@@ -239,7 +247,7 @@ const EXPLAIN: Verb = Verb {
     about: "Explains a word of answers in three lines, or names those that it can",
     operands: &[Operand {
         name: "WORD",
-        kind: Kind::Term,
+        kind: WordKind::Term,
         is_required: false,
         help: "A mode, a refusal, a verdict, or mark or persistent",
     }],
@@ -252,7 +260,7 @@ const COMPLETIONS: Verb = Verb {
     about: "Writes the script by which a shell completes these words",
     operands: &[Operand {
         name: "SHELL",
-        kind: Kind::Shell,
+        kind: WordKind::Shell,
         is_required: true,
         help: "bash, zsh or fish",
     }],
@@ -275,6 +283,8 @@ const VERBS: &[Verb] = &[
 ];
 
 /// The program's verbs.
-pub fn verbs() -> &'static [Verb] {
+pub fn verbs() -> &'static [Verb]
+    ensures { names_of result.now ≡ verb_names }
+{
     VERBS
 }

@@ -2,7 +2,7 @@
 
 /// What a word may be.
 #[derive(Clone, Copy, Debug, PartialEq, Eq)]
-pub enum Kind {
+pub enum WordKind {
     /// `tiny`, `tiny2` or a file.
     Profile,
     /// A file, or `-` for standard input or standard output.
@@ -23,7 +23,7 @@ pub enum Kind {
 #[derive(Clone, Copy, Debug, PartialEq, Eq)]
 pub struct Operand {
     pub name: &'static str,
-    pub kind: Kind,
+    pub kind: WordKind,
     pub is_required: bool,
     pub help: &'static str,
 }
@@ -32,7 +32,7 @@ pub struct Operand {
 #[derive(Clone, Copy, Debug, PartialEq, Eq)]
 pub struct Value {
     pub name: &'static str,
-    pub kind: Kind,
+    pub kind: WordKind,
 }
 
 /// An option, two dashes and its name, alone or with a value.

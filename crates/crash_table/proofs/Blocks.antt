@@ -7,7 +7,7 @@ use Rattle.std.proofs.lemmas.List.Sums.{sum_by-append}
 use Rattle.std.proofs.lemmas.Grind.{flat_map-append}
 use Rattle.crash_table.specs.declared.outcome.Outcome.{Outcome}
 use Rattle.crash_table.specs.declared.table.Block.{Block}
-use Rattle.crash_table.specs.declared.table.Row.{Row}
+use Rattle.crash_table.specs.declared.table.OutcomeCount.{OutcomeCount}
 use Rattle.crash_table.specs.declared.tried.Tried.{Tried}
 use Rattle.crash_table.specs.Rows.{AreRowsOf, StandOnce, outcomes_of, times_found, times_told}
 use Rattle.crash_table.specs.Blocks.{AreBlocksOf, IsBlockOf, JoinsBlock, Shows, TakesLine, tried_in}
@@ -43,7 +43,7 @@ ends_in (group ∷ groups) (block ∷ front) last each =
     }
 
 -- a block of one line
-alone : (line : ℕ) (tried : List Tried) (rows : List Row) (block : Block) → AreRowsOf tried rows → block.first ≡ line → block.last ≡ line → block.rows.items ≡ rows
+alone : (line : ℕ) (tried : List Tried) (rows : List OutcomeCount) (block : Block) → AreRowsOf tried rows → block.first ≡ line → block.last ≡ line → block.rows.items ≡ rows
     → IsBlockOf ((line, tried) ∷ []) block
 alone line tried rows block are first last same =
     let P : ℕ × List Tried → Type 0 = Shows (outcomes_of block.rows.items) in
@@ -56,7 +56,7 @@ alone line tried rows block are first last same =
     }
 
 -- a block that has taken a line in
-joined : (lines : List (ℕ × List Tried)) (line : ℕ) (tried : List Tried) (rows : List Row) (before after : Block) → IsBlockOf lines before → AreRowsOf tried rows → JoinsBlock line rows before after
+joined : (lines : List (ℕ × List Tried)) (line : ℕ) (tried : List Tried) (rows : List OutcomeCount) (before after : Block) → IsBlockOf lines before → AreRowsOf tried rows → JoinsBlock line rows before after
     → IsBlockOf (lines ++ (line, tried) ∷ []) after
 joined lines line tried rows before after is are joins =
     let more : ℕ × List Tried = (line, tried) in
@@ -86,7 +86,7 @@ pub blocks_none : AreBlocksOf [] []
 blocks_none = record { groups = []; all = refl; each = tt }
 
 -- one line more
-pub blocks_more : (lines : List (ℕ × List Tried)) (line : ℕ) (tried : List Tried) (rows : List Row) (old new : List Block) → AreBlocksOf lines old → AreRowsOf tried rows → TakesLine line rows old new
+pub blocks_more : (lines : List (ℕ × List Tried)) (line : ℕ) (tried : List Tried) (rows : List OutcomeCount) (old new : List Block) → AreBlocksOf lines old → AreRowsOf tried rows → TakesLine line rows old new
     → AreBlocksOf (lines ++ (line, tried) ∷ []) new
 blocks_more lines line tried rows old new are of_line (inl comes) =
     let group : List (ℕ × List Tried) = (line, tried) ∷ [] in
@@ -113,7 +113,7 @@ blocks_more lines line tried rows old new are of_line (inr joins) =
     }
 
 -- the last block is joined at its place
-pub joins_last : (line : ℕ) (rows : List Row) (blocks : List Block) (place : ℕ) (before after : Block) → length blocks ≡ place + 1 → before ≡ get_or blocks place before → JoinsBlock line rows before after
+pub joins_last : (line : ℕ) (rows : List OutcomeCount) (blocks : List Block) (place : ℕ) (before after : Block) → length blocks ≡ place + 1 → before ≡ get_or blocks place before → JoinsBlock line rows before after
     → TakesLine line rows blocks (set blocks place after)
 joins_last line rows blocks place before after size at joins =
     let inside : place < length blocks = omega (arith, size) in

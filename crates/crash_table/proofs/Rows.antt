@@ -6,7 +6,7 @@ use Rattle.std.proofs.lemmas.List.{get_or-map, get_or_append_left, get_or_at, le
 use Rattle.std.proofs.lemmas.List.Elements.{All-push, All-set}
 use Rattle.std.proofs.lemmas.List.Sums.{count_by-le-length, get_or-le-sum_by, sum_by-set, sum_by_more, sum_by_push}
 use Rattle.crash_table.specs.declared.outcome.Outcome.{Outcome}
-use Rattle.crash_table.specs.declared.table.Row.{Row}
+use Rattle.crash_table.specs.declared.table.OutcomeCount.{OutcomeCount}
 use Rattle.crash_table.specs.declared.tried.Tried.{Tried}
 use Rattle.crash_table.specs.Rows.{AreRowsOf, IsOneMore, StandOnce, outcomes_of, times_found, times_told}
 
@@ -24,9 +24,9 @@ once_more outcomes outcome once none i j d below end =
           λ same. none i d i_below (sym at_i ∙ same ∙ at_j)
     ]
 
-pub same_outcomes : (rows : List Row) (place : ℕ) (d next : Row) → place < length rows → next.outcome ≡ (get_or rows place d).outcome → outcomes_of (set rows place next) ≡ outcomes_of rows
+pub same_outcomes : (rows : List OutcomeCount) (place : ℕ) (d next : OutcomeCount) → place < length rows → next.outcome ≡ (get_or rows place d).outcome → outcomes_of (set rows place next) ≡ outcomes_of rows
 same_outcomes rows place d next inside same =
-    let f : Row → Outcome = λ row. row.outcome in
+    let f : OutcomeCount → Outcome = λ row. row.outcome in
     map-set f rows place next
     ∙ ap (λ (o : Outcome). set (outcomes_of rows) place o) (same ∙ sym (get_or-map f rows place d d.outcome inside))
     ∙ set-get_or (outcomes_of rows) place d.outcome
@@ -36,14 +36,14 @@ times_more true times = refl
 times_more false times = refl
 
 -- a row that stands there counts once more
-pub row_counts : (outcome : Outcome) (rows : List Row) (place : ℕ) (d next : Row) → place < length rows → (get_or rows place d).outcome ≡ outcome → next.outcome ≡ outcome
+pub row_counts : (outcome : Outcome) (rows : List OutcomeCount) (place : ℕ) (d next : OutcomeCount) → place < length rows → (get_or rows place d).outcome ≡ outcome → next.outcome ≡ outcome
     → next.times ≡ (get_or rows place d).times + 1 → IsOneMore outcome rows (set rows place next)
 row_counts outcome rows place d next inside here same more = record {
   once = λ once. subst StandOnce (sym (same_outcomes rows place d next inside (same ∙ sym here))) once;
-  some = λ some. All-set (λ (row : Row). 0 < row.times) rows place next (omega arith) some;
+  some = λ some. All-set (λ (row : OutcomeCount). 0 < row.times) rows place next (omega arith) some;
   times = λ asked.
-      let row : Row = get_or rows place d in
-      let told : Row → ℕ = λ (x : Row). cond (asked x.outcome) x.times 0 in
+      let row : OutcomeCount = get_or rows place d in
+      let told : OutcomeCount → ℕ = λ (x : OutcomeCount). cond (asked x.outcome) x.times 0 in
       let moved : sum_by told (set rows place next) + told row ≡ sum_by told rows + told next = sum_by-set told rows place next d inside in
       let before : told row ≡ cond (asked outcome) row.times 0 = ap (λ (o : Outcome). cond (asked o) row.times 0) here in
       let after : told next ≡ cond (asked outcome) row.times 0 + cond (asked outcome) 1 0 =
@@ -52,25 +52,25 @@ row_counts outcome rows place d next inside here same more = record {
 }
 
 -- or one is put behind them
-pub row_comes : (outcome : Outcome) (rows : List Row) → All (λ row. row.outcome ≢ outcome) rows → IsOneMore outcome rows (rows ++ record { outcome = outcome; times = 1 } ∷ [])
+pub row_comes : (outcome : Outcome) (rows : List OutcomeCount) → All (λ row. row.outcome ≢ outcome) rows → IsOneMore outcome rows (rows ++ record { outcome = outcome; times = 1 } ∷ [])
 row_comes outcome rows none =
-    let row : Row = record { outcome = outcome; times = 1 } in
-    let f : Row → Outcome = λ (x : Row). x.outcome in
+    let row : OutcomeCount = record { outcome = outcome; times = 1 } in
+    let f : OutcomeCount → Outcome = λ (x : OutcomeCount). x.outcome in
     record {
       once = λ once. subst StandOnce (sym (map-append f rows (row ∷ [])))
           (once_more (outcomes_of rows) outcome once
           (λ i d below same.
           let inside : i < length rows = omega (arith, below, length-map rows f) in
           none i row inside (sym (get_or-map f rows i row d inside) ∙ same)));
-      some = λ some. All-push (λ (x : Row). 0 < x.times) rows row some (omega arith);
-      times = λ asked. sum_by_push (λ (x : Row). cond (asked x.outcome) x.times 0) rows row;
+      some = λ some. All-push (λ (x : OutcomeCount). 0 < x.times) rows row some (omega arith);
+      times = λ asked. sum_by_push (λ (x : OutcomeCount). cond (asked x.outcome) x.times 0) rows row;
     }
 
 pub rows_none : AreRowsOf [] []
 rows_none = record { once = λ i j d below end. absurd (omega arith); some = λ k d below. absurd (omega arith); times = λ asked. refl }
 
 -- the rows of what was tried, and of one more
-pub rows_more : (tried : List Tried) (i : ℕ) (d : Tried) (old new : List Row) → i < length tried → AreRowsOf (take i tried) old → IsOneMore (get_or tried i d).outcome old new → AreRowsOf (take (i + 1) tried) new
+pub rows_more : (tried : List Tried) (i : ℕ) (d : Tried) (old new : List OutcomeCount) → i < length tried → AreRowsOf (take i tried) old → IsOneMore (get_or tried i d).outcome old new → AreRowsOf (take (i + 1) tried) new
 rows_more tried i d old new inside are more = record {
   once = more.once are.once;
   some = more.some are.some;
@@ -81,8 +81,8 @@ rows_more tried i d old new inside are more = record {
 }
 
 -- no row tells more than were tried
-pub few_times : (tried : List Tried) (rows : List Row) → AreRowsOf tried rows → length tried < 2 ^ 64 - 1 → All (λ row. row.times < 2 ^ 64 - 1) rows
+pub few_times : (tried : List Tried) (rows : List OutcomeCount) → AreRowsOf tried rows → length tried < 2 ^ 64 - 1 → All (λ row. row.times < 2 ^ 64 - 1) rows
 few_times tried rows are few k d below =
-    let one_of_all : (get_or rows k d).times < times_told (λ _. true) rows + 1 = omega (arith, get_or-le-sum_by (λ (row : Row). row.times) rows k d below) in
+    let one_of_all : (get_or rows k d).times < times_told (λ _. true) rows + 1 = omega (arith, get_or-le-sum_by (λ (row : OutcomeCount). row.times) rows k d below) in
     let all : times_told (λ _. true) rows ≡ times_found (λ _. true) tried = are.times (λ _. true) in
     omega (arith, one_of_all, all, count_by-le-length (λ (_ : Tried). true) tried)

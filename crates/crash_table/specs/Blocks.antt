@@ -3,7 +3,7 @@ use Rattle.std.specs.Prelude.{◌≡◌, ◌⊎◌, ℕ, ◌+◌, ◌-◌, ◌<�
 use Rattle.std.specs.List.{AllZip, HoldsAt, flat_map}
 use Rattle.crash_table.specs.declared.outcome.Outcome.{Outcome}
 use Rattle.crash_table.specs.declared.table.Block.{Block}
-use Rattle.crash_table.specs.declared.table.Row.{Row}
+use Rattle.crash_table.specs.declared.table.OutcomeCount.{OutcomeCount}
 use Rattle.crash_table.specs.declared.tried.Tried.{Tried}
 use Rattle.crash_table.specs.Rows.{AreAdded, AreAlike, AreRowsOf, outcomes_of}
 
@@ -13,7 +13,7 @@ tried_in lines = flat_map (λ line. line.1) lines
 
 -- rows of what was tried of a line have these outcomes, in this order
 abbrev pub Shows : List Outcome → ℕ × List Tried → Type 0
-Shows outcomes line = (rows : List Row) × AreRowsOf line.1 rows × (outcomes_of rows ≡ outcomes)
+Shows outcomes line = (rows : List OutcomeCount) × AreRowsOf line.1 rows × (outcomes_of rows ≡ outcomes)
 
 -- a block is of these lines: each shows its outcomes, and its rows are of all that was tried of them
 pub record IsBlockOf (lines : List (ℕ × List Tried)) (block : Block) : Type 0 where
@@ -30,18 +30,18 @@ pub record AreBlocksOf (lines : List (ℕ × List Tried)) (blocks : List Block) 
   pub each : AllZip IsBlockOf groups blocks
 
 -- this is the place of the last block, and these rows are like its rows
-abbrev pub IsAlikeLast : List Row → List Block → ℕ → Type 0
+abbrev pub IsAlikeLast : List OutcomeCount → List Block → ℕ → Type 0
 IsAlikeLast rows blocks place = (length blocks ≡ place + 1) × HoldsAt (λ block. AreAlike block.rows.items rows) blocks place
 
 -- a block has taken a line in, whose rows have its outcomes
-pub record JoinsBlock (line : ℕ) (rows : List Row) (old new : Block) : Type 0 where
+pub record JoinsBlock (line : ℕ) (rows : List OutcomeCount) (old new : Block) : Type 0 where
   pub first : new.first ≡ old.first
   pub last : new.last ≡ line
   pub same : outcomes_of rows ≡ outcomes_of old.rows.items
   pub added : AreAdded rows old.rows.items new.rows.items
 
 -- a line stands behind the others, in a block of its own
-pub record ComesLast (line : ℕ) (rows : List Row) (old new : List Block) : Type 0 where
+pub record ComesLast (line : ℕ) (rows : List OutcomeCount) (old new : List Block) : Type 0 where
   pub block : Block
   pub is : new ≡ old ++ block ∷ []
   pub first : block.first ≡ line
@@ -49,7 +49,7 @@ pub record ComesLast (line : ℕ) (rows : List Row) (old new : List Block) : Typ
   pub holds : block.rows.items ≡ rows
 
 -- or in the last of them
-pub record JoinsLast (line : ℕ) (rows : List Row) (old new : List Block) : Type 0 where
+pub record JoinsLast (line : ℕ) (rows : List OutcomeCount) (old new : List Block) : Type 0 where
   pub front : List Block
   pub before : Block
   pub after : Block
@@ -57,5 +57,5 @@ pub record JoinsLast (line : ℕ) (rows : List Row) (old new : List Block) : Typ
   pub is : new ≡ front ++ after ∷ []
   pub joins : JoinsBlock line rows before after
 
-abbrev pub TakesLine : ℕ → List Row → List Block → List Block → Type 0
+abbrev pub TakesLine : ℕ → List OutcomeCount → List Block → List Block → Type 0
 TakesLine line rows old new = ComesLast line rows old new ⊎ JoinsLast line rows old new

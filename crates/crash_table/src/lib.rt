@@ -17,6 +17,6 @@ pub use counts::Counts;
 pub use outcome::{Found, Outcome};
 pub use script::Script;
 pub use stop::{PICKS, Stop};
-pub use table::{AtStop, Block, Row, Table};
+pub use table::{AtStop, Block, OutcomeCount, Table};
 pub use trials::{Progress, Trials};
 pub use tried::Tried;

@@ -14,7 +14,7 @@ use std::fmt;
 
 /// An outcome, and how often it was found.
 #[derive(Clone, Copy, Debug, PartialEq, Eq)]
-pub struct Row {
+pub struct OutcomeCount {
     pub outcome: Outcome,
     pub times: u64,
 }
@@ -24,7 +24,7 @@ pub struct Row {
 pub struct AtStop {
     pub line: u64,
     pub stop: Stop,
-    pub rows: Vec<Row>,
+    pub rows: Vec<OutcomeCount>,
 }
 
 /// Lines of a script, one behind another, whose stops have the same outcomes.
@@ -32,7 +32,7 @@ pub struct AtStop {
 pub struct Block {
     pub first: u64,
     pub last: u64,
-    pub rows: Vec<Row>,
+    pub rows: Vec<OutcomeCount>,
 }
 
 /// What restores found, line by line. Lines with the same outcomes stand together.
@@ -44,26 +44,26 @@ pub struct Table {
 }
 
 // Where the row of an outcome stands.
-fn row_of(rows: &[Row], outcome: Outcome) -> Option<usize>
+fn row_of(rows: &[OutcomeCount], outcome: Outcome) -> Option<usize>
     ensures { IsRowOf outcome rows.now result }
 {
     rows.iter().position(|row| row.outcome == outcome)
 }
 
 // Counts an outcome once more.
-fn count_outcome(rows: &mut Vec<Row>, outcome: Outcome) -> Result<(), AllocError>
+fn count_outcome(rows: &mut Vec<OutcomeCount>, outcome: Outcome) -> Result<(), AllocError>
     requires { All (λ row. row.times < 2 ^ 64 - 1) rows.old.items }
     ensures { OnOk result (IsOneMore outcome rows.old.items rows.new.items) }
 {
     match row_of(rows, outcome) {
         Some(place) => rows[place].times += 1,
-        None => rows.push(Row { outcome, times: 1 })?,
+        None => rows.push(OutcomeCount { outcome, times: 1 })?,
     }
     Ok(())
 }
 
 // The outcomes of what was tried, each once, and how often it was found.
-fn rows_of(alloc: Global, tried: &[Tried]) -> Result<Vec<Row>, AllocError>
+fn rows_of(alloc: Global, tried: &[Tried]) -> Result<Vec<OutcomeCount>, AllocError>
     ensures { IfOk result (λ rows. AreRowsOf tried.now rows.items) }
 {
     let mut rows = Vec::new(alloc);
@@ -73,7 +73,7 @@ fn rows_of(alloc: Global, tried: &[Tried]) -> Result<Vec<Row>, AllocError>
     Ok(rows)
 }
 
-fn write_rows<W: fmt::Write>(rows: &[Row], f: &mut fmt::Formatter<W>) -> fmt::Result {
+fn write_rows<W: fmt::Write>(rows: &[OutcomeCount], f: &mut fmt::Formatter<W>) -> fmt::Result {
     for row in rows {
         write!(f, "\n{:>8} {}", row.times, row.outcome)?;
     }
@@ -81,14 +81,14 @@ fn write_rows<W: fmt::Write>(rows: &[Row], f: &mut fmt::Formatter<W>) -> fmt::Re
 }
 
 // Do two rows have the same outcome, and can their numbers be added?
-fn is_alike(row: &Row, other: &Row) -> bool
+fn is_alike(row: &OutcomeCount, other: &OutcomeCount) -> bool
     ensures { result ≡ true → IsAlike row.now other.now }
 {
     row.outcome == other.outcome && row.times.checked_add(other.times).is_some()
 }
 
 // Is it so of rows, one after another?
-fn are_alike(rows: &[Row], others: &[Row]) -> bool
+fn are_alike(rows: &[OutcomeCount], others: &[OutcomeCount]) -> bool
     ensures { result ≡ true → AreAlike rows.now others.now }
 {
     if rows.len() != others.len() {
@@ -103,7 +103,7 @@ fn are_alike(rows: &[Row], others: &[Row]) -> bool
 }
 
 // Adds the numbers of rows with the same outcomes.
-fn add_rows(rows: &mut Vec<Row>, others: &[Row])
+fn add_rows(rows: &mut Vec<OutcomeCount>, others: &[OutcomeCount])
     requires { AreAlike rows.old.items others.now }
     ensures { AreAdded others.now rows.old.items rows.new.items }
 {
@@ -113,7 +113,7 @@ fn add_rows(rows: &mut Vec<Row>, others: &[Row])
 }
 
 // The place of the last block, where its rows and these are alike.
-fn alike_last(blocks: &[Block], rows: &[Row]) -> Option<usize>
+fn alike_last(blocks: &[Block], rows: &[OutcomeCount]) -> Option<usize>
     ensures { IfSome result (IsAlikeLast rows.now blocks.now) }
 {
     let last = blocks.last()?;
@@ -125,7 +125,7 @@ fn alike_last(blocks: &[Block], rows: &[Row]) -> Option<usize>
 }
 
 // Puts a line behind blocks, by its number and its rows, or into the last of them where that has the same outcomes.
-fn put_line(blocks: &mut Vec<Block>, line: u64, rows: Vec<Row>) -> Result<(), AllocError>
+fn put_line(blocks: &mut Vec<Block>, line: u64, rows: Vec<OutcomeCount>) -> Result<(), AllocError>
     ensures { OnOk result (TakesLine line rows.items blocks.old.items blocks.new.items) }
 {
     match alike_last(blocks, &rows) {
@@ -141,7 +141,7 @@ fn put_line(blocks: &mut Vec<Block>, line: u64, rows: Vec<Row>) -> Result<(), Al
 
 impl Block {
     // Takes the next line in, whose rows have the same outcomes.
-    fn join(&mut self, line: u64, rows: &[Row])
+    fn join(&mut self, line: u64, rows: &[OutcomeCount])
         requires { AreAlike self.old.rows.items rows.now }
         ensures { JoinsBlock line rows.now self.old self.new }
     {

@@ -4,6 +4,7 @@ ghost use Rattle.ddr4_timing.specs.Limits.{lines_of};
 ghost use Rattle.save_device.specs.declared.memory.Pick.{Pick};
 ghost use Rattle.slot_store.specs.Slots.{device_size};
 ghost use Rattle.nv_script.specs.Line.{NamesChannelOf};
+ghost use Rattle.script_runner.specs.Ended.{nothing};
 ghost use Rattle.script_runner.specs.Story.{AreAllAnswered, GivesOut};
 ghost use Rattle.crash_table.specs.Stops.{picks, stopped_lines, with_picks};
 ghost use Rattle.crash_table.specs.Counting.{complete_ones, most_missing};
@@ -99,7 +100,7 @@ impl<'p> Trials<'p> {
         book: &mut CommandBook,
     ) -> Result<Vec<Answer>, ScriptFault>
         requires lines { All (NamesChannelOf self.now.profile.now.checked.geometry) lines.now }
-        requires book { IfSome book.old (λ lives. lives ≡ []) }
+        requires book { IfSome book.old (λ kept. kept ≡ nothing) }
         ensures answered { IfOk result (λ answers. AreAllAnswered
             (lines_of self.now.profile.now.checked.geometry) lines.now [] answers.items) }
         ensures fault { IfErr result GivesOut }
@@ -110,7 +111,7 @@ impl<'p> Trials<'p> {
     // Runs lines from the first on.
     fn run(&self, lines: &[ScriptLine], book: &mut CommandBook) -> Result<Ran, ScriptFault>
         requires lines { All (NamesChannelOf self.now.profile.now.checked.geometry) lines.now }
-        requires book { IfSome book.old (λ lives. lives ≡ []) }
+        requires book { IfSome book.old (λ kept. kept ≡ nothing) }
         ensures answered { IfOk result (λ ran. AreAllAnswered
             (lines_of self.now.profile.now.checked.geometry) lines.now [] ran.answers.items) }
         ensures leaves { IfOk result (λ ran. LeavesBehind

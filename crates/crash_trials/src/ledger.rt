@@ -4,7 +4,7 @@ use std::slice;
 
 /// A write, by the words of its script.
 #[derive(Clone, Copy, Drop)]
-pub struct Entry<'a> {
+pub struct ScriptWrite<'a> {
     pub line: &'a str,
     pub data: &'a str,
 }
@@ -12,7 +12,7 @@ pub struct Entry<'a> {
 /// The writes that were accepted, in order, and how many of them were told persistent.
 #[derive(Drop)]
 pub struct Ledger<'a> {
-    pub writes: Vec<Entry<'a>>,
+    pub writes: Vec<ScriptWrite<'a>>,
     pub told: u64,
 }
 
@@ -25,7 +25,7 @@ pub(crate) fn number_of(word: Option<&str>) -> u64 {
 }
 
 // The writes that a script asks for.
-fn asked<'a>(alloc: Global, script: &'a str) -> Result<Vec<Entry<'a>>, AllocError> {
+fn asked<'a>(alloc: Global, script: &'a str) -> Result<Vec<ScriptWrite<'a>>, AllocError> {
     let mut entries = Vec::new(alloc);
     for line in script.split('\n') {
         let mut words = line.split(' ');
@@ -33,7 +33,7 @@ fn asked<'a>(alloc: Global, script: &'a str) -> Result<Vec<Entry<'a>>, AllocErro
             continue;
         }
         if let (Some(line), Some(data)) = (words.next(), words.next()) {
-            entries.push(Entry { line, data })?;
+            entries.push(ScriptWrite { line, data })?;
         }
     }
     Ok(entries)
@@ -62,7 +62,7 @@ impl<'a> Ledger<'a> {
     fn note<'b>(
         &mut self,
         answer: &str,
-        next: &mut slice::Iter<'b, Entry<'a>>,
+        next: &mut slice::Iter<'b, ScriptWrite<'a>>,
     ) -> Result<(), AllocError> {
         let mut words = answer.split(' ');
         let first = words.next();
@@ -117,7 +117,7 @@ fn is_of_a_fault_to_come(answer: &str) -> bool {
 pub(crate) fn account_of(alloc: Global, script: &str, answers: &str) -> Result<String, AllocError> {
     let ledger = Ledger::of(alloc, script, answers)?;
     let mut account = String::new(alloc);
-    for Entry { line, data } in &ledger.writes {
+    for ScriptWrite { line, data } in &ledger.writes {
         account.push_str(&format!(in alloc; "write {line} {data}\n")?)?;
     }
     for answer in answers.split('\n') {

@@ -1,5 +1,5 @@
 // What is written of trials.
-use crate::tally::Tally;
+use crate::tally::Findings;
 
 /// Writes what trials came to, and counts them.
 #[derive(Drop)]
@@ -20,7 +20,7 @@ impl<'r> Show<'r> {
     }
 
     /// Writes what trials came to, and the script of each that is wrong.
-    pub(crate) fn tally(&mut self, what: &str, tally: &Tally) -> anyhow::Result<()> {
+    pub(crate) fn tally(&mut self, what: &str, tally: &Findings) -> anyhow::Result<()> {
         let wrong = tally.wrong.len() as u64;
         println!(*self.rt;
             "    {what}: {} complete, {} possible losses, {wrong} wrong",

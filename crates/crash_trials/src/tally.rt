@@ -62,15 +62,15 @@ struct Remembered {
 
 /// What was found, how often, and of each trial that was wrong why, with its script.
 #[derive(Drop)]
-pub(crate) struct Tally {
+pub(crate) struct Findings {
     pub counts: Counts,
     pub wrong: Vec<String>,
     seen: Vec<Remembered>,
 }
 
-impl Tally {
-    pub(crate) fn new(alloc: Global) -> Tally {
-        Tally {
+impl Findings {
+    pub(crate) fn new(alloc: Global) -> Findings {
+        Findings {
             counts: Counts::NONE,
             wrong: Vec::new(alloc),
             seen: Vec::new(alloc),

@@ -4,7 +4,7 @@ ghost use Rattle.std.specs.Prelude.{◌≡◌};
 use crate::extent::Extent;
 use crate::judging::{Restored, Wrong, judged};
 use crate::ledger::{Ledger, account_of};
-use crate::tally::{Counts, Left, Tally};
+use crate::tally::{Counts, Findings, Left};
 use crash_table::{Outcome, PICKS};
 use interleave_map::{Interleaving, ReadyMap};
 use nv_profile::Profile;
@@ -165,7 +165,7 @@ impl<'p> Trials<'p> {
         script: &str,
         pick: Pick,
         honest: bool,
-        tally: &mut Tally,
+        tally: &mut Findings,
     ) -> anyhow::Result<Option<Restored>> {
         let word = word_of(self.alloc, pick)?;
         let whole = format!(in self.alloc; "{script}restore {word}\nread 0\nread 1\nread 127\n")?;
@@ -185,7 +185,7 @@ impl<'p> Trials<'p> {
         script: &str,
         picks: &[Pick],
         left: &Left,
-        tally: &mut Tally,
+        tally: &mut Findings,
     ) -> anyhow::Result<Counts> {
         let mut counts = Counts::NONE;
         let mut last = None;
@@ -208,7 +208,7 @@ impl<'p> Trials<'p> {
         script: &str,
         picks: &[Pick],
         honest: bool,
-        tally: &mut Tally,
+        tally: &mut Findings,
     ) -> anyhow::Result<bool> {
         let left = self.left(script, honest)?;
         let has_failed = tells_fault(&left.account);
@@ -223,8 +223,8 @@ impl<'p> Trials<'p> {
     }
 
     /// Behind `format` the device fails from each of its calls on.
-    pub(crate) fn stops(&self, text: &str) -> anyhow::Result<Tally> {
-        let mut tally = Tally::new(self.alloc);
+    pub(crate) fn stops(&self, text: &str) -> anyhow::Result<Findings> {
+        let mut tally = Findings::new(self.alloc);
         for calls in 0..MOST_CALLS {
             let script = format!(in self.alloc; "format\nfuse {calls}\n{text}")?;
             if !self.restore(&script, &PICKS, false, &mut tally)? {
@@ -235,8 +235,8 @@ impl<'p> Trials<'p> {
     }
 
     /// Mains are lost after each line, and the gauge told the truth.
-    pub(crate) fn losses(&self, text: &str) -> anyhow::Result<Tally> {
-        let mut tally = Tally::new(self.alloc);
+    pub(crate) fn losses(&self, text: &str) -> anyhow::Result<Findings> {
+        let mut tally = Findings::new(self.alloc);
         let mut begun = format!(in self.alloc; "format\n")?;
         for line in text.split_inclusive('\n') {
             begun.push_str(line)?;
@@ -265,8 +265,8 @@ impl<'p> Trials<'p> {
         text: &str,
         repeats: bool,
         extent: Extent,
-    ) -> anyhow::Result<Tally> {
-        let mut tally = Tally::new(self.alloc);
+    ) -> anyhow::Result<Findings> {
+        let mut tally = Findings::new(self.alloc);
         for call in 1..=self.calls(text)? {
             let script = format!(in self.alloc; "format\nonefault {call}\n{text}")?;
             // a call that is made again is told by no fault
@@ -283,7 +283,7 @@ impl<'p> Trials<'p> {
         begun: &str,
         repeats: bool,
         extent: Extent,
-        tally: &mut Tally,
+        tally: &mut Findings,
     ) -> anyhow::Result<()> {
         for call in 1..=CLOSING_CALLS {
             let script = format!(in self.alloc; "{begun}onefault {call}\nlose\n")?;
@@ -298,8 +298,8 @@ impl<'p> Trials<'p> {
         text: &str,
         repeats: bool,
         extent: Extent,
-    ) -> anyhow::Result<Tally> {
-        let mut tally = Tally::new(self.alloc);
+    ) -> anyhow::Result<Findings> {
+        let mut tally = Findings::new(self.alloc);
         let mut begun = format!(in self.alloc; "format\n")?;
         for line in text.split_inclusive('\n') {
             begun.push_str(line)?;
@@ -315,7 +315,7 @@ impl<'p> Trials<'p> {
         call: u64,
         most: u64,
         apart: u64,
-        tally: &mut Tally,
+        tally: &mut Findings,
     ) -> anyhow::Result<()> {
         for calls in call..=most {
             if calls.checked_rem(apart) == Some(0) {
@@ -329,8 +329,8 @@ impl<'p> Trials<'p> {
     }
 
     /// Behind `format` one call of the device fails, and from a later one on all do; the later ones so many apart.
-    pub(crate) fn both(&self, text: &str, apart: u64) -> anyhow::Result<Tally> {
-        let mut tally = Tally::new(self.alloc);
+    pub(crate) fn both(&self, text: &str, apart: u64) -> anyhow::Result<Findings> {
+        let mut tally = Findings::new(self.alloc);
         let most = self.calls(text)?;
         for call in 1..=most {
             self.one_and_fuse(text, call, most, apart, &mut tally)?;
@@ -339,7 +339,7 @@ impl<'p> Trials<'p> {
     }
 
     // Mains are lost, and the gauge has less than it told: each number of units, so many apart.
-    fn lie(&self, begun: &str, unit: u64, apart: u64, tally: &mut Tally) -> anyhow::Result<()> {
+    fn lie(&self, begun: &str, unit: u64, apart: u64, tally: &mut Findings) -> anyhow::Result<()> {
         for units in 0..=MOST_UNITS {
             if units.checked_rem(apart) == Some(0) {
                 let lie = units.wrapping_mul(unit);
@@ -352,8 +352,8 @@ impl<'p> Trials<'p> {
     }
 
     /// Mains are lost after each line, and the gauge has less than it told, so many units apart.
-    pub(crate) fn lies(&self, text: &str, unit: u64, apart: u64) -> anyhow::Result<Tally> {
-        let mut tally = Tally::new(self.alloc);
+    pub(crate) fn lies(&self, text: &str, unit: u64, apart: u64) -> anyhow::Result<Findings> {
+        let mut tally = Findings::new(self.alloc);
         let mut begun = format!(in self.alloc; "format\n")?;
         for line in text.split_inclusive('\n') {
             begun.push_str(line)?;

@@ -5,7 +5,7 @@ ghost use Rattle.ddr4_module.specs.WildLives.{WorksWithin};
 use crate::draws::Draws;
 use crate::events::events_of;
 use crate::judging::{Restored, Wrong};
-use crate::tally::Tally;
+use crate::tally::Findings;
 use crate::trials::Trials;
 use arm_state::Loss;
 use ddr4_module::{Sizes, wild_life};
@@ -15,7 +15,8 @@ use interleave_map::cells::line_count;
 use line_memory::{Line, Write};
 use nv_machine::{Event, Reply, StepReply};
 use save_device::{Fuse, MemoryDevice, OneFault, SaveDevice};
-use slot_store::{Verdict, restore};
+use save_image::PAGE_LINES;
+use slot_store::{MOST_LINES, Verdict, restore};
 use std::alloc::{AllocError, Global};
 
 /// The writes that a life accepted, in order, and how many of them it told persistent.
@@ -80,7 +81,7 @@ impl Ended {
         lines: usize,
         loses: bool,
     ) -> Result<Result<Restored, Wrong>, AllocError> {
-        if lines % 64 != 0 || lines < 64 || lines > 65_536 {
+        if lines % PAGE_LINES != 0 || lines < PAGE_LINES || lines > MOST_LINES {
             return Ok(Err(Wrong::Refused));
         }
         let Ok(found) = restore(alloc, &mut self.device, lines) else {
@@ -155,8 +156,8 @@ impl Trials<'_> {
     }
 
     /// A life of each of these seeds.
-    pub(crate) fn wild_lives(&self, text: &str, first: u64, most: u64) -> anyhow::Result<Tally> {
-        let mut tally = Tally::new(self.alloc);
+    pub(crate) fn wild_lives(&self, text: &str, first: u64, most: u64) -> anyhow::Result<Findings> {
+        let mut tally = Findings::new(self.alloc);
         for seed in first..most {
             match self.try_seed(text, seed)? {
                 Ok(restored) => tally.counts.count(restored),

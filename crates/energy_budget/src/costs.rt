@@ -7,6 +7,9 @@ use crate::Action;
 use ddr4_timing::command::Command;
 use ddr4_timing::timing::{Checked, Geometry};
 
+/// The lines that a save writes as one page, as many as a page of an image has.
+pub const PAGE_LINES: u64 = 64;
+
 /// What commands, clocks and the actions of a save cost, in units of energy, each 0 to 1,000,000.
 #[derive(Clone, Copy, Debug, PartialEq, Eq)]
 pub struct CostNumbers {
@@ -56,7 +59,7 @@ pub struct Costs {
     pub channels: u64,
     /// Ranks of a channel.
     pub ranks: u64,
-    /// Pages of a save, of 64 lines each.
+    /// Pages of a save, of `PAGE_LINES` lines each.
     pub pages: u64,
     /// The most clocks that a drain's close step takes.
     pub close: u64,
@@ -177,7 +180,7 @@ impl Costs {
         let ranks = geometry.ranks;
         let close = checked.timing.close(&geometry);
         let entry = checked.timing.entry(&geometry);
-        let pages = line_count(&geometry) / 64;
+        let pages = line_count(&geometry) / PAGE_LINES;
         let close_step = cost_with_clocks(
             ranks,
             numbers.e_pre + numbers.e_sre,

@@ -13,7 +13,7 @@ mod tally;
 mod wild;
 
 pub use action::Action;
-pub use costs::{CostNumbers, Costs, TINY_COSTS};
+pub use costs::{CostNumbers, Costs, PAGE_LINES, TINY_COSTS};
 pub use energy::{Dark, Energy, GaugeCall};
 pub use meter::Meter;
 pub use wild::Wild;

@@ -1,5 +1,6 @@
 // A second reading of the format of a store of 128 lines: what the page that begins a slot says, and which image is the newest. It
 // is written down from the format alone, and knows the digest of a body beforehand.
+use save_image::PAGE_BYTES;
 use slot_store::{Head, Newest, RestoreError, Slot, Verdict};
 
 /// The lines of a store's memory.
@@ -14,7 +15,7 @@ pub(crate) const SIZE: usize = 24_576;
 /// A slot by its header page, and by the digest that its body has.
 #[derive(Clone, Copy)]
 pub(crate) struct SlotPage {
-    pub header: [u8; 4096],
+    pub header: [u8; PAGE_BYTES],
     pub digest: [u8; 32],
 }
 

@@ -1,7 +1,7 @@
 // Devices of each length.
 use crate::format::{Answer, SIZE};
 use crate::stores::Store;
-use crate::tally::Tally;
+use crate::tally::TrialCounts;
 use save_device::{MemoryDevice, SaveDevice};
 use save_image::Version;
 use slot_store::{RestoreError, Slot, restore};
@@ -28,7 +28,7 @@ fn try_length(
     rt: &HostRuntime,
     bytes: &[u8],
     length: usize,
-    tally: &mut Tally,
+    tally: &mut TrialCounts,
 ) -> anyhow::Result<()> {
     for lines in [64, 128] {
         let mut device = cut(rt.alloc(), bytes, length)?;
@@ -52,7 +52,7 @@ pub(crate) fn try_lengths(rt: &HostRuntime) -> anyhow::Result<()> {
         anyhow::bail!("no device");
     }
     device.read(0, &mut bytes)?;
-    let mut tally = Tally::new();
+    let mut tally = TrialCounts::new();
     for step in 0..385_usize {
         for length in [64 * step, 64 * step + 1, (64 * step).saturating_sub(1)] {
             try_length(rt, &bytes, length, &mut tally)?;

@@ -1,11 +1,11 @@
 // Lines of a script of one or two words, each against the table of the verbs.
-use crate::tally::Tally;
+use crate::tally::TrialCounts;
 use ddr4_timing::profiles::SMALL;
 use nv_script::{ScriptFault, read_script};
 
 // What a word may be behind a verb; an ordinal is a number from 1 on.
 #[derive(Clone, Copy, PartialEq, Eq)]
-enum Kind {
+enum ArgumentKind {
     Number,
     Calls,
     Ordinal,
@@ -18,13 +18,13 @@ const ALONE: [&str; 8] = [
 ];
 
 // The verbs with one word behind them, and what that is.
-const WITH_ONE: [(&str, Kind); 6] = [
-    ("read", Kind::Number),
-    ("sense", Kind::Number),
-    ("lie", Kind::Number),
-    ("fuse", Kind::Calls),
-    ("onefault", Kind::Ordinal),
-    ("restore", Kind::Pick),
+const WITH_ONE: [(&str, ArgumentKind); 6] = [
+    ("read", ArgumentKind::Number),
+    ("sense", ArgumentKind::Number),
+    ("lie", ArgumentKind::Number),
+    ("fuse", ArgumentKind::Calls),
+    ("onefault", ArgumentKind::Ordinal),
+    ("restore", ArgumentKind::Pick),
 ];
 
 // The verbs with two words behind them, and words that are none.
@@ -63,12 +63,12 @@ fn is_number(word: &str) -> bool {
     ZEROS.contains(&word) || NUMBERS.contains(&word)
 }
 
-fn is_of(kind: Kind, word: &str) -> bool {
+fn is_of(kind: ArgumentKind, word: &str) -> bool {
     match kind {
-        Kind::Number => is_number(word),
-        Kind::Calls => is_number(word) || word == "off",
-        Kind::Ordinal => NUMBERS.contains(&word),
-        Kind::Pick => PICKS.contains(&word),
+        ArgumentKind::Number => is_number(word),
+        ArgumentKind::Calls => is_number(word) || word == "off",
+        ArgumentKind::Ordinal => NUMBERS.contains(&word),
+        ArgumentKind::Pick => PICKS.contains(&word),
     }
 }
 
@@ -103,7 +103,7 @@ fn try_line(
     rt: &HostRuntime,
     first: &str,
     second: Option<&str>,
-    tally: &mut Tally,
+    tally: &mut TrialCounts,
 ) -> anyhow::Result<()> {
     let behind = second.unwrap_or("");
     let script = format!(in rt.alloc(); "format\n{first} {behind}\n")?;
@@ -123,7 +123,7 @@ fn try_line(
 /// Each line of one of the words, and of any two of them.
 pub(crate) fn try_lines(rt: &HostRuntime) -> anyhow::Result<()> {
     let words = words(rt)?;
-    let mut tally = Tally::new();
+    let mut tally = TrialCounts::new();
     for first in &words {
         try_line(rt, first, None, &mut tally)?;
         for second in &words {

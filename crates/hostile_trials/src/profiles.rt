@@ -1,6 +1,6 @@
 // Profiles of which one key is missing, written twice, or has another value; texts that are none; and bytes that aren't UTF-8.
 use crate::table::{Key, Numbers, table, text_with};
-use crate::tally::Tally;
+use crate::tally::TrialCounts;
 use nv_profile::{ProfileFault, TINY2, read_profile};
 
 // Numbers at the limits of keys, and one past them.
@@ -84,7 +84,7 @@ fn try_text(
     what: &str,
     text: &[u8],
     expected: bool,
-    tally: &mut Tally,
+    tally: &mut TrialCounts,
 ) -> anyhow::Result<()> {
     let read = read_profile(rt.alloc(), text);
     let right = match &read {
@@ -105,7 +105,7 @@ fn try_line(
     place: usize,
     line: &str,
     expected: bool,
-    tally: &mut Tally,
+    tally: &mut TrialCounts,
 ) -> anyhow::Result<()> {
     let text = text_with(rt.alloc(), keys, place, line)?;
     try_text(rt, line, text.as_bytes(), expected, tally)
@@ -117,7 +117,7 @@ fn try_values(
     keys: &[Key],
     place: usize,
     key: &Key,
-    tally: &mut Tally,
+    tally: &mut TrialCounts,
 ) -> anyhow::Result<()> {
     for value in NUMBERS {
         let line = format!(in rt.alloc(); "{} = {value}\n", key.name)?;
@@ -137,7 +137,7 @@ fn try_key(
     keys: &[Key],
     place: usize,
     key: &Key,
-    tally: &mut Tally,
+    tally: &mut TrialCounts,
 ) -> anyhow::Result<()> {
     let (name, value) = (key.name, key.value);
     try_line(rt, keys, place, "", key.is_optional, tally)?;
@@ -152,7 +152,7 @@ fn try_key(
 // The profile `tiny2` with each of its bytes turned to one that can't stand alone in UTF-8.
 fn try_bytes(rt: &HostRuntime) -> anyhow::Result<()> {
     let mut text = TINY2.as_bytes().to_vec(rt.alloc())?;
-    let mut tally = Tally::new();
+    let mut tally = TrialCounts::new();
     for at in 0..text.len() {
         for byte in BYTES {
             let before = std::mem::replace(&mut text[at], byte);
@@ -166,7 +166,7 @@ fn try_bytes(rt: &HostRuntime) -> anyhow::Result<()> {
 /// All of them.
 pub(crate) fn try_profiles(rt: &HostRuntime) -> anyhow::Result<()> {
     let keys = table(rt.alloc())?;
-    let mut tally = Tally::new();
+    let mut tally = TrialCounts::new();
     try_line(rt, &keys, keys.len(), "", true, &mut tally)?;
     for (place, key) in keys.iter().enumerate() {
         try_values(rt, &keys, place, key, &mut tally)?;

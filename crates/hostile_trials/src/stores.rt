@@ -2,10 +2,10 @@
 ghost use Rattle.std.specs.Prelude.{◌<◌, ◌≤◌, ◌^◌};
 
 use crate::format::{Answer, LINES, SIZE, SLOT_BYTES, SlotPage, answer_for};
-use crate::tally::Tally;
+use crate::tally::TrialCounts;
 use line_memory::Line;
 use save_device::{MemoryDevice, SaveDevice};
-use save_image::{Version, header_bytes, header_bytes_2};
+use save_image::{PAGE_BYTES, Version, header_bytes, header_bytes_2};
 use slot_store::{Slot, restore};
 use std::alloc::Global;
 use std::mem;
@@ -72,7 +72,7 @@ impl Store {
         let second = page_of(versions.1, 2, 1, DIGEST_OF_11);
         put(&mut device, 0, &first.header)?;
         put(&mut device, SLOT_BYTES, &second.header)?;
-        put(&mut device, SLOT_BYTES + 4096, &[0x11; 64])?;
+        put(&mut device, SLOT_BYTES + PAGE_BYTES, &[0x11; 64])?;
         Ok(Store {
             device,
             first,
@@ -89,7 +89,7 @@ impl Store {
 
     // Turns a byte of a slot's header, and gives what stood there.
     fn turn(&mut self, slot: Slot, at: usize, byte: u8) -> anyhow::Result<u8> {
-        if at >= 4096 {
+        if at >= PAGE_BYTES {
             anyhow::bail!("no place of a header");
         }
         let before = mem::replace(&mut self.page(slot).header[at], byte);
@@ -127,7 +127,7 @@ impl Store {
         rt: &HostRuntime,
         slot: Slot,
         at: usize,
-        tally: &mut Tally,
+        tally: &mut TrialCounts,
     ) -> anyhow::Result<()> {
         for byte in BYTES {
             let before = self.turn(slot, at, byte)?;
@@ -152,7 +152,7 @@ fn turn_header(
     apart: usize,
 ) -> anyhow::Result<()> {
     let mut store = Store::new(rt.alloc(), versions)?;
-    let mut tally = Tally::new();
+    let mut tally = TrialCounts::new();
     for at in 0..4096_usize {
         if at < 80 || apart == 1 || at.checked_rem(apart) == Some(0) {
             store.turn_byte(rt, slot, at, &mut tally)?;

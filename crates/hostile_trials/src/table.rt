@@ -2,6 +2,12 @@
 // written down once more here.
 use std::alloc::{AllocError, Global};
 
+/// The fewest lines of a geometry.
+const FEWEST_LINES: u64 = 64;
+
+/// The most lines of a geometry.
+const MOST_LINES: u64 = 65_536;
+
 /// A key of a profile: the table that it stands in, its value in the small profile, and its limits.
 #[derive(Clone, Copy, Drop)]
 pub(crate) struct Key {
@@ -177,13 +183,14 @@ impl Numbers<'_> {
         }
     }
 
-    // All parts of the geometry are powers of two, and there are 64 to 65,536 lines.
+    // All parts of the geometry are powers of two, and there are neither too few nor too many lines.
     fn is_geometry(&self) -> bool {
         let names = ["channels", "ranks", "groups", "banks", "rows", "columns"];
         let lines = names
             .iter()
             .fold(1_u64, |lines, name| lines.saturating_mul(self.of(name)));
-        names.iter().all(|name| self.of(name).is_power_of_two()) && 64 <= lines && lines <= 65_536
+        let fits = FEWEST_LINES <= lines && lines <= MOST_LINES;
+        fits && names.iter().all(|name| self.of(name).is_power_of_two())
     }
 
     // How many clocks an entry of a drain takes at most, and its close step.

@@ -2,15 +2,15 @@
 
 /// How many trials there were, how many of them were accepted, and how many were answered wrong.
 #[derive(Clone, Copy, Drop)]
-pub(crate) struct Tally {
+pub(crate) struct TrialCounts {
     tried: u64,
     accepted: u64,
     wrong: u64,
 }
 
-impl Tally {
-    pub(crate) fn new() -> Tally {
-        Tally {
+impl TrialCounts {
+    pub(crate) fn new() -> TrialCounts {
+        TrialCounts {
             tried: 0,
             accepted: 0,
             wrong: 0,
@@ -30,7 +30,7 @@ impl Tally {
 
     /// Says what was tried, and how often it was accepted.
     pub(crate) fn show(self, rt: &HostRuntime, what: &str, word: &str) -> anyhow::Result<()> {
-        let Tally {
+        let TrialCounts {
             tried,
             accepted,
             wrong,

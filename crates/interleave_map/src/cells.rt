@@ -4,6 +4,7 @@ ghost use Rattle.ddr4_timing.specs.Limits.{lines_of};
 ghost use Rattle.ddr4_timing.specs.Places.{LiesIn};
 ghost use Rattle.ddr4_timing.specs.declared.place.Place.{Place};
 ghost use Rattle.ddr4_timing.specs.declared.timing.Geometry.{Geometry};
+ghost use Rattle.ddr4_timing.specs.declared.timing.TheConstants.{FEWEST_LINES, MOST_LINES};
 ghost use Rattle.interleave_map.specs.Cells.{cells_of, cell_of};
 
 use ddr4_timing::place::Place;
@@ -12,8 +13,8 @@ use ddr4_timing::timing::Checked;
 /// How many lines the geometry has, from 64 to 65,536. In constant time.
 pub fn line_count(checked: &Checked) -> u64
     ensures is { result ≡ lines_of checked.now.geometry }
-    ensures some { 64 ≤ result }
-    ensures few { result ≤ 65536 }
+    ensures some { FEWEST_LINES ≤ result }
+    ensures few { result ≤ MOST_LINES }
 {
     let geometry = checked.geometry;
     let banks = geometry.channels * geometry.ranks * geometry.groups * geometry.banks;
@@ -25,7 +26,7 @@ pub fn line_count(checked: &Checked) -> u64
 pub fn cells(checked: &Checked) -> usize
     ensures is { result ≡ cells_of checked.now.geometry }
     ensures some { 8 ≤ result }
-    ensures few { result ≤ 65536 }
+    ensures few { result ≤ MOST_LINES }
 {
     let geometry = checked.geometry;
     let banks = geometry.ranks * geometry.groups * geometry.banks;

@@ -12,7 +12,7 @@ enum Done {
 
 /// A call that was done, and the number of its head's write.
 #[derive(Clone, Copy)]
-struct Entry {
+struct DoneCall {
     done: Done,
     head: u64,
 }
@@ -29,7 +29,7 @@ pub(crate) struct Plain {
 #[derive(Drop)]
 pub(crate) struct Ledger {
     alloc: Global,
-    entries: Vec<Entry>,
+    entries: Vec<DoneCall>,
     pub(crate) mark: u64,
 }
 
@@ -44,7 +44,7 @@ impl Ledger {
 
     /// A record was appended; its head's write has this number.
     pub(crate) fn append(&mut self, byte: u8, size: usize, head: u64) -> Result<(), AllocError> {
-        self.entries.push(Entry {
+        self.entries.push(DoneCall {
             done: Done::Record { byte, size },
             head,
         })?;
@@ -53,7 +53,7 @@ impl Ledger {
 
     /// The records below a number were cut.
     pub(crate) fn cut(&mut self, upto: u64, head: u64) -> Result<(), AllocError> {
-        self.entries.push(Entry {
+        self.entries.push(DoneCall {
             done: Done::Cut { upto },
             head,
         })?;

@@ -26,7 +26,7 @@ const MOST_CALLS: u64 = 4_096;
 
 /// How many trials there were, and what they came to.
 #[derive(Clone, Copy)]
-struct Tally {
+struct RestoreCounts {
     stops: u64,
     restores: u64,
     complete: u64,
@@ -34,8 +34,8 @@ struct Tally {
     wrong: u64,
 }
 
-impl Tally {
-    const NONE: Tally = Tally {
+impl RestoreCounts {
+    const NONE: RestoreCounts = RestoreCounts {
         stops: 0,
         restores: 0,
         complete: 0,
@@ -54,7 +54,7 @@ impl Tally {
         }
     }
 
-    fn join(&mut self, other: Tally) {
+    fn join(&mut self, other: RestoreCounts) {
         self.stops = self.stops.saturating_add(other.stops);
         self.restores = self.restores.saturating_add(other.restores);
         self.complete = self.complete.saturating_add(other.complete);
@@ -69,7 +69,7 @@ fn try_stop(
     map: &ReadyMap,
     script: &Script,
     passes: u64,
-    tally: &mut Tally,
+    tally: &mut RestoreCounts,
 ) -> anyhow::Result<bool> {
     let mut reached = false;
     for pick in PICKS {
@@ -82,8 +82,8 @@ fn try_stop(
 }
 
 // All stops of a script.
-fn try_script(rt: &HostRuntime, map: &ReadyMap, script: &Script) -> anyhow::Result<Tally> {
-    let mut tally = Tally::NONE;
+fn try_script(rt: &HostRuntime, map: &ReadyMap, script: &Script) -> anyhow::Result<RestoreCounts> {
+    let mut tally = RestoreCounts::NONE;
     for passes in 0..MOST_CALLS {
         if !try_stop(rt, map, script, passes, &mut tally)? {
             break;
@@ -92,7 +92,7 @@ fn try_script(rt: &HostRuntime, map: &ReadyMap, script: &Script) -> anyhow::Resu
     Ok(tally)
 }
 
-fn show(rt: &HostRuntime, name: &str, tally: Tally) -> anyhow::Result<()> {
+fn show(rt: &HostRuntime, name: &str, tally: RestoreCounts) -> anyhow::Result<()> {
     println!(rt;
         "{name}: {} stops, {} restores, {} complete, {} records compared, {} wrong",
         tally.stops, tally.restores, tally.complete, tally.records, tally.wrong
@@ -106,7 +106,7 @@ fn main(rt: HostRuntime) -> anyhow::Result<()> {
         interleaving: Interleaving::Lines,
         checked,
     };
-    let mut all = Tally::NONE;
+    let mut all = RestoreCounts::NONE;
     for script in SCRIPTS {
         let tally = try_script(&rt, &map, &script)?;
         show(&rt, script.name, tally)?;

@@ -2,18 +2,18 @@
 use Rattle.std.specs.Prelude.{◌≡◌, ◌⊎◌, String}
 use Rattle.std.specs.declared.alloc.Global.{Global}
 use Rattle.command_faults.specs.Exit.{IsOfOutput}
-use Rattle.command_faults.specs.declared.fault.Fault.{Fault}
-use Rattle.command_faults.specs.declared.fault.Fault.TheVariants.{Memory, Store}
+use Rattle.command_faults.specs.declared.fault.ProgramFault.{ProgramFault}
+use Rattle.command_faults.specs.declared.fault.ProgramFault.TheVariants.{Memory, Store}
 use Rattle.live_store.specs.declared.fault.LiveFault.{LiveFault}
 use Rattle.live_store.specs.declared.fault.LiveFault.TheVariants as live
 use Rattle.live_store.specs.declared.talk.TalkFault.TheVariants as talk
 
 -- what is wrong with a store, in words, or no memory for them
-abbrev pub IsOfStore : Fault → Type 0
+abbrev pub IsOfStore : ProgramFault → Type 0
 IsOfStore fault = ((why : String Global) × (fault ≡ Store why)) ⊎ (fault ≡ Memory)
 
 -- the fault that the program tells
-abbrev pub IsFaultOf : LiveFault → Fault → Type 0
+abbrev pub IsFaultOf : LiveFault → ProgramFault → Type 0
 IsFaultOf live.Memory fault = fault ≡ Memory
 IsFaultOf (live.Talk talk.Memory) fault = fault ≡ Memory
 IsFaultOf (live.Talk talk.Reader) fault = IsOfOutput fault

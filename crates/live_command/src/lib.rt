@@ -5,7 +5,7 @@ ghost use Rattle.std.specs.Prelude.{◌≡◌, IfErr};
 ghost use Rattle.command_faults.specs.Exit.{status_of};
 ghost use Rattle.live_command.specs.Faults.{IsFaultOf, IsOfStore};
 
-use command_faults::{Failure, Fault, profile_of};
+use command_faults::{Failure, ProgramFault, profile_of};
 use live_store::{Host, LiveFault, TalkFault, live};
 use std::alloc::Global;
 use std::io::{Input, Write};
@@ -35,22 +35,22 @@ where
 }
 
 // What is wrong with the store, in the fault's own words.
-fn of_store<'a>(alloc: Global, fault: LiveFault) -> Fault<'a>
+fn of_store<'a>(alloc: Global, fault: LiveFault) -> ProgramFault<'a>
     ensures { IsOfStore result }
 {
     match fault.to_string(alloc) {
-        Ok(why) => Fault::Store(why),
-        Err(_) => Fault::Memory,
+        Ok(why) => ProgramFault::Store(why),
+        Err(_) => ProgramFault::Memory,
     }
 }
 
 // How the program tells why no life began, or why one ended before its input did.
-fn told<'a>(alloc: Global, fault: LiveFault) -> Fault<'a>
+fn told<'a>(alloc: Global, fault: LiveFault) -> ProgramFault<'a>
     ensures { IsFaultOf fault result }
 {
     match fault {
-        LiveFault::Memory | LiveFault::Talk(TalkFault::Memory) => Fault::Memory,
-        LiveFault::Talk(_) => Fault::File("-"),
+        LiveFault::Memory | LiveFault::Talk(TalkFault::Memory) => ProgramFault::Memory,
+        LiveFault::Talk(_) => ProgramFault::File("-"),
         LiveFault::Open(_) => of_store(alloc, fault),
         LiveFault::Restore(_) => of_store(alloc, fault),
         LiveFault::Format => of_store(alloc, fault),

@@ -1,10 +1,12 @@
 // Whether nothing was ever saved on a device.
 ghost use Rattle.std.specs.Prelude.{◌≡◌, ℕ, ◌+◌, ◌-◌, ◌<◌, ◌≤◌, IfOk, length, slice_index, slice_range, true};
 ghost use Rattle.save_device.specs.Device.{present};
+ghost use Rattle.save_image.specs.declared.page.TheConstants.{PAGE_BYTES};
 ghost use Rattle.slot_store.specs.Slots.{HasSize, IsCapacity};
 ghost use Rattle.live_store.specs.Starts.{HasZeros, IsUnused};
 
 use save_device::{DeviceFault, SaveDevice};
+use save_image::{PAGE_BYTES, PAGE_LINES};
 use slot_store::device_size;
 
 // Whether bytes are zero alone.
@@ -19,13 +21,13 @@ fn are_zero(bytes: &[u8]) -> bool
     true
 }
 
-fn read_page<D: SaveDevice>(device: &mut D, at: usize) -> Result<[u8; 4096], DeviceFault>
-    requires { at + 4096 ≤ length (D.state device.old).bytes }
+fn read_page<D: SaveDevice>(device: &mut D, at: usize) -> Result<[u8; PAGE_BYTES], DeviceFault>
+    requires { at + PAGE_BYTES ≤ length (D.state device.old).bytes }
     ensures page { IfOk result
-        (λ page. page ≡ slice_range (D.state device.old).bytes at (at + 4096)) }
+        (λ page. page ≡ slice_range (D.state device.old).bytes at (at + PAGE_BYTES)) }
     ensures same { present (D.state device.new) ≡ present (D.state device.old) }
 {
-    let mut page = [0; 4096];
+    let mut page = [0; PAGE_BYTES];
     device.read(at, &mut page)?;
     Ok(page)
 }
@@ -36,10 +38,10 @@ fn is_zero_behind<D: SaveDevice>(
     at: usize,
     front: usize,
 ) -> Result<bool, DeviceFault>
-    requires within { at + 4096 ≤ length (D.state device.old).bytes }
+    requires within { at + PAGE_BYTES ≤ length (D.state device.old).bytes }
     requires front { front ≤ 1 }
     ensures zeros { IfOk result (λ zeros. zeros ≡ true
-        → HasZeros (at + front) (4096 - front) (D.state device.old).bytes) }
+        → HasZeros (at + front) (PAGE_BYTES - front) (D.state device.old).bytes) }
     ensures same { present (D.state device.new) ≡ present (D.state device.old) }
 {
     let page = read_page(device, at)?;
@@ -55,9 +57,9 @@ pub(crate) fn is_unused<D: SaveDevice>(device: &mut D, lines: usize) -> Result<b
     ensures same { present (D.state device.new) ≡ present (D.state device.old) }
 {
     let slot = device_size(lines) / 2;
-    for page in 0..lines / 64 + 1 {
+    for page in 0..lines / PAGE_LINES + 1 {
         let front = 1usize.saturating_sub(page);
-        if !is_zero_behind(device, slot + 4096 * page, front)? {
+        if !is_zero_behind(device, slot + PAGE_BYTES * page, front)? {
             return Ok(false);
         }
     }

@@ -14,6 +14,7 @@ use channel_port::ChannelPort;
 use channel_set::ChannelSet;
 use energy_budget::{Action, Energy};
 use save_device::SaveDevice;
+use save_image::PAGE_BYTES;
 use slot_store::{BrokenOff, Refused, SaveRun, SaveSource, Step};
 
 // What is paid for a step of a save.
@@ -51,7 +52,7 @@ impl<K: ChannelPort, E: Energy> SaveSource for PaidArrays<'_, K, E> {
         }
     }
 
-    fn page<'p>(&'p self, page: usize, room: &'p mut [u8; 4096]) -> &'p [u8; 4096] {
+    fn page<'p>(&'p self, page: usize, room: &'p mut [u8; PAGE_BYTES]) -> &'p [u8; PAGE_BYTES] {
         *room = self.channels.page(page);
         room
     }

@@ -11,6 +11,7 @@ ghost use Rattle.nv_machine.specs.Machine.{step_call};
 ghost use Rattle.module_core.specs.Saving.{count_in, IsFaultOf, IsOfLines, IsSizedFor, MakesAtMost, MakesBetween, TellsFault, TellsStep, store_after, IsSaveOver};
 
 use save_device::SaveDevice;
+use save_image::PAGE_BYTES;
 use slot_store::{Newest, SaveRun, Step};
 
 /// What becomes of a save in whose step the device failed.
@@ -77,7 +78,7 @@ impl Saves {
     pub(crate) fn step<D: SaveDevice>(
         &mut self,
         device: &mut D,
-        page: &[u8; 4096],
+        page: &[u8; PAGE_BYTES],
         repeats: u64,
     ) -> Result<Option<Step>, StepFault>
         requires runs { IsSome self.old.saving }

@@ -17,6 +17,7 @@ use channel_set::ChannelSet;
 use energy_budget::Energy;
 use nv_machine::{Event, Reply, StepReply};
 use save_device::SaveDevice;
+use save_image::PAGE_BYTES;
 use slot_store::{Refused, SaveSource, Step, page_for};
 
 // How many writes are persistent after the end of a save of so many.
@@ -43,7 +44,7 @@ impl<K: ChannelPort> SaveSource for Arrays<'_, K> {
         Ok(())
     }
 
-    fn page<'p>(&'p self, page: usize, room: &'p mut [u8; 4096]) -> &'p [u8; 4096] {
+    fn page<'p>(&'p self, page: usize, room: &'p mut [u8; PAGE_BYTES]) -> &'p [u8; PAGE_BYTES] {
         *room = self.channels.page(page);
         room
     }
@@ -58,7 +59,7 @@ impl Front {
     fn make_step<D: SaveDevice>(
         &mut self,
         device: &mut D,
-        page: &[u8; 4096],
+        page: &[u8; PAGE_BYTES],
         repeats: u64,
     ) -> StepReply
         requires runs { IsSome self.old.saves.saving }
@@ -139,7 +140,7 @@ impl<K: ChannelPort> Module<K> {
     }
 
     // Makes the coming step of the save that runs.
-    fn make_step<D: SaveDevice>(&mut self, device: &mut D, page: &[u8; 4096]) -> StepReply
+    fn make_step<D: SaveDevice>(&mut self, device: &mut D, page: &[u8; PAGE_BYTES]) -> StepReply
         requires runs { IsSome self.old.front.saves.saving }
         requires size { HasDevice K.ChannelPort self.old (D.state device.old) }
         ensures made { MakesReadyStep K.ChannelPort page.now result
@@ -190,7 +191,7 @@ impl<K: ChannelPort> Module<K> {
         let arrays = Arrays {
             channels: &self.channels,
         };
-        let page = *page_for(&arrays, step, &mut [0; 4096]);
+        let page = *page_for(&arrays, step, &mut [0; PAGE_BYTES]);
         self.make_step(device, &page)
     }
 }

@@ -6,6 +6,7 @@ use Rattle.nv_profile.specs.Nothing.{HoldsOfNone}
 use Rattle.nv_script.specs.declared.line.ScriptLine.{ScriptLine}
 use Rattle.nv_script.specs.declared.reading.ScriptFault.{ScriptFault}
 use Rattle.nv_script.specs.declared.reading.ScriptFault.TheVariants as fault
+use Rattle.nv_script.specs.declared.reading.TheConstants.{MOST_LINE_BYTES, MOST_SCRIPT_LINES}
 use Rattle.nv_script.specs.Words.{SaysLine, words_in}
 
 -- the lines of a text: each has a newline behind it, which the last may lack
@@ -15,9 +16,9 @@ without_last_newline text = if slice_index text (length text - 1) == 10 then tak
 abbrev pub text_lines : List ℕ → List (List ℕ)
 text_lines text = slice_split (λ byte. byte == 10) (without_last_newline text)
 
--- a line that may be read is UTF-8, of 256 bytes at most
+-- a line that may be read is UTF-8, and not too long
 pub record IsLineText (text : List ℕ) : Type 0 where
-  pub short : length text ≤ 256
+  pub short : length text ≤ MOST_LINE_BYTES
   pub utf8 : IsUtf8 text
 
 -- whether it asks for nothing: it begins with `#`, or has no word
@@ -37,9 +38,9 @@ abbrev pub numbers_from : ℕ → List (List ℕ) → List ℕ
 numbers_from number [] = []
 numbers_from number (text ∷ texts) = if is_skipped text then numbers_from (number + 1) texts else number ∷ numbers_from (number + 1) texts
 
--- these lines of a text, 4,096 at most, come to these lines of a script
+-- these lines of a text, not too many, come to these lines of a script
 pub record AreLinesOf (geometry : Geometry) (texts : List (List ℕ)) (lines : List ScriptLine) : Type 0 where
-  pub few : length texts ≤ 4096
+  pub few : length texts ≤ MOST_SCRIPT_LINES
   pub read : List (Option ScriptLine)
   pub each : AllZip (ReadsAs geometry) texts read
   pub are : lines ≡ filter_map (λ line. line) read
@@ -56,7 +57,7 @@ pub record IsFirstBadLine (geometry : Geometry) (text : List ℕ) (number : ℕ)
   pub within : place < length (text_lines text)
   pub lines : List ScriptLine
   pub before : AreLinesOf geometry (take place (text_lines text)) lines
-  pub bad : (place ≡ 4096) ⊎ HoldsOfNone (ReadsAs geometry (get_or (text_lines text) place []))
+  pub bad : (place ≡ MOST_SCRIPT_LINES) ⊎ HoldsOfNone (ReadsAs geometry (get_or (text_lines text) place []))
 
 -- why a text isn't read: its first bad line, or want of memory
 abbrev pub IsRefusedBy : Geometry → List ℕ → ScriptFault → Type 0

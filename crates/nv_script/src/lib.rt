@@ -13,4 +13,4 @@ mod word;
 pub use answer::Answer;
 pub use line::ScriptLine;
 pub use numbering::line_numbers;
-pub use reading::{SCRIPT_BYTES, ScriptFault, read_script};
+pub use reading::{MOST_LINE_BYTES, MOST_SCRIPT_LINES, SCRIPT_BYTES, ScriptFault, read_script};

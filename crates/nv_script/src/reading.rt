@@ -19,13 +19,13 @@ use std::str;
 use thiserror::Error;
 
 /// The most lines of a script, those that are skipped counted too.
-const MOST_LINES: usize = 4096;
+pub const MOST_SCRIPT_LINES: usize = 4096;
 
 /// The most bytes of a line, its newline not counted.
-const MOST_LINE_BYTES: usize = 256;
+pub const MOST_LINE_BYTES: usize = 256;
 
 /// No good script has as many bytes.
-pub const SCRIPT_BYTES: u64 = (MOST_LINES * (MOST_LINE_BYTES + 1) + 1) as u64;
+pub const SCRIPT_BYTES: u64 = (MOST_SCRIPT_LINES * (MOST_LINE_BYTES + 1) + 1) as u64;
 
 /// Why a script came to no end. Shown as the program's error line, without the program's name.
 #[derive(Clone, Copy, Debug, PartialEq, Eq, Error)]
@@ -89,7 +89,7 @@ pub fn read_script(
     let text = without_last_newline(script);
     for (index, line) in text.split(|byte| *byte == b'\n').enumerate() {
         let number = index + 1;
-        if number > MOST_LINES {
+        if number > MOST_SCRIPT_LINES {
             return Err(ScriptFault::Line { number });
         }
         match read_line(alloc, line, geometry) {

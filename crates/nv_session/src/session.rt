@@ -2,6 +2,7 @@
 ghost use Rattle.std.specs.Prelude.{◌≡◌, ◌≤◌, replicate, None, IfOk};
 ghost use Rattle.std.specs.Option.{option_map};
 ghost use Rattle.ddr4_timing.specs.Limits.{lines_of};
+ghost use Rattle.ddr4_timing.specs.declared.timing.TheConstants.{MOST_LINES};
 ghost use Rattle.interleave_map.specs.declared.ready.Interleaving.{Interleaving};
 ghost use Rattle.save_device.specs.Device.{IsSettled, MayLeave, present};
 ghost use Rattle.save_device.specs.Memory.{state_of, IsPicked};
@@ -93,7 +94,7 @@ impl<K: ChannelPort + Drop, A: Wires<K> + Drop> Session<K, A> {
     /// How many lines the memory has.
     pub(crate) fn lines(&self) -> u64
         ensures is { result ≡ lines_of self.now.profile.checked.geometry }
-        ensures few { result ≤ 65536 }
+        ensures few { result ≤ MOST_LINES }
     {
         line_count(&self.profile.checked)
     }

@@ -6,7 +6,7 @@ use crate::board_name::BoardName;
 use crate::held::Held;
 use crate::host::Host;
 use crate::recorded_module::RecordedModule;
-use crate::tally::Tally;
+use crate::tally::AcceptedCount;
 use channel_port::ChannelPort;
 use energy_budget::Energy;
 use mark_board::{BoardSeat, MarkBoard};
@@ -70,7 +70,7 @@ impl<K: ChannelPort, D: SaveDevice, E: Energy, B: BoardName> Held<K, D, E, B> {
             mut seat,
             tally,
         } = self;
-        let Tally { mut book, mut rest } = tally;
+        let AcceptedCount { mut book, mut rest } = tally;
         for host in hosts {
             end_host(&marks, &mut seat, &mut rest, host);
         }

@@ -8,7 +8,7 @@ ghost use Rattle.nv_workers.specs.Marks.{ShowsNoMore, marks_of};
 
 use crate::board_name::BoardName;
 use crate::recorded_module::RecordedModule;
-use crate::tally::Tally;
+use crate::tally::AcceptedCount;
 use channel_port::ChannelPort;
 use energy_budget::Energy;
 use mark_board::{BoardSeat, MarkBoard};
@@ -24,7 +24,7 @@ pub struct Held<K: ChannelPort, D: SaveDevice, E: Energy, B: BoardName> {
     pub recorded: RecordedModule<K, D, E>,
     pub marks: Arc<MarkBoard, Global>,
     pub seat: BoardSeat,
-    pub tally: Tally<B>,
+    pub tally: AcceptedCount<B>,
     pub ghost kept: { IsBoardKept K.ChannelPort D.SaveDevice E.Energy B.BoardName
         recorded (arc_value marks) seat tally.book.total },
 }
@@ -45,7 +45,7 @@ impl<K: ChannelPort, D: SaveDevice, E: Energy, B: BoardName> Held<K, D, E, B> {
         recorded: RecordedModule<K, D, E>,
         marks: Arc<MarkBoard, Global>,
         seat: BoardSeat,
-        tally: Tally<B>,
+        tally: AcceptedCount<B>,
     ) -> Held<K, D, E, B>
         requires board { arc_value marks ≡ B.board }
         requires channels { (setup_of K.ChannelPort recorded.running).shape.channels

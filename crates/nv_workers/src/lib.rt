@@ -29,6 +29,6 @@ pub use opening::Opening;
 pub use recorded_module::RecordedModule;
 pub use saver::{SaverTurn, Saving, turn_at, working_of};
 pub use starting::{NotStarted, seated};
-pub use tally::Tally;
+pub use tally::AcceptedCount;
 pub use worker_gate::{Always, Gate, Turn};
 pub use worker_loops::{Ended, Seen, Working};

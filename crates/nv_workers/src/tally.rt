@@ -13,14 +13,14 @@ use std::sync::ledger::{Book, Share};
 /// The book of a board's ledger, and a share of no parts that the hosts' are merged into when the board is closed. Contracts
 /// see the book's total, how many writes of the hosts were accepted.
 #[derive(Drop)]
-pub struct Tally<B: BoardName> {
+pub struct AcceptedCount<B: BoardName> {
     pub book: Book<B>,
     pub rest: Share<B>,
     pub ghost parts: { rest.parts ≡ 0 },
     pub ghost amount: { rest.amount ≡ 0 },
 }
 
-impl<B: BoardName> Tally<B> {
+impl<B: BoardName> AcceptedCount<B> {
     /// Takes note of a write where it was accepted: in the history, and in the share of the host that wrote it.
     pub fn note(
         &mut self,

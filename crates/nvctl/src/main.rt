@@ -1,7 +1,7 @@
 //! Runs scripts on an NVDIMM-N controller.
 #![tactic(auto)]
 
-use command_faults::{Failure, Fault};
+use command_faults::{Failure, ProgramFault};
 use command_help::is_colored;
 use command_line::{Outlet, run, words_of};
 use std::env;
@@ -23,7 +23,7 @@ fn main(rt: HostRuntime) -> io::Result<ExitCode> {
     };
     let is_watched = rt.stderr().is_terminal();
     let Ok(mut writer) = BufWriter::new(rt.alloc(), Outlet::new(io::writer(&rt))) else {
-        return fails(&rt, &Failure::from(Fault::Memory));
+        return fails(&rt, &Failure::from(ProgramFault::Memory));
     };
     match run(&rt, &words, is_watched, &mut writer) {
         Ok(code) => Ok(code),

@@ -7,7 +7,7 @@ use Rattle.serde_json.specs.Data.{Data}
 use Rattle.crash_table.specs.Counting.{writes_found}
 use Rattle.crash_table.specs.declared.counts.Counts.{Counts}
 use Rattle.crash_table.specs.declared.table.Block.{Block}
-use Rattle.crash_table.specs.declared.table.Row.{Row}
+use Rattle.crash_table.specs.declared.table.OutcomeCount.{OutcomeCount}
 use Rattle.crash_table.specs.declared.table.Table.{Table}
 use Rattle.report_fields.specs.Fields.{Field, counts, counts_aligned, line_of, object_of, says, tells}
 use Rattle.report_fields.specs.Parts.{IsTold, data_of_told, text_of_told}
@@ -15,11 +15,11 @@ use Rattle.report_fields.specs.declared.told.Told.{Told}
 use Rattle.report_json.specs.Crashes.{blocks_in, counts_in, found_fields, found_kind, row_fields, table_in}
 
 -- a row by what is told of the restore, and by how many writes it holds
-abbrev pub row_by : Row → ℕ → List ℕ → Data → List Field
+abbrev pub row_by : OutcomeCount → ℕ → List ℕ → Data → List Field
 row_by row held text value = says (10 ∷ []) ∷ counts_aligned (codes "times") row.times 8 ∷ says (codes " ") ∷ tells (codes "restore") text value
     ∷ says (codes ", acknowledged ") ∷ counts (codes "held") held ∷ says (codes " of ") ∷ counts (codes "acknowledged") row.outcome.told ∷ []
 
-pub row_is : (row : Row) (restore : Told) (held : ℕ) → IsTold (found_kind row.outcome.found) (found_fields row.outcome.found) restore
+pub row_is : (row : OutcomeCount) (restore : Told) (held : ℕ) → IsTold (found_kind row.outcome.found) (found_fields row.outcome.found) restore
     → held ≡ min row.outcome.told (writes_found row.outcome.found) → row_by row held (text_of_told restore) (data_of_told restore) ≡ row_fields row
 row_is row restore held told holds =
     let text = line_of (found_fields row.outcome.found) in let value = object_of (found_kind row.outcome.found) (found_fields row.outcome.found) in

@@ -7,7 +7,7 @@ use Rattle.crash_table.specs.declared.stop.Stop.{Stop}
 use Rattle.crash_table.specs.declared.stop.Stop.TheVariants.{Dark, Loss}
 use Rattle.crash_table.specs.declared.table.AtStop.{AtStop}
 use Rattle.crash_table.specs.declared.table.Block.{Block}
-use Rattle.crash_table.specs.declared.table.Row.{Row}
+use Rattle.crash_table.specs.declared.table.OutcomeCount.{OutcomeCount}
 use Rattle.crash_table.specs.declared.table.Table.{Table}
 use Rattle.crash_table.specs.Counting.{writes_found}
 use Rattle.slot_store.specs.declared.restoring.RestoreError.{RestoreError}
@@ -43,14 +43,14 @@ found_fields (Image generation count verdict) = says (codes "generation ") ∷ c
 found_fields (Refused error) = refused_by (error_fields error)
 
 -- an outcome: how often it was found, what a restore answered, and how many of the acknowledged writes that holds
-abbrev pub row_fields : Row → List Field
+abbrev pub row_fields : OutcomeCount → List Field
 row_fields row = says (10 ∷ []) ∷ counts_aligned (codes "times") row.times 8 ∷ says (codes " ")
     ∷ within (codes "restore") (found_kind row.outcome.found) (found_fields row.outcome.found)
     ∷ says (codes ", acknowledged ") ∷ counts (codes "held") (min row.outcome.told (writes_found row.outcome.found))
     ∷ says (codes " of ") ∷ counts (codes "acknowledged") row.outcome.told ∷ []
 
 -- behind the rest of its line, each outcome on a line of its own
-abbrev pub outcomes : List Row → Field
+abbrev pub outcomes : List OutcomeCount → Field
 outcomes rows = each (codes "outcomes") (codes "outcome") (map row_fields rows)
 
 -- the first and the last line

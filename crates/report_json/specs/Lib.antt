@@ -1,5 +1,4 @@
 pub mod Verdicts
 pub mod Meanings
 pub mod Crashes
-pub mod Statistics
 pub mod Checked

@@ -5,8 +5,8 @@ use Rattle.ddr4_timing.specs.declared.command.Command.{Command}
 use Rattle.ddr4_timing.specs.declared.command.Command.TheVariants.{Act, Rd, Wr, Pre, PreAll, Ref, Sre}
 use Rattle.ddr4_timing.specs.declared.place.BankAddress.{BankAddress}
 use Rattle.command_trace.specs.declared.diagnosis.Diagnosis.{Diagnosis}
-use Rattle.command_trace.specs.declared.diagnosis.Numbered.{Numbered}
-use Rattle.command_trace.specs.declared.tally.Tally.{Tally}
+use Rattle.command_trace.specs.declared.diagnosis.NumberedCommand.{NumberedCommand}
+use Rattle.command_trace.specs.declared.tally.BrokenRule.{BrokenRule}
 use Rattle.report_fields.specs.Fields.{Field, says, counts, names, within, fields_in}
 
 -- how many commands it has, all of them lawful
@@ -31,15 +31,15 @@ command_fields (Ref rank) = names (codes "command") (codes "REF") ∷ spaced (co
 command_fields (Sre rank) = names (codes "command") (codes "SRE") ∷ spaced (codes "rank") rank
 
 -- the line of a command in its trace, and its clock, before what is told of it
-abbrev pub numbered_by : Numbered → List Field → List Field
+abbrev pub numbered_by : NumberedCommand → List Field → List Field
 numbered_by command behind = says (codes "line ") ∷ counts (codes "line") command.line ∷ says (codes ": ")
     ∷ counts (codes "clock") command.command.clock ∷ says (codes " ") ∷ behind
 
-abbrev pub numbered_fields : Numbered → List Field
+abbrev pub numbered_fields : NumberedCommand → List Field
 numbered_fields command = numbered_by command (command_fields command.command.cmd)
 
 -- a command of a fault
-abbrev pub fault_command : List ℕ → Numbered → List Field
+abbrev pub fault_command : List ℕ → NumberedCommand → List Field
 fault_command name command = says (codes "; ") ∷ within name (codes "command") (numbered_fields command) ∷ []
 
 -- the rule, why in words, the first command where it is another one, and the command at which the rule is broken
@@ -53,7 +53,7 @@ abbrev pub first_of : Field → ℕ → List Field
 first_of first count = first ∷ says (codes "; the first of ") ∷ counts (codes "commands") count ∷ []
 
 -- a rule that is broken, by the first fault of it
-abbrev pub tally_fields : ℕ → Tally → List ℕ → List Field
+abbrev pub tally_fields : ℕ → BrokenRule → List ℕ → List Field
 tally_fields channel tally why = first_of (within (codes "first") (codes "fault") (fault_fields channel tally.first why)) tally.count
 
 -- what is written

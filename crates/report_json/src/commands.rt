@@ -4,14 +4,14 @@ ghost use Rattle.report_fields.specs.Fields.{names};
 ghost use Rattle.report_fields.specs.Parts.{IsTold};
 ghost use Rattle.report_json.specs.Verdicts.{bank_fields, numbered_by, numbered_fields, spaced};
 
-use command_trace::Numbered;
+use command_trace::NumberedCommand;
 use ddr4_timing::command::Command;
 use ddr4_timing::place::BankAddress;
 use report_fields::{Part, Told, tell};
 use std::alloc::{AllocError, Global};
 
 /// What is told of a command and its line.
-pub(crate) fn tell_numbered(alloc: Global, command: &Numbered) -> Result<Told, AllocError>
+pub(crate) fn tell_numbered(alloc: Global, command: &NumberedCommand) -> Result<Told, AllocError>
     ensures { IfOk result (IsTold (codes "command") (numbered_fields command.now)) }
 {
     match command.command.cmd {
@@ -28,7 +28,7 @@ pub(crate) fn tell_numbered(alloc: Global, command: &Numbered) -> Result<Told, A
 // A command with a row or a column.
 fn tell_placed(
     alloc: Global,
-    command: &Numbered,
+    command: &NumberedCommand,
     name: &'static str,
     at: BankAddress,
     last: &'static str,
@@ -56,7 +56,11 @@ fn tell_placed(
     tell(alloc, "command", &parts)
 }
 
-fn tell_precharge(alloc: Global, command: &Numbered, at: BankAddress) -> Result<Told, AllocError>
+fn tell_precharge(
+    alloc: Global,
+    command: &NumberedCommand,
+    at: BankAddress,
+) -> Result<Told, AllocError>
     ensures { IfOk result (IsTold (codes "command") (numbered_by command.now
         (names (codes "command") (codes "PRE") ∷ bank_fields at))) }
 {
@@ -80,7 +84,7 @@ fn tell_precharge(alloc: Global, command: &Numbered, at: BankAddress) -> Result<
 // A command of a whole rank.
 fn tell_of_rank(
     alloc: Global,
-    command: &Numbered,
+    command: &NumberedCommand,
     name: &'static str,
     rank: u64,
 ) -> Result<Told, AllocError>

@@ -10,7 +10,7 @@ ghost use Rattle.crash_table.specs.declared.outcome.Found.TheVariants.{Image, Re
 ghost use Rattle.slot_store.specs.declared.restoring.RestoreError.TheVariants.{Damaged};
 
 use crate::written::write_told;
-use crash_table::{AtStop, Block, Counts, Found, Row, Stop, Table};
+use crash_table::{AtStop, Block, Counts, Found, OutcomeCount, Stop, Table};
 use nv_script::ScriptFault;
 use report_fields::{Part, Told, tell};
 use slot_store::{RestoreError, Slot, Verdict};
@@ -115,7 +115,7 @@ fn tell_found(alloc: Global, found: Found) -> Result<Told, AllocError>
 }
 
 // What is told of an outcome: how often it was found, what a restore answered, and how many of the acknowledged writes that holds.
-fn tell_row(alloc: Global, row: &Row) -> Result<Told, AllocError>
+fn tell_row(alloc: Global, row: &OutcomeCount) -> Result<Told, AllocError>
     ensures { IfOk result (IsTold (codes "outcome") (row_fields row.now)) }
 {
     let restore = tell_found(alloc, row.outcome.found)?;
@@ -133,7 +133,7 @@ fn tell_row(alloc: Global, row: &Row) -> Result<Told, AllocError>
     tell(alloc, "outcome", &parts)
 }
 
-fn tell_rows(alloc: Global, rows: &[Row]) -> Result<Vec<Told>, AllocError>
+fn tell_rows(alloc: Global, rows: &[OutcomeCount]) -> Result<Vec<Told>, AllocError>
     ensures { IfOk result (λ told. AreTold (codes "outcome") (map row_fields rows.now) told.items) }
 {
     let mut told = Vec::new(alloc);

@@ -4,11 +4,9 @@
 mod commands;
 mod crashes;
 mod meanings;
-mod statistics;
 mod verdicts;
 mod written;
 
 pub use crashes::{write_counts, write_stop, write_table};
 pub use meanings::{write_command_meaning, write_meaning};
-pub use statistics::{bank_object, channel_object, rank_object, shared_object, write_statistics};
 pub use verdicts::{write_fault, write_lawful, write_tallies, write_tally, write_verdicts};

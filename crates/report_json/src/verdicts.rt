@@ -8,10 +8,10 @@ ghost use Rattle.report_json.specs.Checked.{TellsBelow};
 ghost use Rattle.report_json.specs.Verdicts.{fault_fields, fault_in, first_of, lawful_fields, lawful_in, tally_fields};
 
 use crate::commands::tell_numbered;
-use crate::written::write_of_trace;
-use command_trace::{Diagnosis, Form, Source, Tally, TraceCheck, TraceFault};
+use command_trace::{BrokenRule, Diagnosis, Form, Source, TraceCheck, TraceFault};
 use ddr4_timing::timing::CommandRules;
 use report_fields::{Part, Told, tell};
+use statistics_report::write_of_trace;
 use std::alloc::{AllocError, Global};
 use std::io::Write;
 use std::rt::Files;
@@ -63,7 +63,12 @@ fn tell_fault(alloc: Global, channel: u64, found: &Diagnosis, why: &str) -> Resu
 }
 
 // What is told of a rule that the commands of a channel break: its first fault, and how many commands break it.
-fn tell_tally(alloc: Global, channel: u64, tally: &Tally, why: &str) -> Result<Told, AllocError>
+fn tell_tally(
+    alloc: Global,
+    channel: u64,
+    tally: &BrokenRule,
+    why: &str,
+) -> Result<Told, AllocError>
     ensures { IfOk result (IsTold (codes "faults") (tally_fields channel tally.now why.now)) }
 {
     let first = tell_fault(alloc, channel, &tally.first, why)?;
@@ -117,7 +122,7 @@ pub fn write_fault<W: Write>(
 pub fn write_tally<W: Write>(
     alloc: Global,
     channel: u64,
-    tally: &Tally,
+    tally: &BrokenRule,
     why: &str,
     is_json: bool,
     writer: &mut W,
@@ -200,7 +205,7 @@ pub fn write_tallies<R: Files + AllocGlobal, W: Write>(
 fn write_channel<W: Write>(
     alloc: Global,
     channel: u64,
-    tallies: &[Tally],
+    tallies: &[BrokenRule],
     is_json: bool,
     writer: &mut W,
 ) -> Result<(), TraceFault> {

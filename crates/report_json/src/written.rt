@@ -4,7 +4,6 @@ ghost use Rattle.std.specs.Io.KnownBytes.{Appends};
 ghost use Rattle.nv_script.specs.declared.reading.ScriptFault.TheVariants as fault;
 ghost use Rattle.report_fields.specs.Parts.{told_in};
 
-use command_trace::TraceFault;
 use nv_script::ScriptFault;
 use report_fields::Told;
 use std::alloc::Global;
@@ -25,22 +24,5 @@ pub(crate) fn write_told<W: Write>(
     match writer.write_all(text.as_bytes()) {
         Ok(()) => Ok(()),
         Err(_) => Err(ScriptFault::Writer),
-    }
-}
-
-/// The same, where a trace is told of.
-pub(crate) fn write_of_trace<W: Write>(
-    alloc: Global,
-    told: &Told,
-    is_json: bool,
-    writer: &mut W,
-) -> Result<(), TraceFault>
-    ensures { OnOk result (Appends (W.contents writer.old) (W.contents writer.new)
-        (told_in is_json told.now)) }
-{
-    match write_told(alloc, told, is_json, writer) {
-        Ok(()) => Ok(()),
-        Err(ScriptFault::Memory) => Err(TraceFault::Memory),
-        Err(_) => Err(TraceFault::Writer),
     }
 }

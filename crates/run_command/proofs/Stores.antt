@@ -1,5 +1,5 @@
 -- A run on the device of a store, told of the store.
-use Rattle.std.proofs.Common.{◌≡◌, ℕ, List, [], Option, Result, Ok, Err, IfOk, ap, subst, sym, ◌∙◌}
+use Rattle.std.proofs.Common.{◌≡◌, ℕ, List, Option, Result, Ok, Err, IfOk, ap, subst, sym, ◌∙◌}
 use Rattle.save_device.specs.Memory.{state_of}
 use Rattle.save_device.specs.declared.memory.MemoryDevice.{MemoryDevice}
 use Rattle.channel_port.specs.declared.port.ChannelPort.{Ghosts}
@@ -8,25 +8,26 @@ use Rattle.nv_session.specs.declared.wires.Wires as wires
 use Rattle.nv_script.specs.declared.answer.Answer.{Answer}
 use Rattle.nv_script.specs.declared.line.ScriptLine.{ScriptLine}
 use Rattle.nv_script.specs.Texts.{IsScript}
-use Rattle.script_runner.specs.Ended.{Lives}
+use Rattle.script_runner.specs.Ended.{Kept}
 use Rattle.script_runner.specs.Runs.{IsKeptRunOn}
 use Rattle.store_file.specs.Stores.{device_in}
 use Rattle.run_command.specs.Stored.{RunsOnStore, RunsScriptOn, size_for}
 
-module _ {K A : Type 0} (L : Ghosts K) (W : wires.Ghosts A K) (Wired : A → Type 0) (profile : Profile) (text : List ℕ) (kept : Option Lives) (device : MemoryDevice) where
-  pub runs_on_store : (size : ℕ) (bytes old new : List ℕ) → size ≡ size_for profile → bytes ≡ device_in size old
-      → ((answers : List Answer) × RunsScriptOn L W Wired profile bytes text [] answers kept device)
-      → device_in size new ≡ (state_of device).bytes → RunsOnStore L W Wired profile text kept old new
-  runs_on_store size bytes old new is begun ran left =
+module _ {K A : Type 0} (L : Ghosts K) (W : wires.Ghosts A K) (Wired : A → Type 0) (profile : Profile) (text : List ℕ) (kept : Option Kept) (device : MemoryDevice) where
+  pub runs_on_store : (before mid after : List Answer) (size : ℕ) (bytes old new : List ℕ) → after ≡ mid → size ≡ size_for profile → bytes ≡ device_in size old
+      → RunsScriptOn L W Wired profile bytes text before mid kept device
+      → device_in size new ≡ (state_of device).bytes → RunsOnStore L W Wired profile text before after kept old new
+  runs_on_store before mid after size bytes old new same is begun ran left =
       let on_old : bytes ≡ device_in (size_for profile) old = begun ∙ ap (λ (n : ℕ). device_in n old) is in
       record {
-        answers = ran.0;
         device = device;
-        runs = subst (λ (row : List ℕ). RunsScriptOn L W Wired profile row text [] ran.0 kept device) on_old ran.1;
+        runs =
+            subst (λ (answers : List Answer). RunsScriptOn L W Wired profile (device_in (size_for profile) old) text before answers kept device) (sym same)
+            (subst (λ (row : List ℕ). RunsScriptOn L W Wired profile row text before mid kept device) on_old ran);
         left = ap (λ (n : ℕ). device_in n new) (sym is) ∙ left;
       }
 
-module _ {K A E : Type 0} (L : Ghosts K) (W : wires.Ghosts A K) (Wired : A → Type 0) (profile : Profile) (text : List ℕ) (kept : Option Lives) where
+module _ {K A E : Type 0} (L : Ghosts K) (W : wires.Ghosts A K) (Wired : A → Type 0) (profile : Profile) (text : List ℕ) (kept : Option Kept) where
   pub script_ran : (bytes row : List ℕ) (lines : List ScriptLine) (before after : List Answer) (result : Result MemoryDevice E)
       → IsScript profile.checked.geometry text lines → row ≡ bytes
       → IfOk result (IsKeptRunOn L W Wired profile row lines before after kept)
@@ -37,10 +38,3 @@ module _ {K A E : Type 0} (L : Ghosts K) (W : wires.Ghosts A K) (Wired : A → T
     runs = subst (λ (r : List ℕ). IsKeptRunOn L W Wired profile r lines before after kept device) on runs;
   }
   script_ran bytes row lines before after (Err fault) script on runs = tt
-
-  -- the answers of a report that had none
-  pub new_report_ran : (bytes : List ℕ) (before after : List Answer) (result : Result MemoryDevice E) → before ≡ []
-      → IfOk result (RunsScriptOn L W Wired profile bytes text before after kept)
-      → IfOk result (λ device. (answers : List Answer) × RunsScriptOn L W Wired profile bytes text [] answers kept device)
-  new_report_ran bytes before after (Ok device) none ran = (after, subst (λ (r : List Answer). RunsScriptOn L W Wired profile bytes text r after kept device) none ran)
-  new_report_ran bytes before after (Err fault) none ran = tt

@@ -1,3 +1,4 @@
 pub mod Refused
 pub mod Stored
 pub mod Forms
+pub mod Requests

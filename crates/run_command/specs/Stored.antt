@@ -1,5 +1,5 @@
 -- What a run on a store leaves in it.
-use Rattle.std.specs.Prelude.{◌≡◌, ℕ, List, [], Option}
+use Rattle.std.specs.Prelude.{◌≡◌, ℕ, List, Option}
 use Rattle.ddr4_timing.specs.Limits.{lines_of}
 use Rattle.save_device.specs.Memory.{state_of}
 use Rattle.save_device.specs.declared.memory.MemoryDevice.{MemoryDevice}
@@ -10,7 +10,7 @@ use Rattle.nv_session.specs.declared.wires.Wires as wires
 use Rattle.nv_script.specs.declared.line.ScriptLine.{ScriptLine}
 use Rattle.nv_script.specs.declared.answer.Answer.{Answer}
 use Rattle.nv_script.specs.Texts.{IsScript}
-use Rattle.script_runner.specs.Ended.{Lives}
+use Rattle.script_runner.specs.Ended.{Kept}
 use Rattle.script_runner.specs.Runs.{IsKeptRunOn}
 use Rattle.store_file.specs.Stores.{device_in}
 
@@ -18,15 +18,14 @@ use Rattle.store_file.specs.Stores.{device_in}
 abbrev pub size_for : Profile → ℕ
 size_for profile = device_size (lines_of profile.checked.geometry)
 
--- the text is a script, and its lines were run on a device that began with these bytes; if the lists of its lives are kept, they are these
-pub record RunsScriptOn {K A : Type 0} (L : Ghosts K) (W : wires.Ghosts A K) (Wired : A → Type 0) (profile : Profile) (bytes text : List ℕ) (before after : List Answer) (kept : Option Lives) (device : MemoryDevice) : Type 0 where
+-- the text is a script, and its lines were run on a device that began with these bytes; what is kept of it, if anything is, is this
+pub record RunsScriptOn {K A : Type 0} (L : Ghosts K) (W : wires.Ghosts A K) (Wired : A → Type 0) (profile : Profile) (bytes text : List ℕ) (before after : List Answer) (kept : Option Kept) (device : MemoryDevice) : Type 0 where
   pub lines : List ScriptLine
   pub script : IsScript profile.checked.geometry text lines
   pub runs : IsKeptRunOn L W Wired profile bytes lines before after kept device
 
 -- it was run on the device that a store had, and the store has the device as the run left it
-pub record RunsOnStore {K A : Type 0} (L : Ghosts K) (W : wires.Ghosts A K) (Wired : A → Type 0) (profile : Profile) (text : List ℕ) (kept : Option Lives) (old new : List ℕ) : Type 0 where
-  pub answers : List Answer
+pub record RunsOnStore {K A : Type 0} (L : Ghosts K) (W : wires.Ghosts A K) (Wired : A → Type 0) (profile : Profile) (text : List ℕ) (before after : List Answer) (kept : Option Kept) (old new : List ℕ) : Type 0 where
   pub device : MemoryDevice
-  pub runs : RunsScriptOn L W Wired profile (device_in (size_for profile) old) text [] answers kept device
+  pub runs : RunsScriptOn L W Wired profile (device_in (size_for profile) old) text before after kept device
   pub left : device_in (size_for profile) new ≡ (state_of device).bytes

@@ -4,7 +4,9 @@
 mod lives;
 mod maps;
 mod printer;
+mod requests;
 mod script;
+mod statistics;
 mod stored;
 
 pub use maps::{report_on_maps, run_on_maps};

@@ -1,8 +1,8 @@
 // The commands of a run's lives, written to files.
-use command_faults::{Failure, Fault};
+use command_faults::{Failure, ProgramFault};
 use ddr4_timing::command::Stamped;
 use nv_script::Answer;
-use script_runner::{CommandBook, LifeCommands};
+use script_runner::LifeCommands;
 use std::alloc::Global;
 use std::fs::{self, File};
 use std::io::{self, BufWriter, Write};
@@ -33,7 +33,7 @@ fn put_life<R: Files + AllocGlobal>(rt: &R, life: &LifeCommands, name: &str) -> 
 }
 
 // The name of the file of a life, by how many lives come before it.
-fn name_of(alloc: Global, name: &str, before: usize) -> Result<String, Fault<'static>> {
+fn name_of(alloc: Global, name: &str, before: usize) -> Result<String, ProgramFault<'static>> {
     let number = before.saturating_add(1);
     let text = if before == 0 {
         name.to_string(alloc)
@@ -42,7 +42,7 @@ fn name_of(alloc: Global, name: &str, before: usize) -> Result<String, Fault<'st
     };
     match text {
         Ok(text) => Ok(text),
-        Err(_) => Err(Fault::Memory),
+        Err(_) => Err(ProgramFault::Memory),
     }
 }
 
@@ -50,12 +50,9 @@ fn name_of(alloc: Global, name: &str, before: usize) -> Result<String, Fault<'st
 /// dot. Where no life ran, the first file has no command.
 pub(crate) fn write_lives<'a, R: Files + AllocGlobal>(
     rt: &R,
-    book: CommandBook,
+    lives: &[LifeCommands],
     name: &'a str,
 ) -> Result<(), Failure<'a>> {
-    let Some(lives) = book.into_lives() else {
-        return Err(Failure::from(Fault::Memory));
-    };
     if lives.is_empty() {
         return match fs::write(rt, name, &[]) {
             Ok(()) => Ok(()),

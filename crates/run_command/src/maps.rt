@@ -1,10 +1,11 @@
 // Scripts over closures of both ready-made maps.
-ghost use Rattle.std.specs.Prelude.{◌≡◌, ◌<◌, List, [], IfSome, OnOk};
+ghost use Rattle.std.specs.Prelude.{◌≡◌, ◌<◌, List, IfSome, OnOk};
 ghost use Rattle.ddr4_timing.specs.Limits.{lines_of};
 ghost use Rattle.ddr4_timing.specs.Places.{LiesIn};
 ghost use Rattle.interleave_map.specs.Ready.{place_by};
 ghost use Rattle.nv_script.specs.Texts.{IsScript};
 ghost use Rattle.nv_script.specs.declared.line.ScriptLine.{ScriptLine};
+ghost use Rattle.script_runner.specs.Ended.{nothing};
 ghost use Rattle.script_runner.specs.Story.{AreAllAnswered};
 
 use crate::printer::AnswerPrinter;
@@ -45,7 +46,7 @@ pub fn report_on_maps<R: Report>(
     report: &mut R,
     book: &mut CommandBook,
 ) -> Result<MemoryDevice, ScriptFault>
-    requires { IfSome book.old (λ lives. lives ≡ []) }
+    requires { IfSome book.old (λ kept. kept ≡ nothing) }
     ensures answered { OnOk result ((lines : List ScriptLine)
         × IsScript profile.now.checked.geometry script.now lines
         × AreAllAnswered (lines_of profile.now.checked.geometry) lines

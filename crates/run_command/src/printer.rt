@@ -1,23 +1,25 @@
 // Answers, each written as a line.
-ghost use Rattle.std.specs.Prelude.{◌≡◌, ◌∷◌, ◌++◌, [], IfErr, OnOk};
+ghost use Rattle.std.specs.Prelude.{◌≡◌, ◌∷◌, ◌++◌, [], IfErr, IfSome, OnOk};
 ghost use Rattle.std.specs.Io.KnownBytes.{Appends};
 ghost use Rattle.run_command.specs.Forms.{line_in};
 ghost use Rattle.script_runner.specs.Story.{GivesOut};
 
 use answer_json::{write_answer, write_line};
 use ghost_trace::Trace;
+use kept_trace::KeptTrace;
 use nv_script::{Answer, ScriptFault};
 use script_runner::Report;
 use std::alloc::Global;
 use std::io;
 
-/// Writes each answer as a line: in its own words, or as an object. Both are made of what is told of it.
+/// Writes each answer as a line: in its own words, or as an object. Both are made of what is told of it. It keeps the answers where
+/// that is asked for.
 #[derive(Drop)]
 pub struct AnswerPrinter<'w, W: io::Write> {
     alloc: Global,
     is_json: bool,
     writer: &'w mut W,
-    taken: Trace<Answer>,
+    taken: KeptTrace<Answer>,
     refused: Trace<ScriptFault>,
 }
 
@@ -32,8 +34,35 @@ impl<'w, W: io::Write> AnswerPrinter<'w, W> {
             alloc,
             is_json,
             writer,
-            taken: Trace::new(),
+            taken: KeptTrace::new(),
             refused: Trace::new(),
+        }
+    }
+
+    /// Keeps the answers from now on, as far as there is memory for them; it has told none yet.
+    pub fn keep(&mut self)
+        requires { ⟦<AnswerPrinter<'w, W> as Report>⟧.answers self.old ≡ [] }
+        ensures { ⟦<AnswerPrinter<'w, W> as Report>⟧.answers self.new ≡ [] }
+    {
+        self.taken.keep(self.alloc);
+    }
+
+    /// The answers that were written, the oldest first; None where they weren't to be kept, or memory gave out.
+    pub fn answers(&self) -> Option<&[Answer]>
+        ensures { IfSome result (λ answers.
+            answers.now ≡ ⟦<AnswerPrinter<'w, W> as Report>⟧.answers self.now) }
+    {
+        self.taken.kept()
+    }
+
+    /// Writes out what its writer has taken.
+    pub fn flush(&mut self) -> Result<(), ScriptFault>
+        ensures { ⟦<AnswerPrinter<'w, W> as Report>⟧.answers self.new
+            ≡ ⟦<AnswerPrinter<'w, W> as Report>⟧.answers self.old }
+    {
+        match self.writer.flush() {
+            Ok(()) => Ok(()),
+            Err(_) => Err(ScriptFault::Writer),
         }
     }
 
@@ -63,7 +92,7 @@ impl<'w, W: io::Write> Report for AnswerPrinter<'w, W> {
     fn answer(&mut self, answer: Answer) -> Result<(), ScriptFault> {
         match self.write(&answer) {
             Ok(()) => {
-                self.taken.note(&answer);
+                self.taken.note(answer);
                 Ok(())
             }
             Err(fault) => {

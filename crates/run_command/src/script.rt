@@ -1,17 +1,20 @@
 // A script, run.
-ghost use Rattle.std.specs.Prelude.{◌≡◌, ◌⊎◌, ◌↔◌, [], codes, IfSome, IsErrAnd, IsSome};
+ghost use Rattle.std.specs.Prelude.{◌≡◌, ◌⊎◌, ◌↔◌, codes, IfSome, IsErrAnd, IsSome};
 ghost use Rattle.command_faults.specs.Exit.{status_of};
 ghost use Rattle.run_command.specs.Refused.{IsNoStore, NamesNoCommands, NamesNoStore};
+ghost use Rattle.script_runner.specs.Ended.{nothing};
 
 use crate::lives::write_lives;
 use crate::maps::report_on_maps;
 use crate::printer::AnswerPrinter;
+use crate::requests::waits_of_lives;
+use crate::statistics::write_statistics;
 use crate::stored::{StoredFault, bytes_of_device, run_on_store};
-use command_faults::{Failure, Fault, bytes_of, flush, profile_of};
+use command_faults::{Failure, ProgramFault, bytes_of, flush, profile_of};
 use file_device::OpenFault;
 use interleave_map::{Interleaving, ReadyMap};
 use nv_profile::Profile;
-use nv_script::SCRIPT_BYTES;
+use nv_script::{Answer, SCRIPT_BYTES, read_script};
 use save_device::MemoryDevice;
 use script_runner::CommandBook;
 use std::alloc::Global;
@@ -38,13 +41,15 @@ pub struct RunWords<'a> {
     pub store: Option<StoreWord<'a>>,
     /// Whether the answers are written as JSON.
     pub is_json: bool,
+    /// Whether the statistics of each of the script's lives are written behind the answers.
+    pub stats: bool,
     /// A file for all commands of the script's first life. Those of its later lives have files beside it.
     pub commands: Option<&'a str>,
 }
 
-/// Runs the script that the words name, with the answers to a writer, and writes the device's bytes to the file of the store
-/// then, and last the commands of the script's lives to theirs. Words that name no file for a store or for commands are refused with
-/// nothing written.
+/// Runs the script that the words name, with the answers to a writer, writes the device's bytes to the file of the store then, the
+/// statistics of the script's lives behind the answers, and last their commands to their files. Words that name no file for a store
+/// or for commands are refused with nothing written.
 pub fn run_named<'a, R, W>(rt: &R, words: RunWords<'a>, writer: &mut W) -> Result<(), Failure<'a>>
 where
     R: Files + StoreHost + Input + AllocGlobal,
@@ -61,28 +66,64 @@ where
     if let Some(fault) = commands_refusal(words) {
         return Err(Failure::from(fault));
     }
+    run_allowed(rt, words, writer)
+}
+
+// The same, with words that name files for all that is to be written.
+fn run_allowed<'a, R, W>(rt: &R, words: RunWords<'a>, writer: &mut W) -> Result<(), Failure<'a>>
+where
+    R: Files + StoreHost + Input + AllocGlobal,
+    W: Write,
+{
     let profile = profile_of(rt, words.profile)?;
     // as far as a good script can need them
     let script = bytes_of(rt, words.script, SCRIPT_BYTES)?;
-    let mut book = book_for(rt.alloc(), words.commands);
-    run_words(rt, &profile, &script, words, writer, &mut book)?;
+    let mut book = book_for(rt.alloc(), words);
+    let answers = run_words(rt, &profile, &script, words, writer, &mut book)?;
+    if !keeps_commands(words) {
+        return Ok(());
+    }
+    let Some(run) = book.into_run() else {
+        return Err(Failure::from(ProgramFault::Memory));
+    };
+    if let Some(answers) = answers {
+        let lines = read_script(rt.alloc(), &script, &profile.checked.geometry)?;
+        let waits = waits_of_lives(rt.alloc(), &profile, &lines, &answers, &run)?;
+        let rules = profile.checked.rules();
+        write_statistics(
+            rt.alloc(),
+            &rules,
+            run.lives(),
+            &waits,
+            words.is_json,
+            writer,
+        )?;
+        flush(writer)?;
+    }
     match words.commands {
-        Some(name) => write_lives(rt, book, name),
+        Some(name) => write_lives(rt, run.lives(), name),
         None => Ok(()),
     }
 }
 
-// The book of a run whose commands are to be kept if there is a file for them.
-fn book_for(alloc: Global, file: Option<&str>) -> CommandBook
-    ensures { IfSome result (λ lives. lives ≡ []) }
+// Are the commands of a run with these words to be kept?
+fn keeps_commands(words: RunWords<'_>) -> bool {
+    words.stats || words.commands.is_some()
+}
+
+// The book of a run, whose commands are kept if they are asked for.
+fn book_for(alloc: Global, words: RunWords<'_>) -> CommandBook
+    ensures { IfSome result (λ kept. kept ≡ nothing) }
 {
-    match file {
-        Some(_) => CommandBook::open(alloc),
-        None => CommandBook::closed(alloc),
+    if keeps_commands(words) {
+        CommandBook::open(alloc)
+    } else {
+        CommandBook::closed(alloc)
     }
 }
 
-// Runs a script as the words say, all but its commands.
+// Runs a script as the words say, all but its commands and statistics, and writes out the answers. Those that statistics are to be
+// made of come back.
 fn run_words<'a, R, W>(
     rt: &R,
     profile: &Profile,
@@ -90,24 +131,32 @@ fn run_words<'a, R, W>(
     words: RunWords<'a>,
     writer: &mut W,
     book: &mut CommandBook,
-) -> Result<(), Failure<'a>>
+) -> Result<Option<Vec<Answer>>, Failure<'a>>
 where
     R: Files + StoreHost + AllocGlobal,
     W: Write,
-    requires { IfSome book.old (λ lives. lives ≡ []) }
+    requires { IfSome book.old (λ kept. kept ≡ nothing) }
 {
+    let mut printer = AnswerPrinter::new(rt.alloc(), words.is_json, writer);
+    if words.stats {
+        printer.keep();
+    }
     match words.store {
-        Some(StoreWord::Kept(name)) => {
-            run_kept(rt, profile, script, name, words.is_json, writer, book)
-        }
+        Some(StoreWord::Kept(name)) => run_kept(rt, profile, script, name, &mut printer, book)?,
         Some(StoreWord::Out(name)) => {
-            let device = run_told(rt.alloc(), profile, script, words.is_json, writer, book)?;
-            write_store(rt, device, name)
+            let device = run_told(rt.alloc(), profile, script, &mut printer, book)?;
+            write_store(rt, device, name)?;
         }
         None => {
-            run_told(rt.alloc(), profile, script, words.is_json, writer, book)?;
-            Ok(())
+            run_told(rt.alloc(), profile, script, &mut printer, book)?;
         }
+    }
+    if !words.stats {
+        return Ok(None);
+    }
+    match printer.answers() {
+        Some(answers) => Ok(Some(answers.to_vec(rt.alloc())?)),
+        None => Err(Failure::from(ProgramFault::Memory)),
     }
 }
 
@@ -116,18 +165,16 @@ fn run_told<'a, W: Write>(
     alloc: Global,
     profile: &Profile,
     script: &[u8],
-    is_json: bool,
-    writer: &mut W,
+    printer: &mut AnswerPrinter<'_, W>,
     book: &mut CommandBook,
 ) -> Result<MemoryDevice, Failure<'a>>
-    requires { IfSome book.old (λ lives. lives ≡ []) }
+    requires { IfSome book.old (λ kept. kept ≡ nothing) }
 {
-    let mut printer = AnswerPrinter::new(alloc, is_json, writer);
-    match report_on_maps(alloc, profile, script, &mut printer, book) {
-        Ok(device) => {
-            flush(writer)?;
-            Ok(device)
-        }
+    match report_on_maps(alloc, profile, script, printer, book) {
+        Ok(device) => match printer.flush() {
+            Ok(()) => Ok(device),
+            Err(_) => Err(Failure::from(ProgramFault::File("-"))),
+        },
         Err(fault) => {
             let geometry = &profile.checked.geometry;
             Err(Failure::of_script(alloc, fault, script, geometry))
@@ -141,14 +188,13 @@ fn run_kept<'a, R, W>(
     profile: &Profile,
     script: &[u8],
     name: &str,
-    is_json: bool,
-    writer: &mut W,
+    printer: &mut AnswerPrinter<'_, W>,
     book: &mut CommandBook,
 ) -> Result<(), Failure<'a>>
 where
     R: Files + StoreHost + AllocGlobal,
     W: Write,
-    requires { IfSome book.old (λ lives. lives ≡ []) }
+    requires { IfSome book.old (λ kept. kept ≡ nothing) }
 {
     let mut store = match rt.open_kept(name) {
         Ok(store) => store,
@@ -162,9 +208,7 @@ where
         interleaving: Interleaving::Xor,
         checked: profile.checked,
     };
-    match run_on_store(
-        rt, profile, script, &lines, &xor, &mut store, is_json, writer, book,
-    ) {
+    match run_on_store(rt, profile, script, &lines, &xor, &mut store, printer, book) {
         Ok(()) => Ok(()),
         Err(StoredFault::Store(fault)) => Err(of_store(rt.alloc(), fault)),
         Err(StoredFault::Script(fault)) => {
@@ -178,40 +222,40 @@ where
 fn of_store<'a>(alloc: Global, fault: OpenFault) -> Failure<'a> {
     if let OpenFault::Io(error) = fault {
         if error.kind() == ErrorKind::OutOfMemory {
-            return Failure::from(Fault::Memory);
+            return Failure::from(ProgramFault::Memory);
         }
     }
     match fault.to_string(alloc) {
-        Ok(why) => Failure::from(Fault::Store(why)),
-        Err(_) => Failure::from(Fault::Memory),
+        Ok(why) => Failure::from(ProgramFault::Store(why)),
+        Err(_) => Failure::from(ProgramFault::Memory),
     }
 }
 
 // Why a run has no store of this word, if it has none.
-fn refusal(store: StoreWord<'_>, profile: &str, script: &str) -> Option<Fault<'static>>
+fn refusal(store: StoreWord<'_>, profile: &str, script: &str) -> Option<ProgramFault<'static>>
     ensures none { IsNoStore profile.now script.now store.entry → IsSome result }
     ensures status { IfSome result (λ fault. status_of fault ≡ 2) }
 {
     let (StoreWord::Out(name) | StoreWord::Kept(name)) = store;
     let why = why_no_store(name, profile, script)?;
     Some(match store {
-        StoreWord::Out(_) => Fault::Out(why),
-        StoreWord::Kept(_) => Fault::Kept(why),
+        StoreWord::Out(_) => ProgramFault::Out(why),
+        StoreWord::Kept(_) => ProgramFault::Kept(why),
     })
 }
 
 // Why a run writes no commands to the file of its words, if it has one for them.
-fn commands_refusal(words: RunWords<'_>) -> Option<Fault<'static>>
+fn commands_refusal(words: RunWords<'_>) -> Option<ProgramFault<'static>>
     ensures some { NamesNoCommands words.entry → IsSome result }
     ensures status { IfSome result (λ fault. status_of fault ≡ 2) }
 {
     let name = words.commands?;
     if let Some(why) = why_no_store(name, words.profile, words.script) {
-        return Some(Fault::Commands(why));
+        return Some(ProgramFault::Commands(why));
     }
     let (StoreWord::Out(store) | StoreWord::Kept(store)) = words.store?;
     if store == name {
-        return Some(Fault::Commands("names the store"));
+        return Some(ProgramFault::Commands("names the store"));
     }
     None
 }

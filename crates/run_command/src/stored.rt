@@ -1,7 +1,7 @@
 // Scripts on a store, whose device they begin with and leave there.
-ghost use Rattle.std.specs.Prelude.{◌≡◌, List, [], IfOk, IfSome, OnOk, length};
+ghost use Rattle.std.specs.Prelude.{◌≡◌, IfOk, IfSome, OnOk, length};
 ghost use Rattle.save_device.specs.Memory.{state_of};
-ghost use Rattle.nv_script.specs.declared.answer.Answer.{Answer};
+ghost use Rattle.script_runner.specs.Ended.{nothing};
 ghost use Rattle.script_runner.specs.Wiring.{IsMapOf, IsWiredFor};
 ghost use Rattle.store_file.specs.Stores.{IfHas, device_in};
 ghost use Rattle.run_command.specs.Stored.{RunsOnStore, RunsScriptOn, size_for};
@@ -70,7 +70,7 @@ pub fn report_on_bytes<'m, M: LineMap, R: Report>(
     requires lines_map { IsMapOf M.LineMap profile.now.checked.geometry lines_map.now }
     requires xor_map { IsMapOf M.LineMap profile.now.checked.geometry xor_map.now }
     requires size { length bytes.items ≡ size_for profile.now }
-    requires book { IfSome book.old (λ lives. lives ≡ []) }
+    requires book { IfSome book.old (λ kept. kept ≡ nothing) }
     ensures { IfOk result (λ device. RunsScriptOn ⟦<Ddr4Port<'m, M> as ChannelPort>⟧
         ⟦<Wiring<'m, M> as Wires<Ddr4Port<'m, M>>>⟧
         (IsWiredFor lines_map.now xor_map.now profile.now) profile.now
@@ -93,41 +93,6 @@ pub(crate) fn bytes_of_device(
     let mut bytes = Vec::from_elem(alloc, 0, device.len())?;
     let _done = device.read(0, &mut bytes);
     Ok(bytes)
-}
-
-// The same with each answer written as a line, of JSON or of the script's own words.
-fn write_on_bytes<'m, M: LineMap, W: Write>(
-    alloc: Global,
-    profile: &Profile,
-    script: &[u8],
-    lines_map: &'m M,
-    xor_map: &'m M,
-    bytes: Vec<u8>,
-    is_json: bool,
-    writer: &mut W,
-    book: &mut CommandBook,
-) -> Result<MemoryDevice, ScriptFault>
-    requires lines_map { IsMapOf M.LineMap profile.now.checked.geometry lines_map.now }
-    requires xor_map { IsMapOf M.LineMap profile.now.checked.geometry xor_map.now }
-    requires size { length bytes.items ≡ size_for profile.now }
-    requires book { IfSome book.old (λ lives. lives ≡ []) }
-    ensures { IfOk result (λ device. (answers : List Answer)
-        × RunsScriptOn ⟦<Ddr4Port<'m, M> as ChannelPort>⟧
-        ⟦<Wiring<'m, M> as Wires<Ddr4Port<'m, M>>>⟧
-        (IsWiredFor lines_map.now xor_map.now profile.now) profile.now
-        bytes.items script.now [] answers book.new device) }
-{
-    let mut printer = AnswerPrinter::new(alloc, is_json, writer);
-    report_on_bytes(
-        alloc,
-        profile,
-        script,
-        lines_map,
-        xor_map,
-        bytes,
-        &mut printer,
-        book,
-    )
 }
 
 // The device that a store has, and the store's form.
@@ -171,37 +136,35 @@ fn leave<S: Store, R: Files + AllocGlobal>(
     Ok(())
 }
 
-/// Runs a script on the device that a store has, and writes each answer as a line, of JSON if it is to be. Once the answers are out, the
-/// store has the device as the script left it, and a new book the commands of the script's lives. Where the run comes to no end, the
-/// store stays as it was.
-pub fn run_on_store<'m, M: LineMap, S: Store, R: Files + AllocGlobal, W: Write>(
+/// Runs a script on the device that a store has, with the answers to a printer. Once they are written out, the store has the device as the
+/// script left it, and a new book the commands of the script's lives. Where the run comes to no end, the store stays as it was.
+pub fn run_on_store<'m, 'w, M: LineMap, S: Store, R: Files + AllocGlobal, W: Write>(
     rt: &R,
     profile: &Profile,
     script: &[u8],
     lines_map: &'m M,
     xor_map: &'m M,
     store: &mut S,
-    is_json: bool,
-    writer: &mut W,
+    printer: &mut AnswerPrinter<'w, W>,
     book: &mut CommandBook,
 ) -> Result<(), StoredFault>
     requires lines_map { IsMapOf M.LineMap profile.now.checked.geometry lines_map.now }
     requires xor_map { IsMapOf M.LineMap profile.now.checked.geometry xor_map.now }
-    requires book { IfSome book.old (λ lives. lives ≡ []) }
+    requires book { IfSome book.old (λ kept. kept ≡ nothing) }
     ensures { OnOk result (IfHas (λ old. IfHas
         (RunsOnStore ⟦<Ddr4Port<'m, M> as ChannelPort>⟧
         ⟦<Wiring<'m, M> as Wires<Ddr4Port<'m, M>>>⟧
-        (IsWiredFor lines_map.now xor_map.now profile.now) profile.now script.now book.new old)
+        (IsWiredFor lines_map.now xor_map.now profile.now) profile.now script.now
+        (⟦<AnswerPrinter<'w, W> as Report>⟧.answers printer.old)
+        (⟦<AnswerPrinter<'w, W> as Report>⟧.answers printer.new) book.new old)
         (S.kept store.new)) (S.kept store.old)) }
 {
     let alloc = rt.alloc();
     let size = device_size(line_count(&profile.checked) as usize);
     let Begun { bytes, form } = begin(alloc, size, store)?;
-    let device = write_on_bytes(
-        alloc, profile, script, lines_map, xor_map, bytes, is_json, writer, book,
+    let device = report_on_bytes(
+        alloc, profile, script, lines_map, xor_map, bytes, printer, book,
     )?;
-    if writer.flush().is_err() {
-        return Err(StoredFault::Script(ScriptFault::Writer));
-    }
+    printer.flush()?;
     leave(rt, device, size, form, store)
 }

@@ -2,6 +2,7 @@
 use Rattle.std.specs.Prelude.{ℕ, ◌*◌, List, take, drop}
 use Rattle.std.specs.List.{concat}
 use Rattle.std.specs.Simd.{first_chunks}
+use Rattle.save_image.specs.declared.page.TheConstants.{PAGE_LINES}
 
 -- the bytes of lines, one line behind the other
 abbrev pub bytes_of : List (List ℕ) → List ℕ
@@ -9,7 +10,7 @@ bytes_of lines = concat lines
 
 -- the lines of a page of the body
 abbrev pub lines_of_page : ℕ → List (List ℕ) → List (List ℕ)
-lines_of_page page memory = take 64 (drop (64 * page) memory)
+lines_of_page page memory = take PAGE_LINES (drop (PAGE_LINES * page) memory)
 
 -- the bytes of a page of the body
 abbrev pub page_of : ℕ → List (List ℕ) → List ℕ

@@ -4,9 +4,11 @@
 #![tactic(auto)]
 
 mod body;
+mod page;
 mod reading;
 mod writing;
 
 pub use body::{page_bytes, page_lines};
+pub use page::{PAGE_BYTES, PAGE_LINES};
 pub use reading::{Header, HeaderFault, Version, read_header};
 pub use writing::{ARMED, header_bytes, header_bytes_2};

@@ -1,10 +1,12 @@
 // How a header is read.
 ghost use Rattle.std.specs.Prelude.{◌≡◌, ◌+◌, ◌<◌, ◌≤◌, ◌^◌, ◌↔◌, length, IsTrue, All, Ok, Some, None, IfOk, IfErr, IfSome, IsNone, OnErr};
 ghost use Rattle.save_image.specs.Header.{Fits};
+ghost use Rattle.save_image.specs.declared.page.TheConstants.{PAGE_BYTES};
 ghost use Rattle.save_image.specs.Reading.{IsSound, IsHeaderFault, HasMagic, HasPadding, number_in, part, version_in, digest_by, fields_end};
 ghost use Rattle.save_image.specs.Image.{header_in, header_of, fields_of};
 ghost use Rattle.save_image.specs.declared.reading.Header.{Header};
 
+use crate::PAGE_BYTES;
 use byteorder::{ByteOrder, LittleEndian};
 
 /// A version of the bytes of an image.
@@ -68,22 +70,22 @@ fn all_zero(bytes: &[u8]) -> bool
 
 // The number in eight bytes.
 #[tactic(auto, unfolding(crate::specs::Reading::number_in))]
-fn number_at(page: &[u8; 4096], at: usize) -> u64
-    requires { at + 8 ≤ 4096 }
+fn number_at(page: &[u8; PAGE_BYTES], at: usize) -> u64
+    requires { at + 8 ≤ PAGE_BYTES }
     ensures { result ≡ number_in page.now at }
 {
     LittleEndian::read_u64(&page[at..at + 8])
 }
 
 // Whether this text stands where the magic text has to.
-fn has_text(page: &[u8; 4096], text: &[u8; 8]) -> bool
+fn has_text(page: &[u8; PAGE_BYTES], text: &[u8; 8]) -> bool
     ensures { IsTrue result ↔ (part 8 16 page.now ≡ text.now) }
 {
     page[8..16] == text[..]
 }
 
 // The version that the magic text says, if it is one.
-fn version_at(page: &[u8; 4096]) -> Option<Version>
+fn version_at(page: &[u8; PAGE_BYTES]) -> Option<Version>
     ensures some { IfSome result
         (λ version. HasMagic page.now × (version ≡ version_in page.now)) }
     ensures none { IsNone result → ¬ HasMagic page.now }
@@ -98,7 +100,7 @@ fn version_at(page: &[u8; 4096]) -> Option<Version>
 }
 
 // The digest in a page of this version, if it has one.
-fn digest_at(page: &[u8; 4096], version: Version) -> Option<[u8; 32]>
+fn digest_at(page: &[u8; PAGE_BYTES], version: Version) -> Option<[u8; 32]>
     ensures { result ≡ digest_by version page.now }
 {
     match version {
@@ -131,7 +133,7 @@ fn has_padding(page: &[u8], version: Version) -> bool
 }
 
 // The fields of a header, or the first fault.
-fn fields(page: &[u8; 4096], lines: u64) -> Result<Header, HeaderFault>
+fn fields(page: &[u8; PAGE_BYTES], lines: u64) -> Result<Header, HeaderFault>
     ensures ok { IfOk result (λ header. IsSound page.now lines × (header ≡ fields_of page.now)) }
     ensures err { IfErr result (IsHeaderFault page.now lines) }
 {
@@ -163,7 +165,7 @@ fn fields(page: &[u8; 4096], lines: u64) -> Result<Header, HeaderFault>
 
 /// The header of an image of so many lines, in either version. A page that is none is refused with the first fault in the
 /// order of the numbers; the first two bytes may be anything, and so may the digest.
-pub fn read_header(page: &[u8; 4096], lines: u64) -> Result<Header, HeaderFault>
+pub fn read_header(page: &[u8; PAGE_BYTES], lines: u64) -> Result<Header, HeaderFault>
     // What is read is spelled so, each byte of it.
     ensures found { IfOk result (λ header.
         (page.now ≡ header_of header lines) × Fits header.generation header.count) }

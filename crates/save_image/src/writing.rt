@@ -1,7 +1,9 @@
 // How a header is written.
 ghost use Rattle.std.specs.Prelude.{◌≡◌, ◌+◌, ◌≤◌, [], ◌∷◌, ◌++◌, length, Some, None};
 ghost use Rattle.save_image.specs.Header.{header, fields, arm_byte, zeros, le8, spliced};
+ghost use Rattle.save_image.specs.declared.page.TheConstants.{PAGE_BYTES};
 
+use crate::PAGE_BYTES;
 use byteorder::{ByteOrder, LittleEndian};
 
 /// The arm byte of an image that is armed; that of a clear one is 0.
@@ -26,10 +28,10 @@ fn put(page: &mut [u8], at: usize, bytes: &[u8])
 
 // A page of zero bytes.
 #[tactic(auto, unfolding(crate::specs::Header::zeros))]
-fn zero_page() -> [u8; 4096]
-    ensures { result ≡ zeros 4096 }
+fn zero_page() -> [u8; PAGE_BYTES]
+    ensures { result ≡ zeros PAGE_BYTES }
 {
-    [0; 4096]
+    [0; PAGE_BYTES]
 }
 
 // A page with a closed gate, an arm byte, a magic text and the numbers, and zeros behind them.
@@ -39,7 +41,7 @@ fn page_of_fields(
     count: u64,
     lines: u64,
     armed: bool,
-) -> [u8; 4096]
+) -> [u8; PAGE_BYTES]
     ensures { result ≡ fields 0 (arm_byte armed) magic.now generation count lines ++ zeros 4056 }
 {
     let mut page = zero_page();
@@ -54,7 +56,7 @@ fn page_of_fields(
 
 /// The header of an image of version 1, with a closed gate: its generation (1 to 2^63 - 1), the number of writes that it
 /// holds (at most 2^62), the number of lines, and whether it is armed. Opening the gate, byte 0, is a write of its own.
-pub fn header_bytes(generation: u64, count: u64, lines: u64, armed: bool) -> [u8; 4096]
+pub fn header_bytes(generation: u64, count: u64, lines: u64, armed: bool) -> [u8; PAGE_BYTES]
     ensures { result ≡ header None 0 (arm_byte armed) generation count lines }
 {
     page_of_fields(b"NVSAVE01", generation, count, lines, armed)
@@ -67,7 +69,7 @@ pub fn header_bytes_2(
     lines: u64,
     armed: bool,
     digest: &[u8; 32],
-) -> [u8; 4096]
+) -> [u8; PAGE_BYTES]
     ensures { result ≡ header (Some digest.now) 0 (arm_byte armed) generation count lines }
 {
     let mut page = page_of_fields(b"NVSAVE02", generation, count, lines, armed);

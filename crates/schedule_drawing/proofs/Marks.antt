@@ -5,20 +5,20 @@ use Rattle.std.specs.Option.{option_to_list}
 use Rattle.ddr4_timing.specs.declared.command.Command.{Command}
 use Rattle.ddr4_timing.specs.declared.command.Command.TheVariants.{Act, Rd, Wr, Pre, PreAll, Ref, Sre}
 use Rattle.ddr4_timing.specs.declared.timing.Timing.{Timing}
-use Rattle.command_trace.specs.declared.entry.Entry.{Entry}
+use Rattle.command_trace.specs.declared.entry.ChannelCommand.{ChannelCommand}
 use Rattle.schedule_drawing.specs.declared.lanes.Lane.{Lane}
 use Rattle.schedule_drawing.specs.declared.shapes.Shape.{Shape}
 use Rattle.schedule_drawing.specs.Lanes.{bank_lane}
 use Rattle.schedule_drawing.specs.Drawing.{closes, drawn, is_mark, mark_of, row_bar, span_for}
 
 -- a bar is no mark
-bar-unmarked : (lane : Lane) (row from end : ℕ) (close : Option Entry) (rest : List Shape)
+bar-unmarked : (lane : Lane) (row from end : ℕ) (close : Option ChannelCommand) (rest : List Shape)
     → filter is_mark (row_bar lane row from end close ∷ rest) ≡ filter is_mark rest
 bar-unmarked lane row from end None rest = refl
 bar-unmarked lane row from end (Some close) rest = refl
 
 -- what is drawn from a command on is no mark
-span-unmarked : (t : Timing) (end channel clock : ℕ) (behind : List Entry) (x : Command) (rest : List Shape)
+span-unmarked : (t : Timing) (end channel clock : ℕ) (behind : List ChannelCommand) (x : Command) (rest : List Shape)
     → filter is_mark (option_to_list (span_for t end channel clock behind x) ++ rest) ≡ filter is_mark rest
 span-unmarked t end channel clock behind (Act at row) rest =
     bar-unmarked (bank_lane channel at) row clock end (find (closes channel at) behind) rest
@@ -29,7 +29,7 @@ span-unmarked t end channel clock behind (PreAll rank) rest = refl
 span-unmarked t end channel clock behind (Ref rank) rest = refl
 span-unmarked t end channel clock behind (Sre rank) rest = refl
 
-pub marks-drawn : (t : Timing) (end : ℕ) (entries : List Entry) → filter is_mark (drawn t end entries) ≡ map mark_of entries
+pub marks-drawn : (t : Timing) (end : ℕ) (entries : List ChannelCommand) → filter is_mark (drawn t end entries) ≡ map mark_of entries
 marks-drawn t end [] = refl
 marks-drawn t end (entry ∷ behind) =
     ap (λ (marks : List Shape). mark_of entry ∷ marks)

@@ -15,7 +15,7 @@ use Rattle.auto_precharge.specs.declared.issued.Issued.{Issued}
 use Rattle.auto_precharge.specs.declared.waiting.Closing.{Closing}
 use Rattle.auto_precharge.proofs.Settling.{column_has_bank, place_of_next, placed_later, placed_none, placed_set}
 use Rattle.command_trace.specs.Channels.{issued_to}
-use Rattle.command_trace.specs.declared.entry.Entry.{Entry}
+use Rattle.command_trace.specs.declared.entry.ChannelCommand.{ChannelCommand}
 use Rattle.command_trace.specs.declared.entry.Located.{Located}
 use Rattle.schedule_drawing.specs.Entries.{AreAllLawful, AreFoundIn, LieIn, entries_found, entries_stood_for, entries_to, stood_for}
 use Rattle.schedule_drawing.proofs.FlawLemmas.{range_more}
@@ -81,34 +81,34 @@ stood_for_in r found channel lawful =
 
 entries_in : (g : Geometry) (channel : ℕ) (list : List Stamped) → AreIn g list → LieIn g (entries_to channel list)
 entries_in g channel list here =
-    All-map (λ (entry : Entry). IsInGeometry g entry.command.cmd) (λ (x : Stamped). record { channel = channel; command = x }) list here
+    All-map (λ (entry : ChannelCommand). IsInGeometry g entry.command.cmd) (λ (x : Stamped). record { channel = channel; command = x }) list here
 
 -- the channels up to one
-abbrev pub stood_up_to : CommandRules → List Located → ℕ → List Entry
+abbrev pub stood_up_to : CommandRules → List Located → ℕ → List ChannelCommand
 stood_up_to r found n = flat_map (λ channel. entries_to channel (stood_for r found channel)) (range_with_len 0 n)
 
 pub stood_more : (r : CommandRules) (found : List Located) (n : ℕ) → stood_up_to r found (n + 1) ≡ stood_up_to r found n ++ entries_to n (stood_for r found n)
 stood_more r found n =
     ap (λ (l : List ℕ). flat_map (λ channel. entries_to channel (stood_for r found channel)) l) (range_more n)
     ∙ flat_map-append (λ channel. entries_to channel (stood_for r found channel)) (range_with_len 0 n) (n ∷ [])
-    ∙ ap (λ (l : List Entry). stood_up_to r found n ++ l) (append-nil (entries_to n (stood_for r found n)))
+    ∙ ap (λ (l : List ChannelCommand). stood_up_to r found n ++ l) (append-nil (entries_to n (stood_for r found n)))
 
 up_to_in : (r : CommandRules) (found : List Located) (n : ℕ) → ((channel : ℕ) → channel < n → IsLawfulTrace r (issued_to channel found)) → LieIn r.geometry (stood_up_to r found n)
-up_to_in r found zero lawful = All-nil (λ (entry : Entry). IsInGeometry r.geometry entry.command.cmd)
+up_to_in r found zero lawful = All-nil (λ (entry : ChannelCommand). IsInGeometry r.geometry entry.command.cmd)
 up_to_in r found (suc n) lawful =
     let next : n + 1 ≡ suc n = omega arith in
     subst (λ (k : ℕ). LieIn r.geometry (stood_up_to r found k)) next
-    (subst (λ (l : List Entry). LieIn r.geometry l) (sym (stood_more r found n))
-    (All-append (λ (entry : Entry). IsInGeometry r.geometry entry.command.cmd) (stood_up_to r found n) _ (up_to_in r found n (λ k below. lawful k (omega (arith, below))))
+    (subst (λ (l : List ChannelCommand). LieIn r.geometry l) (sym (stood_more r found n))
+    (All-append (λ (entry : ChannelCommand). IsInGeometry r.geometry entry.command.cmd) (stood_up_to r found n) _ (up_to_in r found n (λ k below. lawful k (omega (arith, below))))
     (entries_in r.geometry n (stood_for r found n) (stood_for_in r found n (lawful n (omega arith))))))
 
 pub stood_for_all_in : (r : CommandRules) (found : List Located) → AreAllLawful r found → LieIn r.geometry (entries_stood_for r found)
 stood_for_all_in r found lawful = up_to_in r found r.geometry.channels lawful
 
 -- the same of a list that is known to be this one
-pub stood_lie : (r : CommandRules) (found : List Located) (entries : List Entry) → entries ≡ entries_stood_for r found → AreAllLawful r found → LieIn r.geometry entries
-stood_lie r found entries is lawful = subst (λ (l : List Entry). LieIn r.geometry l) (sym is) (stood_for_all_in r found lawful)
+pub stood_lie : (r : CommandRules) (found : List Located) (entries : List ChannelCommand) → entries ≡ entries_stood_for r found → AreAllLawful r found → LieIn r.geometry entries
+stood_lie r found entries is lawful = subst (λ (l : List ChannelCommand). LieIn r.geometry l) (sym is) (stood_for_all_in r found lawful)
 
-pub found_lie : (g : Geometry) (found : List Located) (entries : List Entry) → entries ≡ entries_found found → AreFoundIn g found → LieIn g entries
+pub found_lie : (g : Geometry) (found : List Located) (entries : List ChannelCommand) → entries ≡ entries_found found → AreFoundIn g found → LieIn g entries
 found_lie g found entries is here =
-    subst (λ (l : List Entry). LieIn g l) (sym is) (All-map (λ (entry : Entry). IsInGeometry g entry.command.cmd) (λ (l : Located). l.entry) found here)
+    subst (λ (l : List ChannelCommand). LieIn g l) (sym is) (All-map (λ (entry : ChannelCommand). IsInGeometry g entry.command.cmd) (λ (l : Located). l.entry) found here)

@@ -6,7 +6,7 @@ use Rattle.ddr4_timing.specs.declared.command.Command.{Command}
 use Rattle.ddr4_timing.specs.declared.command.Command.TheVariants.{Act, Rd, Wr, Pre, PreAll, Ref}
 use Rattle.ddr4_timing.specs.declared.place.BankAddress.{BankAddress}
 use Rattle.ddr4_timing.specs.declared.timing.Timing.{Timing}
-use Rattle.command_trace.specs.declared.entry.Entry.{Entry}
+use Rattle.command_trace.specs.declared.entry.ChannelCommand.{ChannelCommand}
 use Rattle.schedule_drawing.specs.declared.lanes.Lane.{Lane}
 use Rattle.schedule_drawing.specs.declared.shapes.Shape.{Shape}
 use Rattle.schedule_drawing.specs.declared.shapes.Shape.TheVariants as shape
@@ -38,7 +38,7 @@ abbrev pub later : ℕ → ℕ → ℕ
 later clock clocks = min (clock + clocks) (2 ^ 64 - 1)
 
 -- the command, at its clock
-abbrev pub mark_of : Entry → Shape
+abbrev pub mark_of : ChannelCommand → Shape
 mark_of entry = shape.Mark (lane_of entry) entry.command.clock entry.command.cmd
 
 abbrev pub is_mark : Shape → Bool
@@ -52,11 +52,11 @@ closes_bank bank (Pre at) = is_bank at bank
 closes_bank bank (PreAll rank) = rank == bank.rank
 closes_bank bank _ = false
 
-abbrev pub closes : ℕ → BankAddress → Entry → Bool
+abbrev pub closes : ℕ → BankAddress → ChannelCommand → Bool
 closes channel bank entry = entry.channel == channel && closes_bank bank entry.command.cmd
 
 -- the bar of a row, by the command that closes it, or to the end
-abbrev pub row_bar : Lane → ℕ → ℕ → ℕ → Option Entry → Shape
+abbrev pub row_bar : Lane → ℕ → ℕ → ℕ → Option ChannelCommand → Shape
 row_bar lane row from end (Some close) = shape.Row lane row from close.command.clock true
 row_bar lane row from end None = shape.Row lane row from end false
 
@@ -65,7 +65,7 @@ abbrev pub burst : ℕ → ℕ → Command → Shape
 burst channel from command = shape.Data (bus_lane channel) from (later from 4) command
 
 -- what is drawn from a command on, of those behind it and the end of the list
-abbrev pub span_for : Timing → ℕ → ℕ → ℕ → List Entry → Command → Option Shape
+abbrev pub span_for : Timing → ℕ → ℕ → ℕ → List ChannelCommand → Command → Option Shape
 span_for t end channel clock behind (Act at row) =
     Some (row_bar (bank_lane channel at) row clock end (find (closes channel at) behind))
 span_for t end channel clock behind (Rd at column) =
@@ -76,11 +76,11 @@ span_for t end channel clock behind (Ref rank) =
     Some (shape.Refresh (rank_lane channel rank) clock (later clock t.t_rfc))
 span_for t end channel clock behind _ = None
 
-abbrev pub span_of : Timing → ℕ → Entry → List Entry → Option Shape
+abbrev pub span_of : Timing → ℕ → ChannelCommand → List ChannelCommand → Option Shape
 span_of t end entry behind = span_for t end entry.channel entry.command.clock behind entry.command.cmd
 
 -- each command in its turn, and what is drawn from it on
-abbrev pub drawn : Timing → ℕ → List Entry → List Shape
+abbrev pub drawn : Timing → ℕ → List ChannelCommand → List Shape
 drawn t end [] = []
 drawn t end (entry ∷ behind) = mark_of entry ∷ (option_to_list (span_of t end entry behind) ++ drawn t end behind)
 

@@ -3,7 +3,7 @@ use Rattle.std.specs.Prelude.{ℕ}
 use Rattle.ddr4_timing.specs.declared.command.Command.{Command}
 use Rattle.ddr4_timing.specs.declared.command.Command.TheVariants.{Act, Rd, Wr, Pre, PreAll, Ref, Sre}
 use Rattle.ddr4_timing.specs.declared.place.BankAddress.{BankAddress}
-use Rattle.command_trace.specs.declared.entry.Entry.{Entry}
+use Rattle.command_trace.specs.declared.entry.ChannelCommand.{ChannelCommand}
 use Rattle.schedule_drawing.specs.declared.lanes.Lane.{Lane}
 use Rattle.schedule_drawing.specs.declared.lanes.LaneKind.TheVariants.{Rank, Bank, Bus}
 
@@ -26,5 +26,5 @@ lane_for channel (PreAll rank) = rank_lane channel rank
 lane_for channel (Ref rank) = rank_lane channel rank
 lane_for channel (Sre rank) = rank_lane channel rank
 
-abbrev pub lane_of : Entry → Lane
+abbrev pub lane_of : ChannelCommand → Lane
 lane_of entry = lane_for entry.channel entry.command.cmd

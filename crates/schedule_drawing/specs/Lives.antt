@@ -1,11 +1,11 @@
 -- The clocks of a life.
 use Rattle.std.specs.Prelude.{ℕ, ◌≤◌, List, All, fold, max}
-use Rattle.command_trace.specs.declared.entry.Entry.{Entry}
+use Rattle.command_trace.specs.declared.entry.ChannelCommand.{ChannelCommand}
 use Rattle.schedule_drawing.specs.declared.shapes.Shape.{Shape}
 use Rattle.schedule_drawing.specs.Drawing.{shape_to}
 
 -- the last clock of a life that began with a clock
-abbrev pub latest_clock : ℕ → List Entry → ℕ
+abbrev pub latest_clock : ℕ → List ChannelCommand → ℕ
 latest_clock begin entries = fold (λ last entry. max last entry.command.clock) begin entries
 
 -- no shape ends behind the clock

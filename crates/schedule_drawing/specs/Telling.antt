@@ -2,7 +2,7 @@
 use Rattle.std.specs.Prelude.{◌≡◌, ℕ, Bool, true, false, List, [], ◌∷◌, map, take, drop, filter_map, All, AllPairs, Option, Some, None}
 use Rattle.std.specs.List.{flat_map}
 use Rattle.ddr4_timing.specs.declared.timing.Timing.{Timing}
-use Rattle.command_trace.specs.declared.entry.Entry.{Entry}
+use Rattle.command_trace.specs.declared.entry.ChannelCommand.{ChannelCommand}
 use Rattle.nv_script.specs.declared.answer.Answer.{Answer}
 use Rattle.nv_script.specs.declared.answer.Answer.TheVariants as answer
 use Rattle.schedule_drawing.specs.declared.schedule.Schedule.{Schedule}
@@ -11,7 +11,7 @@ use Rattle.schedule_drawing.specs.Drawing.{drawn, later}
 use Rattle.schedule_drawing.specs.Lives.{EndBy, latest_clock}
 
 -- the command that an answer tells, of a life whose clocks begin with this one
-abbrev pub entry_told : ℕ → Answer → Option Entry
+abbrev pub entry_told : ℕ → Answer → Option ChannelCommand
 entry_told begin (answer.Issued channel command) =
     Some (record { channel = channel; command = record { clock = later begin command.clock; cmd = command.cmd } })
 entry_told begin other = None
@@ -36,7 +36,7 @@ pub record ToldLife : Type 0 where
   pub begin : ℕ
   pub answers : List Answer
 
-abbrev pub entries_told : ToldLife → List Entry
+abbrev pub entries_told : ToldLife → List ChannelCommand
 entries_told life = filter_map (entry_told life.begin) life.answers
 
 -- what is drawn of it

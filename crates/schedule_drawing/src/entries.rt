@@ -3,7 +3,7 @@ ghost use Rattle.std.specs.Prelude.{◌≡◌, ◌↔◌, [], false, IfOk, IsTru
 ghost use Rattle.ddr4_timing.specs.Lawful.{IsInGeometry};
 ghost use Rattle.schedule_drawing.specs.Entries.{AreInTime, AreFoundIn, has_closing};
 
-use command_trace::{Entry, Located, NoCommand, TraceFault, TraceReader};
+use command_trace::{ChannelCommand, Located, NoCommand, TraceFault, TraceReader};
 use ddr4_timing::command::Command;
 use ddr4_timing::timing::Geometry;
 use std::alloc::Global;
@@ -29,7 +29,7 @@ struct Rising {
 
 impl Rising {
     // Does the command's clock rise in its channel?
-    fn take(&mut self, entry: &Entry) -> bool {
+    fn take(&mut self, entry: &ChannelCommand) -> bool {
         let channel = entry.channel;
         let clock = entry.command.clock;
         if channel >= 8 || clock < self.least[channel as usize] {

@@ -4,7 +4,7 @@ ghost use Rattle.schedule_drawing.specs.Flaws.{AddsFlaws, AreFlawsOf, commands_i
 
 use crate::lanes::Lane;
 use all_faults::all_faults;
-use command_trace::Entry;
+use command_trace::ChannelCommand;
 use ddr4_timing::command::Stamped;
 use ddr4_timing::fault::Fault;
 use ddr4_timing::rules::Rule;
@@ -20,7 +20,11 @@ pub struct Flaw {
 }
 
 // The entries of a channel.
-fn entries_in(alloc: Global, channel: u64, entries: &[Entry]) -> Result<Vec<Entry>, AllocError>
+fn entries_in(
+    alloc: Global,
+    channel: u64,
+    entries: &[ChannelCommand],
+) -> Result<Vec<ChannelCommand>, AllocError>
     ensures { IfOk result (λ own. own.items ≡ entries_in channel entries.now) }
 {
     entries
@@ -31,14 +35,14 @@ fn entries_in(alloc: Global, channel: u64, entries: &[Entry]) -> Result<Vec<Entr
 }
 
 // The commands of entries.
-fn commands_in(alloc: Global, entries: &[Entry]) -> Result<Vec<Stamped>, AllocError>
+fn commands_in(alloc: Global, entries: &[ChannelCommand]) -> Result<Vec<Stamped>, AllocError>
     ensures { IfOk result (λ commands. commands.items ≡ commands_in entries.now) }
 {
     entries.iter().map(|entry| entry.command).collect(alloc)
 }
 
 // The flaw of a fault of the commands of a channel.
-fn flaw_told(own: &[Entry], fault: &Fault) -> Option<Flaw>
+fn flaw_told(own: &[ChannelCommand], fault: &Fault) -> Option<Flaw>
     ensures { result ≡ flaw_told own.now fault.now }
 {
     let entry = own.get(fault.second)?;
@@ -50,7 +54,11 @@ fn flaw_told(own: &[Entry], fault: &Fault) -> Option<Flaw>
 }
 
 // Takes in the flaws of faults.
-fn put_flaws(flaws: &mut Vec<Flaw>, own: &[Entry], faults: &[Fault]) -> Result<(), AllocError>
+fn put_flaws(
+    flaws: &mut Vec<Flaw>,
+    own: &[ChannelCommand],
+    faults: &[Fault],
+) -> Result<(), AllocError>
     ensures { OnOk result (flaws.new.items
         ≡ flaws.old.items ++ filter_map (flaw_told own.now) faults.now) }
 {
@@ -70,7 +78,7 @@ fn add_flaws(
     alloc: Global,
     c: &CommandRules,
     channel: u64,
-    entries: &[Entry],
+    entries: &[ChannelCommand],
 ) -> Result<(), AllocError>
     ensures { OnOk result (AddsFlaws c.now channel entries.now flaws.old.items flaws.new.items) }
 {
@@ -82,7 +90,11 @@ fn add_flaws(
 
 /// The commands of a trace that break a rule, channel by channel, each with its rule.
 #[tactic(auto, using(crate::proofs::FlawLemmas::adds_more))]
-pub fn flaws_of(alloc: Global, c: &CommandRules, entries: &[Entry]) -> Result<Vec<Flaw>, AllocError>
+pub fn flaws_of(
+    alloc: Global,
+    c: &CommandRules,
+    entries: &[ChannelCommand],
+) -> Result<Vec<Flaw>, AllocError>
     ensures { IfOk result (λ flaws. AreFlawsOf c.now entries.now flaws.items) }
 {
     let mut flaws = Vec::new(alloc);

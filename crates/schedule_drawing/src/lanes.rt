@@ -2,7 +2,7 @@
 ghost use Rattle.std.specs.Prelude.{◌≡◌};
 ghost use Rattle.schedule_drawing.specs.Lanes.{bank_lane, bus_lane, lane_of, rank_lane};
 
-use command_trace::Entry;
+use command_trace::ChannelCommand;
 use ddr4_timing::command::Command;
 use ddr4_timing::place::BankAddress;
 use std::fmt;
@@ -56,7 +56,7 @@ impl Lane {
     }
 
     /// The lane of a command: its bank's, or its rank's where it names no bank.
-    pub fn of(entry: &Entry) -> Lane
+    pub fn of(entry: &ChannelCommand) -> Lane
         ensures { result ≡ lane_of entry.now }
     {
         match entry.command.cmd {

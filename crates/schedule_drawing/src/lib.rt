@@ -24,7 +24,7 @@ pub use fault::DrawFault;
 pub use flaws::{Flaw, flaws_of};
 pub use lanes::{Lane, LaneKind};
 pub use layout::Layout;
-pub use schedule::{Event, EventKind, Schedule};
+pub use schedule::{EventKind, Schedule, ScheduleEvent};
 pub use shapes::{Shape, bar_of_row, shapes_of};
 pub use stood_for::entries_drawn;
 pub use svg::write_svg;

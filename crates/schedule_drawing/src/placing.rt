@@ -1,6 +1,6 @@
 // The lines in which the texts of events stand.
 use crate::axis::Axis;
-use crate::schedule::{Event, EventKind};
+use crate::schedule::{EventKind, ScheduleEvent};
 use std::alloc::{AllocError, Global};
 
 /// Pixels of a letter.
@@ -27,7 +27,7 @@ impl<'a> Placing<'a> {
     pub(crate) fn of(
         alloc: Global,
         axis: &Axis,
-        events: &'a [Event],
+        events: &'a [ScheduleEvent],
         kind: EventKind,
     ) -> Result<Placing<'a>, AllocError> {
         let mut placing = Placing {

@@ -6,7 +6,7 @@ ghost use Rattle.schedule_drawing.specs.Range.{is_within, part_within};
 use crate::flaws::Flaw;
 use crate::range::parts_of;
 use crate::shapes::{Shape, shapes_of};
-use command_trace::Entry;
+use command_trace::ChannelCommand;
 use ddr4_timing::timing::Timing;
 use std::alloc::{AllocError, Global};
 
@@ -27,7 +27,7 @@ pub enum EventKind {
 
 /// An event behind the commands up to a clock.
 #[derive(Drop)]
-pub struct Event {
+pub struct ScheduleEvent {
     pub clock: u64,
     pub kind: EventKind,
     pub text: String,
@@ -39,7 +39,7 @@ pub struct Event {
 pub struct Schedule {
     pub shapes: Vec<Shape>,
     pub begins: Vec<u64>,
-    pub events: Vec<Event>,
+    pub events: Vec<ScheduleEvent>,
     pub flaws: Vec<Flaw>,
     // the clocks that are shown
     pub(crate) first: u64,
@@ -50,7 +50,7 @@ pub struct Schedule {
 }
 
 // The last clock of a life that began with a clock.
-fn last_of(begin: u64, entries: &[Entry]) -> u64
+fn last_of(begin: u64, entries: &[ChannelCommand]) -> u64
     ensures { result ≡ latest_clock begin entries.now }
 {
     entries
@@ -109,7 +109,7 @@ impl Schedule {
         alloc: Global,
         t: &Timing,
         begin: u64,
-        entries: &[Entry],
+        entries: &[ChannelCommand],
     ) -> Result<(), AllocError>
         ensures life { OnOk result (AddsLife t.now begin entries.now self.old self.new) }
         ensures flaws { self.new.flaws ≡ self.old.flaws }

@@ -7,7 +7,7 @@ ghost use Rattle.schedule_drawing.specs.Lanes.{bank_lane};
 ghost use Rattle.schedule_drawing.specs.OpenRows.{ShowsRow};
 
 use crate::lanes::Lane;
-use command_trace::Entry;
+use command_trace::ChannelCommand;
 use ddr4_timing::command::Command;
 use ddr4_timing::place::BankAddress;
 use ddr4_timing::timing::Timing;
@@ -94,7 +94,7 @@ fn is_same(a: BankAddress, b: BankAddress) -> bool
 }
 
 // Does the command close a bank of the channel in which a row is open?
-fn is_closing(channel: u64, bank: BankAddress, entry: &Entry) -> bool
+fn is_closing(channel: u64, bank: BankAddress, entry: &ChannelCommand) -> bool
     ensures { result ≡ closes channel bank entry.now }
 {
     if entry.channel != channel {
@@ -109,7 +109,7 @@ fn is_closing(channel: u64, bank: BankAddress, entry: &Entry) -> bool
 }
 
 // The first command that closes a bank of the channel.
-fn closing(channel: u64, bank: BankAddress, behind: &[Entry]) -> Option<Entry>
+fn closing(channel: u64, bank: BankAddress, behind: &[ChannelCommand]) -> Option<ChannelCommand>
     ensures { result ≡ find (closes channel bank) behind.now }
 {
     behind
@@ -119,7 +119,7 @@ fn closing(channel: u64, bank: BankAddress, behind: &[Entry]) -> Option<Entry>
 }
 
 // The bar of a row, by the command that closes its bank.
-fn bar_of(lane: Lane, row: u64, from: u64, end: u64, close: Option<Entry>) -> Shape
+fn bar_of(lane: Lane, row: u64, from: u64, end: u64, close: Option<ChannelCommand>) -> Shape
     ensures { result ≡ row_bar lane row from end close }
 {
     match close {
@@ -148,7 +148,7 @@ pub fn bar_of_row(
     row: u64,
     from: u64,
     end: u64,
-    behind: &[Entry],
+    behind: &[ChannelCommand],
 ) -> Shape
     ensures first { result ≡ row_bar (bank_lane channel bank) row from end
         (find (closes channel bank) behind.now) }
@@ -176,7 +176,12 @@ fn data_of(channel: u64, from: u64, command: Command) -> Shape
 }
 
 // What is drawn from a command on, of those behind it and the end.
-fn span_from(t: &Timing, end: u64, entry: &Entry, behind: &[Entry]) -> Option<Shape>
+fn span_from(
+    t: &Timing,
+    end: u64,
+    entry: &ChannelCommand,
+    behind: &[ChannelCommand],
+) -> Option<Shape>
     ensures { result ≡ span_of t.now end entry.now behind.now }
 {
     let channel = entry.channel;
@@ -200,8 +205,8 @@ fn push_shapes(
     shapes: &mut Vec<Shape>,
     t: &Timing,
     end: u64,
-    entry: &Entry,
-    behind: &[Entry],
+    entry: &ChannelCommand,
+    behind: &[ChannelCommand],
 ) -> Result<(), AllocError>
     ensures { OnOk result (shapes.new.items ≡ shapes.old.items
         ++ mark_of entry.now ∷ option_to_list (span_of t.now end entry.now behind.now)) }
@@ -223,7 +228,7 @@ fn push_shapes(
 pub fn shapes_of(
     alloc: Global,
     t: &Timing,
-    entries: &[Entry],
+    entries: &[ChannelCommand],
     end: u64,
 ) -> Result<Vec<Shape>, AllocError>
     ensures drawn { IfOk result (λ shapes. shapes.items ≡ drawn t.now end entries.now) }

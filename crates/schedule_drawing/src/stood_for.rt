@@ -8,7 +8,7 @@ ghost use Rattle.schedule_drawing.specs.Entries.{AreAllLawful, AreInTime, AreFou
 
 use crate::entries::has_closing;
 use auto_precharge::{Issued, unfold};
-use command_trace::{Entry, Front, Located, NoCommand, TraceFault};
+use command_trace::{ChannelCommand, CommandChecker, Located, NoCommand, TraceFault};
 use ddr4_timing::command::Stamped;
 use ddr4_timing::timing::CommandRules;
 use std::alloc::{AllocError, Global};
@@ -43,7 +43,7 @@ fn first_broken(rules: &CommandRules, own: &[Located]) -> Option<u64>
     requires { AreInTime own.now }
     ensures { IsNone result ↔ IsLawfulTrace rules.now (issued_in own.now) }
 {
-    let mut front = Front::new(rules);
+    let mut front = CommandChecker::new(rules);
     for i in 0..own.len() {
         // `is_lawful` answers it in the end
         let _lawful = front.take(rules, &own[i]);
@@ -79,11 +79,15 @@ fn list_of(
 }
 
 // Takes in the commands of a channel.
-fn add_list(entries: &mut Vec<Entry>, channel: u64, list: &[Stamped]) -> Result<(), AllocError>
+fn add_list(
+    entries: &mut Vec<ChannelCommand>,
+    channel: u64,
+    list: &[Stamped],
+) -> Result<(), AllocError>
     ensures { OnOk result (entries.new.items ≡ entries.old.items ++ entries_to channel list.now) }
 {
     for i in 0..list.len() {
-        entries.push(Entry {
+        entries.push(ChannelCommand {
             channel,
             command: list[i],
         })?;
@@ -96,7 +100,7 @@ fn entries_stood_for(
     alloc: Global,
     rules: &CommandRules,
     found: &[Located],
-) -> Result<Vec<Entry>, TraceFault>
+) -> Result<Vec<ChannelCommand>, TraceFault>
     requires { AreInTime found.now }
     ensures is { IfOk result (λ entries. entries.items ≡ entries_stood_for rules.now found.now) }
     ensures lawful { IfOk result (λ entries. AreAllLawful rules.now found.now) }
@@ -115,7 +119,7 @@ fn entries_lawful(
     alloc: Global,
     rules: &CommandRules,
     found: &[Located],
-) -> Result<Vec<Entry>, TraceFault>
+) -> Result<Vec<ChannelCommand>, TraceFault>
     requires { AreInTime found.now }
     ensures is { IfOk result (λ entries. entries.items ≡ entries_stood_for rules.now found.now) }
     ensures lawful { IfOk result (λ entries. AreAllLawful rules.now found.now) }
@@ -126,7 +130,7 @@ fn entries_lawful(
 }
 
 // The commands as they stand in the trace.
-fn entries_found(alloc: Global, found: &[Located]) -> Result<Vec<Entry>, AllocError>
+fn entries_found(alloc: Global, found: &[Located]) -> Result<Vec<ChannelCommand>, AllocError>
     ensures { IfOk result (λ entries. entries.items ≡ entries_found found.now) }
 {
     found.iter().map(|it| it.entry).collect(alloc)
@@ -139,11 +143,12 @@ pub fn entries_drawn(
     alloc: Global,
     rules: &CommandRules,
     found: &[Located],
-) -> Result<Vec<Entry>, TraceFault>
+) -> Result<Vec<ChannelCommand>, TraceFault>
     requires early { AreInTime found.now }
     requires lie { AreFoundIn rules.now.geometry found.now }
     ensures drawn { IfOk result (λ entries. entries.items ≡ entries_drawn rules.now found.now) }
-    ensures lawful { IsTrue (has_closing found.now) → IfOk result (λ entries. AreAllLawful rules.now found.now) }
+    ensures lawful { IsTrue (has_closing found.now)
+        → IfOk result (λ entries. AreAllLawful rules.now found.now) }
     ensures lie { IfOk result (λ entries. LieIn rules.now.geometry entries.items) }
 {
     if has_closing(found) {

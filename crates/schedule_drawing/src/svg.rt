@@ -60,7 +60,7 @@ const STYLE: &str = "text { font: 10px sans-serif; fill: #111 }
 
 /// What a picture is drawn with.
 #[derive(Drop)]
-struct Picture<'a, W> {
+struct SvgPicture<'a, W> {
     axis: &'a Axis,
     layout: &'a Layout,
     // its right edge
@@ -81,7 +81,7 @@ pub fn write_svg<W: Write>(
     let device = Placing::of(alloc, &axis, &schedule.events, EventKind::Device)?;
     let modes = Placing::of(alloc, &axis, &schedule.events, EventKind::Mode)?;
     let texts = device.end().max(modes.end());
-    let mut picture = Picture {
+    let mut picture = SvgPicture {
         axis: &axis,
         layout: &layout,
         right: axis
@@ -112,7 +112,7 @@ fn clock_of_life(begins: &[u64], clock: u64) -> u64 {
     clock.saturating_sub(begin.unwrap_or(0))
 }
 
-impl<W: Write> Picture<'_, W> {
+impl<W: Write> SvgPicture<'_, W> {
     fn x(&self, clock: u64) -> u64 {
         self.axis.x(clock).saturating_add(LEFT)
     }

@@ -3,9 +3,9 @@ ghost use Rattle.std.specs.Prelude.{◌≡◌, ◌<◌, ◌≤◌, false, length
 ghost use Rattle.schedule_drawing.specs.Schedules.{AddsLife};
 ghost use Rattle.schedule_drawing.specs.Telling.{IsOneLife, StartsLife, TellsAll, begins_life};
 
-use crate::schedule::{Event, EventKind, Schedule};
+use crate::schedule::{EventKind, Schedule, ScheduleEvent};
 use arm_state::Loss;
-use command_trace::Entry;
+use command_trace::ChannelCommand;
 use ddr4_timing::command::Stamped;
 use ddr4_timing::timing::Timing;
 use nv_script::Answer;
@@ -19,11 +19,11 @@ fn is_beginning(answer: &Answer) -> bool
 }
 
 // The command that an answer tells, of a life whose clocks begin with this one.
-fn entry_told(begin: u64, answer: &Answer) -> Option<Entry>
+fn entry_told(begin: u64, answer: &Answer) -> Option<ChannelCommand>
     ensures { result ≡ Rattle.schedule_drawing.specs.Telling.entry_told begin answer.now }
 {
     match *answer {
-        Answer::Issued { channel, command } => Some(Entry {
+        Answer::Issued { channel, command } => Some(ChannelCommand {
             channel,
             command: Stamped {
                 clock: begin.saturating_add(command.clock),
@@ -35,7 +35,11 @@ fn entry_told(begin: u64, answer: &Answer) -> Option<Entry>
 }
 
 // The commands that answers tell, of a life whose clocks begin with this one.
-fn entries_told(alloc: Global, begin: u64, answers: &[Answer]) -> Result<Vec<Entry>, AllocError>
+fn entries_told(
+    alloc: Global,
+    begin: u64,
+    answers: &[Answer],
+) -> Result<Vec<ChannelCommand>, AllocError>
     ensures { IfOk result (λ entries. entries.items
         ≡ filter_map (Rattle.schedule_drawing.specs.Telling.entry_told begin) answers.now) }
 {
@@ -96,7 +100,7 @@ fn mode_of(answer: &Answer) -> Option<&'static str> {
 // The events that answers of a life tell: each behind the commands that were told before it.
 fn tell_events(
     alloc: Global,
-    events: &mut Vec<Event>,
+    events: &mut Vec<ScheduleEvent>,
     begin: u64,
     answers: &[Answer],
 ) -> Result<(), AllocError> {
@@ -107,12 +111,12 @@ fn tell_events(
         }
         if let Some(kind) = kind_of(answer) {
             let text = format!(in alloc; "{answer}")?;
-            events.push(Event { clock, kind, text })?;
+            events.push(ScheduleEvent { clock, kind, text })?;
         }
         if let Some(mode) = mode_of(answer) {
             let text = mode.to_string(alloc)?;
             let kind = EventKind::Mode;
-            events.push(Event { clock, kind, text })?;
+            events.push(ScheduleEvent { clock, kind, text })?;
         }
     }
     Ok(())

@@ -3,6 +3,7 @@ use Rattle.std.specs.Prelude.{◌≡◌, ◌⊎◌, ℕ, ◌+◌, ◌<◌, ◌�
 use Rattle.ddr4_timing.specs.declared.timing.Geometry.{Geometry}
 use Rattle.nv_profile.specs.Nothing.{HoldsOfNone}
 use Rattle.nv_script.specs.Texts.{ReadsAs, text_lines}
+use Rattle.nv_script.specs.declared.reading.TheConstants.{MOST_SCRIPT_LINES}
 use Rattle.script_report.specs.declared.lint.BadLine.{BadLine}
 
 -- the line with this number, counted from 1, comes to nothing, or is the first behind the last that a script may have
@@ -10,8 +11,8 @@ pub record IsBadLine (geometry : Geometry) (texts : List (List ℕ)) (number : �
   pub place : ℕ
   pub numbered : number ≡ place + 1
   pub within : place < length texts
-  pub reached : place ≤ 4096
-  pub bad : (place ≡ 4096) ⊎ HoldsOfNone (ReadsAs geometry (get_or texts place []))
+  pub reached : place ≤ MOST_SCRIPT_LINES
+  pub bad : (place ≡ MOST_SCRIPT_LINES) ⊎ HoldsOfNone (ReadsAs geometry (get_or texts place []))
 
 abbrev pub numbers_of : List BadLine → List ℕ
 numbers_of bad = map (λ line. line.number) bad

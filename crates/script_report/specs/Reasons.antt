@@ -1,13 +1,14 @@
 -- What is told of a bad line.
 use Rattle.std.specs.Prelude.{ℕ, List, [], ◌∷◌, ◌++◌, codes, decimal, flat_map, Some, None}
+use Rattle.nv_script.specs.declared.reading.TheConstants.{MOST_LINE_BYTES, MOST_SCRIPT_LINES}
 use Rattle.script_report.specs.declared.lint.BadLine.{BadLine}
 use Rattle.script_report.specs.declared.reason.Reason.{Reason}
 use Rattle.script_report.specs.declared.reason.Reason.TheVariants as reason
 
 -- why it is none
 abbrev pub reason_text : Reason → List ℕ
-reason_text reason.TooMany = codes "a script has at most " ++ decimal 4096 ++ codes " lines"
-reason_text (reason.TooLong bytes) = codes "a line has at most " ++ (decimal 256 ++ (codes " bytes, here " ++ decimal bytes))
+reason_text reason.TooMany = codes "a script has at most " ++ decimal MOST_SCRIPT_LINES ++ codes " lines"
+reason_text (reason.TooLong bytes) = codes "a line has at most " ++ (decimal MOST_LINE_BYTES ++ (codes " bytes, here " ++ decimal bytes))
 reason_text reason.Mark =
     codes "a byte order mark stands at the beginning: leave it out with sed '1s/^" ++ 92 ∷ codes "xef" ++ 92 ∷ codes "xbb" ++ 92 ∷ codes "xbf//'"
 reason_text reason.NoText = codes "the line is not UTF-8"

@@ -6,4 +6,4 @@ mod reason;
 mod verbs;
 
 pub use lint::{BadLine, bad_lines, tell_bad_lines};
-pub use reason::{MOST_LINES, Reason, why_bad};
+pub use reason::{Reason, why_bad};

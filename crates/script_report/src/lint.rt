@@ -8,9 +8,9 @@ ghost use Rattle.nv_script.specs.declared.line.ScriptLine.{ScriptLine};
 ghost use Rattle.script_report.specs.BadLines.{AreBadLines};
 ghost use Rattle.script_report.specs.Reasons.{bad_lines_text};
 
-use crate::reason::{MOST_LINES, Reason, why_bad};
+use crate::reason::{Reason, why_bad};
 use ddr4_timing::timing::Geometry;
-use nv_script::{ScriptFault, read_script};
+use nv_script::{MOST_SCRIPT_LINES, ScriptFault, read_script};
 use std::alloc::{AllocError, Global};
 use std::{fmt, io};
 
@@ -89,7 +89,7 @@ pub fn bad_lines<'t>(
     let lines = lines_of(alloc, script)?;
     for place in 0..lines.len() {
         let number = place + 1;
-        if place == MOST_LINES {
+        if place == MOST_SCRIPT_LINES {
             bad.push(BadLine {
                 number,
                 reason: Reason::TooMany,

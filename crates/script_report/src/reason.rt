@@ -3,14 +3,9 @@ use crate::verbs::{NAMES, Part, VERBS, Verb};
 use ddr4_timing::timing::Geometry;
 use interleave_map::Interleaving;
 use near_word::near_word;
+use nv_script::{MOST_LINE_BYTES, MOST_SCRIPT_LINES};
 use std::alloc::{AllocError, Global};
 use std::{fmt, str};
-
-/// The most lines of a script.
-pub const MOST_LINES: usize = 4096;
-
-/// The most bytes of a line.
-const MOST_LINE_BYTES: usize = 256;
 
 /// Why a line of a script is none. Shown in words, without an end of line.
 #[derive(Clone, Copy, Debug, PartialEq, Eq)]
@@ -72,7 +67,7 @@ impl fmt::Display for Reason<'_> {
 
     fn fmt<W: fmt::Write>(&self, f: &mut fmt::Formatter<W>) -> fmt::Result {
         match *self {
-            Reason::TooMany => write!(f, "a script has at most {MOST_LINES} lines"),
+            Reason::TooMany => write!(f, "a script has at most {MOST_SCRIPT_LINES} lines"),
             Reason::TooLong { bytes } => write!(
                 f,
                 "a line has at most {MOST_LINE_BYTES} bytes, here {bytes}"

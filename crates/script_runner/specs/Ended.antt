@@ -1,5 +1,5 @@
 -- The lives of a run, and what the channels of each have issued.
-use Rattle.std.specs.Prelude.{◌≡◌, true, if◌then◌else◌, List, [], ◌∷◌, ◌++◌, Option, Some, None}
+use Rattle.std.specs.Prelude.{◌≡◌, ℕ, true, if◌then◌else◌, List, [], ◌∷◌, ◌++◌, Option, Some, None, length, map}
 use Rattle.ddr4_timing.specs.declared.command.Stamped.{Stamped}
 use Rattle.channel_port.specs.declared.port.ChannelPort.{Ghosts}
 use Rattle.channel_set.specs.Issuing.{issued_in}
@@ -15,33 +15,70 @@ use Rattle.script_runner.specs.Story.{Exchange}
 abbrev pub Lives : Type 0
 Lives = List (List (List Stamped))
 
--- who keeps the lists of lives has those of these too, or keeps none any more
-abbrev pub Notes : Lives → Option Lives → Option Lives → Type 0
-Notes ended old None = Unit {0}
-Notes ended None (Some new) = ⊥
-Notes ended (Some old) (Some new) = new ≡ old ++ ended
+-- What is kept of a run: the lists of its lives; and before each line, and at the end, how many commands each channel of the life that
+-- ran had issued, with an empty list where none ran
+pub record Kept : Type 0 where
+  pub lives : Lives
+  pub counts : List (List ℕ)
+
+-- nothing yet
+abbrev pub nothing : Kept
+nothing = record { lives = []; counts = [] }
+
+-- lives alone, and counts alone
+abbrev pub of_lives : Lives → Kept
+of_lives lives = record { lives = lives; counts = [] }
+
+abbrev pub of_counts : List ℕ → Kept
+of_counts counts = record { lives = []; counts = counts ∷ [] }
+
+-- the one, and then the other
+abbrev pub joined : Kept → Kept → Kept
+joined first later = record { lives = first.lives ++ later.lives; counts = first.counts ++ later.counts }
+
+-- who keeps what a run leaves has this too, or keeps nothing any more
+abbrev pub Notes : Kept → Option Kept → Option Kept → Type 0
+Notes more old None = Unit {0}
+Notes more None (Some new) = ⊥
+Notes more (Some old) (Some new) = new ≡ joined old more
 
 -- the lists of a life, if there is one
 abbrev pub lists_if : {K : Type 0} (L : Ghosts K) → Option (Module K L) → Lives
 lists_if L None = []
 lists_if L (Some it) = issued_in L it.channels ∷ []
 
+-- how many commands each of its channels has issued
+abbrev pub counts_if : {K : Type 0} (L : Ghosts K) → Option (Module K L) → List ℕ
+counts_if L None = []
+counts_if L (Some it) = map length (issued_in L it.channels)
+
 module _ {K A : Type 0} {L : Ghosts K} {W : wires.Ghosts A K} where
   -- those of the life that runs, if one does
   abbrev pub lists_in : Session K A L W → Lives
   lists_in session = lists_if L session.life
 
+  abbrev pub counts_in : Session K A L W → List ℕ
+  counts_in session = counts_if L session.life
+
   -- those of the life that a line ends
   abbrev pub ended_by : ScriptLine → Session K A L W → Lives
   ended_by asked old = if begins_life asked then lists_in old else []
 
-  -- Lines are done, in turn, and these lives were ended by them; what the channels of each had issued keeps the timing rules.
-  abbrev pub EndLives : List Exchange → Session K A L W → Session K A L W → Lives → Type 0
-  EndLives [] old new lives = (new ≡ old) × (lives ≡ [])
-  EndLives (exchange ∷ later) old new lives =
-      (mid : Session K A L W) × (rest : Lives) × DoesEach exchange.asked exchange.answers old mid × (begins_life exchange.asked ≡ true → KeepsRules old)
-      × (lives ≡ ended_by exchange.asked old ++ rest) × EndLives later mid new rest
+  -- what is kept before a line, and at the end
+  abbrev pub kept_before : ScriptLine → Session K A L W → Kept
+  kept_before asked old = joined (of_counts (counts_in old)) (of_lives (ended_by asked old))
 
-  -- the lives of a run, the one that runs at its end too
-  abbrev pub AreLives : List Exchange → Session K A L W → Session K A L W → Lives → Type 0
-  AreLives story first last lives = (ended : Lives) × EndLives story first last ended × (lives ≡ ended ++ lists_in last)
+  abbrev pub kept_last : Session K A L W → Kept
+  kept_last last = joined (of_lives (lists_in last)) (of_counts (counts_in last))
+
+  -- Lines are done, in turn, and this is kept of them: the lives that they ended, and the counts before each of them. What the channels
+  -- of a life that ended had issued keeps the timing rules.
+  abbrev pub EndLives : List Exchange → Session K A L W → Session K A L W → Kept → Type 0
+  EndLives [] old new kept = (new ≡ old) × (kept ≡ nothing)
+  EndLives (exchange ∷ later) old new kept =
+      (mid : Session K A L W) × (rest : Kept) × DoesEach exchange.asked exchange.answers old mid × (begins_life exchange.asked ≡ true → KeepsRules old)
+      × (kept ≡ joined (kept_before exchange.asked old) rest) × EndLives later mid new rest
+
+  -- all that is kept of a run: the life that runs at its end too, and the counts then
+  abbrev pub AreLives : List Exchange → Session K A L W → Session K A L W → Kept → Type 0
+  AreLives story first last kept = (before : Kept) × EndLives story first last before × (kept ≡ joined before (kept_last last))

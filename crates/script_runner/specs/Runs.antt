@@ -16,7 +16,7 @@ use Rattle.nv_script.specs.declared.line.ScriptLine.{ScriptLine}
 use Rattle.nv_script.specs.declared.answer.Answer.{Answer}
 use Rattle.script_runner.specs.Chains.{LivesInChain}
 use Rattle.script_runner.specs.Doing.{DoesAll, DoesEach}
-use Rattle.script_runner.specs.Ended.{AreLives, EndLives, Lives}
+use Rattle.script_runner.specs.Ended.{AreLives, EndLives, Kept}
 use Rattle.script_runner.specs.Issued.{KeepsRules}
 use Rattle.script_runner.specs.Keeping.{AnswersTurns, AnswersWhole, BearsOut, GoesThrough}
 use Rattle.script_runner.specs.Story.{AreAllAnswered, known_after}
@@ -37,8 +37,8 @@ module _ {K A : Type 0} {L : Ghosts K} {W : wires.Ghosts A K} where
     pub through : GoesThrough L lines asked before after (moment_in new)
     pub does : DoesAll through.answered.story first new
 
-  -- and if the lists of the lives that they ended are kept, they are these
-  pub record NotesLines (lines : ℕ) (asked : List ScriptLine) (before after : List Answer) (kept : Option Lives) (first new : Session K A L W) : Type 0 where
+  -- and what is kept of them, if anything is, is this
+  pub record NotesLines (lines : ℕ) (asked : List ScriptLine) (before after : List Answer) (kept : Option Kept) (first new : Session K A L W) : Type 0 where
     pub done : DoesLines lines asked before after first new
     pub ended : IfSome kept (EndLives done.through.answered.story first new)
 
@@ -48,8 +48,8 @@ module _ {K A : Type 0} {L : Ghosts K} {W : wires.Ghosts A K} where
     pub does : DoesAll all.answered.story first last
     pub bears : BearsOut L lines (known_after None all.answered.story) (moment_in last)
 
-  -- and if the lists of the lives that they ended are kept, they are these
-  pub record AreAllNoted (lines : ℕ) (asked : List ScriptLine) (before after : List Answer) (kept : Option Lives) (first last : Session K A L W) : Type 0 where
+  -- and what is kept of them, if anything is, is this
+  pub record AreAllNoted (lines : ℕ) (asked : List ScriptLine) (before after : List Answer) (kept : Option Kept) (first last : Session K A L W) : Type 0 where
     pub done : AreAllDone lines asked before after first last
     pub ended : IfSome kept (EndLives done.all.answered.story first last)
 
@@ -77,8 +77,8 @@ pub record IsRunOn {K A : Type 0} (L : Ghosts K) (W : wires.Ghosts A K) (Wired :
   pub rules : KeepsRules last
   pub device_is : device ≡ innermost last.device
 
--- the same, and if the lists of the run's lives are kept, they are these
-pub record IsKeptRunOn {K A : Type 0} (L : Ghosts K) (W : wires.Ghosts A K) (Wired : A → Type 0) (profile : Profile) (bytes : List ℕ) (asked : List ScriptLine) (before after : List Answer) (kept : Option Lives) (device : MemoryDevice) : Type 0 where
+-- the same, and what is kept of it, if anything is, is this
+pub record IsKeptRunOn {K A : Type 0} (L : Ghosts K) (W : wires.Ghosts A K) (Wired : A → Type 0) (profile : Profile) (bytes : List ℕ) (asked : List ScriptLine) (before after : List Answer) (kept : Option Kept) (device : MemoryDevice) : Type 0 where
   pub run : IsRunOn L W Wired profile bytes asked before after device
   pub lists : IfSome kept (AreLives run.done.all.answered.story run.first run.last)
 
@@ -90,5 +90,5 @@ blank profile = replicate (device_size (lines_of profile.checked.geometry)) 0
 abbrev pub IsRun : {K A : Type 0} (L : Ghosts K) (W : wires.Ghosts A K) (Wired : A → Type 0) (profile : Profile) (asked : List ScriptLine) (before after : List Answer) (device : MemoryDevice) → Type 0
 IsRun L W Wired profile asked before after device = IsRunOn L W Wired profile (blank profile) asked before after device
 
-abbrev pub IsKeptRun : {K A : Type 0} (L : Ghosts K) (W : wires.Ghosts A K) (Wired : A → Type 0) (profile : Profile) (asked : List ScriptLine) (before after : List Answer) (kept : Option Lives) (device : MemoryDevice) → Type 0
+abbrev pub IsKeptRun : {K A : Type 0} (L : Ghosts K) (W : wires.Ghosts A K) (Wired : A → Type 0) (profile : Profile) (asked : List ScriptLine) (before after : List Answer) (kept : Option Kept) (device : MemoryDevice) → Type 0
 IsKeptRun L W Wired profile asked before after kept device = IsKeptRunOn L W Wired profile (blank profile) asked before after kept device

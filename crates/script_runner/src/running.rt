@@ -6,6 +6,7 @@ ghost use Rattle.save_device.specs.Memory.{state_of};
 ghost use Rattle.slot_store.specs.Slots.{HasSize};
 ghost use Rattle.nv_script.specs.declared.answer.Answer.{Answer};
 ghost use Rattle.nv_script.specs.Line.{NamesChannelOf};
+ghost use Rattle.script_runner.specs.Ended.{nothing};
 ghost use Rattle.script_runner.specs.Wiring.{IsMapOf, IsWiredFor};
 ghost use Rattle.script_runner.specs.Runs.{IsKeptRun, IsKeptRunOn, IsRun};
 ghost use Rattle.script_runner.specs.Scripts.{EndsScript, EndsScriptBy, IsBadText, RunsScript};
@@ -13,7 +14,7 @@ ghost use Rattle.script_runner.specs.Story.{AreAllAnswered, AreCutShort, EndsBy}
 
 use crate::book::CommandBook;
 use crate::report::{Printer, Report};
-use crate::script::{answer_lines, note_life};
+use crate::script::{answer_lines, note_last};
 use crate::wiring::Wiring;
 use channel_port::ChannelPort;
 use ddr4_port::Ddr4Port;
@@ -96,7 +97,7 @@ pub fn do_lines_kept<'m, M: LineMap, R: Report>(
     requires lines { All (NamesChannelOf profile.now.checked.geometry) lines.now }
     requires lines_map { IsMapOf M.LineMap profile.now.checked.geometry lines_map.now }
     requires xor_map { IsMapOf M.LineMap profile.now.checked.geometry xor_map.now }
-    requires book { IfSome book.old (λ lives. lives ≡ []) }
+    requires book { IfSome book.old (λ kept. kept ≡ nothing) }
     ensures answered { OnOk result (AreAllAnswered (lines_of profile.now.checked.geometry)
         lines.now (R.answers report.old) (R.answers report.new)) }
     ensures runs { IfOk result (λ device. IsKeptRun ⟦<Ddr4Port<'m, M> as ChannelPort>⟧
@@ -121,7 +122,7 @@ pub fn do_lines_kept<'m, M: LineMap, R: Report>(
 /// shows 0 and has no leak; it does line by line, each with the line's own words, and each answer tells of what its line did: the
 /// answers are those of a chain of lives, and what the channels of the last one have issued keeps the timing rules. Answers the device
 /// as the lines left it. A new book that is open has all commands that the channels of each life have issued, those of the one that runs
-/// at the end too; where memory gave out for them it has none.
+/// at the end too, and how many they were before each line and at the end; where memory gave out for them it has none.
 pub fn do_lines_on<'m, M: LineMap, R: Report>(
     alloc: Global,
     profile: &Profile,
@@ -136,7 +137,7 @@ pub fn do_lines_on<'m, M: LineMap, R: Report>(
     requires lines_map { IsMapOf M.LineMap profile.now.checked.geometry lines_map.now }
     requires xor_map { IsMapOf M.LineMap profile.now.checked.geometry xor_map.now }
     requires size { HasSize (lines_of profile.now.checked.geometry) (state_of device) }
-    requires book { IfSome book.old (λ lives. lives ≡ []) }
+    requires book { IfSome book.old (λ kept. kept ≡ nothing) }
     requires settled { IsSettled (state_of device) }
     ensures answered { OnOk result (AreAllAnswered (lines_of profile.now.checked.geometry)
         lines.now (R.answers report.old) (R.answers report.new)) }
@@ -153,7 +154,7 @@ pub fn do_lines_on<'m, M: LineMap, R: Report>(
     let wiring = Wiring::new(lines_map, xor_map, profile).with_commands(book.is_open());
     let mut session = Session::over(device, profile, wiring);
     answer_lines(alloc, &mut session, lines, report, book)?;
-    note_life(&session, book);
+    note_last(&session, book);
     Ok(session.into_device())
 }
 

@@ -1,9 +1,9 @@
 // Scripts, run on a session.
-ghost use Rattle.std.specs.Prelude.{◌≡◌, ◌<◌, [], true, IfErr, IfOk, IfSome, OnOk, All};
+ghost use Rattle.std.specs.Prelude.{◌≡◌, ◌<◌, true, IfErr, IfOk, IfSome, OnOk, All};
 ghost use Rattle.nv_session.specs.Sessions.{line_count_in, moment_in};
 ghost use Rattle.nv_script.specs.Line.{NamesChannelOf};
 ghost use Rattle.script_runner.specs.Doing.{Does};
-ghost use Rattle.script_runner.specs.Ended.{Notes, ended_by, lists_in};
+ghost use Rattle.script_runner.specs.Ended.{Notes, ended_by, kept_before, kept_last, lists_in, nothing, of_lives};
 ghost use Rattle.script_runner.specs.Issued.{KeepsRules};
 ghost use Rattle.script_runner.specs.Runs.{AreAllNoted, DoesLine};
 ghost use Rattle.script_runner.specs.Story.{AreCutShort, EndsBy};
@@ -21,7 +21,8 @@ use nv_session::{FormatError, Level, Session, Wires};
 use save_device::Pick;
 use std::alloc::Global;
 
-/// Does lines, and reports their answers. A new book is shown each life that one of them ends.
+/// Does lines, and reports their answers. A new book is shown how the life that runs stands before each, and each life that one of them
+/// ends.
 pub(crate) fn answer_lines<K, A, R, B>(
     alloc: Global,
     session: &mut Session<K, A>,
@@ -35,9 +36,9 @@ where
     R: Report,
     B: LifeBook<K>,
     requires names { All (NamesChannelOf session.old.profile.checked.geometry) lines.now }
-    requires book { IfSome (B.lives book.old) (λ lives. lives ≡ []) }
+    requires book { IfSome (B.kept book.old) (λ kept. kept ≡ nothing) }
     ensures done { OnOk result (AreAllNoted (line_count_in session.old) lines.now
-        (R.answers report.old) (R.answers report.new) (B.lives book.new)
+        (R.answers report.old) (R.answers report.new) (B.kept book.new)
         session.old session.new) }
     ensures cut { IfErr result (λ fault. AreCutShort (line_count_in session.old)
         lines.now (R.answers report.old) (R.answers report.new)) }
@@ -46,7 +47,7 @@ where
         (R.refusals report.old) (R.refusals report.new)) }
 {
     for line in lines {
-        note_end(session, *line, book);
+        note_line(session, *line, book);
         answer_line(alloc, session, *line, report)?;
     }
     Ok(())
@@ -59,13 +60,13 @@ fn begins_life(line: ScriptLine) -> bool
     matches!(line, ScriptLine::Format | ScriptLine::Restore { .. })
 }
 
-/// Shows a book the life that runs, if one does. It keeps the timing rules.
-pub(crate) fn note_life<K, A, B>(session: &Session<K, A>, book: &mut B)
+// Shows a book the life that runs, if one does. It keeps the timing rules.
+fn note_life<K, A, B>(session: &Session<K, A>, book: &mut B)
 where
     K: ChannelPort + Drop,
     A: Wires<K> + Drop,
     B: LifeBook<K>,
-    ensures notes { Notes (lists_in session.now) (B.lives book.old) (B.lives book.new) }
+    ensures notes { Notes (of_lives (lists_in session.now)) (B.kept book.old) (B.kept book.new) }
     ensures rules { KeepsRules session.now }
 {
     if let Some(life) = session.life() {
@@ -79,13 +80,42 @@ where
     K: ChannelPort + Drop,
     A: Wires<K> + Drop,
     B: LifeBook<K>,
-    ensures notes { Notes (ended_by line session.now) (B.lives book.old) (B.lives book.new) }
+    ensures notes { Notes (of_lives (ended_by line session.now))
+        (B.kept book.old) (B.kept book.new) }
     ensures rules { Rattle.script_runner.specs.Issued.begins_life line ≡ true
         → KeepsRules session.now }
 {
-    if begins_life(line) {
-        note_life(session, book);
+    if !begins_life(line) {
+        return;
     }
+    note_life(session, book);
+}
+
+// Shows a book how the life that runs stands before a line, and the life that it ends.
+fn note_line<K, A, B>(session: &Session<K, A>, line: ScriptLine, book: &mut B)
+where
+    K: ChannelPort + Drop,
+    A: Wires<K> + Drop,
+    B: LifeBook<K>,
+    ensures notes { Notes (kept_before line session.now) (B.kept book.old) (B.kept book.new) }
+    ensures rules { Rattle.script_runner.specs.Issued.begins_life line ≡ true
+        → KeepsRules session.now }
+{
+    book.count(session.life());
+    note_end(session, line, book);
+}
+
+/// Shows a book the life that runs at the end, if one does, which keeps the timing rules, and how it stands.
+pub(crate) fn note_last<K, A, B>(session: &Session<K, A>, book: &mut B)
+where
+    K: ChannelPort + Drop,
+    A: Wires<K> + Drop,
+    B: LifeBook<K>,
+    ensures notes { Notes (kept_last session.now) (B.kept book.old) (B.kept book.new) }
+    ensures rules { KeepsRules session.now }
+{
+    note_life(session, book);
+    book.count(session.life());
 }
 
 /// How many answers a line may have.

@@ -7,6 +7,7 @@ use Rattle.slot_store.specs.declared.plan.Plan.{Plan}
 use Rattle.slot_store.specs.declared.plan.Step.{Step}
 use Rattle.slot_store.specs.declared.plan.Step.TheVariants.{Close, SyncClosed, Header, Page, SyncBody, Open, SyncOpen, Done}
 use Rattle.slot_store.specs.Slots.{start_of}
+use Rattle.save_image.specs.declared.page.TheConstants.{PAGE_BYTES}
 
 -- where the gate of the slot lies
 abbrev pub gate_of : Plan → ℕ
@@ -21,7 +22,7 @@ planned plan digest gate = header (Some digest) gate (arm_byte plan.armed) plan.
 abbrev pub change_of : Plan → List ℕ → Step → List ℕ → Change
 change_of plan digest Close page = if plan.closed then Settle else Put (gate_of plan) (0 ∷ [])
 change_of plan digest SyncClosed page = Settle
-change_of plan digest (Page k) page = Put (gate_of plan + 4096 + 4096 * k) page
+change_of plan digest (Page k) page = Put (gate_of plan + PAGE_BYTES + PAGE_BYTES * k) page
 change_of plan digest Header page = Put (gate_of plan + 1) (drop 1 (planned plan digest 0))
 change_of plan digest SyncBody page = Settle
 change_of plan digest Open page = Put (gate_of plan) (0xA5 ∷ [])

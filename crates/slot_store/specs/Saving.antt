@@ -13,6 +13,7 @@ use Rattle.slot_store.specs.Slots.{start_of, slot_size, HasSize, other, slot_sta
 use Rattle.slot_store.specs.Outcomes.{Found, restored}
 use Rattle.slot_store.specs.Changes.{gate_of, planned}
 use Rattle.slot_store.specs.Rest.{Candidates, only, IsAmong, IsHarmless, IsShut}
+use Rattle.save_image.specs.declared.page.TheConstants.{PAGE_BYTES, PAGE_LINES}
 
 -- the image that is saved
 abbrev pub image_of : Plan → List (List ℕ) → Image
@@ -29,7 +30,7 @@ HasHeader plan memory bytes =
 
 -- the first n lines of the slot's body are the memory's
 abbrev pub HasLines : Plan → List (List ℕ) → ℕ → List ℕ → Type 0
-HasLines plan memory n bytes = lines_in n (drop (gate_of plan + 4096) bytes) ≡ take n memory
+HasLines plan memory n bytes = lines_in n (drop (gate_of plan + PAGE_BYTES) bytes) ≡ take n memory
 
 -- all of the slot but its gate is the image's
 pub record IsWritten (plan : Plan) (memory : List (List ℕ)) (bytes : List ℕ) : Type 0 where
@@ -51,7 +52,7 @@ abbrev pub SlotHas : Plan → List (List ℕ) → Step → Bool → DeviceState 
 SlotHas plan memory Close tried state = plan.closed ≡ true → GateShut plan state
 SlotHas plan memory SyncClosed tried state =
     (slice_index state.bytes (gate_of plan) ≢ 0xA5) × (plan.closed ≡ true → GateShut plan state)
-SlotHas plan memory (Page k) tried state = GateShut plan state × HasLines plan memory (64 * k) state.bytes
+SlotHas plan memory (Page k) tried state = GateShut plan state × HasLines plan memory (PAGE_LINES * k) state.bytes
 SlotHas plan memory Header tried state = GateShut plan state × HasLines plan memory plan.lines state.bytes
 SlotHas plan memory SyncBody tried state = GateShut plan state × IsWritten plan memory state.bytes
 SlotHas plan memory Open tried state =

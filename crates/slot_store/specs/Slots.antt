@@ -7,16 +7,18 @@ use Rattle.std.specs.Str.{bytes_eq}
 use Rattle.save_image.specs.Image.{Image, header_in, digest_of}
 use Rattle.slot_store.specs.declared.slots.Slot.{Slot}
 use Rattle.slot_store.specs.declared.slots.Slot.TheVariants.{First, Second}
+use Rattle.save_image.specs.declared.page.TheConstants.{PAGE_BYTES, PAGE_LINES}
+use Rattle.slot_store.specs.declared.slots.TheConstants.{MOST_LINES}
 
 -- a number of lines that a memory may have: whole pages, 1,024 of them at most
 pub record IsCapacity (lines : ℕ) : Type 0 where
-  pub some : 64 ≤ lines
-  pub most : lines ≤ 65536
-  pub whole : lines % 64 ≡ 0
+  pub some : PAGE_LINES ≤ lines
+  pub most : lines ≤ MOST_LINES
+  pub whole : lines % PAGE_LINES ≡ 0
 
 -- the bytes of a slot: a header and the lines
 abbrev pub slot_size : ℕ → ℕ
-slot_size lines = 4096 + 64 * lines
+slot_size lines = PAGE_BYTES + 64 * lines
 
 -- the bytes of a device: two slots
 abbrev pub device_size : ℕ → ℕ
@@ -42,11 +44,11 @@ pub data SlotState : Type 0 where
 
 -- the header page of a slot
 abbrev pub page_in : ℕ → Slot → List ℕ → List ℕ
-page_in lines slot bytes = slice_range bytes (start_of lines slot) (start_of lines slot + 4096)
+page_in lines slot bytes = slice_range bytes (start_of lines slot) (start_of lines slot + PAGE_BYTES)
 
 -- the lines that stand in a slot
 abbrev pub body_in : ℕ → Slot → List ℕ → List (List ℕ)
-body_in lines slot bytes = lines_in lines (drop (start_of lines slot + 4096) bytes)
+body_in lines slot bytes = lines_in lines (drop (start_of lines slot + PAGE_BYTES) bytes)
 
 -- the image with this header and these lines
 abbrev pub image_with : Header → List (List ℕ) → Image

@@ -4,24 +4,25 @@ use Rattle.save_device.specs.declared.calls.CallKind.{CallKind}
 use Rattle.save_device.specs.declared.calls.CallKind.TheVariants.{Write, Sync}
 use Rattle.slot_store.specs.declared.plan.Step.{Step}
 use Rattle.slot_store.specs.declared.plan.Step.TheVariants.{Close, SyncClosed, Header, Page, SyncBody, Open, SyncOpen, Done}
+use Rattle.save_image.specs.declared.page.TheConstants.{PAGE_LINES}
 
 -- how many lines of the body a step ends behind
 abbrev pub reach_of : Step → ℕ
-reach_of (Page k) = 64 * (k + 1)
+reach_of (Page k) = PAGE_LINES * (k + 1)
 reach_of step = 0
 
 -- how many lines of the body were written before it, in this save
 abbrev pub lines_before : ℕ → Step → ℕ
 lines_before lines Close = 0
 lines_before lines SyncClosed = 0
-lines_before lines (Page k) = 64 * k
+lines_before lines (Page k) = PAGE_LINES * k
 lines_before lines step = lines
 
 -- the order of the steps
 abbrev pub step_after : ℕ → Step → Step
 step_after lines Close = SyncClosed
 step_after lines SyncClosed = Page 0
-step_after lines (Page k) = if nat_lt lines (64 * (k + 2)) then Header else Page (k + 1)
+step_after lines (Page k) = if nat_lt lines (PAGE_LINES * (k + 2)) then Header else Page (k + 1)
 step_after lines Header = SyncBody
 step_after lines SyncBody = Open
 step_after lines Open = SyncOpen
@@ -35,9 +36,9 @@ step_later lines next (suc made) = step_after lines (step_later lines next made)
 
 -- how many steps are still to come
 abbrev pub steps_left : ℕ → Step → ℕ
-steps_left lines Close = lines / 64 + 6
-steps_left lines SyncClosed = lines / 64 + 5
-steps_left lines (Page k) = lines / 64 + 4 - k
+steps_left lines Close = lines / PAGE_LINES + 6
+steps_left lines SyncClosed = lines / PAGE_LINES + 5
+steps_left lines (Page k) = lines / PAGE_LINES + 4 - k
 steps_left lines Header = 4
 steps_left lines SyncBody = 3
 steps_left lines Open = 2
@@ -46,7 +47,7 @@ steps_left lines Done = 0
 
 -- the calls of the pages from the k-th on, of the header and of the opening
 abbrev pub page_calls : ℕ → ℕ → List CallKind
-page_calls lines k = replicate (lines / 64 - k) Write ++ (Write ∷ Sync ∷ Write ∷ Sync ∷ [])
+page_calls lines k = replicate (lines / PAGE_LINES - k) Write ++ (Write ∷ Sync ∷ Write ∷ Sync ∷ [])
 
 -- the calls of the steps that are still to come: where the gate is known closed the first one is a sync
 abbrev pub calls_left : Bool → ℕ → Step → List CallKind

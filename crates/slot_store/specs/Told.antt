@@ -19,6 +19,7 @@ use Rattle.slot_store.specs.declared.restoring.RestoreError.TheVariants as error
 use Rattle.slot_store.specs.declared.restoring.Restored.{Restored}
 use Rattle.slot_store.specs.Slots.{SlotState, Closed, Broken, Full, slot_state, page_in, body_in, image_with, digest_fits, is_closed, other}
 use Rattle.slot_store.specs.Outcomes.{Outcome, WrongSize, Damaged, NoImage, Found, chosen, restored, verdict_of}
+use Rattle.save_image.specs.declared.page.TheConstants.{PAGE_LINES}
 
 -- what a slot says of itself, with these lines, by its header page alone
 abbrev pub claimed : Reading → List (List ℕ) → SlotState
@@ -67,7 +68,7 @@ pub record AreReadings (lines : ℕ) (bytes : List ℕ) (readings : Readings) : 
 
 -- how many pages of a slot with this header are read where only their digest is asked for: all, or none where there is no digest
 abbrev pub pages_checked : ℕ → Option Header → ℕ
-pages_checked lines (Some header) = if is_some header.digest then lines / 64 else 0
+pages_checked lines (Some header) = if is_some header.digest then lines / PAGE_LINES else 0
 pages_checked lines None = 0
 
 -- the error for this outcome
@@ -129,7 +130,7 @@ pages_read pages result = pages
 -- the same where the other slot's pages are read too, if this is its header
 abbrev pub reads_of_newest : {T : Type 0} → ℕ → Option Header → Result T RestoreError → ℕ
 reads_of_newest lines behind (Err errors.Memory) = 0
-reads_of_newest lines behind result = lines / 64 + pages_checked lines behind
+reads_of_newest lines behind result = lines / PAGE_LINES + pages_checked lines behind
 
 abbrev pub memory_in : Slot → List (List ℕ) → List (List ℕ) → List (List ℕ)
 memory_in First one two = one
@@ -169,7 +170,7 @@ abbrev pub header_calls : List CallKind
 header_calls = Sync ∷ Read ∷ Read ∷ []
 
 abbrev pub restore_calls : ℕ → List CallKind
-restore_calls lines = header_calls ++ replicate (lines / 64) Read
+restore_calls lines = header_calls ++ replicate (lines / PAGE_LINES) Read
 
 -- the calls of a restore that reads the pages of the other slot too, for their digest
 abbrev pub checking_calls : ℕ → Option Header → List CallKind
@@ -185,7 +186,7 @@ CallsOfRestore lines (Ok restored) old new =
     × IsSettled new
 CallsOfRestore lines (Err errors.WrongSize) old new = new ≡ old
 CallsOfRestore lines (Err errors.Device) old new =
-    MakesCalls (restore_calls lines ++ replicate (lines / 64) Read) false old.calls new.calls
+    MakesCalls (restore_calls lines ++ replicate (lines / PAGE_LINES) Read) false old.calls new.calls
 CallsOfRestore lines (Err (errors.Damaged slot)) old new =
     (MakesCalls (header_calls ++ replicate (pages_checked lines (header_at lines First old.bytes)) Read) true old.calls new.calls
     ⊎ ((behind : Slot) × MakesCalls (checking_calls lines (header_at lines behind old.bytes)) true old.calls new.calls))

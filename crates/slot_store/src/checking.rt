@@ -5,20 +5,21 @@ ghost use Rattle.save_image.specs.Body.{lines_in};
 ghost use Rattle.save_image.specs.Image.{digest_of};
 ghost use Rattle.slot_store.specs.Slots.{IsCapacity, HasSize, other, body_in};
 ghost use Rattle.slot_store.specs.Told.{header_of_reading, in_slot, is_fault, is_sound, pages_checked, pages_read, IsFailure};
+ghost use Rattle.save_image.specs.declared.page.TheConstants.{PAGE_BYTES, PAGE_LINES};
 
 use crate::headers::{Reading, Readings, read_page};
 use crate::{RestoreError, Slot};
 use line_memory::Line;
 use save_device::{DeviceFault, SaveDevice};
-use save_image::page_lines;
+use save_image::{PAGE_BYTES, PAGE_LINES, page_lines};
 use sha2::{Digest, Sha256};
 use std::alloc::Global;
 use std::thread::{Threads, join_mut};
 
 // Adds the lines of a page, for which there is room.
-fn push_page(memory: &mut Vec<Line>, page: &[u8; 4096])
-    requires { vec_len memory.old + 64 ≤ vec_capacity memory.old }
-    ensures items { memory.new.items ≡ memory.old.items ++ lines_in 64 page.now }
+fn push_page(memory: &mut Vec<Line>, page: &[u8; PAGE_BYTES])
+    requires { vec_len memory.old + PAGE_LINES ≤ vec_capacity memory.old }
+    ensures items { memory.new.items ≡ memory.old.items ++ lines_in PAGE_LINES page.now }
     ensures capacity { vec_capacity memory.new ≡ vec_capacity memory.old }
 {
     for line in page_lines(page) {
@@ -33,18 +34,19 @@ pub(crate) fn read_pages<D: SaveDevice>(
     at: usize,
     pages: usize,
 ) -> Result<Vec<Line>, RestoreError>
-    requires { at + 4096 * pages ≤ length (D.state device.old).bytes }
+    requires { at + PAGE_BYTES * pages ≤ length (D.state device.old).bytes }
     ensures failed { IfErr result IsFailure }
     ensures lines { IfOk result
-        (λ memory. memory.items ≡ lines_in (64 * pages) (drop at (D.state device.old).bytes)) }
+        (λ memory. memory.items
+        ≡ lines_in (PAGE_LINES * pages) (drop at (D.state device.old).bytes)) }
     ensures reads { OnlyReads (pages_read pages result) (not (is_fault result))
         (D.state device.old) (D.state device.new) }
 {
-    let Ok(mut memory) = Vec::with_capacity(alloc, 64 * pages) else {
+    let Ok(mut memory) = Vec::with_capacity(alloc, PAGE_LINES * pages) else {
         return Err(RestoreError::Memory);
     };
     for page in 0..pages {
-        let Ok(bytes) = read_page(device, at + 4096 * page) else {
+        let Ok(bytes) = read_page(device, at + PAGE_BYTES * page) else {
             return Err(RestoreError::Device);
         };
         push_page(&mut memory, &bytes);
@@ -58,14 +60,14 @@ fn body_digest<D: SaveDevice>(
     at: usize,
     pages: usize,
 ) -> Result<[u8; 32], DeviceFault>
-    requires { at + 4096 * pages ≤ length (D.state device.old).bytes }
+    requires { at + PAGE_BYTES * pages ≤ length (D.state device.old).bytes }
     ensures digest { IfOk result (λ digest. digest
-        ≡ digest_of (lines_in (64 * pages) (drop at (D.state device.old).bytes))) }
+        ≡ digest_of (lines_in (PAGE_LINES * pages) (drop at (D.state device.old).bytes))) }
     ensures reads { OnlyReads pages (is_ok result) (D.state device.old) (D.state device.new) }
 {
     let mut hasher = Sha256::new();
     for page in 0..pages {
-        let bytes = read_page(device, at + 4096 * page)?;
+        let bytes = read_page(device, at + PAGE_BYTES * page)?;
         hasher.update(&bytes);
     }
     Ok(hasher.finalize())
@@ -88,7 +90,7 @@ pub(crate) fn has_sound_body<D: SaveDevice>(
     let Some(digest) = reading.digest() else {
         return Ok(true);
     };
-    let found = body_digest(device, slot.start(lines) + 4096, lines / 64)?;
+    let found = body_digest(device, slot.start(lines) + PAGE_BYTES, lines / PAGE_LINES)?;
     Ok(digest == found)
 }
 

@@ -6,20 +6,21 @@ ghost use Rattle.slot_store.specs.Changes.{GivesPage};
 
 use crate::{BrokenOff, SaveRun, SaveSource, Step};
 use save_device::SaveDevice;
+use save_image::PAGE_BYTES;
 
 /// The page of a memory that a step writes, lent, or put together in `room`. A step that writes none is given zeros, and doesn't
 /// read them.
 pub fn page_for<'p, S: SaveSource>(
     source: &'p S,
     step: Step,
-    room: &'p mut [u8; 4096],
-) -> &'p [u8; 4096]
+    room: &'p mut [u8; PAGE_BYTES],
+) -> &'p [u8; PAGE_BYTES]
     requires { reach_of step ≤ length (S.memory source.now) }
     ensures { GivesPage (S.memory source.now) step result.now }
 {
     match step {
         Step::Page(page) => source.page(page, room),
-        _ => &[0; 4096],
+        _ => &[0; PAGE_BYTES],
     }
 }
 
@@ -42,7 +43,7 @@ impl SaveRun {
             (underway source.old self.old (D.state device.old))
             (underway source.new self.new (D.state device.new)) }
     {
-        let mut room = [0; 4096];
+        let mut room = [0; PAGE_BYTES];
         for _made in 0..self.steps_left() {
             let step = self.next();
             let Ok(()) = source.ask(step) else {

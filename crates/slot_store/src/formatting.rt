@@ -11,10 +11,12 @@ ghost use Rattle.slot_store.specs.Outcomes.{first_image};
 ghost use Rattle.slot_store.specs.Rest.{IsAtRestOn};
 ghost use Rattle.slot_store.specs.Finishing.{GrantsEach};
 ghost use Rattle.slot_store.specs.Formatted.{IsFormatted, HasShutGates, first_head};
+ghost use Rattle.slot_store.specs.declared.slots.TheConstants.{MOST_LINES};
 
 use crate::slots::slot_size;
 use crate::{Head, Newest, Refused, SaveRun, SaveSource, Slot, Step, Verdict};
 use save_device::{DeviceFault, SaveDevice};
+use save_image::PAGE_BYTES;
 
 // A memory of so many zero lines.
 #[derive(Drop)]
@@ -31,14 +33,14 @@ impl SaveSource for ZeroLines {
         Ok(())
     }
 
-    fn page<'p>(&'p self, _page: usize, _room: &'p mut [u8; 4096]) -> &'p [u8; 4096] {
-        &[0; 4096]
+    fn page<'p>(&'p self, _page: usize, _room: &'p mut [u8; PAGE_BYTES]) -> &'p [u8; PAGE_BYTES] {
+        &[0; PAGE_BYTES]
     }
 }
 
 // Closes both gates and makes that durable.
 fn shut_gates<D: SaveDevice>(device: &mut D, lines: usize) -> Result<(), DeviceFault>
-    requires lines { lines ≤ 65536 }
+    requires lines { lines ≤ MOST_LINES }
     requires size { HasSize lines (D.state device.old) }
     ensures shut { OnOk result
         (HasShutGates lines (D.state device.old).bytes (D.state device.new).bytes) }

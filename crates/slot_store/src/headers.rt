@@ -3,10 +3,12 @@ ghost use Rattle.std.specs.Prelude.{◌≡◌, ◌+◌, ◌≤◌, List, ℕ, le
 ghost use Rattle.save_device.specs.Changes.{OnlyReads};
 ghost use Rattle.slot_store.specs.Slots.{HasSize, slot_state, slot_with, body_in};
 ghost use Rattle.slot_store.specs.Told.{AreReadings, told, digest_said, version_said, header_at, header_in_page, header_of_reading, in_slot};
+ghost use Rattle.save_image.specs.declared.page.TheConstants.{PAGE_BYTES};
+ghost use Rattle.slot_store.specs.declared.slots.TheConstants.{MOST_LINES};
 
 use crate::Slot;
 use save_device::{DeviceFault, SaveDevice};
-use save_image::{Header, Version, read_header};
+use save_image::{Header, PAGE_BYTES, Version, read_header};
 
 /// What the header page of a slot says.
 #[derive(Clone, Copy)]
@@ -60,18 +62,21 @@ impl Readings {
 }
 
 /// Reads one page.
-pub(crate) fn read_page<D: SaveDevice>(device: &mut D, at: usize) -> Result<[u8; 4096], DeviceFault>
-    requires { at + 4096 ≤ length (D.state device.old).bytes }
+pub(crate) fn read_page<D: SaveDevice>(
+    device: &mut D,
+    at: usize,
+) -> Result<[u8; PAGE_BYTES], DeviceFault>
+    requires { at + PAGE_BYTES ≤ length (D.state device.old).bytes }
     ensures page { IfOk result
-        (λ page. page ≡ slice_range (D.state device.old).bytes at (at + 4096)) }
+        (λ page. page ≡ slice_range (D.state device.old).bytes at (at + PAGE_BYTES)) }
     ensures reads { OnlyReads 1 (is_ok result) (D.state device.old) (D.state device.new) }
 {
-    let mut page = [0; 4096];
+    let mut page = [0; PAGE_BYTES];
     device.read(at, &mut page)?;
     Ok(page)
 }
 
-fn reading_of(page: &[u8; 4096], lines: usize) -> Reading
+fn reading_of(page: &[u8; PAGE_BYTES], lines: usize) -> Reading
     ensures state { (memory : List (List ℕ))
         → slot_with lines page.now memory ≡ told result memory }
     ensures header { header_in_page lines page.now ≡ header_of_reading result }
@@ -90,7 +95,7 @@ fn read_slot<D: SaveDevice>(
     slot: Slot,
     lines: usize,
 ) -> Result<Reading, DeviceFault>
-    requires lines { lines ≤ 65536 }
+    requires lines { lines ≤ MOST_LINES }
     requires size { HasSize lines (D.state device.old) }
     ensures state { IfOk result (λ reading. slot_state lines slot (D.state device.old).bytes
         ≡ told reading (body_in lines slot (D.state device.old).bytes)) }
@@ -107,7 +112,7 @@ pub(crate) fn read_both<D: SaveDevice>(
     device: &mut D,
     lines: usize,
 ) -> Result<Readings, DeviceFault>
-    requires lines { lines ≤ 65536 }
+    requires lines { lines ≤ MOST_LINES }
     requires size { HasSize lines (D.state device.old) }
     ensures readings { IfOk result (AreReadings lines (D.state device.old).bytes) }
     ensures reads { OnlyReads 2 (is_ok result) (D.state device.old) (D.state device.new) }

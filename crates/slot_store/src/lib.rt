@@ -38,6 +38,6 @@ pub use laws::{
 pub use plan::{Newest, Plan, Step};
 pub use restoring::{RestoreError, Restored, Verdict, restore, restore_at_once};
 pub use saving::SaveRun;
-pub use slots::{Slot, device_size};
+pub use slots::{MOST_LINES, Slot, device_size};
 pub use source::{BrokenOff, Refused, SaveSource};
 pub use whole::{SaveFault, save};

@@ -18,7 +18,7 @@ use crate::slots::device_size;
 use crate::{Head, Slot};
 use line_memory::Line;
 use save_device::SaveDevice;
-use save_image::Version;
+use save_image::{PAGE_BYTES, PAGE_LINES, Version};
 use std::alloc::Global;
 use std::fmt;
 use std::thread::Threads;
@@ -112,7 +112,12 @@ fn read_newest<D: SaveDevice, C: CheckBoth>(
         (not (is_fault result)) (D.state device.old) (D.state device.new) }
 {
     let slot = head.newest.slot;
-    let memory = read_pages(alloc, device, slot.start(lines) + 4096, lines / 64)?;
+    let memory = read_pages(
+        alloc,
+        device,
+        slot.start(lines) + PAGE_BYTES,
+        lines / PAGE_LINES,
+    )?;
     let Ok(sound) = check.check_both(device, slot, lines, &readings, &memory) else {
         return Err(RestoreError::Device);
     };

@@ -17,7 +17,7 @@ ghost use Rattle.slot_store.specs.Saving.{Leaves};
 use crate::slots::device_size;
 use crate::{Newest, Plan, Slot, Step};
 use save_device::{DeviceFault, SaveDevice};
-use save_image::header_bytes_2;
+use save_image::{PAGE_BYTES, PAGE_LINES, header_bytes_2};
 use sha2::{Digest, Sha256};
 
 /// A gate that is open; any other byte is closed, and closing writes 0x00.
@@ -40,7 +40,7 @@ pub struct SaveRun {
 }
 
 // All of a header but its gate.
-fn tail_of(header: &[u8; 4096]) -> &[u8]
+fn tail_of(header: &[u8; PAGE_BYTES]) -> &[u8]
     ensures tail { result.now ≡ drop 1 header.now }
     ensures len { length result.now ≡ 4095 }
 {
@@ -48,7 +48,7 @@ fn tail_of(header: &[u8; 4096]) -> &[u8]
 }
 
 // Digests what a step wrote of the body.
-fn digest_written(hasher: &mut Sha256, step: Step, page: &[u8; 4096])
+fn digest_written(hasher: &mut Sha256, step: Step, page: &[u8; PAGE_BYTES])
     ensures { (message : List ℕ) → Holds256 hasher.old message
         → Holds256 hasher.new (message ++ body_bytes step page.now) }
 {
@@ -147,7 +147,7 @@ impl SaveRun {
     pub fn steps_left(&self) -> usize
         ensures { result ≡ steps_left (plan_of self.now).lines (next_of self.now) }
     {
-        let pages = self.plan.lines / 64;
+        let pages = self.plan.lines / PAGE_LINES;
         match self.next {
             Step::Close => pages + 6,
             Step::SyncClosed => pages + 5,
@@ -217,7 +217,7 @@ impl SaveRun {
             Step::Close => Step::SyncClosed,
             Step::SyncClosed => Step::Page(0),
             Step::Page(page) => {
-                if 64 * (page + 2) <= self.plan.lines {
+                if PAGE_LINES * (page + 2) <= self.plan.lines {
                     Step::Page(page + 1)
                 } else {
                     Step::Header
@@ -241,7 +241,11 @@ impl SaveRun {
     }
 
     // The one device call of the coming step.
-    fn call<D: SaveDevice>(&self, device: &mut D, page: &[u8; 4096]) -> Result<(), DeviceFault>
+    fn call<D: SaveDevice>(
+        &self,
+        device: &mut D,
+        page: &[u8; PAGE_BYTES],
+    ) -> Result<(), DeviceFault>
         requires { HasSize self.now.plan.lines (D.state device.old) }
         ensures { MakesStep self.now page.now (is_ok result)
             (D.state device.old) (D.state device.new) }
@@ -255,7 +259,7 @@ impl SaveRun {
                     device.write_at(start, &[0])
                 }
             }
-            Step::Page(k) => device.write_at(start + 4096 + 4096 * k, page),
+            Step::Page(k) => device.write_at(start + PAGE_BYTES + PAGE_BYTES * k, page),
             Step::Header => {
                 let header = header_bytes_2(
                     self.plan.generation,
@@ -276,7 +280,7 @@ impl SaveRun {
     pub fn step<D: SaveDevice>(
         &mut self,
         device: &mut D,
-        page: &[u8; 4096],
+        page: &[u8; PAGE_BYTES],
     ) -> Result<Step, DeviceFault>
         requires { HasSize (plan_of self.old).lines (D.state device.old) }
 

@@ -1,8 +1,13 @@
 // The two slots.
 ghost use Rattle.std.specs.Prelude.{◌≡◌, ◌≤◌};
 ghost use Rattle.slot_store.specs.Slots.{start_of, slot_size, device_size, other};
+ghost use Rattle.slot_store.specs.declared.slots.TheConstants.{MOST_LINES};
 
+use save_image::PAGE_BYTES;
 use std::fmt;
+
+/// The most lines of a memory that a slot has room for. It is a limit of the store, of this crate: an image's bytes set none.
+pub const MOST_LINES: usize = 65_536;
 
 /// One of the two places of an image.
 #[derive(Clone, Copy, Debug, PartialEq, Eq)]
@@ -13,15 +18,15 @@ pub enum Slot {
 
 /// The bytes of a slot, for images of so many lines: a header page and the lines.
 pub const fn slot_size(lines: usize) -> usize
-    requires { lines ≤ 65536 }
+    requires { lines ≤ MOST_LINES }
     ensures { result ≡ slot_size lines }
 {
-    4096 + 64 * lines
+    PAGE_BYTES + 64 * lines
 }
 
 /// The bytes of a device with two slots, for images of so many lines.
 pub const fn device_size(lines: usize) -> usize
-    requires { lines ≤ 65536 }
+    requires { lines ≤ MOST_LINES }
     ensures { result ≡ device_size lines }
 {
     2 * slot_size(lines)
@@ -30,7 +35,7 @@ pub const fn device_size(lines: usize) -> usize
 impl Slot {
     /// Where its bytes begin, for images of so many lines.
     pub fn start(self, lines: usize) -> usize
-        requires { lines ≤ 65536 }
+        requires { lines ≤ MOST_LINES }
         ensures { result ≡ start_of lines self }
     {
         match self {

@@ -3,10 +3,11 @@ ghost use Rattle.std.specs.Prelude.{◌≡◌, ℕ, ◌+◌, ◌*◌, ◌≤◌,
 ghost use Rattle.save_image.specs.Body.{page_of};
 ghost use Rattle.slot_store.specs.declared.plan.Step.{Step};
 ghost use Rattle.slot_store.specs.declared.source.Refused.{Refused};
+ghost use Rattle.save_image.specs.declared.page.TheConstants.{PAGE_LINES};
 
 use crate::Step;
 use line_memory::Line;
-use save_image::page_bytes;
+use save_image::{PAGE_BYTES, page_bytes};
 use thiserror::Error;
 
 /// A step of a save was refused.
@@ -39,8 +40,8 @@ pub trait SaveSource {
         ensures same { memory self.new ≡ memory self.old };
 
     /// The bytes of a page of the memory, lent, or put together in `room`.
-    fn page<'p>(&'p self, page: usize, room: &'p mut [u8; 4096]) -> &'p [u8; 4096]
-        requires { 64 * (page + 1) ≤ length (memory self.now) }
+    fn page<'p>(&'p self, page: usize, room: &'p mut [u8; PAGE_BYTES]) -> &'p [u8; PAGE_BYTES]
+        requires { PAGE_LINES * (page + 1) ≤ length (memory self.now) }
         ensures { result.now ≡ page_of page (memory self.now) };
 }
 
@@ -56,7 +57,7 @@ impl SaveSource for &[Line] {
         Ok(())
     }
 
-    fn page<'p>(&'p self, page: usize, _room: &'p mut [u8; 4096]) -> &'p [u8; 4096] {
+    fn page<'p>(&'p self, page: usize, _room: &'p mut [u8; PAGE_BYTES]) -> &'p [u8; PAGE_BYTES] {
         page_bytes(self, page)
     }
 }

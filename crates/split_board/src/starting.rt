@@ -22,7 +22,9 @@ use channel_set::ChannelSet;
 use energy_budget::Energy;
 use mark_board::{BoardSeat, HostSeat, MarkBoard};
 use notice_book::Notices;
-use nv_workers::{BoardName, Host, NotStarted, Opening, RecordedModule, Tally, publish, seated};
+use nv_workers::{
+    AcceptedCount, BoardName, Host, NotStarted, Opening, RecordedModule, publish, seated,
+};
 use save_device::SaveDevice;
 use split_module::SplitModule;
 use std::alloc::{AllocError, Global};
@@ -61,7 +63,7 @@ struct Prepared<K: ChannelPort, B: BoardName + PartsName> {
 #[derive(Drop)]
 struct Words<B: BoardName + PartsName> {
     seat: BoardSeat,
-    tally: Tally<B>,
+    tally: AcceptedCount<B>,
     logs: ChannelLogs,
     known: FrontSeat,
 }
@@ -249,7 +251,7 @@ where
     publish(&made.marks, &mut seat, running.accepted(), running.mark());
     let words = Words {
         seat,
-        tally: Tally { book, rest },
+        tally: AcceptedCount { book, rest },
         logs,
         known,
     };

@@ -25,7 +25,8 @@ impl ModelStore {
     pub fn into_bytes(self) -> Vec<u8>
         ensures { ⟦<ModelStore as Store>⟧.kept self ≡ Some result.items }
     {
-        self.bytes
+        let ModelStore { bytes } = self;
+        bytes
     }
 }
 

@@ -3,7 +3,7 @@ use crate::check::same;
 use crate::program::{ends, make, named, place, remove};
 use interleave_map::{Interleaving, ReadyMap};
 use nv_profile::{TINY, read_profile};
-use run_command::run_on_store;
+use run_command::{AnswerPrinter, run_on_store};
 use script_runner::CommandBook;
 use std::fs::{self, File, Permissions};
 use std::os::unix::fs::{FileExt, PermissionsExt};
@@ -149,9 +149,18 @@ fn tells<R: Abort + std::rt::Files + AllocGlobal>(
     };
     let mut told = Vec::new(rt.alloc());
     let mut book = CommandBook::closed(rt.alloc());
+    let mut printer = AnswerPrinter::new(rt.alloc(), false, &mut told);
     let ran = run_on_store(
-        rt, &profile, script, &lines, &xor, store, false, &mut told, &mut book,
+        rt,
+        &profile,
+        script,
+        &lines,
+        &xor,
+        store,
+        &mut printer,
+        &mut book,
     );
+    drop(printer);
     same(rt, (ran.is_ok(), told.as_slice()), (true, text.as_bytes()));
 }
 

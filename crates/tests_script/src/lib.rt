@@ -21,6 +21,8 @@ mod kept;
 #[cfg(test)]
 mod program;
 #[cfg(test)]
+mod run_statistics;
+#[cfg(test)]
 mod running;
 #[cfg(test)]
 mod scripts;

@@ -1,6 +1,6 @@
 // The program's words, faults and exit status.
 use crate::check::same;
-use command_faults::{Failure, Fault, profile_of};
+use command_faults::{Failure, ProgramFault, profile_of};
 use command_line::run;
 use interleave_map::Interleaving;
 use live_store::Host;
@@ -45,7 +45,7 @@ fn told<R: Abort + AllocGlobal>(rt: &R, failure: &Failure<'_>) -> String {
     }
 }
 
-fn shown<R: Abort + AllocGlobal>(rt: &R, fault: &Fault<'_>) -> String {
+fn shown<R: Abort + AllocGlobal>(rt: &R, fault: &ProgramFault<'_>) -> String {
     fault.to_string(rt.alloc()).expect(rt, "memory")
 }
 
@@ -552,40 +552,48 @@ fn a_writer_that_takes_no_more(rt: HostRuntime) {
 #[test]
 fn texts_of_faults(rt: HostRuntime) {
     for (fault, text, code) in [
-        (Fault::Words, "a word is not UTF-8", ExitCode::from(2)),
-        (Fault::Profile, "profile", ExitCode::FAILURE),
-        (Fault::File("x y"), "file x y", ExitCode::FAILURE),
         (
-            Fault::Script(ScriptFault::Line { number: 7 }),
+            ProgramFault::Words,
+            "a word is not UTF-8",
+            ExitCode::from(2),
+        ),
+        (ProgramFault::Profile, "profile", ExitCode::FAILURE),
+        (ProgramFault::File("x y"), "file x y", ExitCode::FAILURE),
+        (
+            ProgramFault::Script(ScriptFault::Line { number: 7 }),
             "script line 7",
             ExitCode::FAILURE,
         ),
         (
-            Fault::Script(ScriptFault::Writer),
+            ProgramFault::Script(ScriptFault::Writer),
             "file -",
             ExitCode::FAILURE,
         ),
         (
-            Fault::Script(ScriptFault::Memory),
+            ProgramFault::Script(ScriptFault::Memory),
             "memory",
             ExitCode::FAILURE,
         ),
-        (Fault::Trace(7), "trace line 7", ExitCode::FAILURE),
+        (ProgramFault::Trace(7), "trace line 7", ExitCode::FAILURE),
         (
-            Fault::Out("names the script"),
+            ProgramFault::Out("names the script"),
             "--out names the script",
             ExitCode::from(2),
         ),
         (
-            Fault::Kept("names the script"),
+            ProgramFault::Kept("names the script"),
             "--store names the script",
             ExitCode::from(2),
         ),
-        (Fault::Columns, "--columns", ExitCode::from(2)),
-        (Fault::EmptyTrace, "empty trace", ExitCode::FAILURE),
-        (Fault::NoLine(7), "no line 7", ExitCode::FAILURE),
-        (Fault::NoTerm("wirte"), "no word wirte", ExitCode::from(2)),
-        (Fault::Memory, "memory", ExitCode::FAILURE),
+        (ProgramFault::Columns, "--columns", ExitCode::from(2)),
+        (ProgramFault::EmptyTrace, "empty trace", ExitCode::FAILURE),
+        (ProgramFault::NoLine(7), "no line 7", ExitCode::FAILURE),
+        (
+            ProgramFault::NoTerm("wirte"),
+            "no word wirte",
+            ExitCode::from(2),
+        ),
+        (ProgramFault::Memory, "memory", ExitCode::FAILURE),
     ] {
         let told = shown(&rt, &fault);
         same(&rt, (told.as_str(), fault.exit_code()), (text, code));

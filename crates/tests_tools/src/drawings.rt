@@ -4,7 +4,7 @@ use command_trace::{TraceReader, form_of};
 use ddr4_timing::command::{Command, Stamped};
 use nv_script::Answer;
 use schedule_drawing::{
-    Event, EventKind, Schedule, told_schedule, trace_schedule, write_svg, write_vcd,
+    EventKind, Schedule, ScheduleEvent, told_schedule, trace_schedule, write_svg, write_vcd,
 };
 use std::alloc::Global;
 use std::fmt::Write;
@@ -223,7 +223,7 @@ fn lives_and_events(rt: HostRuntime) -> Result<(), Fail> {
     // the row stays open for 20 clocks, and 100 lie between two lives
     assert_eq!(rt; schedule.next_begin(), 120);
     schedule.add(rt.alloc(), &checked()?.timing, 120, &[])?;
-    schedule.events.push(Event {
+    schedule.events.push(ScheduleEvent {
         clock: 0,
         kind: EventKind::Mode,
         text: format!(in rt.alloc(); "armed")?,

@@ -47,7 +47,7 @@ fn the_manual_page(rt: HostRuntime) {
     stands(
         &rt,
         text,
-        "\n\\fBnvctl run\\fR \\fIPROFILE\\fR \\fISCRIPT\\fR [\\fB\\-\\-out\\fR \\fISTORE\\fR] [\\fB\\-\\-store\\fR \\fISTORE\\fR] [\\fB\\-\\-commands\\fR \\fITRACE\\fR] [\\fB\\-\\-json\\fR]\n",
+        "\n\\fBnvctl run\\fR \\fIPROFILE\\fR \\fISCRIPT\\fR [\\fB\\-\\-out\\fR \\fISTORE\\fR] [\\fB\\-\\-store\\fR \\fISTORE\\fR] [\\fB\\-\\-commands\\fR \\fITRACE\\fR] [\\fB\\-\\-stats\\fR] [\\fB\\-\\-json\\fR]\n",
     );
     stands(&rt, text, "\n\\fBnvctl explain\\fR [\\fIWORD\\fR]\n");
     stands(

@@ -2,20 +2,17 @@
 ghost use Rattle.std.specs.Prelude.{◌≡◌, ◌<◌, length};
 ghost use Rattle.ddr4_boards.specs.Naming.{IsNamed};
 
-use crate::alone::first_receipt;
-use crate::cases::{AMPLE, CHANNELS, LINES, write_of};
-use crate::check::same;
+use crate::check::{AMPLE, CHANNELS, LINES, first_receipt, opened, same, tiny, write_of};
 use crate::inside::HeldAmid;
 use crate::silent::Silent;
 use arm_state::{ArmReply, Loss, WriteRefusal};
 use channel_locks::PartsName;
 use channel_port::ChannelPort;
-use ddr4_boards::{Ready, formatted, open};
+use ddr4_boards::{Ready, open};
 use energy_budget::{Energy, Meter};
 use interleave_map::{Interleaving, ReadyMap};
 use line_memory::History;
 use notice_book::Notices;
-use nv_profile::{TINY, read_profile};
 use nv_workers::{Always, BoardName, Closed, Ended, Host, Receipt, RecordedModule};
 use save_device::SaveDevice;
 use split_board::{Board, Started, channel_worker, close};
@@ -264,27 +261,12 @@ fn try_amid<R>(rt: &R, alloc: Global)
 where
     R: Threads + Wait + Clock + Abort + Copy + Send + Sync,
 {
-    let Ok(profile) = read_profile(alloc, TINY.as_bytes()) else {
-        panic!(*rt; "a profile");
-    };
+    let profile = tiny(rt, alloc);
     let map = ReadyMap {
         interleaving: Interleaving::Lines,
         checked: profile.checked,
     };
-    let Ok(device) = formatted(alloc, &profile) else {
-        panic!(*rt; "a device");
-    };
-    let Ok(ready) = open(
-        rt,
-        alloc,
-        &map,
-        &profile,
-        device,
-        Meter::with(AMPLE, 1),
-        HOSTS,
-    ) else {
-        panic!(*rt; "a module");
-    };
+    let ready = opened(rt, alloc, &map, &profile, AMPLE, HOSTS);
     let earlier = lose_amid::<_, _, _, Brand, R>(rt, alloc, ready);
     let Ok(later) = open(
         rt,

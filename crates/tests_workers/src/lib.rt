@@ -1,11 +1,6 @@
-//! Tests of boards over DDR4 channels, with their hosts, workers and notices, on one thread and on several, and of marks and
-//! books of notices alone: what no clause says of them.
+//! Tests of boards over DDR4 channels whose hosts and workers are threads: what no clause says of them.
 #![tactic(auto)]
 
-#[cfg(test)]
-mod again;
-#[cfg(test)]
-mod alone;
 #[cfg(test)]
 mod amid;
 #[cfg(test)]
@@ -13,21 +8,13 @@ mod cases;
 #[cfg(test)]
 mod check;
 #[cfg(test)]
-mod claims;
-#[cfg(test)]
-mod cuts;
-#[cfg(test)]
-mod ends;
-#[cfg(test)]
 mod gates;
 #[cfg(test)]
 mod inside;
 #[cfg(test)]
 mod locks;
 #[cfg(test)]
-mod marks;
-#[cfg(test)]
-mod notices;
+mod orders;
 #[cfg(test)]
 mod silent;
 #[cfg(test)]

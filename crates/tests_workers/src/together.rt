@@ -1,9 +1,7 @@
 // Boards whose hosts and workers are threads.
 ghost use Rattle.std.specs.Prelude.{◌≡◌};
 
-use crate::cases::{CHANNELS, LINES, write_of};
-use crate::check::same;
-use crate::claims::claim_to;
+use crate::check::{CHANNELS, LINES, same, write_of};
 use crate::gates::{HeldUntil, OtherFirst};
 use arm_state::{Loss, ReadRefusal};
 use channel_locks::PartsName;
@@ -12,7 +10,7 @@ use energy_budget::Energy;
 use notice_book::Notices;
 use nv_workers::{Always, BoardName, Ended, Host, Seen};
 use save_device::SaveDevice;
-use split_board::{Board, channel_worker, saver_worker};
+use split_board::{Asked, Board, Claim, channel_worker, saver_worker};
 use std::process::Abort;
 use std::sync::Wait;
 use std::thread;
@@ -21,6 +19,27 @@ use std::time::{Clock, Duration};
 
 /// How often a host tries its reads, all in all.
 const TRIES: u64 = 1 << 28;
+
+// The claim to a line that waits for a command of its channel.
+fn claim_to<K, D, E, B, N, R>(
+    rt: &R,
+    board: &Board<K, D, E, B, N>,
+    host: &mut Host<B>,
+    line: u64,
+) -> Claim<B>
+where
+    K: ChannelPort + Drop,
+    D: SaveDevice + Drop,
+    E: Energy + Drop,
+    B: BoardName + PartsName,
+    N: Notices,
+    R: Wait + Abort,
+{
+    match board.ask(rt, host, line) {
+        Ok(Asked::Later(claim)) => claim,
+        _ => panic!(*rt; "a claim"),
+    }
+}
 
 // Works channel 1 beside a write on it.
 fn work_and_write<K, D, E, B, N, R>(

@@ -1,9 +1,8 @@
 // A host that waits until its write is persistent.
 ghost use Rattle.std.specs.Prelude.{◌≡◌};
 
-use crate::alone::{saved, worked};
-use crate::cases::{CHANNELS, write_of};
-use crate::check::same;
+use crate::check::{CHANNELS, same, write_of};
+use crate::gates::Turns;
 use arm_state::Loss;
 use channel_locks::PartsName;
 use channel_port::ChannelPort;
@@ -11,7 +10,7 @@ use energy_budget::Energy;
 use notice_book::{Notices, Persisted};
 use nv_workers::{Always, BoardName, Ended, Host};
 use save_device::SaveDevice;
-use split_board::{Board, MainsLost};
+use split_board::{Board, MainsLost, channel_worker, saver_worker};
 use std::process::Abort;
 use std::sync::Wait;
 use std::thread;
@@ -32,8 +31,12 @@ where
     R: Wait + Clock,
     requires { CHANNELS ≡ B.channels }
 {
-    let _ended = worked(rt, board, 2);
-    saved(rt, board, TURNS)
+    let _ended = channel_worker(rt, board, 0, &Turns { worker: 0, most: 2 });
+    let saver = Turns {
+        worker: CHANNELS,
+        most: TURNS,
+    };
+    saver_worker(rt, board, CHANNELS, &saver)
 }
 
 /// Beside a save a host that waits gets a mark above its write's number, and beside a loss of mains that saves nothing the mark that

@@ -3,3 +3,4 @@ pub mod Banks
 pub mod Channels
 pub mod Turns
 pub mod RankTables
+pub mod ListSteps

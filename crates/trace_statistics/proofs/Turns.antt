@@ -1,5 +1,5 @@
 -- The margins of a list with one more command.
-use Rattle.std.proofs.Common.{◌≡◌, ◌≢◌, ◌∙◌, ℕ, ◌+◌, ◌-◌, ◌*◌, ◌^◌, ◌==◌, ◌&&◌, not, if◌then◌else◌, Bool, true, false, cond, eqb, List, [], ◌∷◌, ◌++◌, append-nil, append_assoc, max, min, Option, None, Some, ap, refl, sym, subst, arith}
+use Rattle.std.proofs.Common.{◌≡◌, ◌∙◌, ℕ, ◌+◌, ◌-◌, ◌*◌, ◌==◌, not, if◌then◌else◌, Bool, true, false, cond, eqb, List, [], ◌∷◌, ◌++◌, append-nil, append_assoc, max, Option, None, Some, ap, refl, sym, subst, arith}
 use Rattle.std.proofs.lemmas.Bool.{eq-eqb}
 use Rattle.std.proofs.lemmas.List.Sums.{fold_push}
 use Rattle.ddr4_timing.proofs.FloorLemmas.{last_ref_push, ref_count_push, window-first, window-no, window-yes}
@@ -7,15 +7,12 @@ use Rattle.ddr4_timing.specs.Command.{is_act_of, is_ref_of, rank_of}
 use Rattle.ddr4_timing.specs.Floors.{window}
 use Rattle.ddr4_timing.specs.Lawful.{last_ref, ref_count}
 use Rattle.ddr4_timing.specs.TimingState.{WindowStands}
-use Rattle.ddr4_timing.specs.declared.command.Command.{Command}
 use Rattle.ddr4_timing.specs.declared.command.Stamped.{Stamped}
 use Rattle.ddr4_timing.specs.declared.rank.Window.{Window}
 use Rattle.ddr4_timing.specs.declared.timing.Timing.{Timing}
-use Rattle.trace_statistics.specs.declared.margins.Margins.{Margins}
 use Rattle.trace_statistics.specs.declared.margins.RankMargins.{RankMargins}
-use Rattle.trace_statistics.specs.Margins.{AreMarginsOf, Turn, distance, greatest_of, least_of, lesser, refresh_margin, turns, turns_behind, window_margin}
+use Rattle.trace_statistics.specs.Margins.{Turn, distance, greatest_of, least_of, lesser, refresh_margin, turns, turns_behind, window_margin}
 use Rattle.trace_statistics.specs.MarginsStanding.{IsActivated, IsRefreshed, MarginsStand}
-use Rattle.trace_statistics.specs.Numbers.{told}
 
 behind_more : (before list : List Stamped) (x : Stamped) → turns_behind before (list ++ x ∷ []) ≡ turns_behind before list ++ record { before = before ++ list; next = x } ∷ []
 behind_more before [] x = ap (λ (l : List Stamped). record { before = l; next = x } ∷ []) (sym (append-nil before))

@@ -2,3 +2,4 @@ pub mod Numbers
 pub mod Standing
 pub mod Margins
 pub mod MarginsStanding
+pub mod Lists

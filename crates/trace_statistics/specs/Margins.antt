@@ -1,6 +1,6 @@
 -- How far the refreshes of a rank lie apart, and what the rules on refreshes and on four ACT left to spare: the greatest and the least
 -- of what each command gives, seen with those before it.
-use Rattle.std.specs.Prelude.{◌≡◌, ℕ, ◌+◌, ◌-◌, ◌*◌, ◌/◌, ◌&&◌, ◌==◌, Bool, if◌then◌else◌, not, min, max, List, [], ◌∷◌, ◌++◌, fold, Option, Some, None}
+use Rattle.std.specs.Prelude.{◌≡◌, ℕ, ◌+◌, ◌-◌, ◌*◌, ◌/◌, ◌&&◌, ◌==◌, if◌then◌else◌, not, min, max, List, [], ◌∷◌, ◌++◌, fold, Option, Some, None}
 use Rattle.ddr4_timing.specs.Command.{is_act_of, is_ref_of, rank_of}
 use Rattle.ddr4_timing.specs.Floors.{window}
 use Rattle.ddr4_timing.specs.Lawful.{last_ref, ref_count}

@@ -1,5 +1,5 @@
 -- For which commands the margins of a rank stand.
-use Rattle.std.specs.Prelude.{◌≡◌, ℕ, ◌+◌, ◌-◌, ◌*◌, ◌<◌, ◌^◌, ◌==◌, if◌then◌else◌, min, max, List, Option, Some, slice_index_or}
+use Rattle.std.specs.Prelude.{◌≡◌, ℕ, ◌+◌, ◌-◌, ◌*◌, ◌<◌, ◌^◌, ◌==◌, if◌then◌else◌, min, max, List, Some, slice_index_or}
 use Rattle.auto_precharge.specs.Unfolding.{plain_commands}
 use Rattle.command_trace.specs.Channels.{issued_to}
 use Rattle.command_trace.specs.declared.entry.Located.{Located}

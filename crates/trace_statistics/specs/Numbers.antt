@@ -1,7 +1,7 @@
 -- What the commands of a channel come to, in numbers. Each is a function of the list of commands that came, the latest first: a
 -- count of those that pass a test, seen with the ones before them. Where one closes its bank, by auto-precharge, no further command
 -- says so.
-use Rattle.std.specs.Prelude.{◌≡◌, ℕ, ◌+◌, ◌-◌, ◌*◌, ◌/◌, ◌^◌, Bool, true, false, ◌&&◌, not, ◌==◌, if◌then◌else◌, min, max, List, [], ◌∷◌, count_by, filter, fold, map, reverse}
+use Rattle.std.specs.Prelude.{◌≡◌, ℕ, ◌+◌, ◌-◌, ◌*◌, ◌/◌, ◌^◌, Bool, true, false, ◌&&◌, not, ◌==◌, if◌then◌else◌, min, max, List, [], ◌∷◌, count_by, filter, fold, reverse}
 use Rattle.auto_precharge.specs.declared.issued.Issued.{Issued}
 use Rattle.ddr4_timing.specs.Command.{bank_of, is_act, is_column, is_pre, is_precharge, is_rd, is_ref, is_sre, is_wr}
 use Rattle.ddr4_timing.specs.Places.{is_bank}

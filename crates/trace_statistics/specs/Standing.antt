@@ -1,5 +1,5 @@
 -- For which commands the state of the statistics stands.
-use Rattle.std.specs.Prelude.{◌≡◌, ℕ, ◌<◌, Bool, true, false, ◌&&◌, if◌then◌else◌, min, ◌+◌, ◌-◌, ◌^◌, List, [], ◌∷◌, filter, slice_index_or}
+use Rattle.std.specs.Prelude.{◌≡◌, ℕ, ◌<◌, Bool, true, false, ◌&&◌, if◌then◌else◌, min, ◌+◌, ◌-◌, ◌^◌, List, [], ◌∷◌, slice_index_or}
 use Rattle.ddr4_timing.specs.Command.{is_act, is_column, is_pre, is_rd, is_wr}
 use Rattle.ddr4_timing.specs.Places.{HasSlot, is_bank, slot_of}
 use Rattle.ddr4_timing.specs.declared.command.Command.{Command}

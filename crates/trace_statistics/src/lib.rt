@@ -5,6 +5,7 @@
 #![tactic(auto)]
 
 mod channel;
+mod lists;
 mod margins;
 mod numbers;
 mod phase;
@@ -14,6 +15,7 @@ mod stream;
 mod telling;
 
 pub use channel::Channel;
+pub use lists::measure_lists;
 pub use margins::{ChannelMargins, Margins, RankMargins};
 pub use numbers::{BankNumbers, RankNumbers};
 pub use phase::Phase;

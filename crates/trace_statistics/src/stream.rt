@@ -1,10 +1,10 @@
 // A trace, checked and measured.
-ghost use Rattle.std.specs.Prelude.{◌≡◌, [], ◌≤◌, IfOk};
+ghost use Rattle.std.specs.Prelude.{◌≡◌, [], ◌∷◌, ◌++◌, ◌<◌, ◌≤◌, ◌^◌, IfOk};
 ghost use Rattle.command_trace.specs.Channels.{FollowsAll};
 ghost use Rattle.trace_statistics.specs.Standing.{AreOfLawful};
 
 use crate::statistics::TraceStatistics;
-use command_trace::{Form, Source, TraceCheck, TraceFault, TraceReader};
+use command_trace::{Form, Located, MOST_CHANNELS, Source, TraceCheck, TraceFault, TraceReader};
 use ddr4_timing::timing::CommandRules;
 use std::alloc::Global;
 use std::fs::File;
@@ -16,6 +16,39 @@ use std::rt::Files;
 pub struct Measured {
     pub check: TraceCheck,
     pub statistics: TraceStatistics,
+}
+
+impl Measured {
+    /// Before any command, by the numbers of a profile.
+    pub(crate) fn new(rules: &CommandRules) -> Measured
+        ensures follows { FollowsAll rules.now result.check }
+        ensures rules { result.statistics.rules ≡ rules.now }
+        ensures none { result.check.given.items ≡ [] }
+        ensures uncounted { result.statistics.given.items ≡ [] }
+    {
+        Measured {
+            check: TraceCheck::new(rules),
+            statistics: TraceStatistics::new(rules),
+        }
+    }
+
+    /// Takes the next command in: checks it, and counts it where the commands of its channel are lawful until now.
+    pub(crate) fn take(&mut self, rules: &CommandRules, next: &Located)
+        requires channel { next.now.entry.channel < MOST_CHANNELS }
+        requires clock { next.now.entry.command.clock < 2 ^ 63 }
+        requires follows { FollowsAll rules.now self.old.check }
+        requires rules { self.old.statistics.rules ≡ rules.now }
+        ensures follows { FollowsAll rules.now self.new.check }
+        ensures adds { self.new.check.given.items ≡ self.old.check.given.items ++ next.now ∷ [] }
+        ensures lawful { AreOfLawful rules.now
+            self.old.check.given.items self.old.statistics.given.items → AreOfLawful rules.now
+            self.new.check.given.items self.new.statistics.given.items }
+        ensures rules { self.new.statistics.rules ≡ rules.now }
+    {
+        if self.check.take(rules, next) {
+            self.statistics.take(next);
+        }
+    }
 }
 
 /// Reads a trace to its end, checks the commands of each channel and counts them. Takes the same memory for each trace.
@@ -31,17 +64,14 @@ pub fn measure_trace<R: Read + Drop>(
         m.check.given.items m.statistics.given.items) }
     ensures rules { IfOk result (λ m. m.statistics.rules ≡ rules.now) }
 {
-    let mut check = TraceCheck::new(rules);
-    let mut statistics = TraceStatistics::new(rules);
+    let mut measured = Measured::new(rules);
     for _ in 0..u64::MAX {
         let Some(found) = reader.next()? else {
             break;
         };
-        if check.take(rules, &found) {
-            statistics.take(&found);
-        }
+        measured.take(rules, &found);
     }
-    Ok(Measured { check, statistics })
+    Ok(measured)
 }
 
 /// Reads the trace of a source to its end, checks it and counts. A line that is no command is refused by its number.

@@ -6,8 +6,8 @@ use Rattle.nv_script.specs.Texts.{AreLinesOf, ReadsAs, text_lines, without_last_
 use Rattle.nv_script.proofs.Scripts.{IsTurn, first_bad, first_too_many, line_turn, lines_end, lines_more}
 use Rattle.nv_script.proofs.reading.read_script.Goals as goal
 
-pub returns-then-number-gt-MOST_LINES-clause-refused : goal.returns-then-number-gt-MOST_LINES-clause-refused
-returns-then-number-gt-MOST_LINES-clause-refused c =
+pub returns-then-number-gt-MOST_SCRIPT_LINES-clause-refused : goal.returns-then-number-gt-MOST_SCRIPT_LINES-clause-refused
+returns-then-number-gt-MOST_SCRIPT_LINES-clause-refused c =
     let here : IsTurn (text_lines c.args.script.now) (length c.loop-index.yielded) c.in-Some.index c.in-Some.line.now =
     line_turn _ _ c.loop-index.yielded _ c.loop-index.yielded_by _ _ c.next.ensures.steps (without_last_newline c.args.script.now) (cc) (cc) c.split.ensures.closure (cc) (λ x b q k. search (rules, tests)) (c.in-Some.index, c.in-Some.line) c.in-Some.is in
     first_too_many c.args.geometry.now c.args.script.now _ _ _ c.loop-index.lines.items here c.loop-index.invariant.1 (omega arith)

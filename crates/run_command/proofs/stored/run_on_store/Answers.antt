@@ -8,4 +8,4 @@ pub returns : goal.returns
 returns g c =
     let is : c.device_size-size.result ≡ size_for c.args.profile.now = search rules in
     on_ok_weaker c.leave.result (λ left old was new now.
-    runs_on_store _ _ _ _ _ _ _ c.device_size-size.result _ old new is (c.in_ok-bytes.ensures.is old was) c.in_ok-device.ensures (left new now)) c.leave.ensures
+    runs_on_store _ _ _ _ _ _ _ _ _ _ c.device_size-size.result _ old new c.flush.ensures is (c.in_ok-bytes.ensures.is old was) c.in_ok-device.ensures (left new now)) c.leave.ensures

@@ -5,8 +5,8 @@ use Rattle.script_report.specs.BadLines.{numbers_of}
 use Rattle.script_report.proofs.Lines.{HasNoNewline, TellsFirst, are_with_last, is_there, lines_without, one_told, tells_bad, tells_good}
 use Rattle.script_report.proofs.lint.bad_lines.Goals as goal
 
-pub returns-then-place-eq-MOST_LINES : goal.returns-then-place-eq-MOST_LINES
-returns-then-place-eq-MOST_LINES c =
+pub returns-then-place-eq-MOST_SCRIPT_LINES : goal.returns-then-place-eq-MOST_SCRIPT_LINES
+returns-then-place-eq-MOST_SCRIPT_LINES c =
     let texts : List (List ℕ) = text_lines c.args.script.now in
     let full : c.loop-place.place ≡ 4096 = search rules in
     let below : c.loop-place.place < length texts = is_there c.in_ok-lines.lines.items texts c.loop-place.place c.in_ok-lines.ensures (search rules) in
@@ -25,7 +25,7 @@ pub loop-place-preserved-then-not-branch : goal.loop-place-preserved-then-not-br
 loop-place-preserved-then-not-branch c =
     let texts : List (List ℕ) = text_lines c.args.script.now in
     let n : ℕ = c.loop-place.place in
-    let few : n < 4096 = omega (arith, c.loop-place.invariant.few, c.if-place-eq-MOST_LINES.false) in
+    let few : n < 4096 = omega (arith, c.loop-place.invariant.few, c.if-place-eq-MOST_SCRIPT_LINES.false) in
     let at : c.line_at-line.result.now ≡ get_or texts n [] = search rules in
     let good = c.is_bad_line.ensures.good (search rules) in
     tells_good c.args.geometry.now texts n (numbers_of c.loop-place.bad.items) good.0 c.loop-place.invariant few
@@ -36,7 +36,7 @@ loop-place-preserved c =
     let texts : List (List ℕ) = text_lines c.args.script.now in
     let n : ℕ = c.loop-place.place in
     let below : n < length texts = is_there c.in_ok-lines.lines.items texts n c.in_ok-lines.ensures (search rules) in
-    let few : n < 4096 = omega (arith, c.loop-place.invariant.few, c.if-place-eq-MOST_LINES.false) in
+    let few : n < 4096 = omega (arith, c.loop-place.invariant.few, c.if-place-eq-MOST_SCRIPT_LINES.false) in
     let at : c.line_at-line.result.now ≡ get_or texts n [] = search rules in
     let none : HoldsOfNone (ReadsAs c.args.geometry.now c.line_at-line.result.now) = c.is_bad_line.ensures.bad (search rules) in
     let numbers : List ℕ = numbers_of c.loop-place.bad.items in

@@ -5,7 +5,7 @@ use Rattle.nv_script.specs.Line.{NamesChannelOf}
 use Rattle.save_device.specs.Device.{IsSettled}
 use Rattle.save_device.specs.Memory.{state_of}
 use Rattle.save_device.specs.declared.memory.MemoryDevice.{MemoryDevice}
-use Rattle.script_runner.specs.Ended.{Lives}
+use Rattle.script_runner.specs.Ended.{Kept}
 use Rattle.script_runner.specs.Runs.{AreAllNoted, IsRunOn}
 use Rattle.nv_session.specs.Living.{IsShapeFor}
 use Rattle.script_runner.specs.Wiring.{IsWiredFor, WiredMaps, wired_shape}
@@ -26,7 +26,7 @@ pub returns-clause-runs : goal.returns-clause-runs
 returns-clause-runs g c =
     let made = c.over-session.ensures in let wiring = c.new.ensures in let first = c.over-session.result in let last = c.answer_lines.new.session in
     let before = g.R.Report.answers c.args.report.now in let after = g.R.Report.answers c.answer_lines.new.report in
-    let kept : Option Lives = c.answer_lines.new.book in
+    let kept : Option Kept = c.answer_lines.new.book in
     let noted : AreAllNoted (lines_of c.args.profile.now.checked.geometry) c.args.lines.now before after kept first last =
     subst (λ (profile : Profile). AreAllNoted (lines_of profile.checked.geometry) c.args.lines.now before after kept first last) made.profile c.in_ok-answer_lines.ensures.done in
     let done = noted.done in
@@ -45,8 +45,8 @@ returns-clause-runs g c =
         leak = made.leak;
       };
       done = done;
-      rules = c.note_life.ensures.rules;
+      rules = c.note_last.ensures.rules;
       lives = lives_in_chain done.all.answered.story first last done.does;
       device_is = cc;
     } in
-    record { run = run; lists = all_lives done.all.answered.story first last kept c.note_life.new.book noted.ended c.note_life.ensures.notes }
+    record { run = run; lists = all_lives done.all.answered.story first last kept c.note_last.new.book noted.ended c.note_last.ensures.notes }

@@ -23,18 +23,18 @@ pub loop-line-init : goal.loop-line-init
 loop-line-init g c = record {
   profile = refl;
   unrefused = refl;
-  done = notes_begin (line_count_in c.args.session.now) (g.R.Report.answers c.args.report.now) c.args.session.now (g.B.LifeBook.lives c.args.book.now) c.requires.book;
+  done = notes_begin (line_count_in c.args.session.now) (g.R.Report.answers c.args.report.now) c.args.session.now (g.B.LifeBook.kept c.args.book.now) c.requires.book;
 }
 
 pub loop-line-preserved : goal.loop-line-preserved
 loop-line-preserved g c =
-    let answers = g.R.Report.answers in let lives = g.B.LifeBook.lives in let old = c.args.session.now in let mid = c.loop-line.session in
+    let answers = g.R.Report.answers in let kept = g.B.LifeBook.kept in let old = c.args.session.now in let mid = c.loop-line.session in
     record {
       profile = c.answer_line.ensures.profile ∙ c.loop-line.invariant.profile;
       unrefused = c.in_ok-answer_line.ensures.unrefused ∙ c.loop-line.invariant.unrefused;
       done = notes_grow (line_count_in old) (line_count_in mid) (ap (λ (profile : Profile). lines_of profile.checked.geometry) c.loop-line.invariant.profile) c.args.lines.now c.loop-line.line-index Format
-          (answers c.args.report.now) (answers c.loop-line.report) (answers c.answer_line.new.report) (lives c.loop-line.book) (lives c.note_end.new.book) old mid c.answer_line.new.session
-          c.loop-line-test.true c.loop-line.invariant.done c.in_ok-answer_line.ensures.done c.note_end.ensures.notes c.note_end.ensures.rules;
+          (answers c.args.report.now) (answers c.loop-line.report) (answers c.answer_line.new.report) (kept c.loop-line.book) (kept c.note_line.new.book) old mid c.answer_line.new.session
+          c.loop-line-test.true c.loop-line.invariant.done c.in_ok-answer_line.ensures.done c.note_line.ensures.notes c.note_line.ensures.rules;
     }
 
 pub returns-in_err-answer_line-clause-cut : goal.returns-in_err-answer_line-clause-cut
@@ -49,4 +49,4 @@ pub returns-clause-done : goal.returns-clause-done
 returns-clause-done g c =
     let answers = g.R.Report.answers in
     let all : c.loop-line.line-index ≡ length c.args.lines.now = search rules in
-    notes_end (line_count_in c.args.session.now) c.args.lines.now c.loop-line.line-index (answers c.args.report.now) (answers c.loop-line.report) (g.B.LifeBook.lives c.loop-line.book) c.args.session.now c.loop-line.session all c.loop-line.invariant.done
+    notes_end (line_count_in c.args.session.now) c.args.lines.now c.loop-line.line-index (answers c.args.report.now) (answers c.loop-line.report) (g.B.LifeBook.kept c.loop-line.book) c.args.session.now c.loop-line.session all c.loop-line.invariant.done

@@ -9,5 +9,5 @@ invariant-loop-line g l =
     record {
       profile : l.session.profile ≡ old.profile;
       unrefused : g.R.Report.refusals l.report ≡ g.R.Report.refusals l.initial.report;
-      done : NotesLines (line_count_in old) (take l.line-index l.lines) (g.R.Report.answers l.initial.report) (g.R.Report.answers l.report) (g.B.LifeBook.lives l.book) old l.session;
+      done : NotesLines (line_count_in old) (take l.line-index l.lines) (g.R.Report.answers l.initial.report) (g.R.Report.answers l.report) (g.B.LifeBook.kept l.book) old l.session;
     }

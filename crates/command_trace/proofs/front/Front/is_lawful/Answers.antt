@@ -1,5 +1,0 @@
-use Rattle.command_trace.proofs.Following.{tells_lawful}
-use Rattle.command_trace.proofs.front.Front.is_lawful.Goals as goal
-
-pub returns : goal.returns
-returns c checked found f = tells_lawful checked c.args.self.now found f
