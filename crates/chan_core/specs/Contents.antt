@@ -10,6 +10,7 @@ use Rattle.frfcfs.specs.declared.pending.Kind.{Kind}
 use Rattle.frfcfs.specs.declared.pending.Kind.TheVariants.{Read, Write}
 use Rattle.frfcfs.specs.declared.pending.Pending.{Pending}
 use Rattle.frfcfs.specs.Queue.{Waiting, is_held, numbered_from, writes_among}
+use Rattle.line_memory.specs.declared.line.TheConstants.{LINE_BYTES}
 use Rattle.wpq_core.specs.declared.queue.PendingWrite.{PendingWrite}
 use Rattle.wpq_core.specs.Queue.{Queue, IsWriteQueue}
 use Rattle.chan_core.specs.declared.phase.Phase.{Phase}
@@ -117,7 +118,7 @@ HasWriteNumbered number writes = (i : ℕ) × (w : PendingWrite) × (slice_get w
 
 -- each line has its 64 bytes
 abbrev pub AreWhole : List (List ℕ) → Type 0
-AreWhole lines = All (λ line. length line ≡ 64) lines
+AreWhole lines = All (λ line. length line ≡ LINE_BYTES) lines
 
 -- Where reads were open, the writes alone are left of the requests, numbered anew.
 abbrev pub LeavesWrites : List OpenRead → Waiting → Waiting → Type 0

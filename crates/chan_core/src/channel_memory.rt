@@ -2,6 +2,7 @@
 // what a command does to it.
 ghost use Rattle.std.specs.Prelude.{◌≡◌, ◌≢◌, ◌++◌, ◌∷◌, [], IfSome, Some, drop, length, slice_get, take, vec_capacity};
 ghost use Rattle.std.specs.List.{filter_map};
+ghost use Rattle.line_memory.specs.declared.line.TheConstants.{LINE_BYTES};
 ghost use Rattle.wpq_core.specs.Writes.{TakesWrite};
 ghost use Rattle.wpq_core.specs.Queue as queues;
 ghost use Rattle.wpq_core.specs.PendingMemory.{after_pending};
@@ -166,7 +167,7 @@ fn take_write(queue: &mut Wpq, number: u64) -> Line
     requires { HasWriteNumbered number queue.old.writes }
     ensures depth { queue.new.depth ≡ queue.old.depth }
     ensures takes { TakesWrite number queue.old.writes (Some result) queue.new.writes }
-    ensures size { length result ≡ 64 }
+    ensures size { length result ≡ LINE_BYTES }
     ensures queue { queues.IsWriteQueue queue.new }
 {
     let Some(bytes) = queue.take(number) else {

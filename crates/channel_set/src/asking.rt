@@ -8,7 +8,7 @@ ghost use Rattle.channel_port.specs.Waits.{reads_on, writes_on};
 
 use crate::ChannelSet;
 use channel_port::ChannelPort;
-use line_memory::Line;
+use line_memory::{LINE_BYTES, Line};
 use save_image::{PAGE_BYTES, PAGE_LINES, page_bytes};
 
 impl<K: ChannelPort> ChannelSet<K> {
@@ -65,7 +65,7 @@ impl<K: ChannelPort> ChannelSet<K> {
         requires { PAGE_LINES * (page + 1) ≤ (shape_of K.ChannelPort self.now).lines }
         ensures { result ≡ page_of page (view_of K.ChannelPort self.now).array }
     {
-        let mut lines = [[0; 64]; PAGE_LINES];
+        let mut lines = [[0; LINE_BYTES]; PAGE_LINES];
         for (index, bytes) in lines.iter_mut().enumerate() {
             *bytes = self.stored((PAGE_LINES * page + index) as u64);
         }

@@ -5,6 +5,7 @@ use Rattle.std.specs.Int.{IsInRange}
 use Rattle.std.specs.List.{slice_split}
 use Rattle.std.specs.Str.Parse.{digits_value}
 use Rattle.hex.specs.Hex.{hex_digit_value}
+use Rattle.line_memory.specs.declared.line.TheConstants.{LINE_BYTES}
 use Rattle.ddr4_timing.specs.declared.timing.Geometry.{Geometry}
 use Rattle.interleave_map.specs.Ready.{text_of}
 use Rattle.save_device.specs.declared.memory.Pick.{Pick}
@@ -45,7 +46,7 @@ IsPick word (Torn byte) = (digits : List ℕ) × (word ≡ codes "torn" ++ digit
 
 -- a line of so many equal bytes
 abbrev pub FillsLine : List ℕ → List ℕ → Type 0
-FillsLine word bytes = (byte : ℕ) × IsByte word byte × (bytes ≡ replicate 64 byte)
+FillsLine word bytes = (byte : ℕ) × IsByte word byte × (bytes ≡ replicate LINE_BYTES byte)
 
 -- the calls that a fuse passes: a number, or all by `off`
 abbrev pub IsFuse : List ℕ → Option ℕ → Type 0

@@ -13,7 +13,7 @@ use crate::line::ScriptLine;
 use crate::word::{BadWord, byte, fuse, number, ordinal, pick};
 use ddr4_timing::timing::Geometry;
 use interleave_map::Interleaving;
-use line_memory::Write;
+use line_memory::{LINE_BYTES, Write};
 use std::alloc::{AllocError, Global};
 use std::str;
 use thiserror::Error;
@@ -225,7 +225,7 @@ fn line_with_two(
     match verb {
         "write" => Ok(ScriptLine::Write(Write {
             line: number(first)?,
-            data: [byte(second)?; 64],
+            data: [byte(second)?; LINE_BYTES],
         })),
         "work" => Ok(ScriptLine::Work {
             channel: channel_of(first, geometry)?,

@@ -2,6 +2,7 @@
 use Rattle.std.specs.Prelude.{ℕ, ◌*◌, List, take, drop}
 use Rattle.std.specs.List.{concat}
 use Rattle.std.specs.Simd.{first_chunks}
+use Rattle.line_memory.specs.declared.line.TheConstants.{LINE_BYTES}
 use Rattle.save_image.specs.declared.page.TheConstants.{PAGE_LINES}
 
 -- the bytes of lines, one line behind the other
@@ -18,4 +19,4 @@ page_of page memory = bytes_of (lines_of_page page memory)
 
 -- the first n lines of a row of bytes
 abbrev pub lines_in : ℕ → List ℕ → List (List ℕ)
-lines_in n bytes = first_chunks 64 n bytes
+lines_in n bytes = first_chunks LINE_BYTES n bytes

@@ -1,5 +1,6 @@
 -- Where the two slots of a device lie, and what each one holds.
 use Rattle.std.specs.Prelude.{◌≡◌, ◌==◌, ℕ, ◌+◌, ◌*◌, ◌%◌, ◌≤◌, Bool, true, false, List, drop, length, slice_index, slice_range, Option, Some, None, if◌then◌else◌}
+use Rattle.line_memory.specs.declared.line.TheConstants.{LINE_BYTES}
 use Rattle.save_device.specs.Device.{DeviceState}
 use Rattle.save_image.specs.declared.reading.Header.{Header}
 use Rattle.save_image.specs.Body.{lines_in}
@@ -18,7 +19,7 @@ pub record IsCapacity (lines : ℕ) : Type 0 where
 
 -- the bytes of a slot: a header and the lines
 abbrev pub slot_size : ℕ → ℕ
-slot_size lines = PAGE_BYTES + 64 * lines
+slot_size lines = PAGE_BYTES + LINE_BYTES * lines
 
 -- the bytes of a device: two slots
 abbrev pub device_size : ℕ → ℕ

@@ -3,6 +3,7 @@ ghost use Rattle.std.specs.Prelude.{◌≡◌, ◌≤◌};
 ghost use Rattle.slot_store.specs.Slots.{start_of, slot_size, device_size, other};
 ghost use Rattle.slot_store.specs.declared.slots.TheConstants.{MOST_LINES};
 
+use line_memory::LINE_BYTES;
 use save_image::PAGE_BYTES;
 use std::fmt;
 
@@ -21,7 +22,7 @@ pub const fn slot_size(lines: usize) -> usize
     requires { lines ≤ MOST_LINES }
     ensures { result ≡ slot_size lines }
 {
-    PAGE_BYTES + 64 * lines
+    PAGE_BYTES + LINE_BYTES * lines
 }
 
 /// The bytes of a device with two slots, for images of so many lines.
