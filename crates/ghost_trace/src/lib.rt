@@ -1,12 +1,14 @@
 //! A trace of values that only clauses read. It takes no memory, and its methods do nothing at run time.
 //!
-//! Its three facts (that a new one is empty, that `note` adds a value, and that it may go to any thread) are the only
-//! ones of this repository that are proved by hand over a field which no code can reach: nothing else may be, since such
-//! a proof could give that field any value.
+//! Its four facts (that a new one is empty, that `note` adds a value, that a copy has the same values, and that it may go to
+//! any thread) are the only ones of this repository that are proved by hand over a field which no code can reach: nothing else
+//! may be, since such a proof could give that field any value.
 #![tactic(auto)]
 
 ghost use Rattle.std.specs.Prelude.{◌≡◌, List, [], ◌∷◌, ◌++◌};
 ghost use Rattle.std.specs.Borrow.{ftrue};
+
+mod copying;
 
 use std::marker::{Model, PhantomData};
 
