@@ -51,6 +51,18 @@ impl Wpq {
         })
     }
 
+    /// A queue of the same writes, with room for as many. It refuses only where there is no memory for them.
+    pub fn copy(&self, alloc: Global) -> Result<Wpq, AllocError>
+        ensures { IfOk result (λ copy. copy ≡ self.now) }
+    {
+        let mut writes = Vec::with_capacity(alloc, self.depth)?;
+        writes.extend_from_slice(&self.writes)?;
+        Ok(Wpq {
+            depth: self.depth,
+            writes,
+        })
+    }
+
     /// How many writes are pending.
     pub fn len(&self) -> usize
         ensures { result ≡ length self.now.writes }
