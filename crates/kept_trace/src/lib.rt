@@ -4,6 +4,8 @@
 
 ghost use Rattle.std.specs.Prelude.{◌≡◌, ◌≢◌, ◌↔◌, List, [], ◌∷◌, ◌++◌, IfSome, IsSome, true, false};
 
+mod copying;
+
 use ghost_trace::Trace;
 use std::alloc::Global;
 use std::marker::Model;
