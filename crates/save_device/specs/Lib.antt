@@ -6,3 +6,4 @@ pub mod Flags
 pub mod Pick
 pub mod Memory
 pub mod OneFault
+pub mod Copies

@@ -48,6 +48,16 @@ impl CallLog {
         }
     }
 
+    /// The same calls.
+    pub fn copy(&self) -> CallLog
+        ensures { result ≡ self.now }
+    {
+        CallLog {
+            faults: self.faults,
+            calls: self.calls.copy(),
+        }
+    }
+
     /// Adds a call.
     pub fn note(&mut self, kind: CallKind, is_good: bool)
         ensures { self.new ≡ self.old ++ called kind is_good ∷ [] }

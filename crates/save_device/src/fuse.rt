@@ -1,10 +1,11 @@
 // A device that fails from one call on, around another one.
-ghost use Rattle.std.specs.Prelude.{◌≡◌, ◌+◌, ◌-◌, ◌<◌, ◌≤◌, length, is_ok, slice_range, IsErr, OnOk};
+ghost use Rattle.std.specs.Prelude.{◌≡◌, ◌+◌, ◌-◌, ◌<◌, ◌≤◌, length, is_ok, slice_range, IfOk, IsErr, OnOk};
 ghost use Rattle.save_device.specs.declared.calls.CallKind.TheVariants.{Read};
 ghost use Rattle.save_device.specs.Device.{present, with_calls};
 ghost use Rattle.save_device.specs.Changes.{Put, Settle, IsCall, Makes};
 
-use crate::{CallKind, CallLog, DeviceFault, SaveDevice};
+use crate::{CallKind, CallLog, DeviceFault, MemoryDevice, SaveDevice};
+use std::alloc::{AllocError, Global};
 
 /// Passes so many calls to its device. The next and all later ones fail, and aren't handed on. It counts its own calls and
 /// faults.
@@ -27,6 +28,21 @@ impl<D: SaveDevice> Fuse<D> {
             left: passes,
             calls: CallLog::new(),
         }
+    }
+}
+
+impl Fuse<MemoryDevice> {
+    ghost use Rattle.save_device.specs.Copies.{AreFusesAlike};
+
+    /// A fuse that passes as many calls, around a copy of its device. Refused only where there is no memory.
+    pub fn copy(&self, alloc: Global) -> Result<Fuse<MemoryDevice>, AllocError>
+        ensures { IfOk result (AreFusesAlike self.now) }
+    {
+        Ok(Fuse {
+            device: self.device.copy(alloc)?,
+            left: self.left,
+            calls: self.calls.copy(),
+        })
     }
 }
 

@@ -10,6 +10,7 @@ ghost use Rattle.save_device.specs.Pick.{IsPickedFrom};
 
 use crate::{CallKind, CallLog, DeviceFault, SaveDevice};
 use ghost_trace::Trace;
+use same_values::copy_with_room;
 use std::alloc::{AllocError, Global};
 
 /// Which of the images that a stop may leave.
@@ -112,6 +113,7 @@ impl Span {
 }
 
 impl MemoryDevice {
+    ghost use Rattle.save_device.specs.Copies.{AreAlike};
     ghost use Rattle.save_device.specs.Memory.{state_of, settled_row_of, IsPicked};
 
     /// A device with these bytes, settled. It takes twice the memory of the bytes, and refuses only where there is none.
@@ -128,6 +130,26 @@ impl MemoryDevice {
             span: Span::NONE,
             earlier: Trace::new(),
             calls: CallLog::new(),
+        })
+    }
+
+    /// A device of the same bytes, unsettled in the same places, with the same past. It takes twice the memory of the bytes, and
+    /// refuses only where there is none.
+    pub fn copy(&self, alloc: Global) -> Result<MemoryDevice, AllocError>
+        ensures { IfOk result (AreAlike self.now) }
+    {
+        let size = self.content.bytes.len();
+        let bytes = copy_with_room(alloc, &self.content.bytes, size)?;
+        let unsettled = copy_with_room(alloc, &self.content.unsettled, size)?;
+        let settled = copy_with_room(alloc, &self.settled, size)?;
+        let earlier = self.earlier.copy();
+        let calls = self.calls.copy();
+        Ok(MemoryDevice {
+            content: Content { bytes, unsettled },
+            settled,
+            span: self.span,
+            earlier,
+            calls,
         })
     }
 

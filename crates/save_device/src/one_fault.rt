@@ -1,11 +1,12 @@
 // A device of which one call fails, around another one.
-ghost use Rattle.std.specs.Prelude.{◌≡◌, ◌≢◌, ◌↔◌, ◌+◌, ◌≤◌, Bool, Some, None, length, is_ok, slice_range, IsTrue, IsErr, OnOk};
+ghost use Rattle.std.specs.Prelude.{◌≡◌, ◌≢◌, ◌↔◌, ◌+◌, ◌≤◌, Bool, Some, None, length, is_ok, slice_range, IfOk, IsTrue, IsErr, OnOk};
 ghost use Rattle.save_device.specs.declared.calls.CallKind.TheVariants.{Read};
 ghost use Rattle.save_device.specs.Device.{present, with_calls};
 ghost use Rattle.save_device.specs.Changes.{Put, Settle, IsCall, Makes};
 ghost use Rattle.save_device.specs.OneFault.{before_next};
 
-use crate::{CallKind, CallLog, DeviceFault, SaveDevice};
+use crate::{CallKind, CallLog, DeviceFault, Fuse, MemoryDevice, SaveDevice};
+use std::alloc::{AllocError, Global};
 
 /// One call fails: a write is handed on to the device all the same, a read or a sync isn't. It counts its own calls and
 /// faults.
@@ -28,6 +29,22 @@ impl<D: SaveDevice> OneFault<D> {
             before: Some(before),
             calls: CallLog::new(),
         }
+    }
+}
+
+impl OneFault<Fuse<MemoryDevice>> {
+    ghost use Rattle.save_device.specs.Copies.{AreFaultsAlike};
+
+    /// The same around a copy of its device, of which as many calls pass before the one that fails. Refused only where there is no
+    /// memory.
+    pub fn copy(&self, alloc: Global) -> Result<OneFault<Fuse<MemoryDevice>>, AllocError>
+        ensures { IfOk result (AreFaultsAlike self.now) }
+    {
+        Ok(OneFault {
+            device: self.device.copy(alloc)?,
+            before: self.before,
+            calls: self.calls.copy(),
+        })
     }
 }
 
