@@ -41,6 +41,20 @@ impl Meter {
         }
     }
 
+    /// A meter with the same level, leak, faults and calls, under the same lie.
+    pub fn copy(&self) -> Meter
+        ensures gauge { meter_gauge result ≡ meter_gauge self.now }
+        ensures lie { lie_of result ≡ lie_of self.now }
+    {
+        Meter {
+            level: self.level,
+            leak: self.leak,
+            lie: self.lie,
+            faults: self.faults.copy(),
+            calls: self.calls.copy(),
+        }
+    }
+
     /// Sets the level. One below the last is counted as a fault.
     pub fn set(&mut self, level: u64)
         ensures gauge { meter_gauge self.new ≡ record (meter_gauge self.old) {

@@ -23,6 +23,15 @@ impl Tally {
         }
     }
 
+    pub(crate) fn copy(&self) -> Tally
+        ensures { count_of result ≡ count_of self.now }
+    {
+        Tally {
+            shown: self.shown,
+            counted: self.counted.copy(),
+        }
+    }
+
     pub(crate) fn add(&mut self)
         ensures { count_of self.new ≡ count_of self.old + 1 }
     {
