@@ -18,3 +18,4 @@ pub mod StepsMade
 pub mod Repeated
 pub mod FirstSave
 pub mod WholeSaves
+pub mod SameRuns

@@ -129,6 +129,20 @@ impl SaveRun {
         }
     }
 
+    /// The same save, at the same step.
+    pub fn copy(&self) -> SaveRun
+        ensures { result ≡ self.now }
+    {
+        let hasher = self.hasher.clone().unwrap();
+        SaveRun {
+            plan: self.plan,
+            next: self.next,
+            tried: self.tried,
+            failures: self.failures,
+            hasher,
+        }
+    }
+
     /// The coming step.
     pub fn next(&self) -> Step
         ensures { result ≡ next_of self.now }
