@@ -6,6 +6,8 @@ ghost use Rattle.frfcfs.specs.Requests.{AreInOrder};
 ghost use Rattle.frfcfs.specs.Keys.{AreHeldBy, AreKeys, firsts_of};
 ghost use Rattle.frfcfs.specs.Queue.{AreFirsts, KeepsRequests, IsOldestOf, MarksOldest, Waiting, held_by, is_held, numbered_from, writes_among};
 
+mod copying;
+
 use crate::key::{Key, bank_number};
 use crate::pending::{Kind, Pending};
 use ddr4_timing::place::Place;
