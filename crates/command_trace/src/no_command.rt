@@ -2,6 +2,22 @@
 use crate::kind::CommandKind;
 use std::fmt;
 
+// What is wanted of a line, a header and a name.
+const WORDS: &str = "a channel, a clock and a name are wanted, with one space between two words";
+
+const HEADER: &str =
+    "the header of a table is clock,command,channel,rank,bankgroup,bank,row,column";
+
+const NAME: &str = "the names of commands are ACT, RD, WR, RDA, WRA, PRE, PREA, REF and SRE";
+
+// Why a command isn't taken.
+const CLOSING: &str = "every fault is told of commands without auto-precharge alone";
+
+const BROKEN: &str =
+    "a trace with auto-precharge is drawn where it is lawful, and this command isn't";
+
+const ORDER: &str = "the clock isn't behind the one before it in its channel";
+
 /// Why a line of a trace is no command, or one that isn't taken. Shown in words.
 #[derive(Clone, Copy, Debug, PartialEq, Eq)]
 pub enum NoCommand {
@@ -60,17 +76,11 @@ pub enum NoCommand {
 impl fmt::Display for NoCommand {
     fn fmt<W: fmt::Write>(&self, f: &mut fmt::Formatter<W>) -> fmt::Result {
         match *self {
-            NoCommand::Words => f.write_str(
-                "a channel, a clock and a name are wanted, with one space between two words",
-            ),
-            NoCommand::Header => f.write_str(
-                "the header of a table is clock,command,channel,rank,bankgroup,bank,row,column",
-            ),
+            NoCommand::Words => f.write_str(WORDS),
+            NoCommand::Header => f.write_str(HEADER),
             NoCommand::Form { wanted } => f.write_str(wanted),
             NoCommand::Columns { found } => write!(f, "a table has 8 columns, here {found}"),
-            NoCommand::Name => f.write_str(
-                "the names of commands are ACT, RD, WR, RDA, WRA, PRE, PREA, REF and SRE",
-            ),
+            NoCommand::Name => f.write_str(NAME),
             NoCommand::Number { part } => write!(
                 f,
                 "the {part} is a number: decimal digits that fit 64 bits"
@@ -98,15 +108,9 @@ impl fmt::Display for NoCommand {
             ),
             NoCommand::Clock => f.write_str("a clock is below 2^63"),
             NoCommand::Place => f.write_str("a place outside the geometry of this profile"),
-            NoCommand::Closing => f.write_str(
-                "every fault is told of commands without auto-precharge alone",
-            ),
-            NoCommand::Broken => f.write_str(
-                "a trace with auto-precharge is drawn where it is lawful, and this command isn't",
-            ),
-            NoCommand::Order => f.write_str(
-                "the clock isn't behind the one before it in its channel",
-            ),
+            NoCommand::Closing => f.write_str(CLOSING),
+            NoCommand::Broken => f.write_str(BROKEN),
+            NoCommand::Order => f.write_str(ORDER),
         }
     }
 }

@@ -1,4 +1,4 @@
-// The check of a file's trace, written.
+// The check of a file's trace.
 ghost use Rattle.std.specs.Prelude.{◌<◌, ◌↔◌, IfOk, IsNone};
 ghost use Rattle.command_trace.specs.Channels.{FollowsAll, issued_to};
 ghost use Rattle.auto_precharge.specs.FullLists.{AreEarly};
@@ -14,7 +14,7 @@ use auto_precharge::Issued;
 use ddr4_timing::timing::CommandRules;
 use std::alloc::Global;
 use std::fs::File;
-use std::io::{self, Read, Write};
+use std::io::{self, Read};
 use std::rt::Files;
 
 /// Where a trace comes from. It is read twice, to learn its form and to check it, and once more for each channel that has a
@@ -108,45 +108,6 @@ impl Source<'_> {
         }
     }
 
-    /// Writes what the check of its trace tells, a line for each channel: `CHANNEL lawful COUNT`, or `CHANNEL fault RULE` with
-    /// what the rule asks and the commands of which it doesn't hold.
-    pub fn write_verdicts<R: Files + AllocGlobal, W: Write>(
-        &self,
-        rt: &R,
-        form: Form,
-        rules: &CommandRules,
-        check: &TraceCheck,
-        writer: &mut W,
-    ) -> Result<(), TraceFault> {
-        for channel in 0..rules.geometry.channels {
-            let found = self.diagnosis(rt, form, rules, check, channel)?;
-            write_verdict(channel, check.count(channel), found, writer)?;
-        }
-        Ok(())
-    }
-
-    /// Writes the same with every fault: in place of a channel's least one a line for each rule that its commands break, with the
-    /// first command that does and how many do. Each command counts as issued, lawful or not.
-    pub fn write_tallies<R: Files + AllocGlobal, W: Write>(
-        &self,
-        rt: &R,
-        form: Form,
-        rules: &CommandRules,
-        check: &TraceCheck,
-        writer: &mut W,
-    ) -> Result<(), TraceFault> {
-        let channels = rules.geometry.channels;
-        for channel in 0..channels {
-            if check.is_lawful(rules, channel) {
-                write_verdict(channel, check.count(channel), None, writer)?;
-                continue;
-            }
-            let tallies = self.tallies(rt, form, rules, channel)?;
-            write_channel(channel, &tallies, writer)?;
-        }
-        Ok(())
-    }
-
     /// The rules that the commands of a channel break, of each how many commands do, and the first of them.
     pub fn tallies<R: Files + AllocGlobal>(
         &self,
@@ -158,32 +119,6 @@ impl Source<'_> {
         let listed = self.list(rt, form, channel, u64::MAX)?;
         Ok(tallies(rt.alloc(), rules, &listed)?)
     }
-}
-
-// Writes the line of a channel, with its least fault or with how many commands it has.
-fn write_verdict<W: Write>(
-    channel: u64,
-    count: u64,
-    found: Option<Diagnosis>,
-    writer: &mut W,
-) -> Result<(), TraceFault> {
-    let written = match found {
-        None => writeln!(writer, "{channel} lawful {count}"),
-        Some(found) => writeln!(writer, "{channel} fault {found}"),
-    };
-    written.map_err(|_| TraceFault::Writer)
-}
-
-// Writes a line for each rule that the commands of a channel break.
-fn write_channel<W: Write>(
-    channel: u64,
-    tallies: &[BrokenRule],
-    writer: &mut W,
-) -> Result<(), TraceFault> {
-    for tally in tallies {
-        writeln!(writer, "{channel} fault {tally}").map_err(|_| TraceFault::Writer)?;
-    }
-    Ok(())
 }
 
 fn open<R: Files>(rt: &R, name: &str) -> Result<R::File, TraceFault> {
