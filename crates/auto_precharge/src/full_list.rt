@@ -49,7 +49,8 @@ fn take_due(
 ) -> Result<(), AllocError>
     ensures commands { OnOk result
         (commands.new.items ≡ commands.old.items ++ due clock closings.now) }
-    ensures lines { OnOk result (lines.new.items ≡ lines.old.items ++ due_lines clock closings.now) }
+    ensures lines { OnOk result (lines.new.items
+        ≡ lines.old.items ++ due_lines clock closings.now) }
 {
     for i in 0..closings.len() {
         take_one(commands, lines, closings[i], clock)?;

@@ -105,8 +105,9 @@ fn why_last(
     requires clock { last.now.command.clock < 2 ^ 63 }
     ensures none { IsLawfulTrace rules.now before.now → IfOk result (λ told.
         IsNone told ↔ MayFollow rules.now (unfolded rules.now.timing before.now) last.now.command) }
-    ensures fault { IsLawfulTrace rules.now before.now → IfOk result (λ told. IfSome told (IsWhy
-        rules.now (settled last.now.command.clock (unfolded rules.now.timing before.now)) last.now)) }
+    ensures fault { IsLawfulTrace rules.now before.now → IfOk result (λ told.
+        IfSome told (IsWhy rules.now
+        (settled last.now.command.clock (unfolded rules.now.timing before.now)) last.now)) }
 {
     let full = unfold(alloc, rules, before, last.command.clock)?;
     if full.behind.admits(rules, &last.command) {

@@ -86,7 +86,8 @@ impl ForeignForm {
     /// The word of a part.
     #[tactic(auto, using(crate::proofs::Lines::no_place, crate::proofs::Lines::no_word_there, crate::proofs::Lines::word_there))]
     pub fn word<'a>(&self, words: &[&'a str], part: Part) -> Option<&'a str>
-        ensures { option_map (λ word. word.now) result ≡ word_of self.now (texts_of words.now) part }
+        ensures { option_map (λ word. word.now) result
+            ≡ word_of self.now (texts_of words.now) part }
     {
         let place = self.columns.place(part)?;
         let word = words.get(place)?;

@@ -42,9 +42,11 @@ impl Rank {
     /// Takes a command to the rank in. Answers how the bank of a RD or WR stood.
     pub(crate) fn take(&mut self, next: &Issued) -> Phase
         requires { HasSlot (bank_of next.now.command.cmd) }
-        ensures stands { (before : List Issued) → RankStands (rank_of next.now.command.cmd) self.old before
+        ensures stands { (before : List Issued)
+            → RankStands (rank_of next.now.command.cmd) self.old before
             → RankStands (rank_of next.now.command.cmd) self.new (next.now ∷ before) }
-        ensures found { (before : List Issued) → RankStands (rank_of next.now.command.cmd) self.old before
+        ensures found { (before : List Issued)
+            → RankStands (rank_of next.now.command.cmd) self.old before
             → IsTrue (is_column next.now.command.cmd)
             → result ≡ phase_of (touching (bank_of next.now.command.cmd) before) }
     {
