@@ -8,6 +8,7 @@
 
 mod channel;
 mod channel_memory;
+mod copying;
 mod laws;
 mod phase;
 mod reads;
