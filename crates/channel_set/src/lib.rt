@@ -7,6 +7,7 @@
 mod apart;
 mod asking;
 mod at_once;
+mod copying;
 mod draining;
 mod laws;
 mod set;
