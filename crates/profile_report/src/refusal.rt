@@ -3,7 +3,7 @@ ghost use Rattle.std.specs.Prelude.{◌<◌, length, IfOk};
 ghost use Rattle.ddr4_timing.specs.Checks.{FailsEntry};
 
 use crate::limits::{COMMAND_TABLES, KnownTable, Limits, TABLE_NAMES, TABLES};
-use ddr4_timing::timing::{Geometry, ProfileError, Timing};
+use ddr4_timing::timing::{FEWEST_LINES, Geometry, MOST_LINES, ProfileError, Timing};
 use interleave_map::Interleaving;
 use near_word::near_word;
 use nv_profile::MOST_BYTES;
@@ -312,7 +312,7 @@ fn why_of_geometry(alloc: Global, g: &Geometry) -> Result<String, AllocError> {
         .saturating_mul(g.groups)
         .saturating_mul(g.banks);
     let lines = banks.saturating_mul(g.rows).saturating_mul(g.columns);
-    format!(in alloc; "{lines} lines, and 64 to 65536 are allowed")
+    format!(in alloc; "{lines} lines, and {FEWEST_LINES} to {MOST_LINES} are allowed")
 }
 
 fn why_of_entry(alloc: Global, t: &Timing, g: &Geometry) -> Result<String, AllocError>
