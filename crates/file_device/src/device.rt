@@ -5,6 +5,7 @@ ghost use Rattle.save_device.specs.Device.{IsSettled, MayLeave, present, with_ca
 ghost use Rattle.save_device.specs.Memory.{state_of};
 ghost use Rattle.save_device.specs.Changes.{Put, Settle, IsCall, Makes};
 ghost use Rattle.save_device.specs.Rows.{IsInRange};
+ghost use Rattle.file_device.specs.declared.device.TheConstants.{CHUNK};
 ghost use Rattle.file_device.specs.Kept.{IfKept, BothKept, IsAtRest, IsSaved, IsCurrent, Backs, Marks, Puts, PutsOut, MayLeaveWithin};
 
 use crate::DiskFile;
@@ -37,7 +38,7 @@ pub struct FileDevice<F: DiskFile> {
 
 // Writes n bytes of the mirror from `at` on to the file, and says whether that went well.
 fn copy_out<F: DiskFile>(mirror: &mut MemoryDevice, file: &mut F, at: usize, n: usize) -> bool
-    requires most { n ≤ 4096 }
+    requires most { n ≤ CHUNK }
     requires fits { at + n ≤ length (state_of mirror.old).bytes }
     requires file_fits { IfKept (λ kept. at + n ≤ length kept.bytes) (F.kept file.old) }
     ensures puts { BothKept (PutsOut at n (state_of mirror.old) result)
@@ -81,7 +82,7 @@ impl<F: DiskFile + Drop> FileDevice<F> {
 impl<F: DiskFile> FileDevice<F> {
     // Writes n unsettled places from `at` on again, and says whether that went well.
     fn put_again(&mut self, at: usize, n: usize) -> bool
-        requires most { n ≤ 4096 }
+        requires most { n ≤ CHUNK }
         requires fits { at + n ≤ length (state_of self.old.mirror).bytes }
         requires unsettled { (place : ℕ) → IsInRange at n place
             → IsTrue ((state_of self.old.mirror).unsettled place) }

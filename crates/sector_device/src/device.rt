@@ -8,6 +8,7 @@ ghost use Rattle.save_device.specs.Memory.{state_of};
 ghost use Rattle.save_device.specs.Changes.{Put, Settle, IsCall, Makes};
 ghost use Rattle.save_device.specs.Rows.{IsInRange};
 ghost use Rattle.file_device.specs.Kept.{BothKept, Flushes, IfKept, Marks};
+ghost use Rattle.sector_device.specs.declared.device.TheConstants.{CHUNK};
 ghost use Rattle.sector_device.specs.Sectors.{PutsDurably, PutsSectors};
 ghost use Rattle.sector_device.specs.Spare.{gate_at, spare_of, spare_size};
 ghost use Rattle.sector_device.specs.Backing.{HasSectors, HoldsSector, IsAjar, IsForSector, IsPutBelow, IsPutWhole, IsSavedWhole, LeavesLeftWithin, PutsBelow, Stands, StandsWithin};
@@ -88,7 +89,7 @@ fn spare_bytes(sector: &[u8; 512], number: usize) -> [u8; 520]
 
 // Writes n bytes of the mirror from `at` on to the file, and says whether that went well.
 fn copy_out<F: SectorFile>(mirror: &mut MemoryDevice, file: &mut F, at: usize, n: usize) -> bool
-    requires most { n ≤ 65536 }
+    requires most { n ≤ CHUNK }
     requires fits { at + n ≤ length (state_of mirror.old).bytes }
     requires file_fits { IfKept (λ kept. at + n ≤ length kept.bytes) (F.kept file.old) }
     ensures puts { BothKept
@@ -213,7 +214,7 @@ impl<F: SectorFile> SectorDevice<F> {
 
     // Writes n bytes of the device to their place, and says whether that went well.
     fn put_own(&mut self, at: usize, n: usize) -> bool
-        requires most { n ≤ 65536 }
+        requires most { n ≤ CHUNK }
         requires fits { at + n ≤ length (state_of self.old.mirror).bytes }
         requires within { IfKept (StandsWithin self.old.gate
             (present (state_of self.old.mirror)) at n) (F.kept self.old.file) }
@@ -349,7 +350,7 @@ impl<F: SectorFile> SectorDevice<F> {
     // Writes whole sectors that have no settled byte.
     fn put_whole(&mut self, at: usize, n: usize) -> bool
         requires shut { self.old.gate ≡ Gate.Shut }
-        requires most { n ≤ 65536 }
+        requires most { n ≤ CHUNK }
         requires from { HasSectors at }
         requires sectors { HasSectors n }
         requires fits { at + n ≤ length (state_of self.old.mirror).bytes }
