@@ -4,6 +4,7 @@
 //! What contracts see of a port is in `specs/Port.antt`, and which writes it carries in `specs/Carrying.antt`.
 #![tactic(auto)]
 
+mod copying;
 mod making;
 mod port;
 mod rules;
