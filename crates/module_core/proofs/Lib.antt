@@ -27,3 +27,5 @@ pub mod HonestCalls
 pub mod DrainedModules
 pub mod WhereDrained
 pub mod ConcludedLosses
+pub mod Copies
+pub mod SameFronts

@@ -16,6 +16,7 @@ pub mod Covering
 -- what the laws say of modules
 pub mod InTurn
 pub mod ModuleLives
+pub mod Copies
 pub mod HonestCalls
 pub mod Losing
 pub mod Rising

@@ -6,6 +6,7 @@
 
 mod arming;
 mod closing;
+mod copying;
 mod cutting;
 mod front;
 mod laws;
