@@ -12,3 +12,4 @@ pub mod Beginning
 pub mod Restoring
 pub mod SessionLives
 mod Faults
+pub mod Copies

@@ -10,3 +10,4 @@ pub mod SessionLives
 -- sessions as values
 pub mod Sessions
 pub mod Faults
+pub mod Copies

@@ -3,6 +3,7 @@
 #![tactic(auto)]
 
 mod calls;
+mod copying;
 mod laws;
 mod lives;
 mod parts;
