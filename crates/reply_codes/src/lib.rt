@@ -2,6 +2,7 @@
 #![tactic(auto)]
 
 mod codes;
+mod texts;
 
 pub use codes::{
     ALREADY_OPEN, BUFFER, CLOSED, DAMAGED, DARK, DEVICE, DISARMING, DONE, ENERGY_LOW, FULL,
@@ -10,6 +11,7 @@ pub use codes::{
     POSSIBLE_LOSS, READ_WAITS, READS_FULL, RETRY, ROOM, SAVE_FAULT, SAVE_RUNNING, SIZE, SPENT,
     STEPPED, SYNC, TRAIL_FULL, TURNED, Told, UNSAVED, UNSETTLED, WAITING, arm_told, collected_told,
     disarm_told, found_told, handed_told, level_told, loss_told, mode_told, open_code,
-    profile_code, read_told, refusal_told, restore_code, restore_told, save_told, text_of,
-    ticket_told, write_told,
+    profile_code, read_told, refusal_told, restore_code, restore_told, save_told, ticket_told,
+    write_told,
 };
+pub use texts::text_of;
