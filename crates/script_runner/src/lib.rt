@@ -17,5 +17,5 @@ pub use book::{CommandBook, KeptRun, LifeBook, LifeCommands};
 pub use laws::{scripts_survive, scripts_tell_lists};
 pub use report::{Printer, Report};
 pub use running::{do_lines, do_lines_kept, do_lines_on, run_lines, run_script};
-pub use script::{is_busy, turns_of};
+pub use script::{answer_line, is_busy, turns_of};
 pub use wiring::Wiring;

@@ -135,8 +135,9 @@ pub fn is_busy(answer: Answer) -> bool
     !matches!(answer, Answer::Idle { .. })
 }
 
-// Does one line, turn by turn, and reports its answers.
-fn answer_line<K, A, R>(
+/// Does one line, turn by turn, and reports its answers. Each is true by whatever was known before and borne out by the session, and what
+/// is known behind it is borne out too. It refuses where the report does, or where there is no memory for a life.
+pub fn answer_line<K, A, R>(
     alloc: Global,
     session: &mut Session<K, A>,
     line: ScriptLine,

@@ -3,6 +3,8 @@ ghost use Rattle.std.specs.Prelude.{◌≡◌};
 ghost use Rattle.interleave_map.specs.declared.ready.Interleaving.{Interleaving};
 ghost use Rattle.nv_session.specs.Living.{IsShapeFor};
 
+mod copying;
+
 use ddr4_module::{Sizes, open};
 use ddr4_port::Ddr4Port;
 use energy_budget::Costs;
