@@ -2,9 +2,10 @@
 #![tactic(auto)]
 
 mod objects;
+mod telling;
 mod waits;
 mod written;
 
-pub use objects::{bank_object, channel_object, rank_object, shared_object, write_statistics};
+pub use telling::write_statistics;
 pub use waits::{KindWaits, write_life, write_waits};
 pub use written::write_of_trace;

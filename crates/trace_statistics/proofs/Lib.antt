@@ -4,3 +4,4 @@ pub mod Channels
 pub mod Turns
 pub mod RankTables
 pub mod ListSteps
+pub mod Writing

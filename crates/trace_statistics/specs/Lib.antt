@@ -3,3 +3,5 @@ pub mod Standing
 pub mod Margins
 pub mod MarginsStanding
 pub mod Lists
+pub mod Texts
+pub mod Telling

@@ -80,8 +80,13 @@ AreNumbersOfBank at list n = AreNumbersOf (λ bank. is_bank bank at) (latest lis
 abbrev pub AreNumbersOfChannel : List Issued → BankNumbers → Type 0
 AreNumbersOfChannel list n = AreNumbersOf (λ bank. true) (latest list) n
 
+-- a precharge of a whole rank
 abbrev pub is_pre_all : Command → Bool
 is_pre_all x = is_precharge x && not (is_pre x)
+
+-- no command went to the banks
+abbrev pub is_none : BankNumbers → Bool
+is_none n = n.activates == 0 && n.precharges == 0 && n.reads == 0 && n.writes == 0
 
 -- how many commands went to whole ranks
 pub record AreNumbersOfRanks (list : List Issued) (n : RankNumbers) : Type 0 where

@@ -21,4 +21,4 @@ pub use numbers::{BankNumbers, RankNumbers};
 pub use phase::Phase;
 pub use statistics::TraceStatistics;
 pub use stream::{Measured, measure, measure_trace};
-pub use telling::write_statistics;
+pub use telling::{bank_numbered, write_statistics};

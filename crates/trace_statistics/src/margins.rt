@@ -54,14 +54,14 @@ impl Margins {
 }
 
 impl fmt::Display for Margins {
+    ghost use Rattle.trace_statistics.specs.Texts.{margins_text};
+
+    ghost output = { λ margins. Some (margins_text margins) };
+
+    #[tactic(auto, unfolding(crate::specs::Texts::margins_text))]
     fn fmt<W: fmt::Write>(&self, f: &mut fmt::Formatter<W>) -> fmt::Result {
-        write!(
-            f,
-            "REF {} longest {} mean {}",
-            self.refreshes,
-            self.longest,
-            self.mean()
-        )?;
+        let (refreshes, longest, mean) = (self.refreshes, self.longest, self.mean());
+        write!(f, "REF {refreshes} longest {longest} mean {mean}")?;
         if let Some(least) = self.refresh {
             write!(f, " least {least}")?;
         }

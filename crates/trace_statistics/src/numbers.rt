@@ -2,7 +2,7 @@
 ghost use Rattle.std.specs.Prelude.{◌≡◌, ◌+◌, ◌-◌, ◌<◌, ◌^◌, min, [], ◌∷◌, Bool, List};
 ghost use Rattle.auto_precharge.specs.declared.issued.Issued.{Issued};
 ghost use Rattle.ddr4_timing.specs.declared.place.BankAddress.{BankAddress};
-ghost use Rattle.trace_statistics.specs.Numbers.{AreNumbersOf, AreNumbersOfRanks, bytes_of, share_of};
+ghost use Rattle.trace_statistics.specs.Numbers.{AreNumbersOf, AreNumbersOfRanks, bytes_of, is_none, share_of};
 ghost use Rattle.trace_statistics.specs.Standing.{AreFound, AreWith};
 
 use crate::phase::Phase;
@@ -32,6 +32,12 @@ pub struct RankNumbers {
 }
 
 impl fmt::Display for BankNumbers {
+    ghost use Rattle.std.specs.Prelude.{Some};
+    ghost use Rattle.trace_statistics.specs.Texts.{numbers_text};
+
+    ghost output = { λ numbers. Some (numbers_text numbers) };
+
+    #[tactic(auto, unfolding(crate::specs::Texts::numbers_text))]
     fn fmt<W: fmt::Write>(&self, f: &mut fmt::Formatter<W>) -> fmt::Result {
         write!(
             f,
@@ -48,6 +54,12 @@ impl fmt::Display for BankNumbers {
 }
 
 impl fmt::Display for RankNumbers {
+    ghost use Rattle.std.specs.Prelude.{Some};
+    ghost use Rattle.trace_statistics.specs.Texts.{shared_text};
+
+    ghost output = { λ numbers. Some (shared_text numbers) };
+
+    #[tactic(auto, unfolding(crate::specs::Texts::shared_text))]
     fn fmt<W: fmt::Write>(&self, f: &mut fmt::Formatter<W>) -> fmt::Result {
         write!(
             f,
@@ -78,6 +90,13 @@ impl BankNumbers {
             misses: 0,
             conflicts: 0,
         }
+    }
+
+    /// Did no command go to them?
+    pub fn is_none(&self) -> bool
+        ensures { result ≡ is_none self.now }
+    {
+        self.activates == 0 && self.precharges == 0 && self.reads == 0 && self.writes == 0
     }
 
     /// In how many of 10,000 clocks the data bus carries data for these, where the last command of the channel goes at this clock.
