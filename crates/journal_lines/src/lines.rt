@@ -4,7 +4,7 @@ ghost use Rattle.std.specs.Int.{w64, from_le_bytes};
 ghost use Rattle.journal_log.specs.Lines.{line_with, lines_of, size_of};
 ghost use Rattle.journal_log.specs.Log.{head_line};
 
-use line_memory::Line;
+use line_memory::{LINE_BYTES, Line};
 
 /// How many bytes of a record a line holds.
 pub const MOST_IN_LINE: usize = 62;
@@ -29,7 +29,7 @@ pub fn line_bytes(last: bool, bytes: &[u8]) -> Line
     requires { length bytes.now ≤ 62 }
     ensures { result ≡ line_with (if last then 1 else 0) bytes.now }
 {
-    let mut line = [0; 64];
+    let mut line = [0; LINE_BYTES];
     let ends = if last { 1 } else { 0 };
     put(&mut line, 0, &[bytes.len() as u8, ends]);
     put(&mut line, 2, bytes);
@@ -53,7 +53,7 @@ pub fn record_line(bytes: &[u8], number: usize) -> Line
 pub fn head_bytes(gone: u64, first: u64, used: u64) -> Line
     ensures { result ≡ head_line gone first used }
 {
-    let mut line = [0; 64];
+    let mut line = [0; LINE_BYTES];
     put(&mut line, 0, &gone.to_le_bytes());
     put(&mut line, 8, &first.to_le_bytes());
     put(&mut line, 16, &used.to_le_bytes());

@@ -7,7 +7,7 @@ ghost use Rattle.journal_lines.specs.Places.{places_of};
 ghost use Rattle.journal_lines.specs.Scanning.{first_of, held_by, lines_in_use};
 
 use crate::lines::{is_same, record_line, record_size};
-use line_memory::Line;
+use line_memory::{LINE_BYTES, Line};
 use std::alloc::{AllocError, Global};
 use std::collections::VecDeque;
 
@@ -15,7 +15,7 @@ use std::collections::VecDeque;
 pub fn held(line: &Line) -> &[u8]
     ensures { result.now ≡ held_by line.now }
 {
-    let end = (line[0] as usize + 2).min(64);
+    let end = (line[0] as usize + 2).min(LINE_BYTES);
     &line[2..end]
 }
 
