@@ -144,12 +144,7 @@ where
     ensures have { HaveModule K.ChannelPort D.SaveDevice E.Energy B.BoardName.own B.PartsName.own
         K.ChannelPort result.desk result.channels recorded }
 {
-    let Words {
-        seat,
-        tally,
-        logs,
-        mut known,
-    } = words;
+    let mut known = words.known;
     let SplitModule {
         front: split,
         ports,
@@ -157,7 +152,7 @@ where
     } = SplitModule::of(recorded.running);
     let (lines, history) = (made.lines, recorded.history);
     let channels = begin_channels(
-        &logs,
+        &words.logs,
         &mut known,
         made.seats,
         &lines,
@@ -175,9 +170,9 @@ where
         energy: recorded.energy,
         history,
         marks: made.marks,
-        seat,
-        tally,
-        logs,
+        seat: words.seat,
+        tally: words.tally,
+        logs: words.logs,
         known,
     };
     LaidOut {
