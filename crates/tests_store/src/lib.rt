@@ -16,4 +16,6 @@ mod repeats;
 #[cfg(test)]
 mod slots;
 #[cfg(test)]
+mod steps;
+#[cfg(test)]
 mod versions;
