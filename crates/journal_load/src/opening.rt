@@ -25,6 +25,7 @@ use interleave_map::ReadyMap;
 use interleave_map::cells::line_count;
 use module_journal::Journal;
 use save_device::{MemoryDevice, SaveDevice};
+use save_image::PAGE_LINES;
 use slot_store::{Restored, device_size, format};
 use std::alloc::Global;
 
@@ -42,7 +43,7 @@ pub fn capacity_of(checked: &Checked) -> Result<usize, Stall>
     ensures capacity { IfOk result IsCapacity }
 {
     let lines = line_count(checked) as usize;
-    if lines % 64 == 0 {
+    if lines % PAGE_LINES == 0 {
         Ok(lines)
     } else {
         Err(Stall::Device)

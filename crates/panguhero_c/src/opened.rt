@@ -5,7 +5,7 @@ ghost use Rattle.panguhero_c.specs.Calls.{Collects, LosesMains, Reads, Saves, Wr
 use channel_port::{Collected, Ticket};
 use ddr4_port::Ddr4Port;
 use interleave_map::ReadyMap;
-use line_memory::Write;
+use line_memory::{LINE_BYTES, Write};
 use noted_device::NotedDevice;
 use open_life::{EitherDevice, LineRead, OpenLife};
 use reply_codes::{
@@ -30,7 +30,7 @@ impl OpenModule {
     pub(crate) fn write(&mut self, line: u64, bytes: &[u8]) -> Told
         ensures { Writes line bytes.now result self.old.life self.new.life }
     {
-        match bytes.as_array::<64>() {
+        match bytes.as_array::<LINE_BYTES>() {
             Some(bytes) => write_told(self.life.write(Write { line, data: *bytes })),
             None => Told::code(BUFFER),
         }
@@ -40,7 +40,7 @@ impl OpenModule {
     pub(crate) fn read(&mut self, line: u64, wait: u64, into: &mut [u8]) -> Told
         ensures { Reads line wait into.old into.new result self.old.life self.new.life }
     {
-        if into.len() != 64 {
+        if into.len() != LINE_BYTES {
             return Told::code(BUFFER);
         }
         match self.life.read(line, wait) {
@@ -57,7 +57,7 @@ impl OpenModule {
     pub(crate) fn collect(&mut self, ticket: Ticket, into: &mut [u8]) -> Told
         ensures { Collects ticket into.old into.new result self.old.life self.new.life }
     {
-        let is_line = into.len() == 64;
+        let is_line = into.len() == LINE_BYTES;
         if !is_line {
             return Told::code(BUFFER);
         }

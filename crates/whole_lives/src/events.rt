@@ -4,7 +4,7 @@ ghost use Rattle.ddr4_module.specs.WildLives.{WorksWithin};
 ghost use Rattle.whole_lives.specs.Events.{AreAsked, IsAsked, answer_of, answered, answered_with};
 
 use channel_port::{Collected, Got, Ticket};
-use line_memory::Write;
+use line_memory::{LINE_BYTES, Line, Write};
 use nv_machine::{Event, Reply};
 use reply_codes::{
     DONE, NO_EVENT, NO_MEMORY, NO_SUCH_READ, READ_WAITS, Told, arm_told, disarm_told, loss_told,
@@ -19,7 +19,7 @@ pub struct Ask {
     pub kind: u64,
     pub first: u64,
     pub second: u64,
-    pub data: [u8; 64],
+    pub data: Line,
 }
 
 /// The answer to an event: a code with its numbers, and the bytes that were read, else zeros.
@@ -29,7 +29,7 @@ pub struct Answer {
     pub code: u64,
     pub first: u64,
     pub second: u64,
-    pub data: [u8; 64],
+    pub data: Line,
 }
 
 // The event that is asked for, if there is one; no channel is worked that isn't there.
@@ -79,7 +79,7 @@ pub(crate) fn events_of(alloc: Global, asks: &[Ask], channels: u64) -> Result<Ve
 }
 
 // An answer with bytes.
-fn with_bytes(told: Told, bytes: [u8; 64]) -> Answer
+fn with_bytes(told: Told, bytes: Line) -> Answer
     ensures { result ≡ answered_with told bytes }
 {
     Answer {
@@ -94,7 +94,7 @@ fn with_bytes(told: Told, bytes: [u8; 64]) -> Answer
 fn with_none(told: Told) -> Answer
     ensures { result ≡ answered told }
 {
-    with_bytes(told, [0; 64])
+    with_bytes(told, [0; LINE_BYTES])
 }
 
 // The answer that a reply comes to.

@@ -8,6 +8,7 @@ ghost use Rattle.whole_lives.specs.Lives.{Formats, Restores};
 
 use ddr4_timing::timing::Checked;
 use interleave_map::cells::line_count;
+use line_memory::Line;
 use nv_profile::{Profile, read_profile};
 use reply_codes::{
     DEVICE, DONE, NO_MEMORY, ROOM, SIZE, Told, profile_code, restore_code, restore_told,
@@ -85,7 +86,7 @@ pub fn format_store(alloc: Global, text: &[u8], store: &mut [u8]) -> Told
 }
 
 /// What the bytes restore to: its head is told, and its lines are put into a buffer of as many. Else the buffer stays.
-pub fn restore_store(alloc: Global, text: &[u8], bytes: &[u8], into: &mut [[u8; 64]]) -> Told
+pub fn restore_store(alloc: Global, text: &[u8], bytes: &[u8], into: &mut [Line]) -> Told
     ensures restores { (result.code ≡ 0) ⊎ (result.code ≡ 10)
         → Restores text.now bytes.now result into.new }
     ensures no_profile { result.code ≡ 2 → IsNoProfile text.now }
