@@ -1,9 +1,10 @@
 -- What a stop leaves, byte by byte.
 use Rattle.std.proofs.Common.{◌≡◌, ◌≢◌, ◌∙◌, ◌==◌, ◌<◌, ℕ, List, length, Bool, true, false, if◌then◌else◌, not, slice_index, inl, inr, refl, sym, ap, subst, arith}
-use Rattle.std.specs.Prelude.{IsTrue}
+use Rattle.std.specs.Prelude.{IfSome, IsTrue, None, Option, Some}
 use Rattle.std.proofs.lemmas.Bool.{cases_lt, eq-eqb, false_from_ne_true, ne_eqb}
 use Rattle.std.proofs.lemmas.List.{get_or_past}
-use Rattle.save_device.specs.Device.{Moment, present}
+use Rattle.save_device.specs.Copies.{AreAlike}
+use Rattle.save_device.specs.Device.{DeviceState, Moment, present}
 use Rattle.save_device.specs.Memory.{IsPicked, settled_row_of, state_of}
 use Rattle.save_device.specs.Pick.{IsPickedFrom, picked}
 use Rattle.save_device.specs.Rows.{DiffersOnlyAt}
@@ -77,3 +78,11 @@ pub same_picked : (pick : Pick) (device read : MemoryDevice) (image : List ℕ) 
 same_picked pick device read image same row is =
     subst (λ (m : Moment). IsPickedFrom pick (settled_row_of device) m.unsettled m.bytes image) same
     (subst (λ (settled : List ℕ). IsPickedFrom pick settled (state_of read).unsettled (state_of read).bytes image) row is)
+
+-- what a stop may leave of a copy it may leave of the device itself
+pub left_of_copy : (old new : MemoryDevice) → AreAlike old new → (left : Option Left) → IfSome left (IsLeftOf new) → IfSome left (IsLeftOf old)
+left_of_copy old new alike None is = tt
+left_of_copy old new alike (Some left) is = record {
+  bytes = is.bytes ∙ ap (λ (state : DeviceState). state.bytes) alike.state;
+  tells = λ place less. ap (λ (state : DeviceState). state.unsettled place) (sym alike.state) ∙ is.tells place less;
+}

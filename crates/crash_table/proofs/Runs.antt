@@ -66,21 +66,21 @@ whole_last : (before : List Exchange) (end : Exchange) → All IsWhole (before +
 whole_last before end whole = subst IsWhole (get_or_at before end [] end (length before) refl) (whole (length before) end (omega (arith, length-append before (end ∷ []))))
 
 -- a line of one turn has one answer
-fills_one : (answers : List Answer) → FillTurns 1 answers → length answers ≡ 1
+pub fills_one : (answers : List Answer) → FillTurns 1 answers → length answers ≡ 1
 fills_one answers (inl takes) = takes.count
 fills_one answers (inr ends) = ap length ends.is ∙ length-append ends.before (ends.last ∷ []) ∙ omega (arith, ends.early)
 
-record OneAnswer (size : ℕ) (known : Option Ledger) (asked : ScriptLine) (answers : List Answer) : Type 0 where
-  given : Answer
-  is : answers ≡ given ∷ []
-  holds : IsTrueOf size known asked given
+pub record OneAnswer (size : ℕ) (known : Option Ledger) (asked : ScriptLine) (answers : List Answer) : Type 0 where
+  pub given : Answer
+  pub is : answers ≡ given ∷ []
+  pub holds : IsTrueOf size known asked given
 
-one_answer : (size : ℕ) (known : Option Ledger) (asked : ScriptLine) (answers : List Answer) → length answers ≡ 1 → AreTrueOf size known asked answers → OneAnswer size known asked answers
+pub one_answer : (size : ℕ) (known : Option Ledger) (asked : ScriptLine) (answers : List Answer) → length answers ≡ 1 → AreTrueOf size known asked answers → OneAnswer size known asked answers
 one_answer size known asked [] e holds = absurd cc
 one_answer size known asked (given ∷ []) e holds = record { given = given; is = refl; holds = holds.0 }
 one_answer size known asked (given ∷ next ∷ answers) e holds = absurd (omega arith)
 
-abbrev restore_by : Pick → ScriptLine
+abbrev pub restore_by : Pick → ScriptLine
 restore_by pick = line.Restore (Some pick) None
 
 -- what the last answer of a run tells is what a restore found behind its lines

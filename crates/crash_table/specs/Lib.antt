@@ -4,4 +4,6 @@ pub mod Counting
 pub mod Rows
 pub mod Blocks
 pub mod Tables
+pub mod Standings
 pub mod Lefts
+pub mod Behinds

@@ -2,12 +2,8 @@
 use Rattle.std.specs.Prelude.{◌≡◌, ℕ, ◌<◌, ◌-◌, max, Bool, true, false, List, [], ◌∷◌, ◌++◌, length, map, All, Option, Some, None, slice_get, MatchOption}
 use Rattle.std.specs.List.{flat_map}
 use Rattle.std.specs.Option.{option_map}
-use Rattle.save_device.specs.Device.{MayLeave, present}
-use Rattle.save_device.specs.Memory.{state_of}
-use Rattle.save_device.specs.declared.memory.MemoryDevice.{MemoryDevice}
 use Rattle.save_device.specs.declared.memory.Pick.{Pick}
 use Rattle.slot_store.specs.Outcomes.{restored}
-use Rattle.slot_store.specs.Slots.{device_size}
 use Rattle.slot_store.specs.declared.restoring.RestoreError.TheVariants as errors
 use Rattle.arm_state.specs.declared.loss.Loss.TheVariants as lost
 use Rattle.nv_machine.specs.Headline.{RecoversAfterwards}
@@ -36,14 +32,6 @@ pub record IsTrueRun (size : ℕ) (lines : List ScriptLine) (story : List Exchan
 -- a stop after a machine that has accepted what is known leaves these bytes
 abbrev pub MayBeLeft : ℕ → Option Ledger → List ℕ → Type 0
 MayBeLeft size known bytes = (ledger : Ledger) → known ≡ Some ledger → (m : Machine) × IsKeptBy size ledger m × RecoversAfterwards m (restored size bytes)
-
--- These lines were run, with these answers, on a device of this size, and so each stop of it behind them leaves such bytes.
-pub record LeavesBehind (size : ℕ) (lines : List ScriptLine) (answers : List Answer) (device : MemoryDevice) : Type 0 where
-  pub story : List Exchange
-  pub run : IsTrueRun size lines story
-  pub said : answers ≡ flat_map (λ exchange. exchange.answers) story
-  pub whole : length (state_of device).bytes ≡ device_size size
-  pub left : (bytes : List ℕ) → MayLeave (present (state_of device)) bytes → MayBeLeft size (known_after None story) bytes
 
 -- how many writes were told to be persistent, none where nothing is known
 abbrev pub told_of : Option Ledger → ℕ

@@ -8,11 +8,15 @@ use Rattle.nv_script.specs.declared.line.ScriptLine.TheVariants as line
 use Rattle.crash_table.specs.declared.stop.Stop.{Stop}
 use Rattle.crash_table.specs.declared.stop.Stop.TheVariants.{Dark, Loss}
 
--- The lines up to one that is stopped: a fuse goes before it, in place of any call that was to fail, or a loss of mains behind
--- it. No line makes 2^64 - 1 calls.
+-- The lines of a stop of a line: a fuse goes before it, in place of any call that was to fail, or a loss of mains behind it. No line
+-- makes 2^64 - 1 calls.
+abbrev pub stopped : ScriptLine → Stop → List ScriptLine
+stopped last (Dark calls) = line.OneFault (2 ^ 64 - 1) ∷ line.Fuse (Some calls) ∷ last ∷ []
+stopped last Loss = last ∷ line.Lose ∷ []
+
+-- and those before it
 abbrev pub stopped_lines : List ScriptLine → ScriptLine → Stop → List ScriptLine
-stopped_lines before last (Dark calls) = before ++ line.OneFault (2 ^ 64 - 1) ∷ line.Fuse (Some calls) ∷ last ∷ []
-stopped_lines before last Loss = before ++ last ∷ line.Lose ∷ []
+stopped_lines before last stop = before ++ stopped last stop
 
 -- what may become of unsettled bytes: the old ones, the new ones, and sixteen kinds of torn ones
 abbrev pub picks : List Pick

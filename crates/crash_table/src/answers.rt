@@ -1,5 +1,6 @@
 // The answers to lines, kept, and what the writes and the device are by them.
-ghost use Rattle.std.specs.Prelude.{◌≡◌, [], None, fold};
+ghost use Rattle.std.specs.Prelude.{◌≡◌, ◌++◌, [], List, fold};
+ghost use Rattle.nv_script.specs.declared.answer.Answer.{Answer};
 ghost use Rattle.script_runner.specs.Ledger;
 ghost use Rattle.crash_table.specs.Outcomes.{told_behind, EndsWithFault};
 
@@ -74,11 +75,11 @@ fn told_more(told: Option<u64>, answer: &Answer) -> Option<u64>
     }
 }
 
-/// Up to which number these answers, the first ones of a device, tell that writes are persistent, where that is known.
-pub(crate) fn told_in(answers: &[Answer]) -> Option<u64>
-    ensures { result ≡ fold (λ told answer. told_behind answer told) None answers.now }
+/// Up to which number it is told that writes are persistent behind these answers more, where that is known.
+pub(crate) fn told_after(told: Option<u64>, answers: &[Answer]) -> Option<u64>
+    ensures { result ≡ fold (λ told answer. told_behind answer told) told answers.now }
 {
-    let mut told = None;
+    let mut told = told;
     for answer in answers {
         told = told_more(told, answer);
     }
@@ -98,12 +99,13 @@ fn tells_fault(answer: &Answer) -> bool
     )
 }
 
-/// Whether the last of these answers tells a fault of the device.
-pub(crate) fn ends_with_fault(answers: &[Answer]) -> bool
-    ensures { EndsWithFault answers.now result }
+/// Whether the last answer tells a fault of the device, behind these answers more: where there are none it is as before.
+pub(crate) fn ends_behind(fails: bool, answers: &[Answer]) -> bool
+    ensures { (before : List Answer) → EndsWithFault before fails
+        → EndsWithFault (before ++ answers.now) result }
 {
-    match answers.last() {
-        Some(answer) => tells_fault(answer),
-        None => false,
-    }
+    let Some(last) = answers.last() else {
+        return fails;
+    };
+    tells_fault(last)
 }

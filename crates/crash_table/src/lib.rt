@@ -8,6 +8,7 @@ mod leaving;
 mod left;
 mod outcome;
 mod script;
+mod standing;
 mod stop;
 mod table;
 mod trials;

@@ -1,10 +1,5 @@
 // How a script is stopped.
-ghost use Rattle.std.specs.Prelude.{◌≡◌, IfOk};
-ghost use Rattle.crash_table.specs.Stops.{stopped_lines};
-
-use nv_script::ScriptLine;
 use save_device::Pick;
-use std::alloc::{AllocError, Global};
 use std::fmt;
 
 /// What becomes of the bytes that a stop finds unsettled: the old ones, the new ones, and sixteen kinds of torn ones.
@@ -37,30 +32,6 @@ pub enum Stop {
     Dark { calls: u64 },
     /// Mains are lost behind the line, and everything is dark once that is answered.
     Loss,
-}
-
-impl Stop {
-    /// The lines up to one that is stopped. Refused only where there is no memory.
-    pub fn lines(
-        self,
-        alloc: Global,
-        before: &[ScriptLine],
-        line: ScriptLine,
-    ) -> Result<Vec<ScriptLine>, AllocError>
-        ensures { IfOk result (λ lines. lines.items ≡ stopped_lines before.now line self) }
-    {
-        let mut lines = before.to_vec(alloc)?;
-        match self {
-            Stop::Dark { calls } => lines.extend_from_slice(&[
-                // no line makes as many calls, so it ends what was to fail
-                ScriptLine::OneFault { call: u64::MAX },
-                ScriptLine::Fuse { calls: Some(calls) },
-                line,
-            ])?,
-            Stop::Loss => lines.extend_from_slice(&[line, ScriptLine::Lose])?,
-        }
-        Ok(lines)
-    }
 }
 
 impl fmt::Display for Stop {

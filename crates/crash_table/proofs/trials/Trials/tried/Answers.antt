@@ -1,24 +1,19 @@
-use Rattle.std.proofs.Common.{◌≡◌, ◌∙◌, ℕ, List, ◌++◌, ap, subst, sym}
+use Rattle.std.proofs.Common.{List, subst}
+use Rattle.std.proofs.lemmas.Result.{IfOk-weaker}
 use Rattle.ddr4_timing.specs.Limits.{lines_of}
 use Rattle.nv_script.specs.declared.line.ScriptLine.{ScriptLine}
-use Rattle.crash_table.specs.declared.tried.Tried.{Tried}
+use Rattle.crash_table.specs.Counting.{complete_ones, most_missing}
 use Rattle.crash_table.specs.Outcomes.{AreTried}
 use Rattle.crash_table.proofs.Counted.{complete_none}
-use Rattle.crash_table.proofs.Trying.{tries_all}
 use Rattle.crash_table.proofs.trials.Trials.tried.Goals as goal
 
 pub returns-clause-tried : goal.returns-clause-tried
 returns-clause-tried c =
-    let size : ℕ = lines_of c.args.self.now.profile.now.checked.geometry in
-    let before : List ScriptLine = c.args.before.now in
-    let dark : List Tried = c.in_ok-tried.tried.items in
-    let lost : List Tried = c.in_ok-lost.lost.tried.items in
-    let items : c.extend_from_slice.new.self.items ≡ dark ++ lost =
-    c.in_ok-extend_from_slice.ensures.items ∙ ap (λ (xs : List Tried). dark ++ xs) c.deref.ensures.value in
-    subst (AreTried size before c.args.line) (sym items)
-    (tries_all size before c.args.line dark lost c.in_ok-tried.ensures.dark c.in_ok-lost.ensures.each c.in_ok-lost.ensures.are)
+    let size = lines_of c.args.self.now.profile.now.checked.geometry in
+    let line = c.args.line in
+    IfOk-weaker c.tried_behind.result _ _ (λ tried are. subst (λ (lines : List ScriptLine). AreTried size lines line tried.items) c.in_ok-standing.ensures.done are) c.tried_behind.ensures.tried
 
 pub returns-clause-complete : goal.returns-clause-complete
 returns-clause-complete c =
-    let size : ℕ = lines_of c.args.self.now.profile.now.checked.geometry in
-    complete_none size c.args.before.now c.args.line c.extend_from_slice.new.self.items (returns-clause-tried c).are
+    let size = lines_of c.args.self.now.profile.now.checked.geometry in
+    IfOk-weaker c.tried_behind.result _ _ (λ tried are. complete_none size c.in_ok-standing.standing.done.items c.args.line tried.items are.are) c.tried_behind.ensures.tried

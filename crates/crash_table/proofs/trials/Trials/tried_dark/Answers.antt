@@ -10,9 +10,9 @@ use Rattle.crash_table.proofs.Trying.{TriesEach, dark_more, ends_more, tries_dar
 use Rattle.crash_table.proofs.trials.Trials.tried_dark.Goals as goal
 
 pub loop-calls-preserved : goal.loop-calls-preserved
-loop-calls-preserved c =
+loop-calls-preserved g c =
     let size : ℕ = lines_of c.args.self.now.profile.now.checked.geometry in
-    let before : List ScriptLine = c.args.before.now in
+    let before : List ScriptLine = c.args.standing.now.done.items in
     let tried : List Tried = c.loop-calls.tried.items in
     let dark : List Tried = c.in_ok-dark.dark.tried.items in
     let items : c.extend_from_slice.new.self.items ≡ tried ++ dark =
@@ -27,9 +27,9 @@ loop-calls-preserved c =
     }
 
 pub returns-then-not-dark-clause-dark : goal.returns-then-not-dark-clause-dark
-returns-then-not-dark-clause-dark c =
+returns-then-not-dark-clause-dark g c =
     let size : ℕ = lines_of c.args.self.now.profile.now.checked.geometry in
-    let before : List ScriptLine = c.args.before.now in
+    let before : List ScriptLine = c.args.standing.now.done.items in
     let tried : List Tried = c.loop-calls.tried.items in
     let dark : List Tried = c.in_ok-dark.dark.tried.items in
     let items : c.extend_from_slice.new.self.items ≡ tried ++ dark =

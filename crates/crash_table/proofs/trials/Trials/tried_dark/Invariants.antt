@@ -7,7 +7,7 @@ use Rattle.crash_table.proofs.Trying.{TriesEach}
 use Rattle.crash_table.proofs.trials.Trials.tried_dark.Given as goal
 
 abbrev pub invariant-loop-calls : goal.invariant-loop-calls
-invariant-loop-calls l = record {
-  tries : TriesEach (lines_of l.self.profile.now.checked.geometry) l.before l.line (dark_below l.calls) l.tried.items;
-  fails : (fewer : ℕ) → fewer < l.calls → MayEnd (lines_of l.self.profile.now.checked.geometry) (stopped_lines l.before l.line (Dark fewer)) true;
+invariant-loop-calls g l = record {
+  tries : TriesEach (lines_of l.self.profile.now.checked.geometry) l.standing.done.items l.line (dark_below l.calls) l.tried.items;
+  fails : (fewer : ℕ) → fewer < l.calls → MayEnd (lines_of l.self.profile.now.checked.geometry) (stopped_lines l.standing.done.items l.line (Dark fewer)) true;
 }

@@ -5,7 +5,7 @@ use Rattle.crash_table.specs.Outcomes.{IsTried, tried_at}
 use Rattle.crash_table.proofs.trials.Trials.try_stop.Given as goal
 
 abbrev pub invariant-loop-pick : goal.invariant-loop-pick
-invariant-loop-pick l = record {
+invariant-loop-pick g l = record {
   each : map tried_at l.tried.items ≡ with_picks (take l.pick-index picks) l.stop;
-  are : All (IsTried (lines_of l.self.profile.now.checked.geometry) l.before l.fn.line) l.tried.items;
+  are : All (IsTried (lines_of l.self.profile.now.checked.geometry) l.standing.done.items l.fn.line) l.tried.items;
 }

@@ -1,4 +1,5 @@
-use Rattle.std.proofs.Common.{◌≡◌, ℕ, ◌<◌, List, [], ◌∷◌, ◌++◌, length, take, get_or, arith, subst}
+use Rattle.std.proofs.Common.{◌≡◌, ℕ, ◌<◌, List, [], ◌∷◌, ◌++◌, length, take, get_or, ◌∙◌, ap, arith, subst, sym}
+use Rattle.std.proofs.lemmas.List.{take_more}
 use Rattle.ddr4_timing.specs.Limits.{lines_of}
 use Rattle.nv_script.specs.declared.line.ScriptLine.{ScriptLine}
 use Rattle.crash_table.specs.declared.tried.Tried.{Tried}
@@ -6,7 +7,7 @@ use Rattle.crash_table.specs.Blocks.{AreBlocksOf}
 use Rattle.crash_table.specs.Counting.{IsCountOf}
 use Rattle.crash_table.specs.Outcomes.{AreTried}
 use Rattle.crash_table.proofs.Telling.{TakesIn, tells_more, tells_none_missing}
-use Rattle.crash_table.proofs.trials.Trials.table.Goals as goal
+use Rattle.crash_table.proofs.trials.Trials.table_behind.Goals as goal
 
 pub loop-place-preserved : goal.loop-place-preserved
 loop-place-preserved g c =
@@ -18,7 +19,7 @@ loop-place-preserved g c =
     let number : ℕ = get_or c.args.script.now.numbers.items place 0 in
     let here : place < length lines = omega (arith, c.args.script.now.lines.ok.0) in
     let behind : AreTried size (take place lines) last tried =
-    subst (λ (some : List ScriptLine). AreTried size (take place some) last tried) c.deref.ensures.value c.in_ok-tried.ensures.tried in
+    subst (λ (some : List ScriptLine). AreTried size some last tried) c.loop-place.invariant.done c.in_ok-tried.ensures.tried in
     let are : AreTried size (take place lines) (get_or lines place last) tried =
     subst (λ (line : ScriptLine). AreTried size (take place lines) line tried) c.index.ensures behind in
     let given : c.deref-in-loop-place.result.now ≡ tried = c.deref-in-loop-place.ensures.value in
@@ -27,7 +28,12 @@ loop-place-preserved g c =
       blocks = λ some shown. subst (λ (n : ℕ). AreBlocksOf (some ++ (n, tried) ∷ []) c.add.new.self.blocks.items) c.number.ensures
           (subst (λ (more : List Tried). AreBlocksOf (some ++ (c.number.result, more) ∷ []) c.add.new.self.blocks.items) given (c.in_ok-add.ensures.blocks some shown));
     } in
-    tells_more size c.args.script.now place last tried c.loop-place.table c.add.new.self here c.loop-place.invariant are takes
+    record {
+      tells = tells_more size c.args.script.now place last tried c.loop-place.table c.add.new.self here c.loop-place.invariant.tells are takes;
+      stands = c.in_ok-go_on.ensures.goes.stands c.args.self.now.profile.now c.loop-place.invariant.stands;
+      done = c.in_ok-go_on.ensures.goes.done ∙ ap (λ (some : List ScriptLine). some ++ last ∷ []) c.loop-place.invariant.done ∙ ap (λ (line : ScriptLine). take place lines ++ line ∷ []) c.index.ensures
+          ∙ sym (take_more lines place last here);
+    }
 
 pub returns-clause-complete : goal.returns-clause-complete
-returns-clause-complete g c = tells_none_missing (lines_of c.args.self.now.profile.now.checked.geometry) c.args.script.now c.loop-place.place c.loop-place.table c.loop-place.invariant
+returns-clause-complete g c = tells_none_missing (lines_of c.args.self.now.profile.now.checked.geometry) c.args.script.now c.loop-place.place c.loop-place.table c.loop-place.invariant.tells
