@@ -11,6 +11,7 @@ mod host;
 mod laws;
 mod model;
 mod opening;
+mod writing;
 
 pub use device::SectorDevice;
 pub use file::SectorFile;

@@ -1,6 +1,6 @@
 use Rattle.std.proofs.Common.{◌∙◌, List, ◌++◌, [], ◌∷◌, ℕ, ap₂, refl}
 use Rattle.sector_device.proofs.Found.{spared}
-use Rattle.sector_device.proofs.device.spare_bytes.Goals as goal
+use Rattle.sector_device.proofs.writing.spare_bytes.Goals as goal
 
 pub returns : goal.returns
 returns c =

@@ -1,6 +1,6 @@
 use Rattle.std.proofs.Common.{ℕ, ◌<◌, ◌≤◌}
 use Rattle.save_device.specs.Flags.{IsUp}
-use Rattle.sector_device.proofs.device.touches.Given as goal
+use Rattle.sector_device.proofs.writing.touches.Given as goal
 
 abbrev pub invariant-loop-place : goal.invariant-loop-place
 invariant-loop-place l = record {
