@@ -8,13 +8,13 @@ use Rattle.ddr4_timing.specs.Places.{bank_index}
 use Rattle.ddr4_timing.specs.declared.command.Stamped.{Stamped}
 use Rattle.ddr4_timing.specs.declared.timing.CommandRules.{CommandRules}
 use Rattle.ddr4_timing.specs.declared.timing.Timing.{Timing}
-use Rattle.auto_precharge.specs.Unfolding.{AreFrom, MayAllFollow, Unfolded, plain_commands, settled, unfolded_with, went}
+use Rattle.auto_precharge.specs.Unfolding.{AreFrom, MayAllFollow, NoneWaits, Unfolded, plain_commands, settled, unfolded_with, went}
 use Rattle.auto_precharge.specs.declared.issued.Issued.{Issued}
 use Rattle.auto_precharge.proofs.Settling.{all_later, no_lines, none_due}
 
 -- no precharge is to come
 abbrev pub IsQuiet : Unfolded → Type 0
-IsQuiet u = (i : ℕ) → slice_index_or u.waiting i None ≡ None
+IsQuiet u = NoneWaits u.waiting
 
 quiet_from : (clock : ℕ) (u : Unfolded) → IsQuiet u → AreFrom clock u.waiting
 quiet_from clock u quiet i p e = absurd (let no : None ≡ Some p = sym (quiet i) ∙ e in cc)

@@ -21,7 +21,7 @@ use Rattle.auto_precharge.specs.declared.issued.Issued.{Issued}
 use Rattle.auto_precharge.specs.declared.waiting.Closing.{Closing}
 use Rattle.auto_precharge.specs.declared.unfolding.Unfolding.{Unfolding}
 use Rattle.ddr4_timing.specs.TimingState.{Keeps}
-use Rattle.auto_precharge.specs.Unfolding.{AreFrom, ArePlaced, IsLawfulTrace, MayAllFollow, MayFollow, Stands, Unfolded, due, due_lines, gone, gone_line, later, rest, settled, unfolded, unfolded_none, unfolded_with, went}
+use Rattle.auto_precharge.specs.Unfolding.{AreFrom, ArePlaced, IsLawfulTrace, MayAllFollow, MayFollow, NoneWaits, Stands, Unfolded, due, due_lines, gone, gone_line, later, rest, settled, unfolded, unfolded_none, unfolded_with, went}
 
 pub unfolded_push : (t : Timing) (found : List Issued) (x : Issued) → unfolded t (found ++ x ∷ []) ≡ unfolded_with t (unfolded t found) x
 unfolded_push t found x = fold_push (λ (u : Unfolded) (y : Issued). unfolded_with t u y) unfolded_none found x
@@ -143,6 +143,12 @@ from_none clock n i p e = absurd (let no : None ≡ Some p = sym (none_waiting n
 pub placed_none : (g : Geometry) (n : ℕ) → ArePlaced g (replicate n nothing)
 placed_none g n i p e = absurd (let no : None ≡ Some p = sym (none_waiting n i) ∙ e in cc)
 
+-- where none is to come, none is behind a clock
+pub none_later : (clock : ℕ) (waiting : List (Option Closing)) → NoneWaits waiting → NoneWaits (later clock waiting)
+none_later clock [] h i = refl
+none_later clock (w ∷ waiting) h zero = ap (λ (o : Option Closing). rest clock o) (h 0)
+none_later clock (w ∷ waiting) h (suc i) = none_later clock waiting (λ j. h (suc j)) i
+
 -- a state in which none is before the clock is settled up to it
 pub settled_by_now : (r : CommandRules) (m : Unfolding) (u : Unfolded) (clock : ℕ) → clock ≤ m.soonest → Stands r m u → Stands r m (settled clock u)
 settled_by_now r m u clock h s =
@@ -153,19 +159,21 @@ settled_by_now r m u clock h s =
       closings = s.closings ∙ sym same;
       from = rw same s.from;
       placed = rw same s.placed;
+      quiet = rw same s.quiet;
     }
 
 -- a state whose precharges before the clock went
 pub settled_behind : (r : CommandRules) (old new : Unfolding) (u : Unfolded) (clock : ℕ) → Keeps r.timing r.geometry new.state (u.list ++ due clock old.closings)
     → length new.closings ≡ length old.closings → ((i : ℕ) → slice_index_or new.closings i None ≡ rest clock (slice_index_or old.closings i None))
-    → AreFrom new.soonest new.closings → Stands r old u → Stands r new (settled clock u)
-settled_behind r old new u clock keeps size each from s =
+    → AreFrom new.soonest new.closings → new.waits ≡ old.waits → Stands r old u → Stands r new (settled clock u)
+settled_behind r old new u clock keeps size each from waits s =
     let moved : new.closings ≡ later clock u.waiting = later_is clock old.closings new.closings size each ∙ ap (λ w. later clock w) s.closings in
     record {
       keeps = subst (λ (w : List (Option Closing)). Keeps r.timing r.geometry new.state (u.list ++ due clock w)) s.closings keeps;
       closings = moved;
       from = subst (λ (w : List (Option Closing)). AreFrom new.soonest w) moved from;
       placed = placed_later clock r.geometry u.waiting s.placed;
+      quiet = λ none. none_later clock u.waiting (s.quiet (sym waits ∙ none));
     }
 
 -- a place without a precharge

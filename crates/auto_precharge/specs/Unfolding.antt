@@ -111,9 +111,14 @@ ArePlaced g waiting = (i : ℕ) (p : Closing) → slice_index_or waiting i None 
 abbrev pub AreFrom : ℕ → List (Option Closing) → Type 0
 AreFrom clock waiting = (i : ℕ) (p : Closing) → slice_index_or waiting i None ≡ Some p → clock ≤ p.clock
 
+-- none is to come
+abbrev pub NoneWaits : List (Option Closing) → Type 0
+NoneWaits waiting = (i : ℕ) → slice_index_or waiting i None ≡ None
+
 -- the state is that behind the list, and the table has the precharges that are to come
 pub record Stands (r : CommandRules) (m : Unfolding) (u : Unfolded) : Type 0 where
   pub keeps : Keeps r.timing r.geometry m.state u.list
   pub closings : m.closings ≡ u.waiting
   pub from : AreFrom m.soonest u.waiting
   pub placed : ArePlaced r.geometry u.waiting
+  pub quiet : m.waits ≡ false → NoneWaits u.waiting

@@ -15,7 +15,8 @@ use ddr4_timing::timing::CommandRules;
 use ddr4_timing::timing_state::TimingState;
 
 /// What the commands of a channel leave to its next one, where some of them bring a precharge with them: the state behind what
-/// has gone, the precharges that are still to come, each in the place of its bank, and a clock that none of these is before.
+/// has gone, the precharges that are still to come, each in the place of its bank, a clock that none of these is before, and whether
+/// any may be to come.
 ///
 /// Each call is given the numbers for which it was made.
 #[derive(Clone, Copy)]
@@ -23,9 +24,11 @@ pub struct Unfolding {
     state: TimingState,
     closings: [Option<Closing>; 128],
     soonest: u64,
+    waits: bool,
 }
 
 // The bank of a RD or WR.
+#[inline(always)]
 fn column_bank(x: &Command) -> Option<BankAddress>
     ensures { result ≡ (if is_column x.now then Some (bank_of x.now) else None) }
 {
@@ -44,6 +47,7 @@ impl Unfolding {
             state: TimingState::new(&rules.timing, &rules.geometry),
             closings: [None; 128],
             soonest: u64::MAX,
+            waits: false,
         }
     }
 
@@ -55,6 +59,7 @@ impl Unfolding {
     }
 
     // The precharge of a bank that is still to come.
+    #[inline(always)]
     fn closing_of(&self, rules: &CommandRules, at: BankAddress) -> Option<Closing>
         requires { HasBank rules.now.geometry at }
         ensures { result ≡ slice_index_or self.now.closings (bank_index at) None }
@@ -77,6 +82,7 @@ impl Unfolding {
     }
 
     /// May the command come next? Of a RD or WR its bank isn't about to be closed either.
+    #[inline(always)]
     pub fn admits(&self, rules: &CommandRules, x: &Stamped) -> bool
         ensures place { IsTrue result → IsInGeometry rules.now.geometry x.now.cmd }
         ensures next { (u : Unfolded) → Stands rules.now self.now u → (IsTrue result
@@ -89,6 +95,9 @@ impl Unfolding {
         {
             return false;
         }
+        if !self.waits {
+            return true;
+        }
         match column_bank(&x.cmd) {
             Some(at) => self.closing_of(rules, at).is_none(),
             None => true,
@@ -96,6 +105,7 @@ impl Unfolding {
     }
 
     /// The command goes. Where it closes its bank, a precharge is to come.
+    #[inline(always)]
     pub(crate) fn go(&mut self, rules: &CommandRules, next: &Issued)
         requires early { next.now.command.clock < 2 ^ 63 }
         requires place { IsInGeometry rules.now.geometry next.now.command.cmd }
@@ -115,6 +125,7 @@ impl Unfolding {
     }
 
     // A precharge of the bank is to come, at the least clock that the rules allow.
+    #[inline(never)]
     fn await_close(&mut self, rules: &CommandRules, at: BankAddress, line: u64)
         requires { HasBank rules.now.geometry at }
         ensures { (u : Unfolded) → Stands rules.now self.old u →
@@ -129,10 +140,12 @@ impl Unfolding {
         let cmd = Command::Pre { at };
         let clock = self.state.least_clock(&rules.timing, &rules.geometry, &cmd);
         self.soonest = self.soonest.min(clock);
+        self.waits = true;
         self.closings[at.number(&rules.geometry)] = Some(Closing { at, clock, line });
     }
 
     /// Goes on with the command, if it may follow those before it. Answers whether it may.
+    #[inline(always)]
     pub fn follow(&mut self, rules: &CommandRules, next: &Issued) -> bool
         requires { next.now.command.clock < 2 ^ 63 }
         ensures tells { (u : Unfolded) → Stands rules.now self.old u →

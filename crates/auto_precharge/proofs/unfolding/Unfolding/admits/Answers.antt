@@ -1,10 +1,16 @@
-use Rattle.std.proofs.Common.{◌≡◌, List, Option, None, refl, slice_index_or, sym, ap, ◌∙◌}
+use Rattle.std.proofs.Common.{◌≡◌, false, List, Option, None, refl, slice_index_or, sym, ap, ◌∙◌}
 use Rattle.ddr4_timing.specs.Command.{bank_of}
 use Rattle.ddr4_timing.specs.Places.{bank_index}
 use Rattle.ddr4_timing.specs.declared.place.BankAddress.{BankAddress}
 use Rattle.auto_precharge.specs.declared.waiting.Closing.{Closing}
 use Rattle.auto_precharge.proofs.Settling.{none_column, none_told, some_column}
 use Rattle.auto_precharge.proofs.unfolding.Unfolding.admits.Goals as goal
+
+pub returns-then-not-self-clause-next : goal.returns-then-not-self-clause-next
+returns-then-not-self-clause-next c u s =
+    let next = c.if-not-ready.ensures.next u.list s.keeps in
+    let none : c.args.self.now.waits ≡ false = cc in
+    (λ _. (next.0 refl, λ _. s.quiet none _), λ _. refl)
 
 pub returns-in-Some-clause-next : goal.returns-in-Some-clause-next
 returns-in-Some-clause-next c u s =

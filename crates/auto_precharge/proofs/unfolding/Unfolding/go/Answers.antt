@@ -12,6 +12,7 @@ returns-then-not-next c u s early =
       closings = rw plain s.closings;
       from = rw plain s.from;
       placed = rw plain s.placed;
+      quiet = rw plain s.quiet;
     }
 
 pub returns-in-Some : goal.returns-in-Some
@@ -19,7 +20,7 @@ returns-in-Some c u s early =
     let closes : c.args.next.now.closes ≡ true = cc in
     let column = some_column c.args.next.now.command.cmd c.in-Some.at (sym c.in-Some.is ∙ c.column_bank.ensures) in
     let behind : Unfolded = record { list = u.list ++ c.args.next.now.command ∷ []; lines = u.lines ++ c.args.next.now.line ∷ []; waiting = u.waiting } in
-    let stands = c.await_close.ensures behind (record { keeps = c.issue.ensures.kept u.list s.keeps early; closings = s.closings; from = s.from; placed = s.placed }) in
+    let stands = c.await_close.ensures behind (record { keeps = c.issue.ensures.kept u.list s.keeps early; closings = s.closings; from = s.from; placed = s.placed; quiet = s.quiet }) in
     subst (λ (v : Unfolded). Stands c.args.rules.now c.await_close.new.self v)
     (sym (went_closing c.args.rules.now.timing u c.args.next.now c.in-Some.at closes column.0 column.1)) stands
 
@@ -32,4 +33,5 @@ returns-in_default c u s early =
       closings = rw (closes, other) s.closings;
       from = rw (closes, other) s.from;
       placed = rw (closes, other) s.placed;
+      quiet = rw (closes, other) s.quiet;
     }
