@@ -23,6 +23,7 @@ pub struct Located {
 
 impl Located {
     /// It as a command of its channel.
+    #[inline(always)]
     pub fn issued(&self) -> Issued
         ensures { result ≡ issued_of self.now }
     {

@@ -48,18 +48,19 @@ impl CommandKind {
         ensures some { IfSome result (λ kind. IsSpelling kind name.now) }
         ensures none { IsNone result → (kind : CommandKind) → ¬ IsSpelling kind name.now }
     {
-        if is_either("ACT", "ACTIVATE", name) {
-            Some(CommandKind::Act)
-        } else if is_either("RD", "READ", name) {
+        // the kinds of which a trace has most come first
+        if is_either("RD", "READ", name) {
             Some(CommandKind::Rd)
         } else if is_either("WR", "WRITE", name) {
             Some(CommandKind::Wr)
+        } else if is_either("ACT", "ACTIVATE", name) {
+            Some(CommandKind::Act)
+        } else if is_either("PRE", "PRECHARGE", name) {
+            Some(CommandKind::Pre)
         } else if is_any("RDA", "READ_PRECHARGE", "READ_P", name) {
             Some(CommandKind::Rda)
         } else if is_any("WRA", "WRITE_PRECHARGE", "WRITE_P", name) {
             Some(CommandKind::Wra)
-        } else if is_either("PRE", "PRECHARGE", name) {
-            Some(CommandKind::Pre)
         } else if is_either("PREA", "PREAB", name) {
             Some(CommandKind::PreAll)
         } else if is_any("REF", "REFRESH", "REFAB", name) {

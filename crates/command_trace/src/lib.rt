@@ -13,6 +13,7 @@ mod kind;
 mod no_command;
 mod reading;
 mod reason;
+mod row;
 mod source;
 mod tally;
 mod trace_check;

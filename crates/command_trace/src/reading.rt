@@ -3,14 +3,12 @@ ghost use Rattle.std.specs.Prelude.{◌≡◌, [], ◌++◌, IfOk, IfSome};
 ghost use Rattle.std.specs.Option.{option_to_list};
 ghost use Rattle.command_trace.specs.Reading.{FitsChannels, IsFormWith};
 
-use crate::entry::{ChannelCommand, Located};
-use crate::foreign::found_in_form;
-use crate::kind::CommandKind;
+use crate::entry::Located;
 use crate::no_command::NoCommand;
+use crate::row::{Row, is_blank};
 use csv::{ByteRecord, ErrorKind, ReaderBuilder, Terminator};
-use ddr4_timing::command::Stamped;
 use ghost_trace::Trace;
-use std::alloc::{AllocError, Global};
+use std::alloc::Global;
 use std::io::{Chain, Read};
 use thiserror::Error;
 use trace_forms::ForeignForm;
@@ -64,36 +62,6 @@ impl From<csv::Error> for TraceFault {
     }
 }
 
-// What a row of a trace is.
-#[derive(Clone, Copy)]
-enum TraceRow {
-    Command(Located),
-    Other,
-    Bad(NoCommand),
-}
-
-impl TraceRow {
-    // By what was read of it.
-    fn of(read: Result<Located, NoCommand>) -> TraceRow {
-        match read {
-            Ok(found) => TraceRow::Command(found),
-            Err(why) => TraceRow::Bad(why),
-        }
-    }
-
-    // Why it isn't taken where channels are numbered below this.
-    fn why(self, channels: u64) -> NoCommand {
-        match self {
-            TraceRow::Bad(why) => why,
-            TraceRow::Command(found) if found.entry.channel >= channels => NoCommand::Channel {
-                channel: found.entry.channel,
-                channels,
-            },
-            TraceRow::Command(_) | TraceRow::Other => NoCommand::Clock,
-        }
-    }
-}
-
 /// Reads the commands of a trace one by one. Empty lines, and those that begin with `#`, are passed over.
 #[derive(Drop)]
 pub struct TraceReader<R> {
@@ -102,7 +70,7 @@ pub struct TraceReader<R> {
     row: ByteRecord,
     form: Form,
     channels: u64,
-    is_begun: bool,
+    has_header: bool,
     pub given: Trace<Located>,
 }
 
@@ -142,149 +110,6 @@ pub fn form_of<R: Read + Drop>(alloc: Global, source: R, others: bool) -> Result
     }
 }
 
-// A number: decimal digits alone, that fit 64 bits.
-fn number(field: &[u8]) -> Option<u64> {
-    if field.is_empty() {
-        return None;
-    }
-    let mut value: u64 = 0;
-    for byte in field {
-        if !byte.is_ascii_digit() {
-            return None;
-        }
-        value = value.checked_mul(10)?.checked_add((*byte - b'0') as u64)?;
-    }
-    Some(value)
-}
-
-// A field without a carriage return at its end.
-fn field(row: &ByteRecord, place: usize) -> Option<&[u8]> {
-    let bytes = row.get(place)?;
-    Some(bytes.strip_suffix(b"\r").unwrap_or(bytes))
-}
-
-// Is it a line with nothing but a carriage return?
-fn is_blank(row: &ByteRecord) -> bool {
-    row.len() == 1 && field(row, 0).is_none_or(|bytes| bytes.is_empty())
-}
-
-// The number in a place, which stands for this part.
-fn number_at(row: &ByteRecord, place: usize, part: &'static str) -> Result<u64, NoCommand> {
-    match field(row, place) {
-        Some(bytes) => number(bytes).ok_or(NoCommand::Number { part }),
-        None => Err(NoCommand::Number { part }),
-    }
-}
-
-fn word_at(row: &ByteRecord, place: usize) -> Option<&str> {
-    std::str::from_utf8(field(row, place)?).ok()
-}
-
-// The command of a line, which has this number.
-fn found_in_line(row: &ByteRecord, line: u64) -> Result<Located, NoCommand> {
-    let Some(count) = row.len().checked_sub(3) else {
-        return Err(NoCommand::Words);
-    };
-    let channel = number_at(row, 0, "channel")?;
-    let clock = number_at(row, 1, "clock")?;
-    let kind = word_at(row, 2)
-        .and_then(CommandKind::named)
-        .ok_or(NoCommand::Name)?;
-    if count != kind.parts().len() {
-        return Err(NoCommand::Parts { kind });
-    }
-    let mut numbers = [0; 4];
-    for (place, part) in kind.parts().iter().enumerate() {
-        if place < 4 {
-            numbers[place] = number_at(row, 3 + place, part)?;
-        }
-    }
-    found_at(line, kind, channel, clock, &numbers)
-}
-
-// The command of a row of a table, on the line of this number.
-fn found_in_row(row: &ByteRecord, line: u64) -> Result<Located, NoCommand> {
-    if row.len() != HEADER.len() {
-        return Err(NoCommand::Columns { found: row.len() });
-    }
-    let kind = word_at(row, 1)
-        .and_then(CommandKind::spelled)
-        .ok_or(NoCommand::Name)?;
-    let mut numbers = [0; 4];
-    let mut count = 0;
-    for (place, part) in HEADER.iter().enumerate().skip(3) {
-        if kind.has_part(place) {
-            if count < 4 {
-                numbers[count] = number_at(row, place, part)?;
-                count += 1;
-            }
-        } else if field(row, place).is_some_and(|bytes| !bytes.is_empty()) {
-            return Err(NoCommand::Further { part, kind });
-        }
-    }
-    found_at(
-        line,
-        kind,
-        number_at(row, 2, "channel")?,
-        number_at(row, 0, "clock")?,
-        &numbers,
-    )
-}
-
-// What the line is that was read last, in a form of others: its row is one field.
-fn foreign_row(
-    alloc: Global,
-    form: &ForeignForm,
-    row: &ByteRecord,
-    line: u64,
-) -> Result<TraceRow, AllocError> {
-    match word_at(row, 0) {
-        Some(text) if row.len() == 1 => Ok(TraceRow::of(found_in_form(alloc, form, text, line)?)),
-        _ => Ok(TraceRow::Bad(NoCommand::Form {
-            wanted: form.wanted(),
-        })),
-    }
-}
-
-// The command of a kind with the first of these numbers.
-fn found_at(
-    line: u64,
-    kind: CommandKind,
-    channel: u64,
-    clock: u64,
-    numbers: &[u64; 4],
-) -> Result<Located, NoCommand> {
-    let parts = numbers.get(..kind.parts().len()).unwrap_or(&[]);
-    match kind.command(parts) {
-        Some(cmd) => Ok(Located {
-            line,
-            entry: ChannelCommand {
-                channel,
-                command: Stamped { clock, cmd },
-            },
-            closes: kind.closes(),
-        }),
-        None => Err(NoCommand::Parts { kind }),
-    }
-}
-
-// Is this another answer of a run than a command? Those of a channel alone begin with a number.
-fn is_other(row: &ByteRecord) -> bool {
-    match number_at(row, 0, "channel") {
-        Err(_) => true,
-        Ok(_channel) => row.len() == 2 && word_at(row, 1) == Some("idle"),
-    }
-}
-
-fn is_header(row: &ByteRecord) -> bool {
-    for (place, name) in HEADER.iter().enumerate() {
-        if word_at(row, place) != Some(*name) {
-            return false;
-        }
-    }
-    row.len() == HEADER.len()
-}
-
 impl<R: Read + Drop> TraceReader<R> {
     /// The commands of a trace of this form, whose channels are numbered below `channels`.
     pub fn new(alloc: Global, source: R, form: Form, channels: u64) -> TraceReader<R>
@@ -304,35 +129,42 @@ impl<R: Read + Drop> TraceReader<R> {
             row: ByteRecord::new(alloc),
             form,
             channels,
-            is_begun: false,
+            has_header: false,
             given: Trace::new(),
         }
     }
 
-    // What the row is that was read last, on the line of this number.
-    fn parsed(&mut self, line: u64) -> Result<TraceRow, AllocError>
-        ensures { (self.new.channels ≡ self.old.channels) × (self.new.given ≡ self.old.given) }
+    // The command of the row that was read last; none where it is empty, the header of a table, or another answer of a run.
+    #[inline(always)]
+    fn command_of_row(&mut self) -> Result<Option<Located>, TraceFault>
+        ensures fits { IfOk result (λ found. IfSome found (λ l.
+            FitsChannels self.old.channels l.entry)) }
+        ensures kept { (self.new.channels ≡ self.old.channels) × (self.new.given ≡ self.old.given) }
     {
         if is_blank(&self.row) {
-            return Ok(TraceRow::Other);
+            return Ok(None);
         }
-        let begins = !self.is_begun;
-        self.is_begun = true;
-        let form = self.form;
-        let row = &self.row;
-        let read = match form {
-            Form::Table if begins && is_header(row) => TraceRow::Other,
-            Form::Table if begins => TraceRow::Bad(NoCommand::Header),
-            Form::Table => TraceRow::of(found_in_row(row, line)),
-            Form::Foreign(foreign) => foreign_row(self.alloc, &foreign, row, line)?,
-            Form::Lines { others: true } if is_other(row) => TraceRow::Other,
-            Form::Lines { .. } => TraceRow::of(found_in_line(row, line)),
+        let row = Row {
+            fields: &self.row,
+            line: self.rows.position().line().saturating_sub(1),
+            channels: self.channels,
         };
-        Ok(read)
+        match &self.form {
+            Form::Lines { others: true } if row.is_other() => Ok(None),
+            Form::Lines { .. } => row.command_of_line(),
+            Form::Table if self.has_header => row.command_in_table(),
+            Form::Table if row.is_header() => {
+                self.has_header = true;
+                Ok(None)
+            }
+            Form::Table => Err(row.refused(NoCommand::Header)),
+            Form::Foreign(form) => row.command_of_others(self.alloc, form),
+        }
     }
 
     /// The next command, or none at the end of the trace. A line that is no command, whose channel isn't there or whose clock
     /// is 2^63 or more is refused by its number.
+    #[inline(always)]
     pub fn next(&mut self) -> Result<Option<Located>, TraceFault>
         ensures fits { IfOk result (λ found. IfSome found (λ l.
             FitsChannels self.old.channels l.entry)) }
@@ -344,20 +176,13 @@ impl<R: Read + Drop> TraceReader<R> {
             if !self.rows.read_byte_record(&mut self.row)? {
                 return Ok(None);
             }
-            let line = self.rows.position().line().saturating_sub(1);
-            match self.parsed(line)? {
-                TraceRow::Other => {}
-                TraceRow::Command(found)
-                    if found.entry.channel < self.channels && found.entry.command.clock < 1 << 63 =>
-                    {
-                        self.given.note(&found);
-                        return Ok(Some(found));
-                    }
-                row => {
-                    let why = row.why(self.channels);
-                    return Err(TraceFault::Line { line, why });
-                }
+            let read = self.command_of_row();
+            match &read {
+                Ok(None) => continue,
+                Ok(Some(found)) => self.given.note(found),
+                Err(_) => {}
             }
+            return read;
         }
         Ok(None)
     }
