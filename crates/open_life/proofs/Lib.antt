@@ -2,3 +2,4 @@ pub mod Goes
 mod Awaiting
 mod Seeing
 mod Beginning
+mod Calling

@@ -1,16 +1,19 @@
 // How a life is opened: on what a device restores to, or on one that is formatted.
 ghost use Rattle.std.specs.Prelude.{◌≡◌, IfErr, IfOk, true};
+ghost use Rattle.channel_set.specs.Issuing.{HaveIssuedNone};
 ghost use Rattle.ddr4_timing.specs.Limits.{lines_of};
 ghost use Rattle.energy_budget.specs.Meter.{leak_of, level_of, meter_gauge};
 ghost use Rattle.interleave_map.specs.declared.ready.Interleaving.{Interleaving};
 ghost use Rattle.line_memory.specs.Memory.{IsMemory};
 ghost use Rattle.module_core.specs.Stands.{assembly, setup_of};
 ghost use Rattle.nv_session.specs.Living.{IsShapeFor};
+ghost use Rattle.save_device.specs.Calls.{MakesCalls};
 ghost use Rattle.save_image.specs.Header.{Fits};
-ghost use Rattle.slot_store.specs.Outcomes.{NoImage, Outcome, restored};
+ghost use Rattle.slot_store.specs.Outcomes.{NoImage, restored};
 ghost use Rattle.slot_store.specs.Slots.{HasSize};
+ghost use Rattle.slot_store.specs.Steps.{format_calls};
 ghost use Rattle.slot_store.specs.Told.{IsRestored};
-ghost use Rattle.open_life.specs.Begins.{Begins, BeginsNew, IsRefusedFor, RestsOn};
+ghost use Rattle.open_life.specs.Begins.{Begins, BeginsNew, HadOpeningCalls, IsOfFormat, IsRefusedFor, RestsOn};
 ghost use Rattle.open_life.specs.Lives.{IsAlive};
 ghost use Rattle.open_life.specs.Now.{now_of};
 
@@ -72,6 +75,8 @@ fn begin<K: ChannelPort, D: SaveDevice>(
     requires { IsAlive K.ChannelPort profile.now
         (assembly running (D.state device) (meter_gauge gauge)) }
     ensures now { now_of result ≡ assembly running (D.state device) (meter_gauge gauge) }
+    ensures running { result.running ≡ running }
+    ensures device { result.device ≡ device }
     ensures gauge { result.gauge ≡ gauge }
     ensures profile { result.profile ≡ profile.now }
 {
@@ -83,7 +88,8 @@ fn begin<K: ChannelPort, D: SaveDevice>(
     }
 }
 
-/// Makes a device a store of zero lines, and opens a life on it over the profile's map, disarmed, with a gauge that shows 0.
+/// Makes a device a store of zero lines, and opens a life on it over the profile's map, disarmed, with a gauge that shows 0. The device
+/// has the calls of one format, and no channel has issued a command.
 pub fn open_new<K: ChannelPort + Drop, A: Wires<K>, D: SaveDevice + Drop>(
     alloc: Global,
     profile: &Profile,
@@ -96,10 +102,14 @@ pub fn open_new<K: ChannelPort + Drop, A: Wires<K>, D: SaveDevice + Drop>(
         (lines_of profile.now.checked.geometry) (now_of life)) }
     ensures setup { IfOk result (λ life. setup_of K.ChannelPort life.running
         ≡ record { shape = A.shape wires.now profile.now.map; trail = profile.now.sizes.trail }) }
+    ensures issued { IfOk result (λ life. HaveIssuedNone K.ChannelPort life.running.channels) }
+    ensures calls { IfOk result (λ life.
+        MakesCalls (format_calls (lines_of profile.now.checked.geometry)) true
+        (D.state device).calls (D.state life.device).calls) }
     ensures level { IfOk result (λ life. level_of life.gauge ≡ 0) }
     ensures leak { IfOk result (λ life. leak_of life.gauge ≡ 0) }
     ensures profile { IfOk result (λ life. life.profile ≡ profile.now) }
-    ensures failed { IfErr result (λ fault. (outcome : Outcome) → IsRefusedFor outcome fault) }
+    ensures failed { IfErr result IsOfFormat }
 {
     let lines = lines_in(profile);
     let Ok(memory) = zero_memory(alloc, lines) else {
@@ -140,10 +150,13 @@ fn open_restored<K: ChannelPort + Drop, A: Wires<K>, D: SaveDevice + Drop>(
     ensures setup { IfOk result (λ opened. setup_of K.ChannelPort opened.life.running
         ≡ record { shape = A.shape wires.now profile.now.map; trail = profile.now.sizes.trail }) }
     ensures restored { IfOk result (λ opened. opened.found ≡ Found.Restored restored.head) }
+    ensures issued { IfOk result (λ opened.
+        HaveIssuedNone K.ChannelPort opened.life.running.channels) }
+    ensures device { IfOk result (λ opened. opened.life.device ≡ device) }
     ensures level { IfOk result (λ opened. level_of opened.life.gauge ≡ 0) }
     ensures leak { IfOk result (λ opened. leak_of opened.life.gauge ≡ 0) }
     ensures profile { IfOk result (λ opened. opened.life.profile ≡ profile.now) }
-    ensures failed { IfErr result (λ fault. (outcome : Outcome) → IsRefusedFor outcome fault) }
+    ensures failed { IfErr result (λ fault. fault ≡ OpenFault.Memory) }
 {
     let found = Found::Restored(restored.head);
     match wires.open(alloc, profile.map, restored, profile.sizes.trail) {
@@ -171,10 +184,16 @@ fn open_formatted<K: ChannelPort + Drop, A: Wires<K>, D: SaveDevice + Drop>(
         (now_of opened.life)) }
     ensures setup { IfOk result (λ opened. setup_of K.ChannelPort opened.life.running
         ≡ record { shape = A.shape wires.now profile.now.map; trail = profile.now.sizes.trail }) }
+    ensures issued { IfOk result (λ opened.
+        HaveIssuedNone K.ChannelPort opened.life.running.channels) }
+    ensures calls { IfOk result (λ opened.
+        MakesCalls (format_calls (lines_of profile.now.checked.geometry)) true
+        (D.state device).calls (D.state opened.life.device).calls) }
+    ensures found { IfOk result (λ opened. opened.found ≡ Found.Formatted) }
     ensures level { IfOk result (λ opened. level_of opened.life.gauge ≡ 0) }
     ensures leak { IfOk result (λ opened. leak_of opened.life.gauge ≡ 0) }
     ensures profile { IfOk result (λ opened. opened.life.profile ≡ profile.now) }
-    ensures failed { IfErr result (λ fault. (outcome : Outcome) → IsRefusedFor outcome fault) }
+    ensures failed { IfErr result IsOfFormat }
 {
     match open_new(alloc, profile, wires, device) {
         Ok(life) => Ok(Opened {
@@ -186,7 +205,9 @@ fn open_formatted<K: ChannelPort + Drop, A: Wires<K>, D: SaveDevice + Drop>(
 }
 
 /// Opens a life with what a device restores to, over the profile's map, disarmed, with a gauge that shows 0. A device that holds no
-/// image is formatted first where that is wanted, and else refused. What a restore refuses is refused, and no byte has changed.
+/// image is formatted first where that is wanted, and else refused. What a restore refuses is refused, and no byte has changed. The
+/// device has the calls of one restore, and where it was formatted those of one format behind them; no channel has issued a command.
+/// `Format` comes only where a device that holds no image was to be formatted.
 pub fn open<K: ChannelPort + Drop, A: Wires<K>, D: SaveDevice + Drop>(
     alloc: Global,
     profile: &Profile,
@@ -201,11 +222,17 @@ pub fn open<K: ChannelPort + Drop, A: Wires<K>, D: SaveDevice + Drop>(
     ensures asked { IfOk result (λ opened. opened.found ≡ Found.Formatted → formats ≡ true) }
     ensures setup { IfOk result (λ opened. setup_of K.ChannelPort opened.life.running
         ≡ record { shape = A.shape wires.now profile.now.map; trail = profile.now.sizes.trail }) }
+    ensures issued { IfOk result (λ opened.
+        HaveIssuedNone K.ChannelPort opened.life.running.channels) }
+    ensures calls { IfOk result (λ opened.
+        HadOpeningCalls (lines_of profile.now.checked.geometry) opened.found
+        (D.state device) (D.state opened.life.device)) }
     ensures level { IfOk result (λ opened. level_of opened.life.gauge ≡ 0) }
     ensures leak { IfOk result (λ opened. leak_of opened.life.gauge ≡ 0) }
     ensures profile { IfOk result (λ opened. opened.life.profile ≡ profile.now) }
     ensures refused { IfErr result (IsRefusedFor
         (restored (lines_of profile.now.checked.geometry) (D.state device).bytes)) }
+    ensures wanted { IfErr result (λ fault. fault ≡ OpenFault.Format → formats ≡ true) }
 {
     let lines = lines_in(profile);
     match restore(alloc, &mut device, lines) {

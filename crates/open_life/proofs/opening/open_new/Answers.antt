@@ -3,12 +3,13 @@ use Rattle.ddr4_timing.specs.Limits.{lines_of}
 use Rattle.line_memory.specs.Memory.{IsMemory, zero_lines}
 use Rattle.line_memory.proofs.MemoryLaws.{zero_lines-IsMemory}
 use Rattle.channel_port.specs.Shape.{Shape}
+use Rattle.channel_set.specs.Issuing.{HaveIssuedNone}
 use Rattle.energy_budget.specs.Meter.{meter_gauge}
 use Rattle.module_core.specs.Opening.{opened_with}
 use Rattle.slot_store.specs.Formatted.{first_head}
 use Rattle.slot_store.specs.Outcomes.{first_image}
 use Rattle.slot_store.specs.Slots.{HasSize}
-use Rattle.nv_session.proofs.Common.{Assembly, ModuleStands, assembly}
+use Rattle.nv_session.proofs.Common.{Assembly, Module, ModuleStands, assembly}
 use Rattle.nv_session.proofs.Beginning.{BeginsLife, begins_formatted, is_capacity}
 use Rattle.open_life.specs.Begins.{BeginsNew}
 use Rattle.open_life.proofs.Beginning.{opened_fits, opened_sized}
@@ -52,3 +53,7 @@ pub returns-in-Ok-open-clause-begins : goal.returns-in-Ok-open-clause-begins
 returns-in-Ok-open-clause-begins g c =
     let L = g.K.ChannelPort in let lines : ℕ = lines_of c.args.profile.now.checked.geometry in
     subst (λ (now : Assembly L). BeginsNew L lines now) (sym c.begin.ensures.now) (stands_new g (goal.at.returns-in-Ok-open-clause-begins g c).In-Ok-open)
+
+pub returns-in-Ok-open-clause-issued : goal.returns-in-Ok-open-clause-issued
+returns-in-Ok-open-clause-issued g c =
+    let L = g.K.ChannelPort in subst (λ (it : Module _ L). HaveIssuedNone L it.channels) (sym c.begin.ensures.running) c.in-Ok-open.ensures.issued

@@ -1,9 +1,10 @@
 use Rattle.std.proofs.Common.{ℕ, refl, subst, sym}
+use Rattle.channel_set.specs.Issuing.{HaveIssuedNone}
 use Rattle.ddr4_timing.specs.Limits.{lines_of}
 use Rattle.energy_budget.specs.Meter.{meter_gauge}
 use Rattle.line_memory.specs.Memory.{IsMemory}
 use Rattle.slot_store.specs.Outcomes.{restored}
-use Rattle.nv_session.proofs.Common.{Assembly, Revives, assembly}
+use Rattle.nv_session.proofs.Common.{Assembly, Module, Revives, assembly}
 use Rattle.nv_session.proofs.Beginning.{BeginsLife, revives_restored}
 use Rattle.open_life.specs.Begins.{Begins}
 use Rattle.open_life.specs.declared.opening.Found.TheVariants as founds
@@ -38,3 +39,7 @@ returns-in-Ok-clause-begins g c =
     let L = g.K.ChannelPort in let lines : ℕ = lines_of c.args.profile.now.checked.geometry in let device = g.D.SaveDevice.state c.args.device in
     subst (λ (now : Assembly L). Begins L lines (founds.Restored c.args.restored.head) device.bytes now) (sym c.begin-life.ensures.now)
     (revived g (goal.at.returns-in-Ok-clause-begins g c).In-Ok, refl)
+
+pub returns-in-Ok-clause-issued : goal.returns-in-Ok-clause-issued
+returns-in-Ok-clause-issued g c =
+    let L = g.K.ChannelPort in subst (λ (it : Module _ L). HaveIssuedNone L it.channels) (sym c.begin-life.ensures.running) c.in-Ok.ensures.issued
