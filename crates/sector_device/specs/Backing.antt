@@ -12,6 +12,10 @@ use Rattle.sector_device.specs.Spare.{found_in, gate_at, spare_number, spare_siz
 abbrev pub HasSectors : ℕ → Type 0
 HasSectors size = size % 512 ≡ 0
 
+-- a file of so many bytes is one of a device of this size: whole sectors, with the spare place behind them
+abbrev pub IsFileSize : ℕ → ℕ → Type 0
+IsFileSize size file = (file ≡ size + spare_size) × HasSectors size
+
 -- what an opening finds in this image is one that a stop may leave of the device
 abbrev pub FindsLeft : Moment → List ℕ → Type 0
 FindsLeft moment image = MayLeave moment (found_in (length moment.bytes) image)

@@ -1,11 +1,11 @@
 // The opening of a device over a file of sectors.
-ghost use Rattle.std.specs.Prelude.{◌≡◌, ◌+◌, ◌*◌, ◌≤◌, length, slice_range, IfOk, IfSome, IsNone, true, false};
+ghost use Rattle.std.specs.Prelude.{◌≡◌, ℕ, ◌+◌, ◌*◌, ◌≤◌, length, slice_range, IfOk, IfSome, IsNone, true, false};
 ghost use Rattle.std.specs.Int.{w64, from_le_bytes};
 ghost use Rattle.save_device.specs.Device.{IsSettled};
 ghost use Rattle.save_device.specs.Memory.{state_of};
 ghost use Rattle.file_device.specs.Kept.{IfKept, IsAtRest};
 ghost use Rattle.sector_device.specs.Spare.{found_in, is_open, spare_number, spare_size};
-ghost use Rattle.sector_device.specs.Backing.{HasSectors, IsFoundGate};
+ghost use Rattle.sector_device.specs.Backing.{HasSectors, IsFileSize, IsFoundGate};
 
 use crate::SectorFile;
 use crate::device::{GATE, Gate, SectorDevice};
@@ -18,9 +18,10 @@ use std::io::{self, ErrorKind};
 /// The bytes of the spare place, which a file has behind those of its device.
 pub const SPARE_PLACE: usize = 3 * SECTOR;
 
-// How many bytes the device has of a file of so many.
+// How many bytes the device has of a file of so many; none where there is no such file.
 fn device_len(n: usize) -> Option<usize>
-    ensures { IfSome result (λ size. (n ≡ size + spare_size) × HasSectors size) }
+    ensures some { IfSome result (λ size. IsFileSize size n) }
+    ensures none { IsNone result → (size : ℕ) → ¬ IsFileSize size n }
 {
     let size = n.checked_sub(SPARE_PLACE)?;
     if size % SECTOR == 0 { Some(size) } else { None }
@@ -126,9 +127,10 @@ impl<F: SectorFile + Drop> SectorDevice<F> {
 
 /// The bytes of the device whose file has these, as an opening finds them; none where a file of this length is no such file.
 pub fn found_bytes(bytes: Vec<u8>) -> Option<Vec<u8>>
-    ensures { IfSome result (λ device. (length bytes.items
-        ≡ length device.items + spare_size)
-        × (device.items ≡ found_in (length device.items) bytes.items)) }
+    ensures size { IfSome result (λ device. IsFileSize (length device.items) (length bytes.items)) }
+    ensures is { IfSome result (λ device.
+        device.items ≡ found_in (length device.items) bytes.items) }
+    ensures none { IsNone result → (size : ℕ) → ¬ IsFileSize size (length bytes.items) }
 {
     let size = device_len(bytes.len())?;
     let held = open_sector(&bytes, size);

@@ -1,7 +1,7 @@
 // The bytes of a device in a store.
-ghost use Rattle.std.specs.Prelude.{◌≡◌, ◌↔◌, ◌++◌, IfOk, IfSome, length, replicate};
+ghost use Rattle.std.specs.Prelude.{◌≡◌, ◌↔◌, ◌++◌, IfOk, IfSome, IsNone, length, replicate};
 ghost use Rattle.sector_device.specs.Spare.{spare_size};
-ghost use Rattle.store_file.specs.Stores.{device_in};
+ghost use Rattle.store_file.specs.Stores.{IsStoreSize, device_in};
 
 use sector_device::{SPARE_PLACE, found_bytes};
 use std::alloc::{AllocError, Global};
@@ -24,10 +24,12 @@ impl Form {
     }
 }
 
-/// The bytes of the device, of so many, that a store with these has; none where a store of such a device has another length.
+/// The bytes of the device, of so many, that a store with these has; none exactly where a store of such a device has another length.
 pub fn device_bytes(bytes: Vec<u8>, size: usize) -> Option<Vec<u8>>
     ensures is { IfSome result (λ device. device.items ≡ device_in size bytes.items) }
     ensures size { IfSome result (λ device. length device.items ≡ size) }
+    ensures some { IfSome result (λ device. IsStoreSize size (length bytes.items)) }
+    ensures none { IsNone result → ¬ IsStoreSize size (length bytes.items) }
 {
     if bytes.len() == size {
         return Some(bytes);

@@ -14,7 +14,7 @@ invariant_of-device g c =
     let K = g.F.SectorFile in let state = state_of c.in_ok-mirror.mirror in let size = c.in-Some.size in let bytes : List ℕ = c.in_ok-bytes.bytes.items in
     let rest : IfKept IsAtRest (K.kept c.load.new.self) = subst (λ (file : Option Kept). IfKept IsAtRest file) (sym c.load.ensures.same) c.requires in
     let read : IfKept (λ kept. bytes ≡ kept.bytes) (K.kept c.load.new.self) = subst (λ (file : Option Kept). IfKept (λ kept. bytes ≡ kept.bytes) file) (sym c.load.ensures.same) c.in_ok-bytes.ensures.bytes in
-    let long : length bytes ≡ size + 1536 = omega (arith, c.in-Some.ensures.0, c.len.ensures) in
+    let long : length bytes ≡ size + 1536 = omega (arith, c.in-Some.ensures.some.0, c.len.ensures) in
     let sizes : length state.bytes ≡ size = ap length c.in_ok-mirror.ensures.row ∙ c.found.ensures.len in
     let is : state.bytes ≡ found_in size bytes = c.in_ok-mirror.ensures.row ∙ c.found.ensures.is in
     let held = c.open_sector-held.result in let gate = c.gate_found-gate.result in let open_so = c.open_sector-held.ensures in
@@ -23,7 +23,7 @@ invariant_of-device g c =
     record {
       fits = c.in_ok-mirror.mirror.small;
       room = omega (arith, sizes, long, c.len.ensures, c.len.type_inv);
-      sectors = subst HasSectors (sym sizes) c.in-Some.ensures.1;
+      sectors = subst HasSectors (sym sizes) c.in-Some.ensures.some.1;
       marked = marks_none c.in_ok-unsettled.unsettled.flags.items state (c.in_ok-unsettled.ensures.len ∙ sym sizes) c.in_ok-unsettled.ensures.none c.in_ok-mirror.ensures.settled;
       inside = subst (λ (n : ℕ). IsForSector gate n) (sym sizes) (found_sector size bytes held gate open_so.inside finds);
       backed = λ kept eq.
