@@ -1,2 +1,4 @@
 pub mod Ways
 mod Stores
+pub mod Steps
+pub mod Written

@@ -2,3 +2,5 @@ pub mod Refused
 pub mod Stored
 pub mod Forms
 pub mod Requests
+pub mod Answered
+pub mod Lives

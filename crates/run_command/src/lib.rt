@@ -1,6 +1,7 @@
 //! The command `run`: a script over closures of both ready-made maps, and the store that it leaves.
 #![tactic(auto)]
 
+mod answered;
 mod lives;
 mod maps;
 mod printer;

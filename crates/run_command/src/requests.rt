@@ -1,18 +1,19 @@
 // The requests of a run's lives, and how long they waited.
-ghost use Rattle.std.specs.Prelude.{◌≡◌, ◌<◌, ◌≤◌, ◌∷◌, ◌++◌, [], IfOk, IfSome, OnOk, length};
-ghost use Rattle.interleave_map.specs.Ready.{place_by};
+ghost use Rattle.std.specs.Prelude.{◌≡◌, ◌++◌, [], IfOk, OnOk};
 ghost use Rattle.request_waits.specs.Writes.{write_waits_of};
-ghost use Rattle.run_command.specs.Requests.{TellsWaits, clock_before, commands_of, count_before, lists_of, read_wait};
+ghost use Rattle.run_command.specs.Answered.{answered_lines};
+ghost use Rattle.run_command.specs.Requests.{AreRequests, TellsLife, TellsLives, TellsWaits, clock_behind, commands_of, count_before_begin, count_behind, lists_of, more_waiting, place_in, read_wait, reads_of, reads_told, scene_of, writes_to, writes_told};
 
+use crate::answered::{AnsweredLine, answered_lines, map_begun};
 use ddr4_timing::command::Stamped;
 use ddr4_timing::place::Place;
+use interleave_map::ReadyMap;
 use interleave_map::cells::line_count;
 use interleave_map::line_map::LineMap;
-use interleave_map::{Interleaving, ReadyMap};
 use nv_profile::Profile;
 use nv_script::{Answer, ScriptLine};
 use request_waits::{AcceptedWrite, Waits, clock_after, write_waits};
-use script_runner::{KeptRun, is_busy, turns_of};
+use script_runner::KeptRun;
 use statistics_report::KindWaits;
 use std::alloc::{AllocError, Global};
 
@@ -36,31 +37,30 @@ fn commands_of(run: &KeptRun, life: usize, channel: usize) -> &[Stamped]
     }
 }
 
-// How many of them it had issued before the line of this index.
-fn count_before(run: &KeptRun, channel: usize, index: usize) -> usize
-    ensures { result ≡ count_before run.now channel index }
+// How many of them it had issued behind so many lines of the script.
+fn count_behind(run: &KeptRun, channel: usize, lines: usize) -> usize
+    ensures { result ≡ count_behind run.now channel lines }
 {
-    let Some(counts) = run.counts().get(index) else {
+    let Some(counts) = run.counts().get(lines) else {
         return 0;
     };
     counts.get(channel).copied().unwrap_or(0)
 }
 
-// The clock of a channel of a life before the line of this index.
-fn clock_before(run: &KeptRun, life: usize, channel: usize, index: usize) -> u64
-    ensures { result ≡ clock_before run.now life channel index }
+// The clock of a channel of a life behind so many lines of the script.
+fn clock_behind(run: &KeptRun, life: usize, channel: usize, lines: usize) -> u64
+    ensures { result ≡ clock_behind run.now life channel lines }
 {
     let commands = commands_of(run, life, channel);
-    clock_after(commands, count_before(run, channel, index))
+    clock_after(commands, count_behind(run, channel, lines))
 }
 
-// How long a read of a channel waited that was answered at the line of this index.
-fn read_wait(run: &KeptRun, life: usize, channel: usize, index: usize) -> u64
-    requires { index < usize.MAX }
-    ensures { result ≡ read_wait run.now life channel index }
+// How long a read of a channel waited that was answered at the line of this number.
+fn read_wait(run: &KeptRun, life: usize, channel: usize, number: usize) -> u64
+    ensures { result ≡ read_wait run.now life channel number }
 {
-    let answered = clock_before(run, life, channel, index + 1);
-    answered.saturating_sub(clock_before(run, life, channel, index))
+    let answered = clock_behind(run, life, channel, number);
+    answered.saturating_sub(clock_behind(run, life, channel, number.saturating_sub(1)))
 }
 
 // How long the writes of a life waited.
@@ -94,7 +94,9 @@ struct Requests<'r> {
 
 impl<'r> Requests<'r> {
     // Of a life that begins, over this map.
-    fn new(alloc: Global, run: &'r KeptRun, life: usize, map: ReadyMap) -> Requests<'r> {
+    fn new(alloc: Global, run: &'r KeptRun, life: usize, map: ReadyMap) -> Requests<'r>
+        ensures { AreRequests (record { run = run.now; life = life; map = map }) [] [] 0 result }
+    {
         Requests {
             run,
             life,
@@ -107,8 +109,7 @@ impl<'r> Requests<'r> {
 
     // The place of a line; None where there is no such line.
     fn place(&self, line: u64) -> Option<Place>
-        ensures { IfSome result (λ place.
-            place ≡ place_by self.now.map.interleaving self.now.map.checked.geometry line) }
+        ensures { result ≡ place_in self.now.map line }
     {
         if line < line_count(&self.map.checked) {
             Some(self.map.place(line))
@@ -117,42 +118,47 @@ impl<'r> Requests<'r> {
         }
     }
 
-    // A write of a place was accepted at the line of this index.
-    fn accept(&mut self, place: Place, index: usize) -> Result<(), AllocError>
-        ensures { OnOk result (self.new.writes.items ≡ self.old.writes.items ++ record {
-          place = place;
-          clock = clock_before self.old.run.now self.old.life place.channel index;
-        } ∷ []) }
+    // A write of a line was accepted at a line of the script.
+    fn accept(&mut self, line: u64, number: usize) -> Result<(), AllocError>
+        ensures { OnOk result (AreRequests (scene_of self.old)
+            (self.old.writes.items ++ writes_to (scene_of self.old) line number)
+            self.old.reads.items self.old.unanswered self.new) }
     {
-        let clock = clock_before(self.run, self.life, place.channel as usize, index);
-        self.writes.push(AcceptedWrite { place, clock })?;
+        if let Some(place) = self.place(line) {
+            let before = number.saturating_sub(1);
+            let clock = clock_behind(self.run, self.life, place.channel as usize, before);
+            self.writes.push(AcceptedWrite { place, clock })?;
+        }
         Ok(())
     }
 
-    // A read of a place was answered at the line of this index.
-    fn answer(&mut self, place: Place, index: usize) -> Result<(), AllocError>
-        requires { index < usize.MAX }
-        ensures { OnOk result (self.new.reads.items ≡ self.old.reads.items
-            ++ read_wait self.old.run.now self.old.life place.channel index ∷ []) }
+    // A read of a line was answered at a line of the script.
+    fn answer(&mut self, line: u64, number: usize) -> Result<(), AllocError>
+        ensures { OnOk result (AreRequests (scene_of self.old) self.old.writes.items
+            (self.old.reads.items ++ reads_of (scene_of self.old) line number)
+            self.old.unanswered self.new) }
     {
-        let wait = read_wait(self.run, self.life, place.channel as usize, index);
-        self.reads.push(wait)?;
+        if let Some(place) = self.place(line) {
+            let wait = read_wait(self.run, self.life, place.channel as usize, number);
+            self.reads.push(wait)?;
+        }
         Ok(())
     }
 
-    // Takes in a line that is no begin of a life, by its answer.
-    fn take(&mut self, line: ScriptLine, answer: Answer, index: usize) -> Result<(), AllocError>
-        requires { index < usize.MAX }
+    // Takes in a line of the script by its answer.
+    fn take(&mut self, line: &AnsweredLine) -> Result<(), AllocError>
+        ensures { OnOk result (AreRequests (scene_of self.old)
+            (self.old.writes.items ++ writes_told (scene_of self.old) line.now)
+            (self.old.reads.items ++ reads_told (scene_of self.old) line.now)
+            (more_waiting self.old.unanswered line.now) self.new) }
     {
-        match (line, answer) {
-            (ScriptLine::Write(write), Answer::Accepted { .. }) => match self.place(write.line) {
-                Some(place) => self.accept(place, index),
-                None => Ok(()),
-            },
-            (ScriptLine::Read { line }, Answer::Content { .. }) => match self.place(line) {
-                Some(place) => self.answer(place, index),
-                None => Ok(()),
-            },
+        match (line.line, line.answer) {
+            (ScriptLine::Write(write), Answer::Accepted { .. }) => {
+                self.accept(write.line, line.number)
+            }
+            (ScriptLine::Read { line: read }, Answer::Content { .. }) => {
+                self.answer(read, line.number)
+            }
             (ScriptLine::Read { .. }, Answer::ReadWaiting { .. }) => {
                 self.unanswered = self.unanswered.saturating_add(1);
                 Ok(())
@@ -189,32 +195,33 @@ impl<'r> Requests<'r> {
     }
 }
 
-// The map over which a life begins by a line and its answer, if one does.
-fn map_begun(profile: &Profile, line: ScriptLine, answer: Answer) -> Option<ReadyMap> {
-    let interleaving = match (line, answer) {
-        (ScriptLine::Format, Answer::Formatted) => profile.map,
-        (ScriptLine::Restore { map, .. }, Answer::Restored { .. }) => map.unwrap_or(profile.map),
-        _ => return None,
-    };
-    Some(ReadyMap {
-        interleaving,
-        checked: profile.checked,
-    })
+// How long the requests of a life waited, which begins over this map behind so many lives of the run: of these lines.
+fn waits_of_life(
+    alloc: Global,
+    run: &KeptRun,
+    life: usize,
+    map: ReadyMap,
+    lines: &[AnsweredLine],
+) -> Result<LifeWaits, AllocError>
+    ensures { IfOk result (TellsLife run.now life map lines.now) }
+{
+    let mut requests = Requests::new(alloc, run, life, map);
+    for line in lines {
+        requests.take(line)?;
+    }
+    requests.waits(alloc)
 }
 
-// How many of the answers are to the line, of those that begin with its first one.
-fn count_to(line: ScriptLine, answers: &[Answer]) -> usize
-    ensures { result ≤ length answers.now }
+// How many of these lines stand before the first that begins a life.
+fn count_before_begin(profile: &Profile, lines: &[AnsweredLine]) -> usize
+    ensures { result ≡ count_before_begin profile.now lines.now }
 {
-    for (index, answer) in answers.iter().enumerate() {
-        if index as u64 >= turns_of(line) {
+    for index in 0..lines.len() {
+        if map_begun(profile, &lines[index]).is_some() {
             return index;
         }
-        if !is_busy(*answer) {
-            return index + 1;
-        }
     }
-    answers.len()
+    lines.len()
 }
 
 /// How long the requests of each life of a run waited: of these lines, by their answers and by what is kept of the run.
@@ -224,27 +231,18 @@ pub(crate) fn waits_of_lives(
     lines: &[ScriptLine],
     answers: &[Answer],
     run: &KeptRun,
-) -> Result<Vec<LifeWaits>, AllocError> {
+) -> Result<Vec<LifeWaits>, AllocError>
+    ensures { IfOk result (λ lives. TellsLives profile.now run.now 0
+        (answered_lines 1 lines.now answers.now) lives.items) }
+{
+    let answered = answered_lines(alloc, lines, answers)?;
     let mut lives = Vec::new(alloc);
-    let mut running: Option<Requests<'_>> = None;
-    let mut at = 0;
-    for index in 0..lines.len() {
-        if at >= answers.len() {
-            break;
+    for index in 0..answered.len() {
+        if let Some(map) = map_begun(profile, &answered[index]) {
+            let later = &answered[index + 1..];
+            let own = &later[..count_before_begin(profile, later)];
+            lives.push(waits_of_life(alloc, run, lives.len(), map, own)?)?;
         }
-        let (line, answer) = (lines[index], answers[at]);
-        at += count_to(line, &answers[at..]);
-        if let Some(map) = map_begun(profile, line, answer) {
-            if let Some(before) = running.take() {
-                lives.push(before.waits(alloc)?)?;
-            }
-            running = Some(Requests::new(alloc, run, lives.len(), map));
-        } else if let Some(requests) = &mut running {
-            requests.take(line, answer, index)?;
-        }
-    }
-    if let Some(last) = running {
-        lives.push(last.waits(alloc)?)?;
     }
     Ok(lives)
 }

@@ -1,4 +1,9 @@
 // What the commands and the requests of a run's lives come to, written.
+ghost use Rattle.std.specs.Prelude.{ℕ, List, OnOk, length, min};
+ghost use Rattle.std.specs.Io.KnownBytes.{Appends};
+ghost use Rattle.run_command.specs.Lives.{TellsLifeAt, TellsLifeNumbers, TellsNumbers};
+ghost use Rattle.trace_statistics.specs.Telling.{TellsBelow};
+
 use crate::requests::LifeWaits;
 use command_faults::{Failure, ProgramFault};
 use command_trace::TraceFault;
@@ -9,8 +14,26 @@ use std::alloc::Global;
 use std::io::Write;
 use trace_statistics::measure_lists;
 
-// Writes what a life comes to: its number, the statistics of its channels as those of a trace that has their commands, and how long its
-// requests waited.
+// Writes the statistics of the channels of a life, as those of a trace that has their commands.
+fn write_numbers<W: Write>(
+    alloc: Global,
+    rules: &CommandRules,
+    life: &LifeCommands,
+    is_json: bool,
+    writer: &mut W,
+) -> Result<(), TraceFault>
+    ensures { OnOk result ((text : List ℕ) × TellsNumbers rules.now is_json life.now text
+        × Appends (W.contents writer.old) (W.contents writer.new) text) }
+{
+    let measured = measure_lists(rules, life.channels());
+    if is_json {
+        statistics_report::write_statistics(alloc, rules, &measured, writer)
+    } else {
+        trace_statistics::write_statistics(rules, &measured, writer)
+    }
+}
+
+// Writes what a life comes to: its number, the statistics of its channels, and how long its requests waited.
 fn write_life_statistics<W: Write>(
     alloc: Global,
     rules: &CommandRules,
@@ -19,14 +42,13 @@ fn write_life_statistics<W: Write>(
     waits: &LifeWaits,
     is_json: bool,
     writer: &mut W,
-) -> Result<(), TraceFault> {
+) -> Result<(), TraceFault>
+    ensures { OnOk result ((text : List ℕ)
+        × TellsLifeNumbers rules.now is_json number life.now waits.now text
+        × Appends (W.contents writer.old) (W.contents writer.new) text) }
+{
     write_life(alloc, number, is_json, writer)?;
-    let measured = measure_lists(rules, life.channels());
-    if is_json {
-        statistics_report::write_statistics(alloc, rules, &measured, writer)?;
-    } else {
-        trace_statistics::write_statistics(rules, &measured, writer)?;
-    }
+    write_numbers(alloc, rules, life, is_json, writer)?;
     write_waits(alloc, "reads", &waits.reads, is_json, writer)?;
     write_waits(alloc, "writes", &waits.writes, is_json, writer)
 }
@@ -39,10 +61,15 @@ pub(crate) fn write_statistics<W: Write>(
     waits: &[LifeWaits],
     is_json: bool,
     writer: &mut W,
-) -> Result<(), Failure<'static>> {
-    let mut number = 0u64;
-    for (life, waits) in lives.iter().zip(waits) {
-        number = number.saturating_add(1);
+) -> Result<(), Failure<'static>>
+    ensures { OnOk result ((text : List ℕ)
+        × TellsBelow (TellsLifeAt rules.now is_json lives.now waits.now)
+        (min (length lives.now) (length waits.now)) text
+        × Appends (W.contents writer.old) (W.contents writer.new) text) }
+{
+    for index in 0..lives.len().min(waits.len()) {
+        let (life, waits) = (&lives[index], &waits[index]);
+        let number = index as u64 + 1;
         match write_life_statistics(alloc, rules, number, life, waits, is_json, writer) {
             Ok(()) => {}
             Err(TraceFault::Memory) => return Err(Failure::from(ProgramFault::Memory)),
