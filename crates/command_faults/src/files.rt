@@ -1,8 +1,9 @@
 // The files that the words name.
-ghost use Rattle.std.specs.Prelude.{◌⊎◌, IfErr, OnOk};
+ghost use Rattle.std.specs.Prelude.{◌⊎◌, ℕ, List, IfErr, IfOk, OnOk};
 ghost use Rattle.std.specs.Io.KnownBytes.{Keeps};
 ghost use Rattle.nv_profile.specs.Ready.{IsReadyWord};
 ghost use Rattle.command_faults.specs.Exit.{IsNoProfile, IsOfFile, IsOfNoFile, IsOfOutput};
+ghost use Rattle.command_faults.specs.Named.{IsTextOf, NamesNumbers, NamesProfile, NamesRules};
 
 use crate::failure::{Failure, Reason};
 use crate::fault::ProgramFault;
@@ -16,15 +17,55 @@ use std::fs::{self, File};
 use std::io::{Input, Read, Write};
 use std::rt::Files;
 
+/// Who gives the bytes that the words of the program name. Its type may say which ones; that of a real system claims nothing, since no
+/// contract can say what a file has.
+pub trait FileHost {
+    /// It gives these bytes for that name.
+    ghost gives: { Self → List ℕ → List ℕ → Type 0 };
+
+    /// The first bytes of the file of this name, up to so many.
+    fn file_bytes<'a>(&self, name: &'a str, most: u64) -> Result<Vec<u8>, Failure<'a>>
+        ensures given { IfOk result (λ bytes. gives self.now name.entry.now bytes.items) }
+        ensures fault { IfErr result (λ failure. IsOfFile name.entry failure.fault) };
+
+    /// The same, or for - of standard input.
+    fn bytes_of<'a>(&self, name: &'a str, most: u64) -> Result<Vec<u8>, Failure<'a>>
+        ensures given { IfOk result (λ bytes. gives self.now name.entry.now bytes.items) }
+        ensures fault { IfErr result (λ failure. IsOfFile name.entry failure.fault) };
+}
+
+impl FileHost for HostRuntime {
+    ghost gives = { λ _ _ _. Unit {0} };
+
+    fn file_bytes<'a>(&self, name: &'a str, most: u64) -> Result<Vec<u8>, Failure<'a>> {
+        match File::open(self, name) {
+            Ok(file) => all_of(self.alloc(), file, most, name),
+            Err(error) => Err(Failure::of_file(name, &error)),
+        }
+    }
+
+    fn bytes_of<'a>(&self, name: &'a str, most: u64) -> Result<Vec<u8>, Failure<'a>> {
+        if name == "-" {
+            all_of(self.alloc(), self.reader(), most, name)
+        } else {
+            self.file_bytes(name, most)
+        }
+    }
+}
+
 // The text of a profile by its word: `tiny`, `tiny2`, or a file, of which no more is read than a profile may have and a byte.
-fn profile_text<'a, R: Files + AllocGlobal>(rt: &R, word: &'a str) -> Result<Vec<u8>, Failure<'a>>
+fn profile_text<'a, R: FileHost + AllocGlobal>(
+    rt: &R,
+    word: &'a str,
+) -> Result<Vec<u8>, Failure<'a>>
+    ensures text { IfOk result (λ text. IsTextOf (R.gives rt.now) word.entry.now text.items) }
     ensures ready { IsReadyWord word.entry.now
         → IfErr result (λ failure. IsOfNoFile failure.fault) }
     ensures file { IfErr result (λ failure. IsOfFile word.entry failure.fault) }
 {
     match ready_profile(word) {
         Some(text) => Ok(text.as_bytes().to_vec(rt.alloc())?),
-        None => match file_bytes(rt, word, MOST_BYTES as u64 + 1) {
+        None => match rt.file_bytes(word, MOST_BYTES as u64 + 1) {
             Ok(bytes) => Ok(bytes),
             Err(failure) => Err(failure.or_word(rt.alloc(), word)),
         },
@@ -32,7 +73,11 @@ fn profile_text<'a, R: Files + AllocGlobal>(rt: &R, word: &'a str) -> Result<Vec
 }
 
 /// The profile of its word: `tiny`, `tiny2`, or a file of TOML.
-pub fn profile_of<'a, R: Files + AllocGlobal>(rt: &R, word: &'a str) -> Result<Profile, Failure<'a>>
+pub fn profile_of<'a, R: FileHost + AllocGlobal>(
+    rt: &R,
+    word: &'a str,
+) -> Result<Profile, Failure<'a>>
+    ensures named { IfOk result (NamesProfile (R.gives rt.now) word.entry.now) }
     ensures ready { IsReadyWord word.entry.now
         → IfErr result (λ failure. IsOfNoFile failure.fault) }
     ensures file { IfErr result (λ failure. IsOfNoFile failure.fault
@@ -51,10 +96,11 @@ pub fn profile_of<'a, R: Files + AllocGlobal>(rt: &R, word: &'a str) -> Result<P
 
 /// The numbers by which commands alone are checked, by the word of a profile: `tiny`, `tiny2`, or a file of TOML, which is a
 /// profile or has its tables of the timing and of the geometry and no other.
-pub fn rules_of<'a, R: Files + AllocGlobal>(
+pub fn rules_of<'a, R: FileHost + AllocGlobal>(
     rt: &R,
     word: &'a str,
 ) -> Result<CommandRules, Failure<'a>>
+    ensures named { IfOk result (NamesRules (R.gives rt.now) word.entry.now) }
     ensures ready { IsReadyWord word.entry.now
         → IfErr result (λ failure. IsOfNoFile failure.fault) }
     ensures file { IfErr result (λ failure. IsOfNoFile failure.fault
@@ -72,10 +118,11 @@ pub fn rules_of<'a, R: Files + AllocGlobal>(
 }
 
 /// The same for who asks what numbers mean: the fault itself says why a text has none.
-pub fn asked_numbers<'a, R: Files + AllocGlobal>(
+pub fn asked_numbers<'a, R: FileHost + AllocGlobal>(
     rt: &R,
     word: &'a str,
 ) -> Result<Numbers, Failure<'a>>
+    ensures named { IfOk result (NamesNumbers (R.gives rt.now) word.entry.now) }
     ensures file { IfErr result (λ failure. IsNoProfile failure.fault
         ⊎ IsOfFile word.entry failure.fault) }
 {
@@ -96,41 +143,12 @@ fn why_no_profile(alloc: Global, text: &[u8]) -> Result<String, AllocError> {
     reasons.join(alloc, "\n  ")
 }
 
-/// The first bytes of a file, or for - of standard input, up to so many.
-pub fn bytes_of<'a, R: Files + Input + AllocGlobal>(
-    rt: &R,
-    name: &'a str,
-    most: u64,
-) -> Result<Vec<u8>, Failure<'a>>
-    ensures { IfErr result (λ failure. IsOfFile name.entry failure.fault) }
-{
-    if name == "-" {
-        all_of(rt.alloc(), rt.reader(), most, name)
-    } else {
-        file_bytes(rt, name, most)
-    }
-}
-
 /// Is it a file that can be read again? A pipe can't.
 pub fn is_file<'a, R: Files>(rt: &R, name: &'a str) -> Result<bool, Failure<'a>>
     ensures { IfErr result (λ failure. IsOfFile name.entry failure.fault) }
 {
     match fs::metadata(rt, name) {
         Ok(found) => Ok(found.is_file()),
-        Err(error) => Err(Failure::of_file(name, &error)),
-    }
-}
-
-/// The first bytes of a file, up to so many.
-pub fn file_bytes<'a, R: Files + AllocGlobal>(
-    rt: &R,
-    name: &'a str,
-    most: u64,
-) -> Result<Vec<u8>, Failure<'a>>
-    ensures { IfErr result (λ failure. IsOfFile name.entry failure.fault) }
-{
-    match File::open(rt, name) {
-        Ok(file) => all_of(rt.alloc(), file, most, name),
         Err(error) => Err(Failure::of_file(name, &error)),
     }
 }

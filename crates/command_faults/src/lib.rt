@@ -7,4 +7,4 @@ mod files;
 
 pub use failure::{Failure, Reason};
 pub use fault::ProgramFault;
-pub use files::{asked_numbers, bytes_of, file_bytes, flush, is_file, profile_of, rules_of};
+pub use files::{FileHost, asked_numbers, flush, is_file, profile_of, rules_of};

@@ -1,5 +1,6 @@
-pub mod Stores
-pub mod Statuses
 pub mod BadLines
 pub mod Lives
+pub mod Statuses
+pub mod Stops
+pub mod Stores
 pub mod TermWords

@@ -1,5 +1,10 @@
+pub mod Check
+pub mod Crash
+pub mod Drawn
+pub mod Forms
 pub mod Help
 pub mod Lint
+pub mod Profile
 pub mod Store
 pub mod Verbs
 pub mod Whole

@@ -1,12 +1,12 @@
 -- What is told of the lines of a script, and why nothing is.
-use Rattle.std.specs.Prelude.{◌≡◌, ◌⊎◌, ◌↔◌, ℕ, List, [], Option, codes}
+use Rattle.std.specs.Prelude.{◌≡◌, ◌⊎◌, ◌↔◌, ℕ, List, [], Option}
 use Rattle.std.specs.Io.KnownBytes.{Appends}
 use Rattle.std.specs.Process.{exit_status}
 use Rattle.std.specs.declared.process.ExitCode.{ExitCode}
 use Rattle.clap.specs.declared.parser.matches.ArgMatches.{ArgMatches}
 use Rattle.command_faults.specs.Exit.{IsOfOutput}
 use Rattle.command_faults.specs.declared.fault.ProgramFault.{ProgramFault}
-use Rattle.command_line.specs.Verbs.{IsOfFileNamed, IsOfProfile, word_of}
+use Rattle.command_line.specs.Verbs.{IsUnread}
 use Rattle.ddr4_timing.specs.declared.timing.Geometry.{Geometry}
 use Rattle.script_report.specs.BadLines.{AreBadLines}
 use Rattle.script_report.specs.Reasons.{bad_lines_text}
@@ -21,5 +21,4 @@ pub record TellsBadLines (geometry : Geometry) (script : List ℕ) (code : ExitC
 
 -- why no line is told: the profile or the script that the words name can't be had, or the output takes no more
 abbrev pub IsUnlinted : ArgMatches → ProgramFault → Type 0
-IsUnlinted matches fault =
-    IsOfProfile (word_of matches (codes "PROFILE") (codes "tiny")) fault ⊎ IsOfFileNamed (word_of matches (codes "SCRIPT") (codes "-")) fault ⊎ IsOfOutput fault
+IsUnlinted matches fault = IsUnread matches fault ⊎ IsOfOutput fault

@@ -1,7 +1,9 @@
 -- Stores, by their size and by what they restore to, and how they are shown.
-use Rattle.std.specs.Prelude.{◌≡◌, ◌⊎◌, ℕ, Bool, true, false, List, [], ◌∷◌, length, replicate, if◌then◌else◌}
+use Rattle.std.specs.Prelude.{◌≡◌, ◌⊎◌, ◌↔◌, ℕ, Bool, true, false, List, [], ◌∷◌, length, replicate, if◌then◌else◌}
 use Rattle.std.specs.List.{flat_map, range_with_len}
+use Rattle.std.specs.Process.{exit_status}
 use Rattle.std.specs.Str.{bytes_eq}
+use Rattle.std.specs.declared.process.ExitCode.{ExitCode}
 use Rattle.line_memory.specs.Memory.{line_of}
 use Rattle.save_image.specs.Image.{Image}
 use Rattle.slot_store.specs.declared.restoring.RestoreError.{RestoreError}
@@ -11,6 +13,7 @@ use Rattle.slot_store.specs.Slots.{IsCapacity, device_size}
 use Rattle.slot_store.specs.Outcomes.{restored, verdict_of, Found}
 use Rattle.slot_store.specs.Told.{NamesOutcome}
 use Rattle.nv_script.specs.declared.answer.Answer.{Answer}
+use Rattle.store_file.specs.Stores.{device_in}
 use Rattle.nv_script.specs.declared.answer.Answer.TheVariants as answer
 
 -- a store of so many bytes holds images of so many lines
@@ -52,3 +55,16 @@ IsRefusalOf bytes error =
 abbrev pub TellsStore : List ℕ → Bool → List Answer → Type 0
 TellsStore bytes true answers = ShowsImage bytes answers
 TellsStore bytes false answers = (error : RestoreError) × IsRefusalOf bytes error × (answers ≡ answer.RestoreRefused error ∷ [])
+
+-- the device that a store has: all its bytes, or where a spare place stands behind those of a device, what an opening finds by it, if
+-- it finds one
+abbrev pub IsDeviceOf : List ℕ → List ℕ → Type 0
+IsDeviceOf store device = (device ≡ store) ⊎ ((size : ℕ) × (lines : ℕ) × IsStoreOf size lines × ((device ≡ device_in size store) ⊎ (device ≡ [])))
+
+-- the status is 0 exactly where the device of the store that is given for a word holds an image
+pub record ShowsNamed (gives : List ℕ → List ℕ → Type 0) (word : List ℕ) (code : ExitCode) : Type 0 where
+  pub store : List ℕ
+  pub of_store : gives word store
+  pub device : List ℕ
+  pub of_device : IsDeviceOf store device
+  pub status : (exit_status code ≡ 0) ↔ HoldsImage device

@@ -3,16 +3,18 @@ ghost use Rattle.std.specs.Prelude.{◌≡◌, ◌↔◌, [], Err, false, IfErr,
 ghost use Rattle.std.specs.Process.{exit_status};
 ghost use Rattle.command_trace.specs.Channels.{AreLawful, FollowsAll};
 ghost use Rattle.command_faults.specs.declared.fault.ProgramFault.TheVariants.{EmptyTrace};
+ghost use Rattle.command_line.specs.Check.{HasVerdict, HasVerdictBy, IsOfTrace, IsSourceNamed};
+ghost use Rattle.command_line.specs.Verbs.{profile_word};
 
-use crate::command::status_by;
+use crate::command::{status_by, word_or};
 use crate::forms::form_asked;
 use clap::ArgMatches;
-use command_faults::{Failure, ProgramFault, Reason, bytes_of, flush, is_file, rules_of};
+use command_faults::{Failure, FileHost, ProgramFault, Reason, flush, is_file, rules_of};
 use command_trace::{Form, Source, TraceCheck, TraceFault};
 use ddr4_timing::timing::CommandRules;
 use report_json::{write_tallies, write_verdicts};
 use std::alloc::Global;
-use std::io::{Input, Write};
+use std::io::Write;
 use std::process::ExitCode;
 use std::rt::Files;
 use trace_statistics::{measure, write_statistics};
@@ -25,17 +27,14 @@ pub(crate) fn check<'a, R, W>(
     writer: &mut W,
 ) -> Result<ExitCode, Failure<'a>>
 where
-    R: Files + Input + AllocGlobal,
+    R: Files + FileHost + AllocGlobal,
     W: Write,
+    ensures { IfOk result (HasVerdictBy (R.gives rt.now) (profile_word matches.now)) }
 {
-    let rules = rules_of(rt, matches.get_str("PROFILE").unwrap_or("tiny"))?;
+    let rules = rules_of(rt, word_or(matches, "PROFILE", "tiny"))?;
     let form = form_asked(rt.alloc(), matches)?;
-    let name = matches.get_str("TRACE").unwrap_or("-");
-    let source = if name != "-" && is_file(rt, name)? {
-        Source::File(name)
-    } else {
-        Source::Bytes(bytes_of(rt, name, u64::MAX)?)
-    };
+    let name = word_or(matches, "TRACE", "-");
+    let source = source_of(rt, name)?;
     let asked = Asked {
         form,
         others: matches.get_flag("answers"),
@@ -52,6 +51,16 @@ where
         }
         Err(fault) => Err(of_trace(rt.alloc(), name, fault)),
     }
+}
+
+// The trace of this name: a file that can be read again is read as it is checked, and all else before.
+fn source_of<'a, R: Files + FileHost>(rt: &R, name: &'a str) -> Result<Source<'a>, Failure<'a>>
+    ensures { IfOk result (IsSourceNamed (R.gives rt.now) name.entry.now) }
+{
+    if name != "-" && is_file(rt, name)? {
+        return Ok(Source::File(name));
+    }
+    Ok(Source::Bytes(rt.bytes_of(name, u64::MAX)?))
 }
 
 // What is asked of a check.
@@ -76,7 +85,9 @@ fn write_check<R: Files + AllocGlobal, W: Write>(
     asked: Asked,
     rules: &CommandRules,
     writer: &mut W,
-) -> Result<Result<ExitCode, Failure<'static>>, TraceFault> {
+) -> Result<Result<ExitCode, Failure<'static>>, TraceFault>
+    ensures { IfOk result (λ checked. IfOk checked (HasVerdict rules.now)) }
+{
     let form = match asked.form {
         Some(form) => form,
         None => source.form(rt, asked.others)?,
@@ -106,7 +117,10 @@ fn write_checked<R: Files + AllocGlobal, W: Write>(
     rules: &CommandRules,
     check: &TraceCheck,
     writer: &mut W,
-) -> Result<Result<ExitCode, Failure<'static>>, TraceFault> {
+) -> Result<Result<ExitCode, Failure<'static>>, TraceFault>
+    ensures { FollowsAll rules.now check.now
+        → IfOk result (λ checked. IfOk checked (HasVerdict rules.now)) }
+{
     match verdict(check, rules, asked.allows_empty) {
         Ok(code) => {
             if asked.all {
@@ -146,7 +160,9 @@ pub fn verdict(
 }
 
 /// Why a trace of this name isn't read.
-pub(crate) fn of_trace(alloc: Global, name: &str, fault: TraceFault) -> Failure<'_> {
+pub(crate) fn of_trace(alloc: Global, name: &str, fault: TraceFault) -> Failure<'_>
+    ensures { IsOfTrace name.now fault result.fault }
+{
     match fault {
         TraceFault::Line { line, why } => Failure {
             fault: ProgramFault::Trace(line),

@@ -18,7 +18,7 @@ use crate::script::answer;
 use crate::store::show;
 use clap::error::ErrorKind;
 use clap::{ArgMatches, Error as UsageError};
-use command_faults::{Failure, ProgramFault};
+use command_faults::{Failure, FileHost, ProgramFault};
 use command_help::known_terms;
 use command_words::parser;
 use live_store::Host;
@@ -56,7 +56,7 @@ pub fn run<'a, R, W>(
     writer: &mut W,
 ) -> Result<ExitCode, Failure<'a>>
 where
-    R: Files + Host + StoreHost + Input + Print + Eprint + Clock + AllocGlobal,
+    R: Files + FileHost + Host + StoreHost + Input + Print + Eprint + Clock + AllocGlobal,
     W: Write,
 {
     let parser = parser(rt.alloc(), VERSION)?;
@@ -83,7 +83,7 @@ fn done<'a, R, W>(
     writer: &mut W,
 ) -> Result<ExitCode, Failure<'a>>
 where
-    R: Files + Host + StoreHost + Input + Eprint + Clock + AllocGlobal,
+    R: Files + FileHost + Host + StoreHost + Input + Eprint + Clock + AllocGlobal,
     W: Write,
 {
     match verb {

@@ -1,17 +1,21 @@
 // What a crash may leave of a script, told.
-ghost use Rattle.std.specs.Prelude.{◌≡◌};
-ghost use Rattle.command_faults.specs.declared.fault.ProgramFault.TheVariants.{NoLine};
+ghost use Rattle.std.specs.Prelude.{◌≡◌, ℕ, List, IfOk, OnOk};
+ghost use Rattle.std.specs.Io.KnownBytes.{Appends};
+ghost use Rattle.std.specs.Process.{exit_status};
+ghost use Rattle.command_faults.specs.Named.{OfScriptNamed};
+ghost use Rattle.command_faults.specs.declared.fault.ProgramFault.TheVariants as fault;
+ghost use Rattle.command_line.specs.Crash.{IsCrashTold, IsCrashUntold, TellsCrash, TellsLine, TellsTable};
+ghost use Rattle.command_line.specs.Verbs.{profile_word, script_word};
 
+use crate::asked::{AskedScript, script_asked};
 use clap::ArgMatches;
-use command_faults::{Failure, ProgramFault, Reason, bytes_of, flush, profile_of};
-use crash_table::{AtStop, Counts, PICKS, Progress, Script, Trials};
-use nv_profile::Profile;
-use nv_script::{SCRIPT_BYTES, ScriptFault};
+use command_faults::{Failure, FileHost, ProgramFault, Reason, flush};
+use crash_table::{AtStop, Counts, PICKS, Progress, Script, Trials, Tried};
+use nv_script::ScriptFault;
 use report_json::{write_counts, write_stop, write_table};
-use std::alloc::Global;
-use std::io::{Eprint, Input, Write};
+use std::alloc::{AllocError, Global};
+use std::io::{Eprint, Write};
 use std::process::ExitCode;
-use std::rt::Files;
 use std::time::{Clock, Duration, Instant};
 
 // How it is told what a crash may leave.
@@ -88,6 +92,27 @@ fn seconds_left(passed: Duration, share: u64) -> u64 {
     whole.saturating_sub(passed.as_secs())
 }
 
+// Why it isn't told what a crash may leave.
+#[derive(Clone, Copy, Debug)]
+enum Untold {
+    /// The script isn't read, or its trials or the answers come to no end.
+    Script(ScriptFault),
+    /// No line of this number is run.
+    NoLine(u64),
+}
+
+impl From<ScriptFault> for Untold {
+    fn from(fault: ScriptFault) -> Untold {
+        Untold::Script(fault)
+    }
+}
+
+impl From<AllocError> for Untold {
+    fn from(_: AllocError) -> Untold {
+        Untold::Script(ScriptFault::Memory)
+    }
+}
+
 /// Tells what a crash may leave of the script that the words name, or of one of its lines.
 pub(crate) fn crash<'a, R, W>(
     rt: &R,
@@ -96,34 +121,63 @@ pub(crate) fn crash<'a, R, W>(
     writer: &mut W,
 ) -> Result<ExitCode, Failure<'a>>
 where
-    R: Files + Input + Eprint + Clock + AllocGlobal,
+    R: FileHost + Eprint + Clock + AllocGlobal,
     W: Write,
+    ensures { IfOk result (λ code. (exit_status code ≡ 0)
+        × OfScriptNamed (R.gives rt.now) (profile_word matches.now) (script_word matches.now)
+        (λ profile script. IsCrashTold profile script
+        (W.contents writer.old) (W.contents writer.new))) }
 {
-    let profile = profile_of(rt, matches.get_str("PROFILE").unwrap_or("tiny"))?;
-    let script = bytes_of(rt, matches.get_str("SCRIPT").unwrap_or("-"), SCRIPT_BYTES)?;
+    let asked = script_asked(rt, matches)?;
     let number = matches.get_one::<u64>("line");
     let form = Form {
         is_watched,
         is_json: matches.get_flag("json"),
     };
-    let told = match number {
-        Some(number) => write_line(rt.alloc(), form, &profile, &script, number, writer),
-        None => write_crash(rt, form, &profile, &script, writer).map(|()| true),
-    };
-    match told {
-        Ok(true) => flush(writer)?,
-        Ok(false) => return Err(no_line(number.unwrap_or(0))),
-        Err(fault) => {
-            let geometry = &profile.checked.geometry;
-            return Err(Failure::of_script(rt.alloc(), fault, &script, geometry));
+    match write_asked(rt, form, &asked, number, writer) {
+        Ok(()) => {
+            flush(writer)?;
+            Ok(ExitCode::SUCCESS)
         }
+        Err(untold) => Err(why_untold(rt.alloc(), &asked, untold)),
     }
-    Ok(ExitCode::SUCCESS)
+}
+
+// Writes what a crash may leave of a script, or of its line with a number.
+fn write_asked<R, W>(
+    rt: &R,
+    form: Form,
+    asked: &AskedScript,
+    number: Option<u64>,
+    writer: &mut W,
+) -> Result<(), Untold>
+where
+    R: Clock + Eprint + AllocGlobal,
+    W: Write,
+    ensures { OnOk result (TellsCrash asked.now.profile asked.now.script.items number form.is_json
+        (W.contents writer.old) (W.contents writer.new)) }
+{
+    match number {
+        Some(number) => write_line(rt.alloc(), form, asked, number, writer),
+        None => Ok(write_crash(rt, form, asked, writer)?),
+    }
+}
+
+// Why that isn't told, with the reason.
+fn why_untold<'a>(alloc: Global, asked: &AskedScript, untold: Untold) -> Failure<'a>
+    ensures { IsCrashUntold untold result.fault }
+{
+    match untold {
+        Untold::Script(fault) => {
+            Failure::of_script(alloc, fault, &asked.script, &asked.profile.checked.geometry)
+        }
+        Untold::NoLine(number) => no_line(number),
+    }
 }
 
 // No line of this number is run.
 fn no_line<'a>(number: u64) -> Failure<'a>
-    ensures { result.fault ≡ NoLine number }
+    ensures { result.fault ≡ fault.NoLine number }
 {
     Failure {
         fault: ProgramFault::NoLine(number),
@@ -137,40 +191,60 @@ fn no_line<'a>(number: u64) -> Failure<'a>
 fn write_crash<R, W>(
     rt: &R,
     form: Form,
-    profile: &Profile,
-    script: &[u8],
+    asked: &AskedScript,
     writer: &mut W,
 ) -> Result<(), ScriptFault>
 where
     R: Clock + Eprint + AllocGlobal,
     W: Write,
+    ensures { OnOk result (TellsTable asked.now.profile asked.now.script.items form.is_json
+        (W.contents writer.old) (W.contents writer.new)) }
 {
-    let script = Script::read(rt.alloc(), script, &profile.checked.geometry)?;
+    let script = Script::read(rt.alloc(), &asked.script, &asked.profile.checked.geometry)?;
     let mut watch = Watch::begin(rt, form.is_watched);
-    let table = Trials::new(rt.alloc(), profile).table(&script, &mut watch);
+    let tried = Trials::new(rt.alloc(), &asked.profile).table(&script, &mut watch);
     watch.end();
-    write_table(rt.alloc(), &table?, form.is_json, writer)
+    let table = tried?;
+    write_table(rt.alloc(), &table, form.is_json, writer)
 }
 
-// Writes what restores find at each stop of one line, by its number, and the counts. False where no such line is run.
+// Writes what restores find at each stop of one line, by its number, and the counts.
 fn write_line<W: Write>(
     alloc: Global,
     form: Form,
-    profile: &Profile,
-    script: &[u8],
+    asked: &AskedScript,
     number: u64,
     writer: &mut W,
-) -> Result<bool, ScriptFault> {
-    let script = Script::read(alloc, script, &profile.checked.geometry)?;
+) -> Result<(), Untold>
+    ensures { OnOk result (TellsLine asked.now.profile asked.now.script.items number form.is_json
+        (W.contents writer.old) (W.contents writer.new)) }
+{
+    let script = Script::read(alloc, &asked.script, &asked.profile.checked.geometry)?;
     let Some(place) = script.place(number) else {
-        return Ok(false);
+        return Err(Untold::NoLine(number));
     };
-    let tried = Trials::new(alloc, profile).tried(&script.lines[..place], script.lines[place])?;
+    let trials = Trials::new(alloc, &asked.profile);
+    let tried = trials.tried(&script.lines[..place], script.lines[place])?;
+    write_stops(alloc, number, &tried, form.is_json, writer)?;
+    write_counts(alloc, &Counts::of(&tried), form.is_json, writer)?;
+    Ok(())
+}
+
+// Writes what was found at each stop of a line, by its number.
+fn write_stops<W: Write>(
+    alloc: Global,
+    number: u64,
+    tried: &[Tried],
+    is_json: bool,
+    writer: &mut W,
+) -> Result<(), ScriptFault>
+    ensures { OnOk result ((stops : List ℕ)
+        × Appends (W.contents writer.old) (W.contents writer.new) stops) }
+{
     for at_stop in tried.chunks(PICKS.len()) {
         if let Some(told) = AtStop::of(alloc, number, at_stop)? {
-            write_stop(alloc, &told, form.is_json, writer)?;
+            write_stop(alloc, &told, is_json, writer)?;
         }
     }
-    write_counts(alloc, &Counts::of(&tried), form.is_json, writer)?;
-    Ok(true)
+    Ok(())
 }

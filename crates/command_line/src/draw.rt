@@ -1,9 +1,16 @@
 // A schedule drawn: of a trace, or of all commands of a script.
+ghost use Rattle.std.specs.Prelude.{◌≡◌, IfErr, IfOk, OnOk, codes};
+ghost use Rattle.std.specs.Process.{exit_status};
+ghost use Rattle.command_faults.specs.Exit.{IsOfFile};
+ghost use Rattle.command_line.specs.Drawn.{DrawsScript, DrawsScriptBy, DrawsSome, DrawsTraceBy, IsDrawnBy, IsRangeShown, IsScheduleNamed};
+ghost use Rattle.command_line.specs.Verbs.{profile_word, word_of};
+
 use crate::check::of_trace;
+use crate::command::word_or;
 use crate::forms::form_asked;
 use crate::whole::told_whole;
 use clap::ArgMatches;
-use command_faults::{Failure, ProgramFault, bytes_of, profile_of, rules_of};
+use command_faults::{Failure, FileHost, ProgramFault, profile_of, rules_of};
 use command_trace::{Form, TraceFault, TraceReader, form_of};
 use crash_table::Trials;
 use ddr4_timing::timing::CommandRules;
@@ -13,7 +20,7 @@ use schedule_drawing::{DrawFault, Schedule, told_schedule, trace_schedule, write
 use script_runner::CommandBook;
 use std::alloc::{AllocError, Global};
 use std::fs::File;
-use std::io::{BufWriter, Input, Write};
+use std::io::{BufWriter, Write};
 use std::process::ExitCode;
 use std::rt::Files;
 
@@ -31,14 +38,11 @@ pub(crate) fn draw<'a, R, W>(
     writer: &mut W,
 ) -> Result<ExitCode, Failure<'a>>
 where
-    R: Files + Input + AllocGlobal,
+    R: Files + FileHost + AllocGlobal,
     W: Write,
+    ensures { IfOk result (λ code. exit_status code ≡ 0) }
 {
-    let word = matches.get_str("PROFILE").unwrap_or("tiny");
-    let name = matches.get_str("SCHEDULE").unwrap_or("-");
-    let form = form_asked(rt.alloc(), matches)?;
-    let bytes = bytes_of(rt, name, u64::MAX)?;
-    let mut schedule = schedule_of(rt, word, name, form, &bytes)?;
+    let mut schedule = schedule_asked(rt, matches)?;
     show_range(rt.alloc(), matches, &mut schedule)?;
     if let Some(name) = matches.get_str("svg") {
         put_picture(rt, &schedule, PictureForm::Svg, name, writer)?;
@@ -49,12 +53,28 @@ where
     Ok(ExitCode::SUCCESS)
 }
 
+// The schedule that the words name.
+fn schedule_asked<'a, R: FileHost + AllocGlobal>(
+    rt: &R,
+    matches: &ArgMatches<'a>,
+) -> Result<Schedule, Failure<'a>>
+    ensures { IfOk result (IsScheduleNamed (R.gives rt.now) (profile_word matches.now)
+        (word_of matches.now (codes "SCHEDULE") (codes "-"))) }
+{
+    let form = form_asked(rt.alloc(), matches)?;
+    let name = word_or(matches, "SCHEDULE", "-");
+    let bytes = rt.bytes_of(name, u64::MAX)?;
+    schedule_of(rt, word_or(matches, "PROFILE", "tiny"), name, form, &bytes)
+}
+
 // Leaves of a schedule the clocks that the words name, where they name some.
 fn show_range(
     alloc: Global,
     matches: &ArgMatches<'_>,
     schedule: &mut Schedule,
-) -> Result<(), AllocError> {
+) -> Result<(), AllocError>
+    ensures { OnOk result (IsRangeShown schedule.old schedule.new) }
+{
     let first = matches.get_one::<u64>("from");
     let last = matches.get_one::<u64>("to");
     if first.is_none() && last.is_none() {
@@ -65,20 +85,47 @@ fn show_range(
 
 // The schedule of a trace or of a script. Where the words name no form, the first line of a trace that is neither empty nor a
 // comment begins with a digit or has a comma. A trace is drawn by the numbers for commands alone, a script by those of a profile.
-fn schedule_of<'a, R: Files + AllocGlobal>(
+fn schedule_of<'a, R: FileHost + AllocGlobal>(
     rt: &R,
     word: &'a str,
     name: &'a str,
     form: Option<Form>,
     bytes: &[u8],
-) -> Result<Schedule, Failure<'a>> {
+) -> Result<Schedule, Failure<'a>>
+    ensures { IfOk result (IsDrawnBy (R.gives rt.now) word.entry.now bytes.now) }
+{
     if form.is_some() || is_trace(bytes) {
-        let rules = rules_of(rt, word)?;
-        return match schedule_drawn(rt.alloc(), &rules, form, bytes) {
-            Ok(schedule) => Ok(schedule),
-            Err(fault) => Err(of_trace(rt.alloc(), name, fault)),
-        };
+        trace_drawn(rt, word, name, form, bytes)
+    } else {
+        script_drawn(rt, word, bytes)
     }
+}
+
+// That of a trace, by the rules of the profile's word.
+fn trace_drawn<'a, R: FileHost + AllocGlobal>(
+    rt: &R,
+    word: &'a str,
+    name: &'a str,
+    form: Option<Form>,
+    bytes: &[u8],
+) -> Result<Schedule, Failure<'a>>
+    ensures { IfOk result (DrawsTraceBy (R.gives rt.now) word.entry.now) }
+{
+    let rules = rules_of(rt, word)?;
+    match schedule_drawn(rt.alloc(), &rules, form, bytes) {
+        Ok(schedule) => Ok(schedule),
+        Err(fault) => Err(of_trace(rt.alloc(), name, fault)),
+    }
+}
+
+// That of a script, by the profile of its word.
+fn script_drawn<'a, R: FileHost + AllocGlobal>(
+    rt: &R,
+    word: &'a str,
+    bytes: &[u8],
+) -> Result<Schedule, Failure<'a>>
+    ensures { IfOk result (DrawsScriptBy (R.gives rt.now) word.entry.now bytes.now) }
+{
     let profile = profile_of(rt, word)?;
     match script_schedule(rt.alloc(), &profile, bytes) {
         Ok(schedule) => Ok(schedule),
@@ -104,7 +151,9 @@ fn schedule_drawn(
     rules: &CommandRules,
     form: Option<Form>,
     bytes: &[u8],
-) -> Result<Schedule, TraceFault> {
+) -> Result<Schedule, TraceFault>
+    ensures { IfOk result (DrawsSome rules.now) }
+{
     let form = match form {
         Some(form) => form,
         None => form_of(alloc, bytes, false)?,
@@ -113,11 +162,9 @@ fn schedule_drawn(
     trace_schedule(alloc, rules, &mut reader)
 }
 
-fn script_schedule(
-    alloc: Global,
-    profile: &Profile,
-    bytes: &[u8],
-) -> Result<Schedule, ScriptFault> {
+fn script_schedule(alloc: Global, profile: &Profile, bytes: &[u8]) -> Result<Schedule, ScriptFault>
+    ensures { IfOk result (DrawsScript profile.now bytes.now) }
+{
     let lines = read_script(alloc, bytes, &profile.checked.geometry)?;
     let mut book = CommandBook::open(alloc);
     let answers = Trials::new(alloc, profile).answers_kept(&lines, &mut book)?;
@@ -135,7 +182,9 @@ fn put_picture<'a, R: Files + AllocGlobal, W: Write>(
     picture: PictureForm,
     name: &'a str,
     writer: &mut W,
-) -> Result<(), Failure<'a>> {
+) -> Result<(), Failure<'a>>
+    ensures { IfErr result (λ failure. IsOfFile name.entry failure.fault) }
+{
     if name == "-" {
         return write_picture(rt.alloc(), schedule, picture, name, writer);
     }
@@ -156,7 +205,9 @@ fn write_picture<'a, W: Write>(
     picture: PictureForm,
     name: &'a str,
     writer: &mut W,
-) -> Result<(), Failure<'a>> {
+) -> Result<(), Failure<'a>>
+    ensures { IfErr result (λ failure. IsOfFile name.entry failure.fault) }
+{
     let written = match picture {
         PictureForm::Svg => write_svg(alloc, schedule, writer),
         PictureForm::Vcd => write_vcd(alloc, schedule, writer),

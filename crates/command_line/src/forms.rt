@@ -1,4 +1,9 @@
 // The form of a trace that the words name.
+ghost use Rattle.std.specs.Prelude.{◌≡◌, ◌⊎◌, IfErr, IfOk, codes};
+ghost use Rattle.clap.specs.Words.{first_value, found_of};
+ghost use Rattle.command_faults.specs.declared.fault.ProgramFault.TheVariants.{Columns, Memory};
+ghost use Rattle.command_line.specs.Forms.{IsFormAsked};
+
 use clap::ArgMatches;
 use command_faults::{Failure, ProgramFault, Reason};
 use command_trace::Form;
@@ -10,7 +15,12 @@ use trace_forms::{ForeignForm, FormFault};
 pub(crate) fn form_asked(
     alloc: Global,
     matches: &ArgMatches<'_>,
-) -> Result<Option<Form>, Failure<'static>> {
+) -> Result<Option<Form>, Failure<'static>>
+    ensures form { IfOk result (IsFormAsked (first_value (found_of matches.now) (codes "form"))
+        (first_value (found_of matches.now) (codes "columns"))) }
+    ensures fault { IfErr result (λ failure. (failure.fault ≡ Columns)
+        ⊎ (failure.fault ≡ Memory)) }
+{
     match (matches.get_str("form"), matches.get_str("columns")) {
         (None, None) => Ok(None),
         (Some(_), Some(_)) => Err(refused("--form or --columns is given, not both")),
@@ -29,7 +39,9 @@ pub(crate) fn form_asked(
     }
 }
 
-fn refused(reason: &'static str) -> Failure<'static> {
+fn refused(reason: &'static str) -> Failure<'static>
+    ensures { result.fault ≡ Columns }
+{
     Failure {
         fault: ProgramFault::Columns,
         reason: Some(Reason::Known(reason)),

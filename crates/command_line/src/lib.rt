@@ -3,6 +3,7 @@
 //! completions.
 #![tactic(auto)]
 
+mod asked;
 mod check;
 mod command;
 mod crash;

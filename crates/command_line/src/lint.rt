@@ -1,20 +1,20 @@
 // The bad lines of a script, told.
-ghost use Rattle.std.specs.Prelude.{◌≡◌, ◌⊎◌, ℕ, List, IfErr, IfOk};
+ghost use Rattle.std.specs.Prelude.{◌≡◌, ◌⊎◌, IfErr, IfOk};
 ghost use Rattle.command_faults.specs.Exit.{IsOfOutput};
+ghost use Rattle.command_faults.specs.Named.{OfScriptNamed};
 ghost use Rattle.command_faults.specs.declared.fault.ProgramFault.TheVariants.{Memory};
 ghost use Rattle.command_line.specs.Lint.{IsUnlinted, TellsBadLines};
-ghost use Rattle.ddr4_timing.specs.declared.timing.Geometry.{Geometry};
+ghost use Rattle.command_line.specs.Verbs.{profile_word, script_word};
 
-use crate::command::{status_by, word_or};
+use crate::asked::script_asked;
+use crate::command::status_by;
 use clap::ArgMatches;
-use command_faults::{Failure, ProgramFault, bytes_of, flush, profile_of};
+use command_faults::{Failure, FileHost, ProgramFault, flush};
 use ddr4_timing::timing::Geometry;
-use nv_script::SCRIPT_BYTES;
 use script_report::{bad_lines, tell_bad_lines};
 use std::alloc::Global;
-use std::io::{Input, Write};
+use std::io::Write;
 use std::process::ExitCode;
-use std::rt::Files;
 
 /// Tells the bad lines of the script that the words name. The exit status is 1 where there is one.
 pub(crate) fn lint<'a, R, W>(
@@ -23,15 +23,16 @@ pub(crate) fn lint<'a, R, W>(
     writer: &mut W,
 ) -> Result<ExitCode, Failure<'a>>
 where
-    R: Files + Input + AllocGlobal,
+    R: FileHost + AllocGlobal,
     W: Write,
-    ensures told { IfOk result (λ code. (geometry : Geometry) × (script : List ℕ)
-        × TellsBadLines geometry script code (W.contents writer.old) (W.contents writer.new)) }
+    ensures told { IfOk result (λ code. OfScriptNamed (R.gives rt.now) (profile_word matches.now)
+        (script_word matches.now) (λ profile script. TellsBadLines profile.checked.geometry
+        script code (W.contents writer.old) (W.contents writer.new))) }
     ensures untold { IfErr result (λ failure. IsUnlinted matches.now failure.fault) }
 {
-    let profile = profile_of(rt, word_or(matches, "PROFILE", "tiny"))?;
-    let script = bytes_of(rt, word_or(matches, "SCRIPT", "-"), SCRIPT_BYTES)?;
-    let code = write_bad_lines(rt.alloc(), &profile.checked.geometry, &script, writer)?;
+    let asked = script_asked(rt, matches)?;
+    let geometry = &asked.profile.checked.geometry;
+    let code = write_bad_lines(rt.alloc(), geometry, &asked.script, writer)?;
     flush(writer)?;
     Ok(code)
 }

@@ -5,12 +5,11 @@ ghost use Rattle.command_faults.specs.Exit.{status_of};
 
 use crate::command::word_or;
 use clap::ArgMatches;
-use command_faults::Failure;
+use command_faults::{Failure, FileHost};
 use live_command::{LiveWords, live_named};
 use live_store::Host;
 use std::io::{Input, Write};
 use std::process::ExitCode;
-use std::rt::Files;
 
 /// Lives on the file that the words name, until standard input ends.
 pub(crate) fn live<'a, R, W>(
@@ -19,7 +18,7 @@ pub(crate) fn live<'a, R, W>(
     writer: &mut W,
 ) -> Result<ExitCode, Failure<'a>>
 where
-    R: Files + Host + Input + AllocGlobal,
+    R: FileHost + Host + Input + AllocGlobal,
     W: Write,
     ensures ended { IfOk result (λ code. exit_status code ≡ 0) }
     ensures fault { IfErr result (λ failure. status_of failure.fault ≡ 1) }

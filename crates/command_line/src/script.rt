@@ -1,8 +1,13 @@
 // A script, run.
+ghost use Rattle.std.specs.Prelude.{◌≡◌, IfOk};
+ghost use Rattle.std.specs.Process.{exit_status};
+ghost use Rattle.command_line.specs.Verbs.{profile_word, script_word};
+
+use crate::command::word_or;
 use clap::ArgMatches;
-use command_faults::{Failure, ProgramFault};
+use command_faults::{Failure, FileHost, ProgramFault};
 use run_command::{RunWords, StoreWord, run_named};
-use std::io::{Input, Write};
+use std::io::Write;
 use std::process::ExitCode;
 use std::rt::Files;
 use store_file::StoreHost;
@@ -14,19 +19,27 @@ pub(crate) fn answer<'a, R, W>(
     writer: &mut W,
 ) -> Result<ExitCode, Failure<'a>>
 where
-    R: Files + StoreHost + Input + AllocGlobal,
+    R: Files + FileHost + StoreHost + AllocGlobal,
     W: Write,
+    ensures { IfOk result (λ code. exit_status code ≡ 0) }
 {
-    let words = RunWords {
-        profile: matches.get_str("PROFILE").unwrap_or("tiny"),
-        script: matches.get_str("SCRIPT").unwrap_or("-"),
+    run_named(rt, words_asked(matches)?, writer)?;
+    Ok(ExitCode::SUCCESS)
+}
+
+// What the words of a run name.
+fn words_asked<'a>(matches: &ArgMatches<'a>) -> Result<RunWords<'a>, ProgramFault<'static>>
+    ensures profile { IfOk result (λ words. words.profile.now ≡ profile_word matches.now) }
+    ensures script { IfOk result (λ words. words.script.now ≡ script_word matches.now) }
+{
+    Ok(RunWords {
+        profile: word_or(matches, "PROFILE", "tiny"),
+        script: word_or(matches, "SCRIPT", "-"),
         store: store_word(matches)?,
         is_json: matches.get_flag("json"),
         stats: matches.get_flag("stats"),
         commands: matches.get_str("commands"),
-    };
-    run_named(rt, words, writer)?;
-    Ok(ExitCode::SUCCESS)
+    })
 }
 
 // The file of the run's store, which one of two words may name.

@@ -1,12 +1,13 @@
 // A store, the bytes of a device, and how it is shown.
-ghost use Rattle.std.specs.Prelude.{◌≡◌, ◌↔◌, ◌++◌, List, length, IfOk, IfSome, IsNone, IsTrue, OnOk};
+ghost use Rattle.std.specs.Prelude.{◌≡◌, ◌↔◌, ◌++◌, List, length, IfOk, IfSome, IsNone, IsTrue, OnOk, codes};
 ghost use Rattle.nv_script.specs.declared.answer.Answer.{Answer};
 ghost use Rattle.slot_store.specs.Slots.{IsCapacity, device_size};
-ghost use Rattle.command_line.specs.Store.{IsStoreOf, HasNoLines, HoldsImage, TellsStore, content_of, shown_lines};
+ghost use Rattle.command_line.specs.Store.{IsDeviceOf, IsStoreOf, HasNoLines, HoldsImage, ShowsNamed, TellsStore, content_of, shown_lines};
+ghost use Rattle.command_line.specs.Verbs.{word_of};
 
-use crate::command::status_by;
+use crate::command::{status_by, word_or};
 use clap::ArgMatches;
-use command_faults::{Failure, file_bytes, flush};
+use command_faults::{Failure, FileHost, flush};
 use line_memory::Line;
 use nv_script::{Answer, ScriptFault};
 use run_command::AnswerPrinter;
@@ -17,7 +18,6 @@ use slot_store::{MOST_LINES, RestoreError, device_size, restore};
 use std::alloc::Global;
 use std::io;
 use std::process::ExitCode;
-use std::rt::Files;
 use store_file::{SPARE_PLACE, device_bytes};
 
 /// No device has more bytes.
@@ -100,21 +100,25 @@ pub fn answer_store<R: Report>(
     Ok(true)
 }
 
-/// Writes what `answer_store` reports, each answer as a line.
+/// Writes what `answer_store` reports, each answer as a line, of JSON if it is to be.
 pub fn show_store<W: io::Write>(
     alloc: Global,
     store: Vec<u8>,
+    is_json: bool,
     writer: &mut W,
 ) -> Result<bool, ScriptFault>
     ensures holds { IfOk result (λ shown. IsTrue shown ↔ HoldsImage store.items) }
     ensures tells { IfOk result (λ shown. (answers : List Answer)
         × TellsStore store.items shown answers) }
 {
-    answer_store(alloc, store, &mut AnswerPrinter::new(alloc, false, writer))
+    let mut printer = AnswerPrinter::new(alloc, is_json, writer);
+    answer_store(alloc, store, &mut printer)
 }
 
 // The bytes of a store's device. A store of no length that one has stays as it is.
-fn device_of(alloc: Global, store: Vec<u8>) -> Vec<u8> {
+fn device_of(alloc: Global, store: Vec<u8>) -> Vec<u8>
+    ensures { IsDeviceOf store.items result.items }
+{
     let Some(size) = store.len().checked_sub(SPARE_PLACE) else {
         return store;
     };
@@ -134,19 +138,16 @@ pub(crate) fn show<'a, R, W>(
     writer: &mut W,
 ) -> Result<ExitCode, Failure<'a>>
 where
-    R: Files + AllocGlobal,
+    R: FileHost + AllocGlobal,
     W: io::Write,
+    ensures { IfOk result (ShowsNamed (R.gives rt.now)
+        (word_of matches.now (codes "STORE") (codes "-"))) }
 {
     // one byte more than a store may have
     let most = STORE_BYTES + SPARE_PLACE as u64 + 1;
-    let store = file_bytes(rt, matches.get_str("STORE").unwrap_or("-"), most)?;
-    let store = device_of(rt.alloc(), store);
-    let found = if matches.get_flag("json") {
-        let mut printer = AnswerPrinter::new(rt.alloc(), true, writer);
-        answer_store(rt.alloc(), store, &mut printer)?
-    } else {
-        show_store(rt.alloc(), store, writer)?
-    };
+    let store = rt.file_bytes(word_or(matches, "STORE", "-"), most)?;
+    let device = device_of(rt.alloc(), store);
+    let found = show_store(rt.alloc(), device, matches.get_flag("json"), writer)?;
     flush(writer)?;
     Ok(status_by(found))
 }

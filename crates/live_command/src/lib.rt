@@ -1,15 +1,15 @@
 //! The command `live`: a life on a file, of which standard input asks line by line.
 #![tactic(auto)]
 
-ghost use Rattle.std.specs.Prelude.{◌≡◌, IfErr};
+ghost use Rattle.std.specs.Prelude.{◌≡◌, IfErr, OnOk};
 ghost use Rattle.command_faults.specs.Exit.{status_of};
+ghost use Rattle.command_faults.specs.Named.{HasProfile};
 ghost use Rattle.live_command.specs.Faults.{IsFaultOf, IsOfStore};
 
-use command_faults::{Failure, ProgramFault, profile_of};
+use command_faults::{Failure, FileHost, ProgramFault, profile_of};
 use live_store::{Host, LiveFault, TalkFault, live};
 use std::alloc::Global;
 use std::io::{Input, Write};
-use std::rt::Files;
 
 /// What the words of a life name.
 #[derive(Clone, Copy, Drop)]
@@ -23,9 +23,10 @@ pub struct LiveWords<'a> {
 /// Lives on the file that the words name, with the answers to a writer, until standard input ends.
 pub fn live_named<'a, R, W>(rt: &R, words: LiveWords<'a>, writer: &mut W) -> Result<(), Failure<'a>>
 where
-    R: Files + Host + Input + AllocGlobal,
+    R: FileHost + Host + Input + AllocGlobal,
     W: Write,
-    ensures { IfErr result (λ failure. status_of failure.fault ≡ 1) }
+    ensures named { OnOk result (HasProfile (R.gives rt.now) words.entry.profile.now) }
+    ensures status { IfErr result (λ failure. status_of failure.fault ≡ 1) }
 {
     let profile = profile_of(rt, words.profile)?;
     match live(rt, &profile, words.store, writer) {

@@ -10,7 +10,7 @@ use crate::printer::AnswerPrinter;
 use crate::requests::waits_of_lives;
 use crate::statistics::write_statistics;
 use crate::stored::{StoredFault, bytes_of_device, run_on_store};
-use command_faults::{Failure, ProgramFault, bytes_of, flush, profile_of};
+use command_faults::{Failure, FileHost, ProgramFault, flush, profile_of};
 use file_device::OpenFault;
 use interleave_map::{Interleaving, ReadyMap};
 use nv_profile::Profile;
@@ -18,7 +18,7 @@ use nv_script::{Answer, SCRIPT_BYTES, read_script};
 use save_device::MemoryDevice;
 use script_runner::CommandBook;
 use std::alloc::Global;
-use std::io::{ErrorKind, Input, Write};
+use std::io::{ErrorKind, Write};
 use std::rt::Files;
 use store_file::{StoreHost, leave_file};
 
@@ -52,7 +52,7 @@ pub struct RunWords<'a> {
 /// or for commands are refused with nothing written.
 pub fn run_named<'a, R, W>(rt: &R, words: RunWords<'a>, writer: &mut W) -> Result<(), Failure<'a>>
 where
-    R: Files + StoreHost + Input + AllocGlobal,
+    R: Files + FileHost + StoreHost + AllocGlobal,
     W: Write,
     ensures refused { NamesNoStore words.entry ⊎ NamesNoCommands words.entry
         → (writer.new ≡ writer.old)
@@ -72,12 +72,12 @@ where
 // The same, with words that name files for all that is to be written.
 fn run_allowed<'a, R, W>(rt: &R, words: RunWords<'a>, writer: &mut W) -> Result<(), Failure<'a>>
 where
-    R: Files + StoreHost + Input + AllocGlobal,
+    R: Files + FileHost + StoreHost + AllocGlobal,
     W: Write,
 {
     let profile = profile_of(rt, words.profile)?;
     // as far as a good script can need them
-    let script = bytes_of(rt, words.script, SCRIPT_BYTES)?;
+    let script = rt.bytes_of(words.script, SCRIPT_BYTES)?;
     let mut book = book_for(rt.alloc(), words);
     let answers = run_words(rt, &profile, &script, words, writer, &mut book)?;
     if !keeps_commands(words) {

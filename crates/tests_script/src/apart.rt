@@ -132,6 +132,23 @@ stops 36, acknowledged writes missing: with Complete 0, with PossibleLoss 2
     ),
 ];
 
+// The stops of line 6 as objects.
+const MISSING_OBJECTS: &str =
+    r#"{"answer":"stop","calls":0,"line":6,"outcomes":[{"acknowledged":2,"answer":"outcome","held":1,"restore":{"answer":"restored","count":1,"generation":2,"verdict":"PossibleLoss"},"times":18}],"stop":"dark"}
+{"answer":"stop","line":6,"outcomes":[{"acknowledged":2,"answer":"outcome","held":2,"restore":{"answer":"restored","count":2,"generation":3,"verdict":"Complete"},"times":18}],"stop":"loss"}
+{"answer":"stops","missing_with_complete":0,"missing_with_possible_loss":1,"stops":36}
+"#;
+
+#[test]
+fn missing_writes_as_objects(rt: HostRuntime) {
+    let place = place(&rt, process::id(rt.process()));
+    let place = place.as_str();
+    make(&rt, place, "%armed", ARMED);
+    let words = ["crash", "tiny", "%armed", "--line", "6", "--json"];
+    ends(&rt, place, &words, ExitCode::SUCCESS, "", MISSING_OBJECTS);
+    remove(&rt, place, "%armed");
+}
+
 #[test]
 fn acknowledged_writes_that_are_missing(rt: HostRuntime) {
     let place = place(&rt, process::id(rt.process()));
@@ -141,6 +158,38 @@ fn acknowledged_writes_that_are_missing(rt: HostRuntime) {
         let words = ["crash", "tiny", "%armed", "--line", line];
         ends(&rt, place, &words, ExitCode::SUCCESS, "", text);
     }
+    remove(&rt, place, "%armed");
+}
+
+// The same script with its first armed write alone. Of eighteen picks two leave the arm byte clear behind the first of the two
+// device calls that arm, and from the second call on it is set.
+const ARMED_ONCE: &[u8] = b"format\nwrite 5 a5\nsave\nsense 9000\narm\nwrite 0 11\n";
+
+const TABLE: &str = "lines 1 to 2
+      72 generation 1, writes 0, Complete, acknowledged 0 of 0
+line 3
+     143 generation 1, writes 0, Complete, acknowledged 0 of 0
+       1 generation 2, writes 1, Complete, acknowledged 0 of 0
+      36 generation 2, writes 1, Complete, acknowledged 1 of 1
+line 4
+      36 generation 2, writes 1, Complete, acknowledged 1 of 1
+line 5
+      20 generation 2, writes 1, Complete, acknowledged 1 of 1
+      34 generation 2, writes 1, PossibleLoss, acknowledged 1 of 1
+      18 generation 3, writes 1, Complete, acknowledged 1 of 1
+line 6
+      18 generation 2, writes 1, PossibleLoss, acknowledged 1 of 2
+      18 generation 3, writes 2, Complete, acknowledged 2 of 2
+stops 396, acknowledged writes missing: with Complete 0, with PossibleLoss 1
+";
+
+#[test]
+fn a_table_with_a_missing_write(rt: HostRuntime) {
+    let place = place(&rt, process::id(rt.process()));
+    let place = place.as_str();
+    make(&rt, place, "%armed", ARMED_ONCE);
+    let words = ["crash", "tiny", "%armed"];
+    ends(&rt, place, &words, ExitCode::SUCCESS, "", TABLE);
     remove(&rt, place, "%armed");
 }
 

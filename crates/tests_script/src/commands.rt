@@ -27,8 +27,8 @@ fn count(text: &str, begin: &str) -> usize {
 // Fails where a check of a trace doesn't find each of its commands, and all of them lawful.
 fn is_lawful<R>(rt: &R, place: &str, name: &str)
 where
-    R: Abort + Files + live_store::Host + store_file::StoreHost + std::io::Input,
-    R: std::io::Print + std::io::Eprint + std::time::Clock + AllocGlobal,
+    R: Abort + Files + command_faults::FileHost + live_store::Host + store_file::StoreHost,
+    R: std::io::Input + std::io::Print + std::io::Eprint + std::time::Clock + AllocGlobal,
 {
     let text = lines_of(rt, place, name);
     let (first, second) = (count(&text, "0 "), count(&text, "1 "));

@@ -86,8 +86,8 @@ const GOOD: [Good; 5] = [
 // Draws a schedule in a form. It fails where the picture doesn't begin so, or where a part stands in it less or more often.
 fn is_drawn<R>(rt: &R, place: &str, words: &[&str; 5], first: &str, parts: &[(&str, usize)])
 where
-    R: Abort + Files + live_store::Host + store_file::StoreHost + std::io::Input,
-    R: std::io::Print + std::io::Eprint + std::time::Clock + AllocGlobal,
+    R: Abort + Files + command_faults::FileHost + live_store::Host + store_file::StoreHost,
+    R: std::io::Input + std::io::Print + std::io::Eprint + std::time::Clock + AllocGlobal,
 {
     ends(rt, place, words, ExitCode::SUCCESS, "", "");
     let file = named(rt, place, "%picture");
@@ -100,18 +100,65 @@ where
     remove(rt, place, "%picture");
 }
 
+// Draws a schedule in both forms.
+fn are_drawn<R>(rt: &R, place: &str, good: &Good)
+where
+    R: Abort + Files + command_faults::FileHost + live_store::Host + store_file::StoreHost,
+    R: std::io::Input + std::io::Print + std::io::Eprint + std::time::Clock + AllocGlobal,
+{
+    make(rt, place, good.name, good.bytes);
+    let words = ["draw", "tiny", good.name, "--svg", "%picture"];
+    is_drawn(rt, place, &words, "<svg", good.svg);
+    let words = ["draw", "tiny", good.name, "--vcd", "%picture"];
+    is_drawn(rt, place, &words, "$comment", good.vcd);
+    remove(rt, place, good.name);
+}
+
 #[test]
 fn schedules_that_are_drawn(rt: HostRuntime) {
     let place = place(&rt, process::id(rt.process()));
-    let place = place.as_str();
     for good in GOOD {
-        make(&rt, place, good.name, good.bytes);
-        let words = ["draw", "tiny", good.name, "--svg", "%picture"];
-        is_drawn(&rt, place, &words, "<svg", good.svg);
-        let words = ["draw", "tiny", good.name, "--vcd", "%picture"];
-        is_drawn(&rt, place, &words, "$comment", good.vcd);
-        remove(&rt, place, good.name);
+        are_drawn(&rt, place.as_str(), &good);
     }
+}
+
+// What a script's last line answers: a loss that saves, whose drain ends with each rank asleep. A WR stands there twice, with its data.
+const LOST: Good = Good {
+    name: "%lost",
+    bytes: b"format\nsense 9000\narm\nwrite 0 11\nlose\n",
+    svg: &[
+        (">level 9000 disarmed</text>", 1),
+        (">armed</text>", 1),
+        (">lost saved 2 1</text>", 1),
+        (">mains lost</text>", 1),
+        (">WR</text>", 2),
+        (">SRE</text>", 2),
+    ],
+    vcd: &[("sWR ", 2), ("sSRE ", 2)],
+};
+
+#[test]
+fn a_loss_that_is_drawn(rt: HostRuntime) {
+    let place = place(&rt, process::id(rt.process()));
+    are_drawn(&rt, place.as_str(), &LOST);
+}
+
+// The same of a fault of the device.
+const FAULT: Good = Good {
+    name: "%faults",
+    bytes: b"format\nfuse 0\nsave\n",
+    svg: &[
+        (">formatted</text>", 1),
+        (">fault save</text>", 1),
+        ("<line class=\"life\"", 0),
+    ],
+    vcd: &[("sACT ", 0)],
+};
+
+#[test]
+fn a_fault_that_is_drawn(rt: HostRuntime) {
+    let place = place(&rt, process::id(rt.process()));
+    are_drawn(&rt, place.as_str(), &FAULT);
 }
 
 const BAD: [(&[u8], &str); 14] = [

@@ -1,6 +1,6 @@
 // The program's words, faults and exit status.
 use crate::check::same;
-use command_faults::{Failure, ProgramFault, profile_of};
+use command_faults::{Failure, FileHost, ProgramFault, profile_of};
 use command_line::run;
 use interleave_map::Interleaving;
 use live_store::Host;
@@ -22,7 +22,7 @@ pub(crate) fn outcome<R, W>(
     writer: &mut W,
 ) -> (ExitCode, String)
 where
-    R: Abort + Files + Host + StoreHost + Input + Print + Eprint + Clock + AllocGlobal,
+    R: Abort + Files + FileHost + Host + StoreHost + Input + Print + Eprint + Clock + AllocGlobal,
     W: Write,
 {
     let mut given = Vec::new(rt.alloc());
@@ -53,7 +53,7 @@ fn shown<R: Abort + AllocGlobal>(rt: &R, fault: &ProgramFault<'_>) -> String {
 // begin the names of a test's own files by a %, which stands for their place.
 pub(crate) fn ends<R>(rt: &R, place: &str, words: &[&str], code: ExitCode, line: &str, text: &str)
 where
-    R: Abort + Files + Host + StoreHost + Input + Print + Eprint + Clock + AllocGlobal,
+    R: Abort + Files + FileHost + Host + StoreHost + Input + Print + Eprint + Clock + AllocGlobal,
 {
     let mut written = Vec::new(rt.alloc());
     let (found, told) = outcome(rt, place, words, &mut written);
@@ -601,7 +601,7 @@ fn texts_of_faults(rt: HostRuntime) {
 }
 
 // Fails where the profile of a word hasn't this map, or isn't refused with this text.
-fn has_map<R: Abort + Files + AllocGlobal>(rt: &R, word: &str, wanted: &str) {
+fn has_map<R: Abort + FileHost + AllocGlobal>(rt: &R, word: &str, wanted: &str) {
     let found = match profile_of(rt, word) {
         Ok(profile) => profile.map.to_string(rt.alloc()).expect(rt, "memory"),
         Err(failure) => shown(rt, &failure.fault),
@@ -612,7 +612,7 @@ fn has_map<R: Abort + Files + AllocGlobal>(rt: &R, word: &str, wanted: &str) {
 // The same of a file with these bytes.
 fn file_has_map<R>(rt: &R, place: &str, name: &str, bytes: &[u8], wanted: &str)
 where
-    R: Abort + Files + AllocGlobal,
+    R: Abort + Files + FileHost + AllocGlobal,
 {
     make(rt, place, name, bytes);
     has_map(rt, named(rt, place, name).as_str(), wanted);

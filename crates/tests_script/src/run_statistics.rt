@@ -78,7 +78,7 @@ fn numbers<R: Abort + AllocGlobal>(rt: &R, waits: &[u64]) -> Option<(u64, u64, u
 // Fails where the words don't end well with this text.
 fn tells<R>(rt: &R, place: &str, words: &[&str], text: &str)
 where
-    R: Abort + Files + live_store::Host + store_file::StoreHost + Input,
+    R: Abort + Files + command_faults::FileHost + live_store::Host + store_file::StoreHost + Input,
     R: Print + Eprint + std::time::Clock + AllocGlobal,
 {
     ends(rt, place, words, ExitCode::SUCCESS, "", text);

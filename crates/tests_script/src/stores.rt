@@ -52,7 +52,7 @@ where
     R: Abort + AllocGlobal,
 {
     let mut shown = Vec::new(rt.alloc());
-    let answer = show_store(rt.alloc(), store, &mut shown);
+    let answer = show_store(rt.alloc(), store, false, &mut shown);
     same(
         rt,
         (case, answer, shown.as_slice()),

@@ -2,7 +2,8 @@
 // The expected texts are worked out by hand.
 use crate::apart::eight_channels;
 use crate::check::same;
-use crate::program::{ends, make, outcome, place, remove};
+use crate::program::{ends, make, named, outcome, place, remove};
+use std::fs;
 use std::process::{self, ExitCode};
 
 // Armed, and then line 200 is written, which lies on eight channels alone.
@@ -49,6 +50,27 @@ fn bad_lines_over_the_profile_that_is_named(rt: HostRuntime) {
     ends(&rt, place, &words, ExitCode::FAILURE, "", bad);
     remove(&rt, place, "%wide");
     remove(&rt, place, "%work");
+}
+
+// A channel that eight channels alone have is worked.
+const WORKED: &[u8] = b"format\nwrite 5 a5\nwork 5 1\n";
+
+#[test]
+fn a_script_drawn_over_the_profile_that_is_named(rt: HostRuntime) {
+    let place = place(&rt, process::id(rt.process()));
+    let place = place.as_str();
+    make(&rt, place, "%wide", eight_channels(&rt).as_bytes());
+    make(&rt, place, "%work", WORKED);
+    let words = ["draw", "%wide", "%work", "--vcd", "%picture"];
+    ends(&rt, place, &words, ExitCode::SUCCESS, "", "");
+    let file = named(&rt, place, "%picture");
+    let picture = fs::read_to_string(&rt, file.as_str()).expect(&rt, "a picture");
+    same(&rt, picture.contains("$scope module channel_5 $end"), true);
+    let words = ["draw", "tiny", "%work", "--vcd", "%none"];
+    ends(&rt, place, &words, ExitCode::FAILURE, "script line 3", "");
+    for name in ["%wide", "%work", "%picture"] {
+        remove(&rt, place, name);
+    }
 }
 
 // How the completions of each shell begin.
