@@ -7,6 +7,7 @@ use Rattle.std.proofs.lemmas.Grind.{flat_map-append}
 use Rattle.std.proofs.lemmas.List.Folds.{flat_map-map}
 use Rattle.std.proofs.lemmas.List.FromFn.{map-range_with_len_more}
 use Rattle.line_memory.specs.Memory.{IsMemory, line_of}
+use Rattle.line_memory.specs.declared.line.TheConstants.{LINE_BYTES}
 use Rattle.slot_store.specs.declared.restoring.RestoreError.{RestoreError}
 use Rattle.slot_store.specs.declared.restoring.Restored.{Restored}
 use Rattle.slot_store.specs.declared.restoring.Verdict.{Verdict}
@@ -19,10 +20,10 @@ use Rattle.command_line.specs.Store.{IsStoreOf, IsRefusalOf, ShowsImage, TellsSt
 abbrev shown_if : ℕ → List ℕ → Bool → List Answer
 shown_if line bytes zero = if zero then [] else answer.Content line bytes ∷ []
 
-pub zero_unshown : (line : ℕ) (bytes : List ℕ) → bytes_eq bytes (replicate 64 0) ≡ true → content_of line bytes ≡ []
+pub zero_unshown : (line : ℕ) (bytes : List ℕ) → bytes_eq bytes (replicate LINE_BYTES 0) ≡ true → content_of line bytes ≡ []
 zero_unshown line bytes zero = ap (shown_if line bytes) zero
 
-pub other_shown : (line : ℕ) (bytes : List ℕ) → bytes_eq bytes (replicate 64 0) ≡ false → content_of line bytes ≡ answer.Content line bytes ∷ []
+pub other_shown : (line : ℕ) (bytes : List ℕ) → bytes_eq bytes (replicate LINE_BYTES 0) ≡ false → content_of line bytes ≡ answer.Content line bytes ∷ []
 other_shown line bytes other = ap (shown_if line bytes) other
 
 shown_lines_grow : (memory : List (List ℕ)) (line : ℕ) → shown_lines memory (line + 1) ≡ shown_lines memory line ++ content_of line (line_of memory line)

@@ -5,6 +5,7 @@ use Rattle.std.specs.Process.{exit_status}
 use Rattle.std.specs.Str.{bytes_eq}
 use Rattle.std.specs.declared.process.ExitCode.{ExitCode}
 use Rattle.line_memory.specs.Memory.{line_of}
+use Rattle.line_memory.specs.declared.line.TheConstants.{LINE_BYTES}
 use Rattle.save_image.specs.Image.{Image}
 use Rattle.slot_store.specs.declared.restoring.RestoreError.{RestoreError}
 use Rattle.slot_store.specs.declared.restoring.RestoreError.TheVariants as errors
@@ -13,8 +14,8 @@ use Rattle.slot_store.specs.Slots.{IsCapacity, device_size}
 use Rattle.slot_store.specs.Outcomes.{restored, verdict_of, Found}
 use Rattle.slot_store.specs.Told.{NamesOutcome}
 use Rattle.nv_script.specs.declared.answer.Answer.{Answer}
-use Rattle.store_file.specs.Stores.{device_in}
 use Rattle.nv_script.specs.declared.answer.Answer.TheVariants as answer
+use Rattle.store_file.specs.Stores.{device_in}
 
 -- a store of so many bytes holds images of so many lines
 abbrev pub IsStoreOf : ℕ → ℕ → Type 0
@@ -31,7 +32,7 @@ HoldsImage bytes = (lines : ℕ) × (slot : Slot) × (image : Image)
 
 -- a line is shown by its bytes, unless they are all zero
 abbrev pub content_of : ℕ → List ℕ → List Answer
-content_of line bytes = if bytes_eq bytes (replicate 64 0) then [] else answer.Content line bytes ∷ []
+content_of line bytes = if bytes_eq bytes (replicate LINE_BYTES 0) then [] else answer.Content line bytes ∷ []
 
 -- what is shown of the first lines of a memory, so many
 abbrev pub shown_lines : List (List ℕ) → ℕ → List Answer

@@ -8,7 +8,7 @@ ghost use Rattle.command_line.specs.Verbs.{word_of};
 use crate::command::{status_by, word_or};
 use clap::ArgMatches;
 use command_faults::{Failure, FileHost, flush};
-use line_memory::Line;
+use line_memory::{LINE_BYTES, Line};
 use nv_script::{Answer, ScriptFault};
 use run_command::AnswerPrinter;
 use save_device::MemoryDevice;
@@ -44,7 +44,7 @@ fn answer_content<R: Report>(line: u64, bytes: &Line, report: &mut R) -> Result<
     ensures { OnOk result
         (R.answers report.new ≡ R.answers report.old ++ content_of line bytes.now) }
 {
-    if *bytes == [0; 64] {
+    if *bytes == [0; LINE_BYTES] {
         return Ok(());
     }
     report.answer(Answer::Content {
