@@ -1,4 +1,5 @@
 pub mod BadLines
+pub mod Devices
 pub mod Lives
 pub mod Statuses
 pub mod Stops

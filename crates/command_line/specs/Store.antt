@@ -1,5 +1,5 @@
 -- Stores, by their size and by what they restore to, and how they are shown.
-use Rattle.std.specs.Prelude.{◌≡◌, ◌⊎◌, ◌↔◌, ℕ, Bool, true, false, List, [], ◌∷◌, length, replicate, if◌then◌else◌}
+use Rattle.std.specs.Prelude.{◌≡◌, ◌⊎◌, ◌↔◌, ℕ, ◌+◌, Bool, true, false, List, [], ◌∷◌, length, replicate, if◌then◌else◌}
 use Rattle.std.specs.List.{flat_map, range_with_len}
 use Rattle.std.specs.Process.{exit_status}
 use Rattle.std.specs.Str.{bytes_eq}
@@ -15,6 +15,7 @@ use Rattle.slot_store.specs.Outcomes.{restored, verdict_of, Found}
 use Rattle.slot_store.specs.Told.{NamesOutcome}
 use Rattle.nv_script.specs.declared.answer.Answer.{Answer}
 use Rattle.nv_script.specs.declared.answer.Answer.TheVariants as answer
+use Rattle.sector_device.specs.Spare.{spare_size}
 use Rattle.store_file.specs.Stores.{device_in}
 
 -- a store of so many bytes holds images of so many lines
@@ -57,10 +58,15 @@ abbrev pub TellsStore : List ℕ → Bool → List Answer → Type 0
 TellsStore bytes true answers = ShowsImage bytes answers
 TellsStore bytes false answers = (error : RestoreError) × IsRefusalOf bytes error × (answers ≡ answer.RestoreRefused error ∷ [])
 
--- the device that a store has: all its bytes, or where a spare place stands behind those of a device, what an opening finds by it, if
--- it finds one
-abbrev pub IsDeviceOf : List ℕ → List ℕ → Type 0
-IsDeviceOf store device = (device ≡ store) ⊎ ((size : ℕ) × (lines : ℕ) × IsStoreOf size lines × ((device ≡ device_in size store) ⊎ (device ≡ [])))
+-- a spare place stands behind the bytes of a device, so many
+abbrev pub HasSpare : ℕ → List ℕ → Type 0
+HasSpare size store = length store ≡ size + spare_size
+
+-- The device that a store has: where a spare place stands behind those of a device, what an opening finds by it, if it finds one, and
+-- else all its bytes.
+pub record IsDeviceOf (store device : List ℕ) : Type 0 where
+  pub spare : (size lines : ℕ) → IsStoreOf size lines → HasSpare size store → (device ≡ device_in size store) ⊎ (device ≡ [])
+  pub bare : ((size : ℕ) → HasSpare size store → HasNoLines size) → device ≡ store
 
 -- the status is 0 exactly where the device of the store that is given for a word holds an image
 pub record ShowsNamed (gives : List ℕ → List ℕ → Type 0) (word : List ℕ) (code : ExitCode) : Type 0 where
