@@ -4,6 +4,7 @@ pub mod Drawn
 pub mod Forms
 pub mod Help
 pub mod Lint
+pub mod Outlets
 pub mod Profile
 pub mod Store
 pub mod Verbs

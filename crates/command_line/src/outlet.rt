@@ -1,5 +1,8 @@
 // Standard output that may be closed by its reader.
-ghost use Rattle.std.specs.Prelude.{◌≡◌};
+ghost use Rattle.std.specs.Prelude.{◌≡◌, false};
+ghost use Rattle.std.specs.Io.{WritesAtMost};
+ghost use Rattle.std.specs.Io.KnownBytes.{Keeps, WriteAppends};
+ghost use Rattle.command_line.specs.Outlets.{IsNoted, IsNotedOf};
 
 use std::io::{self, ErrorKind, Write};
 
@@ -12,7 +15,10 @@ pub struct Outlet<W> {
 
 impl<W: Write> Outlet<W> {
     /// Around a writer.
-    pub fn new(inner: W) -> Outlet<W> {
+    pub fn new(inner: W) -> Outlet<W>
+        ensures inner { result.inner ≡ inner }
+        ensures open { result.is_closed ≡ false }
+    {
         Outlet {
             inner,
             is_closed: false,
@@ -20,12 +26,15 @@ impl<W: Write> Outlet<W> {
     }
 
     /// Was a write refused for that?
-    pub fn is_closed(&self) -> bool {
+    pub fn is_closed(&self) -> bool
+        ensures { result ≡ self.now.is_closed }
+    {
         self.is_closed
     }
 
     fn note(&mut self, error: &io::Error)
-        ensures { self.new.inner ≡ self.old.inner }
+        ensures inner { self.new.inner ≡ self.old.inner }
+        ensures noted { IsNoted error.now self.old.is_closed self.new.is_closed }
     {
         if error.kind() == ErrorKind::BrokenPipe {
             self.is_closed = true;
@@ -36,7 +45,12 @@ impl<W: Write> Outlet<W> {
 impl<W: Write> Write for Outlet<W> {
     ghost contents = { λ outlet. W.contents outlet.inner };
 
-    fn write(&mut self, buf: &[u8]) -> io::Result<usize> {
+    fn write(&mut self, buf: &[u8]) -> io::Result<usize>
+        ensures bound { WritesAtMost result buf.now }
+        ensures bytes { WriteAppends (W.contents self.old.inner) (W.contents self.new.inner)
+            result buf.now }
+        ensures noted { IsNotedOf result self.old.is_closed self.new.is_closed }
+    {
         match self.inner.write(buf) {
             Ok(count) => Ok(count),
             Err(error) => {
@@ -46,7 +60,10 @@ impl<W: Write> Write for Outlet<W> {
         }
     }
 
-    fn flush(&mut self) -> io::Result<()> {
+    fn flush(&mut self) -> io::Result<()>
+        ensures bytes { Keeps (W.contents self.old.inner) (W.contents self.new.inner) }
+        ensures noted { IsNotedOf result self.old.is_closed self.new.is_closed }
+    {
         match self.inner.flush() {
             Ok(()) => Ok(()),
             Err(error) => {

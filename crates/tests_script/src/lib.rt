@@ -19,6 +19,8 @@ mod foreign;
 #[cfg(test)]
 mod kept;
 #[cfg(test)]
+mod outlets;
+#[cfg(test)]
 mod program;
 #[cfg(test)]
 mod run_statistics;
