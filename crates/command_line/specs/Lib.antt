@@ -1,5 +1,6 @@
 pub mod Check
 pub mod Crash
+pub mod Done
 pub mod Drawn
 pub mod Forms
 pub mod Help

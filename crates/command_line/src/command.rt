@@ -5,6 +5,7 @@ ghost use Rattle.clap.specs.Words.{kind_of};
 ghost use Rattle.clap.specs.declared.error.kind.ErrorKind.TheVariants.{DisplayHelp, DisplayVersion};
 ghost use Rattle.command_faults.specs.Exit.{IsOfOutput, IsOfWords};
 ghost use Rattle.command_faults.specs.declared.fault.ProgramFault.TheVariants.{Memory};
+ghost use Rattle.command_line.specs.Done.{IsDone};
 ghost use Rattle.command_line.specs.Verbs.{word_of};
 
 use crate::check::check;
@@ -85,6 +86,8 @@ fn done<'a, R, W>(
 where
     R: Files + FileHost + Host + StoreHost + Input + Eprint + Clock + AllocGlobal,
     W: Write,
+    ensures { IfOk result (λ code. IsDone (R.gives rt.now) verb.now matches.now code
+        (W.contents writer.old) (W.contents writer.new)) }
 {
     match verb {
         "run" => answer(rt, matches, writer),
