@@ -1,4 +1,4 @@
-use Rattle.std.proofs.Common.{List, ℕ, get_or, subst, take}
+use Rattle.std.proofs.Common.{List, ℕ, subst, take}
 use Rattle.std.proofs.KnownBytes.{Appends-trans}
 use Rattle.crash_table.specs.Counting.{IsCountOf}
 use Rattle.crash_table.specs.Outcomes.{AreTried}
