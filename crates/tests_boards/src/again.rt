@@ -4,6 +4,7 @@ ghost use Rattle.ddr4_boards.specs.Naming.{IsNamed};
 ghost use Rattle.split_board.specs.Starting.{IsBoardOf};
 
 use crate::check::{AMPLE, opened, same, tiny, write_of};
+use crate::quiet::{Left, left_in};
 use crate::silent::Silent;
 use board_desk::BoardPort;
 use channel_locks::PartsName;
@@ -48,7 +49,7 @@ where
 }
 
 // Goes on with a life at a board of its module: a line of the first board is read, others are written, and the receipts of both
-// boards are borne out.
+// boards are borne out. No board issues a command as it begins or as it ends: each channel has an ACT and four WR left.
 fn live_on<K, D, E, B, R>(
     rt: &R,
     alloc: Global,
@@ -99,6 +100,8 @@ where
         (checked, recorded.running.accepted()),
         (EACH + EACH + 1, EACH + EACH),
     );
+    let RecordedModule { mut running, .. } = recorded;
+    same(rt, left_in(&mut running), Left { zero: 5, one: 5 });
 }
 
 // Begins a life at a board, closes that one, and goes on at another one.

@@ -153,6 +153,32 @@ where
     );
 }
 
+/// A loss of mains while armed asks its gate for each of the two channels, turn by turn, also for one on which nothing waits.
+pub(crate) fn lose_by_a_gate<K, D, E, B, N, R>(
+    rt: &R,
+    board: &Board<K, D, E, B, N>,
+    host: &mut Host<B>,
+)
+where
+    K: ChannelPort + Drop + Send,
+    D: SaveDevice + Drop,
+    E: Energy + Drop,
+    B: BoardName + PartsName + Send,
+    N: Notices,
+    R: Threads + Wait + Abort + Sync,
+{
+    same(rt, board.arm(rt), Ok(ArmReply::Armed));
+    let receipt = first_receipt(0);
+    same(rt, board.write(rt, host, write_of(0, 11)), Ok(receipt));
+    let saved = Loss::Saved {
+        generation: 2,
+        count: 1,
+    };
+    let held = EachTurn::new(Turn::Hold, 2);
+    same(rt, board.power_loss(rt, &held), saved);
+    same(rt, held.asked(), 2 * 3);
+}
+
 /// A loss of mains while disarmed.
 pub(crate) fn lose_disarmed<K, D, E, B, N, R>(rt: &R, board: &Board<K, D, E, B, N>)
 where

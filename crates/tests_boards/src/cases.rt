@@ -3,7 +3,8 @@ ghost use Rattle.std.specs.Prelude.{◌≡◌, ℕ};
 ghost use Rattle.ddr4_boards.specs.Naming.{IsNamed};
 
 use crate::alone::{
-    end_workers, lose_armed, lose_disarmed, save_by_hand, work_by_turns, write_disarmed,
+    end_workers, lose_armed, lose_by_a_gate, lose_disarmed, save_by_hand, work_by_turns,
+    write_disarmed,
 };
 use crate::check::{AMPLE, CHANNELS, opened, tiny};
 use crate::claims::{end_seen, wait_side_by_side};
@@ -36,6 +37,7 @@ use std::time::Clock;
 #[derive(Clone, Copy)]
 enum Calls {
     Armed,
+    Gated,
     Modes,
     Turns,
     Workers,
@@ -117,6 +119,7 @@ where
     let host = &mut hosts.as_mut_slice()[0];
     match calls {
         Calls::Armed => lose_armed(rt, &board, host),
+        Calls::Gated => lose_by_a_gate(rt, &board, host),
         Calls::Modes => save_by_hand(rt, &board, host),
         Calls::Turns => work_by_turns(rt, &board, host),
         Calls::Workers => end_workers(rt, &board, host),
@@ -264,6 +267,11 @@ fn a_disarmed_write_and_its_notice(rt: HostRuntime) {
 #[test]
 fn an_armed_write_and_a_loss(rt: HostRuntime) {
     try_case(&rt, rt.alloc(), Case::Called(Calls::Armed));
+}
+
+#[test]
+fn a_loss_asks_its_gate_for_each_channel(rt: HostRuntime) {
+    try_case(&rt, rt.alloc(), Case::Called(Calls::Gated));
 }
 
 #[test]

@@ -50,12 +50,17 @@ impl EachTurn {
         }
     }
 
+    /// How often it was asked, by all workers.
+    pub(crate) fn asked(&self) -> u64 {
+        self.asked.load(Ordering::SeqCst)
+    }
+
     /// How often it was asked, if the turns were 0, 1, 2 and so on.
     pub(crate) fn asked_in_order(&self) -> Option<u64> {
         if self.astray.load(Ordering::SeqCst) {
             return None;
         }
-        Some(self.asked.load(Ordering::SeqCst))
+        Some(self.asked())
     }
 }
 

@@ -58,6 +58,13 @@ fn next_on<K: ChannelPort>(running: &mut Module<K>, channel: u64) -> Option<u64>
     Some(done.command.clock)
 }
 
+/// How many commands the two channels of a module have left to issue.
+pub(crate) fn left_in<K: ChannelPort>(running: &mut Module<K>) -> Left {
+    let zero = left_on(running, 0);
+    let one = left_on(running, 1);
+    Left { zero, one }
+}
+
 /// Reads a line that waits for its commands, and then writes it.
 pub(crate) fn read_and_write<K, D, E, B, N, R>(
     rt: &R,
@@ -114,9 +121,7 @@ where
         panic!(*rt; "a stranger");
     };
     let RecordedModule { mut running, .. } = recorded;
-    let zero = left_on(&mut running, 0);
-    let one = left_on(&mut running, 1);
-    same(rt, Left { zero, one }, wanted);
+    same(rt, left_in(&mut running), wanted);
 }
 
 /// A write on each channel, and then the calls of a whole module, a saver, a read and a worker that is held: none issues a command.
