@@ -49,3 +49,7 @@ IsRangeShown whole shown = (shown ≡ whole) ⊎ ((first : ℕ) × (last : ℕ) 
 -- and the text is what is given for its own word
 abbrev pub IsScheduleNamed : (List ℕ → List ℕ → Type 0) → List ℕ → List ℕ → Schedule → Type 0
 IsScheduleNamed gives profile_word word schedule = (text : List ℕ) × gives word text × IsDrawnBy gives profile_word text schedule
+
+-- a schedule is had by these words
+abbrev pub HasSchedule : (List ℕ → List ℕ → Type 0) → List ℕ → List ℕ → Type 0
+HasSchedule gives profile_word word = (schedule : Schedule) × IsScheduleNamed gives profile_word word schedule

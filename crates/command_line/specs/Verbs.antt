@@ -10,12 +10,15 @@ use Rattle.command_faults.specs.declared.fault.ProgramFault.TheVariants.{File, M
 abbrev pub word_of : ArgMatches → List ℕ → List ℕ → List ℕ
 word_of matches name other = unwrap_or (first_value (found_of matches) name) other
 
--- the word of a verb for its profile, and that for its script
+-- the word of a verb for its profile, that for its script, and that for what is drawn
 abbrev pub profile_word : ArgMatches → List ℕ
 profile_word matches = word_of matches (codes "PROFILE") (codes "tiny")
 
 abbrev pub script_word : ArgMatches → List ℕ
 script_word matches = word_of matches (codes "SCRIPT") (codes "-")
+
+abbrev pub schedule_word : ArgMatches → List ℕ
+schedule_word matches = word_of matches (codes "SCHEDULE") (codes "-")
 
 -- the file of this name can't be read or written
 abbrev pub IsOfFileNamed : List ℕ → ProgramFault → Type 0

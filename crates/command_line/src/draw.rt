@@ -1,9 +1,9 @@
 // A schedule drawn: of a trace, or of all commands of a script.
-ghost use Rattle.std.specs.Prelude.{◌≡◌, IfErr, IfOk, OnOk, codes};
+ghost use Rattle.std.specs.Prelude.{◌≡◌, IfErr, IfOk, OnOk};
 ghost use Rattle.std.specs.Process.{exit_status};
 ghost use Rattle.command_faults.specs.Exit.{IsOfFile};
-ghost use Rattle.command_line.specs.Drawn.{DrawsScript, DrawsScriptBy, DrawsSome, DrawsTraceBy, IsDrawnBy, IsRangeShown, IsScheduleNamed};
-ghost use Rattle.command_line.specs.Verbs.{profile_word, word_of};
+ghost use Rattle.command_line.specs.Drawn.{DrawsScript, DrawsScriptBy, DrawsSome, DrawsTraceBy, HasSchedule, IsDrawnBy, IsRangeShown, IsScheduleNamed};
+ghost use Rattle.command_line.specs.Verbs.{profile_word, schedule_word};
 
 use crate::check::of_trace;
 use crate::command::word_or;
@@ -40,7 +40,8 @@ pub(crate) fn draw<'a, R, W>(
 where
     R: Files + FileHost + AllocGlobal,
     W: Write,
-    ensures { IfOk result (λ code. exit_status code ≡ 0) }
+    ensures { IfOk result (λ code. (exit_status code ≡ 0) × HasSchedule (R.gives rt.now)
+        (profile_word matches.now) (schedule_word matches.now)) }
 {
     let mut schedule = schedule_asked(rt, matches)?;
     show_range(rt.alloc(), matches, &mut schedule)?;
@@ -59,7 +60,7 @@ fn schedule_asked<'a, R: FileHost + AllocGlobal>(
     matches: &ArgMatches<'a>,
 ) -> Result<Schedule, Failure<'a>>
     ensures { IfOk result (IsScheduleNamed (R.gives rt.now) (profile_word matches.now)
-        (word_of matches.now (codes "SCHEDULE") (codes "-"))) }
+        (schedule_word matches.now)) }
 {
     let form = form_asked(rt.alloc(), matches)?;
     let name = word_or(matches, "SCHEDULE", "-");

@@ -2,6 +2,8 @@
 ghost use Rattle.std.specs.Prelude.{◌≡◌, IfErr, IfOk};
 ghost use Rattle.std.specs.Process.{exit_status};
 ghost use Rattle.command_faults.specs.Exit.{status_of};
+ghost use Rattle.command_faults.specs.Named.{HasProfile};
+ghost use Rattle.command_line.specs.Verbs.{profile_word};
 
 use crate::command::word_or;
 use clap::ArgMatches;
@@ -21,6 +23,7 @@ where
     R: FileHost + Host + Input + AllocGlobal,
     W: Write,
     ensures ended { IfOk result (λ code. exit_status code ≡ 0) }
+    ensures named { IfOk result (λ code. HasProfile (R.gives rt.now) (profile_word matches.now)) }
     ensures fault { IfErr result (λ failure. status_of failure.fault ≡ 1) }
 {
     let words = LiveWords {
