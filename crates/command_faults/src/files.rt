@@ -137,9 +137,12 @@ pub fn asked_numbers<'a, R: FileHost + AllocGlobal>(
     }
 }
 
-// Why a text is no profile, each reason a line.
+// Why a text is no profile, each reason a line. There is none of a text by which commands alone are checked.
 fn why_no_profile(alloc: Global, text: &[u8]) -> Result<String, AllocError> {
     let reasons = reasons(alloc, text)?;
+    if reasons.is_empty() {
+        return String::from_str(alloc, "no module: no tables costs and module");
+    }
     reasons.join(alloc, "\n  ")
 }
 

@@ -3,6 +3,7 @@
 use crate::apart::eight_channels;
 use crate::check::same;
 use crate::program::{ends, make, named, outcome, place, remove};
+use nv_profile::TINY;
 use std::fs;
 use std::process::{self, ExitCode};
 
@@ -50,6 +51,26 @@ fn bad_lines_over_the_profile_that_is_named(rt: HostRuntime) {
     ends(&rt, place, &words, ExitCode::FAILURE, "", bad);
     remove(&rt, place, "%wide");
     remove(&rt, place, "%work");
+}
+
+// The tables of the timing and of the geometry are those of commands alone: a trace is checked by them, and no module is made.
+#[test]
+fn no_module_of_two_tables(rt: HostRuntime) {
+    let place = place(&rt, process::id(rt.process()));
+    let place = place.as_str();
+    let (two, _others) = TINY.split_once("[costs]").expect(&rt, "four tables");
+    make(&rt, place, "%two", two.as_bytes());
+    make(&rt, place, "%none", b"");
+    for verb in ["run", "lint", "crash"] {
+        let words = [verb, "%two", "%none", "--why"];
+        let line = "profile\nno module: no tables costs and module";
+        ends(&rt, place, &words, ExitCode::FAILURE, line, "");
+    }
+    let words = ["check", "%two", "%none", "--allow-empty"];
+    let lawful = "0 lawful 0\n1 lawful 0\n";
+    ends(&rt, place, &words, ExitCode::SUCCESS, "", lawful);
+    remove(&rt, place, "%two");
+    remove(&rt, place, "%none");
 }
 
 // A channel that eight channels alone have is worked.
