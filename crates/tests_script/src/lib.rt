@@ -19,7 +19,11 @@ mod foreign;
 #[cfg(test)]
 mod kept;
 #[cfg(test)]
+mod objects;
+#[cfg(test)]
 mod outlets;
+#[cfg(test)]
+mod profiles;
 #[cfg(test)]
 mod program;
 #[cfg(test)]
@@ -33,4 +37,8 @@ mod statistics;
 #[cfg(test)]
 mod stores;
 #[cfg(test)]
+mod verbs;
+#[cfg(test)]
 mod wider;
+#[cfg(test)]
+mod words;
