@@ -81,13 +81,17 @@ s- c2
 0f0
 ";
 
+// A schedule as VCD.
+fn values(alloc: Global, schedule: &Schedule) -> anyhow::Result<String> {
+    let mut written = Vec::new(alloc);
+    write_vcd(alloc, schedule, &mut written)?;
+    Ok(String::from_utf8_lossy(alloc, &written)?)
+}
+
 #[test]
 fn changes_of_values(rt: HostRuntime) -> Result<(), Fail> {
     let schedule = schedule(rt.alloc(), SHORT)?;
-    let mut written = Vec::new(rt.alloc());
-    write_vcd(rt.alloc(), &schedule, &mut written)?;
-    let text = String::from_utf8_lossy(rt.alloc(), &written)?;
-    assert_eq!(rt; text.as_str(), SHORT_VCD);
+    assert_eq!(rt; values(rt.alloc(), &schedule)?.as_str(), SHORT_VCD);
     Ok(())
 }
 
@@ -115,9 +119,10 @@ const CLOSING: &str = "0 0 ACT 0 1 2 1
 
 #[test]
 fn shapes_with_auto_precharge(rt: HostRuntime) -> Result<(), Fail> {
+    let drawn = schedule(rt.alloc(), CLOSING)?;
     has(
         &rt,
-        &schedule(rt.alloc(), CLOSING)?,
+        &drawn,
         &[
             ("<line class=\"mark\"", 4),
             (">ACT</text>", 2),
@@ -126,6 +131,9 @@ fn shapes_with_auto_precharge(rt: HostRuntime) -> Result<(), Fail> {
             ("<rect class=\"flaw\"", 0),
         ],
     )?;
+    // the least clock that tRAS allows
+    let precharge = "#39\n0o1\nbx r1\nsPRE c2\n";
+    assert!(rt; values(rt.alloc(), &drawn)?.contains(precharge));
     let early = CLOSING.replace(rt.alloc(), "0 55", "0 54")?;
     match schedule(rt.alloc(), &early) {
         Ok(_) => assert!(rt; false),

@@ -84,6 +84,37 @@ fn a_run(rt: HostRuntime) -> Result<(), Fail> {
     tells(&rt, "0 1 SRE 0", "lawful 1")
 }
 
+// Twenty digits may fit 64 bits and may not.
+#[test]
+fn long_numbers(rt: HostRuntime) -> Result<(), Fail> {
+    tells(&rt, "0 00000000000000009360 REF 0", "lawful 1")?;
+    for (line, wanted) in [
+        (
+            "0 9223372036854775807 RD 0 0 0 18446744073709551615",
+            "fault 2, RD wants a place of the geometry; line 1: 9223372036854775807 RD 0 0 0 18446744073709551615",
+        ),
+        (
+            "0 0 RD 0 0 0 9999999999999999999",
+            "fault 2, RD wants a place of the geometry; line 1: 0 RD 0 0 0 9999999999999999999",
+        ),
+    ] {
+        tells(&rt, line, wanted)?;
+    }
+    for line in [
+        "0 0 RD 0 0 0 18446744073709551616",
+        "0 0 RD 0 0 0 99999999999999999999",
+        "0 0 RD 0 0 0 000000000000000000x1",
+        "0 0 RD 0 0 0 00000000000000000x1",
+    ] {
+        why(
+            &rt,
+            line,
+            "1: the column is a number: decimal digits that fit 64 bits",
+        )?;
+    }
+    Ok(())
+}
+
 // Why a line is no command, in a trace of one channel.
 fn why<R: Abort + AllocGlobal>(rt: &R, text: &str, wanted: &str) -> Result<(), Fail> {
     let form = form_of(rt.alloc(), text.as_bytes(), false)?;
