@@ -1,5 +1,6 @@
 -- Which device a store has.
-use Rattle.std.proofs.Common.{◌≡◌, ◌⊎◌, ℕ, List, [], Option, None, Some, IfSome, true, is_some, arith, refl, subst}
+use Rattle.std.proofs.Common.{◌≡◌, ℕ, List, Option, None, Some, IfSome, true, is_some, arith, refl, subst}
+use Rattle.sector_device.specs.Backing.{HasSectors}
 use Rattle.store_file.specs.Stores.{device_in}
 use Rattle.command_line.specs.Store.{HasNoLines, HasSpare, IsDeviceOf, IsStoreOf}
 
@@ -13,11 +14,15 @@ bare_device store size at none = record {
 }
 
 pub spare_device : (store device : List ℕ) (size lines : ℕ) → HasSpare size store → IsStoreOf size lines
-    → (device ≡ device_in size store) ⊎ (device ≡ []) → IsDeviceOf store device
+    → device ≡ device_in size store → IsDeviceOf store device
 spare_device store device size lines at is found = record {
-  spare = λ other _ _ second. subst (λ (n : ℕ). (device ≡ device_in n store) ⊎ (device ≡ [])) (same_size store size other at second) found;
+  spare = λ other _ _ second. subst (λ (n : ℕ). device ≡ device_in n store) (same_size store size other at second) found;
   bare = λ none. absurd (none size at lines is);
 }
+
+-- a store's device has whole sectors
+pub whole_sectors : (size lines : ℕ) → IsStoreOf size lines → HasSectors size
+whole_sectors size lines is = omega (arith, is.0.whole, is.1)
 
 pub some_lines : (size : ℕ) (lines : Option ℕ) → IfSome lines (IsStoreOf size) → is_some lines ≡ true → (n : ℕ) × IsStoreOf size n
 some_lines size (Some n) is some = (n, is)

@@ -62,10 +62,9 @@ TellsStore bytes false answers = (error : RestoreError) × IsRefusalOf bytes err
 abbrev pub HasSpare : ℕ → List ℕ → Type 0
 HasSpare size store = length store ≡ size + spare_size
 
--- The device that a store has: where a spare place stands behind those of a device, what an opening finds by it, if it finds one, and
--- else all its bytes.
+-- The device that a store has: where a spare place stands behind those of a device, what an opening finds by it, and else all its bytes.
 pub record IsDeviceOf (store device : List ℕ) : Type 0 where
-  pub spare : (size lines : ℕ) → IsStoreOf size lines → HasSpare size store → (device ≡ device_in size store) ⊎ (device ≡ [])
+  pub spare : (size lines : ℕ) → IsStoreOf size lines → HasSpare size store → device ≡ device_in size store
   pub bare : ((size : ℕ) → HasSpare size store → HasNoLines size) → device ≡ store
 
 -- the status is 0 exactly where the device of the store that is given for a word holds an image

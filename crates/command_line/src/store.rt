@@ -116,7 +116,7 @@ pub fn show_store<W: io::Write>(
 }
 
 // The bytes of a store's device. A store of no length that one has stays as it is.
-fn device_of(alloc: Global, store: Vec<u8>) -> Vec<u8>
+fn device_of(store: Vec<u8>) -> Vec<u8>
     ensures { IsDeviceOf store.items result.items }
 {
     let Some(size) = store.len().checked_sub(SPARE_PLACE) else {
@@ -125,10 +125,10 @@ fn device_of(alloc: Global, store: Vec<u8>) -> Vec<u8>
     if lines_of(size).is_none() {
         return store;
     }
-    match device_bytes(store, size) {
-        Some(device) => device,
-        None => Vec::new(alloc),
-    }
+    let Some(device) = device_bytes(store, size) else {
+        unreachable!();
+    };
+    device
 }
 
 /// Shows the store in the file that the words name; the exit status is 1 where nothing is restored from it.
@@ -146,7 +146,7 @@ where
     // one byte more than a store may have
     let most = STORE_BYTES + SPARE_PLACE as u64 + 1;
     let store = rt.file_bytes(word_or(matches, "STORE", "-"), most)?;
-    let device = device_of(rt.alloc(), store);
+    let device = device_of(store);
     let found = show_store(rt.alloc(), device, matches.get_flag("json"), writer)?;
     flush(writer)?;
     Ok(status_by(found))
