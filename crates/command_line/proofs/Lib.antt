@@ -1,7 +1,10 @@
 pub mod BadLines
 pub mod Devices
+pub mod Lints
 pub mod Lives
 pub mod Statuses
 pub mod Stops
 pub mod Stores
 pub mod TermWords
+pub mod Told
+pub mod Unread
