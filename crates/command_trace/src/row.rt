@@ -95,7 +95,8 @@ impl Row<'_> {
     // Its command, where its channel is there and its clock is one that a check takes.
     #[inline(always)]
     fn taken(&self, entry: ChannelCommand, closes: bool) -> Result<Option<Located>, TraceFault>
-        ensures { IfOk result (λ found. IfSome found (λ l. FitsChannels self.now.channels l.entry)) }
+        ensures { IfOk result (λ found. IfSome found (λ l.
+            FitsChannels self.now.channels l.entry)) }
     {
         if entry.channel >= self.channels {
             return Err(self.refused(NoCommand::Channel {
@@ -122,7 +123,8 @@ impl Row<'_> {
         clock: u64,
         numbers: &[u64; 4],
     ) -> Result<Option<Located>, TraceFault>
-        ensures { IfOk result (λ found. IfSome found (λ l. FitsChannels self.now.channels l.entry)) }
+        ensures { IfOk result (λ found. IfSome found (λ l.
+            FitsChannels self.now.channels l.entry)) }
     {
         let parts = numbers.get(..kind.parts().len()).unwrap_or(&[]);
         let Some(cmd) = kind.command(parts) else {
@@ -134,7 +136,8 @@ impl Row<'_> {
 
     // The command of a line as this program prints it.
     pub(crate) fn command_of_line(&self) -> Result<Option<Located>, TraceFault>
-        ensures { IfOk result (λ found. IfSome found (λ l. FitsChannels self.now.channels l.entry)) }
+        ensures { IfOk result (λ found. IfSome found (λ l.
+            FitsChannels self.now.channels l.entry)) }
     {
         let Some(count) = self.fields.len().checked_sub(3) else {
             return Err(self.refused(NoCommand::Words));
@@ -158,7 +161,8 @@ impl Row<'_> {
 
     // The command of a row of a table.
     pub(crate) fn command_in_table(&self) -> Result<Option<Located>, TraceFault>
-        ensures { IfOk result (λ found. IfSome found (λ l. FitsChannels self.now.channels l.entry)) }
+        ensures { IfOk result (λ found. IfSome found (λ l.
+            FitsChannels self.now.channels l.entry)) }
     {
         let found = self.fields.len();
         if found != HEADER.len() {
@@ -191,7 +195,8 @@ impl Row<'_> {
         alloc: Global,
         form: &ForeignForm,
     ) -> Result<Option<Located>, TraceFault>
-        ensures { IfOk result (λ found. IfSome found (λ l. FitsChannels self.now.channels l.entry)) }
+        ensures { IfOk result (λ found. IfSome found (λ l.
+            FitsChannels self.now.channels l.entry)) }
     {
         match word_at(self.fields, 0) {
             Some(text) if self.fields.len() == 1 => {
