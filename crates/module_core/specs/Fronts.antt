@@ -1,5 +1,5 @@
 -- Which machine a front stands for, a module's life without its channels, and what its calls make of it.
-use Rattle.std.specs.Prelude.{◌≡◌, ℕ, ◌+◌, ◌<◌, ◌^◌, Bool, false, if◌then◌else◌}
+use Rattle.std.specs.Prelude.{◌≡◌, ℕ, ◌+◌, ◌<◌, ◌^◌, Bool, false, true, if◌then◌else◌}
 use Rattle.arm_state.specs.Modes.{is_armed}
 use Rattle.channel_port.specs.Shape.{Shape, is_full_at}
 use Rattle.channel_port.specs.Waits.{Waits}
@@ -24,6 +24,10 @@ pub record SameButSaves (old new : Front) : Type 0 where
   pub saved : new.saved ≡ old.saved
   pub reading : new.reading ≡ old.reading
   pub mode : new.mode ≡ old.mode
+
+-- while it is armed the newest image is below the last generation that a save of its life has
+abbrev pub IsUnspentWhileArmed : Front → Type 0
+IsUnspentWhileArmed front = is_armed front.mode ≡ true → front.saves.newest.generation < 2 ^ 62
 
 -- the machine's setup, where the channels have this shape
 abbrev pub setup_in : Shape → Front → Setup

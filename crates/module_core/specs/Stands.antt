@@ -16,6 +16,7 @@ use Rattle.channel_set.specs.declared.set.ChannelSet.{ChannelSet}
 use Rattle.channel_set.specs.Set.{NextCommand, shape_of, view_of}
 use Rattle.channel_set.specs.Carrying.{CarriesAll, KeepsAll, WaitsFrom}
 use Rattle.channel_set.specs.Issuing.{IssuesNone}
+use Rattle.module_core.specs.declared.front.Front.{Front}
 use Rattle.module_core.specs.declared.module.Module.{Module}
 use Rattle.nv_machine.specs.declared.events.Event.{Event}
 use Rattle.nv_machine.specs.declared.events.Event.TheVariants as events
@@ -65,6 +66,10 @@ abbrev pub saved_after : Reply → ℕ → ℕ
 saved_after (replies.SaveStep (step.Saved generation count)) saved = count
 saved_after (replies.Lose (loss.Saved generation count)) saved = count
 saved_after reply saved = saved
+
+-- a front holds that count behind a reply
+abbrev pub CountsSaved : Reply → Front → Front → Type 0
+CountsSaved reply old new = new.saved ≡ saved_after reply old.saved
 
 module _ {K : Type 0} (L : Ghosts K) where
   abbrev pub setup_of : Module K L → Setup

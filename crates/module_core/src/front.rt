@@ -46,7 +46,7 @@ pub struct Front {
 impl Front {
     ghost use Rattle.nv_machine.specs.Moves.{begun, disarming};
     ghost use Rattle.nv_machine.specs.Refusals.{is_low, need_for, saves_of, read_refusal, write_refusal};
-    ghost use Rattle.module_core.specs.Fronts.{AcceptsOne, FrontMatches, FrontMoves, HasRoomForWrite, SameButSaves, SameNumbers, TellsWrite, setup_in};
+    ghost use Rattle.module_core.specs.Fronts.{AcceptsOne, FrontMatches, FrontMoves, HasRoomForWrite, IsUnspentWhileArmed, SameButSaves, SameNumbers, TellsWrite, setup_in};
     ghost use Rattle.module_core.specs.Saves.{BeginsSave};
 
     /// Which refusal a write to one of the lines meets, if any. It is told whether the line's channel is full, and what the gauge
@@ -140,7 +140,7 @@ impl Front {
     /// back the writes from the accepted count on.
     pub fn begin_save(&mut self, lines: usize)
         requires generation { self.old.saves.newest.generation ≤ 2 ^ 62 }
-        requires armed { is_armed self.old.mode ≡ true → self.old.saves.newest.generation < 2 ^ 62 }
+        requires armed { IsUnspentWhileArmed self.old }
         requires capacity { IsCapacity lines }
         ensures begins { BeginsSave self.old.saves self.old.accepted (is_armed self.old.mode) lines
             self.new.saves }

@@ -66,7 +66,7 @@ impl<K: ChannelPort> Module<K> {
     ghost use Rattle.module_core.specs.Losing.{BeginsLoss, ConcludesLoss, LosesAlone};
     ghost use Rattle.slot_store.specs.declared.source.BrokenOff.TheVariants as broken;
     ghost use Rattle.module_core.specs.Fronts.{SameButSaves};
-    ghost use Rattle.module_core.specs.Stands.{HasDevice, saved_after, setup_of, assembly};
+    ghost use Rattle.module_core.specs.Stands.{CountsSaved, HasDevice, saved_after, setup_of, assembly};
 
     // The beginning of a loss of mains: what it comes to where nothing is to be saved; else a save of all accepted writes is begun.
     fn begin_loss<E: Energy>(&mut self, energy: &mut E) -> Option<Loss>
@@ -138,7 +138,7 @@ impl<K: ChannelPort> Module<K> {
             (assembly self.new (D.state device.new) (E.gauge energy.new)) }
         ensures paid { WhereDrained result (drained ≡ Ok tt) }
         ensures channels { self.new.channels ≡ self.old.channels }
-        ensures saved { self.new.front.saved ≡ saved_after (Reply.Lose result) self.old.front.saved }
+        ensures saved { CountsSaved (Reply.Lose result) self.old.front self.new.front }
         ensures terms { self.new.front.terms ≡ self.old.front.terms }
         ensures size { HasDevice K.ChannelPort self.new (D.state device.new) }
     {

@@ -31,7 +31,7 @@ pub struct Module<K: ChannelPort> {
 impl<K: ChannelPort> Module<K> {
     ghost use Rattle.nv_machine.specs.Refusals.{is_low, need_for, saves_of, write_refusal, read_refusal};
     ghost use Rattle.nv_machine.specs.Moves.{begun, disarming};
-    ghost use Rattle.module_core.specs.Fronts.{HasRoomForWrite};
+    ghost use Rattle.module_core.specs.Fronts.{HasRoomForWrite, IsUnspentWhileArmed};
     ghost use Rattle.module_core.specs.Stands.{Matches, Follows, FollowsReading, Answers, AnswersAlone, HasChannel, KeepsStored, assembly, lines_of_module, setup_of};
 
     // What the gauge has to show while this many writes wait.
@@ -168,7 +168,7 @@ impl<K: ChannelPort> Module<K> {
     // Begins a save of all accepted writes, in place of one that runs.
     fn begin(&mut self)
         requires generation { self.old.front.saves.newest.generation ≤ 2 ^ 62 }
-        requires armed { is_armed self.old.front.mode ≡ true → self.old.front.saves.newest.generation < 2 ^ 62 }
+        requires armed { IsUnspentWhileArmed self.old.front }
         ensures step { Follows K.ChannelPort (λ m n. n ≡ begun m) self.old self.new }
         ensures saved { self.new.front.saved ≡ self.old.front.saved }
         ensures terms { self.new.front.terms ≡ self.old.front.terms }

@@ -69,7 +69,8 @@ impl<K: ChannelPort> Module<K> {
             (assembly self.old (D.state device.old) (E.gauge energy.old))
             (assembly self.new (D.state device.new) (E.gauge energy.new))) }
         ensures cut { IfOk result (λ replies. self.new.front.terms.cut ≡ self.new.front.saved) }
-        ensures honest { IfOk result (λ replies. StaysWhereHonest K.ChannelPort events.now replies.items
+        ensures honest { IfOk result (λ replies. StaysWhereHonest K.ChannelPort
+            events.now replies.items
             (assembly self.old (D.state device.old) (E.gauge energy.old))
             (assembly self.new (D.state device.new) (E.gauge energy.new))) }
         ensures setup { setup_of K.ChannelPort self.new ≡ setup_of K.ChannelPort self.old }

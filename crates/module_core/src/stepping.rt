@@ -52,7 +52,7 @@ impl<K: ChannelPort> SaveSource for Arrays<'_, K> {
 
 impl Front {
     ghost use Rattle.module_core.specs.Saving.{IsOfLines, IsSizedFor};
-    ghost use Rattle.module_core.specs.Stands.{saved_after};
+    ghost use Rattle.module_core.specs.Stands.{CountsSaved};
     ghost use Rattle.module_core.specs.Stepping.{CallsOnce, FrontMakesReadyStep};
 
     // Makes the coming step of the save that runs, one call of the device, which may fail in it so often before the save has ended.
@@ -69,7 +69,7 @@ impl Front {
             self.old (D.state device.old) self.new (D.state device.new) }
         ensures call { CallsOnce self.old.saves.saving result
             (D.state device.old) (D.state device.new) }
-        ensures saved { self.new.saved ≡ saved_after (Reply.SaveStep result) self.old.saved }
+        ensures saved { CountsSaved (Reply.SaveStep result) self.old self.new }
         ensures terms { self.new.terms ≡ self.old.terms }
         ensures accepted { self.new.accepted ≡ self.old.accepted }
         ensures ended { has_ended self.new.mode ≡ has_ended self.old.mode }
@@ -103,7 +103,7 @@ impl Front {
 
 impl<K: ChannelPort> Module<K> {
     ghost use Rattle.module_core.specs.Stepping.{CallsOnce, MakesReadyStep};
-    ghost use Rattle.module_core.specs.Stands.{Matches, Answers, HasDevice, KeepsStored, SameButHold, assembly, saved_after, setup_of};
+    ghost use Rattle.module_core.specs.Stands.{Matches, Answers, CountsSaved, HasDevice, KeepsStored, SameButHold, assembly, setup_of};
 
     // A write that the page of the coming step is to have waits for its array.
     fn must_wait(&self, step: Step) -> bool
@@ -147,7 +147,7 @@ impl<K: ChannelPort> Module<K> {
             self.old (D.state device.old) self.new (D.state device.new) }
         ensures call { CallsOnce self.old.front.saves.saving result
             (D.state device.old) (D.state device.new) }
-        ensures saved { self.new.front.saved ≡ saved_after (Reply.SaveStep result) self.old.front.saved }
+        ensures saved { CountsSaved (Reply.SaveStep result) self.old.front self.new.front }
         ensures terms { self.new.front.terms ≡ self.old.front.terms }
         ensures issued { IssuesNone K.ChannelPort self.old.channels self.new.channels }
         ensures setup { setup_of K.ChannelPort self.new ≡ setup_of K.ChannelPort self.old }
