@@ -1,5 +1,5 @@
-//! The closed-page drain of a channel: what it issues and when (`specs/Drain.antt`), what it and its parts do to a channel
-//! (`specs/Steps.antt`), and what that comes to (`laws`).
+//! The closed-page drain of a channel, as ADR (asynchronous DRAM refresh) is one: what it issues and when (`specs/Drain.antt`),
+//! what it and its parts do to a channel (`specs/Steps.antt`), and what that comes to (`laws`).
 #![tactic(auto)]
 
 mod at_once;

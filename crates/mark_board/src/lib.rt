@@ -1,4 +1,4 @@
-//! The board of marks: two words that threads share with no lock, how many writes were accepted and how many of them are
+//! The board of marks (watermarks): two words that threads share with no lock, how many writes were accepted and how many of them are
 //! persistent.
 //!
 //! The board's seat moves the words, and only upwards. Each host has a seat that loads them. Contracts see a seat as the

@@ -1,4 +1,5 @@
-//! A module: a memory whose writes are accepted at once, saved on a device, and persistent where it is armed.
+//! A module: a memory whose writes are accepted at once, saved on a device, and persistent where it is armed, which puts its queues
+//! into the persistence domain.
 //!
 //! Each call answers a step of the machine in `nv_machine`: `specs/Stands.antt` says which machine a module stands for, and
 //! `specs/ModuleLives.antt` that its answers make lives of the headline.

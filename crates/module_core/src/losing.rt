@@ -165,11 +165,11 @@ impl<K: ChannelPort> Module<K> {
     ghost use Rattle.module_core.specs.Stands.{Answers, HasDevice, KeepsStored, setup_of, assembly};
     ghost use Rattle.worker_gate.specs.Waiting.{AreAwaited};
 
-    /// Mains were lost. Where acknowledged writes are to be saved, the channels are drained one after another and all accepted
-    /// writes are saved, each action paid for first; a payment that is refused or a fault of the device breaks it off. Disarmed,
-    /// nothing is written. Where all is saved, the energy that is kept for a closing save is no less than what the commands and
-    /// the clocks of its drains and the steps of its save cost. Behind a loss whose drains were paid for each channel is as its own
-    /// drain leaves it, its list, its stage and its array.
+    /// Mains were lost (CSAVE in JESD245). Where acknowledged writes are to be saved, the channels are drained one after another
+    /// and all accepted writes are saved, each action paid for first; a payment that is refused or a fault of the device breaks
+    /// it off. Disarmed, nothing is written. Where all is saved, the energy that is kept for a closing save is no less than what
+    /// the commands and the clocks of its drains and the steps of its save cost. Behind a loss whose drains were paid for each
+    /// channel is as its own drain leaves it, its list, its stage and its array.
     ///
     /// **With a gauge that has been honest since the life began, and a device that was spared, which has failed in this loss no
     /// more often than its calls may be made again, the answer is `Saved` with all accepted writes, and a restore finds them all,

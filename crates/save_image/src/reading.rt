@@ -21,7 +21,7 @@ pub enum Version {
 /// What a header says.
 #[derive(Clone, Copy, Debug, PartialEq, Eq)]
 pub struct Header {
-    /// 0xA5 where the gate is open.
+    /// The commit byte, 0xA5 where the gate is open.
     pub gate: u8,
     /// 0x00 where the image is clear; anything else counts as armed.
     pub arm: u8,

@@ -1,9 +1,10 @@
 //! Save images in the two slots of a device: formatting, a save step by step, and what a device restores to.
 //!
-//! A device has two slots, each a header page and the lines of the memory. A slot counts where its gate, the first byte,
-//! is open, and of two images the one of the greater generation is the newest. A save goes to the other slot: it closes the
-//! gate there, makes that durable, writes pages and header, makes these durable, opens the gate and makes that durable,
-//! so that a stop at any moment leaves the old image or the new one: the clause `old_or_new` of `save`.
+//! A device has two slots, each a header page and the lines of the memory. A slot counts where its gate, the commit byte
+//! that it begins with, is open, and of two images the one of the greater generation is the newest. A save goes to the
+//! other slot: it closes the gate there, makes that durable, writes pages and header, makes these durable, opens the gate
+//! and makes that durable, so that a stop at any moment leaves the old image or the new one: the clause `old_or_new` of
+//! `save`.
 //!
 //! One loop makes the steps of a save, `SaveRun::finish`, and asks its source for each before it is made. `save` and `format`
 //! are uses of it, and so is a save that pays for its steps: its source pays where it is asked.
