@@ -4,11 +4,11 @@
 //!     bench_journal               what each comes to, in short
 //!     bench_journal time FILE     appends and puts a second of processor time, armed and disarmed, and appends into this file
 //!
-//! A thousand records are appended, then the module is saved where it is disarmed, and the records are truncated; so it goes on round the
-//! ring. By hand the same writes are made from a list, a write that finds its channel full after a command of that channel. Into the file
-//! each record is written behind the others, and `fdatasync` called. Into a table each of a thousand keys is put in a round, and the table is
-//! compacted behind each sixteenth, for which no time is taken. The time is that of sixteen rounds at once, since it is known to ten
-//! milliseconds alone.
+//! A thousand records are appended, then the module is saved where it is disarmed, and the records are truncated; so it goes on round
+//! the ring. By hand the same writes are made from a list, a write that finds its channel full after a command of that channel. Into
+//! the file each record is written behind the others, and `fdatasync` called. Into a table each of a thousand keys is put in a round,
+//! and the table is compacted behind each sixteenth, for which no time is taken. The time is that of sixteen rounds at once, since it
+//! is known to ten milliseconds alone.
 #![tactic(auto)]
 
 mod hand;

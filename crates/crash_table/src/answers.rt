@@ -59,7 +59,8 @@ fn told_by(answer: &Answer) -> u64
     }
 }
 
-// The same with one more answer, where it is known. A restore tells which writes there are, and after a format that failed nothing is known.
+// The same with one more answer, where it is known. A restore tells which writes there are, and after a format that failed nothing
+// is known.
 fn told_more(told: Option<u64>, answer: &Answer) -> Option<u64>
     ensures { result ≡ told_behind answer.now told }
 {

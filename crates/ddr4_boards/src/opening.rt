@@ -160,8 +160,8 @@ fn begin<'m, M: LineMap>(
 
 /// A module of a profile over a lawful map of its geometry, with the memory that a device restores to, its record, and the tables
 /// of its board for so many hosts. The device is restored once, as `restore_device` does, and nothing else is asked of it: no byte
-/// of it changes. No channel has issued a command. Where none is opened the device and the gauge are given back: `Device` where a call of the device failed, and
-/// only there; `Memory` only where there was none.
+/// of it changes. No channel has issued a command. Where none is opened the device and the gauge are given back: `Device` where a
+/// call of the device failed, and only there; `Memory` only where there was none.
 pub fn open<'m, M: LineMap, D: SaveDevice + Drop, E: Energy + Drop, R: Threads>(
     rt: &R,
     alloc: Global,

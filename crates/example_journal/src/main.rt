@@ -2,8 +2,8 @@
 //!
 //!     example_journal FILE
 //!
-//! reads lines and answers each: `add TEXT`, `cut NUMBER`, `save`, `arm`, `lose`, `list`, `stored`. What `stored` tells behind a save is found by the
-//! next start, wherever this one is ended; what it tells while armed is found behind `lose`.
+//! reads lines and answers each: `add TEXT`, `cut NUMBER`, `save`, `arm`, `lose`, `list`, `stored`. What `stored` tells behind a save
+//! is found by the next start, wherever this one is ended; what it tells while armed is found behind `lose`.
 #![tactic(auto)]
 
 ghost use Rattle.std.specs.Prelude.{IfOk};
