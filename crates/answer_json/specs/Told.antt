@@ -1,10 +1,14 @@
 -- What is told, part by part, and the object of these parts.
-use Rattle.std.specs.Prelude.{◌≡◌, ℕ, List, [], ◌∷◌, codes, flat_map, fold}
+use Rattle.std.specs.Prelude.{◌≡◌, ℕ, List, [], ◌∷◌, codes, flat_map, fold, replicate}
 use Rattle.hex.specs.Hex.{encode_lower}
 use Rattle.serde_json.specs.Data.{number, unsigned, string, Members, no_members, put}
 use Rattle.answer_json.specs.declared.told.Part.{Part}
 use Rattle.answer_json.specs.declared.told.Part.TheVariants.{Nothing, Word, Number, Name, Bytes}
 use Rattle.answer_json.specs.declared.told.Told.{Told}
+
+-- so many places of a line without a part
+abbrev pub nothings : ℕ → List Part
+nothings places = replicate places Nothing
 
 -- a part of a line: a word under no name, or a number, a word or bytes under one
 pub data Piece : Type 0 where

@@ -22,7 +22,8 @@ fn told_refused(call: &'static str, code: u64, reason: &'static str) -> Told
 
 // The same with the energy that is needed, and that there is.
 fn told_too_low(call: &'static str, code: u64, reason: &'static str, need: u64, has: u64) -> Told
-    ensures { IsTold (codes "refused") (refused call.now code reason.now ++ too_low need has) result }
+    ensures { IsTold (codes "refused")
+        (refused call.now code reason.now ++ too_low need has) result }
 {
     six(
         "refused",

@@ -2,8 +2,7 @@
 ghost use Rattle.std.specs.Prelude.{◌≡◌, [], ◌∷◌, IfOk, OnOk, flat_map};
 ghost use Rattle.serde_json.specs.Data.{object, no_members};
 ghost use Rattle.serde_json.specs.View.{members_view, view};
-ghost use Rattle.answer_json.specs.Told.{members_of, pieces_of, with_pieces};
-ghost use Rattle.answer_json.specs.declared.told.Part.TheVariants.{Nothing};
+ghost use Rattle.answer_json.specs.Told.{members_of, nothings, pieces_of, with_pieces};
 ghost use Rattle.answer_json.specs.declared.told.Part.TheVariants as variant;
 
 use line_memory::Line;
@@ -96,7 +95,7 @@ impl Told {
 /// What is told in one part.
 pub(crate) fn one(kind: &'static str, a: Part) -> Told
     ensures kind { result.kind ≡ kind.entry }
-    ensures parts { result.parts ≡ a ∷ Nothing ∷ Nothing ∷ Nothing ∷ Nothing ∷ Nothing ∷ Nothing ∷ [] }
+    ensures parts { result.parts ≡ a ∷ nothings 6 }
 {
     Told {
         kind,
@@ -107,7 +106,7 @@ pub(crate) fn one(kind: &'static str, a: Part) -> Told
 /// What is told in two parts.
 pub(crate) fn two(kind: &'static str, a: Part, b: Part) -> Told
     ensures kind { result.kind ≡ kind.entry }
-    ensures parts { result.parts ≡ a ∷ b ∷ Nothing ∷ Nothing ∷ Nothing ∷ Nothing ∷ Nothing ∷ [] }
+    ensures parts { result.parts ≡ a ∷ b ∷ nothings 5 }
 {
     Told {
         kind,
@@ -118,7 +117,7 @@ pub(crate) fn two(kind: &'static str, a: Part, b: Part) -> Told
 /// What is told in three parts.
 pub(crate) fn three(kind: &'static str, a: Part, b: Part, c: Part) -> Told
     ensures kind { result.kind ≡ kind.entry }
-    ensures parts { result.parts ≡ a ∷ b ∷ c ∷ Nothing ∷ Nothing ∷ Nothing ∷ Nothing ∷ [] }
+    ensures parts { result.parts ≡ a ∷ b ∷ c ∷ nothings 4 }
 {
     Told {
         kind,
@@ -129,7 +128,7 @@ pub(crate) fn three(kind: &'static str, a: Part, b: Part, c: Part) -> Told
 /// What is told in four parts.
 pub(crate) fn four(kind: &'static str, a: Part, b: Part, c: Part, d: Part) -> Told
     ensures kind { result.kind ≡ kind.entry }
-    ensures parts { result.parts ≡ a ∷ b ∷ c ∷ d ∷ Nothing ∷ Nothing ∷ Nothing ∷ [] }
+    ensures parts { result.parts ≡ a ∷ b ∷ c ∷ d ∷ nothings 3 }
 {
     Told {
         kind,
@@ -140,7 +139,7 @@ pub(crate) fn four(kind: &'static str, a: Part, b: Part, c: Part, d: Part) -> To
 /// What is told in five parts.
 pub(crate) fn five(kind: &'static str, a: Part, b: Part, c: Part, d: Part, e: Part) -> Told
     ensures kind { result.kind ≡ kind.entry }
-    ensures parts { result.parts ≡ a ∷ b ∷ c ∷ d ∷ e ∷ Nothing ∷ Nothing ∷ [] }
+    ensures parts { result.parts ≡ a ∷ b ∷ c ∷ d ∷ e ∷ nothings 2 }
 {
     Told {
         kind,
@@ -151,7 +150,7 @@ pub(crate) fn five(kind: &'static str, a: Part, b: Part, c: Part, d: Part, e: Pa
 /// What is told in six parts.
 pub(crate) fn six(kind: &'static str, a: Part, b: Part, c: Part, d: Part, e: Part, f: Part) -> Told
     ensures kind { result.kind ≡ kind.entry }
-    ensures parts { result.parts ≡ a ∷ b ∷ c ∷ d ∷ e ∷ f ∷ Nothing ∷ [] }
+    ensures parts { result.parts ≡ a ∷ b ∷ c ∷ d ∷ e ∷ f ∷ nothings 1 }
 {
     Told {
         kind,
