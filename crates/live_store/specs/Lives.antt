@@ -13,7 +13,7 @@ use Rattle.nv_machine.specs.Survival.{IsSurvived}
 use Rattle.slot_store.specs.declared.head.Head.{Head}
 use Rattle.module_core.specs.ModuleLives.{EndsAfterEvents, HasAnswered, module_life}
 use Rattle.module_core.specs.Stands.{Assembly, assembly, setup_of, world_of}
-use Rattle.nv_session.specs.Coming.{Comes, Tale}
+use Rattle.nv_session.specs.Coming.{Comes, IsOneEvent, Tale}
 use Rattle.nv_session.specs.Living.{set_to}
 use Rattle.nv_session.specs.SessionLives.{SurvivesStop}
 use Rattle.nv_script.specs.declared.line.ScriptLine.{ScriptLine}
@@ -52,6 +52,10 @@ module _ {K : Type 0} (L : Ghosts K) where
   pub record GoesTo (Told : Setup → Tale) (old new : Assembly L) : Type 0 where
     pub comes : Comes L (Told (setup_of L old.it)) old new
     pub setup : setup_of L new.it ≡ setup_of L old.it
+
+  -- the same by one event, with this reply
+  abbrev pub GoesBy : Event → Reply → Assembly L → Assembly L → Type 0
+  GoesBy event reply old new = GoesTo (λ setup. IsOneEvent event reply) old new
 
   -- An answer to a line tells of the line's events, by which the life went on; at a mark it tells how many writes are persistent, and
   -- nothing happened.

@@ -23,7 +23,8 @@ use sector_device::{SectorDevice, SectorFile, stops_find_what_devices_may};
 /// a call or a device write too, a restore finds the memory after a prefix of the accepted writes: told Complete one that holds each
 /// write that was acknowledged persistent, and after an honest life one that holds them whatever is told.
 pub fn turns_survive<K: ChannelPort>()
-    ensures { (found : Head) (image : Image) (turns : List Turn) (first now : Assembly K.ChannelPort)
+    ensures { (found : Head) (image : Image) (turns : List Turn)
+        (first now : Assembly K.ChannelPort)
         → ModuleStands K.ChannelPort first.it first.device (opened_with found image)
         → TakesTurns K.ChannelPort turns first now
         → LivesBy K.ChannelPort found image turns first now }

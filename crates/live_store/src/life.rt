@@ -3,7 +3,6 @@ ghost use Rattle.std.specs.Prelude.{◌≡◌, ◌<◌, true, false, IfSome, IsN
 ghost use Rattle.energy_budget.specs.Meter.{meter_gauge};
 ghost use Rattle.module_core.specs.Stands.{HasDevice, assembly, setup_of};
 ghost use Rattle.nv_script.specs.Line.{NamesChannelOf};
-ghost use Rattle.nv_session.specs.Coming.{IsOneEvent};
 ghost use Rattle.nv_session.specs.Living.{IsWork, set_to};
 ghost use Rattle.nv_session.specs.ReadTurns.{ReadsLine};
 ghost use Rattle.nv_session.specs.SaveTurns.{MakesSave};
@@ -36,7 +35,7 @@ pub struct Life<K: ChannelPort, D: SaveDevice> {
 }
 
 impl<K: ChannelPort, D: SaveDevice> Life<K, D> {
-    ghost use Rattle.live_store.specs.Lives.{GoesTo, TakesTurn, charged, is_for_lives, now_of};
+    ghost use Rattle.live_store.specs.Lives.{GoesBy, GoesTo, TakesTurn, charged, is_for_lives, now_of};
 
     /// What the module does with writes.
     pub fn mode(&self) -> Mode
@@ -46,7 +45,7 @@ impl<K: ChannelPort, D: SaveDevice> Life<K, D> {
     }
 
     fn write(&mut self, write: Write) -> Result<Accepted, WriteRefusal>
-        ensures goes { GoesTo K.ChannelPort (λ setup. IsOneEvent (Event.Write write) (Reply.Write result))
+        ensures goes { GoesBy K.ChannelPort (Event.Write write) (Reply.Write result)
             (now_of self.old) (now_of self.new) }
         ensures geometry { self.new.geometry ≡ self.old.geometry }
     {
@@ -97,7 +96,7 @@ impl<K: ChannelPort, D: SaveDevice> Life<K, D> {
     }
 
     fn lose(&mut self) -> Loss
-        ensures goes { GoesTo K.ChannelPort (λ setup. IsOneEvent Event.Lose (Reply.Lose result))
+        ensures goes { GoesBy K.ChannelPort Event.Lose (Reply.Lose result)
             (now_of self.old) (now_of self.new) }
         ensures geometry { self.new.geometry ≡ self.old.geometry }
     {
@@ -108,7 +107,7 @@ impl<K: ChannelPort, D: SaveDevice> Life<K, D> {
 
     // Sets the level of the gauge and reads it.
     fn sense(&mut self, level: u64) -> u64
-        ensures goes { GoesTo K.ChannelPort (λ setup. IsOneEvent Event.Sense (Reply.Sense result))
+        ensures goes { GoesBy K.ChannelPort Event.Sense (Reply.Sense result)
             (charged (ScriptLine.Sense level) (now_of self.old)) (now_of self.new) }
         ensures geometry { self.new.geometry ≡ self.old.geometry }
     {
@@ -117,7 +116,7 @@ impl<K: ChannelPort, D: SaveDevice> Life<K, D> {
     }
 
     fn arm(&mut self) -> Result<ArmReply, ArmRefusal>
-        ensures goes { GoesTo K.ChannelPort (λ setup. IsOneEvent Event.Arm (Reply.Arm result))
+        ensures goes { GoesBy K.ChannelPort Event.Arm (Reply.Arm result)
             (now_of self.old) (now_of self.new) }
         ensures geometry { self.new.geometry ≡ self.old.geometry }
     {
@@ -125,7 +124,7 @@ impl<K: ChannelPort, D: SaveDevice> Life<K, D> {
     }
 
     fn disarm(&mut self) -> Result<DisarmReply, ArmRefusal>
-        ensures goes { GoesTo K.ChannelPort (λ setup. IsOneEvent Event.Disarm (Reply.Disarm result))
+        ensures goes { GoesBy K.ChannelPort Event.Disarm (Reply.Disarm result)
             (now_of self.old) (now_of self.new) }
         ensures geometry { self.new.geometry ≡ self.old.geometry }
     {
