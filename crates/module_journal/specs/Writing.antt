@@ -12,10 +12,14 @@ use Rattle.module_core.specs.declared.module.Module.{Module}
 use Rattle.module_core.specs.InTurn.{AnswersCalls}
 use Rattle.module_core.specs.Stands.{assembly}
 use Rattle.journal_log.specs.Log.{Log}
-use Rattle.journal_log.specs.Calls.{Call, call_writes, lines_before_head}
+use Rattle.journal_log.specs.Calls.{Call, call_writes, lines_before_head, log_after}
 use Rattle.journal_lines.specs.declared.index.Index.{Index}
 use Rattle.journal_lines.specs.Indexed.{IsIndexOf}
 use Rattle.nv_machine.specs.Rising.{accepted_in}
+
+-- behind a call an index is of the journal behind it, whatever journal it was of
+abbrev pub IsIndexBehind : Call → Index → Index → Type 0
+IsIndexBehind call old new = (log : Log) → IsIndexOf old log → IsIndexOf new (log_after old.lines log call)
 
 module _ {K : Type 0} (L : Ghosts K) where
   -- Calls in turn, of which the accepted writes are these.

@@ -2,11 +2,11 @@
 ghost use Rattle.std.specs.Prelude.{◌≡◌, ◌⊎◌, ◌++◌, ◌∷◌, [], ◌-◌, ◌<◌, ◌≤◌, ◌↔◌, Err, IfErr, IfOk, IfSome, IfNone, IsTrue, Ok, List, ℕ, length, nat_lt, slice_get, take, Some};
 ghost use Rattle.journal_log.specs.Lines.{lines_of};
 ghost use Rattle.journal_log.specs.Log.{Holds, Log};
-ghost use Rattle.journal_log.specs.Calls.{Append, Truncate, call_writes, log_after};
+ghost use Rattle.journal_log.specs.Calls.{Append, Truncate, call_writes};
 ghost use Rattle.journal_lines.specs.Indexed.{HasRoom, IsIndexOf, IsWithin, end_of_index};
 ghost use Rattle.module_core.specs.Stands.{setup_of};
-ghost use Rattle.module_journal.specs.Heads.{untold};
-ghost use Rattle.module_journal.specs.Writing.{HasWritten, IsMade, IsRefused};
+ghost use Rattle.module_journal.specs.Heads.{stored_upto, untold};
+ghost use Rattle.module_journal.specs.Writing.{HasWritten, IsIndexBehind, IsMade, IsRefused};
 
 use crate::writing::put;
 use arm_state::WriteRefusal;
@@ -151,7 +151,7 @@ impl Journal {
     /// The number up to which a mark, or one that was asked of before, tells all records stored: those that the journal was opened
     /// with, and of those that were appended since each whose head's write, and those before it, has a number below the mark.
     pub fn stored(&mut self, mark: u64) -> u64
-        ensures upto { result ≡ end_of_index self.old.index - length (untold mark self.old.heads.items) }
+        ensures upto { result ≡ stored_upto mark self.old.index self.old.heads.items }
         ensures heads { self.new.heads.items ≡ untold mark self.old.heads.items }
         ensures index { self.new.index ≡ self.old.index }
     {
@@ -213,8 +213,8 @@ impl Journal {
             (Append bytes.now) nvdimm.old nvdimm.new) }
         ensures room { IfOk result (λ appended. HasRoom self.old.index bytes.now) }
         ensures record { IfOk result (λ appended. appended.record ≡ end_of_index self.old.index) }
-        ensures is { IfOk result (λ appended. (log : Log) → IsIndexOf self.old.index log
-            → IsIndexOf self.new.index (log_after self.old.index.lines log (Append bytes.now))) }
+        ensures is { IfOk result (λ appended.
+            IsIndexBehind (Append bytes.now) self.old.index self.new.index) }
         ensures heads { IfOk result (λ appended.
             self.new.heads.items ≡ self.old.heads.items ++ appended.head.number ∷ []) }
         ensures kept { IfErr result (λ refusal. (log : Log) → IsIndexOf self.old.index log
@@ -255,8 +255,8 @@ impl Journal {
         ensures done { IfOk result (λ cut. IfSome cut (λ head.
             IsMade K.ChannelPort (Reply.Write (Ok head)) self.old.index
             (Truncate upto) nvdimm.old nvdimm.new)) }
-        ensures is { IfOk result (λ cut. IfSome cut (λ head. (log : Log) → IsIndexOf self.old.index log
-            → IsIndexOf self.new.index (log_after self.old.index.lines log (Truncate upto)))) }
+        ensures is { IfOk result (λ cut. IfSome cut (λ head.
+            IsIndexBehind (Truncate upto) self.old.index self.new.index)) }
         ensures within { IfOk result (λ cut. IfSome cut (λ head. IsWithin self.old.index upto)) }
         ensures none { IfOk result (λ cut. IfNone cut
             ((upto ≡ self.old.index.gone) × (self.new ≡ self.old) × (nvdimm.new ≡ nvdimm.old))) }

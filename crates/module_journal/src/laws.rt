@@ -64,7 +64,8 @@ pub fn stored_records_are_told<K: ChannelPort>()
         (bytes : List ℕ) (appended : Appended) (first now : Assembly K.ChannelPort)
         (mark : ℕ) (left : List ℕ)
         → HasAppended K.ChannelPort found image log before bytes appended
-        → HasJournaled K.ChannelPort found image log (before ++ whole_append bytes ∷ later) first now
+        → HasJournaled K.ChannelPort found image log
+        (before ++ whole_append bytes ∷ later) first now
         → Holds image.memory log
         → AreAllowed (length image.memory) log (before ++ whole_append bytes ∷ later)
         → mark ≤ now.it.front.persisted
@@ -75,7 +76,8 @@ pub fn stored_records_are_told<K: ChannelPort>()
         (bytes : List ℕ) (appended : Appended) (first now next : Assembly K.ChannelPort)
         (event : Event) (reply : Reply) (mark : ℕ) (left : List ℕ)
         → HasAppended K.ChannelPort found image log before bytes appended
-        → HasJournaled K.ChannelPort found image log (before ++ whole_append bytes ∷ later) first now
+        → HasJournaled K.ChannelPort found image log
+        (before ++ whole_append bytes ∷ later) first now
         → Holds image.memory log
         → AreAllowed (length image.memory) log (before ++ whole_append bytes ∷ later)
         → mark ≤ now.it.front.persisted → IsTrue (nat_lt appended.head.number mark)
