@@ -1,5 +1,5 @@
 // A life of a module with a journal in it.
-ghost use Rattle.std.specs.Prelude.{◌≡◌, ◌-◌, IfErr, IfNone, IfOk, IfSome, IsTrue, Ok, OnOk, length};
+ghost use Rattle.std.specs.Prelude.{◌≡◌, IfErr, IfNone, IfOk, IfSome, IsTrue, Ok, OnOk};
 ghost use Rattle.energy_budget.specs.Meter.{meter_gauge};
 ghost use Rattle.journal_log.specs.Calls.{Append, Truncate};
 ghost use Rattle.journal_log.specs.Log.{Log};
@@ -7,9 +7,9 @@ ghost use Rattle.journal_table.specs.Calling.{IsCompacted};
 ghost use Rattle.journal_table.specs.Standing.{IsTableOf};
 ghost use Rattle.table_log.specs.Changes.{Put, record_of};
 ghost use Rattle.table_log.specs.Tables.{Table};
-ghost use Rattle.journal_lines.specs.Indexed.{HasNumber, end_of_index};
+ghost use Rattle.journal_lines.specs.Indexed.{HasNumber};
 ghost use Rattle.module_core.specs.Stands.{Answers, HasDevice, assembly, setup_of};
-ghost use Rattle.module_journal.specs.Heads.{untold};
+ghost use Rattle.module_journal.specs.Heads.{stored_upto};
 ghost use Rattle.module_journal.specs.Refusals.{IsAppendRefused, IsTruncateRefused};
 ghost use Rattle.module_journal.specs.Writing.{IsMade};
 ghost use Rattle.nv_session.specs.Coming.{ComesAlone};
@@ -111,8 +111,8 @@ impl<K: ChannelPort + Drop, D: SaveDevice + Drop> JournalLife<K, D> {
 
     /// The number up to which the module's mark tells all records stored.
     pub fn stored(&mut self) -> u64
-        ensures { result ≡ end_of_index self.old.journal.index
-            - length (untold self.old.running.front.persisted self.old.journal.heads.items) }
+        ensures { result ≡ stored_upto self.old.running.front.persisted
+            self.old.journal.index self.old.journal.heads.items }
     {
         let mark = self.running.mark();
         self.journal.stored(mark)
@@ -190,7 +190,8 @@ impl<K: ChannelPort + Drop, D: SaveDevice + Drop> JournalLife<K, D> {
 
     /// Makes a write by hand, and works the channel of its line, which the low part of the line names, while that is full.
     pub fn write(&mut self, write: Write) -> Result<Accepted, Stall>
-        ensures { IfOk result (λ accepted. HasWritten K.ChannelPort write accepted self.new.running) }
+        ensures { IfOk result (λ accepted.
+            HasWritten K.ChannelPort write accepted self.new.running) }
     {
         for _turn in 0..TURNS {
             match self.running.write(write) {
