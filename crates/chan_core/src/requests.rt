@@ -13,11 +13,11 @@ use frfcfs::queue::is_held;
 use interleave_map::cells::cell_of;
 use interleave_map::line_map::LineMap;
 use line_memory::{Line, Write};
-use wpq_core::{Full, PendingWrite};
+use wpq_core::{PendingWrite, QueueFull};
 
 impl Channel {
     /// Accepts a write of a line of this channel, with a number above those of all pending ones. The memory has it from now
-    /// on; the array has it once its WR was issued. Refused, `Full`, exactly where the queue holds its depth: the write comes
+    /// on; the array has it once its WR was issued. Refused, `QueueFull`, exactly where the queue holds its depth: the write comes
     /// back, and nothing changes. It costs the number of pending requests.
     pub fn put<M: LineMap>(
         &mut self,
@@ -25,7 +25,7 @@ impl Channel {
         number: u64,
         line: u64,
         bytes: Line,
-    ) -> Result<(), Full>
+    ) -> Result<(), QueueFull>
         requires lawful { M.is_lawful map.now }
         requires geometry { M.geometry_of map.now ≡ self.old.checked.geometry }
         requires line { LiesOn (M.place_of map.now) self.old line }
@@ -44,7 +44,7 @@ impl Channel {
     }
 
     /// Accepts a write at the place of its line, as `put` does.
-    pub fn put_at(&mut self, number: u64, write: Write, place: Place) -> Result<(), Full>
+    pub fn put_at(&mut self, number: u64, write: Write, place: Place) -> Result<(), QueueFull>
         requires place { IsPlaceOn self.old place }
         requires above { ComeBefore number self.old.writes }
         ensures adds { OnOk result (AddsWrite self.old number place write.«data» self.new) }
@@ -57,7 +57,7 @@ impl Channel {
     {
         let cell = cell_of(&self.memory.checked, &place) as u64;
         let Ok(()) = self.memory.queue.try_push(number, cell, write.data) else {
-            return Err(Full {
+            return Err(QueueFull {
                 refused: PendingWrite { number, write },
             });
         };

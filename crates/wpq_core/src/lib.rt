@@ -8,4 +8,4 @@ mod laws;
 mod queue;
 
 pub use laws::pending_writes;
-pub use queue::{Full, PendingWrite, Wpq};
+pub use queue::{PendingWrite, QueueFull, Wpq};

@@ -17,7 +17,7 @@ pub struct PendingWrite {
 
 /// The queue has no room. The write comes back.
 #[derive(Clone, Copy, Debug, PartialEq, Eq)]
-pub struct Full {
+pub struct QueueFull {
     pub refused: PendingWrite,
 }
 
@@ -135,9 +135,9 @@ impl Wpq {
         Some(self.writes[place].write.data)
     }
 
-    /// Adds a write behind the others. Its number has to be above theirs. Refused, `Full`, exactly where the queue holds
+    /// Adds a write behind the others. Its number has to be above theirs. Refused, `QueueFull`, exactly where the queue holds
     /// its depth: the write comes back, and the queue is as it was. It takes no memory.
-    pub fn try_push(&mut self, number: u64, line: u64, data: Line) -> Result<(), Full>
+    pub fn try_push(&mut self, number: u64, line: u64, data: Line) -> Result<(), QueueFull>
         requires { ComeBefore number self.old.writes }
         ensures pushed { OnOk result (PushesWrite number line «data» self.old self.new) }
         ensures room { IsOk result ↔ (length self.old.writes < self.old.depth) }
@@ -150,9 +150,9 @@ impl Wpq {
             write: Write { line, data },
         };
         if self.is_full() {
-            return Err(Full { refused: pending });
+            return Err(QueueFull { refused: pending });
         }
-        self.writes.push(pending).map_err(|back| Full {
+        self.writes.push(pending).map_err(|back| QueueFull {
             refused: back.value,
         })
     }

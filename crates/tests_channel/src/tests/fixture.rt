@@ -16,7 +16,7 @@ use interleave_map::line_map::LineMap;
 use interleave_map::{Interleaving, ReadyMap};
 use line_memory::Line;
 use std::process::Abort;
-use wpq_core::Full;
+use wpq_core::QueueFull;
 
 /// Channel 0 of a profile, with the map `lines`, its costs and the number of its next write.
 #[derive(Drop)]
@@ -84,7 +84,7 @@ impl Fixture {
         rt: &R,
         line: u64,
         byte: u8,
-    ) -> Result<(u64, Place), Full> {
+    ) -> Result<(u64, Place), QueueFull> {
         let number = self.number;
         assert!(*rt; self.channel.has_line(&self.map, line));
         assert!(*rt; self.channel.may_take(number) && number < u64::MAX);

@@ -2,7 +2,7 @@
 use crate::tests::check::same;
 use line_memory::{Line, Write};
 use std::process::Abort;
-use wpq_core::{Full, PendingWrite, Wpq};
+use wpq_core::{PendingWrite, QueueFull, Wpq};
 
 // A line of this byte.
 const fn of(byte: u8) -> Line {
@@ -30,7 +30,11 @@ fn a_full_queue_hands_the_write_back(rt: HostRuntime) {
         },
     };
     assert!(rt; queue.may_take(6));
-    same(&rt, queue.try_push(6, 2, of(0x33)), Err(Full { refused }));
+    same(
+        &rt,
+        queue.try_push(6, 2, of(0x33)),
+        Err(QueueFull { refused }),
+    );
     same(&rt, queue.len(), 2);
     same(&rt, queue.newest_for(2), None);
 }
