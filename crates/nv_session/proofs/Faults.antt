@@ -13,7 +13,7 @@ use Rattle.slot_store.specs.declared.restoring.RestoreError.TheVariants as error
 use Rattle.slot_store.specs.declared.slots.Slot.TheVariants.{First}
 use Rattle.slot_store.specs.Slots.{other}
 use Rattle.slot_store.specs.Told.{CallsOfRestore, checking_calls, header_at, header_calls, is_fault, pages_checked, restore_calls}
-use Rattle.nv_session.specs.Faults.{CountsFault}
+use Rattle.nv_session.specs.Faults.{CountsFault, HadOneRestore}
 
 good_ones : (kinds : List CallKind) → faults_in (all_good kinds) ≡ 0
 good_ones [] = refl
@@ -40,3 +40,11 @@ counts_behind fails old mid new same counts = omega (arith, ap faults_in same, c
 
 pub counts_alike : (fails : Bool) (old mid new : DeviceState) → new ≡ mid → CountsFault fails old mid → CountsFault fails old new
 counts_alike fails old mid new same counts = omega (arith, ap faults_of same, counts)
+
+-- a restore that is refused makes its calls
+pub refused_calls : (lines : ℕ) (error : RestoreError) (old new : DeviceState) → CallsOfRestore lines (Err error) old new → HadOneRestore lines (Err error) old new
+refused_calls lines errors.Memory old new made = inl made
+refused_calls lines errors.NoImage old new made = made
+refused_calls lines (errors.Damaged slot) old new made = made
+refused_calls lines errors.WrongSize old new made = made
+refused_calls lines errors.Device old new made = made

@@ -12,7 +12,7 @@ ghost use Rattle.energy_budget.specs.Meter.{meter_gauge, lie_of};
 ghost use Rattle.channel_set.specs.Issuing.{HaveIssuedNone};
 ghost use Rattle.module_core.specs.Opening.{opened_with};
 ghost use Rattle.module_core.specs.Stands.{ModuleStands, assembly, setup_of};
-ghost use Rattle.nv_session.specs.Faults.{CountsFault, HadOneFormat, is_format_fault};
+ghost use Rattle.nv_session.specs.Faults.{CountsFault, HadOneFormat, HadOneRestore, RestoresOnce, is_format_fault};
 ghost use Rattle.nv_session.specs.Living.{HasLife, IsCutToSaved, PassesAll, RunsUnissued, RunsWith, device_state, innermost};
 
 use crate::session::Session;
@@ -155,6 +155,8 @@ impl<K: ChannelPort + Drop, A: Wires<K> + Drop> Session<K, A> {
         ensures none { IfErr result (λ error. self.new.life ≡ None) }
         ensures faults { CountsFault (is_fault result)
             (device_state self.old.device) (device_state self.new.device) }
+        ensures calls { HadOneRestore (line_count_in self.old) result
+            (device_state self.old.device) (device_state self.new.device) }
         ensures same { (state_of (innermost self.new.device)).bytes
             ≡ (state_of (innermost self.old.device)).bytes }
         ensures any_moment { LeavesOnly
@@ -179,7 +181,7 @@ impl<K: ChannelPort + Drop, A: Wires<K> + Drop> Session<K, A> {
     /// accepted, and told Complete one that holds every write that was persistent. Where a life ran, nothing but a fault of the
     /// device or want of memory refuses it. A refused restore leaves no life, and the next one finds such a prefix too. The device
     /// keeps the bytes that the stop left, and a stop right behind leaves the same. `Device` comes only where a call of the device
-    /// failed. It answers the newest image's head.
+    /// failed. The device has the calls of one restore. It answers the newest image's head.
     pub fn restore(
         &mut self,
         alloc: Global,
@@ -207,6 +209,8 @@ impl<K: ChannelPort + Drop, A: Wires<K> + Drop> Session<K, A> {
         ensures again { StopsWithin (λ bytes. bytes ≡ (state_of (innermost self.new.device)).bytes)
             (present (state_of (innermost self.new.device))) }
         ensures faults { CountsFault (is_fault result)
+            (device_state self.old.device) (device_state self.new.device) }
+        ensures calls { RestoresOnce (line_count_in self.old) result
             (device_state self.old.device) (device_state self.new.device) }
         ensures lie { lie_of self.new.gauge ≡ None }
         ensures gauge { meter_gauge self.new.gauge ≡ meter_gauge self.old.gauge }

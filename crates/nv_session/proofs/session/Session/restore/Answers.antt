@@ -7,6 +7,7 @@ use Rattle.interleave_map.specs.declared.ready.Interleaving.{Interleaving}
 use Rattle.slot_store.specs.Told.{Refuses, IsFailure, is_fault}
 use Rattle.nv_session.specs.Sessions.{moment_in, restored_in, setup_over}
 use Rattle.nv_session.proofs.Beginning.{revives_again, same_restored, same_setup}
+use Rattle.nv_session.specs.Faults.{HadOneRestore}
 use Rattle.nv_session.proofs.Faults.{counts_behind}
 use Rattle.nv_session.proofs.Restoring.{left_again, session_finds, session_fails, session_keeps}
 use Rattle.nv_session.specs.Living.{RunsUnissued}
@@ -67,3 +68,13 @@ returns-clause-again g c =
 
 pub returns-clause-issued : goal.returns-clause-issued
 returns-clause-issued g c = subst (λ (p : Profile). OnOk c.revive.result (RunsUnissued g.K.ChannelPort p.checked c.revive.new.self.life)) c.stop.ensures.profile c.revive.ensures.issued
+
+pub returns-clause-calls : goal.returns-clause-calls
+returns-clause-calls g c =
+    let stopped = c.stop.new.self in let new = c.revive.new.self in
+    record {
+      stopped = device_state stopped.device;
+      calls = c.stop.ensures.calls;
+      bytes = sym c.revive.ensures.same;
+      had = subst (λ (p : Profile). HadOneRestore (lines_of p.checked.geometry) c.revive.result (device_state stopped.device) (device_state new.device)) c.stop.ensures.profile c.revive.ensures.calls;
+    }

@@ -1,11 +1,13 @@
-use Rattle.std.proofs.Common.{◌∙◌, ℕ, List, false, Ok, Err, rules, sym, subst}
+use Rattle.std.proofs.Common.{◌∙◌, ℕ, List, false, Ok, Err, inr, refl, rules, sym, subst}
 use Rattle.std.proofs.lemmas.Grind.{merely}
 use Rattle.nv_session.proofs.Common.{DeviceState, Revives, assembly, device_state, life_begins, lines_of}
 use Rattle.nv_session.proofs.Common.{meter_gauge}
 use Rattle.slot_store.specs.declared.restoring.Restored.{Restored}
+use Rattle.slot_store.specs.Told.{CallsOfRestore}
+use Rattle.nv_session.specs.Faults.{HadOneRestore}
 use Rattle.nv_session.specs.Sessions.{restored_in}
 use Rattle.nv_session.proofs.Beginning.{FindsRestored, is_capacity, revives_restored}
-use Rattle.nv_session.proofs.Faults.{counts_alike, restore_counts}
+use Rattle.nv_session.proofs.Faults.{counts_alike, refused_calls, restore_counts}
 use Rattle.nv_session.proofs.session.Session.revive.Goals as goal
 use Rattle.nv_session.proofs.session.Session.revive.Goals.{In-Ok}
 
@@ -55,3 +57,22 @@ returns-in_err-restored-clause-faults g c =
 
 pub returns-clause-issued : goal.returns-clause-issued
 returns-clause-issued g c = record { it = c.in-Ok.life; runs = c.begin.ensures.life; checked_is = c.in-Ok.ensures.checked; none = c.in-Ok.ensures.issued }
+
+pub returns-clause-calls : goal.returns-clause-calls
+returns-clause-calls g c =
+    let old = device_state c.args.self.now.device in let read = device_state c.restore.new.device in let it : Restored = c.in_ok-restored.restored in
+    let lines : ℕ = lines_of c.args.self.now.profile.checked.geometry in
+    subst (λ (d : DeviceState). HadOneRestore lines (Ok it.head) old d) (sym c.begin.ensures.device)
+    (it, refl, subst (λ (n : ℕ). CallsOfRestore n (Ok it) old read) c.lines-lines.ensures.is c.in_ok-restored.ensures.calls)
+
+pub returns-in_default-clause-calls : goal.returns-in_default-clause-calls
+returns-in_default-clause-calls g c =
+    let old = device_state c.args.self.now.device in let read = device_state c.restore.new.device in let it : Restored = c.in_ok-restored.restored in
+    inr (it, subst (λ (n : ℕ). CallsOfRestore n (Ok it) old read) c.lines-lines.ensures.is c.in_ok-restored.ensures.calls)
+
+pub returns-in_err-restored-clause-calls : goal.returns-in_err-restored-clause-calls
+returns-in_err-restored-clause-calls g c =
+    let old = device_state c.args.self.now.device in let read = device_state c.restore.new.device in let error = c.in_err-restored.field-0.0 in
+    let calls = refused_calls (lines_of c.args.self.now.profile.checked.geometry) error old read
+    (subst (λ (n : ℕ). CallsOfRestore n (Err error) old read) c.lines-lines.ensures.is c.in_err-restored.ensures.calls) in
+    search (rules, calls)
