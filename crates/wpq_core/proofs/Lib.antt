@@ -1,2 +1,3 @@
 pub mod PendingLaws
 pub mod Numbers
+pub mod Shifts

@@ -1,8 +1,9 @@
 // The queue, with its room reserved once.
 ghost use Rattle.std.specs.Prelude.{◌≡◌, ℕ, ◌≤◌, ◌<◌, ◌^◌, ◌↔◌, [], length, nat_lt, count_by, IfErr, IfNone, IfOk, IfSome, IsOk, IsTrue, OnErr, OnOk, vec_capacity};
-ghost use Rattle.wpq_core.specs.Writes.{ComeBefore, IsNewest, IsPlaceOfWrite, TakesWrite, pending_write};
+ghost use Rattle.wpq_core.specs.Writes.{ComeBefore, IsLastPlace, IsNewest, IsPlaceOfWrite, NumbersRise, TakesWrite, lines_of, pending_write};
 ghost use Rattle.wpq_core.specs.Queue.{Queue, IsWriteQueue, PushesWrite};
 
+use crate::moves::take_out;
 use line_memory::{Line, Write};
 use std::alloc::{AllocError, Global};
 use std::marker::Model;
@@ -26,6 +27,8 @@ pub struct QueueFull {
 pub struct Wpq {
     depth: usize,
     writes: Vec<PendingWrite>,
+    // The line of each stands in a row of its own too, so that a look for one reads nothing else.
+    lines: Vec<u64>,
 }
 
 impl Model for Wpq {
@@ -33,7 +36,8 @@ impl Model for Wpq {
 
     ghost view = { λ q. record { depth = q.depth; writes = q.writes.items } };
 
-    ghost invariant = { λ q. IsWriteQueue (record { depth = q.depth; writes = q.writes.items }) × (q.depth ≤ vec_capacity q.writes) };
+    ghost invariant = { λ q. IsWriteQueue (record { depth = q.depth; writes = q.writes.items })
+        × (q.lines.items ≡ lines_of q.writes.items) × (q.depth ≤ vec_capacity q.writes) × (q.depth ≤ vec_capacity q.lines) };
 }
 
 impl Wpq {
@@ -48,6 +52,7 @@ impl Wpq {
         Ok(Wpq {
             depth,
             writes: Vec::with_capacity(alloc, depth)?,
+            lines: Vec::with_capacity(alloc, depth)?,
         })
     }
 
@@ -57,9 +62,12 @@ impl Wpq {
     {
         let mut writes = Vec::with_capacity(alloc, self.depth)?;
         writes.extend_from_slice(&self.writes)?;
+        let mut lines = Vec::with_capacity(alloc, self.depth)?;
+        lines.extend_from_slice(&self.lines)?;
         Ok(Wpq {
             depth: self.depth,
             writes,
+            lines,
         })
     }
 
@@ -123,15 +131,12 @@ impl Wpq {
             .count()
     }
 
-    /// The data of the newest pending write of a line; None exactly where none names the line. It looks at the pending
-    /// writes from the newest on, up to that one.
+    /// The data of the newest pending write of a line; None exactly where none names the line. It looks at the lines of the
+    /// pending writes from the newest on, up to that one.
     pub fn newest_for(&self, line: u64) -> Option<Line>
         ensures { IsNewest line self.now.writes result }
     {
-        let place = self
-            .writes
-            .iter()
-            .rposition(|pending| pending.write.line == line)?;
+        let place = last_place(&self.lines, line)?;
         Some(self.writes[place].write.data)
     }
 
@@ -152,26 +157,41 @@ impl Wpq {
         if self.is_full() {
             return Err(QueueFull { refused: pending });
         }
-        self.writes.push(pending).map_err(|back| QueueFull {
-            refused: back.value,
-        })
+        self.writes.push_reserved(pending);
+        self.lines.push_reserved(line);
+        Ok(())
     }
 
     /// Takes the pending write of a number out and gives its data; None, and the queue stays, exactly where no pending
-    /// write has the number. It costs the number of pending writes.
+    /// write has the number. It finds it by halves, and moves those behind it.
     pub fn take(&mut self, number: u64) -> Option<Line>
         ensures depth { self.new.depth ≡ self.old.depth }
         ensures takes { TakesWrite number self.old.writes result self.new.writes }
         ensures queue { IsWriteQueue self.new }
     {
         let place = place_of(&self.writes, number)?;
-        Some(self.writes.remove(place).write.data)
+        take_out(&mut self.lines, place);
+        Some(take_out(&mut self.writes, place).write.data)
     }
 }
 
-// Where the write of a number stands.
+// Where the write of a number stands, among writes whose numbers rise.
 fn place_of(writes: &[PendingWrite], number: u64) -> Option<usize>
+    requires { NumbersRise writes.now }
     ensures { IsPlaceOfWrite number writes.now result }
 {
-    writes.iter().position(|pending| pending.number == number)
+    let place = writes.partition_point(|pending| pending.number < number);
+    let pending = writes.get(place)?;
+    if pending.number == number {
+        Some(place)
+    } else {
+        None
+    }
+}
+
+// Where a line stands last among these, if it is one of them.
+fn last_place(lines: &[u64], line: u64) -> Option<usize>
+    ensures { IsLastPlace line lines.now result }
+{
+    lines.iter().rposition(|other| *other == line)
 }
