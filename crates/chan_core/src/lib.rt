@@ -1,5 +1,5 @@
-//! One channel: it takes writes and reads, reorders them by first-ready, first-come-first-served scheduling, obeys every
-//! timing rule and its refreshes, and still answers each read with the memory after all writes accepted before it.
+//! One channel: it takes writes and reads, reorders them by first-ready, first-come-first-served scheduling (FR-FCFS),
+//! obeys every timing rule and its refreshes, and still answers each read with the memory after all writes accepted before it.
 //!
 //! The definitions are in `specs`: what contracts see of a channel (`State.antt`), what each call does to it (`Calls.antt`)
 //! and what is true of every channel (`Always.antt`); a line and its place (`Mapped.antt`) and the open reads

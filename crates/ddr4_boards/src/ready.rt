@@ -42,7 +42,8 @@ impl<K: ChannelPort + Drop, D: SaveDevice + Drop, E: Energy + Drop> Ready<K, D, 
             self.tables self.recorded }
         ensures number { IfOk result (λ s. vec_len s.hosts ≡ B.parts) }
         ensures hosts { IfOk result (λ s.
-            All (λ h. h ≡ client self.tables.opening.mark self.tables.opening.mark 0 []) s.hosts.items) }
+            All (λ h. h ≡ client self.tables.opening.mark self.tables.opening.mark 0 [])
+            s.hosts.items) }
         ensures recorded { IfErr result (λ left. left.recorded ≡ self.recorded) }
         ensures notices { IfErr result (λ left. left.notices ≡ notices) }
     {

@@ -84,7 +84,8 @@ pub fn cost_of_a_closing_save()
 /// the last of them.
 pub fn honest_gauges()
     ensures falls { (kind : GaugeCall) (leak answer : ℕ) (old new : Gauge)
-        → ReadsLevel kind old answer new → IsHonestThrough leak old new → old.level ≤ new.level + leak }
+        → ReadsLevel kind old answer new → IsHonestThrough leak old new
+        → old.level ≤ new.level + leak }
     ensures told { (kind : GaugeCall) (leak answer : ℕ) (old new : Gauge)
         → ReadsLevel kind old answer new → IsHonestThrough leak old new → answer ≡ new.level }
     ensures backs { (kind : GaugeCall) (costs : Costs) (k ticks answer : ℕ) (old new : Gauge)

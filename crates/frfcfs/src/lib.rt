@@ -1,4 +1,4 @@
-//! The scheduler of a channel: first ready, first come, first served.
+//! The scheduler of a channel: first ready, first come, first served (FR-FCFS).
 //!
 //! The choice is the least candidate in the order of Rixner and others, "Memory Access Scheduling", ISCA 2000, made total:
 //! ranks whose refreshes are due come first, then column commands, then row commands, older requests first. The next

@@ -24,8 +24,8 @@ pub struct Next {
     pub serves: Option<usize>,
 }
 
-/// The choice at the clock: the least candidate in the order of first-ready, first-come-first-served scheduling (Rixner and
-/// others, "Memory Access Scheduling", ISCA 2000), None exactly where there is no candidate.
+/// The choice at the clock: the least candidate in the order of first-ready, first-come-first-served scheduling
+/// (FR-FCFS; Rixner and others, "Memory Access Scheduling", ISCA 2000), None exactly where there is no candidate.
 ///
 /// Ranks in lead come first; then the RD or WR of an eligible request whose row is open; then ACT and PRE; of two requests
 /// the older before. It takes no memory. It compares each two requests, to find which is the first of its line; a channel
@@ -43,7 +43,8 @@ pub fn choose(banks: &Banks, pending: &[Pending], clock: u64) -> Option<Command>
 // Is a rank in lead at the clock?
 fn is_in_lead(banks: &Banks, clock: u64) -> bool
     ensures { (list : List Stamped) → Stands banks.now list → (IsTrue result ↔
-        ((rank : ℕ) × (rank < banks.now.checked.geometry.ranks) × IsInLead banks.now.checked.timing list clock rank)) }
+        ((rank : ℕ) × (rank < banks.now.checked.geometry.ranks)
+        × IsInLead banks.now.checked.timing list clock rank)) }
 {
     for rank in 0..banks.checked().geometry.ranks {
         if banks.lead_from(rank) <= clock {
@@ -56,7 +57,8 @@ fn is_in_lead(banks: &Banks, clock: u64) -> bool
 // Is there work: a request that is eligible, as `any` says, or a rank in lead?
 fn has_work(banks: &Banks, any: bool, clock: u64) -> bool
     ensures { (list : List Stamped) → Stands banks.now list → (IsTrue result ↔
-        (((rank : ℕ) × (rank < banks.now.checked.geometry.ranks) × IsInLead banks.now.checked.timing list clock rank)
+        (((rank : ℕ) × (rank < banks.now.checked.geometry.ranks)
+        × IsInLead banks.now.checked.timing list clock rank)
         ⊎ IsTrue any)) }
 {
     any || is_in_lead(banks, clock)
@@ -81,7 +83,8 @@ pub fn next_command(banks: &Banks, queue: &Queue, now: u64) -> Option<Next>
         IsNext banks.now.checked list queue.now.requests now (Some next)) }
     ensures idle { (list : List Stamped) → Stands banks.now list →
         KeepsMargin banks.now.checked list → now ≡ last_clock list →
-        ((result ≡ None) ↔ (IsIdle banks.now.checked list queue.now.requests now ⊎ (2 ^ 62 ≤ now))) }
+        ((result ≡ None)
+        ↔ (IsIdle banks.now.checked list queue.now.requests now ⊎ (2 ^ 62 ≤ now))) }
     ensures keeps { IfSome result (λ next. (list : List Stamped) → Stands banks.now list →
         KeepsMargin banks.now.checked list → now ≡ last_clock list →
         KeepsMargin banks.now.checked (with_command list next.clock next.cmd)) }

@@ -37,7 +37,8 @@ impl Model for Queue {
     ghost view = { λ q. record { most = q.most; next = q.next; requests = drop q.start q.pending.items } };
 
     ghost invariant = { λ q. KeepsRequests q.most q.next q.start q.room q.pending.items q.lines.items q.keys.items
-        × (q.room ≤ vec_capacity q.pending) × (q.room ≤ vec_capacity q.lines) × (q.room ≤ vec_capacity q.keys) };
+        × (q.room ≤ vec_capacity q.pending) × (q.room ≤ vec_capacity q.lines)
+        × (q.room ≤ vec_capacity q.keys) };
 }
 
 // Is the line none of these?

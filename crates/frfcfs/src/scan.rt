@@ -66,7 +66,8 @@ impl Scan {
             IsScanFound banks.now.checked.geometry pending now limit self.old →
             IsScanFound banks.now.checked.geometry pending now limit self.new }
         ensures scanned { (list : List Stamped) (pending : List Pending) (request : Pending) →
-            (last limit : ℕ) → Stands banks.now list → AreEnds banks.now.checked list last ends.now →
+            (last limit : ℕ) → Stands banks.now list
+            → AreEnds banks.now.checked list last ends.now →
             ((rank : ℕ) → slice_index ends.now rank ≤ limit) →
             IsEligible pending index request → IsKeyOf request key.now →
             LiesIn banks.now.checked.geometry request.place →
@@ -117,9 +118,11 @@ impl Scan {
         requires most { self.old.most ≡ 0 }
         requires lie { All (λ key. LiesIn banks.now.checked.geometry (place_of key)) keys.now }
         requires early { (rank : ℕ) → slice_index ends.now rank ≤ limit_of last }
-        ensures any { (pending : List Pending) → AreKeysIn banks.now.checked.geometry pending keys.now →
+        ensures any { (pending : List Pending)
+            → AreKeysIn banks.now.checked.geometry pending keys.now →
             (IsTrue result ↔ HasEligibleIn banks.now.checked.geometry pending) }
-        ensures found { (pending : List Pending) → AreKeysIn banks.now.checked.geometry pending keys.now →
+        ensures found { (pending : List Pending)
+            → AreKeysIn banks.now.checked.geometry pending keys.now →
             IsScanFound banks.now.checked.geometry pending now (limit_of last) self.new }
         ensures scanned { (list : List Stamped) (pending : List Pending) → Stands banks.now list →
             AreEnds banks.now.checked list last ends.now →
@@ -139,7 +142,8 @@ impl Scan {
     // The best ACT or PRE, once each request was looked at.
     fn soonest_row(&self, banks: &Banks, pending: &[Pending], ends: &[u64; 4], now: u64) -> Best
         requires small { self.now.most ≤ 64 }
-        requires places { (index : ℕ) (request : Pending) → slice_get pending.now index ≡ Some request →
+        requires places { (index : ℕ) (request : Pending)
+            → slice_get pending.now index ≡ Some request →
             LiesIn banks.now.checked.geometry request.place }
         ensures found { (limit : ℕ) → ((rank : ℕ) → slice_index ends.now rank ≤ limit) →
             IsScanFound banks.now.checked.geometry pending.now now limit self.now →
@@ -148,7 +152,8 @@ impl Scan {
             Stands banks.now list → AreEnds banks.now.checked list last ends.now →
             ((rank : ℕ) → slice_index ends.now rank ≤ limit) →
             IsScanFound banks.now.checked.geometry pending.now now limit self.now →
-            AreScanned banks.now.checked list pending.now now last limit (length pending.now) self.now →
+            AreScanned banks.now.checked list pending.now now last limit
+            (length pending.now) self.now →
             IsBest (Takes (WantsRow list pending.now) banks.now.checked list pending.now last)
             now limit (length pending.now) result }
     {

@@ -53,11 +53,13 @@ pub(crate) fn rewrite<K: ChannelPort>(
     values: &HashMap<Vec<u8>, Vec<u8>>,
 ) -> Result<(), AppendRefusal>
     ensures done { IfOk result (λ done. (log : Log) (table : Table)
-        → IsIndexOf journal.old.index log → ((key : List ℕ) → held values.now key ≡ value_in key table)
+        → IsIndexOf journal.old.index log
+        → ((key : List ℕ) → held values.now key ≡ value_in key table)
         → HasCalled K.ChannelPort journal.old.index.lines (rewrites_of values.now.entries)
         log table journal.new.index nvdimm.old nvdimm.new) }
     ensures part { IfErr result (λ refusal. (log : Log) (table : Table)
-        → IsIndexOf journal.old.index log → ((key : List ℕ) → held values.now key ≡ value_in key table)
+        → IsIndexOf journal.old.index log
+        → ((key : List ℕ) → held values.now key ≡ value_in key table)
         → HasKeptUp K.ChannelPort journal.old.index.lines
         log table journal.new.index nvdimm.old nvdimm.new) }
     ensures found { All (IsHeld values.now) values.now.entries }
@@ -83,7 +85,8 @@ pub(crate) fn cut<K: ChannelPort>(
         → HasCalled K.ChannelPort journal.old.index.lines (whole_call (Cuts upto) ∷ [])
         log table journal.new.index nvdimm.old nvdimm.new)) }
     ensures none { IfOk result (λ cut. IfNone cut
-        ((upto ≡ journal.old.index.gone) × (journal.new ≡ journal.old) × (nvdimm.new ≡ nvdimm.old))) }
+        ((upto ≡ journal.old.index.gone) × (journal.new ≡ journal.old)
+        × (nvdimm.new ≡ nvdimm.old))) }
     ensures part { IfErr result (λ refusal. (log : Log) (table : Table)
         → IsIndexOf journal.old.index log
         → HasKeptUp K.ChannelPort journal.old.index.lines

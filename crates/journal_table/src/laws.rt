@@ -42,14 +42,16 @@ pub fn tables_live<K: ChannelPort>()
         Accepts K.ChannelPort device gauge
         (take one.made (call_writes (length image.memory) before (journal_call one.call))) old new
         → IsAllowed (length image.memory) before (journal_call one.call)
-        → (is_done (journal_attempt one) ≡ true → IsLawful (table_behind_calls table attempts) one.call)
+        → (is_done (journal_attempt one) ≡ true
+        → IsLawful (table_behind_calls table attempts) one.call)
         → HasTabled K.ChannelPort found image log table (attempts ++ one ∷ []) first
         (assembly new device gauge) }
     ensures upkeep { (found : Head) (image : Image) (log : Log) (table : Table)
         (attempts more : List TableAttempt) (first : Assembly K.ChannelPort) (index : Index)
         (old new : Module K K.ChannelPort) (device : DeviceState) (gauge : Gauge)
         → HasTabled K.ChannelPort found image log table attempts first (assembly old device gauge)
-        → HasCalled K.ChannelPort (length image.memory) more (log_behind_calls (length image.memory) log attempts)
+        → HasCalled K.ChannelPort (length image.memory) more
+        (log_behind_calls (length image.memory) log attempts)
         (table_behind_calls table attempts) index old new
         → HasTabled K.ChannelPort found image log table (attempts ++ more) first
         (assembly new device gauge) }
@@ -74,7 +76,8 @@ pub fn tables_live<K: ChannelPort>()
     ensures told { (found : Head) (image : Image) (log : Log) (table : Table)
         (before later : List TableAttempt) (change : Change) (appended : Appended)
         (first now : Assembly K.ChannelPort) (mark : ℕ) (bytes : List ℕ)
-        → HasAppended K.ChannelPort found image log (map journal_attempt before) (record_of change) appended
+        → HasAppended K.ChannelPort found image log (map journal_attempt before)
+        (record_of change) appended
         → HasTabled K.ChannelPort found image log table
         ((before ++ whole_call (Changes change) ∷ []) ++ later) first now
         → Holds image.memory log → IsTable log table

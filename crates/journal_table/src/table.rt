@@ -242,10 +242,12 @@ impl JournalTable {
     ) -> Result<Option<Accepted>, CompactRefusal>
         ensures done { IfOk result (λ cut. (log : Log) (table : Table)
             → IsTableOf self.old log table
-            → IsCompacted K.ChannelPort self.old.journal.index.lines log table self.new nvdimm.old nvdimm.new) }
+            → IsCompacted K.ChannelPort self.old.journal.index.lines log table self.new
+            nvdimm.old nvdimm.new) }
         ensures part { IfErr result (λ refusal. (log : Log) (table : Table)
             → IsTableOf self.old log table
-            → IsKeptUp K.ChannelPort self.old.journal.index.lines log table self.new nvdimm.old nvdimm.new) }
+            → IsKeptUp K.ChannelPort self.old.journal.index.lines log table self.new
+            nvdimm.old nvdimm.new) }
         ensures lines { self.new.journal.index.lines ≡ self.old.journal.index.lines }
         ensures setup { setup_of K.ChannelPort nvdimm.new ≡ setup_of K.ChannelPort nvdimm.old }
     {

@@ -30,7 +30,8 @@ pub fn saves_leave_old_or_new()
         → IsGuarded old.machine → IsUnsaving old.machine
         → (run : Run setup (event.SaveBegin ∷ events) (reply.SaveBegin (Ok tt) ∷ replies) old mid)
         → DisturbNoSave setup events replies run.0 mid run.2
-        → HappensNext setup next told mid new → DisturbsNoSave next told mid.machine.mode new.machine.mode
+        → HappensNext setup next told mid new
+        → DisturbsNoSave next told mid.machine.mode new.machine.mode
         → LeavesOnly mid.device new.device
         (λ bytes. IsOldOrNew old.machine (restored setup.shape.lines bytes)) }
     ensures instead { (setup : Setup) (first : Event) (told : Reply) (events : List Event)

@@ -37,7 +37,8 @@ impl Model for Wpq {
     ghost view = { λ q. record { depth = q.depth; writes = q.writes.items } };
 
     ghost invariant = { λ q. IsWriteQueue (record { depth = q.depth; writes = q.writes.items })
-        × (q.lines.items ≡ lines_of q.writes.items) × (q.depth ≤ vec_capacity q.writes) × (q.depth ≤ vec_capacity q.lines) };
+        × (q.lines.items ≡ lines_of q.writes.items) × (q.depth ≤ vec_capacity q.writes)
+        × (q.depth ≤ vec_capacity q.lines) };
 }
 
 impl Wpq {
