@@ -3,7 +3,7 @@ use Rattle.std.specs.Prelude.{◌≡◌, ◌⊎◌, ℕ, List, String, codes}
 use Rattle.std.specs.Borrow.{Bor}
 use Rattle.std.specs.declared.alloc.Global.{Global}
 use Rattle.command_faults.specs.declared.fault.ProgramFault.{ProgramFault}
-use Rattle.command_faults.specs.declared.fault.ProgramFault.TheVariants.{Words, Out, Kept, Commands, Columns, NoTerm, Profile, NoProfile, File, Memory}
+use Rattle.command_faults.specs.declared.fault.ProgramFault.TheVariants.{Words, Out, Kept, Commands, Svg, Vcd, Columns, NoTerm, Profile, NoProfile, File, Memory}
 
 -- 2 for a mistake in the program's words, and else 1
 abbrev pub status_of : ProgramFault → ℕ
@@ -11,6 +11,8 @@ status_of Words = 2
 status_of (Out why) = 2
 status_of (Kept why) = 2
 status_of (Commands why) = 2
+status_of (Svg why) = 2
+status_of (Vcd why) = 2
 status_of Columns = 2
 status_of (NoTerm word) = 2
 status_of _ = 1

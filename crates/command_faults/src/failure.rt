@@ -25,6 +25,13 @@ pub struct Failure<'a> {
     pub reason: Option<Reason>,
 }
 
+impl Reason {
+    /// Why a call of the system came to this error, where the program has words for it.
+    pub fn of_error(error: &io::Error) -> Option<Reason> {
+        why_no_file(error.kind()).map(Reason::Known)
+    }
+}
+
 impl fmt::Display for Reason {
     fn fmt<W: fmt::Write>(&self, f: &mut fmt::Formatter<W>) -> fmt::Result {
         match self {
@@ -47,7 +54,7 @@ impl<'a> Failure<'a> {
         }
         Failure {
             fault: ProgramFault::File(name),
-            reason: why_no_file(error.kind()).map(Reason::Known),
+            reason: Reason::of_error(error),
         }
     }
 

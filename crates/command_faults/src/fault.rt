@@ -38,6 +38,12 @@ pub enum ProgramFault<'a> {
     /// The word behind `--commands` names no file for commands, for this reason.
     #[error("--commands {0}")]
     Commands(&'static str),
+    /// The word behind `--svg` names no file for a picture, for this reason.
+    #[error("--svg {0}")]
+    Svg(&'static str),
+    /// The word behind `--vcd` names no file for a picture, for this reason.
+    #[error("--vcd {0}")]
+    Vcd(&'static str),
     /// The words behind `--form` and `--columns` name no form of a trace.
     #[error("--columns")]
     Columns,
@@ -66,6 +72,8 @@ impl ProgramFault<'_> {
             ProgramFault::Out(_) => ExitCode::from(2),
             ProgramFault::Kept(_) => ExitCode::from(2),
             ProgramFault::Commands(_) => ExitCode::from(2),
+            ProgramFault::Svg(_) => ExitCode::from(2),
+            ProgramFault::Vcd(_) => ExitCode::from(2),
             ProgramFault::Columns => ExitCode::from(2),
             ProgramFault::NoTerm(_) => ExitCode::from(2),
             _ => ExitCode::FAILURE,

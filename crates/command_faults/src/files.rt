@@ -1,5 +1,5 @@
 // The files that the words name.
-ghost use Rattle.std.specs.Prelude.{◌⊎◌, ℕ, List, IfErr, IfOk, OnOk};
+ghost use Rattle.std.specs.Prelude.{◌≡◌, ◌⊎◌, ℕ, List, IfErr, IfOk, IsTrue, OnOk};
 ghost use Rattle.std.specs.Io.KnownBytes.{Keeps};
 ghost use Rattle.nv_profile.specs.Ready.{IsReadyWord};
 ghost use Rattle.command_faults.specs.Exit.{IsNoProfile, IsOfFile, IsOfNoFile, IsOfOutput};
@@ -15,6 +15,7 @@ use profile_report::reasons;
 use std::alloc::{AllocError, Global};
 use std::fs::{self, File};
 use std::io::{Input, Read, Write};
+use std::os::unix::fs::MetadataExt;
 use std::rt::Files;
 
 /// Who gives the bytes that the words of the program name. Its type may say which ones; that of a real system claims nothing, since no
@@ -153,6 +154,23 @@ pub fn is_file<'a, R: Files>(rt: &R, name: &'a str) -> Result<bool, Failure<'a>>
     match fs::metadata(rt, name) {
         Ok(found) => Ok(found.is_file()),
         Err(error) => Err(Failure::of_file(name, &error)),
+    }
+}
+
+/// Do two words name one file? A word names the same file as itself, and two others do where the system has them as one place: by
+/// another path, by a link, by a second name. A file that isn't there is named by its own word alone.
+pub fn is_one_file<R: Files>(rt: &R, one: &str, other: &str) -> bool
+    ensures { one.now ≡ other.now → IsTrue result }
+{
+    if one == other {
+        return true;
+    }
+    match (fs::metadata(rt, one), fs::metadata(rt, other)) {
+        // a system that numbers no files has 0 for each
+        (Ok(one), Ok(other)) => one.ino() != 0
+            && one.ino() == other.ino()
+            && one.dev() == other.dev(),
+        _ => false,
     }
 }
 

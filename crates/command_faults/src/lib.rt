@@ -7,4 +7,4 @@ mod files;
 
 pub use failure::{Failure, Reason};
 pub use fault::ProgramFault;
-pub use files::{FileHost, asked_numbers, flush, is_file, profile_of, rules_of};
+pub use files::{FileHost, asked_numbers, flush, is_file, is_one_file, profile_of, rules_of};

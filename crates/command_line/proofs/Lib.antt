@@ -2,9 +2,11 @@ pub mod BadLines
 pub mod Devices
 pub mod Lints
 pub mod Lives
+pub mod Outcomes
 pub mod Statuses
 pub mod Stops
 pub mod Stores
 pub mod TermWords
 pub mod Told
 pub mod Unread
+pub mod VerbWords

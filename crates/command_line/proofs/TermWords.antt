@@ -1,5 +1,5 @@
 -- Words of terms.
-use Rattle.std.proofs.Common.{◌≡◌, ℕ, zero, suc, ◌+◌, ◌<◌, List, [], ◌∷◌, ◌++◌, codes, length, map, slice_index_or, Contains, IfSome, Option, Some, None, arith, refl, subst, sym}
+use Rattle.std.proofs.Common.{◌≡◌, ℕ, zero, suc, ◌<◌, List, [], ◌∷◌, ◌++◌, codes, length, map, slice_index_or, Contains, IfSome, Option, Some, None, arith, refl, subst, sym}
 use Rattle.std.specs.Borrow.{Bor}
 use Rattle.std.specs.String.{string_bytes}
 use Rattle.command_faults.specs.declared.failure.Reason.{Reason}

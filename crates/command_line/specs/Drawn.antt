@@ -1,7 +1,13 @@
 -- The schedule that words name.
-use Rattle.std.specs.Prelude.{◌≡◌, ◌⊎◌, ℕ, List, [], filter_map}
+use Rattle.std.specs.Prelude.{◌≡◌, ◌≢◌, ◌⊎◌, ℕ, List, Option, IfSome, [], codes, filter_map}
+use Rattle.std.specs.Borrow.{Bor}
+use Rattle.std.specs.Option.{option_map}
+use Rattle.clap.specs.Words.{first_value, found_of}
+use Rattle.clap.specs.declared.parser.matches.ArgMatches.{ArgMatches}
 use Rattle.command_faults.specs.Named.{NamesProfile, NamesRules}
+use Rattle.command_line.specs.Verbs.{profile_word, schedule_word}
 use Rattle.command_line.specs.Whole.{HasAllCommands}
+use Rattle.command_line.specs.declared.draw.Pictures.{Pictures}
 use Rattle.command_trace.specs.declared.entry.Located.{Located}
 use Rattle.ddr4_timing.specs.Limits.{lines_of}
 use Rattle.ddr4_timing.specs.declared.timing.CommandRules.{CommandRules}
@@ -41,6 +47,22 @@ DrawsScriptBy gives profile_word text schedule = (profile : Profile) × NamesPro
 -- a trace or a script, this text, is drawn by the profile of this word
 abbrev pub IsDrawnBy : (List ℕ → List ℕ → Type 0) → List ℕ → List ℕ → Schedule → Type 0
 IsDrawnBy gives profile_word text schedule = DrawsTraceBy gives profile_word schedule ⊎ DrawsScriptBy gives profile_word text schedule
+
+-- the file of this name is one that the words have for what a drawing reads
+abbrev pub IsReadBy : ArgMatches → List ℕ → Type 0
+IsReadBy matches name = (name ≢ codes "-") × ((name ≡ profile_word matches) ⊎ (name ≡ schedule_word matches))
+
+-- the words ask for a picture of this form, and name its file
+abbrev pub IsAskedPicture : ArgMatches → List ℕ → Option (Bor (List ℕ)) → Type 0
+IsAskedPicture matches form file = option_map (λ name. name.now) file ≡ first_value (found_of matches) form
+
+-- the files of the pictures that the words ask for: none is read, and they are two
+pub record ArePicturesOf (matches : ArgMatches) (pictures : Pictures) : Type 0 where
+  pub svg : IsAskedPicture matches (codes "svg") pictures.svg
+  pub vcd : IsAskedPicture matches (codes "vcd") pictures.vcd
+  pub svg_unread : IfSome pictures.svg (λ name. ¬ IsReadBy matches name.now)
+  pub vcd_unread : IfSome pictures.vcd (λ name. ¬ IsReadBy matches name.now)
+  pub apart : IfSome pictures.svg (λ one. IfSome pictures.vcd (λ other. one.now ≢ other.now))
 
 -- the whole schedule is shown, or what of its shapes lies between two clocks
 abbrev pub IsRangeShown : Schedule → Schedule → Type 0

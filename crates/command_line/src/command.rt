@@ -14,15 +14,17 @@ use crate::draw::draw;
 use crate::help::{complete, explain_word, tell_version};
 use crate::lint::lint;
 use crate::live::live;
+use crate::outlet::Outgoing;
 use crate::profile::explain;
 use crate::script::answer;
 use crate::store::show;
 use clap::error::ErrorKind;
 use clap::{ArgMatches, Error as UsageError};
-use command_faults::{Failure, FileHost, ProgramFault};
+use command_faults::{Failure, FileHost, ProgramFault, Reason};
 use command_help::known_terms;
 use command_words::parser;
 use live_store::Host;
+use nv_script::ScriptFault;
 use std::env::{self, Env};
 use std::io::{self, Eprint, Input, Print, Write};
 use std::process::ExitCode;
@@ -46,7 +48,7 @@ pub fn words_of<R: Env + AllocGlobal>(rt: &R) -> Result<Vec<String>, ProgramFaul
 
 /// Does what the words say, with the answers to `writer`. Where they aren't the program's usage, clap's text tells it on
 /// standard error, and the exit status is 2; help goes to standard output, and the status is 0. A failure has its reason only
-/// where someone looks at standard error, or where the words ask for it.
+/// where someone looks at standard error, or where the words ask for it; why standard output takes no more, its writer tells.
 ///
 /// Faults are found in this order: of the words, of the profile, of the script or the trace, of the run. Nothing is written
 /// before the last of these.
@@ -58,7 +60,7 @@ pub fn run<'a, R, W>(
 ) -> Result<ExitCode, Failure<'a>>
 where
     R: Files + FileHost + Host + StoreHost + Input + Print + Eprint + Clock + AllocGlobal,
-    W: Write,
+    W: Outgoing,
 {
     let parser = parser(rt.alloc(), VERSION)?;
     let matches = match parser.try_get_matches_from(words) {
@@ -70,8 +72,23 @@ where
     };
     match done(rt, verb, found, is_watched, writer) {
         Ok(code) => Ok(code),
-        Err(failure) if is_watched || found.get_flag("why") => Err(failure),
+        Err(failure) if is_watched || found.get_flag("why") => Err(reasoned(failure, writer)),
         Err(failure) => Err(Failure::from(failure.fault)),
+    }
+}
+
+// The failure with its reason, which its writer has where standard output takes no more.
+fn reasoned<'a, W: Outgoing>(failure: Failure<'a>, writer: &W) -> Failure<'a>
+    ensures { result.fault ≡ failure.entry.fault }
+{
+    let reason = match (&failure.fault, writer.refusal()) {
+        (ProgramFault::File("-") | ProgramFault::Script(ScriptFault::Writer), Some(error)) =>
+            Reason::of_error(&error),
+        _ => None,
+    };
+    Failure {
+        fault: failure.fault,
+        reason: failure.reason.or(reason),
     }
 }
 

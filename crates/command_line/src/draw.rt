@@ -1,8 +1,8 @@
 // A schedule drawn: of a trace, or of all commands of a script.
-ghost use Rattle.std.specs.Prelude.{◌≡◌, IfErr, IfOk, OnOk};
+ghost use Rattle.std.specs.Prelude.{◌≡◌, IfErr, IfOk, IfSome, IsSome, OnOk};
 ghost use Rattle.std.specs.Process.{exit_status};
-ghost use Rattle.command_faults.specs.Exit.{IsOfFile};
-ghost use Rattle.command_line.specs.Drawn.{DrawsScript, DrawsScriptBy, DrawsSome, DrawsTraceBy, HasSchedule, IsDrawnBy, IsRangeShown, IsScheduleNamed};
+ghost use Rattle.command_faults.specs.Exit.{IsOfFile, status_of};
+ghost use Rattle.command_line.specs.Drawn.{ArePicturesOf, DrawsScript, DrawsScriptBy, DrawsSome, DrawsTraceBy, HasSchedule, IsDrawnBy, IsRangeShown, IsReadBy, IsScheduleNamed};
 ghost use Rattle.command_line.specs.Verbs.{profile_word, schedule_word};
 
 use crate::check::of_trace;
@@ -10,7 +10,7 @@ use crate::command::word_or;
 use crate::forms::form_asked;
 use crate::whole::told_whole;
 use clap::ArgMatches;
-use command_faults::{Failure, FileHost, ProgramFault, profile_of, rules_of};
+use command_faults::{Failure, FileHost, ProgramFault, is_one_file, profile_of, rules_of};
 use command_trace::{Form, TraceFault, TraceReader, form_of};
 use crash_table::Trials;
 use ddr4_timing::timing::CommandRules;
@@ -31,6 +31,13 @@ enum PictureForm {
     Vcd,
 }
 
+// The files of the pictures that the words ask for.
+#[derive(Clone, Copy, Drop)]
+struct Pictures<'a> {
+    svg: Option<&'a str>,
+    vcd: Option<&'a str>,
+}
+
 /// Draws the trace or the script that the words name, as each picture that they ask for: into a file, or to standard output.
 pub(crate) fn draw<'a, R, W>(
     rt: &R,
@@ -43,15 +50,61 @@ where
     ensures { IfOk result (λ code. (exit_status code ≡ 0) × HasSchedule (R.gives rt.now)
         (profile_word matches.now) (schedule_word matches.now)) }
 {
+    let pictures = pictures_asked(rt, matches)?;
     let mut schedule = schedule_asked(rt, matches)?;
     show_range(rt.alloc(), matches, &mut schedule)?;
-    if let Some(name) = matches.get_str("svg") {
+    if let Some(name) = pictures.svg {
         put_picture(rt, &schedule, PictureForm::Svg, name, writer)?;
     }
-    if let Some(name) = matches.get_str("vcd") {
+    if let Some(name) = pictures.vcd {
         put_picture(rt, &schedule, PictureForm::Vcd, name, writer)?;
     }
     Ok(ExitCode::SUCCESS)
+}
+
+// The pictures that the words ask for. Each is refused where it would be written over what is read, the second where it would be
+// written over the first.
+fn pictures_asked<'a, R: Files>(
+    rt: &R,
+    matches: &ArgMatches<'a>,
+) -> Result<Pictures<'a>, ProgramFault<'static>>
+    ensures asked { IfOk result (ArePicturesOf matches.now) }
+    ensures fault { IfErr result (λ fault. status_of fault ≡ 2) }
+{
+    let svg = matches.get_str("svg");
+    let vcd = matches.get_str("vcd");
+    if let Some(why) = why_undrawn(rt, matches, svg) {
+        return Err(ProgramFault::Svg(why));
+    }
+    if let Some(why) = why_undrawn(rt, matches, vcd) {
+        return Err(ProgramFault::Vcd(why));
+    }
+    match (svg, vcd) {
+        (Some(one), Some(other)) if is_one_file(rt, one, other) => {
+            Err(ProgramFault::Vcd("names the picture of --svg"))
+        }
+        _ => Ok(Pictures { svg, vcd }),
+    }
+}
+
+// Why no picture is written to a file of this name, if there is one: the words have it for what is read. - is another for each.
+fn why_undrawn<R: Files>(
+    rt: &R,
+    matches: &ArgMatches<'_>,
+    name: Option<&str>,
+) -> Option<&'static str>
+    ensures { IfSome name.entry (λ name. IsReadBy matches.now name.now → IsSome result) }
+{
+    let name = name?;
+    if name == "-" {
+        None
+    } else if is_one_file(rt, name, word_or(matches, "PROFILE", "tiny")) {
+        Some("names the profile")
+    } else if is_one_file(rt, name, word_or(matches, "SCHEDULE", "-")) {
+        Some("names what is drawn")
+    } else {
+        None
+    }
 }
 
 // The schedule that the words name.

@@ -22,5 +22,5 @@ pub use check::verdict;
 pub use command::{run, words_of};
 pub use help::{write_explained, write_version};
 pub use lint::write_bad_lines;
-pub use outlet::Outlet;
+pub use outlet::{Outgoing, Outlet};
 pub use store::{STORE_BYTES, answer_store, show_store};

@@ -1,16 +1,24 @@
-// Standard output that may be closed by its reader.
-ghost use Rattle.std.specs.Prelude.{◌≡◌, false};
+// Standard output that may be closed by its reader, or take no more.
+ghost use Rattle.std.specs.Prelude.{◌≡◌, None, Some, false};
 ghost use Rattle.std.specs.Io.{WritesAtMost};
 ghost use Rattle.std.specs.Io.KnownBytes.{Keeps, WriteAppends};
 ghost use Rattle.command_line.specs.Outlets.{IsNoted, IsNotedOf};
 
-use std::io::{self, ErrorKind, Write};
+use std::io::{self, BufWriter, ErrorKind, Write};
 
-/// A writer that notes whether a write was refused since nobody reads any more: a pipe that its reader has closed.
+/// A writer that tells why it took no more.
+pub trait Outgoing: Write {
+    /// Why the last call that failed did; None where none did.
+    fn refusal(&self) -> Option<io::Error>;
+}
+
+/// A writer that notes why a call was last refused, and whether one was since nobody reads any more: a pipe that its reader has
+/// closed.
 #[derive(Drop)]
 pub struct Outlet<W> {
     inner: W,
     is_closed: bool,
+    refusal: Option<io::Error>,
 }
 
 impl<W: Write> Outlet<W> {
@@ -18,10 +26,12 @@ impl<W: Write> Outlet<W> {
     pub fn new(inner: W) -> Outlet<W>
         ensures inner { result.inner ≡ inner }
         ensures open { result.is_closed ≡ false }
+        ensures none { result.refusal ≡ None }
     {
         Outlet {
             inner,
             is_closed: false,
+            refusal: None,
         }
     }
 
@@ -35,7 +45,9 @@ impl<W: Write> Outlet<W> {
     fn note(&mut self, error: &io::Error)
         ensures inner { self.new.inner ≡ self.old.inner }
         ensures noted { IsNoted error.now self.old.is_closed self.new.is_closed }
+        ensures refusal { self.new.refusal ≡ Some error.now }
     {
+        self.refusal = Some(*error);
         if error.kind() == ErrorKind::BrokenPipe {
             self.is_closed = true;
         }
@@ -71,5 +83,19 @@ impl<W: Write> Write for Outlet<W> {
                 Err(error)
             }
         }
+    }
+}
+
+impl<W: Write> Outgoing for Outlet<W> {
+    fn refusal(&self) -> Option<io::Error>
+        ensures { result ≡ self.now.refusal }
+    {
+        self.refusal
+    }
+}
+
+impl<W: Write + Drop> Outgoing for BufWriter<Outlet<W>> {
+    fn refusal(&self) -> Option<io::Error> {
+        self.get_ref().refusal()
     }
 }

@@ -1,7 +1,9 @@
 // A script, run.
 ghost use Rattle.std.specs.Prelude.{◌≡◌, IfOk};
 ghost use Rattle.std.specs.Process.{exit_status};
+ghost use Rattle.command_faults.specs.Named.{OfScriptNamed};
 ghost use Rattle.command_line.specs.Verbs.{profile_word, script_word};
+ghost use Rattle.run_command.specs.Whole.{IsRunWhole};
 
 use crate::command::word_or;
 use clap::ArgMatches;
@@ -21,9 +23,11 @@ pub(crate) fn answer<'a, R, W>(
 where
     R: Files + FileHost + StoreHost + AllocGlobal,
     W: Write,
-    ensures { IfOk result (λ code. exit_status code ≡ 0) }
+    ensures { IfOk result (λ code. (exit_status code ≡ 0) × OfScriptNamed (R.gives rt.now)
+        (profile_word matches.now) (script_word matches.now) IsRunWhole) }
 {
-    run_named(rt, words_asked(matches)?, writer)?;
+    let words = words_asked(matches)?;
+    run_named(rt, words, writer)?;
     Ok(ExitCode::SUCCESS)
 }
 

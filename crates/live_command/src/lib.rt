@@ -6,7 +6,8 @@ ghost use Rattle.command_faults.specs.Exit.{status_of};
 ghost use Rattle.command_faults.specs.Named.{HasProfile};
 ghost use Rattle.live_command.specs.Faults.{IsFaultOf, IsOfStore};
 
-use command_faults::{Failure, FileHost, ProgramFault, profile_of};
+use command_faults::{Failure, FileHost, ProgramFault, Reason, profile_of};
+use file_device::OpenFault;
 use live_store::{Host, LiveFault, TalkFault, live};
 use std::alloc::Global;
 use std::io::{Input, Write};
@@ -31,7 +32,18 @@ where
     let profile = profile_of(rt, words.profile)?;
     match live(rt, &profile, words.store, writer) {
         Ok(()) => Ok(()),
-        Err(fault) => Err(Failure::from(told(rt.alloc(), fault))),
+        Err(fault) => Err(Failure {
+            fault: told(rt.alloc(), fault),
+            reason: why_not_opened(fault),
+        }),
+    }
+}
+
+// The program's own words for what the system said of the file.
+fn why_not_opened(fault: LiveFault) -> Option<Reason> {
+    match fault {
+        LiveFault::Open(OpenFault::Io(error)) => Reason::of_error(&error),
+        _ => None,
     }
 }
 

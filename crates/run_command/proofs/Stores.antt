@@ -1,8 +1,9 @@
 -- A run on the device of a store, told of the store.
-use Rattle.std.proofs.Common.{◌≡◌, ℕ, List, Option, Result, Ok, Err, IfOk, ap, subst, sym, ◌∙◌}
+use Rattle.std.proofs.Common.{◌≡◌, ℕ, List, Option, Result, Ok, Err, IfOk, OnOk, ap, subst, sym, ◌∙◌}
 use Rattle.save_device.specs.Memory.{state_of}
 use Rattle.save_device.specs.declared.memory.MemoryDevice.{MemoryDevice}
 use Rattle.channel_port.specs.declared.port.ChannelPort.{Ghosts}
+use Rattle.ddr4_timing.specs.Limits.{lines_of}
 use Rattle.nv_profile.specs.declared.profile.Profile.{Profile}
 use Rattle.nv_session.specs.declared.wires.Wires as wires
 use Rattle.nv_script.specs.declared.answer.Answer.{Answer}
@@ -10,8 +11,10 @@ use Rattle.nv_script.specs.declared.line.ScriptLine.{ScriptLine}
 use Rattle.nv_script.specs.Texts.{IsScript}
 use Rattle.script_runner.specs.Ended.{Kept}
 use Rattle.script_runner.specs.Runs.{IsKeptRunOn}
+use Rattle.script_runner.specs.Story.{AreAllAnswered}
 use Rattle.store_file.specs.Stores.{device_in}
 use Rattle.run_command.specs.Stored.{RunsOnStore, RunsScriptOn, size_for}
+use Rattle.run_command.specs.Whole.{RunsWhole}
 
 module _ {K A : Type 0} (L : Ghosts K) (W : wires.Ghosts A K) (Wired : A → Type 0) (profile : Profile) (text : List ℕ) (kept : Option Kept) (device : MemoryDevice) where
   pub runs_on_store : (before mid after : List Answer) (size : ℕ) (bytes old new : List ℕ) → after ≡ mid → size ≡ size_for profile → bytes ≡ device_in size old
@@ -26,6 +29,16 @@ module _ {K A : Type 0} (L : Ghosts K) (W : wires.Ghosts A K) (Wired : A → Typ
             (subst (λ (row : List ℕ). RunsScriptOn L W Wired profile row text before mid kept device) on_old ran);
         left = ap (λ (n : ℕ). device_in n new) (sym is) ∙ left;
       }
+
+  -- the lines of a text that was run on a device have all their answers
+  pub ran_whole : (bytes : List ℕ) (before mid after : List Answer) → after ≡ mid → RunsScriptOn L W Wired profile bytes text before mid kept device → RunsWhole profile text before after
+  ran_whole bytes before mid after same ran =
+      (ran.lines, ran.script, subst (λ (answers : List Answer). AreAllAnswered (lines_of profile.checked.geometry) ran.lines before answers) (sym same) ran.runs.run.done.all)
+
+-- what is so is so where a call came to an end
+pub on_ok : {A E P : Type 0} (result : Result A E) → P → OnOk result P
+on_ok (Ok value) is = is
+on_ok (Err fault) is = tt
 
 module _ {K A E : Type 0} (L : Ghosts K) (W : wires.Ghosts A K) (Wired : A → Type 0) (profile : Profile) (text : List ℕ) (kept : Option Kept) where
   pub script_ran : (bytes row : List ℕ) (lines : List ScriptLine) (before after : List Answer) (result : Result MemoryDevice E)

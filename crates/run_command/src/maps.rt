@@ -1,12 +1,10 @@
 // Scripts over closures of both ready-made maps.
-ghost use Rattle.std.specs.Prelude.{◌≡◌, ◌<◌, List, IfSome, OnOk};
+ghost use Rattle.std.specs.Prelude.{◌≡◌, ◌<◌, IfSome, OnOk};
 ghost use Rattle.ddr4_timing.specs.Limits.{lines_of};
 ghost use Rattle.ddr4_timing.specs.Places.{LiesIn};
 ghost use Rattle.interleave_map.specs.Ready.{place_by};
-ghost use Rattle.nv_script.specs.Texts.{IsScript};
-ghost use Rattle.nv_script.specs.declared.line.ScriptLine.{ScriptLine};
+ghost use Rattle.run_command.specs.Whole.{RunsWhole};
 ghost use Rattle.script_runner.specs.Ended.{nothing};
-ghost use Rattle.script_runner.specs.Story.{AreAllAnswered};
 
 use crate::printer::AnswerPrinter;
 use ddr4_timing::place::Place;
@@ -47,9 +45,7 @@ pub fn report_on_maps<R: Report>(
     book: &mut CommandBook,
 ) -> Result<MemoryDevice, ScriptFault>
     requires { IfSome book.old (λ kept. kept ≡ nothing) }
-    ensures answered { OnOk result ((lines : List ScriptLine)
-        × IsScript profile.now.checked.geometry script.now lines
-        × AreAllAnswered (lines_of profile.now.checked.geometry) lines
+    ensures { OnOk result (RunsWhole profile.now script.now
         (R.answers report.old) (R.answers report.new)) }
 {
     let lines = read_script(alloc, script, &profile.checked.geometry)?;

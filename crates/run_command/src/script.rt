@@ -1,7 +1,9 @@
 // A script, run.
-ghost use Rattle.std.specs.Prelude.{◌≡◌, ◌⊎◌, ◌↔◌, codes, IfSome, IsErrAnd, IsSome};
+ghost use Rattle.std.specs.Prelude.{◌≡◌, ◌⊎◌, ◌↔◌, codes, IfOk, IfSome, IsErrAnd, IsSome, OnOk};
 ghost use Rattle.command_faults.specs.Exit.{status_of};
+ghost use Rattle.command_faults.specs.Named.{OfScriptNamed};
 ghost use Rattle.run_command.specs.Refused.{IsNoStore, NamesNoCommands, NamesNoStore};
+ghost use Rattle.run_command.specs.Whole.{IsRunWhole, RunsWhole};
 ghost use Rattle.script_runner.specs.Ended.{nothing};
 
 use crate::lives::write_lives;
@@ -10,13 +12,13 @@ use crate::printer::AnswerPrinter;
 use crate::requests::waits_of_lives;
 use crate::statistics::write_statistics;
 use crate::stored::{StoredFault, bytes_of_device, run_on_store};
-use command_faults::{Failure, FileHost, ProgramFault, flush, profile_of};
+use command_faults::{Failure, FileHost, ProgramFault, Reason, flush, is_one_file, profile_of};
 use file_device::OpenFault;
 use interleave_map::{Interleaving, ReadyMap};
 use nv_profile::Profile;
 use nv_script::{Answer, SCRIPT_BYTES, read_script};
 use save_device::MemoryDevice;
-use script_runner::CommandBook;
+use script_runner::{CommandBook, Report};
 use std::alloc::Global;
 use std::io::{ErrorKind, Write};
 use std::rt::Files;
@@ -57,13 +59,15 @@ where
     ensures refused { NamesNoStore words.entry ⊎ NamesNoCommands words.entry
         → (writer.new ≡ writer.old)
         × IsErrAnd result (λ failure. status_of failure.fault ≡ 2) }
+    ensures run { IfOk result (λ _. OfScriptNamed (R.gives rt.now)
+        words.entry.profile.now words.entry.script.now IsRunWhole) }
 {
     if let Some(store) = words.store {
-        if let Some(fault) = refusal(store, words.profile, words.script) {
+        if let Some(fault) = refusal(rt, store, words.profile, words.script) {
             return Err(Failure::from(fault));
         }
     }
-    if let Some(fault) = commands_refusal(words) {
+    if let Some(fault) = commands_refusal(rt, words) {
         return Err(Failure::from(fault));
     }
     run_allowed(rt, words, writer)
@@ -74,12 +78,30 @@ fn run_allowed<'a, R, W>(rt: &R, words: RunWords<'a>, writer: &mut W) -> Result<
 where
     R: Files + FileHost + StoreHost + AllocGlobal,
     W: Write,
+    ensures { IfOk result (λ _. OfScriptNamed (R.gives rt.now)
+        words.entry.profile.now words.entry.script.now IsRunWhole) }
 {
     let profile = profile_of(rt, words.profile)?;
     // as far as a good script can need them
     let script = rt.bytes_of(words.script, SCRIPT_BYTES)?;
+    run_read(rt, &profile, &script, words, writer)
+}
+
+// The same, of a profile and a script that were read.
+fn run_read<'a, R, W>(
+    rt: &R,
+    profile: &Profile,
+    script: &[u8],
+    words: RunWords<'a>,
+    writer: &mut W,
+) -> Result<(), Failure<'a>>
+where
+    R: Files + StoreHost + AllocGlobal,
+    W: Write,
+    ensures { IfOk result (λ _. IsRunWhole profile.now script.now) }
+{
     let mut book = book_for(rt.alloc(), words);
-    let answers = run_words(rt, &profile, &script, words, writer, &mut book)?;
+    let answers = run_words(rt, profile, script, words, writer, &mut book)?;
     if !keeps_commands(words) {
         return Ok(());
     }
@@ -87,8 +109,8 @@ where
         return Err(Failure::from(ProgramFault::Memory));
     };
     if let Some(answers) = answers {
-        let lines = read_script(rt.alloc(), &script, &profile.checked.geometry)?;
-        let waits = waits_of_lives(rt.alloc(), &profile, &lines, &answers, &run)?;
+        let lines = read_script(rt.alloc(), script, &profile.checked.geometry)?;
+        let waits = waits_of_lives(rt.alloc(), profile, &lines, &answers, &run)?;
         let rules = profile.checked.rules();
         write_statistics(
             rt.alloc(),
@@ -136,21 +158,13 @@ where
     R: Files + StoreHost + AllocGlobal,
     W: Write,
     requires { IfSome book.old (λ kept. kept ≡ nothing) }
+    ensures { IfOk result (λ _. IsRunWhole profile.now script.now) }
 {
     let mut printer = AnswerPrinter::new(rt.alloc(), words.is_json, writer);
     if words.stats {
         printer.keep();
     }
-    match words.store {
-        Some(StoreWord::Kept(name)) => run_kept(rt, profile, script, name, &mut printer, book)?,
-        Some(StoreWord::Out(name)) => {
-            let device = run_told(rt.alloc(), profile, script, &mut printer, book)?;
-            write_store(rt, device, name)?;
-        }
-        None => {
-            run_told(rt.alloc(), profile, script, &mut printer, book)?;
-        }
-    }
+    run_to_store(rt, profile, script, words.store, &mut printer, book)?;
     if !words.stats {
         return Ok(None);
     }
@@ -160,15 +174,48 @@ where
     }
 }
 
+// Runs a script, writes out the answers, and leaves the device in the file of the store.
+fn run_to_store<'a, 'w, R, W>(
+    rt: &R,
+    profile: &Profile,
+    script: &[u8],
+    store: Option<StoreWord<'a>>,
+    printer: &mut AnswerPrinter<'w, W>,
+    book: &mut CommandBook,
+) -> Result<(), Failure<'a>>
+where
+    R: Files + StoreHost + AllocGlobal,
+    W: Write,
+    requires { IfSome book.old (λ kept. kept ≡ nothing) }
+    ensures { OnOk result (RunsWhole profile.now script.now
+        (⟦<AnswerPrinter<'w, W> as Report>⟧.answers printer.old)
+        (⟦<AnswerPrinter<'w, W> as Report>⟧.answers printer.new)) }
+{
+    match store {
+        Some(StoreWord::Kept(name)) => run_kept(rt, profile, script, name, printer, book),
+        Some(StoreWord::Out(name)) => {
+            let device = run_told(rt.alloc(), profile, script, printer, book)?;
+            write_store(rt, device, name)
+        }
+        None => {
+            run_told(rt.alloc(), profile, script, printer, book)?;
+            Ok(())
+        }
+    }
+}
+
 // Runs a script on a device of zeros, and writes out the answers.
-fn run_told<'a, W: Write>(
+fn run_told<'a, 'w, W: Write>(
     alloc: Global,
     profile: &Profile,
     script: &[u8],
-    printer: &mut AnswerPrinter<'_, W>,
+    printer: &mut AnswerPrinter<'w, W>,
     book: &mut CommandBook,
 ) -> Result<MemoryDevice, Failure<'a>>
     requires { IfSome book.old (λ kept. kept ≡ nothing) }
+    ensures { OnOk result (RunsWhole profile.now script.now
+        (⟦<AnswerPrinter<'w, W> as Report>⟧.answers printer.old)
+        (⟦<AnswerPrinter<'w, W> as Report>⟧.answers printer.new)) }
 {
     match report_on_maps(alloc, profile, script, printer, book) {
         Ok(device) => match printer.flush() {
@@ -183,18 +230,21 @@ fn run_told<'a, W: Write>(
 }
 
 // Runs a script on the store in the file of this name, and leaves its device there.
-fn run_kept<'a, R, W>(
+fn run_kept<'a, 'w, R, W>(
     rt: &R,
     profile: &Profile,
     script: &[u8],
     name: &str,
-    printer: &mut AnswerPrinter<'_, W>,
+    printer: &mut AnswerPrinter<'w, W>,
     book: &mut CommandBook,
 ) -> Result<(), Failure<'a>>
 where
     R: Files + StoreHost + AllocGlobal,
     W: Write,
     requires { IfSome book.old (λ kept. kept ≡ nothing) }
+    ensures { OnOk result (RunsWhole profile.now script.now
+        (⟦<AnswerPrinter<'w, W> as Report>⟧.answers printer.old)
+        (⟦<AnswerPrinter<'w, W> as Report>⟧.answers printer.new)) }
 {
     let mut store = match rt.open_kept(name) {
         Ok(store) => store,
@@ -220,24 +270,34 @@ where
 
 // What is wrong with a store, in the fault's own words.
 fn of_store<'a>(alloc: Global, fault: OpenFault) -> Failure<'a> {
+    let mut reason = None;
     if let OpenFault::Io(error) = fault {
         if error.kind() == ErrorKind::OutOfMemory {
             return Failure::from(ProgramFault::Memory);
         }
+        reason = Reason::of_error(&error);
     }
     match fault.to_string(alloc) {
-        Ok(why) => Failure::from(ProgramFault::Store(why)),
+        Ok(why) => Failure {
+            fault: ProgramFault::Store(why),
+            reason,
+        },
         Err(_) => Failure::from(ProgramFault::Memory),
     }
 }
 
 // Why a run has no store of this word, if it has none.
-fn refusal(store: StoreWord<'_>, profile: &str, script: &str) -> Option<ProgramFault<'static>>
+fn refusal<R: Files>(
+    rt: &R,
+    store: StoreWord<'_>,
+    profile: &str,
+    script: &str,
+) -> Option<ProgramFault<'static>>
     ensures none { IsNoStore profile.now script.now store.entry → IsSome result }
     ensures status { IfSome result (λ fault. status_of fault ≡ 2) }
 {
     let (StoreWord::Out(name) | StoreWord::Kept(name)) = store;
-    let why = why_no_store(name, profile, script)?;
+    let why = why_unwritten(rt, name, profile, script)?;
     Some(match store {
         StoreWord::Out(_) => ProgramFault::Out(why),
         StoreWord::Kept(_) => ProgramFault::Kept(why),
@@ -245,19 +305,54 @@ fn refusal(store: StoreWord<'_>, profile: &str, script: &str) -> Option<ProgramF
 }
 
 // Why a run writes no commands to the file of its words, if it has one for them.
-fn commands_refusal(words: RunWords<'_>) -> Option<ProgramFault<'static>>
+fn commands_refusal<R: Files>(rt: &R, words: RunWords<'_>) -> Option<ProgramFault<'static>>
     ensures some { NamesNoCommands words.entry → IsSome result }
     ensures status { IfSome result (λ fault. status_of fault ≡ 2) }
 {
     let name = words.commands?;
-    if let Some(why) = why_no_store(name, words.profile, words.script) {
+    if let Some(why) = why_unwritten(rt, name, words.profile, words.script) {
+        return Some(ProgramFault::Commands(why));
+    }
+    if is_of_later_life(name, words.profile) || is_of_later_life(name, words.script) {
+        let why = "names a file that is read, for a later life";
         return Some(ProgramFault::Commands(why));
     }
     let (StoreWord::Out(store) | StoreWord::Kept(store)) = words.store?;
-    if store == name {
+    if is_one_file(rt, store, name) {
         return Some(ProgramFault::Commands("names the store"));
     }
+    if is_of_later_life(name, store) {
+        return Some(ProgramFault::Commands("names the store, for a later life"));
+    }
     None
+}
+
+// Is a word that of the file for a later life's commands, which stands beside the one of this name?
+fn is_of_later_life(name: &str, word: &str) -> bool {
+    let Some(behind) = word.strip_prefix(name) else {
+        return false;
+    };
+    match behind.strip_prefix(".") {
+        Some(number) => number.parse::<u64>().is_ok(),
+        None => false,
+    }
+}
+
+// Why a run writes nothing to the file of this name: the word may not be, or another one names the same file, which is read.
+fn why_unwritten<R: Files>(rt: &R, name: &str, profile: &str, script: &str) -> Option<&'static str>
+    ensures { ((name.now ≡ codes "-") ⊎ ((name.now ≡ profile.now) ⊎ (name.now ≡ script.now)))
+        → IsSome result }
+{
+    if let Some(why) = why_no_store(name, profile, script) {
+        return Some(why);
+    }
+    if is_one_file(rt, name, profile) {
+        Some("names the profile")
+    } else if is_one_file(rt, name, script) {
+        Some("names the script")
+    } else {
+        None
+    }
 }
 
 /// Why a run with these words for its profile and its script writes no store to a file of this name: that is standard output, which

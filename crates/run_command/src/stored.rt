@@ -5,6 +5,7 @@ ghost use Rattle.script_runner.specs.Ended.{nothing};
 ghost use Rattle.script_runner.specs.Wiring.{IsMapOf, IsWiredFor};
 ghost use Rattle.store_file.specs.Stores.{IfHas, device_in};
 ghost use Rattle.run_command.specs.Stored.{RunsOnStore, RunsScriptOn, size_for};
+ghost use Rattle.run_command.specs.Whole.{RunsWhole};
 
 use crate::printer::AnswerPrinter;
 use channel_port::ChannelPort;
@@ -151,7 +152,10 @@ pub fn run_on_store<'m, 'w, M: LineMap, S: Store, R: Files + AllocGlobal, W: Wri
     requires lines_map { IsMapOf M.LineMap profile.now.checked.geometry lines_map.now }
     requires xor_map { IsMapOf M.LineMap profile.now.checked.geometry xor_map.now }
     requires book { IfSome book.old (λ kept. kept ≡ nothing) }
-    ensures { OnOk result (IfHas (λ old. IfHas
+    ensures whole { OnOk result (RunsWhole profile.now script.now
+        (⟦<AnswerPrinter<'w, W> as Report>⟧.answers printer.old)
+        (⟦<AnswerPrinter<'w, W> as Report>⟧.answers printer.new)) }
+    ensures stored { OnOk result (IfHas (λ old. IfHas
         (RunsOnStore ⟦<Ddr4Port<'m, M> as ChannelPort>⟧
         ⟦<Wiring<'m, M> as Wires<Ddr4Port<'m, M>>>⟧
         (IsWiredFor lines_map.now xor_map.now profile.now) profile.now script.now

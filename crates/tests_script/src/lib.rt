@@ -19,6 +19,8 @@ mod foreign;
 #[cfg(test)]
 mod kept;
 #[cfg(test)]
+mod names;
+#[cfg(test)]
 mod objects;
 #[cfg(test)]
 mod outlets;

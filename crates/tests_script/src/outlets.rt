@@ -1,7 +1,9 @@
-// Standard output that may be closed.
+// Standard output that may be closed, or take no more.
 use crate::check::same;
+use crate::program::{make, outcome, place, remove};
 use command_line::Outlet;
 use std::io::{self, ErrorKind, Write};
+use std::process::{self, ExitCode};
 
 // A writer that refuses each call, for a reason of this kind.
 #[derive(Drop)]
@@ -33,4 +35,23 @@ fn a_pipe_that_its_reader_closed(rt: HostRuntime) {
         same(&rt, flushed.flush().is_ok(), false);
         same(&rt, flushed.is_closed(), closed);
     }
+}
+
+#[test]
+fn an_output_that_takes_no_more(rt: HostRuntime) {
+    let place = place(&rt, process::id(rt.process()));
+    let place = place.as_str();
+    make(&rt, place, "%script", b"mark\n");
+    let kind = ErrorKind::StorageFull;
+    for (words, line) in [
+        (
+            ["run", "tiny", "%script", "--why"],
+            "file -\nthere is no room for it",
+        ),
+        (["run", "tiny", "%script", "--json"], "file -"),
+    ] {
+        let (code, told) = outcome(&rt, place, &words, &mut Refusing { kind });
+        same(&rt, (code, told.as_str()), (ExitCode::FAILURE, line));
+    }
+    remove(&rt, place, "%script");
 }

@@ -1,7 +1,7 @@
 // The program, called with words, and the files of a test's own.
 use crate::check::same;
 use command_faults::{Failure, FileHost, ProgramFault};
-use command_line::run;
+use command_line::{Outlet, run};
 use live_store::Host;
 use std::env::{self, Env};
 use std::fs;
@@ -27,7 +27,8 @@ where
     for word in words {
         given.push(named(rt, place, word)).expect(rt, "memory");
     }
-    match run(rt, &given, false, writer) {
+    let mut outlet = Outlet::new(writer);
+    match run(rt, &given, false, &mut outlet) {
         Ok(code) => (code, String::new(rt.alloc())),
         Err(failure) => (failure.exit_code(), told(rt, &failure)),
     }

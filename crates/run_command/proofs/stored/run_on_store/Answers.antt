@@ -1,11 +1,14 @@
 use Rattle.std.proofs.Common.{rules, ◌≡◌, ℕ}
 use Rattle.std.proofs.lemmas.Result.{on_ok_weaker}
 use Rattle.run_command.specs.Stored.{size_for}
-use Rattle.run_command.proofs.Stores.{runs_on_store}
+use Rattle.run_command.proofs.Stores.{on_ok, ran_whole, runs_on_store}
 use Rattle.run_command.proofs.stored.run_on_store.Goals as goal
 
-pub returns : goal.returns
-returns g c =
+pub returns-clause-stored : goal.returns-clause-stored
+returns-clause-stored g c =
     let is : c.device_size-size.result ≡ size_for c.args.profile.now = search rules in
     on_ok_weaker c.leave.result (λ left old was new now.
     runs_on_store _ _ _ _ _ _ _ _ _ _ c.device_size-size.result _ old new c.flush.ensures is (c.in_ok-bytes.ensures.is old was) c.in_ok-device.ensures (left new now)) c.leave.ensures
+
+pub returns-clause-whole : goal.returns-clause-whole
+returns-clause-whole g c = on_ok c.leave.result (ran_whole _ _ _ _ _ _ _ _ _ _ _ c.flush.ensures c.in_ok-device.ensures)
