@@ -12,6 +12,7 @@ use energy_budget::{Costs, TINY_COSTS};
 use interleave_map::ReadyMap;
 use interleave_map::cells::line_count;
 use save_device::SaveDevice;
+use save_image::PAGE_LINES;
 use slot_store::{device_size, restore};
 use std::alloc::Global;
 
@@ -32,7 +33,7 @@ pub(crate) fn capacity_of(checked: &Checked) -> Result<usize, Stall>
     ensures capacity { IfOk result IsCapacity }
 {
     let lines = line_count(checked) as usize;
-    if lines % 64 == 0 {
+    if lines % PAGE_LINES == 0 {
         Ok(lines)
     } else {
         Err(Stall::Device)
