@@ -5,6 +5,7 @@ ghost use Rattle.reply_codes.specs.Codes.{told_by};
 ghost use Rattle.whole_lives.specs.Lives.{Formats, LivesOn, Restores};
 
 use crate::exports::tell;
+use line_memory::Line;
 use reply_codes::Numbers;
 use std::alloc::Global;
 use whole_lives::{Answer, Ask, format_store, live, restore_store};
@@ -31,7 +32,7 @@ pub extern "C" fn ph_restore(
     alloc: Global,
     profile: &[u8],
     store: &[u8],
-    lines: &mut [[u8; 64]],
+    lines: &mut [Line],
     numbers: &mut Numbers,
 ) -> u32
     ensures restores { (result ≡ 0) ⊎ (result ≡ 10)
