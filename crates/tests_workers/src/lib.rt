@@ -2,8 +2,6 @@
 #![tactic(auto)]
 
 #[cfg(test)]
-mod ahead;
-#[cfg(test)]
 mod amid;
 #[cfg(test)]
 mod cases;
@@ -15,8 +13,6 @@ mod gates;
 mod inside;
 #[cfg(test)]
 mod locks;
-#[cfg(test)]
-mod noted;
 #[cfg(test)]
 mod orders;
 #[cfg(test)]
