@@ -2,7 +2,8 @@
 use Rattle.std.proofs.Common.{List, Option, None, Some, [], ap, arith, length, subst, suc, sym, zero, ℕ, ◌++◌, ◌+◌, ◌<◌, ◌∙◌, ◌∷◌, ◌≡◌, ◌≤◌}
 use Rattle.std.proofs.Math.Logic.{∥∥₁_elim, ∥∥₁_map}
 use Rattle.std.specs.Coded.{le_prop}
-use Rattle.std.specs.Prelude.{slice_get, slice_index_or}
+use Rattle.std.proofs.Math.Nat.{ℕ_set}
+use Rattle.std.specs.Prelude.{min, slice_get, slice_index_or}
 use Rattle.std.proofs.lemmas.List.{length_push}
 use Rattle.std.proofs.lemmas.Option.{same_Some, slice_get_within}
 use Rattle.channel_locks.specs.declared.parts_name.PartsName.{Ghosts as PartsGhosts}
@@ -10,10 +11,9 @@ use Rattle.channel_locks.specs.PortMakes.{make_of}
 use Rattle.channel_locks.specs.Slots.{IsPartWhereDue}
 use Rattle.channel_locks.specs.Unlocked.{port_in}
 use Rattle.channel_log.specs.Log.{IsLogOf, LogNote, log_tells}
-use Rattle.channel_log.specs.Seats.{AllLogs}
 use Rattle.channel_part.specs.declared.part.Part.{Part}
 use Rattle.channel_port.specs.declared.port.ChannelPort.{Ghosts}
-use Rattle.board_desk.specs.Answering.{SettlesPart}
+use Rattle.board_desk.specs.Answering.{SameElsewhere, SettlesPart}
 use Rattle.board_desk.specs.Loans.{HaveLent, IsLent, IsReadyToLend}
 
 -- what is true of each and of one that is pushed
@@ -75,8 +75,17 @@ module _ {K B : Type 0} (L : Ghosts K) (P : PartsGhosts B) where
         each = λ i port at. absurd (let within = slice_get_within ports i port at in let size = ap length none in omega (arith, within, size));
       } ∣₁
 
-  -- one more has, as the front's seat knows the logs that it knew
-  pub have_more : (number next : ℕ) (known later : AllLogs) (ports more : List K) → later ≡ known → (∥ HaveLent L P later.logs number ports ∥₁ → ∥ HaveLent L P later.logs next more ∥₁)
-      → ∥ HaveLent L P known.logs number ports ∥₁ → ∥ HaveLent L P known.logs next more ∥₁
-  have_more number next known later ports more same step have =
-      subst (λ (k : AllLogs). ∥ HaveLent L P k.logs next more ∥₁) same (step (subst (λ (k : AllLogs). ∥ HaveLent L P k.logs number ports ∥₁) (sym same) have))
+  -- what is known of a channel that has not lent its port says nothing of those that have
+  pub have_elsewhere : (number : ℕ) (old new : List (List LogNote)) (ports : List K) → SameElsewhere number old new → HaveLent L P old number ports → HaveLent L P new number ports
+  have_elsewhere number old new ports same have = record {
+    count = have.count;
+    made = have.made;
+    each = λ i port at.
+        let within = slice_get_within ports i port at in
+        let count = have.count in
+        subst (λ (l : List LogNote). IsLent L P (log_tells l) i port) (sym (same i (λ e. absurd (omega (arith, within, count, e))))) (have.each i port at);
+  }
+
+  -- so many have
+  pub count_lent : (logs : List (List LogNote)) (number : ℕ) (ports : List K) → ∥ HaveLent L P logs number ports ∥₁ → length ports ≡ min number P.ports
+  count_lent logs number ports have = ∥∥₁_elim have (ℕ_set _ _) (λ h. h.count)

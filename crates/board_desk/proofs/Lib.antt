@@ -21,3 +21,4 @@ pub mod Ticketed
 pub mod Recorded
 pub mod Drained
 pub mod Quiet
+mod Frames

@@ -7,7 +7,7 @@ use Rattle.std.proofs.lemmas.List.{get_or-set_other, get_or-set_same, length-set
 use Rattle.channel_locks.specs.declared.parts_name.PartsName.{Ghosts as PartsGhosts}
 use Rattle.channel_log.specs.Log.{IsLogOf, LogNote, credits_of, log_tells}
 use Rattle.channel_port.specs.declared.port.ChannelPort.{Ghosts}
-use Rattle.board_desk.specs.Loans.{AllComeBack, AreRestated, ComesBack, IsLent, restated, waits_of_port}
+use Rattle.board_desk.specs.Loans.{AllComeBack, AreRestated, ComesBack, HaveBack, IsLent, restated, waits_of_port}
 
 get_taken : {X : Type 0} (n : ℕ) (xs : List X) (i : ℕ) → i < n → slice_get (take n xs) i ≡ slice_get xs i
 get_taken zero xs i less = absurd (omega (arith, less))
@@ -16,16 +16,10 @@ get_taken (suc n) (x ∷ xs) zero less = refl
 get_taken (suc n) (x ∷ xs) (suc i) less = get_taken n xs i (omega (arith, less))
 
 module _ {K : Type 0} (L : Ghosts K) (hold : Option ℕ) (ended : Bool) (ports : List K) (first : List (List LogNote)) where
-  -- the channels from a number on have their ports back, and the others have what they had
-  pub record HaveBack (number : ℕ) (left : List K) (known : List (List LogNote)) : Type 0 where
-    pub lent : (i : ℕ) → i < number → slice_get left i ≡ slice_get ports i
-    pub size : length known ≡ length first
-    pub told : (channel : ℕ) → number ≤ channel → channel < length first
-        → log_tells (slice_index_or known channel []) ≡ restated hold ended (waits_of_port L (slice_get ports channel)) (log_tells (slice_index_or first channel []))
-    pub few : (channel : ℕ) → number ≤ channel → channel < length first → credits_of (slice_index_or known channel []) ≤ 64
-    pub others : (channel : ℕ) → channel < number → slice_index_or known channel [] ≡ slice_index_or first channel []
+  abbrev Back : ℕ → List K → List (List LogNote) → Type 0
+  Back number left known = HaveBack L hold ended ports first number left known
 
-  pub none_back : (number : ℕ) → length first ≤ number → HaveBack number ports first
+  pub none_back : (number : ℕ) → length first ≤ number → Back number ports first
   none_back number all = record {
     lent = λ i less. refl;
     size = refl;
@@ -34,8 +28,8 @@ module _ {K : Type 0} (L : Ghosts K) (hold : Option ℕ) (ended : Bool) (ports :
     others = λ channel less. refl;
   }
 
-  pub one_back : (number : ℕ) (left more : List K) (known later : List (List LogNote)) (old new : List LogNote) → HaveBack (number + 1) left known → more ≡ take number left → later ≡ slice_set known number new
-      → IsLogOf first number old → log_tells new ≡ restated hold ended (waits_of_port L (slice_get left number)) (log_tells old) → credits_of new ≤ 64 → HaveBack number more later
+  pub one_back : (number : ℕ) (left more : List K) (known later : List (List LogNote)) (old new : List LogNote) → Back (number + 1) left known → more ≡ take number left → later ≡ slice_set known number new
+      → IsLogOf first number old → log_tells new ≡ restated hold ended (waits_of_port L (slice_get left number)) (log_tells old) → credits_of new ≤ 64 → Back number more later
   one_back number left more known later old new back taken set of told few = record {
     lent = λ i less. ap (λ (xs : List K). slice_get xs i) taken ∙ get_taken number left i less ∙ back.lent i (omega (arith, less));
     size = ap length set ∙ length-set known number new ∙ back.size;
@@ -60,7 +54,7 @@ module _ {K : Type 0} (L : Ghosts K) (hold : Option ℕ) (ended : Bool) (ports :
           subst Q (sym (ap (λ (ls : List (List LogNote)). slice_index_or ls channel []) set ∙ get_or-set_other known number channel new [] (λ e. apart (sym e)))) (else (omega (arith, least, apart))))
           (cases_eq number channel)
 
-  pub all_back : (left : List K) (known : List (List LogNote)) → HaveBack 0 left known → AreRestated L hold ended ports first known
+  pub all_back : (left : List K) (known : List (List LogNote)) → Back 0 left known → AreRestated L hold ended ports first known
   all_back left known back = record {
     size = back.size;
     told = λ channel less. back.told channel (omega arith) less;

@@ -28,20 +28,6 @@ module _ {K B : Type 0} (L : Ghosts K) (P : PartsGhosts B) (channels rest : List
   pub ports_taken : (part : Option (Part K L)) → port_in L part ≡ port_in L channel.part → port_in L part ++ ports_in L (map (λ (c : LockedChannel K B L P). c.part) rest) ≡ ports_in L (map (λ (c : LockedChannel K B L P). c.part) channels)
   ports_taken part same = ap (λ ports. ports ++ ports_in L (map (λ (c : LockedChannel K B L P). c.part) rest)) same ∙ sym (ap (λ (cs : Channels). ports_in L (map (λ (c : LockedChannel K B L P). c.part) cs)) is)
 
--- the ports of eight channels
-pub eight_taken : {X : Type 0} (zero one two three four five six seven : List X) (all a b c d e f g rest : List X) → zero ++ a ≡ all → one ++ b ≡ a → two ++ c ≡ b → three ++ d ≡ c → four ++ e ≡ d → five ++ f ≡ e → six ++ g ≡ f → seven ++ rest ≡ g → rest ≡ []
-    → zero ++ (one ++ (two ++ (three ++ (four ++ (five ++ (six ++ (seven ++ []))))))) ≡ all
-eight_taken zero one two three four five six seven all a b c d e f g rest p0 p1 p2 p3 p4 p5 p6 p7 none =
-    ap (λ xs. zero ++ (one ++ (two ++ (three ++ (four ++ (five ++ (six ++ (seven ++ xs)))))))) (sym none)
-    ∙ ap (λ xs. zero ++ (one ++ (two ++ (three ++ (four ++ (five ++ (six ++ xs))))))) p7
-    ∙ ap (λ xs. zero ++ (one ++ (two ++ (three ++ (four ++ (five ++ xs)))))) p6
-    ∙ ap (λ xs. zero ++ (one ++ (two ++ (three ++ (four ++ xs))))) p5
-    ∙ ap (λ xs. zero ++ (one ++ (two ++ (three ++ xs)))) p4
-    ∙ ap (λ xs. zero ++ (one ++ (two ++ xs))) p3
-    ∙ ap (λ xs. zero ++ (one ++ xs)) p2
-    ∙ ap (λ xs. zero ++ xs) p1
-    ∙ p0
-
 module _ {K B : Type 0} (L : Ghosts K) (P : PartsGhosts B) where
   -- no channel, and no port
   pub no_ports : (channels : List (LockedChannel K B L P)) → length channels ≡ 0 → ports_in L (map (λ (channel : LockedChannel K B L P). channel.part) channels) ≡ []

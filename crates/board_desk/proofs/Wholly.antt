@@ -16,6 +16,7 @@ use Rattle.nv_machine.specs.State.{Machine, Setup, World}
 use Rattle.nv_machine.proofs.JoinedRuns.{join_runs, rests_here}
 use Rattle.nv_workers.specs.declared.board_name.BoardName.{Ghosts as BoardGhosts}
 use Rattle.save_device.specs.Device.{DeviceState}
+use Rattle.split_module.specs.declared.front.SplitFront.{SplitFront}
 use Rattle.save_device.specs.declared.device.SaveDevice.{Ghosts as DeviceGhosts}
 use Rattle.split_machine.specs.OwnEvents.{ComesOfOwn, is_own}
 use Rattle.board_desk.specs.Answering.{HasSettled, Settles}
@@ -23,9 +24,9 @@ use Rattle.board_desk.specs.Calling.{Course, GoesAlong}
 use Rattle.board_desk.specs.Desk.{DeskStands, DeskView, setup_at, world_at}
 use Rattle.board_desk.specs.Loans.{IsReadyToLend}
 use Rattle.board_desk.specs.Losing.{LosesWhole, LostAtOnce}
-use Rattle.board_desk.specs.Views.{SameButCounts, desk_of}
+use Rattle.board_desk.specs.Views.{SameButCounts, SameButLoans, SameModule, desk_of}
 use Rattle.board_desk.specs.declared.desk.Desk.{Desk}
-use Rattle.board_desk.specs.Whole.{CallAnswers, ComesOfChannels, SettlesAll, WholeAnswers, is_of_channels}
+use Rattle.board_desk.specs.Whole.{CallAnswers, ComesOfChannels, SameWorld, SettlesAll, WholeAnswers, is_of_channels}
 use Rattle.board_desk.proofs.Settled.{same_setup}
 
 own_of_channels : (channel : ℕ) (event : Event) → is_own channel event ≡ true → is_of_channels event ≡ true
@@ -40,23 +41,29 @@ comes_more setup channel first mid last old new = record {
   run = join_runs setup old.events old.replies new.events new.replies first mid last old.run new.run;
 }
 
+-- one after the other
+comes_join : (setup : Setup) (first mid last : World) → ComesOfChannels setup first mid → ComesOfChannels setup mid last → ComesOfChannels setup first last
+comes_join setup first mid last old new = record {
+  events = old.events ++ new.events;
+  replies = old.replies ++ new.replies;
+  own = All-append (λ event. is_of_channels event ≡ true) old.events new.events old.own new.own;
+  run = join_runs setup old.events old.replies new.events new.replies first mid last old.run new.run;
+}
+
+comes_none : (setup : Setup) (world : World) → ComesOfChannels setup world world
+comes_none setup world = record { events = []; replies = []; own = λ k d less. absurd (omega (arith, less)); run = rests_here world }
+
 -- a part that was settled is ready to lend its port
 pub settled_ready : {K : Type 0} (L : Ghosts K) (logs : List (List LogNote)) (part : Option (Part K L)) (log : List LogNote) → HasSettled L logs part log → IsReadyToLend L part log
 settled_ready L logs None log settled = tt
 settled_ready L logs (Some part) log settled = (settled.taken, settled.waits)
 
 module _ {B : Type 0} (P : PartsGhosts B) where
-  -- the same setup, device and gauge
-  pub record SameWorld (old new : DeskView) : Type 0 where
-    pub setup : setup_at P new ≡ setup_at P old
-    pub device : new.device ≡ old.device
-    pub gauge : new.gauge ≡ old.gauge
-
-  pub world_of_same : (old new : DeskView) → SameWorld old new → (m : Machine) → world_at new m ≡ world_at old m
+  pub world_of_same : (old new : DeskView) → SameWorld P old new → (m : Machine) → world_at new m ≡ world_at old m
   world_of_same old new same m = ap (λ (d : DeviceState). record (world_at new m) { device = d }) same.device ∙ ap (λ (e : Gauge). record (world_at old m) { gauge = e }) same.gauge
 
   -- a call behind channels that were settled
-  pub whole_answers : (course : Course) (old mid new : DeskView) → SettlesAll P old mid → SameWorld old mid → CallAnswers P course mid new → WholeAnswers P course old new
+  pub whole_answers : (course : Course) (old mid new : DeskView) → SettlesAll P old mid → SameWorld P old mid → CallAnswers P course mid new → WholeAnswers P course old new
   whole_answers course old mid new settles same called m s =
       ∥∥₁_elim (settles m s) ∥∥₁_prop (λ on. ∥∥₁_map (called on.seen on.stands) (λ l. record {
         seen = on.seen;
@@ -68,7 +75,7 @@ module _ {B : Type 0} (P : PartsGhosts B) where
       }))
 
   -- and a loss of mains behind them
-  pub loses_whole : (lost : Loss) (old mid new : DeskView) → SettlesAll P old mid → SameWorld old mid → ((m : Machine) → DeskStands P mid m → ∥ LostAtOnce P lost mid new m ∥₁) → LosesWhole P lost old new
+  pub loses_whole : (lost : Loss) (old mid new : DeskView) → SettlesAll P old mid → SameWorld P old mid → ((m : Machine) → DeskStands P mid m → ∥ LostAtOnce P lost mid new m ∥₁) → LosesWhole P lost old new
   loses_whole lost old mid new settles same called m s =
       ∥∥₁_elim (settles m s) ∥∥₁_prop (λ on. ∥∥₁_map (called on.seen on.stands) (λ l. record {
         seen = on.seen;
@@ -81,19 +88,27 @@ module _ {B : Type 0} (P : PartsGhosts B) where
         };
       }))
 
-  pub settles_none : (desk : DeskView) → SettlesAll P desk desk
-  settles_none desk m s = ∣ record { seen = m; comes = record { events = []; replies = []; own = λ k d less. absurd (omega (arith, less)); run = rests_here (world_at desk m) }; stands = s } ∣₁
+  pub same_join : (old mid new : DeskView) → SameWorld P old mid → SameWorld P mid new → SameWorld P old new
+  same_join old mid new a b = record { setup = b.setup ∙ a.setup; device = b.device ∙ a.device; gauge = b.gauge ∙ a.gauge }
 
-  pub settles_more : (channel : ℕ) (old mid new : DeskView) → SettlesAll P old mid → SameWorld old mid → Settles P channel mid new → SettlesAll P old new
-  settles_more channel old mid new first same more m s =
+  pub same_here : (desk : DeskView) → SameWorld P desk desk
+  same_here desk = record { setup = refl; device = refl; gauge = refl }
+
+  pub settles_none : (desk : DeskView) → SettlesAll P desk desk
+  settles_none desk m s = ∣ record { seen = m; comes = comes_none (setup_at P desk) (world_at desk m); stands = s } ∣₁
+
+  -- a channel was settled, and then others
+  pub settles_first : (channel : ℕ) (old mid new : DeskView) → Settles P channel old mid → SameWorld P old mid → SettlesAll P mid new → SettlesAll P old new
+  settles_first channel old mid new first same more m s =
       ∥∥₁_elim (first m s) ∥∥₁_prop (λ on. ∥∥₁_map (more on.seen on.stands) (λ next.
-      let own : ComesOfOwn (setup_at P old) channel (world_at old on.seen) (world_at old next.seen) =
-      subst (λ (x : Setup). ComesOfOwn x channel (world_at old on.seen) (world_at old next.seen)) same.setup
-      (subst (λ (w : World). ComesOfOwn (setup_at P mid) channel w (world_at old next.seen)) (world_of_same old mid same on.seen)
-      (subst (λ (w : World). ComesOfOwn (setup_at P mid) channel (world_at mid on.seen) w) (world_of_same old mid same next.seen) next.comes)) in
+      let setup = setup_at P old in
+      let others : ComesOfChannels setup (world_at old on.seen) (world_at old next.seen) =
+      subst (λ (x : Setup). ComesOfChannels x (world_at old on.seen) (world_at old next.seen)) same.setup
+      (subst (λ (w : World). ComesOfChannels (setup_at P mid) w (world_at old next.seen)) (world_of_same old mid same on.seen)
+      (subst (λ (w : World). ComesOfChannels (setup_at P mid) (world_at mid on.seen) w) (world_of_same old mid same next.seen) next.comes)) in
       record {
         seen = next.seen;
-        comes = comes_more (setup_at P old) channel (world_at old m) (world_at old on.seen) (world_at old next.seen) on.comes own;
+        comes = comes_join setup (world_at old m) (world_at old on.seen) (world_at old next.seen) (comes_more setup channel (world_at old m) (world_at old m) (world_at old on.seen) (comes_none setup (world_at old m)) on.comes) others;
         stands = next.stands;
       }))
 
@@ -108,34 +123,23 @@ module _ {K D E B : Type 0} (L : Ghosts K) (M : DeviceGhosts D) (N : GaugeGhosts
     gauge = ap (λ (e : E). N.gauge e) same.energy;
   }
 
-  pub same_more : (old mid new : ADesk) → SameButCounts L M N O P old mid → SameButCounts L M N O P mid new → SameButCounts L M N O P old new
-  same_more old mid new a b = record {
+  -- the module is the same, whichever channels were settled and lent their ports
+  pub module_lent : (old mid new : ADesk) → SameButCounts L M N O P old mid → SameButLoans L M N O P mid new → SameModule L M N O P old new
+  module_lent old mid new counts loans = record {
+    front = ap (λ (s : SplitFront). s.front) loans.split ∙ counts.front;
+    costs = ap (λ (s : SplitFront). s.costs) loans.split ∙ counts.costs;
+    terms = loans.terms ∙ counts.terms;
+    device = loans.device ∙ counts.device;
+    energy = loans.energy ∙ counts.energy;
+    history = loans.history ∙ counts.history;
+  }
+
+  pub module_join : (old mid new : ADesk) → SameModule L M N O P old mid → SameModule L M N O P mid new → SameModule L M N O P old new
+  module_join old mid new a b = record {
     front = b.front ∙ a.front;
     costs = b.costs ∙ a.costs;
     terms = b.terms ∙ a.terms;
-    room = b.room ∙ a.room;
     device = b.device ∙ a.device;
     energy = b.energy ∙ a.energy;
     history = b.history ∙ a.history;
-    marks = b.marks ∙ a.marks;
-    seat = b.seat ∙ a.seat;
-    tally = b.tally ∙ a.tally;
-    logs = b.logs ∙ a.logs;
-  }
-
-  -- so many channels were settled in turn
-  pub record SettledSoFar (old new : ADesk) : Type 0 where
-    pub settles : SettlesAll P (desk_of L M N O P old) (desk_of L M N O P new)
-    pub same : SameButCounts L M N O P old new
-
-  pub none_settled : (desk : ADesk) → SettledSoFar desk desk
-  none_settled desk = record {
-    settles = settles_none P (desk_of L M N O P desk);
-    same = record { front = refl; costs = refl; terms = refl; room = refl; device = refl; energy = refl; history = refl; marks = refl; seat = refl; tally = refl; logs = refl };
-  }
-
-  pub one_settled : (channel : ℕ) (old mid new : ADesk) → SettledSoFar old mid → Settles P channel (desk_of L M N O P mid) (desk_of L M N O P new) → SameButCounts L M N O P mid new → SettledSoFar old new
-  one_settled channel old mid new so settles same = record {
-    settles = settles_more P channel (desk_of L M N O P old) (desk_of L M N O P mid) (desk_of L M N O P new) so.settles (same_world old mid so.same) settles;
-    same = same_more old mid new so.same same;
   }

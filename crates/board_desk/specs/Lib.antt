@@ -12,3 +12,4 @@ pub mod Surviving
 pub mod Credits
 pub mod Closing
 pub mod Losing
+pub mod Locking

@@ -1,12 +1,9 @@
 -- The ports of a board's channels while a whole module has them.
 use Rattle.std.specs.Prelude.{◌≡◌, ℕ, ◌<◌, ◌≤◌, Bool, List, [], length, min, slice_get, slice_index_or, true, false, Option, Some, None}
-use Rattle.atomic_table.specs.Seated.{TableId}
 use Rattle.channel_locks.specs.PortMakes.{make_of}
 use Rattle.channel_locks.specs.declared.parts_name.PartsName.{Ghosts as PartsGhosts}
-use Rattle.channel_locks.specs.Slots.{IsSlotKept}
-use Rattle.channel_log.specs.Log.{IsLogOf, LogNote, Told, credits_of, log_tells}
+use Rattle.channel_log.specs.Log.{LogNote, Told, credits_of, log_tells}
 use Rattle.channel_log.specs.ReadLines.{ReadsHaveLines}
-use Rattle.channel_log.specs.Seats.{OneLog}
 use Rattle.channel_part.specs.Stands.{PortStands, returned_of}
 use Rattle.channel_part.specs.declared.part.Part.{Part}
 use Rattle.channel_port.specs.Waits.{Waits, nothing}
@@ -49,18 +46,6 @@ module _ {K : Type 0} (L : Ghosts K) where
     ComesBack hold ended number told ports =
         (port : K) → slice_get ports number ≡ Some port → IsLent (restated hold ended (L.view port).waits told) number port
 
-    -- What lies behind a channel's lock, where its port may be lent.
-    pub record CanLend (part : Option (Part K L)) (seat : OneLog) (number : ℕ) : Type 0 where
-      pub kept : IsSlotKept L P part seat number
-      pub ready : IsReadyToLend part seat.log
-
-    -- Its port was lent, and what its seat knows of the channel the front's seat knows too.
-    pub record HasLent (logs : List (List LogNote)) (part : Option (Part K L)) (seat : OneLog) (number : ℕ) : Type 0 where
-      pub lent : part ≡ None
-      pub table : seat.table ≡ P.logs
-      pub channel_is : seat.channel ≡ number
-      pub agreed : IsLogOf logs number seat.log
-
     -- Each port may come back to its channel.
     abbrev pub AllComeBack : Option ℕ → Bool → List (List LogNote) → List K → Type 0
     AllComeBack hold ended logs ports = (number : ℕ) → ComesBack hold ended number (log_tells (slice_index_or logs number [])) ports
@@ -72,11 +57,15 @@ module _ {K : Type 0} (L : Ghosts K) where
         → log_tells (slice_index_or new channel []) ≡ restated hold ended (waits_of_port (slice_get ports channel)) (log_tells (slice_index_or old channel []))
     pub few : (channel : ℕ) → channel < length old → credits_of (slice_index_or new channel []) ≤ 64
 
+  -- The channels from a number on have their ports back, and this is told of each of them now. Of the others what was known still is.
+  pub record HaveBack (hold : Option ℕ) (ended : Bool) (ports : List K) (first : List (List LogNote)) (number : ℕ) (left : List K) (known : List (List LogNote)) : Type 0 where
+    pub lent : (i : ℕ) → i < number → slice_get left i ≡ slice_get ports i
+    pub size : length known ≡ length first
+    pub told : (channel : ℕ) → number ≤ channel → channel < length first
+        → log_tells (slice_index_or known channel []) ≡ restated hold ended (waits_of_port (slice_get ports channel)) (log_tells (slice_index_or first channel []))
+    pub few : (channel : ℕ) → number ≤ channel → channel < length first → credits_of (slice_index_or known channel []) ≤ 64
+    pub others : (channel : ℕ) → channel < number → slice_index_or known channel [] ≡ slice_index_or first channel []
+
 -- where a life has ended for a channel it has ended now
 abbrev pub EndStays : Bool → List (List LogNote) → Type 0
 EndStays ended logs = (channel : ℕ) → (log_tells (slice_index_or logs channel [])).ended ≡ true → ended ≡ true
-
--- the seats' table is the board's
-pub record AreTables {B : Type 0} (P : PartsGhosts B) (logs known : TableId) : Type 0 where
-  pub logs_is : logs ≡ P.logs
-  pub known_is : known ≡ P.logs

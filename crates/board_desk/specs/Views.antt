@@ -26,6 +26,25 @@ module _ {K D E B : Type 0} (L : Ghosts K) (M : DeviceGhosts D) (N : GaugeGhosts
     pub tally : new.tally ≡ old.tally
     pub logs : new.logs ≡ old.logs
 
+  -- the module is the same but for what channels lend, what they owe, and what is known of them
+  pub record SameModule (old new : Desk K D E B L M N O P) : Type 0 where
+    pub front : new.split.front ≡ old.split.front
+    pub costs : new.split.costs ≡ old.split.costs
+    pub terms : new.terms ≡ old.terms
+    pub device : new.device ≡ old.device
+    pub energy : new.energy ≡ old.energy
+    pub history : new.history ≡ old.history
+
+  -- nothing has changed but the ports that channels have lent
+  pub record SameButLoans (old new : Desk K D E B L M N O P) : Type 0 where
+    pub view : desk_of new ≡ desk_of old
+    pub split : new.split ≡ old.split
+    pub terms : new.terms ≡ old.terms
+    pub device : new.device ≡ old.device
+    pub energy : new.energy ≡ old.energy
+    pub history : new.history ≡ old.history
+    pub known : new.known ≡ old.known
+
   -- nothing has changed but the front's numbers, the record, the marks, and what is known of the channels
   pub record KeepsAround (old new : Desk K D E B L M N O P) : Type 0 where
     pub life : new.split.front.terms ≡ old.split.front.terms

@@ -23,6 +23,12 @@ pub record ComesOfChannels (setup : Setup) (old new : World) : Type 0 where
   pub run : Run setup events replies old new
 
 module _ {B : Type 0} (P : PartsGhosts B) where
+  -- the same setup, device and gauge
+  pub record SameWorld (old new : DeskView) : Type 0 where
+    pub setup : setup_at P new ≡ setup_at P old
+    pub device : new.device ≡ old.device
+    pub gauge : new.gauge ≡ old.gauge
+
   -- The channels' own events led from a machine, for which the desk stood, to one with which the call began; and the call led on to
   -- one for which the desk stands.
   pub record GoesWhole (course : Course) (old new : DeskView) (m : Machine) : Type 0 where

@@ -4,55 +4,62 @@ ghost use Rattle.board_desk.specs.Closing.{HaveModule};
 
 use crate::board_port::BoardPort;
 use crate::desk::Desk;
-use crate::lent_desk::{LentDesk, lend_out};
+use crate::lent_desk::LentDesk;
 use channel_locks::{LockedChannel, LockedChannels, PartsName, UnlockedChannels};
-use channel_log::ChannelSeat;
-use channel_part::Part;
 use channel_port::ChannelPort;
 use energy_budget::Energy;
 use nv_workers::{BoardName, Held};
 use save_device::SaveDevice;
 
-// What lay behind a channel's lock, settled.
-#[derive(Drop)]
-struct SettledChannel<K: ChannelPort> {
-    part: Option<Part<K>>,
-    seat: ChannelSeat,
-}
-
-impl<K: ChannelPort, D: SaveDevice, E: Energy, B: BoardName + PartsName> Desk<K, D, E, B> {
-    ghost use Rattle.std.specs.Prelude.{◌+◌, ◌++◌, ◌<◌, length, map};
+impl<K: ChannelPort + Drop, D: SaveDevice, E: Energy, B: BoardName + PartsName> Desk<K, D, E, B> {
+    ghost use Rattle.std.specs.Prelude.{◌+◌, ◌++◌, ◌<◌, [], length, map};
     ghost use Rattle.channel_locks.specs.Numbers.{AreNumbered};
-    ghost use Rattle.channel_locks.specs.Unlocked.{port_in, ports_in};
-    ghost use Rattle.board_desk.specs.Loans.{CanLend};
-    ghost use Rattle.board_desk.specs.Views.{SameButCounts};
+    ghost use Rattle.channel_locks.specs.Unlocked.{parts_of, ports_in};
+    ghost use Rattle.board_desk.specs.Loans.{HaveLent};
+    ghost use Rattle.board_desk.specs.Views.{SameButCounts, SameModule};
 
-    // Takes the first channel out of a list, and settles it for good.
-    fn take_channel(
-        &mut self,
-        channels: &mut Vec<LockedChannel<K, B>>,
-        number: u64,
-    ) -> SettledChannel<K>
+    // Takes the first channel out of a list, and settles it for good. It lends its port and doesn't have it back.
+    fn take_channel(&mut self, channels: &mut Vec<LockedChannel<K, B>>, number: u64)
         requires some { 0 < length channels.old.items }
         requires numbered { AreNumbered K.ChannelPort B.PartsName number channels.old.items }
+        requires have { ∥ HaveLent K.ChannelPort B.PartsName.own
+            self.old.known.logs number self.old.room.items ∥₁ }
         ensures count { length channels.new.items + 1 ≡ length channels.old.items }
         ensures numbered { AreNumbered K.ChannelPort B.PartsName (number + 1) channels.new.items }
-        ensures ready { CanLend K.ChannelPort B.PartsName result.part result.seat number }
-        ensures ports { port_in K.ChannelPort result.part
+        ensures have { ∥ HaveLent K.ChannelPort B.PartsName.own
+            self.new.known.logs (number + 1) self.new.room.items ∥₁ }
+        ensures ports { self.new.room.items
             ++ ports_in K.ChannelPort (map (λ channel. channel.part) channels.new.items)
-            ≡ ports_in K.ChannelPort (map (λ channel. channel.part) channels.old.items) }
-        ensures same { SameButCounts K.ChannelPort D.SaveDevice E.Energy B.BoardName.own
+            ≡ self.old.room.items
+            ++ ports_in K.ChannelPort (map (λ channel. channel.part) channels.old.items) }
+        ensures same { SameModule K.ChannelPort D.SaveDevice E.Energy B.BoardName.own
             B.PartsName.own self.old self.new }
     {
         let mut channel = channels.remove(0);
         self.settle(&mut channel);
-        let LockedChannel { part, seat, .. } = channel;
-        SettledChannel { part, seat }
+        let LockedChannel {
+            mut part,
+            mut seat,
+            ..
+        } = channel;
+        self.lend(number, &mut part, &mut seat);
     }
-}
 
-impl<K: ChannelPort + Drop, D: SaveDevice, E: Energy, B: BoardName + PartsName> Desk<K, D, E, B> {
-    ghost use Rattle.board_desk.specs.Views.{SameButCounts};
+    // Takes all channels, in order. Each lends its port and doesn't have it back.
+    fn take_channels(&mut self, channels: UnlockedChannels<K, B>)
+        requires { self.old.room.items ≡ [] }
+        ensures have { ∥ HaveLent K.ChannelPort B.PartsName.own
+            self.new.known.logs 8 self.new.room.items ∥₁ }
+        ensures ports { self.new.room.items
+            ≡ ports_in K.ChannelPort (parts_of K.ChannelPort B.PartsName.own channels) }
+        ensures same { SameModule K.ChannelPort D.SaveDevice E.Energy B.BoardName.own
+            B.PartsName.own self.old self.new }
+    {
+        let mut channels = channels.channels;
+        for number in 0..8 {
+            self.take_channel(&mut channels, number);
+        }
+    }
 
     /// What lay behind the channels' locks, once no thread shares them any more. The desk is as it was.
     pub fn unlock(&mut self, channels: LockedChannels<K, B>) -> UnlockedChannels<K, B>
@@ -74,33 +81,8 @@ pub fn gather_all<K: ChannelPort + Drop, D: SaveDevice, E: Energy, B: BoardName 
     ensures { HaveModule K.ChannelPort D.SaveDevice E.Energy B.BoardName.own B.PartsName.own
         ⟦<BoardPort<K, B> as ChannelPort>⟧ desk channels result.recorded }
 {
-    let mut channels = channels.channels;
-    let mut zero = desk.take_channel(&mut channels, 0);
-    let mut one = desk.take_channel(&mut channels, 1);
-    let mut two = desk.take_channel(&mut channels, 2);
-    let mut three = desk.take_channel(&mut channels, 3);
-    let mut four = desk.take_channel(&mut channels, 4);
-    let mut five = desk.take_channel(&mut channels, 5);
-    let mut six = desk.take_channel(&mut channels, 6);
-    let mut seven = desk.take_channel(&mut channels, 7);
-    let LentDesk { rest, books } = lend_out(
-        desk,
-        &mut zero.part,
-        &mut zero.seat,
-        &mut one.part,
-        &mut one.seat,
-        &mut two.part,
-        &mut two.seat,
-        &mut three.part,
-        &mut three.seat,
-        &mut four.part,
-        &mut four.seat,
-        &mut five.part,
-        &mut five.seat,
-        &mut six.part,
-        &mut six.seat,
-        &mut seven.part,
-        &mut seven.seat,
-    );
+    desk.room.clear();
+    desk.take_channels(channels);
+    let LentDesk { rest, books } = desk.apart();
     Held::new(rest.gather(), books.marks, books.seat, books.tally)
 }

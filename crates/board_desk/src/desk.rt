@@ -1,5 +1,5 @@
 // What lies behind the board's lock.
-ghost use Rattle.std.specs.Prelude.{◌≡◌, ◌≤◌, [], vec_capacity};
+ghost use Rattle.std.specs.Prelude.{◌≤◌, vec_capacity};
 ghost use Rattle.std.specs.Arc.{arc_value};
 ghost use Rattle.board_desk.specs.Desk.{desk_view};
 ghost use Rattle.board_desk.specs.Kept.{IsDeskKept};
@@ -25,7 +25,7 @@ use std::sync::Arc;
 pub struct Desk<K: ChannelPort, D: SaveDevice, E: Energy, B: BoardName + PartsName> {
     pub split: SplitFront,
     pub terms: PortTerms,
-    /// Room for the ports, where they are gathered.
+    /// Room for the ports, and those that channels have lent.
     pub room: Vec<BoardPort<K, B>>,
     pub device: D,
     pub energy: E,
@@ -35,7 +35,6 @@ pub struct Desk<K: ChannelPort, D: SaveDevice, E: Energy, B: BoardName + PartsNa
     pub tally: AcceptedCount<B>,
     pub logs: ChannelLogs,
     pub known: FrontSeat,
-    pub ghost empty: { room.items ≡ [] },
     pub ghost spacious: { B.ports ≤ vec_capacity room },
     pub ghost kept: { IsDeskKept B.BoardName B.PartsName
         (desk_view split terms (D.state device) (E.gauge energy) history known.logs)

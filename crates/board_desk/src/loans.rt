@@ -8,39 +8,38 @@ ghost use Rattle.channel_locks.specs.Unlocked.{port_in};
 ghost use Rattle.board_desk.specs.Loans.{ComesBack, HaveLent, IsReadyToLend, restated, waits_of_port};
 
 use crate::board_port::BoardPort;
+use crate::desk::Desk;
 use channel_locks::PartsName;
 use channel_log::{ChannelLogs, ChannelSeat, FrontSeat, Standing};
 use channel_part::Part;
 use channel_port::ChannelPort;
+use energy_budget::Energy;
+use nv_workers::BoardName;
+use save_device::SaveDevice;
 use std::marker::Brand;
 
-// The port of a channel's part goes behind the others, where the board has the channel. What both seats know of it is the same.
-pub(crate) fn lend<K: ChannelPort, B: PartsName>(
-    logs: &ChannelLogs,
-    known: &mut FrontSeat,
-    ports: &mut Vec<BoardPort<K, B>>,
-    number: u64,
-    part: &mut Option<Part<K>>,
-    seat: &mut ChannelSeat,
-)
-    requires kept { IsSlotKept K.ChannelPort B.PartsName part.old seat.old number }
-    requires tables { AreOf logs.now known.old seat.old }
-    requires ready { IsReadyToLend K.ChannelPort part.old seat.old.log }
-    requires count { vec_len ports.old ≡ min number B.ports }
-    requires room { B.ports ≤ vec_capacity ports.old }
-    ensures known { known.new ≡ known.old }
-    ensures seat { seat.new ≡ seat.old }
-    ensures agreed { IsLogOf known.old.logs number seat.old.log }
-    ensures lent { part.new ≡ None }
-    ensures port { ports.new.items ≡ ports.old.items ++ port_in K.ChannelPort part.old }
-    ensures count { vec_len ports.new ≡ min (number + 1) B.ports }
-    ensures capacity { vec_capacity ports.new ≡ vec_capacity ports.old }
-    ensures have { ∥ HaveLent K.ChannelPort B.PartsName known.old.logs number ports.old.items ∥₁
-        → ∥ HaveLent K.ChannelPort B.PartsName known.old.logs (number + 1) ports.new.items ∥₁ }
-{
-    known.compare(logs, seat);
-    if let Some(lent) = part.take() {
-        ports.push_reserved(BoardPort::of(lent.into_port()));
+impl<K: ChannelPort, D: SaveDevice, E: Energy, B: BoardName + PartsName> Desk<K, D, E, B> {
+    ghost use Rattle.board_desk.specs.Views.{SameButLoans};
+
+    /// A channel that was settled lends its port, where the board has the channel: it goes behind those of the channels before.
+    pub(crate) fn lend(&mut self, number: u64, part: &mut Option<Part<K>>, seat: &mut ChannelSeat)
+        requires kept { IsSlotKept K.ChannelPort B.PartsName.own part.old seat.old number }
+        requires ready { IsReadyToLend K.ChannelPort part.old seat.old.log }
+        requires have { ∥ HaveLent K.ChannelPort B.PartsName.own
+            self.old.known.logs number self.old.room.items ∥₁ }
+        ensures seat { seat.new ≡ seat.old }
+        ensures agreed { IsLogOf self.new.known.logs number seat.new.log }
+        ensures lent { part.new ≡ None }
+        ensures port { self.new.room.items ≡ self.old.room.items ++ port_in K.ChannelPort part.old }
+        ensures have { ∥ HaveLent K.ChannelPort B.PartsName.own
+            self.new.known.logs (number + 1) self.new.room.items ∥₁ }
+        ensures same { SameButLoans K.ChannelPort D.SaveDevice E.Energy B.BoardName.own
+            B.PartsName.own self.old self.new }
+    {
+        self.known.compare(&self.logs, seat);
+        if let Some(lent) = part.take() {
+            self.room.push_reserved(BoardPort::of(lent.into_port()));
+        }
     }
 }
 

@@ -1,10 +1,6 @@
 -- What a channel's lock lent, and what a host's call left of it.
-use Rattle.std.proofs.Common.{◌≡◌, ℕ, Err, IfErr, IfOk, Ok, Option, Result, subst}
+use Rattle.std.proofs.Common.{Err, IfErr, IfOk, Ok, Option, Result}
 use Rattle.arm_state.specs.declared.refusal.WriteRefusal.{WriteRefusal}
-use Rattle.channel_locks.specs.Lent.{IsLentBy}
-use Rattle.channel_locks.specs.Slots.{IsPartWhereDue}
-use Rattle.channel_locks.specs.declared.locked_channel.LockedChannel.{LockedChannel}
-use Rattle.channel_locks.specs.declared.parts_name.PartsName.{Ghosts as PartsGhosts}
 use Rattle.channel_part.specs.declared.part.Part.{Part}
 use Rattle.channel_port.specs.declared.port.ChannelPort.{Ghosts}
 use Rattle.nv_workers.specs.declared.host.Receipt.{Receipt}
@@ -15,7 +11,3 @@ pub write_leaves : {K : Type 0} (L : Ghosts K) (result : Result Receipt WriteRef
     → WritesLent L result part left
 write_leaves L (Ok receipt) part left puts keeps = puts
 write_leaves L (Err refusal) part left puts keeps = keeps
-
--- a channel that lies behind the lock of a number is lent by the lock of that number
-pub lent_by : {K B : Type 0} (L : Ghosts K) (P : PartsGhosts B) (channel : LockedChannel K B L P) (number : ℕ) → channel.number ≡ number → IsLentBy L P number channel.part
-lent_by L P channel number is = (channel.seat.log, subst (λ (n : ℕ). ∥ IsPartWhereDue L P channel.part n channel.seat.log ∥₁) is channel.kept.part_is)

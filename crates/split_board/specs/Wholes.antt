@@ -1,15 +1,11 @@
 -- What a call of a whole module at a board comes to.
-use Rattle.std.specs.Prelude.{◌≡◌, ℕ, suc, List, [], ◌∷◌, length, Option, Some, Result, Ok, Err}
+use Rattle.std.specs.Prelude.{◌≡◌, ℕ, List, Option, Some, Result, Ok, Err}
 use Rattle.arm_state.specs.declared.loss.Loss.{Loss}
-use Rattle.line_memory.specs.History.{Recorded, cut_at}
+use Rattle.line_memory.specs.History.{cut_at}
 use Rattle.save_device.specs.declared.device.SaveDevice.{Ghosts as DeviceGhosts}
 use Rattle.energy_budget.specs.declared.energy.Energy.{Ghosts as GaugeGhosts}
 use Rattle.channel_port.specs.declared.port.ChannelPort.{Ghosts}
-use Rattle.channel_part.specs.declared.part.Part.{Part}
 use Rattle.channel_locks.specs.declared.parts_name.PartsName.{Ghosts as PartsGhosts}
-use Rattle.channel_locks.specs.Lent.{IsLentBy}
-use Rattle.channel_locks.specs.Unlocked.{issued_by, ports_in}
-use Rattle.module_core.specs.Draining.{WhereDrained}
 use Rattle.nv_machine.specs.State.{Machine}
 use Rattle.nv_workers.specs.declared.board_name.BoardName.{Ghosts as BoardGhosts}
 use Rattle.nv_workers.specs.declared.checking.Cut.{Cut}
@@ -24,11 +20,10 @@ use Rattle.nv_workers.specs.Savers.{turn_of, turn_taken, working_of}
 use Rattle.worker_gate.specs.declared.Gate.{Ghosts as GateGhosts}
 use Rattle.worker_loops.specs.declared.shift.Working.{Working}
 use Rattle.board_desk.specs.declared.desk.Desk.{Desk}
-use Rattle.board_desk.specs.Calling.{Course, Paused, loss_course, save_begin_course, save_step_course}
+use Rattle.board_desk.specs.Calling.{Course, Paused, save_begin_course, save_step_course}
 use Rattle.board_desk.specs.Desk.{DeskStands}
-use Rattle.board_desk.specs.Losing.{DrainsBehind, LosesWhole, WhereUndrained}
+use Rattle.board_desk.specs.Locking.{CallsWhole, LosesAtDesk}
 use Rattle.board_desk.specs.Views.{desk_of}
-use Rattle.board_desk.specs.Whole.{WholeAnswers}
 
 -- how long a saver sleeps behind a turn in which it worked, in microseconds: three milliseconds behind the end of a save, whether that
 -- went well or not, and one microsecond behind any other
@@ -38,66 +33,22 @@ sleep_behind (Stepped step.Fault) = 3000
 sleep_behind saving = 1
 
 module _ {K D E B : Type 0} (L : Ghosts K) (M : DeviceGhosts D) (N : GaugeGhosts E) (O : BoardGhosts B) (P : PartsGhosts B) where
-  -- the locks of the channels from this one on lent these, in order
-  abbrev pub AreLentFrom : ℕ → List (Option (Part K L)) → Type 0
-  AreLentFrom channel [] = Unit {0}
-  AreLentFrom channel (part ∷ parts) = IsLentBy L P channel part × AreLentFrom (suc channel) parts
-
-  -- A call of the whole module was this to the life. None of the channels that the eight locks lent for it has issued a command in it.
-  pub record CallsWhole (course : Course) (old new : Desk K D E B L M N O P) : Type 0 where
-    pub answers : WholeAnswers P course (desk_of L M N O P old) (desk_of L M N O P new)
-    pub parts : List (Option (Part K L))
-    pub eight : length parts ≡ 8
-    pub lent : AreLentFrom 0 parts
-    pub left : List (Option (Part K L))
-    pub issued : issued_by L left ≡ issued_by L parts
-
-  -- the same of what lies behind the board's lock, with what the call's answer tells of the record
-  pub record CallsLocked (course : Course) (told : ℕ → Recorded → Recorded → Type 0) (old new : Option (Desk K D E B L M N O P)) : Type 0 where
-    pub before : Desk K D E B L M N O P
-    pub after : Desk K D E B L M N O P
-    pub old_is : old ≡ Some before
-    pub new_is : new ≡ Some after
-    pub calls : CallsWhole course before after
-    pub tells : told before.split.front.saved before.history after.history
-
   -- with all locks held it was this to the life
   pub record LentWhole (course : Course) : Type 0 where
     pub before : Desk K D E B L M N O P
     pub after : Desk K D E B L M N O P
-    pub calls : CallsWhole course before after
-
-  -- Mains were lost: it was this to the life, and all drains were paid for before the first of them. Where they were paid for, the gate
-  -- that was given was asked before the drain of each channel, and what the eight locks lent has the ports that these drains leave.
-  -- Where no drain was begun no channel has issued a command.
-  pub record LosesAtDesk {G : Type 0} (H : GateGhosts G) (gate : G) (lost : Loss) (old new : Desk K D E B L M N O P) : Type 0 where
-    pub answers : WholeAnswers P (loss_course lost) (desk_of L M N O P old) (desk_of L M N O P new)
-    pub loses : LosesWhole P lost (desk_of L M N O P old) (desk_of L M N O P new)
-    pub parts : List (Option (Part K L))
-    pub eight : length parts ≡ 8
-    pub lent : AreLentFrom 0 parts
-    pub left : List (Option (Part K L))
-    pub issued : WhereUndrained lost (issued_by L left ≡ issued_by L parts)
-    pub drains : WhereDrained lost (DrainsBehind L H gate (ports_in L parts) (ports_in L left))
-
-  -- the same of what lies behind the board's lock
-  pub record LosesLocked {G : Type 0} (H : GateGhosts G) (gate : G) (lost : Loss) (old new : Option (Desk K D E B L M N O P)) : Type 0 where
-    pub before : Desk K D E B L M N O P
-    pub after : Desk K D E B L M N O P
-    pub old_is : old ≡ Some before
-    pub new_is : new ≡ Some after
-    pub loses : LosesAtDesk H gate lost before after
+    pub calls : CallsWhole L M N O P course before after
 
   -- with all locks held mains were lost so
   pub record LentLoss {G : Type 0} (H : GateGhosts G) (gate : G) (lost : Loss) : Type 0 where
     pub before : Desk K D E B L M N O P
     pub after : Desk K D E B L M N O P
-    pub loses : LosesAtDesk H gate lost before after
+    pub loses : LosesAtDesk L M N O P H gate lost before after
 
   -- a save was begun or refused, a step of one was made, or nothing was done
   abbrev pub TakesSaverTurn : Saving → Desk K D E B L M N O P → Desk K D E B L M N O P → Type 0
-  TakesSaverTurn (Began result) old new = CallsWhole (save_begin_course result) old new
-  TakesSaverTurn (Stepped reply) old new = CallsWhole (save_step_course reply) old new
+  TakesSaverTurn (Began result) old new = CallsWhole L M N O P (save_begin_course result) old new
+  TakesSaverTurn (Stepped reply) old new = CallsWhole L M N O P (save_step_course reply) old new
   TakesSaverTurn Rested old new = new ≡ old
   TakesSaverTurn Closed old new = new ≡ old
 
@@ -129,7 +80,7 @@ module _ {K D E B : Type 0} (L : Ghosts K) (M : DeviceGhosts D) (N : GaugeGhosts
   abbrev pub CutsAtDesk : List Receipt → List Seen → Result Cut Stranger → Desk K D E B L M N O P → Desk K D E B L M N O P → Type 0
   CutsAtDesk receipts answers (Ok told) old new =
       AreChecked old.split.front.terms.start old.history receipts answers (record told { from = old.history.start })
-      × (told.from ≡ new.history.start) × (new.history ≡ cut_at old.split.front.saved old.history) × CallsWhole Paused old new
+      × (told.from ≡ new.history.start) × (new.history ≡ cut_at old.split.front.saved old.history) × CallsWhole L M N O P Paused old new
   CutsAtDesk receipts answers (Err stranger) old new = IsStranger old.split.front.terms.start old.history receipts answers stranger × (new ≡ old)
 
   -- the same of what lies behind the board's lock

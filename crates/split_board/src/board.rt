@@ -3,8 +3,7 @@ ghost use Rattle.std.specs.Prelude.{◌≡◌, ◌<◌};
 ghost use Rattle.board_desk.specs.Answering.{IsAskedFor};
 ghost use Rattle.split_board.specs.Lines.{AreLinesOfBoard};
 
-use crate::locked_desk::LockedDesk;
-use board_desk::Desk;
+use board_desk::{Desk, LockedDesk};
 use channel_locks::{LineChannels, LockedChannels, PartsName};
 use channel_port::ChannelPort;
 use energy_budget::Energy;

@@ -1,16 +1,14 @@
 // What is asked of a whole module, with all locks of its board held.
 ghost use Rattle.board_desk.specs.Calling.{arm_course, disarm_course};
 ghost use Rattle.board_desk.specs.Calling.{save_begin_course, save_step_course, sense_course};
-ghost use Rattle.split_board.specs.Wholes.{CallsLocked, LentLoss, LentWhole, LosesLocked};
+ghost use Rattle.split_board.specs.Wholes.{LentLoss, LentWhole};
 
 use crate::board::Board;
-use crate::locked_desk::LockedDesk;
 use arm_state::{ArmRefusal, ArmReply, DisarmReply, Loss};
 use board_desk::{
-    ArmCall, BoardPort, DisarmCall, SaveBeginCall, SaveStepCall, SenseCall, WholeCall, WholeDone,
-    lose, whole,
+    ArmCall, BoardPort, DisarmCall, SaveBeginCall, SaveStepCall, SenseCall, WholeCall, lose, whole,
 };
-use channel_locks::{LockedChannels, PartsName, take_lock};
+use channel_locks::{PartsName, take_lock};
 use channel_port::ChannelPort;
 use energy_budget::Energy;
 use notice_book::Notices;
@@ -20,95 +18,6 @@ use save_device::SaveDevice;
 use std::sync::Wait;
 use std::thread::Threads;
 use worker_gate::Gate;
-
-/// Makes a call of the whole module, with the board's lock held: takes the channels' locks in rising order.
-pub(crate) fn call_locked<K, D, E, B, W, R>(
-    rt: &R,
-    locked: &mut LockedDesk<K, D, E, B>,
-    channels: &LockedChannels<K, B>,
-    call: W,
-) -> W::Answer
-where
-    K: ChannelPort + Drop,
-    D: SaveDevice + Drop,
-    E: Energy + Drop,
-    B: BoardName + PartsName,
-    W: WholeCall<BoardPort<K, B>, D, E>,
-    R: Wait,
-    ensures { CallsLocked K.ChannelPort D.SaveDevice E.Energy B.BoardName.own B.PartsName.own
-        (W.course result) (W.told result) locked.old.desk locked.new.desk }
-{
-    let mut zero = channels.take(rt, 0);
-    let mut one = channels.take(rt, 1);
-    let mut two = channels.take(rt, 2);
-    let mut three = channels.take(rt, 3);
-    let mut four = channels.take(rt, 4);
-    let mut five = channels.take(rt, 5);
-    let mut six = channels.take(rt, 6);
-    let mut seven = channels.take(rt, 7);
-    let Some(desk) = locked.desk.take() else {
-        unreachable!();
-    };
-    let WholeDone { desk, answer } = whole(
-        desk,
-        &mut *zero,
-        &mut *one,
-        &mut *two,
-        &mut *three,
-        &mut *four,
-        &mut *five,
-        &mut *six,
-        &mut *seven,
-        call,
-    );
-    locked.desk = Some(desk);
-    answer
-}
-
-// Mains were lost, with the board's lock held: takes the channels' locks in rising order.
-fn lose_locked<K, D, E, B, G, R>(
-    rt: &R,
-    locked: &mut LockedDesk<K, D, E, B>,
-    channels: &LockedChannels<K, B>,
-    gate: &G,
-) -> Loss
-where
-    K: ChannelPort + Drop + Send,
-    D: SaveDevice + Drop,
-    E: Energy + Drop,
-    B: BoardName + PartsName + Send,
-    G: Gate + Sync,
-    R: Threads + Wait + Sync,
-    ensures { LosesLocked K.ChannelPort D.SaveDevice E.Energy B.BoardName.own B.PartsName.own
-        G.Gate gate.now result locked.old.desk locked.new.desk }
-{
-    let mut zero = channels.take(rt, 0);
-    let mut one = channels.take(rt, 1);
-    let mut two = channels.take(rt, 2);
-    let mut three = channels.take(rt, 3);
-    let mut four = channels.take(rt, 4);
-    let mut five = channels.take(rt, 5);
-    let mut six = channels.take(rt, 6);
-    let mut seven = channels.take(rt, 7);
-    let Some(desk) = locked.desk.take() else {
-        unreachable!();
-    };
-    let WholeDone { desk, answer } = lose(
-        desk,
-        &mut *zero,
-        &mut *one,
-        &mut *two,
-        &mut *three,
-        &mut *four,
-        &mut *five,
-        &mut *six,
-        &mut *seven,
-        rt,
-        gate,
-    );
-    locked.desk = Some(desk);
-    answer
-}
 
 impl<K, D, E, B, N> Board<K, D, E, B, N>
 where
@@ -124,7 +33,7 @@ where
             (W.course result) }
     {
         let mut locked = take_lock(rt, &self.desk);
-        call_locked(rt, &mut *locked, &self.channels, call)
+        whole(rt, &mut *locked, &self.channels, call)
     }
 
     /// Arms the module.
@@ -179,6 +88,6 @@ where
             G.Gate gate.now result }
     {
         let mut locked = take_lock(rt, &self.desk);
-        lose_locked(rt, &mut *locked, &self.channels, gate)
+        lose(rt, &mut *locked, &self.channels, gate)
     }
 }

@@ -2,9 +2,7 @@
 ghost use Rattle.split_board.specs.Wholes.{CutsLocked, LentForCut};
 
 use crate::board::Board;
-use crate::calling::call_locked;
-use crate::locked_desk::LockedDesk;
-use board_desk::CutCall;
+use board_desk::{CutCall, LockedDesk, whole};
 use channel_locks::{LockedChannels, PartsName, take_lock};
 use channel_port::ChannelPort;
 use energy_budget::Energy;
@@ -35,7 +33,7 @@ where
     };
     match desk.check(receipts, answers) {
         Ok(told) => {
-            let from = call_locked(rt, locked, channels, CutCall);
+            let from = whole(rt, locked, channels, CutCall);
             Ok(Cut { from, ..told })
         }
         Err(stranger) => Err(stranger),

@@ -6,8 +6,7 @@ ghost use Rattle.nv_workers.specs.Kept.{IsRecordKept};
 ghost use Rattle.split_board.specs.Starting.{LiesBehindLocks};
 
 use crate::board::Board;
-use crate::locked_desk::LockedDesk;
-use board_desk::{BoardPort, Desk, gather_all};
+use board_desk::{BoardPort, Desk, LockedDesk, gather_all};
 use channel_locks::PartsName;
 use channel_port::ChannelPort;
 use energy_budget::Energy;

@@ -4,9 +4,7 @@ ghost use Rattle.split_board.specs.Turns.{WorksByGate};
 ghost use Rattle.split_board.specs.Wholes.{LentTurnOfSaver, SavesLocked, WorksAsSaver, sleep_behind};
 
 use crate::board::Board;
-use crate::calling::call_locked;
-use crate::locked_desk::LockedDesk;
-use board_desk::{SaveBeginCall, SaveStepCall};
+use board_desk::{LockedDesk, SaveBeginCall, SaveStepCall, whole};
 use channel_locks::{LockedChannels, PartsName, take_lock};
 use channel_port::ChannelPort;
 use energy_budget::Energy;
@@ -59,8 +57,8 @@ where
         unreachable!();
     };
     match desk.saver_turn() {
-        SaverTurn::Begin => Saving::Began(call_locked(rt, locked, channels, SaveBeginCall)),
-        SaverTurn::Step => Saving::Stepped(call_locked(rt, locked, channels, SaveStepCall)),
+        SaverTurn::Begin => Saving::Began(whole(rt, locked, channels, SaveBeginCall)),
+        SaverTurn::Step => Saving::Stepped(whole(rt, locked, channels, SaveStepCall)),
         SaverTurn::Rest => Saving::Rested,
         SaverTurn::End => Saving::Closed,
     }

@@ -6,7 +6,7 @@ use Rattle.split_board.proofs.cutting.cut_locked.Goals as goal
 
 pub returns-in-Ok : goal.returns-in-Ok
 returns-in-Ok g c =
-    let called = c.call_locked-from.ensures in let checked = c.in-Ok.ensures.checked in let told = c.in-Ok.told in
+    let called = c.whole-from.ensures in let checked = c.in-Ok.ensures.checked in let told = c.in-Ok.told in
     let from = called.tells.0 in
     record {
       before = called.before;

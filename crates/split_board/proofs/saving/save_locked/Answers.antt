@@ -1,12 +1,12 @@
 use Rattle.std.proofs.Common.{◌∙◌, refl, subst, sym}
 use Rattle.std.specs.Option.{unwrap_or}
 use Rattle.board_desk.specs.Calling.{save_begin_course, save_step_course}
-use Rattle.split_board.specs.Wholes.{CallsWhole}
+use Rattle.board_desk.specs.Locking.{CallsWhole}
 use Rattle.split_board.proofs.saving.save_locked.Goals as goal
 
 pub returns-in-Begin : goal.returns-in-Begin
 returns-in-Begin g c =
-    let called = c.call_locked.ensures in
+    let called = c.whole.ensures in
     record {
       before = c.in-Some.desk;
       after = called.after;
@@ -14,14 +14,14 @@ returns-in-Begin g c =
       new_is = called.new_is;
       saves = record {
         turn = λ m stands. sym c.in-Begin.is ∙ c.saver_turn.ensures m stands;
-        steps = subst (λ desk. CallsWhole g.K.ChannelPort g.D.SaveDevice g.E.Energy g.B.BoardName g.B.PartsName (save_begin_course c.call_locked.result) desk called.after)
+        steps = subst (λ desk. CallsWhole g.K.ChannelPort g.D.SaveDevice g.E.Energy g.B.BoardName g.B.PartsName (save_begin_course c.whole.result) desk called.after)
             (λ i. unwrap_or ((sym called.old_is ∙ c.in-Some.is) i) called.before) called.calls;
       };
     }
 
 pub returns-in-Step : goal.returns-in-Step
 returns-in-Step g c =
-    let called = c.call_locked-in-Step.ensures in
+    let called = c.whole-in-Step.ensures in
     record {
       before = c.in-Some.desk;
       after = called.after;
@@ -29,7 +29,7 @@ returns-in-Step g c =
       new_is = called.new_is;
       saves = record {
         turn = λ m stands. sym c.in-Step.is ∙ c.saver_turn.ensures m stands;
-        steps = subst (λ desk. CallsWhole g.K.ChannelPort g.D.SaveDevice g.E.Energy g.B.BoardName g.B.PartsName (save_step_course c.call_locked-in-Step.result) desk called.after)
+        steps = subst (λ desk. CallsWhole g.K.ChannelPort g.D.SaveDevice g.E.Energy g.B.BoardName g.B.PartsName (save_step_course c.whole-in-Step.result) desk called.after)
             (λ i. unwrap_or ((sym called.old_is ∙ c.in-Some.is) i) called.before) called.calls;
       };
     }

@@ -64,7 +64,6 @@ invariant_of-desk g c =
     let known = c.begin_channels-channels.new.known in
     let most = few L M N O P it pieces split.pieces split.stands split.fit asked.made asked.ports asked.base asked.whole asked.kept table laid laws in
     record {
-      empty = c.args.made.no_port;
       spacious = (let room = c.args.made.ports in omega (arith, room, most));
       kept = desk_kept L M N O P it pieces split.pieces split.stands split.fit asked.made asked.ports asked.base asked.whole asked.kept table laid laws
           known.logs c.begin_channels-channels.ensures.first (arc_value c.args.made.marks) c.args.words.logs known.table c.args.words.seat c.args.words.tally.book.total

@@ -2,7 +2,7 @@
 ghost use Rattle.std.specs.Prelude.{◌≡◌, true};
 ghost use Rattle.std.specs.Option.{is_some};
 
-use board_desk::Desk;
+use crate::desk::Desk;
 use channel_locks::PartsName;
 use channel_port::ChannelPort;
 use energy_budget::Energy;
