@@ -1,6 +1,6 @@
 -- A channel goes on: its banks, clock and last commands stay those of its list of commands.
 use Rattle.std.proofs.Common.{◌≡◌, ◌≢◌, ◌-◌, ◌<◌, ◌≤◌, ◌^◌, ◌↔◌, ◌⊎◌, List, [], ◌∷◌, ◌++◌, length, drop, Option, Some, None, refl, sym, ap, ◌∙◌, arith}
-use Rattle.chan_core.proofs.Common.{Asleep, BanksState, Buffer, ChannelState, HasNothingToSend, IsIdle, IsInPhase, IsNext, IsRunning, IssuesAlone, KeepsMargin, Next, Pending, Phase, Running, Stamped, Stands, Stepping, after_command, clock_of, last_clock, with_command}
+use Rattle.chan_core.proofs.Common.{Asleep, BanksState, Buffer, ChannelState, Checked, HasNothingToSend, IsIdle, IsInPhase, IsNext, IsRunning, IssuesAlone, KeepsMargin, Next, Pending, Phase, Running, Stamped, Stands, Stepping, after_command, clock_of, last_clock, with_command}
 use Rattle.frfcfs.proofs.refreshes.RefreshCounts.{last_clock_push}
 use Rattle.chan_core.specs.declared.channel.Channel.TheInside.{Inside}
 use Rattle.chan_core.proofs.Sleeping.{asleep-more, awake-more, chosen-awake}
@@ -15,7 +15,7 @@ in-time-here : (c : Inside) → IsRunning c → c.memory.phase ≢ Stepping → 
 in-time-here c is not = rw is.checked (is.phase.in_time not)
 
 -- one more command
-pub running-more : (c : Inside) (x : Stamped) (banks : BanksState) (recent : Buffer Stamped) (new : ChannelState) → IsRunning c → new.commands ≡ c.memory.commands ++ x ∷ [] → new.checked ≡ c.memory.checked
+pub running-more : (c : Inside) (x : Stamped) (banks : BanksState Checked) (recent : Buffer Stamped) (new : ChannelState) → IsRunning c → new.commands ≡ c.memory.commands ++ x ∷ [] → new.checked ≡ c.memory.checked
     → banks.checked ≡ c.banks.checked → ((list : List Stamped) → Stands c.banks list → Stands banks (with_command list x.clock x.cmd))
     → recent ≡ record { items = drop (length (c.recent.items ++ x ∷ []) - c.recent.capacity) (c.recent.items ++ x ∷ []); capacity = c.recent.capacity } → x.clock < 2 ^ 63 → IsInPhase new
     → IsRunning (record { banks = banks; clock = x.clock; recent = recent; memory = new })
@@ -32,7 +32,7 @@ running-more c x banks recent new is commands profile checked stands recent-is e
     }
 
 -- one that the scheduler chose
-pub running-on : (c : Inside) (next : Next) (banks : BanksState) (recent : Buffer Stamped) (new : ChannelState) → IsRunning c
+pub running-on : (c : Inside) (next : Next) (banks : BanksState Checked) (recent : Buffer Stamped) (new : ChannelState) → IsRunning c
     → let x : Stamped = record { clock = next.clock; cmd = next.cmd } in
     new ≡ after_command c.memory x new → banks.checked ≡ c.banks.checked → ((list : List Stamped) → Stands c.banks list → Stands banks (with_command list next.clock next.cmd))
     → recent ≡ record { items = drop (length (c.recent.items ++ x ∷ []) - c.recent.capacity) (c.recent.items ++ x ∷ []); capacity = c.recent.capacity } → next.clock < 2 ^ 63
@@ -55,7 +55,7 @@ alone-asleep Stepping single not = absurd (not refl)
 alone-asleep Asleep single not = refl
 
 -- a single one
-pub running-alone : (c : Inside) (x : Stamped) (banks : BanksState) (recent : Buffer Stamped) (new : ChannelState) → IsRunning c → IssuesAlone c.memory x new → banks.checked ≡ c.banks.checked
+pub running-alone : (c : Inside) (x : Stamped) (banks : BanksState Checked) (recent : Buffer Stamped) (new : ChannelState) → IsRunning c → IssuesAlone c.memory x new → banks.checked ≡ c.banks.checked
     → ((list : List Stamped) → Stands c.banks list → Stands banks (with_command list x.clock x.cmd))
     → recent ≡ record { items = drop (length (c.recent.items ++ x ∷ []) - c.recent.capacity) (c.recent.items ++ x ∷ []); capacity = c.recent.capacity } → x.clock < 2 ^ 63
     → IsRunning (record { banks = banks; clock = x.clock; recent = recent; memory = new })

@@ -14,8 +14,7 @@ pub use Rattle.ddr4_timing.specs.Lawful.{AllClosed, FitsRows, IsInGeometry, IsLa
 unfoldable pub use Rattle.ddr4_timing.specs.Lawful.{is_asleep, last_ref, open_row, ref_count}
 pub use Rattle.ddr4_timing.specs.Limits.{IsSmall, close_of, entry_of}
 pub use Rattle.ddr4_timing.specs.Places.{HasBank, LiesIn, bank_at, bank_index}
-pub use Rattle.bank_core.specs.declared.banks.Banks.{Banks}
-pub use Rattle.bank_core.specs.Stands.{Allows, Stands, with_command}
+pub use Rattle.bank_core.specs.Stands.{Allows, BanksState, Stands, with_command}
 pub use Rattle.frfcfs.specs.declared.best.Best.{Best}
 pub use Rattle.frfcfs.specs.declared.best.Bests.{Bests}
 pub use Rattle.frfcfs.specs.declared.key.Key.{Key}

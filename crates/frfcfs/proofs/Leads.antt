@@ -15,7 +15,7 @@ lead_at c list rank k lead e =
 pub rest_in_time : (c : Checked) (list : List Stamped) (rank k : ℕ) → IsLawful c list → (¬ IsInLead c.timing list k rank) → k ≤ last_ref rank list + 9 * c.timing.t_refi
 rest_in_time c list rank k lawful rests =
     let i = lead_at c list rank k (lead_clock c.timing list rank) refl in
-    grind (arith, i.1, rests, refreshes_keep_pace c rank list lawful)
+    grind (arith, i.1, rests, refreshes_keep_pace c.timing c.geometry rank list lawful)
 
 -- the end of a rank's span
 pub end_awake : (c : Checked) (list : List Stamped) (rank last lead limit end : ℕ) → lead ≡ (ref_count rank list + 8) * c.timing.t_refi → (¬ IsTrue (is_asleep rank list)) → lead < 2 ^ 64 → limit ≡ min (last + 1) (2 ^ 64 - 1) → end ≡ min lead limit → IsEnd c list rank last end

@@ -1,6 +1,6 @@
 -- Whether a channel has work.
 use Rattle.std.proofs.Common.{◌≡◌, ℕ, ◌<◌, ◌≤◌, ◌⊎◌, ◌↔◌, ◌^◌, ◌-◌, List, Option, Some, None, Bool, IsTrue, IfSome, All, true, false, inl, inr, arith, refl, sym, subst}
-use Rattle.frfcfs.proofs.Common.{Allows, AreFirsts, AreInOrder, AreKeys, AreKeysIn, AreMarks, Banks, Checked, Geometry, HasBank, HasWork, IsEligible, IsIdle, IsInLead, IsLawful, IsNext, KeepsMargin, Key, LiesIn, Next, Pending, Stamped, Stands, bank_at, firsts_of, last_clock, with_command}
+use Rattle.frfcfs.proofs.Common.{Allows, AreFirsts, AreInOrder, AreKeys, AreKeysIn, AreMarks, BanksState, Checked, Geometry, HasBank, HasWork, IsEligible, IsIdle, IsInLead, IsLawful, IsNext, KeepsMargin, Key, LiesIn, Next, Pending, Stamped, Stands, bank_at, firsts_of, last_clock, with_command}
 use Rattle.frfcfs.proofs.Lists.{All-at}
 use Rattle.frfcfs.proofs.NextChoice.{next_lawful}
 use Rattle.frfcfs.proofs.QueueLemmas.{firsts_marks, lines}
@@ -35,16 +35,16 @@ keys_of g pending requests keys same order places are marks = record {
 
 -- what is said of a search, of its answer
 
-pub next_of : (b : Banks) (pending requests : List Pending) (now : ℕ) (r : Option Next) → pending ≡ requests → ((list : List Stamped) → Stands b list → IsNext b.checked list pending now r) →
+pub next_of : (b : BanksState Checked) (pending requests : List Pending) (now : ℕ) (r : Option Next) → pending ≡ requests → ((list : List Stamped) → Stands b list → IsNext b.checked list pending now r) →
     IfSome r (λ next. (list : List Stamped) → Stands b list → IsNext b.checked list requests now (Some next))
 next_of b pending requests now None same h = tt
 next_of b pending requests now (Some next) same h = λ list s. subst (λ (ps : List Pending). IsNext b.checked list ps now (Some next)) same (h list s)
 
-pub allows_of : (b : Banks) (pending : List Pending) (now : ℕ) (r : Option Next) → ((list : List Stamped) → Stands b list → IsNext b.checked list pending now r) → IfSome r (λ next. Allows b next.cmd next.clock)
+pub allows_of : (b : BanksState Checked) (pending : List Pending) (now : ℕ) (r : Option Next) → ((list : List Stamped) → Stands b list → IsNext b.checked list pending now r) → IfSome r (λ next. Allows b next.cmd next.clock)
 allows_of b pending now None h = tt
 allows_of b pending now (Some next) h = record { lawful = λ list s. next_lawful b.checked list pending now (2 ^ 63 - 1) next (h list s) }
 
-pub keeps_of : (b : Banks) (requests : List Pending) (now : ℕ) (r : Option Next) → IfSome r (λ next. (list : List Stamped) → Stands b list → IsNext b.checked list requests now (Some next)) →
+pub keeps_of : (b : BanksState Checked) (requests : List Pending) (now : ℕ) (r : Option Next) → IfSome r (λ next. (list : List Stamped) → Stands b list → IsNext b.checked list requests now (Some next)) →
     IfSome r (λ next. (list : List Stamped) → Stands b list → KeepsMargin b.checked list → now ≡ last_clock list → KeepsMargin b.checked (with_command list next.clock next.cmd))
 keeps_of b requests now None h = tt
 keeps_of b requests now (Some next) h = λ list s m e. next_keeps b.checked list requests next m (subst (λ (k : ℕ). IsNext b.checked list requests k (Some next)) e (h list s))

@@ -1,4 +1,4 @@
 use Rattle.bank_core.proofs.banks.Banks.least_clock.Goals as goal
 
 pub returns : goal.returns
-returns c = rw (← c.self.view_is) (λ list s. c.least_clock.ensures list s.ranks)
+returns g c = rw (← c.self.view_is, ← c.timing-timing.ensures.is, ← c.geometry-geometry.ensures.is) (λ list s. c.least_clock.ensures list s.ranks)

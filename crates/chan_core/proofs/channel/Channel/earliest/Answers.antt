@@ -1,8 +1,8 @@
 use Rattle.std.proofs.Common.{◌≡◌, ℕ, ◌+◌, ◌*◌, ◌≤◌, ◌↔◌, List, Option, Some, None, IfNone, IfSome}
-use Rattle.chan_core.proofs.Common.{BanksState, Command, IsEarliest, IsLawful, KeepsRows, Stamped, Stands, last_ref, least_clock, rank_of, with_command}
+use Rattle.chan_core.proofs.Common.{BanksState, Checked, Command, IsEarliest, IsLawful, KeepsRows, Stamped, Stands, last_ref, least_clock, rank_of, with_command}
 use Rattle.chan_core.proofs.channel.Channel.earliest.Goals as goal
 
-here : (b : BanksState) (list : List Stamped) (cmd : Command) (result : Option ℕ) → Stands b list
+here : (b : BanksState Checked) (list : List Stamped) (cmd : Command) (result : Option ℕ) → Stands b list
     → IfNone result ((list : List Stamped) → Stands b list → ¬ KeepsRows b.checked.geometry list cmd)
     → IfSome result (λ k. (list : List Stamped) → Stands b list → KeepsRows b.checked.geometry list cmd)
     → IfSome result (λ k. (list : List Stamped) → Stands b list → k ≡ least_clock b.checked.timing list cmd)
